@@ -3,6 +3,8 @@
 
 pub mod ends;
 pub mod faults;
+pub mod whole;
 
 pub use ends::{Sink, Source};
 pub use faults::{Failed, NoMemory};
+pub use whole::read_full;

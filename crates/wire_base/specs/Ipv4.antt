@@ -1,0 +1,89 @@
+-- The IPv4 header (RFC 791 section 3.1): its fields at their places in the octets of a packet, and what its octets are parted into.
+-- What stands past the end of the octets reads as 0.
+use Rattle.std.specs.Prelude.{ℕ, ◌+◌, ◌-◌, ◌*◌, ◌/◌, ◌%◌, ◌==◌, ◌&&◌, ◌||◌, nat_lt, nat_le, not, Bool, List, length, take, drop, slice_index}
+use Rattle.wire_base.specs.Numbers.{u16_at, u32_at}
+
+abbrev pub version : List ℕ → ℕ
+version p = slice_index p 0 / 16
+
+-- in octets; the header counts it in words of four
+abbrev pub header_length : List ℕ → ℕ
+header_length p = 4 * (slice_index p 0 % 16)
+
+abbrev pub type_of_service : List ℕ → ℕ
+type_of_service p = slice_index p 1
+
+-- in octets, header included
+abbrev pub total_length : List ℕ → ℕ
+total_length p = u16_at p 2
+
+abbrev pub identification : List ℕ → ℕ
+identification p = u16_at p 4
+
+-- the three flags: reserved, don't fragment, more fragments
+abbrev pub has_reserved : List ℕ → Bool
+has_reserved p = (slice_index p 6 / 128 % 2) == 1
+
+abbrev pub has_dont_fragment : List ℕ → Bool
+has_dont_fragment p = (slice_index p 6 / 64 % 2) == 1
+
+abbrev pub has_more_fragments : List ℕ → Bool
+has_more_fragments p = (slice_index p 6 / 32 % 2) == 1
+
+-- in octets; the header counts it in units of eight
+abbrev pub fragment_offset : List ℕ → ℕ
+fragment_offset p = 8 * (u16_at p 6 % 8192)
+
+abbrev pub time_to_live : List ℕ → ℕ
+time_to_live p = slice_index p 8
+
+abbrev pub protocol : List ℕ → ℕ
+protocol p = slice_index p 9
+
+abbrev pub header_checksum : List ℕ → ℕ
+header_checksum p = u16_at p 10
+
+abbrev pub source : List ℕ → ℕ
+source p = u32_at p 12
+
+abbrev pub destination : List ℕ → ℕ
+destination p = u32_at p 16
+
+-- the octets of the header, of its options, of what it carries up to the total length, and of what stands after that
+abbrev pub header : List ℕ → List ℕ
+header p = take (header_length p) p
+
+abbrev pub options : List ℕ → List ℕ
+options p = drop 20 (header p)
+
+abbrev pub payload : List ℕ → List ℕ
+payload p = drop (header_length p) (take (total_length p) p)
+
+abbrev pub trailer : List ℕ → List ℕ
+trailer p = drop (total_length p) p
+
+-- a piece of a datagram: more fragments follow, or some stand before
+abbrev pub is_fragment : List ℕ → Bool
+is_fragment p = has_more_fragments p || nat_lt 0 (fragment_offset p)
+
+-- the first of the four octets of an address
+abbrev pub first_octet : ℕ → ℕ
+first_octet address = address / 16777216
+
+-- no host sends from this address: "this network", loopback, multicast and above (RFC 1122 section 3.2.1.3), or from the one that it sends to (this project's profile)
+abbrev pub has_bad_source : List ℕ → Bool
+has_bad_source p =
+    (first_octet (source p) == 0) || (first_octet (source p) == 127) || nat_le 224 (first_octet (source p)) || (source p == destination p)
+
+-- no packet goes to this address: "this network", loopback, or above multicast (RFC 1122 section 3.2.1.3)
+abbrev pub has_bad_destination : List ℕ → Bool
+has_bad_destination p =
+    (first_octet (destination p) == 0) || (first_octet (destination p) == 127) || nat_le 240 (first_octet (destination p))
+
+-- octets stand after the total length
+abbrev pub has_trailer : List ℕ → Bool
+has_trailer p = nat_lt (total_length p) (length p)
+
+-- the header is longer than its fields
+abbrev pub has_options : List ℕ → Bool
+has_options p = nat_lt 20 (header_length p)

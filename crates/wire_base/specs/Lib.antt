@@ -1,0 +1,10 @@
+pub mod Numbers
+pub mod Sums
+pub mod Prefixes
+pub mod Ipv4
+pub mod Options
+pub mod Udp
+pub mod Icmp
+pub mod Tcp
+pub mod Segments
+pub mod Plain

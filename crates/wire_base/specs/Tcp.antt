@@ -1,0 +1,73 @@
+-- The TCP header (RFC 9293 section 3.1), read in the octets of a segment: what an IPv4 packet carries.
+use Rattle.std.specs.Prelude.{ℕ, ◌+◌, ◌*◌, ◌/◌, ◌%◌, ◌==◌, ◌&&◌, ◌||◌, nat_lt, not, Bool, true, false, List, length, take, drop, slice_index}
+use Rattle.wire_base.specs.Numbers.{u16_at, u32_at}
+
+abbrev pub source_port : List ℕ → ℕ
+source_port m = u16_at m 0
+
+abbrev pub destination_port : List ℕ → ℕ
+destination_port m = u16_at m 2
+
+abbrev pub sequence : List ℕ → ℕ
+sequence m = u32_at m 4
+
+abbrev pub acknowledgment : List ℕ → ℕ
+acknowledgment m = u32_at m 8
+
+-- in octets; the header counts it in words of four
+abbrev pub header_length : List ℕ → ℕ
+header_length m = 4 * (slice_index m 12 / 16)
+
+-- the four bits between the data offset and the flags
+abbrev pub reserved : List ℕ → ℕ
+reserved m = slice_index m 12 % 16
+
+-- CWR 128, ECE 64, URG 32, ACK 16, PSH 8, RST 4, SYN 2, FIN 1
+abbrev pub flags : List ℕ → ℕ
+flags m = slice_index m 13
+
+abbrev pub window : List ℕ → ℕ
+window m = u16_at m 14
+
+abbrev pub checksum : List ℕ → ℕ
+checksum m = u16_at m 16
+
+abbrev pub urgent_pointer : List ℕ → ℕ
+urgent_pointer m = u16_at m 18
+
+abbrev pub options : List ℕ → List ℕ
+options m = drop 20 (take (header_length m) m)
+
+abbrev pub payload : List ℕ → List ℕ
+payload m = drop (header_length m) m
+
+-- the flag of this weight is set
+abbrev pub has_flag : ℕ → ℕ → Bool
+has_flag weight flags = (flags / weight % 2) == 1
+
+abbrev pub has_urg : ℕ → Bool
+has_urg flags = has_flag 32 flags
+
+abbrev pub has_ack : ℕ → Bool
+has_ack flags = has_flag 16 flags
+
+abbrev pub has_psh : ℕ → Bool
+has_psh flags = has_flag 8 flags
+
+abbrev pub has_rst : ℕ → Bool
+has_rst flags = has_flag 4 flags
+
+abbrev pub has_syn : ℕ → Bool
+has_syn flags = has_flag 2 flags
+
+abbrev pub has_fin : ℕ → Bool
+has_fin flags = has_flag 1 flags
+
+-- those that are set of SYN, FIN, RST and ACK are SYN; SYN ACK; ACK; FIN ACK; RST; or RST ACK (this project's profile)
+abbrev pub go_together : (syn fin rst ack : Bool) → Bool
+go_together true fin rst ack = not fin && not rst
+go_together false fin true ack = not fin
+go_together false fin false ack = ack
+
+abbrev pub are_legal : ℕ → Bool
+are_legal flags = go_together (has_syn flags) (has_fin flags) (has_rst flags) (has_ack flags)

@@ -1,0 +1,14 @@
+//! What stands on the wire: numbers, sums, addresses and sides, and the formats of the public standards.
+#![tactic(auto)]
+
+pub mod address;
+pub mod flags;
+pub mod number;
+pub mod prefix;
+pub mod sums;
+
+pub use address::{Addr, FlowKey, Link, Side};
+pub use flags::Flags;
+pub use number::{u16_at, u32_at};
+pub use prefix::{Prefix, PrefixFault};
+pub use sums::pseudo_sum;

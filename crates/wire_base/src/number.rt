@@ -1,0 +1,21 @@
+//! Numbers in octets, the highest octet first.
+ghost use Rattle.std.specs.Prelude.{◌≡◌, ◌+◌, ◌≤◌, length};
+ghost use Rattle.wire_base.specs.Numbers as numbers;
+
+use byteorder::{BigEndian, ByteOrder};
+
+/// The number of two octets that begins at this place.
+pub fn u16_at(bytes: &[u8], at: usize) -> u16
+    requires { at + 2 ≤ length bytes.now }
+    ensures { result ≡ numbers.u16_at bytes.now at }
+{
+    BigEndian::read_u16(&bytes[at..])
+}
+
+/// The number of four octets that begins at this place.
+pub fn u32_at(bytes: &[u8], at: usize) -> u32
+    requires { at + 4 ≤ length bytes.now }
+    ensures { result ≡ numbers.u32_at bytes.now at }
+{
+    BigEndian::read_u32(&bytes[at..])
+}
