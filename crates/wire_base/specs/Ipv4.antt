@@ -2,6 +2,7 @@
 -- What stands past the end of the octets reads as 0.
 use Rattle.std.specs.Prelude.{ℕ, ◌+◌, ◌-◌, ◌*◌, ◌/◌, ◌%◌, ◌==◌, ◌&&◌, ◌||◌, nat_lt, nat_le, not, Bool, List, length, take, drop, slice_index}
 use Rattle.wire_base.specs.Numbers.{u16_at, u32_at}
+use Rattle.wire_base.specs.Sums.{sum_is_right}
 
 abbrev pub version : List ℕ → ℕ
 version p = slice_index p 0 / 16
@@ -65,6 +66,25 @@ trailer p = drop (total_length p) p
 -- a piece of a datagram: more fragments follow, or some stand before
 abbrev pub is_fragment : List ℕ → Bool
 is_fragment p = has_more_fragments p || nat_lt 0 (fragment_offset p)
+
+-- fewer octets than the header's fields
+abbrev pub is_short : List ℕ → Bool
+is_short p = nat_lt (length p) 20
+
+abbrev pub has_other_version : List ℕ → Bool
+has_other_version p = not (version p == 4)
+
+-- the header length is below its fields' or above the octets that stand
+abbrev pub has_bad_header_length : List ℕ → Bool
+has_bad_header_length p = nat_lt (header_length p) 20 || nat_lt (length p) (header_length p)
+
+-- the total length is below the header's or above the octets that stand
+abbrev pub has_bad_total_length : List ℕ → Bool
+has_bad_total_length p = nat_lt (total_length p) (header_length p) || nat_lt (length p) (total_length p)
+
+-- the words of the header do not sum right
+abbrev pub has_wrong_sum : List ℕ → Bool
+has_wrong_sum p = not (sum_is_right (header p) 0)
 
 -- the first of the four octets of an address
 abbrev pub first_octet : ℕ → ℕ
