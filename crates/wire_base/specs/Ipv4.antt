@@ -91,14 +91,20 @@ abbrev pub first_octet : ℕ → ℕ
 first_octet address = address / 16777216
 
 -- no host sends from this address: "this network", loopback, multicast and above (RFC 1122 section 3.2.1.3), or from the one that it sends to (this project's profile)
+abbrev pub is_bad_source : (source destination : ℕ) → Bool
+is_bad_source source destination =
+    (first_octet source == 0) || (first_octet source == 127) || nat_le 224 (first_octet source) || (source == destination)
+
 abbrev pub has_bad_source : List ℕ → Bool
-has_bad_source p =
-    (first_octet (source p) == 0) || (first_octet (source p) == 127) || nat_le 224 (first_octet (source p)) || (source p == destination p)
+has_bad_source p = is_bad_source (source p) (destination p)
 
 -- no packet goes to this address: "this network", loopback, or above multicast (RFC 1122 section 3.2.1.3)
+abbrev pub is_bad_destination : ℕ → Bool
+is_bad_destination destination =
+    (first_octet destination == 0) || (first_octet destination == 127) || nat_le 240 (first_octet destination)
+
 abbrev pub has_bad_destination : List ℕ → Bool
-has_bad_destination p =
-    (first_octet (destination p) == 0) || (first_octet (destination p) == 127) || nat_le 240 (first_octet (destination p))
+has_bad_destination p = is_bad_destination (destination p)
 
 -- octets stand after the total length
 abbrev pub has_trailer : List ℕ → Bool
