@@ -3,8 +3,15 @@
 
 pub mod ends;
 pub mod faults;
-pub mod whole;
+pub mod files;
+pub mod fill;
+pub mod memory;
 
 pub use ends::{Sink, Source};
 pub use faults::{Failed, NoMemory};
-pub use whole::read_full;
+pub use files::{BUFFER_OCTETS, BufferedSink, BufferedSource, FileSink, FileSource, LineOut};
+pub use fill::read_full;
+pub use memory::{MemSink, MemSource};
+
+#[cfg(test)]
+mod tests;

@@ -1,6 +1,6 @@
 -- The IPv4 header (RFC 791 section 3.1): its fields at their places in the octets of a packet, and what its octets are parted into.
 -- What stands past the end of the octets reads as 0.
-use Rattle.std.specs.Prelude.{ℕ, ◌+◌, ◌-◌, ◌*◌, ◌/◌, ◌%◌, ◌==◌, ◌&&◌, ◌||◌, nat_lt, nat_le, not, Bool, List, length, take, drop, slice_index}
+use Rattle.std.specs.Prelude.{ℕ, ◌*◌, ◌/◌, ◌%◌, ◌==◌, ◌||◌, nat_lt, nat_le, not, Bool, List, length, take, drop, slice_index}
 use Rattle.wire_base.specs.Numbers.{u16_at, u32_at}
 use Rattle.wire_base.specs.Sums.{sum_is_right}
 

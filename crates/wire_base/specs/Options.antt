@@ -1,7 +1,7 @@
 -- Lists of options, which IP and TCP spell alike (RFC 791 section 3.1, RFC 9293 section 3.1): 0 ends the list, 1 is one octet that does nothing,
 -- and every other option has a length octet that counts the whole option. Each recursion goes over the octets once, with the number of octets
 -- that still belong to the option before.
-use Rattle.std.specs.Prelude.{ℕ, zero, suc, ◌+◌, ◌-◌, ◌==◌, ◌&&◌, ◌||◌, nat_le, not, min, Bool, true, false, List, [], ◌∷◌, length, replicate, slice_index, Option, Some, None, if◌then◌else◌}
+use Rattle.std.specs.Prelude.{ℕ, zero, suc, ◌-◌, ◌==◌, ◌&&◌, ◌||◌, nat_le, not, min, Bool, true, false, List, [], ◌∷◌, length, replicate, slice_index, Option, Some, None, if◌then◌else◌}
 use Rattle.std.specs.List.{list_any}
 
 -- before the end option or the end of the area every option has a length octet of at least 2 and lies inside

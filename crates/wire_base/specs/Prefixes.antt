@@ -1,5 +1,5 @@
 -- Address prefixes and their text: four numbers with dots, a slash and a length (RFC 4632 section 3.1; the numbers of digits are this project's profile).
-use Rattle.std.specs.Prelude.{ℕ, ◌+◌, ◌-◌, ◌*◌, ◌/◌, ◌^◌, ◌==◌, ◌&&◌, ◌||◌, nat_lt, nat_le, Bool, List, [], ◌∷◌, length, fold, Result, Ok, Err, if◌then◌else◌}
+use Rattle.std.specs.Prelude.{ℕ, ◌+◌, ◌-◌, ◌*◌, ◌/◌, ◌^◌, ◌==◌, ◌&&◌, ◌||◌, nat_lt, nat_le, Bool, List, length, fold, Result, Ok, Err, if◌then◌else◌}
 use Rattle.std.specs.List.{list_all, before_first, after_first}
 use Rattle.wire_base.specs.declared.prefix.Prefix.{Prefix}
 use Rattle.wire_base.specs.declared.prefix.PrefixFault.{PrefixFault}

@@ -1,5 +1,5 @@
 -- Checksums: the ones' complement sum of 16-bit words (RFC 791 section 3.1, RFC 768, RFC 792, RFC 9293 section 3.1, RFC 1624).
-use Rattle.std.specs.Prelude.{ℕ, ◌+◌, ◌-◌, ◌*◌, ◌/◌, ◌%◌, ◌==◌, ◌&&◌, nat_lt, Bool, List, [], ◌∷◌, if◌then◌else◌}
+use Rattle.std.specs.Prelude.{◌≡◌, ℕ, ◌+◌, ◌-◌, ◌*◌, ◌/◌, ◌%◌, ◌==◌, ◌&&◌, nat_lt, Bool, List, [], ◌∷◌, if◌then◌else◌}
 
 -- the sum of the words of two octets each; an odd last octet is the high octet of its word
 abbrev pub word_sum : List ℕ → ℕ
@@ -23,3 +23,11 @@ checksum_for total = if is_right total then 0 else 65535 - total % 65535
 abbrev pub pseudo_sum : (source destination protocol size : ℕ) → ℕ
 pseudo_sum source destination protocol size =
     source / 65536 + source % 65536 + destination / 65536 + destination % 65536 + protocol + size
+
+-- two totals that count alike wherever sums are compared: they differ by multiples of 65,535, and one is 0 exactly where the other is
+pub record CountsAs (a b : ℕ) : Type 0 where
+  pub up : ℕ
+  pub down : ℕ
+  pub same : a + 65535 * up ≡ b + 65535 * down
+  pub zero : a ≡ 0 → b ≡ 0
+  pub back : b ≡ 0 → a ≡ 0

@@ -9,6 +9,6 @@ pub mod sums;
 
 pub use address::{Addr, FlowKey, Link, Side};
 pub use flags::Flags;
-pub use number::{u16_at, u32_at};
-pub use prefix::{Prefix, PrefixFault};
-pub use sums::pseudo_sum;
+pub use number::{put_u16, put_u32, u16_at, u32_at};
+pub use prefix::{Prefix, PrefixFault, read_prefix};
+pub use sums::{pseudo_sum, sum_for, sum_right};

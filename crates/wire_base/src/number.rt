@@ -19,3 +19,19 @@ pub fn u32_at(bytes: &[u8], at: usize) -> u32
 {
     BigEndian::read_u32(&bytes[at..])
 }
+
+/// Writes the two octets of a number at this place.
+pub fn put_u16(bytes: &mut [u8], at: usize, value: u16)
+    requires { at + 2 ≤ length bytes.old }
+    ensures { bytes.new ≡ numbers.with_u16 bytes.old at value }
+{
+    BigEndian::write_u16(&mut bytes[at..], value);
+}
+
+/// Writes the four octets of a number at this place.
+pub fn put_u32(bytes: &mut [u8], at: usize, value: u32)
+    requires { at + 4 ≤ length bytes.old }
+    ensures { bytes.new ≡ numbers.with_u32 bytes.old at value }
+{
+    BigEndian::write_u32(&mut bytes[at..], value);
+}

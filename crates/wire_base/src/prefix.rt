@@ -1,5 +1,5 @@
 //! Address prefixes, and their text.
-ghost use Rattle.std.specs.Prelude.{◌≡◌, ◌≤◌};
+ghost use Rattle.std.specs.Prelude.{◌≡◌, ◌≤◌, IfOk, if◌then◌else◌};
 ghost use Rattle.wire_base.specs.Prefixes as spec;
 
 use crate::Addr;
@@ -31,5 +31,107 @@ impl Prefix {
     {
         let shift = u32::from(32 - self.len);
         u64::from(self.addr.0) >> shift == u64::from(a.0) >> shift
+    }
+}
+
+/// The prefix that a text is: four numbers of one to three digits with dots, a slash, and a length of one or two digits.
+/// Leading zeros are read.
+pub fn read_prefix(text: &str) -> Result<Prefix, PrefixFault>
+    ensures exact { result ≡ spec.prefix_of text.now }
+    ensures in_range { IfOk result (λ prefix. prefix.len ≤ 32) }
+{
+    let (first, rest) = split_at_first(text.as_bytes(), b'.');
+    let (second, rest) = split_at_first(rest, b'.');
+    let (third, rest) = split_at_first(rest, b'.');
+    let (fourth, size) = split_at_first(rest, b'/');
+    let a = read_number(first, 3)?;
+    let b = read_number(second, 3)?;
+    let c = read_number(third, 3)?;
+    let d = read_number(fourth, 3)?;
+    let len = read_number(size, 2)?;
+    if a > 255 || b > 255 || c > 255 || d > 255 {
+        return Err(PrefixFault::Part);
+    }
+    if len > 32 {
+        return Err(PrefixFault::Length);
+    }
+    Ok(Prefix {
+        addr: Addr(u32::from_be_bytes([a as u8, b as u8, c as u8, d as u8])),
+        len: len as u8,
+    })
+}
+
+// What stands before the first separator, and after it; all and nothing where none stands.
+fn split_at_first(text: &[u8], separator: u8) -> (&[u8], &[u8])
+    ensures before { result.0.now ≡ spec.before separator text.now }
+    ensures after { result.1.now ≡ spec.after separator text.now }
+{
+    match text.iter().position(|c| *c == separator) {
+        Some(at) => (&text[..at], &text[at + 1..]),
+        None => (text, &[]),
+    }
+}
+
+// The number that one to `most` decimal digits are.
+fn read_number(text: &[u8], most: usize) -> Result<u32, PrefixFault>
+    requires { most ≤ 3 }
+    ensures exact { result ≡ (if spec.is_number most text.now then Ok (spec.number_of text.now) else Err PrefixFault.Shape) }
+{
+    if text.is_empty() || text.len() > most {
+        return Err(PrefixFault::Shape);
+    }
+    let mut number = 0;
+    for c in text {
+        if !c.is_ascii_digit() {
+            return Err(PrefixFault::Shape);
+        }
+        number = 10 * number + u32::from(*c - b'0');
+    }
+    Ok(number)
+}
+
+#[cfg(test)]
+mod tests {
+    use super::*;
+
+    #[test]
+    fn prefixes_are_read(rt: HostRuntime) {
+        let ten = Ok(Prefix {
+            addr: Addr(0x0a00_0000),
+            len: 8,
+        });
+        let rows = [
+            ("10.0.0.0/8", ten),
+            ("010.0.0.000/08", ten),
+            (
+                "192.0.2.1/32",
+                Ok(Prefix {
+                    addr: Addr(0xc000_0201),
+                    len: 32,
+                }),
+            ),
+            (
+                "255.255.255.255/0",
+                Ok(Prefix {
+                    addr: Addr(0xffff_ffff),
+                    len: 0,
+                }),
+            ),
+            ("", Err(PrefixFault::Shape)),
+            ("10.0.0/8", Err(PrefixFault::Shape)),
+            ("10.0.0.0", Err(PrefixFault::Shape)),
+            ("10.0.0.0/", Err(PrefixFault::Shape)),
+            ("10.0.0.0/100", Err(PrefixFault::Shape)),
+            ("10.0.0.0/8/9", Err(PrefixFault::Shape)),
+            ("1.2.3.4.5/8", Err(PrefixFault::Shape)),
+            ("0010.0.0.0/8", Err(PrefixFault::Shape)),
+            (" 10.0.0.0/8", Err(PrefixFault::Shape)),
+            ("256.0.0.0/8", Err(PrefixFault::Part)),
+            ("10.0.0.256/33", Err(PrefixFault::Part)),
+            ("10.0.0.0/33", Err(PrefixFault::Length)),
+        ];
+        for (text, prefix) in rows {
+            assert_eq!(rt; read_prefix(text), prefix, "{text}");
+        }
     }
 }

@@ -2,7 +2,10 @@
 ghost use Rattle.std.specs.Prelude.{◌≡◌, ◌+◌, ◌*◌, ◌≤◌, ◌<◌, ◌^◌, length};
 ghost use Rattle.wire_base.specs.Sums as sums;
 
-use crate::Addr;
+use crate::{Addr, u32_at};
+
+// Octets that are summed before carries are folded.
+const PIECE: usize = 65536;
 
 /// What TCP and UDP sum before the message: the addresses, the protocol, and the message's length in octets
 /// (RFC 768, RFC 9293 section 3.1).
@@ -12,4 +15,115 @@ pub fn pseudo_sum(src: Addr, dst: Addr, protocol: u8, len: u16) -> u32
     let source = (src.0 >> 16) + (src.0 & 0xffff);
     let destination = (dst.0 >> 16) + (dst.0 & 0xffff);
     source + destination + u32::from(protocol) + u32::from(len)
+}
+
+/// Whether `extra` and the words of the octets, the checksum among them, sum right: to a positive multiple of 65,535.
+pub fn sum_right(bytes: &[u8], extra: u32) -> bool
+    ensures { result ≡ sums.sum_is_right bytes.now extra }
+{
+    is_right(folded_sum(bytes, extra))
+}
+
+/// The checksum that makes the sum of `extra` and the words of the octets right, with 0 in its own place among them.
+pub fn sum_for(bytes: &[u8], extra: u32) -> u16
+    ensures { result ≡ sums.checksum_for (extra + sums.word_sum bytes.now) }
+{
+    let total = folded_sum(bytes, extra);
+    if is_right(total) {
+        0
+    } else {
+        65535 - (total % 65535) as u16
+    }
+}
+
+// Whether a total is a positive multiple of 65,535.
+fn is_right(total: u64) -> bool
+    ensures { result ≡ sums.is_right total }
+{
+    total > 0 && total % 65535 == 0
+}
+
+// The sum of `extra` and the words of the octets, with its carries folded in.
+fn folded_sum(bytes: &[u8], extra: u32) -> u64
+    ensures { sums.CountsAs result (extra + sums.word_sum bytes.now) }
+{
+    let mut total = u64::from(extra);
+    let mut rest = bytes;
+    while !rest.is_empty() {
+        let (piece, behind) = rest.split_at(rest.len().min(PIECE));
+        total = folded(total + sum_of_piece(piece));
+        rest = behind;
+    }
+    total
+}
+
+// The sum with what stands above its low 16 bits added to them.
+fn folded(total: u64) -> u64
+    requires { total < 2 ^ 48 }
+    ensures alike { sums.CountsAs result total }
+    ensures small { result < 2 ^ 33 }
+{
+    (total >> 16) + (total & 0xffff)
+}
+
+// The sum of a piece, by words of 32 bits: 65,536 times a word counts as the word.
+fn sum_of_piece(piece: &[u8]) -> u64
+    requires { length piece.now ≤ PIECE }
+    ensures alike { sums.CountsAs result (sums.word_sum piece.now) }
+    ensures small { result < 2 ^ 47 }
+{
+    let words = piece.len() / 4;
+    let mut sum: u64 = 0;
+    for i in 0..words {
+        sum += u64::from(u32_at(piece, 4 * i));
+    }
+    sum + sum_of_rest(&piece[4 * words..])
+}
+
+// The sum of what is left of a piece after its words of 32 bits.
+fn sum_of_rest(rest: &[u8]) -> u64
+    requires { length rest.now < 4 }
+    ensures exact { result ≡ sums.word_sum rest.now }
+    ensures small { result < 2 ^ 17 }
+{
+    match *rest {
+        [] => 0,
+        [a] => 256 * u64::from(a),
+        [a, b] => 256 * u64::from(a) + u64::from(b),
+        [a, b, c, ..] => 256 * u64::from(a) + u64::from(b) + 256 * u64::from(c),
+    }
+}
+
+#[cfg(test)]
+mod tests {
+    use super::*;
+
+    // The example of RFC 1071 section 3, alone and with its checksum; a sum of 0; an odd last octet; a word of ones; what stands before.
+    #[test]
+    fn words_sum_as_the_standards_say(rt: HostRuntime) {
+        let rows: [(&[u8], u32, bool, u16); 8] = [
+            (
+                &[0x00, 0x01, 0xf2, 0x03, 0xf4, 0xf5, 0xf6, 0xf7],
+                0,
+                false,
+                0x220d,
+            ),
+            (
+                &[0x00, 0x01, 0xf2, 0x03, 0xf4, 0xf5, 0xf6, 0xf7, 0x22, 0x0d],
+                0,
+                true,
+                0,
+            ),
+            (&[], 0, false, 0xffff),
+            (&[0, 0, 0, 0, 0, 0, 0, 0], 0, false, 0xffff),
+            (&[1], 0, false, 0xfeff),
+            (&[0xff, 0xff, 0, 0, 0], 0, true, 0),
+            (&[0, 1], 0x1_fffd, true, 0),
+            (&[0, 1], 0x1_fffe, false, 0xfffe),
+        ];
+        for (bytes, extra, right, checksum) in rows {
+            assert_eq!(rt; sum_right(bytes, extra), right, "{bytes:?} after {extra}");
+            assert_eq!(rt; sum_for(bytes, extra), checksum, "{bytes:?} after {extra}");
+        }
+    }
 }

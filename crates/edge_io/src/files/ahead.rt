@@ -1,0 +1,78 @@
+//! Reads through a buffer.
+ghost use Rattle.std.specs.Prelude.{◌≡◌, ◌≤◌, OnOk};
+ghost use Rattle.std.specs.Io.{ReadsAtMost};
+ghost use Rattle.std.specs.Io.KnownBytes.{Keeps, IsAtEnd, ReadConsumes};
+ghost use Rattle.edge_io.specs.Octets.{Fetches};
+ghost use Rattle.edge_io.specs.declared.files.TheConstants.{BUFFER_OCTETS};
+
+use super::BUFFER_OCTETS;
+use crate::Failed;
+use std::io::{ErrorKind, Read};
+
+// How often a read is tried that a signal interrupts.
+const TRIES: u32 = 1_000;
+
+/// A reader with a buffer before it.
+#[derive(Drop)]
+pub(super) struct ReadAhead<R> {
+    reader: R,
+    buffer: [u8; BUFFER_OCTETS],
+    start: usize,
+    filled: usize,
+    ghost ordered: { start ≤ filled },
+    ghost within: { filled ≤ BUFFER_OCTETS },
+}
+
+impl<R: Read> ReadAhead<R> {
+    ghost use Rattle.edge_io.specs.ReadAhead.{octets_left};
+
+    pub(super) fn new(reader: R) -> ReadAhead<R>
+        ensures { Keeps (R.remaining reader) (octets_left R.remaining result) }
+    {
+        ReadAhead {
+            reader,
+            buffer: [0; BUFFER_OCTETS],
+            start: 0,
+            filled: 0,
+        }
+    }
+
+    /// Moves octets that are ahead in the buffer to the front of `buf`.
+    pub(super) fn fetch(&mut self, buf: &mut [u8]) -> Result<usize, Failed>
+        ensures { Fetches (octets_left R.remaining self.old) (octets_left R.remaining self.new) result buf.new }
+    {
+        self.refill()?;
+        let count = buf.len().min(self.filled - self.start);
+        buf[..count].copy_from_slice(&self.buffer[self.start..self.start + count]);
+        self.start += count;
+        Ok(count)
+    }
+
+    // Fills the buffer by one read where it is used up.
+    fn refill(&mut self) -> Result<(), Failed>
+        ensures kept { Keeps (octets_left R.remaining self.old) (octets_left R.remaining self.new) }
+        ensures end { OnOk result (self.new.start ≡ self.new.filled → IsAtEnd (R.remaining self.new.reader)) }
+    {
+        if self.start == self.filled {
+            let count = read_some(&mut self.reader, &mut self.buffer)?;
+            self.start = 0;
+            self.filled = count;
+        }
+        Ok(())
+    }
+}
+
+// Reads once, and again only where a signal interrupted the read.
+fn read_some<R: Read>(reader: &mut R, buf: &mut [u8]) -> Result<usize, Failed>
+    ensures within { ReadsAtMost result buf.new }
+    ensures octets { ReadConsumes (R.remaining reader.old) (R.remaining reader.new) result buf.new }
+{
+    for _ in 0..TRIES {
+        match reader.read(buf) {
+            Ok(count) => return Ok(count),
+            Err(e) if e.kind() == ErrorKind::Interrupted => {}
+            Err(_) => return Err(Failed),
+        }
+    }
+    Err(Failed)
+}

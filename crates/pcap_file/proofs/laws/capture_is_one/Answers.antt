@@ -1,0 +1,5 @@
+use Rattle.pcap_file.proofs.Unique.{capture_one}
+use Rattle.pcap_file.proofs.laws.capture_is_one.Goals as goal
+
+pub returns : goal.returns
+returns c = capture_one

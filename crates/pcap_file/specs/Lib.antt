@@ -1,0 +1,9 @@
+pub mod Numbers
+pub mod Flaws
+pub mod Heads
+pub mod Records
+pub mod Capture
+pub mod Laws
+pub mod ReadsHead
+pub mod Reading
+pub mod Reads

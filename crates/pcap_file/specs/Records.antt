@@ -1,0 +1,45 @@
+-- The records of a capture file (classic pcap): 16 octets with seconds, fraction, captured and original length, then the captured octets.
+use Rattle.std.specs.Prelude.{ℕ, ◌+◌, ◌==◌, nat_lt, List, ◌++◌, length, take, drop, Option, Some, None, Result, Ok, Err, if◌then◌else◌}
+use Rattle.pcap_file.specs.declared.order.Order.{Order}
+use Rattle.pcap_file.specs.Numbers.{u32_at, u32_octets}
+use Rattle.pcap_file.specs.Flaws.{Flaw, cut_short, too_long, too_many}
+
+-- a record: its time, in seconds and a fraction of one, its original length and the octets captured
+pub record Packet : Type 0 where
+  pub seconds : ℕ
+  pub fraction : ℕ
+  pub original : ℕ
+  pub octets : List ℕ
+
+-- the captured length that stands in the head of the record at the front
+abbrev pub captured : Order → List ℕ → ℕ
+captured order octets = u32_at order octets 8
+
+-- the record at the front with so many octets captured
+abbrev pub packet_of : Order → List ℕ → (size : ℕ) → Packet
+packet_of order octets size =
+    record { seconds = u32_at order octets 0; fraction = u32_at order octets 4; original = u32_at order octets 12; octets = take size (drop 16 octets) }
+
+-- what stands at the front after so many records, where the head of a record is whole and says this captured length
+abbrev pub sized_at : Order → (count : ℕ) → List ℕ → (size : ℕ) → Result (Option (Packet × List ℕ)) Flaw
+sized_at order count octets size =
+    if nat_lt 262144 size then Err too_long
+    else if count == 4294967295 then Err too_many
+    else if nat_lt (length octets) (16 + size) then Err cut_short
+    else Ok (Some (packet_of order octets size, drop (16 + size) octets))
+
+-- What stands at the front of the octets left, after so many records: nothing, a flaw, or a record and the octets behind it.
+unfoldable pub front_of : Order → (count : ℕ) → List ℕ → Result (Option (Packet × List ℕ)) Flaw
+front_of order count octets =
+    if length octets == 0 then Ok None
+    else if nat_lt (length octets) 16 then Err cut_short
+    else sized_at order count octets (captured order octets)
+
+-- the head of a record as it is written: both lengths are that of its octets
+unfoldable pub record_head : Order → (seconds fraction size : ℕ) → List ℕ
+record_head order seconds fraction size =
+    u32_octets order seconds ++ u32_octets order fraction ++ u32_octets order size ++ u32_octets order size
+
+-- the record as it is written
+abbrev pub record_octets : Order → (seconds fraction : ℕ) → List ℕ → List ℕ
+record_octets order seconds fraction octets = record_head order seconds fraction (length octets) ++ octets

@@ -1,0 +1,131 @@
+//! The head of a capture file.
+ghost use Rattle.std.specs.Prelude.{◌≡◌, ◌≤◌, length, IfOk, IsErrOf, true};
+ghost use Rattle.edge_io.specs.Faults.{Rose};
+ghost use Rattle.pcap_file.specs.Heads as heads;
+ghost use Rattle.pcap_file.specs.ReadsHead.{ReadsHead, Judges};
+
+use crate::Order;
+use edge_io::{Failed, Source, read_full};
+use thiserror::Error;
+use wire_base::Link;
+
+/// How a capture file is written: the byte order, the unit of the fraction of a second, and what a frame begins with.
+#[derive(Clone, Copy, Debug, PartialEq, Eq)]
+pub struct Head {
+    pub order: Order,
+    /// Whether a fraction counts nanoseconds; otherwise it counts microseconds.
+    pub nano: bool,
+    pub link: Link,
+}
+
+/// Why no head was read, in the order of testing.
+#[derive(Clone, Copy, Debug, PartialEq, Eq, Error)]
+pub enum HeadFault {
+    #[error("fewer than 24 octets")]
+    Cut,
+    #[error("a magic that is not read")]
+    Magic,
+    #[error("another version than 2.4")]
+    Version,
+    #[error("a network that is not read")]
+    Link,
+    #[error("the source failed")]
+    ReadFault,
+    #[error("a form that is not read yet")]
+    Later,
+}
+
+impl From<Failed> for HeadFault {
+    ghost use Rattle.std.specs.Prelude.{◌≡◌};
+    ghost use Rattle.pcap_file.specs.declared.head.HeadFault.TheVariants.{ReadFault};
+
+    ghost from_gives = { λ _ fault. fault ≡ ReadFault };
+
+    fn from(_: Failed) -> Self {
+        HeadFault::ReadFault
+    }
+}
+
+const MICRO_MAGIC: u32 = 0xa1b2_c3d4;
+const NANO_MAGIC: u32 = 0xa1b2_3c4d;
+
+// Whether a magic means nanoseconds, or that it means nothing.
+fn unit_of(magic: u32) -> Option<bool>
+    ensures { result ≡ heads.unit_of magic }
+{
+    match magic {
+        MICRO_MAGIC => Some(false),
+        NANO_MAGIC => Some(true),
+        _ => None,
+    }
+}
+
+// The link of a network number.
+fn link_of(network: u32) -> Option<Link>
+    ensures { result ≡ heads.link_of network }
+{
+    match network {
+        1 => Some(Link::Ethernet),
+        101 => Some(Link::Raw),
+        _ => None,
+    }
+}
+
+// The order and the unit that a stored magic tells.
+fn form_of(octets: &[u8]) -> Option<(Order, bool)>
+    requires { length octets.now ≡ 24 }
+    ensures { result ≡ heads.form_of octets.now }
+{
+    if let Some(nano) = unit_of(Order::Little.u32_at(octets, 0)) {
+        return Some((Order::Little, nano));
+    }
+    let nano = unit_of(Order::Big.u32_at(octets, 0))?;
+    Some((Order::Big, nano))
+}
+
+// The head that these 24 octets are.
+#[tactic(auto, unfolding(crate::specs::Heads::head_of))]
+fn judge(octets: &[u8]) -> Result<Head, HeadFault>
+    requires { length octets.now ≡ 24 }
+    ensures { Judges octets.now result }
+{
+    let Some((order, nano)) = form_of(octets) else {
+        return Err(HeadFault::Magic);
+    };
+    if order.u16_at(octets, 4) != 2 || order.u16_at(octets, 6) != 4 {
+        return Err(HeadFault::Version);
+    }
+    let Some(link) = link_of(order.u32_at(octets, 20)) else {
+        return Err(HeadFault::Link);
+    };
+    Ok(Head { order, nano, link })
+}
+
+// Whether the head has the one form that is read so far.
+fn is_read_now(head: &Head) -> bool
+    ensures { result ≡ heads.is_read_now head.now }
+{
+    match (head.order, head.nano, head.link) {
+        (Order::Little, false, Link::Raw) => true,
+        _ => false,
+    }
+}
+
+/// Reads the head. Zone, accuracy and snap length are not looked at.
+pub fn read_head<S: Source>(source: &mut S) -> Result<Head, HeadFault>
+    ensures octets { ReadsHead (S.left source.old) (S.left source.new) result }
+    ensures form { IfOk result (λ head. heads.is_read_now head ≡ true) }
+    ensures later { S.fault_count source.old ≤ S.fault_count source.new }
+    ensures cause { IsErrOf result HeadFault.ReadFault → Rose (S.fault_count source.old) (S.fault_count source.new) }
+{
+    let mut octets = [0u8; 24];
+    let count = read_full(source, &mut octets)?;
+    if count < 24 {
+        return Err(HeadFault::Cut);
+    }
+    let head = judge(&octets)?;
+    if !is_read_now(&head) {
+        return Err(HeadFault::Later);
+    }
+    Ok(head)
+}

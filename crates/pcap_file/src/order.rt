@@ -1,0 +1,56 @@
+//! The byte order of a capture file, and its numbers.
+ghost use Rattle.std.specs.Prelude.{◌≡◌, ◌+◌, ◌≤◌, length};
+ghost use Rattle.pcap_file.specs.Numbers as numbers;
+
+use byteorder::{BigEndian, ByteOrder, LittleEndian};
+
+/// The order of the octets of each number in a file: the lowest first, or the highest.
+#[derive(Clone, Copy, Debug, PartialEq, Eq)]
+pub enum Order {
+    Little,
+    Big,
+}
+
+impl Order {
+    /// The number of two octets that begins at this place.
+    pub fn u16_at(self, bytes: &[u8], at: usize) -> u16
+        requires { at + 2 ≤ length bytes.now }
+        ensures { result ≡ numbers.u16_at self bytes.now at }
+    {
+        match self {
+            Order::Little => LittleEndian::read_u16(&bytes[at..]),
+            Order::Big => BigEndian::read_u16(&bytes[at..]),
+        }
+    }
+
+    /// The number of four octets that begins at this place.
+    pub fn u32_at(self, bytes: &[u8], at: usize) -> u32
+        requires { at + 4 ≤ length bytes.now }
+        ensures { result ≡ numbers.u32_at self bytes.now at }
+    {
+        match self {
+            Order::Little => LittleEndian::read_u32(&bytes[at..]),
+            Order::Big => BigEndian::read_u32(&bytes[at..]),
+        }
+    }
+
+    /// The two octets of a number.
+    pub fn u16_octets(self, number: u16) -> [u8; 2]
+        ensures { result ≡ numbers.u16_octets self number }
+    {
+        match self {
+            Order::Little => number.to_le_bytes(),
+            Order::Big => number.to_be_bytes(),
+        }
+    }
+
+    /// The four octets of a number.
+    pub fn u32_octets(self, number: u32) -> [u8; 4]
+        ensures { result ≡ numbers.u32_octets self number }
+    {
+        match self {
+            Order::Little => number.to_le_bytes(),
+            Order::Big => number.to_be_bytes(),
+        }
+    }
+}

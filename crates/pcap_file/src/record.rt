@@ -1,0 +1,35 @@
+//! A record of a capture file.
+ghost use Rattle.std.specs.Prelude.{◌≡◌};
+
+/// One record, whose octets lie in the caller's buffer.
+#[derive(Clone, Copy, Debug)]
+pub struct Record<'a> {
+    /// Seconds since 1970.
+    pub seconds: u32,
+    /// Microseconds or nanoseconds, as the head says; it is not checked.
+    pub fraction: u32,
+    /// The length that the packet had where it was captured, in octets.
+    pub original: u32,
+    /// Where the record begins, in octets from the first of the file.
+    pub offset: u64,
+    /// The octets captured, at most 262,144.
+    pub bytes: &'a [u8],
+}
+
+impl<'a> Record<'a> {
+    ghost use Rattle.pcap_file.specs.Reads.{shown};
+
+    /// A record of these octets.
+    pub fn new(seconds: u32, fraction: u32, original: u32, offset: u64, bytes: &'a [u8]) -> Record<'a>
+        ensures fields { shown result ≡ record { seconds = seconds; fraction = fraction; original = original; octets = bytes.now } }
+        ensures offset { result.offset ≡ offset }
+    {
+        Record {
+            seconds,
+            fraction,
+            original,
+            offset,
+            bytes,
+        }
+    }
+}

@@ -1,0 +1,4 @@
+pub mod Places
+pub mod Separators
+pub mod Totals
+pub mod Words

@@ -1,0 +1,35 @@
+-- Totals that count alike.
+use Rattle.std.proofs.Common.{◌≡◌, ℕ, ◌+◌, ◌≤◌, List, length, drop, ◌*◌, refl, arith}
+use Rattle.wire_base.specs.Numbers.{u16_at, u32_at}
+use Rattle.wire_base.specs.Sums.{CountsAs, word_sum}
+use Rattle.wire_base.proofs.Words.{word_sum-drop}
+
+pub CountsAs-refl : (a : ℕ) → CountsAs a a
+CountsAs-refl a = record { up = 0; down = 0; same = refl; zero = λ e. e; back = λ e. e }
+
+-- both in turn
+pub CountsAs-trans : (a b c : ℕ) → CountsAs a b → CountsAs b c → CountsAs a c
+CountsAs-trans a b c p q = record { up = p.up + q.up; down = p.down + q.down; same = omega (arith, p.same, q.same); zero = λ e. q.zero (p.zero e); back = λ e. p.back (q.back e) }
+
+-- with the same added before both
+pub CountsAs-add : (x a b : ℕ) → CountsAs a b → CountsAs (x + a) (x + b)
+CountsAs-add x a b p = record { up = p.up; down = p.down; same = omega (arith, p.same); zero = λ e. omega (arith, p.zero); back = λ e. omega (arith, p.back) }
+
+-- 65,536 times a number counts as the number
+pub CountsAs-carry : (high low total : ℕ) → total ≡ 65536 * high + low → CountsAs (high + low) total
+CountsAs-carry high low total e = record { up = high; down = 0; same = omega arith; zero = λ z. omega arith; back = λ z. omega arith }
+
+-- a word of 32 bits and what is left behind it count as what was left before it
+pub CountsAs-word : (octets : List ℕ) (sum total at next : ℕ) → at + 4 ≤ length octets → next ≡ at + 4 → CountsAs (sum + word_sum (drop at octets)) total → CountsAs (sum + u32_at octets at + word_sum (drop next octets)) total
+CountsAs-word octets sum total at next inside e before =
+    let high = word_sum-drop octets at (omega arith) in
+    let low = word_sum-drop octets (at + 2) (omega arith) in
+    let four : next ≡ at + 2 + 2 = omega arith in
+    let step : CountsAs (sum + u32_at octets at + word_sum (drop next octets)) (sum + word_sum (drop at octets)) = rw (four, high, low) (record { up = 0; down = u16_at octets at; same = omega arith; zero = λ z. omega arith; back = λ z. omega arith }) in
+    CountsAs-trans _ _ _ step before
+
+-- a folded total and what is left behind a piece count as the total before and what was left before the piece
+pub CountsAs-piece : (folded total sum front back rest whole : ℕ) → CountsAs folded (total + sum) → CountsAs sum front → front + back ≡ rest → CountsAs (total + rest) whole → CountsAs (folded + back) whole
+CountsAs-piece folded total sum front back rest whole p q e before =
+    let step : CountsAs (folded + back) (total + rest) = record { up = p.up + q.up; down = p.down + q.down; same = omega (arith, p.same, q.same); zero = λ z. omega (arith, p.zero, q.zero); back = λ z. omega (arith, p.back, q.back) } in
+    CountsAs-trans _ _ _ step before
