@@ -1,0 +1,4 @@
+pub mod Settings
+pub mod Side
+pub mod Faults
+pub mod Asked

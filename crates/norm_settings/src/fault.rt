@@ -1,0 +1,47 @@
+//! Why words are refused.
+ghost use Rattle.std.specs.Prelude.{◌≡◌};
+ghost use Rattle.norm_settings.specs.Faults.{number_of};
+ghost use Rattle.norm_settings.specs.declared.fault.WordFault.TheVariants.{NoMemory};
+
+use std::alloc::AllocError;
+use thiserror::Error;
+
+/// Why words are no command.
+#[derive(Clone, Copy, Debug, PartialEq, Eq, Error)]
+pub enum WordFault {
+    /// Another form than `run IN OUT PREFIX`, with no word empty and none of the last three beginning with `-`.
+    #[error("not the words `run IN OUT PREFIX`")]
+    Refused,
+    /// The prefix at this place, counted from 1, is no prefix.
+    #[error("prefix {0} is faulty")]
+    Prefix(u8),
+    #[error("more than 16 prefixes")]
+    TooMany,
+    #[error("no memory for the names")]
+    NoMemory,
+    #[error("one name for both files")]
+    Same,
+}
+
+impl WordFault {
+    /// The fault's number in the report.
+    pub fn number(&self) -> u8
+        ensures { result ≡ number_of self.now }
+    {
+        match self {
+            WordFault::Refused => 1,
+            WordFault::Prefix(_) => 2,
+            WordFault::TooMany => 3,
+            WordFault::NoMemory => 4,
+            WordFault::Same => 5,
+        }
+    }
+}
+
+impl From<AllocError> for WordFault {
+    ghost from_gives = { λ _ fault. fault ≡ NoMemory };
+
+    fn from(_: AllocError) -> WordFault {
+        WordFault::NoMemory
+    }
+}

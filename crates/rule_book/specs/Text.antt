@@ -1,0 +1,90 @@
+-- The text of the report (this project's profile): a line for each entry and a last line, each with a line feed (10) at its end.
+use Rattle.std.specs.Prelude.{ℕ, List, [], ◌∷◌, ◌++◌, Option, Some, None, codes, decimal}
+use Rattle.std.specs.List.{flat_map}
+use Rattle.rule_book.specs.Entries.{PlainEntry}
+use Rattle.rule_book.specs.Rules.{rule_name}
+use Rattle.rule_book.specs.declared.entry.Ended.{Ended}
+use Rattle.rule_book.specs.declared.entry.Reason.{Reason}
+use Rattle.rule_book.specs.declared.entry.Reason.TheVariants.{Reset, Evicted, Idle, Reopened}
+use Rattle.rule_book.specs.declared.entry.Verdict.{Verdict}
+use Rattle.rule_book.specs.declared.entry.Verdict.TheVariants.{Pass, Fix, Hold, Drop}
+use Rattle.rule_book.specs.declared.last.Last.{Last}
+use Rattle.rule_book.specs.declared.last.Last.TheVariants.{End, Stop}
+use Rattle.rule_book.specs.declared.last.StopKind.{StopKind}
+use Rattle.rule_book.specs.declared.last.StopKind.TheVariants.{Magic, Version, Link, Long, Many, Cut, ReadFault, Capture, Memory}
+use Rattle.rule_book.specs.declared.rule.Rule.{Rule}
+use Rattle.wire_base.specs.declared.address.Side.{Side}
+use Rattle.wire_base.specs.declared.address.Side.TheVariants.{Inward, Outward}
+
+-- which way the packet went
+abbrev pub side_word : Option Side → List ℕ
+side_word (Some Inward) = codes "in"
+side_word (Some Outward) = codes "out"
+side_word None = codes "-"
+
+-- what became of it
+abbrev pub verdict_word : Verdict → List ℕ
+verdict_word Pass = codes "pass"
+verdict_word Fix = codes "fix"
+verdict_word Hold = codes "hold"
+verdict_word Drop = codes "drop"
+
+-- why an era ended
+abbrev pub reason_word : Reason → List ℕ
+reason_word Reset = codes "reset"
+reason_word Evicted = codes "evicted"
+reason_word Idle = codes "idle"
+reason_word Reopened = codes "reopened"
+
+-- a part of a line, with one space (32) before it
+abbrev pub part : List ℕ → List ℕ
+part text = 32 ∷ text
+
+-- the name of each rule
+abbrev pub rule_parts : List Rule → List ℕ
+rule_parts rules = flat_map (λ rule. part (rule_name rule)) rules
+
+-- an era's number behind a mark, `@` (64) or `+` (43), or nothing where there is none
+abbrev pub era_part : ℕ → Option ℕ → List ℕ
+era_part mark None = []
+era_part mark (Some era) = part (mark ∷ decimal era)
+
+-- an era that ended: `-` (45), its number, `:` (58) and the reason
+abbrev pub ended_part : Ended → List ℕ
+ended_part ended = part (45 ∷ decimal ended.era ++ 58 ∷ reason_word ended.reason)
+
+-- the line of an entry
+abbrev pub entry_text : PlainEntry → List ℕ
+entry_text entry =
+    decimal entry.number ++ part (side_word entry.side) ++ part (verdict_word entry.verdict) ++ part (decimal entry.packets)
+    ++ rule_parts entry.rules ++ era_part 64 entry.era ++ era_part 43 entry.begun ++ flat_map ended_part entry.ended ++ 10 ∷ []
+
+-- why a run stopped
+abbrev pub stop_word : StopKind → List ℕ
+stop_word Magic = codes "magic"
+stop_word Version = codes "version"
+stop_word Link = codes "link"
+stop_word Long = codes "long"
+stop_word Many = codes "many"
+stop_word Cut = codes "cut"
+stop_word ReadFault = codes "read"
+stop_word Capture = codes "capture"
+stop_word Memory = codes "memory"
+
+-- the last line
+abbrev pub last_text : Last → List ℕ
+last_text (End records packets) = codes "end" ++ part (decimal records) ++ part (decimal packets) ++ 10 ∷ []
+last_text (Stop kind offset) = codes "stop" ++ part (stop_word kind) ++ part (decimal offset) ++ 10 ∷ []
+
+-- the first line
+abbrev pub first_line : List ℕ
+first_line = codes "norm 1" ++ 10 ∷ []
+
+-- the lines of entries, the newest at the head of the list and at the end of the text
+abbrev pub lines_text : List PlainEntry → List ℕ
+lines_text [] = []
+lines_text (entry ∷ older) = lines_text older ++ entry_text entry
+
+-- the text of a report
+abbrev pub report_text : List PlainEntry → Last → List ℕ
+report_text entries last = first_line ++ lines_text entries ++ last_text last

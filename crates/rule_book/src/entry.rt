@@ -1,0 +1,167 @@
+//! What the report says of one record, and its line.
+ghost use Rattle.std.specs.Prelude.{◌≡◌, ◌+◌, ◌*◌, ◌≤◌, length, take};
+ghost use Rattle.std.specs.List.{flat_map};
+ghost use Rattle.rule_book.specs.Entries.{plain};
+ghost use Rattle.rule_book.specs.Lines.{Adds};
+ghost use Rattle.rule_book.specs.Text as text;
+
+use crate::Rule;
+use crate::line::Line;
+use arrayvec::ArrayVec;
+use wire_base::Side;
+
+/// What became of a record's packet: it went on as it came, it went on changed, it is held, or it was dropped.
+#[derive(Clone, Copy, Debug, PartialEq, Eq)]
+pub enum Verdict {
+    Pass,
+    Fix,
+    Hold,
+    Drop,
+}
+
+/// Why an era ended.
+#[derive(Clone, Copy, Debug, Default, PartialEq, Eq)]
+pub enum Reason {
+    /// A reset went outwards.
+    #[default]
+    Reset,
+    /// Its place was needed.
+    Evicted,
+    /// No packet of it was written for too long.
+    Idle,
+    /// The same record began another era of its connection.
+    Reopened,
+}
+
+/// An era that ended, by its number from 1.
+#[derive(Clone, Copy, Debug, Default, PartialEq, Eq)]
+pub struct Ended {
+    pub era: u32,
+    pub reason: Reason,
+}
+
+/// What the report says of one record: its number from 1, its side where it has one, the verdict, the number of frames
+/// written, the rules in the order in which they are named, the era that the packet belongs to, the era that it began,
+/// and the eras that ended, in the order in which they did.
+#[derive(Debug, Drop)]
+pub struct Entry {
+    pub number: u32,
+    pub side: Option<Side>,
+    pub verdict: Verdict,
+    pub packets: u8,
+    pub rules: ArrayVec<Rule, 16>,
+    pub era: Option<u32>,
+    pub begun: Option<u32>,
+    pub ended: ArrayVec<Ended, 4>,
+}
+
+impl Verdict {
+    /// The word of the report.
+    fn word(self) -> &'static str
+        ensures text { result.now ≡ text.verdict_word self }
+        ensures bound { length result.now ≤ 4 }
+    {
+        match self {
+            Verdict::Pass => "pass",
+            Verdict::Fix => "fix",
+            Verdict::Hold => "hold",
+            Verdict::Drop => "drop",
+        }
+    }
+}
+
+impl Reason {
+    /// The word of the report.
+    fn word(self) -> &'static str
+        ensures text { result.now ≡ text.reason_word self }
+        ensures bound { length result.now ≤ 8 }
+    {
+        match self {
+            Reason::Reset => "reset",
+            Reason::Evicted => "evicted",
+            Reason::Idle => "idle",
+            Reason::Reopened => "reopened",
+        }
+    }
+}
+
+/// Writes the line of an entry, and answers how many octets it has.
+pub fn entry_line(entry: &Entry, buf: &mut [u8]) -> usize
+    requires { 400 ≤ length buf.old }
+    ensures text { take result buf.new ≡ text.entry_text (plain entry.now) }
+    ensures bound { result ≤ 376 }
+{
+    let mut line = Line::new(buf);
+    line.number(entry.number);
+    line.part(side_word(entry.side));
+    line.part(entry.verdict.word());
+    line.part_number(u32::from(entry.packets));
+    put_rules(&mut line, entry.rules.as_slice());
+    put_era(&mut line, b'@', entry.era);
+    put_era(&mut line, b'+', entry.begun);
+    put_ended(&mut line, entry.ended.as_slice());
+    line.text("\n");
+    line.len()
+}
+
+/// The word of the report for a side.
+fn side_word(side: Option<Side>) -> &'static str
+    ensures text { result.now ≡ text.side_word side }
+    ensures bound { length result.now ≤ 3 }
+{
+    match side {
+        Some(Side::Inward) => "in",
+        Some(Side::Outward) => "out",
+        None => "-",
+    }
+}
+
+/// Writes the name of each rule.
+fn put_rules(line: &mut Line<'_>, rules: &[Rule])
+    requires { line.old.len + 10 * length rules.now ≤ length line.old.buf.now }
+    ensures same_buffer { line.new.buf.ghost_name ≡ line.old.buf.ghost_name }
+    ensures adds { Adds line.old line.new (text.rule_parts rules.now) }
+    ensures bound { line.new.len ≤ line.old.len + 10 * length rules.now }
+{
+    for rule in rules {
+        line.part(rule.name());
+    }
+}
+
+/// Writes the number of an era behind a mark, where there is one.
+fn put_era(line: &mut Line<'_>, mark: u8, era: Option<u32>)
+    requires { line.old.len + 12 ≤ length line.old.buf.now }
+    ensures same_buffer { line.new.buf.ghost_name ≡ line.old.buf.ghost_name }
+    ensures adds { Adds line.old line.new (text.era_part mark era) }
+    ensures bound { line.new.len ≤ line.old.len + 12 }
+{
+    if let Some(number) = era {
+        line.octets(&[b' ', mark]);
+        line.number(number);
+    }
+}
+
+/// Writes each era that ended, with the reason.
+fn put_ended(line: &mut Line<'_>, eras: &[Ended])
+    requires { line.old.len + 21 * length eras.now ≤ length line.old.buf.now }
+    ensures same_buffer { line.new.buf.ghost_name ≡ line.old.buf.ghost_name }
+    ensures adds { Adds line.old line.new (flat_map text.ended_part eras.now) }
+    ensures bound { line.new.len ≤ line.old.len + 21 * length eras.now }
+{
+    for ended in eras {
+        put_end(line, *ended);
+    }
+}
+
+/// Writes an era that ended, with the reason.
+fn put_end(line: &mut Line<'_>, ended: Ended)
+    requires { line.old.len + 21 ≤ length line.old.buf.now }
+    ensures same_buffer { line.new.buf.ghost_name ≡ line.old.buf.ghost_name }
+    ensures adds { Adds line.old line.new (text.ended_part ended) }
+    ensures bound { line.new.len ≤ line.old.len + 21 }
+{
+    line.text(" -");
+    line.number(ended.era);
+    line.text(":");
+    line.text(ended.reason.word());
+}

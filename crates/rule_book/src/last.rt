@@ -1,0 +1,79 @@
+//! The last line of the report.
+ghost use Rattle.std.specs.Prelude.{◌≡◌, ◌≤◌, length, take};
+ghost use Rattle.rule_book.specs.Text.{last_text, stop_word};
+
+use crate::line::Line;
+
+/// Why a run stopped before the end of its capture.
+#[derive(Clone, Copy, Debug, PartialEq, Eq)]
+pub enum StopKind {
+    /// The capture's magic number is another.
+    Magic,
+    /// The capture's version is another.
+    Version,
+    /// The capture's link type is another.
+    Link,
+    /// A record's captured length is above the bound.
+    Long,
+    /// There are more records than can be numbered.
+    Many,
+    /// The capture ends inside its head or a record.
+    Cut,
+    /// Reading failed.
+    ReadFault,
+    /// Writing the capture failed.
+    Capture,
+    /// No memory was left.
+    Memory,
+}
+
+/// What the last line says: the numbers of records and of frames written, or why the run stopped and the offset in
+/// octets of the head or record at which it did.
+#[derive(Clone, Copy, Debug, PartialEq, Eq)]
+pub enum Last {
+    End { records: u32, packets: u64 },
+    Stop { kind: StopKind, offset: u64 },
+}
+
+impl StopKind {
+    /// The word of the report.
+    fn word(self) -> &'static str
+        ensures text { result.now ≡ stop_word self }
+        ensures bound { length result.now ≤ 7 }
+    {
+        match self {
+            StopKind::Magic => "magic",
+            StopKind::Version => "version",
+            StopKind::Link => "link",
+            StopKind::Long => "long",
+            StopKind::Many => "many",
+            StopKind::Cut => "cut",
+            StopKind::ReadFault => "read",
+            StopKind::Capture => "capture",
+            StopKind::Memory => "memory",
+        }
+    }
+}
+
+/// Writes the last line, and answers how many octets it has.
+pub fn last_line(last: &Last, buf: &mut [u8]) -> usize
+    requires { 64 ≤ length buf.old }
+    ensures text { take result buf.new ≡ last_text last.now }
+    ensures bound { result ≤ 64 }
+{
+    let mut line = Line::new(buf);
+    match *last {
+        Last::End { records, packets } => {
+            line.text("end");
+            line.part_number(records);
+            line.part_long_number(packets);
+        }
+        Last::Stop { kind, offset } => {
+            line.text("stop");
+            line.part(kind.word());
+            line.part_long_number(offset);
+        }
+    }
+    line.text("\n");
+    line.len()
+}

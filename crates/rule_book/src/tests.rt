@@ -1,0 +1,149 @@
+use crate::{Ended, Entry, Last, Reason, Rule, StopKind, Verdict, entry_line, last_line};
+use arrayvec::ArrayVec;
+use wire_base::Side;
+
+/// An entry of this number, side, verdict and number of frames, with no rule and no era.
+fn plain_entry(number: u32, side: Option<Side>, verdict: Verdict, packets: u8) -> Entry {
+    Entry {
+        number,
+        side,
+        verdict,
+        packets,
+        rules: ArrayVec::new(),
+        era: None,
+        begun: None,
+        ended: ArrayVec::new(),
+    }
+}
+
+/// The entry with further rules, as far as they fit.
+fn with_rules(mut entry: Entry, rules: &[Rule]) -> Entry {
+    let _ = entry.rules.try_extend_from_slice(rules);
+    entry
+}
+
+/// The entry with the era that it belongs to, the one that it began, and those that ended, as far as they fit.
+fn with_eras(mut entry: Entry, era: u32, begun: Option<u32>, ended: &[Ended]) -> Entry {
+    entry.era = Some(era);
+    entry.begun = begun;
+    let _ = entry.ended.try_extend_from_slice(ended);
+    entry
+}
+
+/// An era that ended.
+fn end_of(era: u32, reason: Reason) -> Ended {
+    Ended { era, reason }
+}
+
+#[test]
+fn each_part_of_an_entry_has_its_place(rt: HostRuntime) {
+    let inward = Some(Side::Inward);
+    let outward = Some(Side::Outward);
+    let most = u32::MAX;
+    let longest = with_rules(
+        plain_entry(most, outward, Verdict::Drop, 255),
+        &[Rule::TSumOut; 16],
+    );
+    let reset = [end_of(10, Reason::Idle), end_of(9, Reason::Reset)];
+    let table = [
+        (
+            with_eras(plain_entry(1, inward, Verdict::Pass, 1), 1, Some(1), &[]),
+            "1 in pass 1 @1 +1\n",
+        ),
+        (
+            with_eras(
+                plain_entry(2, inward, Verdict::Pass, 1),
+                2,
+                Some(2),
+                &[end_of(1, Reason::Evicted)],
+            ),
+            "2 in pass 1 @2 +2 -1:evicted\n",
+        ),
+        (
+            with_rules(plain_entry(3, None, Verdict::Drop, 0), &[Rule::LSnap]),
+            "3 - drop 0 L_SNAP\n",
+        ),
+        (
+            with_eras(
+                with_rules(
+                    plain_entry(4, inward, Verdict::Fix, 1),
+                    &[Rule::TRes, Rule::TUrg, Rule::TOpt],
+                ),
+                1,
+                None,
+                &[],
+            ),
+            "4 in fix 1 T_RES T_URG T_OPT @1\n",
+        ),
+        (
+            with_rules(plain_entry(99, outward, Verdict::Hold, 0), &[Rule::FHeld]),
+            "99 out hold 0 F_HELD\n",
+        ),
+        (
+            with_eras(
+                plain_entry(100, outward, Verdict::Pass, 10),
+                9,
+                None,
+                &reset,
+            ),
+            "100 out pass 10 @9 -10:idle -9:reset\n",
+        ),
+        (
+            with_eras(
+                longest,
+                most,
+                Some(most),
+                &[end_of(most, Reason::Reopened); 4],
+            ),
+            "4294967295 out drop 255 \
+             T_SUM_OUT T_SUM_OUT T_SUM_OUT T_SUM_OUT T_SUM_OUT T_SUM_OUT T_SUM_OUT T_SUM_OUT \
+             T_SUM_OUT T_SUM_OUT T_SUM_OUT T_SUM_OUT T_SUM_OUT T_SUM_OUT T_SUM_OUT T_SUM_OUT \
+             @4294967295 +4294967295 -4294967295:reopened -4294967295:reopened \
+             -4294967295:reopened -4294967295:reopened\n",
+        ),
+    ];
+    for (entry, text) in &table {
+        let mut buf = [b'#'; 400];
+        let len = entry_line(entry, &mut buf);
+        assert_eq!(rt; &buf[..len], text.as_bytes(), "{text}");
+    }
+}
+
+#[test]
+fn the_last_line_counts_or_tells_why(rt: HostRuntime) {
+    let table = [
+        (end(6, 5), "end 6 5\n"),
+        (
+            end(u32::MAX, u64::MAX),
+            "end 4294967295 18446744073709551615\n",
+        ),
+        (end(0, 4294967296), "end 0 4294967296\n"),
+        (stop(StopKind::Magic, 0), "stop magic 0\n"),
+        (stop(StopKind::Version, 0), "stop version 0\n"),
+        (stop(StopKind::Link, 0), "stop link 0\n"),
+        (stop(StopKind::Long, 24), "stop long 24\n"),
+        (stop(StopKind::Many, 1000000), "stop many 1000000\n"),
+        (stop(StopKind::Cut, 70), "stop cut 70\n"),
+        (stop(StopKind::ReadFault, 9), "stop read 9\n"),
+        (stop(StopKind::Capture, 10), "stop capture 10\n"),
+        (
+            stop(StopKind::Memory, u64::MAX),
+            "stop memory 18446744073709551615\n",
+        ),
+    ];
+    for (last, text) in table {
+        let mut buf = [b'#'; 64];
+        let len = last_line(&last, &mut buf);
+        assert_eq!(rt; &buf[..len], text.as_bytes(), "{text}");
+    }
+}
+
+/// The last line of a whole run.
+fn end(records: u32, packets: u64) -> Last {
+    Last::End { records, packets }
+}
+
+/// The last line of a run that stopped.
+fn stop(kind: StopKind, offset: u64) -> Last {
+    Last::Stop { kind, offset }
+}
