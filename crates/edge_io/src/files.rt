@@ -25,7 +25,7 @@ pub type FileSink = BufferedSink<File>;
 /// Standard output.
 pub type LineOut = BufferedSink<Stdout>;
 
-/// A reader outside the program, read through a buffer of `BUFFER_OCTETS` octets. It tells no octets.
+/// A reader outside the program, read through a buffer. It tells no octets.
 #[derive(Drop)]
 pub struct BufferedSource<R> {
     ahead: Option<ReadAhead<R>>,
@@ -61,7 +61,9 @@ impl<R: Read + Drop> Source for BufferedSource<R> {
         ensures cause { HasCause self.old.faults self.new.faults result }
         ensures over_none { self.old.is_there ≡ false → IsErr result }
         ensures ok { OnOk result (self.new ≡ self.old) }
-        ensures failed { OnErr result (self.new ≡ record self.old { faults = next_count self.old.faults }) }
+        ensures failed { OnErr result (self.new ≡ record self.old {
+          faults = next_count self.old.faults;
+        }) }
     {
         let result = match &mut self.ahead {
             Some(ahead) => ahead.fetch(buf),
@@ -78,7 +80,7 @@ impl<R: Read + Drop> Source for BufferedSource<R> {
     }
 }
 
-/// A writer outside the program, written through a buffer of `BUFFER_OCTETS` octets. It tells no octets.
+/// A writer outside the program, written through a buffer. It tells no octets.
 #[derive(Drop)]
 pub struct BufferedSink<W> {
     behind: Option<WriteBehind<W>>,
@@ -113,7 +115,9 @@ impl<W: Write + Drop> Sink for BufferedSink<W> {
         ensures cause { HasCause self.old.faults self.new.faults result }
         ensures over_none { self.old.is_there ≡ false → IsErr result }
         ensures ok { OnOk result (self.new ≡ self.old) }
-        ensures failed { OnErr result (self.new ≡ record self.old { faults = next_count self.old.faults }) }
+        ensures failed { OnErr result (self.new ≡ record self.old {
+          faults = next_count self.old.faults;
+        }) }
     {
         let result = match &mut self.behind {
             Some(behind) => behind.put(bytes),
@@ -130,7 +134,9 @@ impl<W: Write + Drop> Sink for BufferedSink<W> {
         ensures cause { HasCause self.old.faults self.new.faults result }
         ensures over_none { self.old.is_there ≡ false → IsErr result }
         ensures ok { OnOk result (self.new ≡ self.old) }
-        ensures failed { OnErr result (self.new ≡ record self.old { faults = next_count self.old.faults }) }
+        ensures failed { OnErr result (self.new ≡ record self.old {
+          faults = next_count self.old.faults;
+        }) }
     {
         let result = match &mut self.behind {
             Some(behind) => behind.flush(),

@@ -30,16 +30,28 @@ pub struct MemSource {
 impl Model for MemSource {
     ghost Value = { MemorySource };
 
-    ghost view = { λ s. record { left = drop s.at s.bytes.items; piece = s.piece; failing = s.failing.items; calls = s.calls; faults = s.faults } };
+    ghost view = { λ s. record {
+      left = drop s.at s.bytes.items;
+      piece = s.piece;
+      failing = s.failing.items;
+      calls = s.calls;
+      faults = s.faults;
+    } };
 
     ghost invariant = { λ s. (s.at ≤ vec_len s.bytes) × (0 < s.piece) };
 }
 
 impl MemSource {
-    /// A source that gives these octets, and fails at the calls whose numbers, from 1, are listed.
+    /// A source that gives these octets, and fails at the calls that are listed, from 1.
     pub fn new(bytes: Vec<u8>, piece: usize, fails: Vec<u32>) -> MemSource
         requires { 0 < piece }
-        ensures { result ≡ record { left = bytes.items; piece = piece; failing = fails.items; calls = 0; faults = 0 } }
+        ensures { result ≡ record {
+          left = bytes.items;
+          piece = piece;
+          failing = fails.items;
+          calls = 0;
+          faults = 0;
+        } }
     {
         MemSource {
             bytes,
@@ -63,12 +75,19 @@ impl Source for MemSource {
 
         // It fails exactly at the calls that are listed; these move nothing.
         ensures listed { IsErr result ↔ IsListed self.old.failing self.old.calls }
-        ensures failed { OnErr result (self.new ≡ record self.old { calls = next_count self.old.calls; faults = next_count self.old.faults }) }
+        ensures failed { OnErr result (self.new ≡ record self.old {
+          calls = next_count self.old.calls;
+          faults = next_count self.old.faults;
+        }) }
+        ensures untouched { OnErr result (buf.new ≡ buf.old) }
 
         // Each other call gives as much as it can, at the front of the buffer.
         ensures given { IfOk result (λ n. n ≡ given_count self.old (length buf.old)) }
         ensures front { IfOk result (λ n. buf.new ≡ take n self.old.left ++ drop n buf.old) }
-        ensures moved { IfOk result (λ n. self.new ≡ record self.old { left = drop n self.old.left; calls = next_count self.old.calls }) }
+        ensures moved { IfOk result (λ n. self.new ≡ record self.old {
+          left = drop n self.old.left;
+          calls = next_count self.old.calls;
+        }) }
     {
         let listed = is_listed(&self.failing, self.calls);
         self.calls = self.calls.saturating_add(1);
@@ -100,15 +119,27 @@ pub struct MemSink {
 impl Model for MemSink {
     ghost Value = { MemorySink };
 
-    ghost view = { λ s. record { held = s.held.items; room = s.room; failing = s.failing.items; calls = s.calls; faults = s.faults } };
+    ghost view = { λ s. record {
+      held = s.held.items;
+      room = s.room;
+      failing = s.failing.items;
+      calls = s.calls;
+      faults = s.faults;
+    } };
 
     ghost invariant = { λ s. (vec_len s.held ≤ s.room) × (s.room ≤ vec_capacity s.held) };
 }
 
 impl MemSink {
-    /// A sink for at most `room` octets, whose puts fail at the calls whose numbers, from 1, are listed.
+    /// A sink for at most `room` octets, whose puts fail at the calls that are listed, from 1.
     pub fn new(alloc: Global, room: usize, fails: Vec<u32>) -> Result<MemSink, NoMemory>
-        ensures { IfOk result (λ sink. sink ≡ record { held = []; room = room; failing = fails.items; calls = 0; faults = 0 }) }
+        ensures { IfOk result (λ sink. sink ≡ record {
+          held = [];
+          room = room;
+          failing = fails.items;
+          calls = 0;
+          faults = 0;
+        }) }
     {
         let held = Vec::with_capacity(alloc, room)?;
         Ok(MemSink {
@@ -137,12 +168,27 @@ impl Sink for MemSink {
         ensures octets { Puts (Some self.old.held) (Some self.new.held) result bytes.now }
         ensures cause { HasCause self.old.faults self.new.faults result }
 
-        // It fails exactly at the calls that are listed, which append nothing, and where the piece does not fit.
-        ensures fails { IsErr result ↔ (IsListed self.old.failing self.old.calls ⊎ (self.old.room < length self.old.held + length bytes.now)) }
-        ensures listed { IsListed self.old.failing self.old.calls → self.new ≡ record self.old { calls = next_count self.old.calls; faults = next_count self.old.faults } }
-        ensures full { OnErr result (¬ IsListed self.old.failing self.old.calls → self.new ≡ record self.old { held = self.old.held ++ take (self.old.room - length self.old.held) bytes.now; calls = next_count self.old.calls; faults = next_count self.old.faults }) }
+        // It fails exactly at the calls that are listed, and where the piece does not fit.
+        ensures failed { IsErr result ↔ (IsListed self.old.failing self.old.calls
+            ⊎ (self.old.room < length self.old.held + length bytes.now)) }
 
-        ensures fits { OnOk result (self.new ≡ record self.old { held = self.old.held ++ bytes.now; calls = next_count self.old.calls }) }
+        // A listed call appends nothing.
+        ensures listed { IsListed self.old.failing self.old.calls → self.new ≡ record self.old {
+          calls = next_count self.old.calls;
+          faults = next_count self.old.faults;
+        } }
+
+        // A piece that does not fit is appended as far as it fits.
+        ensures full { OnErr result (¬ IsListed self.old.failing self.old.calls → self.new ≡ record self.old {
+          held = self.old.held ++ take (self.old.room - length self.old.held) bytes.now;
+          calls = next_count self.old.calls;
+          faults = next_count self.old.faults;
+        }) }
+
+        ensures fits { OnOk result (self.new ≡ record self.old {
+          held = self.old.held ++ bytes.now;
+          calls = next_count self.old.calls;
+        }) }
     {
         let listed = is_listed(&self.failing, self.calls);
         self.calls = self.calls.saturating_add(1);

@@ -39,7 +39,8 @@ impl<R: Read> ReadAhead<R> {
 
     /// Moves octets that are ahead in the buffer to the front of `buf`.
     pub(super) fn fetch(&mut self, buf: &mut [u8]) -> Result<usize, Failed>
-        ensures { Fetches (octets_left R.remaining self.old) (octets_left R.remaining self.new) result buf.new }
+        ensures { Fetches (octets_left R.remaining self.old)
+            (octets_left R.remaining self.new) result buf.new }
     {
         self.refill()?;
         let count = buf.len().min(self.filled - self.start);
@@ -51,7 +52,8 @@ impl<R: Read> ReadAhead<R> {
     // Fills the buffer by one read where it is used up.
     fn refill(&mut self) -> Result<(), Failed>
         ensures kept { Keeps (octets_left R.remaining self.old) (octets_left R.remaining self.new) }
-        ensures end { OnOk result (self.new.start ≡ self.new.filled → IsAtEnd (R.remaining self.new.reader)) }
+        ensures end { OnOk result (self.new.start ≡ self.new.filled →
+            IsAtEnd (R.remaining self.new.reader)) }
     {
         if self.start == self.filled {
             let count = read_some(&mut self.reader, &mut self.buffer)?;

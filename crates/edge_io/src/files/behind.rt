@@ -31,7 +31,8 @@ impl<W: Write> WriteBehind<W> {
 
     /// Gathers the piece; one that is larger than the buffer is written at once.
     pub(super) fn put(&mut self, piece: &[u8]) -> Result<(), Failed>
-        ensures { OnOk result (Appends (octets_held W.contents self.old) (octets_held W.contents self.new) piece.now) }
+        ensures { OnOk result (Appends (octets_held W.contents self.old)
+            (octets_held W.contents self.new) piece.now) }
     {
         self.make_room(piece.len())?;
         if piece.len() > BUFFER_OCTETS - self.filled {
@@ -45,7 +46,8 @@ impl<W: Write> WriteBehind<W> {
 
     /// Writes what was gathered, and flushes the writer.
     pub(super) fn flush(&mut self) -> Result<(), Failed>
-        ensures written { OnOk result (Keeps (octets_held W.contents self.old) (W.contents self.new.writer)) }
+        ensures written { OnOk result (Keeps (octets_held W.contents self.old)
+            (W.contents self.new.writer)) }
         ensures empty { self.new.filled ≡ 0 }
     {
         self.write_out()?;
@@ -57,7 +59,8 @@ impl<W: Write> WriteBehind<W> {
 
     // Empties the buffer where it has no room for so many octets.
     fn make_room(&mut self, count: usize) -> Result<(), Failed>
-        ensures kept { OnOk result (Keeps (octets_held W.contents self.old) (octets_held W.contents self.new)) }
+        ensures kept { OnOk result (Keeps (octets_held W.contents self.old)
+            (octets_held W.contents self.new)) }
         ensures room { OnOk result (BUFFER_OCTETS < self.new.filled + count → self.new.filled ≡ 0) }
     {
         if count > BUFFER_OCTETS - self.filled {
@@ -68,7 +71,8 @@ impl<W: Write> WriteBehind<W> {
 
     // Writes what was gathered; after a fault it is given up.
     fn write_out(&mut self) -> Result<(), Failed>
-        ensures written { OnOk result (Keeps (octets_held W.contents self.old) (W.contents self.new.writer)) }
+        ensures written { OnOk result (Keeps (octets_held W.contents self.old)
+            (W.contents self.new.writer)) }
         ensures empty { self.new.filled ≡ 0 }
     {
         let filled = self.filled;
@@ -77,7 +81,8 @@ impl<W: Write> WriteBehind<W> {
     }
 }
 
-// Writes the whole piece; `write_all` repeats an interrupted write, and refuses one that takes nothing.
+// Writes the whole piece. `write_all` repeats an interrupted write, and refuses one that takes
+// nothing.
 fn write_whole<W: Write>(writer: &mut W, piece: &[u8]) -> Result<(), Failed>
     ensures { OnOk result (Appends (W.contents writer.old) (W.contents writer.new) piece.now) }
 {
