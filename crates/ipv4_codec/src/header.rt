@@ -5,18 +5,24 @@ ghost use Rattle.ipv4_codec.specs.Header.{fields_of, parsed};
 use thiserror::Error;
 use wire_base::{Addr, sum_right, u16_at, u32_at};
 
-/// The fields of an IPv4 header but its version and options (RFC 791 section 3.1).
-/// `header` and `total` are in octets, and so is `offset`, a multiple of 8 below 65,536.
+/// The fields of an IPv4 header, but for its version and its options (RFC 791 section 3.1).
 #[derive(Clone, Copy, Debug, PartialEq, Eq)]
 pub struct Ipv4 {
+    /// The header's length in octets, options included.
     pub header: usize,
     pub tos: u8,
+    /// The packet's length in octets, header included.
     pub total: u16,
     pub ident: u16,
+    /// The reserved flag.
     pub reserved: bool,
+    /// Don't fragment.
     pub df: bool,
+    /// More fragments follow.
     pub more: bool,
+    /// Where the payload stands in its datagram, in octets: a multiple of 8 below 65,536.
     pub offset: u32,
+    /// How many routers it may still pass.
     pub ttl: u8,
     pub protocol: u8,
     pub sum: u16,

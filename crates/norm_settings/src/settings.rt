@@ -49,6 +49,26 @@ impl Settings {
             offload: false,
         }
     }
+
+    /// The same settings once more; no memory is taken.
+    pub fn copied(&self) -> Settings
+        ensures { plain_settings result ≡ plain_settings self.now }
+    {
+        let mut prefixes = ArrayVec::new();
+        prefixes.try_extend_from_slice(&self.prefixes).unwrap();
+        Settings {
+            prefixes,
+            hops: self.hops,
+            flows: self.flows,
+            cells: self.cells,
+            frags: self.frags,
+            frag_cells: self.frag_cells,
+            idle: self.idle,
+            frag_time: self.frag_time,
+            seed: self.seed,
+            offload: self.offload,
+        }
+    }
 }
 
 /// The side of a packet from the one address to the other: outward where only the first is behind the bridge,

@@ -1,18 +1,17 @@
 -- What the octets that are left begin with, where their first 24 came in one read.
-use Rattle.std.proofs.Common.{◌≡◌, ℕ, Bool, ◌<◌, ◌≤◌, List, ◌++◌, length, take, drop, Some, None, Ok, Err, refl, sym, ap, ◌∙◌, arith}
+use Rattle.std.proofs.Common.{◌≡◌, ℕ, Bool, ◌<◌, ◌≤◌, List, ◌++◌, length, take, drop, Some, None, Err, refl, sym, ap, ◌∙◌, arith}
 use Rattle.std.proofs.lemmas.List.{drop_at, drop_all, length-append}
 use Rattle.std.proofs.lemmas.Bool.Decides.{nat_tests}
 use Rattle.std.specs.Io.KnownBytes.{Consumes, IsAtEnd}
 use Rattle.std.specs.declared.option.Option.{Option}
 use Rattle.std.specs.declared.result.Result.{Result}
-use Rattle.wire_base.specs.declared.address.Link.{Link}
 use Rattle.pcap_file.specs.declared.order.Order.{Order}
 use Rattle.pcap_file.specs.declared.order.Order.TheVariants.{Little, Big}
 use Rattle.pcap_file.specs.declared.head.Head.{Head}
 use Rattle.pcap_file.specs.declared.head.HeadFault.{HeadFault}
 use Rattle.pcap_file.specs.declared.head.HeadFault.TheVariants as faults
 use Rattle.pcap_file.specs.Flaws.{Flaw, cut_short}
-use Rattle.pcap_file.specs.Heads.{head_of, head_by, form_of, form_by, unit_of, head_in}
+use Rattle.pcap_file.specs.Heads.{head_of, head_by, form_of}
 use Rattle.pcap_file.specs.ReadsHead.{Begins, Judges, ReadsHead}
 use Rattle.pcap_file.proofs.Fronts.{u16_at_front, u32_at_front, length_to_end}
 

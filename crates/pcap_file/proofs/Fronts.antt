@@ -1,5 +1,5 @@
 -- What stands at the front of octets that came in two reads: a record's head of 16 octets, and its body.
-use Rattle.std.proofs.Common.{◌≡◌, ◌≢◌, ℕ, ◌+◌, ◌*◌, ◌<◌, ◌≤◌, ◌==◌, nat_lt, List, [], ◌++◌, length, take, drop, slice_index, Some, None, Ok, Err, sym, ap, ◌∙◌, subst, arith, append_assoc, add-zero}
+use Rattle.std.proofs.Common.{◌≡◌, ◌≢◌, ℕ, ◌+◌, ◌*◌, ◌<◌, ◌≤◌, List, [], ◌++◌, length, take, drop, slice_index, Some, None, Ok, Err, sym, ap, ◌∙◌, subst, arith, append_assoc, add-zero}
 use Rattle.std.proofs.lemmas.List.{take_all, take_at, drop_at, length-append, length-take-le, get_or_append_left}
 use Rattle.std.proofs.lemmas.Bool.Decides.{nat_tests}
 use Rattle.std.proofs.KnownBytes.{Consumes-trans}
@@ -9,7 +9,7 @@ use Rattle.edge_io.specs.Octets.{TakesFewer}
 use Rattle.pcap_file.specs.declared.order.Order.{Order}
 use Rattle.pcap_file.specs.declared.order.Order.TheVariants.{Little, Big}
 use Rattle.pcap_file.specs.Numbers.{u16_at, u32_at}
-use Rattle.pcap_file.specs.Flaws.{Flaw, cut_short, too_long, too_many}
+use Rattle.pcap_file.specs.Flaws.{cut_short, too_long, too_many}
 use Rattle.pcap_file.specs.Records.{Packet, front_of, sized_at, packet_of, captured}
 use Rattle.pcap_file.specs.Reads.{Leaves, HasFlaw, TakesAtMost, TakesPart, StopsAt}
 
@@ -43,24 +43,24 @@ pub length_to_end : (x y h : List ℕ) (n : ℕ) → n ≤ length h → x ≡ ta
 length_to_end x y h n fits split end =
     ap length split ∙ length-append (take n h) y ∙ ap (λ k. k + length y) (length-take-le n h fits) ∙ ap (λ l. n + length l) end ∙ add-zero n
 
-front_short : (order : Order) (count : ℕ) (x : List ℕ) → 0 < length x → length x < 16 → front_of order count x ≡ Err cut_short
+pub front_short : (order : Order) (count : ℕ) (x : List ℕ) → 0 < length x → length x < 16 → front_of order count x ≡ Err cut_short
 unfolding front_of
 front_short order count x a b = grind (arith, nat_tests)
 
-front_sized : (order : Order) (count : ℕ) (x : List ℕ) → 16 ≤ length x → front_of order count x ≡ sized_at order count x (captured order x)
+pub front_sized : (order : Order) (count : ℕ) (x : List ℕ) → 16 ≤ length x → front_of order count x ≡ sized_at order count x (captured order x)
 unfolding front_of
 front_sized order count x a = grind (arith, nat_tests)
 
-sized_long : (order : Order) (count : ℕ) (x : List ℕ) (size : ℕ) → 262144 < size → sized_at order count x size ≡ Err too_long
+pub sized_long : (order : Order) (count : ℕ) (x : List ℕ) (size : ℕ) → 262144 < size → sized_at order count x size ≡ Err too_long
 sized_long order count x size a = grind (arith, nat_tests)
 
-sized_many : (order : Order) (count : ℕ) (x : List ℕ) (size : ℕ) → size ≤ 262144 → count ≡ 4294967295 → sized_at order count x size ≡ Err too_many
+pub sized_many : (order : Order) (count : ℕ) (x : List ℕ) (size : ℕ) → size ≤ 262144 → count ≡ 4294967295 → sized_at order count x size ≡ Err too_many
 sized_many order count x size a b = grind (arith, nat_tests)
 
-sized_cut : (order : Order) (count : ℕ) (x : List ℕ) (size : ℕ) → size ≤ 262144 → count ≢ 4294967295 → length x < 16 + size → sized_at order count x size ≡ Err cut_short
+pub sized_cut : (order : Order) (count : ℕ) (x : List ℕ) (size : ℕ) → size ≤ 262144 → count ≢ 4294967295 → length x < 16 + size → sized_at order count x size ≡ Err cut_short
 sized_cut order count x size a b d = grind (arith, nat_tests)
 
-sized_record : (order : Order) (count : ℕ) (x : List ℕ) (size : ℕ) → size ≤ 262144 → count ≢ 4294967295 → 16 + size ≤ length x
+pub sized_record : (order : Order) (count : ℕ) (x : List ℕ) (size : ℕ) → size ≤ 262144 → count ≢ 4294967295 → 16 + size ≤ length x
     → sized_at order count x size ≡ Ok (Some (packet_of order x size, drop (16 + size) x))
 sized_record order count x size a b d = grind (arith, nat_tests)
 
@@ -68,10 +68,10 @@ sized_record order count x size a b d = grind (arith, nat_tests)
 pub short_stop : (order : Order) (count : ℕ) (a b : Option (List ℕ)) (h : List ℕ) (n : ℕ) → n ≢ 0 → n < 16 → n ≤ length h → Consumes a b (take n h) → IsAtEnd b → StopsAt order count a b cut_short
 short_stop order count a b h n some few fits p end =
     record { flawed = flawed a b p end; part = record { octets = take n h; taken = p; within = omega (arith, length-take-le n h fits) } } where
-  flawed : (a b : Option (List ℕ)) → Consumes a b (take n h) → IsAtEnd b → HasFlaw order count a cut_short
-  flawed None b p end = tt
-  flawed (Some x) None p end = absurd p
-  flawed (Some x) (Some y) p end = let size = length_to_end x y h n fits p end in front_short order count x (omega arith) (omega arith)
+      flawed : (a b : Option (List ℕ)) → Consumes a b (take n h) → IsAtEnd b → HasFlaw order count a cut_short
+      flawed None b p end = tt
+      flawed (Some x) None p end = absurd p
+      flawed (Some x) (Some y) p end = let size = length_to_end x y h n fits p end in front_short order count x (omega arith) (omega arith)
 
 -- what a head of 16 octets says of the octets that it stands before
 module _ (order : Order) (h : List ℕ) (size : ℕ) (sixteen : length h ≡ 16) (says : size ≡ u32_at order h 8) where
@@ -108,13 +108,13 @@ module _ (order : Order) (h : List ℕ) (size : ℕ) (sixteen : length h ≡ 16)
           within = omega (arith, u32_at_front order h (take got body) 8 (omega arith), length-append h (take got body), length-take-le got body fits);
         };
       } where
-    flawed : (a b d : Option (List ℕ)) → Consumes a b h → Consumes b d (take got body) → IsAtEnd d → HasFlaw order count a cut_short
-    flawed None b d p q end = tt
-    flawed (Some x) None d p q end = absurd p
-    flawed (Some x) (Some y) None p q end = absurd q
-    flawed (Some x) (Some y) (Some z) p q end =
-        let left = length_to_end y z body got fits q end in
-        ap (front_of order count) p ∙ at_head count y ∙ sized_cut order count (h ++ y) size small room (omega (arith, length-append h y))
+        flawed : (a b d : Option (List ℕ)) → Consumes a b h → Consumes b d (take got body) → IsAtEnd d → HasFlaw order count a cut_short
+        flawed None b d p q end = tt
+        flawed (Some x) None d p q end = absurd p
+        flawed (Some x) (Some y) None p q end = absurd q
+        flawed (Some x) (Some y) (Some z) p q end =
+            let left = length_to_end y z body got fits q end in
+            ap (front_of order count) p ∙ at_head count y ∙ sized_cut order count (h ++ y) size small room (omega (arith, length-append h y))
 
   -- the head and the octets that it says are left
   pub leaves_record : (count : ℕ) (a b d : Option (List ℕ)) (body : List ℕ) (packet : Packet) → Consumes a b h → size ≤ 262144 → count ≢ 4294967295
@@ -127,9 +127,9 @@ module _ (order : Order) (h : List ℕ) (size : ℕ) (sixteen : length h ≡ 16)
       let enough : 16 + size ≤ length (h ++ y) = omega (arith, length-append h y, ap length q, length-append body z) in
       let mine : take size (drop 16 (h ++ y)) ≡ body = ap (take size) (drop_at h y 16 sixteen ∙ q) ∙ take_at body z size sized in
       let rest : drop (16 + size) (h ++ y) ≡ z =
-        ap (drop (16 + size)) (ap (λ l. h ++ l) q ∙ sym (append_assoc h body z)) ∙ drop_at (h ++ body) z (16 + size) (length-append h body ∙ omega arith) in
+      ap (drop (16 + size)) (ap (λ l. h ++ l) q ∙ sym (append_assoc h body z)) ∙ drop_at (h ++ body) z (16 + size) (length-append h body ∙ omega arith) in
       let same : packet_of order (h ++ y) size ≡ packet =
-        rw (u32_at_front order h y 0 (omega arith), u32_at_front order h y 4 (omega arith), u32_at_front order h y 12 (omega arith), mine) (sym is) in
+      rw (u32_at_front order h y 0 (omega arith), u32_at_front order h y 4 (omega arith), u32_at_front order h y 12 (omega arith), mine) (sym is) in
       ap (front_of order count) p ∙ at_head count y ∙ sized_record order count (h ++ y) size small room enough
       ∙ ap (λ u. Ok (Some (u, drop (16 + size) (h ++ y)))) same ∙ ap (λ u. Ok (Some (packet, u))) rest
 

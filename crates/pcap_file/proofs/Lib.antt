@@ -1,5 +1,6 @@
 pub mod Fronts
 pub mod Beginnings
 pub mod Unique
+pub mod Ends
 pub mod Written
-pub mod Offsets
+pub mod Steps

@@ -6,7 +6,7 @@ use Rattle.pcap_file.specs.declared.head.Head.{Head}
 use Rattle.pcap_file.specs.Flaws.{Flaw}
 use Rattle.pcap_file.specs.Heads.{head_of}
 use Rattle.pcap_file.specs.Records.{Packet, front_of}
-use Rattle.pcap_file.specs.Capture.{ReadsTo, IsCapture, FailsAt, FailsBehindHead, offset_of}
+use Rattle.pcap_file.specs.Capture.{ReadsTo, FailsBehindHead, offset_of}
 use Rattle.pcap_file.specs.Laws.{CaptureIsOne, FlawIsOne, FlawExcludesEnd}
 
 -- equally many records are the same ones, and leave the same
@@ -38,10 +38,10 @@ goes_on order all ps (y ∷ qs) r s p q h last =
     elim (cases_lt (length ps) (length qs)) [
       | inl less ↦ goes_on order all ps qs r q.0 p q.1 less last
       | inr more ↦
-        let same : length ps ≡ length qs = omega arith in
-        let left : r ≡ q.0 = (same_records order all ps qs r q.0 p q.1 same).1 in
-        let two : front_of order (length qs) q.0 ≡ Ok (Some (y, s)) = q.2 in
-        last y s cc
+          let same : length ps ≡ length qs = omega arith in
+          let left : r ≡ q.0 = (same_records order all ps qs r q.0 p q.1 same).1 in
+          let two : front_of order (length qs) q.0 ≡ Ok (Some (y, s)) = q.2 in
+          last y s cc
     ]
 
 -- where no record follows, the records are the same ones, and so is what is left
@@ -51,9 +51,9 @@ one_end order all ps qs r s p q last final =
     elim (cases_lt (length ps) (length qs)) [
       | inl less ↦ absurd (goes_on order all ps qs r s p q less last)
       | inr more ↦ elim (cases_lt (length qs) (length ps)) [
-          | inl less ↦ absurd (goes_on order all qs ps s r q p less final)
-          | inr other ↦ same_records order all ps qs r s p q (omega arith)
-        ]
+        | inl less ↦ absurd (goes_on order all qs ps s r q p less final)
+        | inr other ↦ same_records order all ps qs r s p q (omega arith)
+      ]
     ]
 
 pub front_of_nothing : (order : Order) (count : ℕ) → front_of order count [] ≡ Ok None

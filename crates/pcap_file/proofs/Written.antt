@@ -1,14 +1,13 @@
 -- What is written is read as that.
-use Rattle.std.proofs.Common.{◌≡◌, ◌≢◌, ℕ, ◌+◌, ◌<◌, ◌≤◌, ◌^◌, Bool, true, false, List, ◌++◌, length, Some, Ok, refl, sym, ap, ◌∙◌, arith, append_assoc}
+use Rattle.std.proofs.Common.{◌≡◌, ℕ, ◌<◌, ◌^◌, Bool, true, false, List, ◌++◌, length, Some, Ok, refl, ap, ◌∙◌, arith, append_assoc}
 use Rattle.std.proofs.lemmas.List.{length-append}
 use Rattle.std.proofs.lemmas.Nat.{from_le_bytes-to_le_bytes_4, from_be_bytes-to_be_bytes_4}
 use Rattle.wire_base.specs.declared.address.Link.{Link}
 use Rattle.wire_base.specs.declared.address.Link.TheVariants.{Ethernet, Raw}
 use Rattle.pcap_file.specs.declared.order.Order.{Order}
 use Rattle.pcap_file.specs.declared.order.Order.TheVariants.{Little, Big}
-use Rattle.pcap_file.specs.declared.head.Head.{Head}
 use Rattle.pcap_file.specs.Numbers.{u32_at}
-use Rattle.pcap_file.specs.Heads.{head_of, head_octets, head_by, form_of}
+use Rattle.pcap_file.specs.Heads.{head_octets, head_by, form_of}
 use Rattle.pcap_file.specs.Records.{front_of, record_head}
 use Rattle.pcap_file.specs.Laws.{HeadIsReadBack, RecordIsReadBack}
 use Rattle.pcap_file.proofs.Beginnings.{head_whole}
@@ -69,5 +68,5 @@ record_read_back order count seconds fraction octets rest few s f small =
     let h = record_head order seconds fraction size in
     ap (front_of order count) (append_assoc h octets rest)
     ∙ leaves_record order h size (sixteen order seconds fraction size) (captured_at order seconds fraction size (omega arith)) count
-      (Some (h ++ (octets ++ rest))) (Some (octets ++ rest)) (Some rest) octets _ refl small (omega arith) refl refl
-      (rw (← seconds_at order seconds fraction size s, ← fraction_at order seconds fraction size f, ← original_at order seconds fraction size (omega arith)) refl)
+    (Some (h ++ (octets ++ rest))) (Some (octets ++ rest)) (Some rest) octets _ refl small (omega arith) refl refl
+    (rw (← seconds_at order seconds fraction size s, ← fraction_at order seconds fraction size f, ← original_at order seconds fraction size (omega arith)) refl)

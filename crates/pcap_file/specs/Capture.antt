@@ -1,5 +1,5 @@
 -- A capture file as a whole (classic pcap): a head, a list of records, and the end or a first flaw at an offset.
-use Rattle.std.specs.Prelude.{◌≡◌, ◌⊎◌, ℕ, ◌+◌, List, [], ◌∷◌, length, drop, Some, Ok, Err}
+use Rattle.std.specs.Prelude.{◌≡◌, ◌⊎◌, ℕ, ◌+◌, List, [], ◌∷◌, length, drop, Option, Some, None, Ok, Err}
 use Rattle.pcap_file.specs.declared.order.Order.{Order}
 use Rattle.pcap_file.specs.declared.head.Head.{Head}
 use Rattle.pcap_file.specs.Flaws.{Flaw}
@@ -39,3 +39,31 @@ pub record FailsBehindHead (octets : List ℕ) (flaw : Flaw) (offset : ℕ) : Ty
 -- This is the octets' first flaw, and its offset: 0 in the head, and otherwise that of the record that has it.
 abbrev pub FailsAt : List ℕ → Flaw → (offset : ℕ) → Type 0
 FailsAt octets flaw offset = ((head_of octets ≡ Err flaw) × (offset ≡ 0)) ⊎ FailsBehindHead octets flaw offset
+
+-- The octets are a capture.
+pub record EndsWell (octets : List ℕ) : Type 0 where
+  pub head : Head
+  pub packets : List Packet
+  pub is : IsCapture octets head packets
+
+-- The octets have a first flaw.
+pub record EndsBadly (octets : List ℕ) : Type 0 where
+  pub flaw : Flaw
+  pub offset : ℕ
+  pub is : FailsAt octets flaw offset
+
+-- Where a source tells its octets, these records, the newest first, were taken from what it had left after the head.
+abbrev pub Took : Order → (old new : Option (List ℕ)) → List Packet → Type 0
+Took order None new packets = Unit {0}
+Took order (Some all) None packets = ⊥
+Took order (Some all) (Some rest) packets = ReadsTo order all packets rest
+
+-- Where a source tells its octets, these records are all that it had left after the head.
+abbrev pub TookAll : Order → (old : Option (List ℕ)) → List Packet → Type 0
+TookAll order None packets = Unit {0}
+TookAll order (Some all) packets = ReadsTo order all packets []
+
+-- Where a source tells its octets, this flaw stands behind these records.
+abbrev pub HasFlawAfter : Order → (old : Option (List ℕ)) → List Packet → Flaw → Type 0
+HasFlawAfter order None packets flaw = Unit {0}
+HasFlawAfter order (Some all) packets flaw = (rest : List ℕ) × ReadsTo order all packets rest × (front_of order (length packets) rest ≡ Err flaw)

@@ -38,16 +38,17 @@ head_in order nano octets =
     if (u16_at order octets 4 == 2) && (u16_at order octets 6 == 4) then with_link order nano (link_of (u32_at order octets 20))
     else Err bad_version
 
--- the order and the unit of a magic that is read in one order or in the other: the way it is stored tells the order
+-- the order in which a magic means a unit, and that unit
 abbrev pub form_by : (little big : Option Bool) → Option (Order × Bool)
 form_by (Some nano) big = Some (Little, nano)
 form_by None (Some nano) = Some (Big, nano)
 form_by None None = None
 
+-- the order and the unit that the stored magic tells
 abbrev pub form_of : List ℕ → Option (Order × Bool)
 form_of octets = form_by (unit_of (u32_at Little octets 0)) (unit_of (u32_at Big octets 0))
 
--- the head of this form
+-- the head of this order and unit, where the magic told them
 abbrev pub head_by : Option (Order × Bool) → List ℕ → Result Head Flaw
 head_by (Some form) octets = head_in form.0 form.1 octets
 head_by None octets = Err bad_magic
@@ -67,5 +68,6 @@ abbrev pub is_form_read : Order → (nano : Bool) → Link → Bool
 is_form_read Little false Raw = true
 is_form_read order nano link = false
 
+-- the head has the form that is read so far
 abbrev pub is_read_now : Head → Bool
 is_read_now head = is_form_read head.order head.nano head.link

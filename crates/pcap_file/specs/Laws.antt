@@ -1,11 +1,11 @@
 -- Laws of the definitions of a capture file.
-use Rattle.std.specs.Prelude.{◌≡◌, ℕ, ◌^◌, ◌<◌, ◌≤◌, List, ◌++◌, length, Some, Ok}
+use Rattle.std.specs.Prelude.{◌≡◌, ◌⊎◌, ℕ, ◌^◌, ◌<◌, ◌≤◌, List, ◌++◌, length, Some, Ok}
 use Rattle.pcap_file.specs.declared.order.Order.{Order}
 use Rattle.pcap_file.specs.declared.head.Head.{Head}
 use Rattle.pcap_file.specs.Flaws.{Flaw}
 use Rattle.pcap_file.specs.Heads.{head_of, head_octets}
 use Rattle.pcap_file.specs.Records.{Packet, front_of, record_octets}
-use Rattle.pcap_file.specs.Capture.{IsCapture, FailsAt}
+use Rattle.pcap_file.specs.Capture.{IsCapture, FailsAt, EndsWell, EndsBadly}
 
 -- A written head is read as that head, in both orders and units and for both links, whatever follows.
 abbrev pub HeadIsReadBack : Type 0
@@ -16,7 +16,7 @@ abbrev pub RecordIsReadBack : Type 0
 RecordIsReadBack =
     (order : Order) (count seconds fraction : ℕ) (octets rest : List ℕ) → count < 4294967295 → seconds < 2 ^ 32 → fraction < 2 ^ 32 → length octets ≤ 262144
     → front_of order count (record_octets order seconds fraction octets ++ rest)
-      ≡ Ok (Some (record { seconds = seconds; fraction = fraction; original = length octets; octets = octets }, rest))
+    ≡ Ok (Some (record { seconds = seconds; fraction = fraction; original = length octets; octets = octets }, rest))
 
 -- Octets that are a capture have one head and one list of records.
 abbrev pub CaptureIsOne : Type 0
@@ -35,3 +35,7 @@ abbrev pub FlawExcludesEnd : Type 0
 FlawExcludesEnd =
     (octets : List ℕ) (head : Head) (packets : List Packet) (flaw : Flaw) (offset : ℕ)
     → IsCapture octets head packets → FailsAt octets flaw offset → ⊥
+
+-- All octets are a capture or have a first flaw.
+abbrev pub EachFileEnds : Type 0
+EachFileEnds = (octets : List ℕ) → EndsWell octets ⊎ EndsBadly octets

@@ -47,6 +47,7 @@ pub record TakesPart (order : Order) (old new : Option (List ℕ)) : Type 0 wher
   pub taken : Consumes old new octets
   pub fewer : length octets < 16 + captured order octets
 
+-- this fault, and what was taken
 abbrev pub FailsWith : Order → (count : ℕ) → Option (List ℕ) → Option (List ℕ) → RecordFault → Type 0
 FailsWith order count old new faults.Cut = StopsAt order count old new cut_short
 FailsWith order count old new faults.Long = StopsAt order count old new too_long
@@ -83,3 +84,8 @@ pub record Advances (old new : Reading) (size : ℕ) : Type 0 where
   pub place : new.place ≡ old.place + 16 + size
   pub small : size ≤ 262144
   pub few : new.given < 2 ^ 32
+
+-- The reader stands behind the same records.
+pub record Stays (old new : Reading) : Type 0 where
+  pub given : new.given ≡ old.given
+  pub place : new.place ≡ old.place

@@ -46,8 +46,13 @@ impl From<Failed> for HeadFault {
     }
 }
 
-const MICRO_MAGIC: u32 = 0xa1b2_c3d4;
-const NANO_MAGIC: u32 = 0xa1b2_3c4d;
+pub(crate) const MICRO_MAGIC: u32 = 0xa1b2_c3d4;
+
+pub(crate) const NANO_MAGIC: u32 = 0xa1b2_3c4d;
+
+pub(crate) const ETHERNET: u32 = 1;
+
+pub(crate) const RAW: u32 = 101;
 
 // Whether a magic means nanoseconds, or that it means nothing.
 fn unit_of(magic: u32) -> Option<bool>
@@ -65,8 +70,8 @@ fn link_of(network: u32) -> Option<Link>
     ensures { result ≡ heads.link_of network }
 {
     match network {
-        1 => Some(Link::Ethernet),
-        101 => Some(Link::Raw),
+        ETHERNET => Some(Link::Ethernet),
+        RAW => Some(Link::Raw),
         _ => None,
     }
 }

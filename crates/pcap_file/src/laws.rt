@@ -1,5 +1,5 @@
 //! Laws over the definitions alone.
-ghost use Rattle.pcap_file.specs.Laws.{HeadIsReadBack, RecordIsReadBack, CaptureIsOne, FlawIsOne, FlawExcludesEnd};
+ghost use Rattle.pcap_file.specs.Laws.{HeadIsReadBack, RecordIsReadBack, CaptureIsOne, FlawIsOne, FlawExcludesEnd, EachFileEnds};
 
 /// What `write_head` appends is read as that head.
 pub fn head_is_read_back()
@@ -24,4 +24,9 @@ pub fn flaw_is_one()
 /// Octets with a first flaw do not end well.
 pub fn flaw_excludes_end()
     ensures { FlawExcludesEnd }
+{}
+
+/// All octets are a capture or have a first flaw.
+pub fn each_file_ends()
+    ensures { EachFileEnds }
 {}

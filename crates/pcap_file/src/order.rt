@@ -13,7 +13,7 @@ pub enum Order {
 
 impl Order {
     /// The number of two octets that begins at this place.
-    pub fn u16_at(self, bytes: &[u8], at: usize) -> u16
+    pub(crate) fn u16_at(self, bytes: &[u8], at: usize) -> u16
         requires { at + 2 ≤ length bytes.now }
         ensures { result ≡ numbers.u16_at self bytes.now at }
     {
@@ -24,7 +24,7 @@ impl Order {
     }
 
     /// The number of four octets that begins at this place.
-    pub fn u32_at(self, bytes: &[u8], at: usize) -> u32
+    pub(crate) fn u32_at(self, bytes: &[u8], at: usize) -> u32
         requires { at + 4 ≤ length bytes.now }
         ensures { result ≡ numbers.u32_at self bytes.now at }
     {
@@ -35,7 +35,7 @@ impl Order {
     }
 
     /// The two octets of a number.
-    pub fn u16_octets(self, number: u16) -> [u8; 2]
+    pub(crate) fn u16_octets(self, number: u16) -> [u8; 2]
         ensures { result ≡ numbers.u16_octets self number }
     {
         match self {
@@ -45,7 +45,7 @@ impl Order {
     }
 
     /// The four octets of a number.
-    pub fn u32_octets(self, number: u32) -> [u8; 4]
+    pub(crate) fn u32_octets(self, number: u32) -> [u8; 4]
         ensures { result ≡ numbers.u32_octets self number }
     {
         match self {

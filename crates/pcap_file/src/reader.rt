@@ -1,7 +1,7 @@
 //! Reads the records of a capture file one by one.
 ghost use Rattle.std.specs.Prelude.{◌≡◌, ◌≤◌, length, true, IsErrOf};
 ghost use Rattle.edge_io.specs.Faults.{Rose};
-ghost use Rattle.pcap_file.specs.Reads.{Reads, is_record, IfRecord, IfNoRecord, Advances};
+ghost use Rattle.pcap_file.specs.Reads.{Reads, is_record, IfRecord, IfNoRecord, Advances, Stays};
 
 use crate::{Head, Record};
 use edge_io::{Failed, Source, read_full};
@@ -100,7 +100,7 @@ impl Reader {
         ensures offset { IfRecord result (λ r. r.offset ≡ self.old.place) }
         ensures goes_on { self.new.is_open ≡ is_record result }
         ensures advances { IfRecord result (λ r. Advances self.old self.new (length r.bytes.now)) }
-        ensures stays { IfNoRecord result ((self.new.given ≡ self.old.given) × (self.new.place ≡ self.old.place)) }
+        ensures stays { IfNoRecord result (Stays self.old self.new) }
     {
         self.going = false;
         self.asked = self.place;

@@ -20,7 +20,13 @@ impl<'a> Record<'a> {
     ghost use Rattle.pcap_file.specs.Reads.{shown};
 
     /// A record of these octets.
-    pub fn new(seconds: u32, fraction: u32, original: u32, offset: u64, bytes: &'a [u8]) -> Record<'a>
+    pub fn new(
+        seconds: u32,
+        fraction: u32,
+        original: u32,
+        offset: u64,
+        bytes: &'a [u8],
+    ) -> Record<'a>
         ensures fields { shown result ≡ record { seconds = seconds; fraction = fraction; original = original; octets = bytes.now } }
         ensures offset { result.offset ≡ offset }
     {

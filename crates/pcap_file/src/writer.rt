@@ -5,7 +5,8 @@ ghost use Rattle.edge_io.specs.Octets.{Puts};
 ghost use Rattle.pcap_file.specs.Heads as heads;
 ghost use Rattle.pcap_file.specs.Records as records;
 
-use crate::{Head, Order};
+use crate::head::{ETHERNET, MICRO_MAGIC, NANO_MAGIC, RAW};
+use crate::{Head, MAX_CAPTURED, Order};
 use edge_io::{Failed, Sink};
 use thiserror::Error;
 use wire_base::Link;
@@ -27,13 +28,13 @@ fn head_octets(head: &Head) -> [u8; 24]
     ensures { result ≡ heads.head_octets head.now }
 {
     let order = head.order;
-    let m = order.u32_octets(if head.nano { 0xa1b2_3c4d } else { 0xa1b2_c3d4 });
+    let m = order.u32_octets(if head.nano { NANO_MAGIC } else { MICRO_MAGIC });
     let major = order.u16_octets(2);
     let minor = order.u16_octets(4);
-    let snap = order.u32_octets(262144);
+    let snap = order.u32_octets(MAX_CAPTURED);
     let network = order.u32_octets(match head.link {
-        Link::Ethernet => 1,
-        Link::Raw => 101,
+        Link::Ethernet => ETHERNET,
+        Link::Raw => RAW,
     });
     [
         m[0], m[1], m[2], m[3], major[0], major[1], minor[0], minor[1], 0, 0, 0, 0, 0, 0, 0, 0,

@@ -129,19 +129,19 @@ rule_name TEnd = codes "T_END"
 rule_name TClash = codes "T_CLASH"
 rule_name XLater = codes "X_LATER"
 
--- the rules that drop a packet, in the order of testing; T_FULL is a note on an outbound packet, and drops none of these
+-- the rules that drop a packet, in the order of testing; on an outbound packet T_FULL is a note, and drops nothing
 abbrev pub drop_rows : List Rule
 drop_rows =
     LSnap ∷ LShort ∷ LType ∷ IShort ∷ IVersion ∷ IHlen ∷ ILen ∷ ISum ∷ ISrc ∷ IDst ∷ ISide ∷ IOptBad ∷ IRoute ∷ PProto ∷ FDf ∷
     FEmpty ∷ FAlign ∷ FBig ∷ FEnd ∷ FClash ∷ FMany ∷ FRoom ∷ UShort ∷ ULen ∷ USum ∷ MShort ∷ MSum ∷ MType ∷ MQuote ∷ TShort ∷
     THlen ∷ TSum ∷ TFlags ∷ TOptBad ∷ TCold ∷ TState ∷ TSyn ∷ TRst ∷ TFull ∷ TRoom ∷ XLater ∷ []
 
--- the rules on the way of a packet that is not dropped, but for those of a TCP segment, in the order in which an entry names them
+-- the rules of a packet that is not dropped, before those of its TCP segment, in the order of the line
 abbrev pub fix_rows : List Rule
 fix_rows =
     ITrail ∷ IOpt ∷ IRes ∷ ITtl ∷ FHeld ∷ FDone ∷ USumOut ∷ []
 
--- the rules of a TCP segment that is not dropped, in the order in which an entry names them
+-- the rules of a TCP segment that is not dropped, in the order of the line
 abbrev pub step_rows : List Rule
 step_rows =
     TSumOut ∷ TRes ∷ TUrg ∷ TOpt ∷ TStrip ∷ CProbe ∷ TOld ∷ TWindow ∷ TTurn ∷ TEnd ∷ TClash ∷ []

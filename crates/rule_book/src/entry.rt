@@ -10,12 +10,16 @@ use crate::line::Line;
 use arrayvec::ArrayVec;
 use wire_base::Side;
 
-/// What became of a record's packet: it went on as it came, it went on changed, it is held, or it was dropped.
+/// What became of a record's packet.
 #[derive(Clone, Copy, Debug, PartialEq, Eq)]
 pub enum Verdict {
+    /// It went on as it came.
     Pass,
+    /// It went on with changes.
     Fix,
+    /// It is kept until the rest of its datagram comes.
     Hold,
+    /// It did not go on.
     Drop,
 }
 
@@ -40,18 +44,23 @@ pub struct Ended {
     pub reason: Reason,
 }
 
-/// What the report says of one record: its number from 1, its side where it has one, the verdict, the number of frames
-/// written, the rules in the order in which they are named, the era that the packet belongs to, the era that it began,
-/// and the eras that ended, in the order in which they did.
+/// What the report says of one record.
 #[derive(Debug, Drop)]
 pub struct Entry {
+    /// The record's number, from 1.
     pub number: u32,
+    /// Which way its packet goes, where the rules came as far as to tell.
     pub side: Option<Side>,
     pub verdict: Verdict,
+    /// How many frames were written for it.
     pub packets: u8,
+    /// The rules that it names, in the order of the line.
     pub rules: ArrayVec<Rule, 16>,
+    /// The era that its packet belongs to.
     pub era: Option<u32>,
+    /// The era that it began.
     pub begun: Option<u32>,
+    /// The eras that ended with it, in the order in which they did.
     pub ended: ArrayVec<Ended, 4>,
 }
 

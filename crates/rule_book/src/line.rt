@@ -1,5 +1,5 @@
 //! A line that is being written.
-ghost use Rattle.std.specs.Prelude.{◌≡◌, ◌+◌, ◌≤◌, ◌++◌, length, decimal};
+ghost use Rattle.std.specs.Prelude.{◌≡◌, ◌+◌, ◌≤◌, length, decimal};
 ghost use Rattle.rule_book.specs.Lines.{Adds};
 ghost use Rattle.rule_book.specs.Text.{part};
 

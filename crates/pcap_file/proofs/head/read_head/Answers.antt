@@ -14,7 +14,7 @@ returns-in_err-head-clause-octets g c =
     let p = err_from_is_err_and c.from_residual-in_err-head.result c.from_residual-in_err-head.ensures.1 in
     let size : length c.read_full.new.buf ≡ 24 = search rules in
     rw (p.1, p.2) (refused _ _ c.read_full.new.buf c.in_err-head.field-0.0 size
-      (whole _ _ c.read_full.new.buf c.in_ok-count.count (omega arith) c.in_ok-count.ensures.octets.1) c.in_err-head.ensures)
+    (whole _ _ c.read_full.new.buf c.in_ok-count.count (omega arith) c.in_ok-count.ensures.octets.1) c.in_err-head.ensures)
 
 pub returns-then-not-is_read_now-clause-octets : goal.returns-then-not-is_read_now-clause-octets
 returns-then-not-is_read_now-clause-octets g c =

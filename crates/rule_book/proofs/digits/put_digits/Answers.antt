@@ -1,4 +1,4 @@
-use Rattle.std.proofs.Common.{◌-◌, ◌∙◌, arith, decimal}
+use Rattle.std.proofs.Common.{◌-◌, ◌∙◌, arith}
 use Rattle.std.proofs.lemmas.Fmt.{decimal_nonempty}
 use Rattle.rule_book.proofs.Decimals.{last_digit_before, length-decimal_digit, length-decimal_step, only_digit_before}
 use Rattle.rule_book.proofs.digits.put_digits.Goals as goal

@@ -1,0 +1,5 @@
+pub mod Judging
+pub mod Stepping
+pub mod Traces
+pub mod Running
+pub mod Statuses

@@ -1,0 +1,169 @@
+-- How a run goes on from record to record, and how it ends.
+use Rattle.std.proofs.Common.{◌≡◌, ℕ, ◌+◌, ◌-◌, ◌<◌, ◌≤◌, Bool, true, false, List, [], ◌∷◌, ◌++◌, map, length, drop, Option, Some, None, Ok, Err, Result, OnOk, refl, sym, ap, ap₂, subst, ◌∙◌, arith, inl, inr, add-one, suc}
+use Rattle.std.proofs.KnownBytes.{Appends-trans}
+use Rattle.std.specs.Io.KnownBytes.{Appends}
+use Rattle.wire_base.specs.declared.address.Link.{Link}
+use Rattle.wire_base.specs.declared.address.Side.{Side}
+use Rattle.edge_io.specs.Faults.{Rose}
+use Rattle.pcap_file.specs.declared.head.Head.{Head}
+use Rattle.pcap_file.specs.declared.order.Order.{Order}
+use Rattle.pcap_file.specs.Flaws.{Flaw}
+use Rattle.pcap_file.specs.Heads.{head_of, head_octets, is_read_now}
+use Rattle.pcap_file.specs.Records.{Packet, front_of}
+use Rattle.pcap_file.specs.Capture.{IsCapture, ReadsTo, FailsAt, FailsBehindHead, offset_of}
+use Rattle.pcap_file.specs.Reads.{Leaves, HasEnd, HasFlaw, Advances}
+use Rattle.pcap_file.specs.ReadsHead.{Begins, IsOfAnotherForm}
+use Rattle.pcap_file.specs.Reading.{Reading}
+use Rattle.rule_book.specs.declared.last.Last.TheVariants.{End}
+use Rattle.rule_book.specs.declared.rule.Rule.{Rule}
+use Rattle.rule_book.specs.Text.{first_line, lines_text, last_text, report_text}
+use Rattle.norm_settings.specs.Settings.{PlainSettings}
+use Rattle.bridge_run.specs.Trace.{Item, item_of, packets, entries, dropped_by, frames_by, entry_by, frame_count, frames_octets, named_rows}
+use Rattle.bridge_run.specs.Rows.{side_in}
+use Rattle.bridge_run.specs.Engine.{Engaged, StandsFor}
+use Rattle.bridge_run.specs.Stops.{HasFlawAt, HasLaterHead, IsReadForm}
+use Rattle.bridge_run.specs.Run.{Took, TookAll, TakenWhole, SoFar, Going, Begun, Relayed, Normalized, capture_of, report_of}
+use Rattle.bridge_run.proofs.Traces.{capture_is, report_is}
+
+pub length-packets : (trace : List Item) → length (packets trace) ≡ length trace
+length-packets [] = refl
+length-packets (item ∷ older) = ap suc (length-packets older)
+
+-- the head was read, and no record yet
+pub took_head : (a b : Option (List ℕ)) (head : Head) → Begins a b (Ok head) → Took a b head []
+took_head None b head p = tt
+took_head (Some x) None head p = absurd p
+took_head (Some x) (Some y) head p = (p.0, sym p.1)
+
+-- one more record was taken
+took_more : (a b c : Option (List ℕ)) (head : Head) (trace : List Item) (item : Item) (order : Order) (given : ℕ) → order ≡ head.order → given ≡ length trace
+    → Took a b head trace → Leaves order given b c item.packet → Took a c head (item ∷ trace)
+took_more None b c head trace item order given o g p q = tt
+took_more (Some x) None c head trace item order given o g p q = absurd p
+took_more (Some x) (Some y) None head trace item order given o g p q = absurd q
+took_more (Some x) (Some y) (Some z) head trace item order given o g p q =
+    (p.0, (y, p.1, ap₂ (λ k n. front_of k n y) (sym o) (length-packets trace ∙ sym g) ∙ q))
+
+-- all records were taken
+took_all : (a b c : Option (List ℕ)) (head : Head) (trace : List Item) → Took a b head trace → HasEnd b c → TookAll a head trace
+took_all None b c head trace p q = tt
+took_all (Some x) None c head trace p q = absurd p
+took_all (Some x) (Some y) None head trace p q = absurd q
+took_all (Some x) (Some y) (Some z) head trace p q = record { accepted = p.0; whole = subst (ReadsTo head.order (drop 24 x) (packets trace)) q.0 p.1 }
+
+taken_whole : (a b c : Option (List ℕ)) (head : Head) (trace : List Item) → Took a b head trace → HasEnd b c → TakenWhole a c
+taken_whole None b c head trace p q = tt
+taken_whole (Some x) None c head trace p q = absurd p
+taken_whole (Some x) (Some y) None head trace p q = absurd q
+taken_whole (Some x) (Some y) (Some z) head trace p q = q.1
+
+-- the frames of an entry are counted in it, and there is one at the most
+entry_packets : (dropped : Option Rule) (number : ℕ) (told : Option Side) (named : List Rule) (count : ℕ) → (entry_by dropped number told named count).packets ≡ count
+entry_packets None number told named count = refl
+entry_packets (Some rule) number told named count = refl
+
+few_frames : (dropped : Option Rule) (r : Packet) → length (frames_by dropped r) ≤ 1
+few_frames None r = omega arith
+few_frames (Some rule) r = omega arith
+
+packets_are : (settings : PlainSettings) (link : Link) (history : List Item) (r : Packet)
+    → ((item_of settings link history r).entry.packets ≡ length (item_of settings link history r).frames) × (length (item_of settings link history r).frames ≤ 1)
+packets_are settings link history r =
+    (entry_packets (dropped_by settings link history r) _ _ _ _, few_frames (dropped_by settings link history r) r)
+
+-- The item of one more record was written, and the run goes on.
+pub goes_on : (settings : PlainSettings) (head : Head) (s s' s'' c c' c'' r r' r'' : Option (List ℕ)) (engine engine' : Engaged) (reader reader' : Reading) (frames n : ℕ) (p : Packet)
+    → Going settings head s s' c c' r r' engine reader frames
+    → Leaves reader.head.order reader.given s' s'' p → Advances reader reader' (length p.octets) → reader'.head ≡ reader.head
+    → ((history : List Item) → StandsFor engine history → Relayed head.order (item_of engine.settings engine.link history p) c' c'' r' r'' n)
+    → ((history : List Item) → StandsFor engine history → StandsFor engine' (item_of engine.settings engine.link history p ∷ history))
+    → engine'.settings ≡ engine.settings → engine'.link ≡ engine.link
+    → Going settings head s s'' c c'' r r'' engine' reader' (frames + n)
+goes_on settings head s s' s'' c c' c'' r r' r'' engine engine' reader reader' frames n p going left ahead same written stands settled linked =
+    let trace = going.trace in
+    let item = item_of settings head.link trace p in
+    let is : item_of engine.settings engine.link trace p ≡ item = ap₂ (λ x y. item_of x y trace p) going.engine_settings going.engine_link in
+    let put : Relayed head.order item c' c'' r' r'' n = subst (λ (i : Item). Relayed head.order i c' c'' r' r'' n) is (written trace going.stands) in
+    let counted = packets_are settings head.link trace p in
+    record {
+      trace = item ∷ trace;
+      so_far = record {
+        lawful = (going.so_far.lawful, refl);
+        took = took_more s s' s'' head trace item reader.head.order reader.given (ap (λ (h : Head). h.order) going.reader_head) going.given_is going.so_far.took left;
+        frames_written = Appends-trans c c' c'' _ _ going.so_far.frames_written put.frames_written;
+        report_written = Appends-trans r r' r'' _ _ going.so_far.report_written put.report_written;
+      };
+      stands = subst (λ (i : Item). StandsFor engine' (i ∷ trace)) is (stands trace going.stands);
+      engine_settings = settled ∙ going.engine_settings;
+      engine_link = linked ∙ going.engine_link;
+      reader_head = same ∙ going.reader_head;
+      given_is = omega (arith, ahead.given, going.given_is);
+      place_is = ahead.place ∙ ap (λ k. k + 16 + length p.octets) going.place_is ∙ omega arith;
+      frames_are = ap₂ (λ x y. x + y) going.frames_are (put.frames_are ∙ counted.0);
+      few = let n_is : n ≡ length item.frames = put.frames_are ∙ counted.0 in omega (arith, going.few, ahead.given, n_is, counted.1);
+    }
+
+-- the run is over: all was read, and the last line is written
+pub normalized : (settings : PlainSettings) (head : Head) (s s' s'' c c' c'' r r' r'' : Option (List ℕ)) (engine : Engaged) (reader : Reading) (frames count : ℕ)
+    → is_read_now head ≡ true
+    → Going settings head s s' c c' r r' engine reader frames → HasEnd s' s'' → count ≡ engine.records → c'' ≡ c' → Appends r' r'' (last_text (End count frames))
+    → Normalized settings s s'' c c'' r r''
+normalized settings head s s' s'' c c' c'' r r' r'' engine reader frames count form going end counted kept last =
+    let trace = going.trace in
+    let line : last_text (End count frames) ≡ last_text (End (length trace) (frame_count trace)) = ap₂ (λ x y. last_text (End x y)) (counted ∙ going.stands.counted) going.frames_are in
+    record {
+      head = head;
+      trace = trace;
+      form = form;
+      lawful = going.so_far.lawful;
+      whole = took_all s s' s'' head trace going.so_far.took end;
+      taken = taken_whole s s' s'' head trace going.so_far.took end;
+      frames_written = subst (λ x. Appends c x (head_octets head ++ frames_octets head.order trace)) (sym kept) (subst (Appends c c') (capture_is head trace) going.so_far.frames_written);
+      report_written = subst (Appends r r'') (ap₂ (λ x y. x ++ y) (report_is trace) line) (Appends-trans r r' r'' _ _ going.so_far.report_written last);
+    }
+
+-- a head of a form that is read
+form_of_ok : (octets : List ℕ) (head : Head) → head_of octets ≡ Ok head → is_read_now head ≡ true → IsReadForm octets
+form_of_ok octets head a b = λ other c. let same : other ≡ head = cc in ap is_read_now same ∙ b
+
+form_of_err : (octets : List ℕ) (flaw : Flaw) → head_of octets ≡ Err flaw → IsReadForm octets
+form_of_err octets flaw a = λ other c. absurd (cc)
+
+-- a flaw of the head is the first
+pub flawed_head : (a b : Option (List ℕ)) (flaw : Flaw) → Begins a b (Err flaw) → HasFlawAt a flaw 0
+flawed_head None b flaw p = tt
+flawed_head (Some x) None flaw p = absurd p
+flawed_head (Some x) (Some y) flaw p = (inl (p.0, refl), form_of_err x flaw p.0)
+
+pub later_head : (a b : Option (List ℕ)) → IsOfAnotherForm a b → HasLaterHead a
+later_head None b p = tt
+later_head (Some x) None p = absurd p.begins
+later_head (Some x) (Some y) p = (p.head, p.begins.0, p.other)
+
+-- a flaw behind the records taken is the first
+flaw_behind : (a b : Option (List ℕ)) (head : Head) (trace : List Item) (order : Order) (given place : ℕ) (flaw : Flaw) → order ≡ head.order → given ≡ length trace → place ≡ offset_of (packets trace)
+    → is_read_now head ≡ true → Took a b head trace → HasFlaw order given b flaw → HasFlawAt a flaw place
+flaw_behind None b head trace order given place flaw o g e form p q = tt
+flaw_behind (Some x) None head trace order given place flaw o g e form p q = absurd p
+flaw_behind (Some x) (Some y) head trace order given place flaw o g e form p q = (
+  inr (record {
+    head = head;
+    packets = packets trace;
+    rest = y;
+    accepted = p.0;
+    reads = p.1;
+    flawed = ap₂ (λ k n. front_of k n y) (sym o) (length-packets trace ∙ sym g) ∙ q;
+    place = e;
+  }),
+  form_of_ok x head p.0 form,
+)
+
+pub flawed_record : (settings : PlainSettings) (head : Head) (s s' c c' r r' : Option (List ℕ)) (engine : Engaged) (reader : Reading) (frames : ℕ) (flaw : Flaw)
+    → is_read_now head ≡ true → Going settings head s s' c c' r r' engine reader frames → HasFlaw reader.head.order reader.given s' flaw → HasFlawAt s flaw reader.place
+flawed_record settings head s s' c c' r r' engine reader frames flaw form going flawed =
+    flaw_behind s s' head going.trace reader.head.order reader.given reader.place flaw (ap (λ (h : Head). h.order) going.reader_head) going.given_is going.place_is form going.so_far.took flawed
+
+-- two facts of what went well give a third
+pub on_both : {T E P Q R : Type 0} (r : Result T E) → (P → Q → R) → OnOk r P → OnOk r Q → OnOk r R
+on_both (Ok x) f p q = f p q
+on_both (Err e) f p q = tt

@@ -1,0 +1,122 @@
+-- What stands in the course of a run, and at its end. Where an object does not tell its octets nothing is claimed of them.
+use Rattle.std.specs.Prelude.{◌≡◌, true, ℕ, ◌+◌, ◌≤◌, List, [], ◌∷◌, ◌++◌, length, drop, Option, Some, None, Result, Ok, Err}
+use Rattle.std.specs.Io.KnownBytes.{Appends}
+use Rattle.pcap_file.specs.declared.head.Head.{Head}
+use Rattle.pcap_file.specs.Records.{Packet}
+use Rattle.pcap_file.specs.declared.order.Order.{Order}
+use Rattle.pcap_file.specs.Heads.{head_of, head_octets, is_read_now}
+use Rattle.pcap_file.specs.Reading.{Reading}
+use Rattle.pcap_file.specs.Capture.{IsCapture, ReadsTo, offset_of}
+use Rattle.rule_book.specs.declared.last.Last.TheVariants.{End}
+use Rattle.rule_book.specs.Text.{first_line, entry_text, report_text}
+use Rattle.norm_settings.specs.declared.fault.WordFault.{WordFault}
+use Rattle.norm_settings.specs.Settings.{PlainSettings}
+use Rattle.norm_settings.specs.Faults.{number_of}
+use Rattle.norm_settings.specs.Asked.{asked, PlainNames, run}
+use Rattle.bridge_run.specs.Trace.{Item, Lawful, packets, entries, frames_octets, item_octets, frame_count}
+use Rattle.bridge_run.specs.Clean.{CleanIsKept}
+use Rattle.bridge_run.specs.Engine.{Engaged, StandsFor}
+use Rattle.bridge_run.specs.Stops.{Told, words_line}
+
+-- Where the source tells its octets, those that it had left are a capture with this head, read to its end as the trace's records.
+abbrev pub TookAll : Option (List ℕ) → Head → List Item → Type 0
+TookAll None head trace = Unit {0}
+TookAll (Some octets) head trace = IsCapture octets head (packets trace)
+
+-- Where the source tells its octets, none is left.
+abbrev pub TakenWhole : Option (List ℕ) → Option (List ℕ) → Type 0
+TakenWhole None source' = Unit {0}
+TakenWhole (Some octets) None = ⊥
+TakenWhole (Some octets) (Some rest) = rest ≡ []
+
+-- the words ask for a run with these settings
+abbrev pub AsksRun : List (List ℕ) → PlainSettings → Type 0
+AsksRun words settings = (names : PlainNames) × (asked words ≡ Ok (run names settings))
+
+-- A finished run: what the source had left is a capture, all of it was taken, and what was written is the frames and the report of its one lawful
+-- trace; every clean packet has exactly one frame with its payload.
+pub record Finished (words : List (List ℕ)) (source source' capture capture' report report' : Option (List ℕ)) : Type 0 where
+  pub settings : PlainSettings
+  pub head : Head
+  pub trace : List Item
+  pub accepted : AsksRun words settings
+  pub lawful : Lawful settings head.link trace
+  pub whole : TookAll source head trace
+  pub taken : TakenWhole source source'
+  pub frames_written : Appends capture capture' (head_octets head ++ frames_octets head.order trace)
+  pub report_written : Appends report report' (report_text (entries trace) (End (length trace) (frame_count trace)))
+  pub clean_kept : CleanIsKept settings head.link trace
+
+-- The words are accepted.
+abbrev pub IsAccepted : List (List ℕ) → Type 0
+IsAccepted words = (settings : PlainSettings) × AsksRun words settings
+
+-- The words are refused.
+abbrev pub IsRefused : List (List ℕ) → Type 0
+IsRefused words = (fault : WordFault) × (asked words ≡ Err fault)
+
+-- the octets of the written capture so far: the head, and the records of the frames
+abbrev pub capture_of : Head → List Item → List ℕ
+capture_of head [] = head_octets head
+capture_of head (item ∷ older) = capture_of head older ++ item_octets head.order item
+
+-- the octets of the report so far: the first line, and a line for each item
+abbrev pub report_of : List Item → List ℕ
+report_of [] = first_line
+report_of (item ∷ older) = report_of older ++ entry_text item.entry
+
+-- Where the source tells its octets, they begin with this head and the trace's records, and the rest is left.
+abbrev pub Took : Option (List ℕ) → Option (List ℕ) → Head → List Item → Type 0
+Took None source' head trace = Unit {0}
+Took (Some octets) None head trace = ⊥
+Took (Some octets) (Some rest) head trace = (head_of octets ≡ Ok head) × ReadsTo head.order (drop 24 octets) (packets trace) rest
+
+-- so far: a lawful trace of the records that were taken, whose frames and lines were written
+pub record SoFar (settings : PlainSettings) (head : Head) (source source' capture capture' report report' : Option (List ℕ)) (trace : List Item) : Type 0 where
+  pub lawful : Lawful settings head.link trace
+  pub took : Took source source' head trace
+  pub frames_written : Appends capture capture' (capture_of head trace)
+  pub report_written : Appends report report' (report_of trace)
+
+-- the same of some trace, which the engine stands for, with the reader behind its records and so many frames written
+pub record Going (settings : PlainSettings) (head : Head) (source source' capture capture' report report' : Option (List ℕ)) (engine : Engaged) (reader : Reading) (frames : ℕ) : Type 0 where
+  pub trace : List Item
+  pub so_far : SoFar settings head source source' capture capture' report report' trace
+  pub stands : StandsFor engine trace
+  pub engine_settings : engine.settings ≡ settings
+  pub engine_link : engine.link ≡ head.link
+  pub reader_head : reader.head ≡ head
+  pub given_is : reader.given ≡ length trace
+  pub place_is : reader.place ≡ offset_of (packets trace)
+  pub frames_are : frames ≡ frame_count trace
+  pub few : frames ≤ reader.given
+
+-- The first line and the head were written, and the head was read.
+pub record Begun (head : Head) (source source' capture capture' report report' : Option (List ℕ)) : Type 0 where
+  pub form : is_read_now head ≡ true
+  pub took : Took source source' head []
+  pub frames_written : Appends capture capture' (head_octets head)
+  pub report_written : Appends report report' first_line
+
+-- an item's frames and line were written, and there are so many frames
+pub record Relayed (order : Order) (item : Item) (capture capture' report report' : Option (List ℕ)) (frames : ℕ) : Type 0 where
+  pub frames_are : frames ≡ item.entry.packets
+  pub frames_written : Appends capture capture' (item_octets order item)
+  pub report_written : Appends report report' (entry_text item.entry)
+
+-- all records were taken, and what was written is the frames and the report of their lawful trace
+pub record Normalized (settings : PlainSettings) (source source' capture capture' report report' : Option (List ℕ)) : Type 0 where
+  pub head : Head
+  pub trace : List Item
+  pub form : is_read_now head ≡ true
+  pub lawful : Lawful settings head.link trace
+  pub whole : TookAll source head trace
+  pub taken : TakenWhole source source'
+  pub frames_written : Appends capture capture' (head_octets head ++ frames_octets head.order trace)
+  pub report_written : Appends report report' (report_text (entries trace) (End (length trace) (frame_count trace)))
+
+-- what the run answers where the words are refused: their fault, in one line of the report
+pub record Refused (words : List (List ℕ)) (report report' : Option (List ℕ)) (before now : ℕ) : Type 0 where
+  pub fault : WordFault
+  pub refused : asked words ≡ Err fault
+  pub told : Told report report' before now (words_line (number_of fault))

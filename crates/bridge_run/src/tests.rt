@@ -1,0 +1,333 @@
+//! Whole runs, with expected octets from the formats' standards and the worked captures.
+ghost use Rattle.std.specs.Prelude.{◌<◌};
+
+use crate::run;
+use edge_io::{Failed, MemSink, MemSource, Sink};
+use std::alloc::{AllocError, Global};
+use std::test::Fail;
+
+/// Little-endian, microseconds, raw IP.
+const HEAD: [u8; 24] = [
+    0xd4, 0xc3, 0xb2, 0xa1, 2, 0, 4, 0, 0, 0, 0, 0, 0, 0, 0, 0, 0, 0, 4, 0, 101, 0, 0, 0,
+];
+
+/// The head of a record of 30 octets at time 0.
+const FRONT: [u8; 16] = [0, 0, 0, 0, 0, 0, 0, 0, 30, 0, 0, 0, 30, 0, 0, 0];
+
+/// A UDP datagram of 30 octets from 198.51.100.7 port 40000 to 10.0.0.1 port 53 with payload `hi`, and an octet behind it.
+const DATAGRAM: [u8; 31] = [
+    0x45, 0x00, 0x00, 0x1e, 0x00, 0x01, 0x00, 0x00, 0x40, 0x11, 0x46, 0x93, 0xc6, 0x33, 0x64, 0x07,
+    0x0a, 0x00, 0x00, 0x01, 0x9c, 0x40, 0x00, 0x35, 0x00, 0x0a, 0xc6, 0xbf, 0x68, 0x69, 0x00,
+];
+
+/// Octets at some places, in the place of those that stand there.
+type Changes = &'static [(usize, u8)];
+
+fn change(octets: &mut [u8], changes: Changes) {
+    for (at, octet) in changes {
+        if let Some(place) = octets.get_mut(*at) {
+            *place = *octet;
+        }
+    }
+}
+
+/// A head with these changes, and records of the datagram, the last with these changes in its head.
+fn capture_file(
+    alloc: Global,
+    head: Changes,
+    records: u8,
+    last: Changes,
+) -> Result<Vec<u8>, AllocError> {
+    let mut octets = HEAD;
+    change(&mut octets, head);
+    let mut file = Vec::from_slice(alloc, &octets)?;
+    for number in 1..=records {
+        let mut front = FRONT;
+        if number == records {
+            change(&mut front, last);
+        }
+        file.extend_from_slice(&front)?;
+        file.extend_from_slice(&DATAGRAM[..30])?;
+    }
+    Ok(file)
+}
+
+fn line(alloc: Global, words: &[&str]) -> Result<Vec<String>, AllocError> {
+    let mut line = Vec::new(alloc);
+    for word in words {
+        line.push(String::from_str(alloc, word)?)?;
+    }
+    Ok(line)
+}
+
+/// The list of this one call, and no call for 0.
+fn only(alloc: Global, call: u32) -> Result<Vec<u32>, AllocError> {
+    let mut calls = Vec::new(alloc);
+    if call > 0 {
+        calls.push(call)?;
+    }
+    Ok(calls)
+}
+
+/// What a run answered, and what its sinks hold.
+#[derive(Drop)]
+struct Outcome {
+    status: u8,
+    capture: MemSink,
+    report: MemSink,
+}
+
+/// Runs over a file that is given in pieces. Of the source, the capture and the report the call of the given number fails; 0 is none.
+fn ended_run(
+    alloc: Global,
+    words: &[&str],
+    file: &[u8],
+    piece: usize,
+    failing: (u32, u32, u32),
+) -> Result<Outcome, Fail>
+    requires { 0 < piece }
+{
+    let words = line(alloc, words)?;
+    let mut source = MemSource::new(
+        Vec::from_slice(alloc, file)?,
+        piece,
+        only(alloc, failing.0)?,
+    );
+    let mut capture = MemSink::new(alloc, 4096, only(alloc, failing.1)?)?;
+    let mut report = MemSink::new(alloc, 4096, only(alloc, failing.2)?)?;
+    let status = run(alloc, &words, &mut source, &mut capture, &mut report);
+    Ok(Outcome {
+        status,
+        capture,
+        report,
+    })
+}
+
+/// A file, as changes of the head, a number of records, changes of the last one's head and a size; which calls fail; and the status, the
+/// report and how many octets of the file the capture is.
+struct Whole {
+    head: Changes,
+    records: u8,
+    last: Changes,
+    size: usize,
+    failing: (u32, u32, u32),
+    status: u8,
+    report: &'static str,
+    written: usize,
+}
+
+const NONE: (u32, u32, u32) = (0, 0, 0);
+
+#[rattlefmt::skip]
+const WHOLES: [Whole; 18] = [
+    Whole { head: &[], records: 1, last: &[], size: 70, failing: NONE, status: 0, report: "norm 1\n1 in pass 1\nend 1 1\n", written: 70 },
+    Whole { head: &[], records: 0, last: &[], size: 24, failing: NONE, status: 0, report: "norm 1\nend 0 0\n", written: 24 },
+    Whole { head: &[], records: 0, last: &[], size: 0, failing: NONE, status: 4, report: "norm 1\nstop cut 0\n", written: 0 },
+    Whole { head: &[], records: 0, last: &[], size: 23, failing: NONE, status: 4, report: "norm 1\nstop cut 0\n", written: 0 },
+    Whole { head: &[], records: 2, last: &[], size: 115, failing: NONE, status: 4, report: "norm 1\n1 in pass 1\nstop cut 70\n", written: 70 },
+    Whole { head: &[], records: 1, last: &[], size: 39, failing: NONE, status: 4, report: "norm 1\nstop cut 24\n", written: 24 },
+    Whole { head: &[(0, 0), (1, 0), (2, 0), (3, 0)], records: 1, last: &[], size: 70, failing: NONE, status: 3, report: "norm 1\nstop magic 0\n", written: 0 },
+    Whole { head: &[(6, 3)], records: 1, last: &[], size: 70, failing: NONE, status: 3, report: "norm 1\nstop version 0\n", written: 0 },
+    Whole { head: &[(20, 113)], records: 1, last: &[], size: 70, failing: NONE, status: 3, report: "norm 1\nstop link 0\n", written: 0 },
+    Whole { head: &[(0, 0x4d), (1, 0x3c)], records: 1, last: &[], size: 70, failing: NONE, status: 3, report: "norm 1\nstop later 0\n", written: 0 },
+    Whole { head: &[(20, 1)], records: 1, last: &[], size: 70, failing: NONE, status: 3, report: "norm 1\nstop later 0\n", written: 0 },
+    Whole { head: &[(0, 0xa1), (1, 0xb2), (2, 0xc3), (3, 0xd4), (4, 0), (5, 2), (6, 0), (7, 4), (20, 0), (23, 101)], records: 1, last: &[], size: 70, failing: NONE, status: 3, report: "norm 1\nstop later 0\n", written: 0 },
+    Whole { head: &[], records: 1, last: &[(8, 1), (10, 4)], size: 70, failing: NONE, status: 3, report: "norm 1\nstop long 24\n", written: 24 },
+    Whole { head: &[], records: 2, last: &[(8, 1), (10, 4)], size: 116, failing: NONE, status: 3, report: "norm 1\n1 in pass 1\nstop long 70\n", written: 70 },
+    Whole { head: &[], records: 1, last: &[], size: 70, failing: (1, 0, 0), status: 5, report: "norm 1\nstop read 0\n", written: 0 },
+    Whole { head: &[], records: 1, last: &[], size: 70, failing: (0, 1, 0), status: 6, report: "norm 1\nstop capture 0\n", written: 0 },
+    Whole { head: &[], records: 1, last: &[], size: 70, failing: (0, 2, 0), status: 6, report: "norm 1\nstop capture 24\n", written: 24 },
+    Whole { head: &[], records: 1, last: &[], size: 70, failing: (0, 0, 1), status: 7, report: "", written: 0 },
+];
+
+#[test]
+fn runs_tell_how_they_end(rt: HostRuntime) -> Result<(), Fail> {
+    for (number, row) in WHOLES.iter().enumerate() {
+        let mut file = capture_file(rt.alloc(), row.head, row.records, row.last)?;
+        file.truncate(row.size);
+        for piece in [1usize, 7, 65536] {
+            let words = ["run", "a", "b", "10.0.0.0/8"];
+            let ended = ended_run(rt.alloc(), &words, &file, piece, row.failing)?;
+            assert_eq!(rt; ended.status, row.status, "row {number}");
+            assert_eq!(rt; ended.report.held(), row.report.as_bytes(), "row {number}");
+            file.truncate(row.size);
+            assert_eq!(rt;
+                Some(ended.capture.held()),
+                file.as_slice().get(..row.written),
+                "row {number}"
+            );
+        }
+    }
+    Ok(())
+}
+
+#[test]
+fn refused_words_leave_one_line(rt: HostRuntime) -> Result<(), Fail> {
+    let rows: [(&[&str], &str); 3] = [
+        (&["run", "a"], "stop words 1\n"),
+        (&["run", "a", "a", "10.0.0.0/8"], "stop words 5\n"),
+        (&["run", "a", "b", "10.0.0/8"], "stop words 2\n"),
+    ];
+    for (words, report) in rows {
+        let ended = ended_run(rt.alloc(), words, &HEAD, 7, (1, 1, 0))?;
+        assert_eq!(rt; ended.status, 2, "{report}");
+        assert_eq!(rt; ended.report.held(), report.as_bytes(), "{report}");
+        assert!(rt; ended.capture.held().is_empty(), "{report}");
+    }
+    Ok(())
+}
+
+/// The datagram with these changes, how many of its octets were captured and how many it had; and the record's line without its number.
+struct Judged {
+    changes: Changes,
+    captured: u8,
+    original: u8,
+    line: &'static str,
+}
+
+const OUTWARD: Changes = &[
+    (12, 10),
+    (13, 0),
+    (14, 0),
+    (15, 1),
+    (16, 198),
+    (17, 51),
+    (18, 100),
+    (19, 7),
+];
+
+const FADING: Changes = &[
+    (8, 1),
+    (10, 0x85),
+    (12, 10),
+    (13, 0),
+    (14, 0),
+    (15, 1),
+    (16, 198),
+    (17, 51),
+    (18, 100),
+    (19, 7),
+];
+
+const INSIDE: Changes = &[
+    (10, 0x66),
+    (11, 0xcc),
+    (12, 10),
+    (13, 0),
+    (14, 0),
+    (15, 2),
+    (26, 0xe6),
+    (27, 0xf8),
+];
+
+const OUTSIDE: Changes = &[(10, 0x8e), (11, 0x92), (16, 192), (18, 2), (26, 0x0e)];
+
+#[rattlefmt::skip]
+const JUDGED: [Judged; 25] = [
+    Judged { changes: &[], captured: 30, original: 30, line: "in pass 1" },
+    Judged { changes: &[], captured: 30, original: 31, line: "- drop 0 L_SNAP" },
+    Judged { changes: &[], captured: 30, original: 29, line: "in pass 1" },
+    Judged { changes: &[], captured: 19, original: 19, line: "- drop 0 I_SHORT" },
+    Judged { changes: &[(0, 0x55)], captured: 30, original: 30, line: "- drop 0 I_VERSION" },
+    Judged { changes: &[(0, 0x44)], captured: 30, original: 30, line: "- drop 0 I_HLEN" },
+    Judged { changes: &[(3, 31)], captured: 30, original: 30, line: "- drop 0 I_LEN" },
+    Judged { changes: &[(11, 0x94)], captured: 30, original: 30, line: "- drop 0 I_SUM" },
+    Judged { changes: INSIDE, captured: 30, original: 30, line: "- drop 0 I_SIDE" },
+    Judged { changes: OUTSIDE, captured: 30, original: 30, line: "- drop 0 I_SIDE" },
+    Judged { changes: OUTWARD, captured: 30, original: 30, line: "out pass 1" },
+    Judged { changes: FADING, captured: 30, original: 30, line: "out pass 1" },
+    Judged { changes: &[(8, 30), (10, 0x68)], captured: 30, original: 30, line: "in drop 0 X_LATER" },
+    Judged { changes: &[(8, 31), (10, 0x67)], captured: 30, original: 30, line: "in pass 1" },
+    Judged { changes: &[(6, 0x20), (10, 0x26)], captured: 30, original: 30, line: "in drop 0 X_LATER" },
+    Judged { changes: &[(7, 1), (11, 0x92)], captured: 30, original: 30, line: "in drop 0 X_LATER" },
+    Judged { changes: &[(6, 0x40), (10, 0x06)], captured: 30, original: 30, line: "in pass 1" },
+    Judged { changes: &[(6, 0x80), (10, 0xc6), (11, 0x92)], captured: 30, original: 30, line: "in drop 0 X_LATER" },
+    Judged { changes: &[(9, 1), (11, 0xa3)], captured: 30, original: 30, line: "in drop 0 X_LATER" },
+    Judged { changes: &[(10, 0x2d), (12, 223), (26, 0xad)], captured: 30, original: 30, line: "in pass 1" },
+    Judged { changes: &[(10, 0x2c), (12, 224), (26, 0xac)], captured: 30, original: 30, line: "in drop 0 X_LATER" },
+    Judged { changes: &[], captured: 31, original: 31, line: "in drop 0 X_LATER" },
+    Judged { changes: &[(25, 9)], captured: 30, original: 30, line: "in drop 0 X_LATER" },
+    Judged { changes: &[(26, 0), (27, 0)], captured: 30, original: 30, line: "in pass 1" },
+    Judged { changes: &[(29, 0x6a)], captured: 30, original: 30, line: "in drop 0 X_LATER" },
+];
+
+#[test]
+fn each_row_judges_its_packet(rt: HostRuntime) -> Result<(), Fail> {
+    for row in &JUDGED {
+        let mut packet = DATAGRAM;
+        change(&mut packet, row.changes);
+        let Some(octets) = packet.get(..usize::from(row.captured)) else {
+            return Err(Fail::new("more octets than there are"));
+        };
+        let mut front = FRONT;
+        front[8] = row.captured;
+        front[12] = row.original;
+        let mut file = Vec::from_slice(rt.alloc(), &HEAD)?;
+        file.extend_from_slice(&front)?;
+        file.extend_from_slice(octets)?;
+        let words = ["run", "a", "b", "10.0.0.0/8"];
+        let ended = ended_run(rt.alloc(), &words, &file, 65536, NONE)?;
+        let frames = u8::from(row.line.ends_with("pass 1"));
+        let line = row.line;
+        let report = format!(in rt.alloc(); "norm 1\n1 {line}\nend 1 {frames}\n")?;
+        assert_eq!(rt; ended.status, 0, "{line}");
+        assert_eq!(rt; ended.report.held(), report.as_bytes(), "{line}");
+        let mut written = Vec::from_slice(rt.alloc(), &HEAD)?;
+        if frames == 1 {
+            front[12] = row.captured;
+            written.extend_from_slice(&front)?;
+            written.extend_from_slice(octets)?;
+        }
+        assert_eq!(rt; ended.capture.held(), written.as_slice(), "{line}");
+    }
+    Ok(())
+}
+
+/// A sink that takes each piece and keeps it back, and cannot hand it on.
+#[derive(Drop)]
+struct Stuck {
+    faults: u64,
+}
+
+impl Sink for Stuck {
+    ghost use Rattle.std.specs.Prelude.{None};
+
+    ghost held = { λ s. None };
+
+    ghost fault_count = { λ s. s.faults };
+
+    fn put(&mut self, _bytes: &[u8]) -> Result<(), Failed> {
+        Ok(())
+    }
+
+    fn flush(&mut self) -> Result<(), Failed> {
+        self.faults = self.faults.saturating_add(1);
+        Err(Failed)
+    }
+
+    fn faults(&self) -> u64 {
+        self.faults
+    }
+}
+
+#[test]
+fn nothing_is_said_of_the_end_before_the_frames_are_handed_on(rt: HostRuntime) -> Result<(), Fail> {
+    let words = line(rt.alloc(), &["run", "a", "b", "10.0.0.0/8"])?;
+    let file = capture_file(rt.alloc(), &[], 1, &[])?;
+    let mut source = MemSource::new(file, 65536, only(rt.alloc(), 0)?);
+    let mut report = MemSink::new(rt.alloc(), 4096, only(rt.alloc(), 0)?)?;
+    let mut stuck = Stuck { faults: 0 };
+    let status = run(rt.alloc(), &words, &mut source, &mut stuck, &mut report);
+    assert_eq!(rt; status, 6);
+    assert_eq!(rt;
+        report.held(),
+        b"norm 1\n1 in pass 1\nstop capture 70\n".as_slice()
+    );
+    let file = capture_file(rt.alloc(), &[], 1, &[])?;
+    let mut source = MemSource::new(file, 65536, only(rt.alloc(), 0)?);
+    let mut capture = MemSink::new(rt.alloc(), 4096, only(rt.alloc(), 0)?)?;
+    let status = run(rt.alloc(), &words, &mut source, &mut capture, &mut stuck);
+    assert_eq!(rt; status, 7);
+    assert_eq!(rt; capture.held().len(), 70);
+    Ok(())
+}

@@ -1,0 +1,12 @@
+pub mod Bits
+pub mod FreeList
+pub mod GivesBack
+pub mod Laws
+pub mod Links
+pub mod Opening
+pub mod Overwrites
+pub mod Rising
+pub mod Steps
+pub mod Takes
+pub mod Updates
+pub mod Views

@@ -1,0 +1,97 @@
+//! Cells and the heads of chains, linked by index.
+ghost use Rattle.std.specs.Prelude.{◌≡◌, ◌<◌, length, replicate, IfOk, None, Some};
+ghost use Rattle.cell_pool.specs.Links.{with_next, IsSpare, blank_head, fresh_cell};
+
+use crate::octets::Octets;
+use edge_io::NoMemory;
+use std::alloc::Global;
+
+/// The number of a chain, below the number of chains of its pool.
+#[derive(Clone, Copy, Debug, PartialEq, Eq)]
+pub struct ChainId(pub u32);
+
+/// The name of a cell, which holds while the cell is in a chain.
+#[derive(Clone, Copy, Debug, PartialEq, Eq)]
+pub struct CellId(pub(crate) u32);
+
+/// A cell of a chain or of the free list.
+#[derive(Drop)]
+pub(crate) struct Cell {
+    /// The next cell of the same chain, or of the free list.
+    pub(crate) next: Option<CellId>,
+    /// The chain that the cell is in, or none where it is free: by this the lists are kept apart.
+    pub(crate) owner: Option<ChainId>,
+    pub(crate) block: u64,
+    pub(crate) octets: Octets,
+}
+
+/// Where a chain begins, and how many cells it has.
+#[derive(Clone, Copy)]
+pub(crate) struct Head {
+    pub(crate) first: Option<CellId>,
+    pub(crate) count: u32,
+}
+
+impl Cell {
+    /// Makes this an empty cell of the chain, before `next`.
+    pub(crate) fn begin(&mut self, next: Option<CellId>, owner: ChainId, block: u64)
+        ensures { self.new ≡ fresh_cell next owner block }
+    {
+        self.next = next;
+        self.owner = Some(owner);
+        self.block = block;
+        self.octets.clear();
+    }
+
+    /// Makes this a free cell, before `next`. Its octets go when it is taken again.
+    pub(crate) fn release(&mut self, next: Option<CellId>)
+        ensures { self.new ≡ record self.old { next = next; owner = None } }
+    {
+        self.next = next;
+        self.owner = None;
+    }
+}
+
+/// Lets a cell lead on to another.
+pub(crate) fn set_next(cells: &mut Vec<Cell>, at: CellId, next: Option<CellId>)
+    requires { at.0 < length cells.old.items }
+    ensures { cells.new.items ≡ with_next cells.old.items at.0 next }
+{
+    let cell = &mut cells[at.0 as usize];
+    cell.next = next;
+}
+
+/// Free cells, threaded from the last to the first, and the head of that list.
+pub(crate) fn spare_cells(
+    alloc: Global,
+    count: u32,
+) -> Result<(Vec<Cell>, Option<CellId>), NoMemory>
+    ensures { IfOk result (λ made. IsSpare made.0.items count made.1) }
+{
+    let mut cells = Vec::with_capacity(alloc, count as usize)?;
+    let mut first = None;
+    for id in 0..count {
+        cells.push(Cell {
+            next: first,
+            owner: None,
+            block: 0,
+            octets: Octets::empty(),
+        })?;
+        first = Some(CellId(id));
+    }
+    Ok((cells, first))
+}
+
+/// The heads of chains with no cell.
+pub(crate) fn empty_heads(alloc: Global, count: u32) -> Result<Vec<Head>, NoMemory>
+    ensures { IfOk result (λ heads. heads.items ≡ replicate count blank_head) }
+{
+    let mut heads = Vec::with_capacity(alloc, count as usize)?;
+    for _ in 0..count {
+        heads.push(Head {
+            first: None,
+            count: 0,
+        })?;
+    }
+    Ok(heads)
+}

@@ -1,0 +1,236 @@
+//! A pool of cells, with its chains and its free list.
+ghost use Rattle.std.specs.Prelude.{◌≡◌, ◌+◌, ◌-◌, ◌<◌, ◌^◌, ◌↔◌, [], ◌∷◌, length, replicate, IfOk, IfSome, IfNone, IsNone, IsTrue, Some, None, slice_index_or, slice_set};
+ghost use Rattle.std.specs.List.{All, sum_by};
+ghost use Rattle.cell_pool.specs.Lists.{chain_at, with_chain, empty_cell, without_below, first_id, BeginsAbove, IsRising, HasPlaceFor, HasCellAfter, TakesAfter, GivesBackAfter, IsHeld, Wherever, Writes, StandsOnce};
+
+use crate::cells::{Cell, CellId, ChainId, Head, empty_heads, set_next, spare_cells};
+use edge_io::NoMemory;
+use std::alloc::Global;
+use std::marker::Model;
+
+/// Cells in chains, and free cells.
+#[derive(Drop)]
+pub struct Pool {
+    heads: Vec<Head>,
+    cells: Vec<Cell>,
+    // The first free cell.
+    spare: Option<CellId>,
+    free: u32,
+}
+
+impl Model for Pool {
+    ghost use Rattle.cell_pool.specs.Lists.{Lists};
+    ghost use Rattle.cell_pool.specs.Links.{lists_of, IsSound};
+
+    ghost Value = { Lists };
+
+    ghost view = { λ p. lists_of p.heads.items p.cells.items p.free };
+
+    ghost invariant = { λ p. IsSound p.heads.items p.cells.items p.spare p.free };
+}
+
+impl Pool {
+    /// A pool of so many free cells, and of so many chains with no cell.
+    pub fn open(alloc: Global, cells: u32, chains: u32) -> Result<Pool, NoMemory>
+        requires { cells + chains < 2 ^ 32 - 1 }
+        ensures { IfOk result
+            (λ pool. pool ≡ record { chains = replicate chains []; free = cells; cells = cells }) }
+    {
+        let heads = empty_heads(alloc, chains)?;
+        let (made, spare) = spare_cells(alloc, cells)?;
+        Ok(Pool {
+            heads,
+            cells: made,
+            spare,
+            free: cells,
+        })
+    }
+
+    /// How many cells are free.
+    pub fn free(&self) -> u32
+        ensures value { result ≡ self.now.free }
+        ensures total { self.now.free + sum_by length self.now.chains ≡ self.now.cells }
+    {
+        self.free
+    }
+
+    /// How many cells the chain has.
+    pub fn count(&self, chain: ChainId) -> u32
+        requires { chain.0 < length self.now.chains }
+        ensures { result ≡ length (chain_at self.now chain.0) }
+    {
+        self.heads[chain.0 as usize].count
+    }
+
+    /// The first cell of the chain.
+    pub fn first(&self, chain: ChainId) -> Option<CellId>
+        requires { chain.0 < length self.now.chains }
+        ensures value { result ≡ first_id (chain_at self.now chain.0) }
+        ensures rising { IsRising (chain_at self.now chain.0) }
+    {
+        self.heads[chain.0 as usize].first
+    }
+
+    /// The cell after this one in its chain.
+    pub fn next_of(&self, cell: CellId) -> Option<CellId>
+        requires { IsHeld self.now cell }
+        ensures value { Wherever self.now cell (λ x after. result ≡ first_id after) }
+        ensures once { StandsOnce self.now cell }
+    {
+        self.cells[cell.0 as usize].next
+    }
+
+    /// The block number of the cell.
+    pub fn block(&self, cell: CellId) -> u64
+        requires { IsHeld self.now cell }
+        ensures { Wherever self.now cell (λ x after. result ≡ x.block) }
+    {
+        self.cells[cell.0 as usize].block
+    }
+
+    /// The octet of the cell at `at`, if there is one.
+    pub fn get(&self, cell: CellId, at: u8) -> Option<u8>
+        requires { IsHeld self.now cell }
+        ensures value { Wherever self.now cell (λ x after. result ≡ slice_index_or x.octets at None) }
+        ensures size { Wherever self.now cell (λ x after. length x.octets ≡ 256) }
+    {
+        self.cells[cell.0 as usize].octets.get(at)
+    }
+
+    /// Takes a free cell into the chain, with no octet, after the given cell or at the front.
+    pub fn take_after(
+        &mut self,
+        chain: ChainId,
+        after: Option<CellId>,
+        block: u64,
+    ) -> Option<CellId>
+        requires chain_in_range { chain.0 < length self.old.chains }
+        requires place { HasPlaceFor (chain_at self.old chain.0) after block }
+        ensures full { IsNone result ↔ (self.old.free ≡ 0) }
+        ensures unchanged { IfNone result (self.new ≡ self.old) }
+        ensures taken { IfSome result
+            (λ cell. TakesAfter self.old self.new chain.0 after (empty_cell cell block)) }
+    {
+        match after {
+            Some(after) => self.take_behind(chain, after, block),
+            None => self.take_front(chain, block),
+        }
+    }
+
+    /// Frees the cell after the given one, or the first.
+    pub fn give_back_after(&mut self, chain: ChainId, after: Option<CellId>)
+        requires chain_in_range { chain.0 < length self.old.chains }
+        requires place { HasCellAfter (chain_at self.old chain.0) after }
+        ensures { GivesBackAfter self.old self.new chain.0 after }
+    {
+        match after {
+            Some(after) => self.give_behind(chain, after),
+            None => self.give_front(chain),
+        }
+    }
+
+    /// Puts an octet into the cell at `at`.
+    pub fn set(&mut self, cell: CellId, at: u8, octet: u8)
+        requires { IsHeld self.old cell }
+        ensures { Writes self.old self.new cell (λ octets. slice_set octets at (Some octet)) }
+    {
+        let cell = &mut self.cells[cell.0 as usize];
+        cell.octets.set(at, octet);
+    }
+
+    /// Forgets the octets of the cell before `at`, all of them where `at` is 256 or more, and answers whether none is
+    /// left.
+    pub fn clear_below(&mut self, cell: CellId, at: u16) -> bool
+        requires { IsHeld self.old cell }
+        ensures forgotten { Writes self.old self.new cell (without_below at) }
+        ensures none_left { Wherever self.old cell
+            (λ x after. IsTrue result ↔ All (λ o. IsNone o) (without_below at x.octets)) }
+    {
+        let cell = &mut self.cells[cell.0 as usize];
+        cell.octets.clear_below(at)
+    }
+
+    // Takes a free cell to the front of the chain.
+    fn take_front(&mut self, chain: ChainId, block: u64) -> Option<CellId>
+        requires chain_in_range { chain.0 < length self.old.chains }
+        requires order { BeginsAbove block (chain_at self.old chain.0) }
+        ensures full { IsNone result ↔ (self.old.free ≡ 0) }
+        ensures unchanged { IfNone result (self.new ≡ self.old) }
+        ensures taken { IfSome result
+            (λ cell. let cells = empty_cell cell block ∷ chain_at self.old chain.0 in
+            self.new ≡ with_chain self.old chain.0 cells (self.old.free - 1)) }
+    {
+        let taken = self.spare?;
+        let head = self.heads[chain.0 as usize];
+        let cell = &mut self.cells[taken.0 as usize];
+        self.spare = cell.next;
+        cell.begin(head.first, chain, block);
+        self.heads[chain.0 as usize] = Head {
+            first: Some(taken),
+            count: head.count + 1,
+        };
+        self.free -= 1;
+        Some(taken)
+    }
+
+    // Takes a free cell behind a cell of the chain.
+    fn take_behind(&mut self, chain: ChainId, after: CellId, block: u64) -> Option<CellId>
+        requires chain_in_range { chain.0 < length self.old.chains }
+        requires place { HasPlaceFor (chain_at self.old chain.0) (Some after) block }
+        ensures full { IsNone result ↔ (self.old.free ≡ 0) }
+        ensures unchanged { IfNone result (self.new ≡ self.old) }
+        ensures taken { IfSome result
+            (λ cell. TakesAfter self.old self.new chain.0 (Some after) (empty_cell cell block)) }
+    {
+        let taken = self.spare?;
+        let spare = self.cells[taken.0 as usize].next;
+        let next = self.cells[after.0 as usize].next;
+        set_next(&mut self.cells, after, Some(taken));
+        let cell = &mut self.cells[taken.0 as usize];
+        cell.begin(next, chain, block);
+        let head = &mut self.heads[chain.0 as usize];
+        head.count += 1;
+        self.spare = spare;
+        self.free -= 1;
+        Some(taken)
+    }
+
+    // Frees the first cell of the chain.
+    fn give_front(&mut self, chain: ChainId)
+        requires chain_in_range { chain.0 < length self.old.chains }
+        requires place { HasCellAfter (chain_at self.old chain.0) None }
+        ensures { GivesBackAfter self.old self.new chain.0 None }
+    {
+        let head = self.heads[chain.0 as usize];
+        let Some(given) = head.first else {
+            unreachable!()
+        };
+        let cell = &mut self.cells[given.0 as usize];
+        self.heads[chain.0 as usize] = Head {
+            first: cell.next,
+            count: head.count - 1,
+        };
+        cell.release(self.spare);
+        self.spare = Some(given);
+        self.free += 1;
+    }
+
+    // Frees the cell behind a cell of the chain.
+    fn give_behind(&mut self, chain: ChainId, after: CellId)
+        requires chain_in_range { chain.0 < length self.old.chains }
+        requires place { HasCellAfter (chain_at self.old chain.0) (Some after) }
+        ensures { GivesBackAfter self.old self.new chain.0 (Some after) }
+    {
+        let Some(given) = self.cells[after.0 as usize].next else {
+            unreachable!()
+        };
+        let next = self.cells[given.0 as usize].next;
+        set_next(&mut self.cells, after, next);
+        let cell = &mut self.cells[given.0 as usize];
+        cell.release(self.spare);
+        let head = &mut self.heads[chain.0 as usize];
+        head.count -= 1;
+        self.spare = Some(given);
+        self.free += 1;
+    }
+}

@@ -1,0 +1,15 @@
+pub mod Pushes
+pub mod Steps
+pub mod Legal
+pub mod Shifts
+pub mod Inwards
+pub mod Untouched
+pub mod Warms
+pub mod Windows
+pub mod Reading
+pub mod Fits
+pub mod After
+pub mod Forwards
+pub mod Octets
+pub mod Moments
+pub mod Lists

@@ -1,0 +1,114 @@
+-- An era of which a place is acknowledged, with one more segment.
+use Rattle.std.proofs.Common.{◌≡◌, ℕ, ◌<◌, ◌^◌, List, [], ◌∷◌, ◌++◌, Option, Some, None, Bool, true, false, not, ◌||◌, ◌&&◌, refl, sym, ◌∙◌, ap, arith}
+use Rattle.std.specs.Prelude.{◌+◌, max, pos, is_some, if◌then◌else◌}
+use Rattle.std.specs.Option.{option_or}
+use Rattle.std.proofs.Math.Bool.{or-false}
+use Rattle.std.proofs.Math.Nat.{max-zero, zero-max}
+use Rattle.wire_base.specs.Tcp as tcp
+use Rattle.wire_base.specs.Segments.{Written}
+use Rattle.era_state.specs.declared.segment.Seg.{Seg}
+use Rattle.era_state.specs.declared.syns.Syns.{Syns}
+use Rattle.era_state.specs.declared.called.Called.{Called}
+use Rattle.era_state.specs.declared.offered.Offered.{Offered}
+use Rattle.era_state.specs.declared.warm.Warm.{Warm}
+use Rattle.era_state.specs.Offsets.{off, natural, turn_past, whole, number_in}
+use Rattle.era_state.specs.Marks.{fixes, ack_of, edge_place, iss_after}
+use Rattle.era_state.specs.Quantities.{base_of, iss, out_fin, acked, edge, top, end_of, is_opened, shift, Untouched}
+use Rattle.era_state.specs.Read.{sent, came}
+use Rattle.era_state.specs.Scales.{SynsFor}
+use Rattle.era_state.specs.Standing.{CalledFor, OfferedFor, WarmFor}
+use Rattle.era_state.specs.Changes.{WarmAfter, WarmOpens, WarmCalled}
+use Rattle.era_state.proofs.Pushes.{or_none, or_kept}
+use Rattle.era_state.proofs.Steps.{base_push, iss_push, out_push, out_fin_push, acked_push, opened_push, edge_push, top_push, end_push}
+use Rattle.era_state.proofs.Shifts.{syns_push, shift_same}
+use Rattle.era_state.proofs.Inwards.{no_end}
+use Rattle.era_state.proofs.Untouched.{untouched_none}
+
+true_or : (a b : Bool) → a ≡ true → (a || b) ≡ true
+true_or true b e = refl
+true_or false b e = cc
+
+-- an outbound segment
+pub warm_sent : (s : Seg) (octets : List ℕ) (old new : Warm) (ws : List Written) → WarmAfter (sent s octets) old new → WarmFor old ws → WarmFor new (ws ++ sent s octets ∷ [])
+warm_sent s octets old new ws t h = record {
+  base_is = base_push ws w ∙ or_kept (base_of ws) (fixes w) old.base h.base_is ∙ ap (λ n. Some n) (sym t.base_is);
+  opened = ap (λ b. is_opened b (ws ++ w ∷ [])) t.base_is ∙ opened_push old.base ws w ∙ true_or (is_opened old.base ws) (is_some (ack_of old.base (acked old.base ws) w)) h.opened;
+  iss_is = t.iss_is ∙ ap (λ o. iss_after o w) h.iss_is ∙ sym (iss_push ws w);
+  out_is = out_push ws w ∙ ap (λ n. Some n) (sym t.out_is);
+  syns_are = syns_push w old.syns new.syns ws t.syns_are h.syns_are;
+  acked_is = t.acked_is ∙ ap (λ a. max a (number_in (ack_of old.base a w))) h.acked_is ∙ sym (acked_push old.base ws w) ∙ ap (λ b. acked b (ws ++ w ∷ [])) (sym t.base_is);
+  edge_is = t.edge_is ∙ (λ i. max (h.edge_is i) (edge_place (ack_of old.base (h.acked_is i) w) (shift_same old.syns ws h.syns_are i) w)) ∙ sym (edge_push old.base ws w) ∙ ap (λ b. edge b (ws ++ w ∷ [])) (sym t.base_is);
+  top_is = t.top_is ∙ h.top_is ∙ sym (top_push old.base ws w ∙ max-zero (top old.base ws)) ∙ ap (λ b. top b (ws ++ w ∷ [])) (sym t.base_is);
+  end_is = ap whole t.end_is ∙ h.end_is ∙ sym (end_push old.base ws w ∙ or_none (end_of old.base ws)) ∙ ap (λ b. end_of b (ws ++ w ∷ [])) (sym t.base_is);
+  out_fin_is = t.out_fin_is ∙ ap (λ b. b || tcp.has_fin w.flags) h.out_fin_is ∙ sym (out_fin_push ws w);
+}
+  where
+    w : Written
+    w = sent s octets
+
+-- an inbound SYN
+pub warm_came : (s : Seg) (old new : Warm) (ws : List Written) → tcp.has_fin s.flags.0 ≡ false → WarmCalled (came s) old new → WarmFor old ws → WarmFor new (ws ++ came s ∷ [])
+warm_came s old new ws endless t h = record {
+  base_is = base_push ws w ∙ or_kept (base_of ws) (fixes w) old.base h.base_is ∙ ap (λ n. Some n) (sym t.base_is);
+  opened = ap (λ b. is_opened b (ws ++ w ∷ [])) t.base_is ∙ opened_push old.base ws w ∙ or-false (is_opened old.base ws) ∙ h.opened;
+  iss_is = t.iss_is ∙ h.iss_is ∙ sym (iss_push ws w ∙ or_none (iss ws));
+  out_is = out_push ws w ∙ h.out_is ∙ ap (λ n. Some n) (sym t.out_is);
+  syns_are = syns_push w old.syns new.syns ws t.syns_are h.syns_are;
+  acked_is = t.acked_is ∙ h.acked_is ∙ sym (acked_push old.base ws w ∙ max-zero (acked old.base ws)) ∙ ap (λ b. acked b (ws ++ w ∷ [])) (sym t.base_is);
+  edge_is = t.edge_is ∙ h.edge_is ∙ sym (edge_push old.base ws w ∙ max-zero (edge old.base ws)) ∙ ap (λ b. edge b (ws ++ w ∷ [])) (sym t.base_is);
+  top_is = t.top_is ∙ h.top_is ∙ sym (top_push old.base ws w ∙ max-zero (top old.base ws)) ∙ ap (λ b. top b (ws ++ w ∷ [])) (sym t.base_is);
+  end_is = ap whole t.end_is ∙ h.end_is ∙ sym (end_push old.base ws w ∙ ap (option_or (end_of old.base ws)) (no_end old.base (acked old.base ws) w endless) ∙ or_none (end_of old.base ws)) ∙ ap (λ b. end_of b (ws ++ w ∷ [])) (sym t.base_is);
+  out_fin_is = t.out_fin_is ∙ h.out_fin_is ∙ sym (out_fin_push ws w ∙ or-false (out_fin ws));
+}
+  where
+    w : Written
+    w = came s
+
+-- the first outbound segment that acknowledges a place
+warm_opens : (base : ℕ) (old_iss : Option ℕ) (syns : Syns) (fin : Bool) (place : ℕ) (s : Seg) (octets : List ℕ) (new : Warm) (ws : List Written) → WarmOpens base old_iss syns fin place (sent s octets) new → base_of (ws ++ sent s octets ∷ []) ≡ Some base → Untouched base ws → ack_of base 0 (sent s octets) ≡ Some place → old_iss ≡ iss ws → SynsFor syns ws → fin ≡ out_fin ws → WarmFor new (ws ++ sent s octets ∷ [])
+warm_opens base old_iss syns fin place s octets new ws t based h acks first have finned = record {
+  base_is = based ∙ ap (λ n. Some n) (sym t.base_is);
+  opened = ap (λ b. is_opened b (ws ++ w ∷ [])) t.base_is ∙ opened_push base ws w ∙ (λ i. h.unopened i || is_some (place_is i));
+  iss_is = t.iss_is ∙ ap (λ o. iss_after o w) first ∙ sym (iss_push ws w);
+  out_is = out_push ws w ∙ ap (λ n. Some n) (sym t.out_is);
+  syns_are = syns_push w syns new.syns ws t.syns_are have;
+  acked_is = t.acked_is ∙ sym (acked_push base ws w ∙ (λ i. max (h.acked_is i) (number_in (place_is i))) ∙ zero-max place) ∙ ap (λ b. acked b (ws ++ w ∷ [])) (sym t.base_is);
+  edge_is = t.edge_is ∙ (λ i. edge_place (Some place) (shift_same syns ws have i) w) ∙ sym (edge_push base ws w ∙ (λ i. max (h.edge_is i) (edge_place (place_is i) (shift ws) w)) ∙ zero-max (edge_place (Some place) (shift ws) w)) ∙ ap (λ b. edge b (ws ++ w ∷ [])) (sym t.base_is);
+  top_is = t.top_is ∙ sym (top_push base ws w ∙ ap (λ n. max n 0) h.top_is) ∙ ap (λ b. top b (ws ++ w ∷ [])) (sym t.base_is);
+  end_is = ap whole t.end_is ∙ sym (end_push base ws w ∙ ap (λ o. option_or o None) h.end_is) ∙ ap (λ b. end_of b (ws ++ w ∷ [])) (sym t.base_is);
+  out_fin_is = t.out_fin_is ∙ ap (λ b. b || tcp.has_fin w.flags) finned ∙ sym (out_fin_push ws w);
+}
+  where
+    w : Written
+    w = sent s octets
+
+    place_is : ack_of base (acked base ws) (sent s octets) ≡ Some place
+    place_is = ap (λ a. ack_of base a (sent s octets)) h.acked_is ∙ acks
+
+-- a number is at the place 0 of the base that it fixes
+own_ack : (s : Seg) (octets : List ℕ) → s.ack < 2 ^ 32 → tcp.has_ack s.flags.0 ≡ true → ack_of s.ack 0 (sent s octets) ≡ Some 0
+own_ack s octets small answers = rw answers (ap natural own_place)
+  where
+    own_place : off s.ack 0 s.ack ≡ pos 0
+    own_place = let e : turn_past (s.ack + 0) s.ack ≡ 0 = omega arith in rw e refl
+
+-- of an era that called
+pub called_opens : (s : Seg) (octets : List ℕ) (old : Called) (new : Warm) (ws : List Written) → s.ack < 2 ^ 32 → tcp.has_ack s.flags.0 ≡ true → tcp.has_rst s.flags.0 ≡ false → WarmOpens s.ack (Some old.iss) old.syns false 0 (sent s octets) new → CalledFor old ws → WarmFor new (ws ++ sent s octets ∷ [])
+called_opens s octets old new ws small answers lives t h =
+    warm_opens s.ack (Some old.iss) old.syns false 0 s octets new ws t
+    (base_push ws (sent s octets) ∙ (λ i. option_or (h.unbased i) (if answers i && not (lives i) then Some s.ack else None)))
+    (h.untouched s.ack) (own_ack s octets small answers) (sym h.iss_is) h.syns_are (sym h.unfinished)
+
+-- of an era that was offered
+pub offered_opens : (s : Seg) (octets : List ℕ) (old : Offered) (new : Warm) (place : ℕ) (ws : List Written) → ack_of old.base 0 (sent s octets) ≡ Some place → WarmOpens old.base old.iss old.syns old.out_fin place (sent s octets) new → OfferedFor old ws → WarmFor new (ws ++ sent s octets ∷ [])
+offered_opens s octets old new place ws acks t h =
+    warm_opens old.base old.iss old.syns old.out_fin place s octets new ws t
+    (base_push ws (sent s octets) ∙ or_kept (base_of ws) (fixes (sent s octets)) old.base h.base_is)
+    h.untouched acks h.iss_is h.syns_are h.out_fin_is
+
+-- of no era
+pub begins_warm : (s : Seg) (octets : List ℕ) (none : Syns) (new : Warm) → s.ack < 2 ^ 32 → tcp.has_ack s.flags.0 ≡ true → tcp.has_rst s.flags.0 ≡ false → SynsFor none [] → WarmOpens s.ack None none false 0 (sent s octets) new → WarmFor new (sent s octets ∷ [])
+begins_warm s octets none new small answers lives have t =
+    warm_opens s.ack None none false 0 s octets new [] t
+    (λ i. option_or (if answers i && not (lives i) then Some s.ack else None) None)
+    (untouched_none s.ack) (own_ack s octets small answers) refl have refl

@@ -1,0 +1,5 @@
+use Rattle.era_state.proofs.Forwards.{fin_stands_at_end}
+use Rattle.era_state.proofs.laws.fin_stands_at_end.Goals as goal
+
+pub returns : goal.returns
+returns c = fin_stands_at_end

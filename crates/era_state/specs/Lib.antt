@@ -1,0 +1,17 @@
+pub mod Words
+pub mod Offsets
+pub mod Marks
+pub mod Quantities
+pub mod States
+pub mod Keeping
+pub mod Rules
+pub mod Raised
+pub mod Read
+pub mod Scales
+pub mod Intervals
+pub mod Standing
+pub mod Changes
+pub mod Frames
+pub mod Eras
+pub mod Silence
+pub mod Laws

@@ -1,0 +1,72 @@
+-- What one written segment says for the quantities of its era. The stream is what comes inwards; its base and what was acknowledged before the segment are arguments.
+use Rattle.std.specs.Prelude.{ℕ, ◌+◌, ◌*◌, ◌%◌, ◌^◌, ◌&&◌, not, Bool, true, false, List, length, ℤ, pos, ◌+ℤ◌, ◌-ℤ◌, Option, Some, None, slice_get, nat_lt, if◌then◌else◌}
+use Rattle.std.specs.Option.{option_or}
+use Rattle.wire_base.specs.Tcp as tcp
+use Rattle.wire_base.specs.Segments.{Written}
+use Rattle.era_state.specs.Offsets.{off, seen_from, natural, nat_of}
+
+-- it is an outbound segment with ACK
+abbrev pub acknowledges : Written → Bool
+acknowledges w = not w.inward && tcp.has_ack w.flags
+
+-- it is an outbound SYN
+abbrev pub is_outbound_syn : Written → Bool
+is_outbound_syn w = not w.inward && tcp.has_syn w.flags
+
+-- it is an inbound SYN
+abbrev pub is_inbound_syn : Written → Bool
+is_inbound_syn w = w.inward && tcp.has_syn w.flags
+
+-- it is an outbound FIN
+abbrev pub is_outbound_fin : Written → Bool
+is_outbound_fin w = not w.inward && tcp.has_fin w.flags
+
+-- it carries octets
+abbrev pub has_octets : Written → Bool
+has_octets w = nat_lt 0 (length w.octets)
+
+-- SYN and FIN take one sequence number each (RFC 9293 section 3.4)
+abbrev pub one_if : Bool → ℕ
+one_if true = 1
+one_if false = 0
+
+-- the sequence number behind its octets, its SYN and its FIN (RFC 9293 section 3.4)
+abbrev pub number_behind : Written → ℕ
+number_behind w = (w.seq + length w.octets + one_if (tcp.has_syn w.flags) + one_if (tcp.has_fin w.flags)) % 2 ^ 32
+
+-- the base that it fixes where none is fixed yet: an inbound SYN the number behind it, an outbound segment with ACK and without RST its acknowledgment
+abbrev pub fixes : Written → Option ℕ
+fixes w =
+    if w.inward
+    then (if tcp.has_syn w.flags then Some ((w.seq + 1) % 2 ^ 32) else None)
+    else (if tcp.has_ack w.flags && not (tcp.has_rst w.flags) then Some w.ack else None)
+
+-- the place of the stream that it acknowledges, and none below the stream's begin
+abbrev pub ack_of : (base acked : ℕ) → Written → Option ℕ
+ack_of base acked w = if acknowledges w then natural (off base (seen_from acked) w.ack) else None
+
+-- the place behind what its window allows, and 0 where it acknowledges no place; the window of a SYN is not scaled (RFC 7323 section 2.2)
+abbrev pub edge_place : Option ℕ → (shift : ℕ) → Written → ℕ
+edge_place None shift w = 0
+edge_place (Some place) shift w = place + w.window * (if tcp.has_syn w.flags then 1 else 2 ^ shift)
+
+-- the place behind the octets of an inward segment, and 0 where there are none
+abbrev pub top_place : (base acked : ℕ) → Written → ℕ
+top_place base acked w = if w.inward && has_octets w then nat_of (off base (seen_from acked) w.seq +ℤ pos (length w.octets)) else 0
+
+-- the octet at an index, if there is one
+abbrev pub get_at : List ℕ → Option ℕ → Option ℕ
+get_at octets None = None
+get_at octets (Some i) = slice_get octets i
+
+-- the octet that an inward segment has at an offset
+abbrev pub octet_at : (base acked : ℕ) → ℤ → Written → Option ℕ
+octet_at base acked offset w = if w.inward then get_at w.octets (natural (offset -ℤ off base (seen_from acked) w.seq)) else None
+
+-- the offset of an inward segment's FIN
+abbrev pub fin_place : (base acked : ℕ) → Written → Option ℤ
+fin_place base acked w = if w.inward && tcp.has_fin w.flags then Some (off base (seen_from acked) w.seq +ℤ pos (length w.octets)) else None
+
+-- the number of the first outbound SYN, with this segment after those that gave the old one
+abbrev pub iss_after : Option ℕ → Written → Option ℕ
+iss_after old w = option_or old (if is_outbound_syn w then Some w.seq else None)

@@ -1,0 +1,31 @@
+-- What the SYNs of an era say of its window scales (RFC 7323 section 2).
+use Rattle.std.specs.Prelude.{◌≡◌, ℕ, ◌&&◌, ◌||◌, max, min, Bool, List, Option, is_some, if◌then◌else◌}
+use Rattle.wire_base.specs.Segments.{Written}
+use Rattle.era_state.specs.declared.syns.Syns.{Syns}
+use Rattle.era_state.specs.Offsets.{number_in}
+use Rattle.era_state.specs.Marks.{is_outbound_syn, is_inbound_syn}
+use Rattle.era_state.specs.Quantities.{shift_with, out_seen, in_seen, in_scaled, out_scaled, out_scale}
+
+-- they are those of these segments
+pub record SynsFor (s : Syns) (ws : List Written) : Type 0 where
+  pub out_seen_is : s.out_seen ≡ out_seen ws
+  pub in_seen_is : s.in_seen ≡ in_seen ws
+  pub out_scaled_is : is_some s.out_scale ≡ out_scaled ws
+  pub in_scaled_is : s.in_scale ≡ in_scaled ws
+  pub out_scale_is : number_in s.out_scale ≡ out_scale ws
+
+-- they are the old ones and those of one more segment: whether it is an outbound or an inbound SYN, and its window scale
+pub record SynsWith (outbound inbound : Bool) (scale : Option ℕ) (old new : Syns) : Type 0 where
+  pub out_seen_is : new.out_seen ≡ (old.out_seen || outbound)
+  pub in_seen_is : new.in_seen ≡ (old.in_seen || inbound)
+  pub out_scaled_is : is_some new.out_scale ≡ (is_some old.out_scale || (outbound && is_some scale))
+  pub in_scaled_is : new.in_scale ≡ (old.in_scale || (inbound && is_some scale))
+  pub out_scale_is : number_in new.out_scale ≡ max (number_in old.out_scale) (min 14 (if outbound then number_in scale else 0))
+
+-- the same of a written segment
+abbrev pub SynsAfter : Written → Syns → Syns → Type 0
+SynsAfter w old new = SynsWith (is_outbound_syn w) (is_inbound_syn w) w.scale old new
+
+-- by how many bits they let windows be scaled
+abbrev pub shift_of : Syns → ℕ
+shift_of s = shift_with s.out_seen s.in_seen (is_some s.out_scale) s.in_scale (number_in s.out_scale)

@@ -1,0 +1,49 @@
+-- What the fields of an era say of the segments that were written of it.
+use Rattle.std.specs.Prelude.{◌≡◌, ℕ, Bool, true, false, List, Some, None}
+use Rattle.wire_base.specs.Segments.{Written}
+use Rattle.era_state.specs.declared.called.Called.{Called}
+use Rattle.era_state.specs.declared.offered.Offered.{Offered}
+use Rattle.era_state.specs.declared.warm.Warm.{Warm}
+use Rattle.era_state.specs.Offsets.{whole}
+use Rattle.era_state.specs.Quantities.{base_of, Untouched, is_opened, iss, out, out_fin, acked, edge, top, end_of, is_over}
+use Rattle.era_state.specs.Keeping.{Bounds}
+use Rattle.era_state.specs.Scales.{SynsFor}
+
+-- an era of which the inside called, and no base is fixed
+pub record CalledFor (e : Called) (ws : List Written) : Type 0 where
+  pub unbased : base_of ws ≡ None
+  pub untouched : (base : ℕ) → Untouched base ws
+  pub iss_is : iss ws ≡ Some e.iss
+  pub out_is : out ws ≡ Some e.out
+  pub syns_are : SynsFor e.syns ws
+  pub unfinished : out_fin ws ≡ false
+
+-- an era whose base is fixed, and of which no place is acknowledged
+pub record OfferedFor (e : Offered) (ws : List Written) : Type 0 where
+  pub base_is : base_of ws ≡ Some e.base
+  pub untouched : Untouched e.base ws
+  pub iss_is : e.iss ≡ iss ws
+  pub out_is : e.out ≡ out ws
+  pub syns_are : SynsFor e.syns ws
+  pub out_fin_is : e.out_fin ≡ out_fin ws
+
+-- an era of which a place is acknowledged
+pub record WarmFor (e : Warm) (ws : List Written) : Type 0 where
+  pub base_is : base_of ws ≡ Some e.base
+  pub opened : is_opened e.base ws ≡ true
+  pub iss_is : e.iss ≡ iss ws
+  pub out_is : out ws ≡ Some e.out
+  pub syns_are : SynsFor e.syns ws
+  pub acked_is : e.acked ≡ acked e.base ws
+  pub edge_is : e.edge ≡ edge e.base ws
+  pub top_is : e.top ≡ top e.base ws
+  pub end_is : whole e.end ≡ end_of e.base ws
+  pub out_fin_is : e.out_fin ≡ out_fin ws
+
+-- both sides have closed and the inbound FIN is acknowledged, by the fields
+abbrev pub is_over_in : Warm → Bool
+is_over_in e = is_over e.acked (whole e.end) e.out_fin
+
+-- what of its fields the interval depends on
+abbrev pub bounds_in : Warm → Bounds
+bounds_in e = record { acked = e.acked; edge = e.edge; top = e.top; end = whole e.end }

@@ -1,0 +1,65 @@
+//! An era of which the inside called.
+ghost use Rattle.std.specs.Prelude.{◌≡◌, ℕ, List, [], ◌∷◌, ◌++◌, length, true, false};
+ghost use Rattle.wire_base.specs.Segments.{Written};
+ghost use Rattle.wire_base.specs.Tcp as tcp;
+ghost use Rattle.era_state.specs.Read.{sent, came};
+
+use crate::offered::Offered;
+use crate::segment::{Seg, number_after};
+use crate::syns::Syns;
+
+/// The inside called, and no segment fixed the base yet: the number of its first SYN, the number behind the last segment that it sent, and
+/// its SYNs' scales.
+#[derive(Clone, Copy)]
+pub struct Called {
+    pub iss: u32,
+    pub out: u32,
+    pub syns: Syns,
+    ghost called: { syns.out_seen ≡ true },
+    ghost unanswered: { syns.in_seen ≡ false },
+}
+
+impl Called {
+    ghost use Rattle.era_state.specs.Standing.{CalledFor, OfferedFor};
+
+    /// The era that an outbound SYN without ACK begins.
+    pub fn call(seg: &Seg) -> Called
+        requires legal { tcp.are_legal seg.now.flags.0 ≡ true }
+        requires syn { tcp.has_syn seg.now.flags.0 ≡ true }
+        requires no_ack { tcp.has_ack seg.now.flags.0 ≡ false }
+        ensures stands { (octets : List ℕ) → length octets ≡ seg.now.len → CalledFor result (sent seg.now octets ∷ []) }
+    {
+        Called {
+            iss: seg.seq,
+            out: seg.behind(),
+            syns: Syns::none().sent(seg),
+        }
+    }
+
+    /// The era after an inbound SYN, which answers the call or calls at the same time.
+    pub fn answered(self, seg: &Seg) -> Offered
+        requires legal { tcp.are_legal seg.now.flags.0 ≡ true }
+        requires syn { tcp.has_syn seg.now.flags.0 ≡ true }
+        ensures stands { (ws : List Written) → CalledFor self ws → OfferedFor result (ws ++ came seg.now ∷ []) }
+    {
+        Offered {
+            base: number_after(seg.seq),
+            iss: Some(self.iss),
+            out: Some(self.out),
+            syns: self.syns.came(seg),
+            out_fin: false,
+        }
+    }
+
+    // The era after the inside called again.
+    pub(crate) fn again(mut self, seg: &Seg) -> Called
+        requires legal { tcp.are_legal seg.now.flags.0 ≡ true }
+        requires syn { tcp.has_syn seg.now.flags.0 ≡ true }
+        requires no_ack { tcp.has_ack seg.now.flags.0 ≡ false }
+        ensures stands { (ws : List Written) (octets : List ℕ) → length octets ≡ seg.now.len → CalledFor self ws → CalledFor result (ws ++ sent seg.now octets ∷ []) }
+    {
+        self.out = seg.behind();
+        self.syns = self.syns.sent(seg);
+        self
+    }
+}

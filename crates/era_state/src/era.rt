@@ -1,0 +1,301 @@
+//! An era, and where segments take it.
+ghost use Rattle.std.specs.Prelude.{◌≡◌, ℕ, ◌+◌, ◌^◌, ◌<◌, List, [], ◌∷◌, ◌++◌, length, true, false};
+ghost use Rattle.wire_base.specs.Segments.{Written};
+ghost use Rattle.wire_base.specs.Tcp as tcp;
+ghost use Rattle.era_state.specs.Offsets.{off, seen_from};
+ghost use Rattle.era_state.specs.Read.{sent, came};
+ghost use Rattle.era_state.specs.Rules.{is_awaited, follows, precedes};
+ghost use Rattle.era_state.specs.Standing.{CalledFor, OfferedFor, WarmFor, is_over_in};
+
+use crate::called::Called;
+use crate::offered::Offered;
+use crate::offset::Offset;
+use crate::segment::{Seg, number_after};
+use crate::warm::Warm;
+
+/// Both sides have closed, and the inbound FIN is acknowledged.
+#[derive(Clone, Copy)]
+pub struct Closed {
+    pub last: Warm,
+    ghost over: { is_over_in last ≡ true },
+}
+
+/// The four states of an era.
+#[derive(Clone, Copy)]
+pub enum Era {
+    Called(Called),
+    Offered(Offered),
+    Warm(Warm),
+    Closed(Closed),
+}
+
+/// Where an outbound segment takes an era: on, or to its end, with or without a new one.
+#[derive(Clone, Copy)]
+pub enum Moved {
+    Next(Era),
+    Reopen,
+    Reset,
+}
+
+// The sequence number lies between what is acknowledged and what comes next.
+fn is_awaited(base: u32, acked: u64, next: u64, sequence: u32) -> bool
+    requires acked { acked < 2 ^ 63 }
+    requires next { next < 2 ^ 63 }
+    ensures { result ≡ is_awaited base acked next sequence }
+{
+    let place = Offset::of(base, acked, sequence);
+    let below = place.is_below(acked);
+    let above = place.is_above(next);
+    !below && !above
+}
+
+// The number is the one behind the call, if there is one.
+fn follows(call: Option<u32>, number: u32) -> bool
+    ensures { result ≡ follows call number }
+{
+    match call {
+        None => false,
+        Some(call) => number == number_after(call),
+    }
+}
+
+// The sequence number is the one before the base, if one is fixed.
+fn precedes(base: Option<u32>, sequence: u32) -> bool
+    ensures { result ≡ precedes base sequence }
+{
+    match base {
+        None => false,
+        Some(base) => number_after(sequence) == base,
+    }
+}
+
+impl Era {
+    ghost use Rattle.era_state.specs.Rules.{reopens_outward_at, reopens_inward, t_state, t_syn, takes_reset, t_rst};
+    ghost use Rattle.era_state.specs.States.{is_called, is_offered, is_closed};
+    ghost use Rattle.era_state.specs.Eras.{StandsFor, MovesTo, MovesNear, NextIs, state_in, base_in, iss_in, acked_in};
+
+    /// The era in the state Warm or Closed.
+    pub fn settled(last: Warm) -> Era
+        ensures stands { (ws : List Written) → WarmFor last ws → StandsFor result ws }
+        ensures same { acked_in result ≡ last.acked }
+    {
+        if last.is_over() {
+            Era::Closed(Closed { last })
+        } else {
+            Era::Warm(last)
+        }
+    }
+
+    // An outbound segment of a Called era.
+    fn called_goes_on(era: Called, seg: &Seg) -> Era
+        requires legal { tcp.are_legal seg.now.flags.0 ≡ true }
+        requires no_rst { tcp.has_rst seg.now.flags.0 ≡ false }
+        ensures stands { (ws : List Written) (octets : List ℕ) → length octets ≡ seg.now.len → CalledFor era ws → StandsFor result (ws ++ sent seg.now octets ∷ []) }
+        ensures near { acked_in result < 2 ^ 31 }
+    {
+        if seg.flags.ack() {
+            Era::settled(Warm::open(seg.ack, Some(era.iss), era.syns, false, 0, seg))
+        } else {
+            Era::Called(era.again(seg))
+        }
+    }
+
+    // An outbound segment of an Offered era.
+    fn offered_goes_on(era: Offered, seg: &Seg) -> Era
+        requires legal { tcp.are_legal seg.now.flags.0 ≡ true }
+        requires no_rst { tcp.has_rst seg.now.flags.0 ≡ false }
+        ensures stands { (ws : List Written) (octets : List ℕ) → length octets ≡ seg.now.len → OfferedFor era ws → StandsFor result (ws ++ sent seg.now octets ∷ []) }
+        ensures near { acked_in result < 2 ^ 31 }
+    {
+        match seg.acknowledged(era.base, 0) {
+            Some(place) => Era::settled(Warm::open(
+                era.base,
+                era.iss,
+                era.syns,
+                era.out_fin,
+                place,
+                seg,
+            )),
+            None => Era::Offered(era.sent(seg)),
+        }
+    }
+
+    // An outbound segment of a Warm or Closed era.
+    fn warm_goes_on(era: Warm, seg: &Seg) -> Era
+        ensures stands { (ws : List Written) (octets : List ℕ) → length octets ≡ seg.now.len → WarmFor era ws → StandsFor result (ws ++ sent seg.now octets ∷ []) }
+        ensures near { acked_in result < era.acked + 2 ^ 31 }
+    {
+        Era::settled(era.sent(seg))
+    }
+
+    // An outbound segment that neither ends nor reopens the era.
+    fn goes_on(self, seg: &Seg) -> Era
+        requires legal { tcp.are_legal seg.now.flags.0 ≡ true }
+        requires no_rst { tcp.has_rst seg.now.flags.0 ≡ false }
+        ensures stands { (ws : List Written) (octets : List ℕ) → length octets ≡ seg.now.len → StandsFor self ws → StandsFor result (ws ++ sent seg.now octets ∷ []) }
+        ensures near { acked_in result < acked_in self + 2 ^ 31 }
+    {
+        match self {
+            Era::Called(era) => Era::called_goes_on(era, seg),
+            Era::Offered(era) => Era::offered_goes_on(era, seg),
+            Era::Warm(era) => Era::warm_goes_on(era, seg),
+            Era::Closed(era) => Era::warm_goes_on(era.last, seg),
+        }
+    }
+
+    /// Where an outbound segment takes the era.
+    pub fn outbound(self, seg: &Seg) -> Moved
+        requires legal { tcp.are_legal seg.now.flags.0 ≡ true }
+        ensures moves { (ws : List Written) → StandsFor self ws → MovesTo ws seg.now result }
+        ensures near { MovesNear self result }
+    {
+        if seg.flags.rst() {
+            return Moved::Reset;
+        }
+        if self.calls_anew(seg) {
+            return Moved::Reopen;
+        }
+        Moved::Next(self.goes_on(seg))
+    }
+
+    /// The era after an inbound SYN that passed.
+    pub fn seen_syn(self, seg: &Seg) -> Era
+        requires legal { tcp.are_legal seg.now.flags.0 ≡ true }
+        requires syn { tcp.has_syn seg.now.flags.0 ≡ true }
+        ensures stands { (ws : List Written) → StandsFor self ws → StandsFor result (ws ++ came seg.now ∷ []) }
+        ensures same { acked_in result ≡ acked_in self }
+    {
+        match self {
+            Era::Called(era) => Era::Offered(era.answered(seg)),
+            Era::Offered(era) => Era::Offered(era.came(seg)),
+            Era::Warm(era) => Era::settled(era.came(seg)),
+            Era::Closed(era) => Era::settled(era.last.came(seg)),
+        }
+    }
+
+    /// The place behind all that is acknowledged, was written inwards, or is the end; and none where no base is fixed.
+    pub fn next_place(&self) -> Option<u64>
+        ensures { (ws : List Written) → StandsFor self.now ws → NextIs result ws }
+    {
+        match self {
+            Era::Called(_) => None,
+            Era::Offered(_) => Some(0),
+            Era::Warm(era) => Some(era.next()),
+            Era::Closed(era) => Some(era.last.next()),
+        }
+    }
+
+    fn is_called(&self) -> bool
+        ensures { result ≡ is_called (state_in self.now) }
+    {
+        matches!(self, Era::Called(_))
+    }
+
+    fn is_offered(&self) -> bool
+        ensures { result ≡ is_offered (state_in self.now) }
+    {
+        matches!(self, Era::Offered(_))
+    }
+
+    fn is_closed(&self) -> bool
+        ensures { result ≡ is_closed (state_in self.now) }
+    {
+        matches!(self, Era::Closed(_))
+    }
+
+    fn base(&self) -> Option<u32>
+        ensures { result ≡ base_in self.now }
+    {
+        match self {
+            Era::Called(_) => None,
+            Era::Offered(era) => Some(era.base),
+            Era::Warm(era) => Some(era.base),
+            Era::Closed(era) => Some(era.last.base),
+        }
+    }
+
+    fn first_call(&self) -> Option<u32>
+        ensures { result ≡ iss_in self.now }
+    {
+        match self {
+            Era::Called(era) => Some(era.iss),
+            Era::Offered(era) => era.iss,
+            Era::Warm(era) => era.iss,
+            Era::Closed(era) => era.last.iss,
+        }
+    }
+
+    // An outbound segment is another call than the era's.
+    fn calls_anew(&self, seg: &Seg) -> bool
+        ensures { result ≡ reopens_outward_at (state_in self.now) (iss_in self.now) (sent seg.now []) }
+    {
+        if !seg.flags.syn() {
+            return false;
+        }
+        match self.first_call() {
+            None => !self.is_offered(),
+            Some(iss) => iss != seg.seq,
+        }
+    }
+
+    /// An inbound segment ends the era and begins a new one.
+    pub fn is_reopened_by(&self, seg: &Seg) -> bool
+        requires { tcp.are_legal seg.now.flags.0 ≡ true }
+        ensures { (ws : List Written) → StandsFor self.now ws → result ≡ reopens_inward ws (came seg.now) }
+    {
+        let closed = self.is_closed();
+        let syn = seg.flags.syn();
+        let ack = seg.flags.ack();
+        let again = precedes(self.base(), seg.seq);
+        closed && (syn && !ack) && !again
+    }
+
+    /// The rule T_STATE holds of an inbound segment.
+    pub fn is_early(&self, seg: &Seg) -> bool
+        requires { tcp.are_legal seg.now.flags.0 ≡ true }
+        ensures { (ws : List Written) → StandsFor self.now ws → result ≡ t_state ws (came seg.now) }
+    {
+        let called = self.is_called();
+        let offered = self.is_offered();
+        let rst = seg.flags.rst();
+        let syn = seg.flags.syn();
+        let ack = seg.flags.ack();
+        let answers = follows(self.first_call(), seg.ack);
+        !rst && (called && (!syn || ack && !answers) || offered && !syn)
+    }
+
+    /// The rule T_SYN holds of an inbound segment.
+    pub fn is_stray_syn(&self, seg: &Seg) -> bool
+        requires { tcp.are_legal seg.now.flags.0 ≡ true }
+        ensures { (ws : List Written) → StandsFor self.now ws → result ≡ t_syn ws (came seg.now) }
+    {
+        let called = self.is_called();
+        let closed = self.is_closed();
+        let syn = seg.flags.syn();
+        let ack = seg.flags.ack();
+        let again = precedes(self.base(), seg.seq);
+        syn && !again && !called && (!closed || ack)
+    }
+
+    // A reset answers the call, or is awaited.
+    fn takes_reset(&self, seg: &Seg) -> bool
+        ensures { (ws : List Written) → StandsFor self.now ws → result ≡ takes_reset ws (came seg.now) }
+    {
+        match self {
+            Era::Called(era) => seg.flags.ack() & follows(Some(era.iss), seg.ack),
+            Era::Offered(era) => is_awaited(era.base, 0, 0, seg.seq),
+            Era::Warm(era) => is_awaited(era.base, era.acked, era.next(), seg.seq),
+            Era::Closed(era) => is_awaited(era.last.base, era.last.acked, era.last.next(), seg.seq),
+        }
+    }
+
+    /// The rule T_RST holds of an inbound segment.
+    pub fn is_stray_reset(&self, seg: &Seg) -> bool
+        requires { tcp.are_legal seg.now.flags.0 ≡ true }
+        ensures { (ws : List Written) → StandsFor self.now ws → result ≡ t_rst ws (came seg.now) }
+    {
+        let rst = seg.flags.rst();
+        let takes = self.takes_reset(seg);
+        rst && !takes
+    }
+}

@@ -1,0 +1,63 @@
+//! An era of which the outside called.
+ghost use Rattle.std.specs.Prelude.{◌≡◌, ℕ, List, [], ◌∷◌, ◌++◌, length, None, is_some, true, false};
+ghost use Rattle.wire_base.specs.Segments.{Written};
+ghost use Rattle.wire_base.specs.Tcp as tcp;
+ghost use Rattle.era_state.specs.Marks.{ack_of};
+ghost use Rattle.era_state.specs.Read.{sent, came};
+
+use crate::segment::{Seg, number_after};
+use crate::syns::Syns;
+
+/// The outside called, and no place of its stream is acknowledged: the number of the stream's first octet, the number of the first outbound SYN
+/// and the number behind the last outbound segment where there are any, the SYNs' scales, and whether an outbound FIN was written.
+#[derive(Clone, Copy)]
+pub struct Offered {
+    pub base: u32,
+    pub iss: Option<u32>,
+    pub out: Option<u32>,
+    pub syns: Syns,
+    pub out_fin: bool,
+    ghost called: { syns.in_seen ≡ true },
+    ghost answered: { is_some iss ≡ syns.out_seen },
+}
+
+impl Offered {
+    ghost use Rattle.era_state.specs.Standing.{OfferedFor};
+
+    /// The era that an inbound SYN without ACK begins.
+    pub fn offer(seg: &Seg) -> Offered
+        requires legal { tcp.are_legal seg.now.flags.0 ≡ true }
+        requires syn { tcp.has_syn seg.now.flags.0 ≡ true }
+        requires no_ack { tcp.has_ack seg.now.flags.0 ≡ false }
+        ensures stands { OfferedFor result (came seg.now ∷ []) }
+    {
+        Offered {
+            base: number_after(seg.seq),
+            iss: None,
+            out: None,
+            syns: Syns::none().came(seg),
+            out_fin: false,
+        }
+    }
+
+    // The era after the outside called again.
+    pub(crate) fn came(mut self, seg: &Seg) -> Offered
+        requires legal { tcp.are_legal seg.now.flags.0 ≡ true }
+        requires syn { tcp.has_syn seg.now.flags.0 ≡ true }
+        ensures stands { (ws : List Written) → OfferedFor self ws → OfferedFor result (ws ++ came seg.now ∷ []) }
+    {
+        self.syns = self.syns.came(seg);
+        self
+    }
+
+    // The era after an outbound segment that acknowledges no place of the stream.
+    pub(crate) fn sent(mut self, seg: &Seg) -> Offered
+        ensures stands { (ws : List Written) (octets : List ℕ) → length octets ≡ seg.now.len → ack_of self.base 0 (sent seg.now []) ≡ None → OfferedFor self ws → OfferedFor result (ws ++ sent seg.now octets ∷ []) }
+    {
+        self.iss = seg.first_call(self.iss);
+        self.out = Some(seg.behind());
+        self.syns = self.syns.sent(seg);
+        self.out_fin |= seg.flags.fin();
+        self
+    }
+}

@@ -1,0 +1,110 @@
+//! Sequence numbers as offsets of a stream.
+ghost use Rattle.std.specs.Prelude.{◌≡◌, ℕ, ◌+◌, ◌^◌, ◌<◌, ◌≤◌, pos, int_lt, ◌+ℤ◌, ◌≤ℤ◌, Some};
+ghost use Rattle.std.specs.Ordering.{int_eq};
+ghost use Rattle.era_state.specs.Offsets.{off, seen_from, natural, nat_of};
+
+/// Half a turn of sequence numbers.
+pub(crate) const HALF: u64 = 2147483648;
+
+/// One turn of sequence numbers.
+pub(crate) const TURN: u64 = 4294967296;
+
+// The offset of a sequence number in a stream, which may lie below 0: it is counted from half a turn below 0.
+#[derive(Clone, Copy)]
+pub(crate) struct Offset {
+    raised: u64,
+}
+
+// The place from which numbers are read, where so much is acknowledged: the begin, since a stream has at most half a turn.
+fn seen_from(_acked: u64) -> u64
+    ensures { result ≡ seen_from _acked }
+{
+    0
+}
+
+impl Offset {
+    ghost use Rattle.era_state.specs.Raised.{offset_in};
+
+    // The offset of a number, where so much is acknowledged.
+    pub(crate) fn of(base: u32, acked: u64, number: u32) -> Offset
+        requires { acked < 2 ^ 63 }
+        ensures value { offset_in result ≡ off base (seen_from acked) number }
+        ensures near { result.raised < seen_from acked + 2 ^ 32 }
+    {
+        let at = seen_from(acked);
+        let from = (u64::from(base) + at) % TURN;
+        let past = (u64::from(number) + TURN - from) % TURN;
+        if past < HALF {
+            Offset {
+                raised: at + past + HALF,
+            }
+        } else {
+            Offset {
+                raised: at + past - HALF,
+            }
+        }
+    }
+
+    // The offset so many octets further.
+    pub(crate) fn after(self, octets: u32) -> Offset
+        requires { self.raised < 2 ^ 63 + 2 ^ 32 }
+        ensures value { offset_in result ≡ offset_in self +ℤ pos octets }
+        ensures near { result.raised ≡ self.raised + octets }
+    {
+        Offset {
+            raised: self.raised + u64::from(octets),
+        }
+    }
+
+    // The offset as a place of the stream, and none where it is below 0.
+    pub(crate) fn place(self) -> Option<u64>
+        ensures value { result ≡ natural (offset_in self) }
+        ensures near { (place : ℕ) → result ≡ Some place → place + 2 ^ 31 ≤ self.raised }
+    {
+        if self.raised < HALF {
+            None
+        } else {
+            Some(self.raised - HALF)
+        }
+    }
+
+    // The offset, and 0 in place of one below 0.
+    pub(crate) fn or_zero(self) -> u64
+        ensures { result ≡ nat_of (offset_in self) }
+    {
+        self.raised.saturating_sub(HALF)
+    }
+
+    // How many octets it is to a place that does not lie below.
+    pub(crate) fn octets_to(self, place: u64) -> u64
+        requires near { place < 2 ^ 63 }
+        requires order { offset_in self ≤ℤ pos place }
+        ensures { offset_in self +ℤ pos result ≡ pos place }
+    {
+        place + HALF - self.raised
+    }
+
+    // It lies below the place.
+    pub(crate) fn is_below(self, place: u64) -> bool
+        requires { place < 2 ^ 63 }
+        ensures { result ≡ int_lt (offset_in self) (pos place) }
+    {
+        self.raised < place + HALF
+    }
+
+    // It lies above the place.
+    pub(crate) fn is_above(self, place: u64) -> bool
+        requires { place < 2 ^ 63 }
+        ensures { result ≡ int_lt (pos place) (offset_in self) }
+    {
+        place + HALF < self.raised
+    }
+
+    // It is the place.
+    pub(crate) fn is_at(self, place: u64) -> bool
+        requires { place < 2 ^ 63 }
+        ensures { result ≡ int_eq (offset_in self) (pos place) }
+    {
+        self.raised == place + HALF
+    }
+}

@@ -1,0 +1,84 @@
+//! What an era is asked about one segment.
+ghost use Rattle.std.specs.Prelude.{◌≡◌, ℕ, ◌+◌, ◌*◌, ◌%◌, ◌^◌, ◌<◌, ◌≤◌, List, [], length, Some};
+
+use crate::offset::{Offset, TURN};
+use wire_base::Flags;
+
+/// A segment's sequence number, acknowledgment, octets of payload, window, flags, and the shift of its window scale option, if it has one
+/// (RFC 9293 section 3.1, RFC 7323 section 2.2).
+#[derive(Clone, Copy, Debug, PartialEq, Eq)]
+pub struct Seg {
+    pub seq: u32,
+    pub ack: u32,
+    pub len: u32,
+    pub window: u16,
+    pub flags: Flags,
+    pub scale: Option<u8>,
+}
+
+// The sequence number behind this one.
+pub(crate) fn number_after(number: u32) -> u32
+    ensures { result ≡ (number + 1) % 2 ^ 32 }
+{
+    ((u64::from(number) + 1) % TURN) as u32
+}
+
+impl Seg {
+    ghost use Rattle.era_state.specs.Marks.{number_behind, ack_of, edge_place, iss_after};
+    ghost use Rattle.era_state.specs.Read.{sent};
+
+    // The sequence number behind the segment's octets, SYN and FIN.
+    pub(crate) fn behind(&self) -> u32
+        ensures { (octets : List ℕ) → length octets ≡ self.now.len → result ≡ number_behind (sent self.now octets) }
+    {
+        let octets = u64::from(self.seq) + u64::from(self.len);
+        let syn = u64::from(self.flags.syn());
+        let fin = u64::from(self.flags.fin());
+        ((octets + syn + fin) % TURN) as u32
+    }
+
+    // The place of the stream that it acknowledges, sent outwards.
+    pub(crate) fn acknowledged(&self, base: u32, acked: u64) -> Option<u64>
+        requires { acked < 2 ^ 31 }
+        ensures value { result ≡ ack_of base acked (sent self.now []) }
+        ensures near { (place : ℕ) → result ≡ Some place → place < 2 ^ 31 }
+    {
+        if self.flags.ack() {
+            Offset::of(base, acked, self.ack).place()
+        } else {
+            None
+        }
+    }
+
+    // The place behind what its window allows, where it acknowledges this place.
+    pub(crate) fn allowed(&self, place: u64, shift: u8) -> u64
+        requires place { place < 2 ^ 63 }
+        requires shift { shift ≤ 14 }
+        ensures value { result ≡ edge_place (Some place) shift (sent self.now []) }
+        ensures above { place ≤ result }
+        ensures near { result ≤ place + 65535 * 2 ^ 14 }
+    {
+        let window = u64::from(self.window);
+        if self.flags.syn() {
+            place + window
+        } else {
+            place + (window << shift)
+        }
+    }
+
+    // The number of the first outbound call, with this segment sent.
+    pub(crate) fn first_call(&self, old: Option<u32>) -> Option<u32>
+        ensures { result ≡ iss_after old (sent self.now []) }
+    {
+        match old {
+            Some(iss) => Some(iss),
+            None => {
+                if self.flags.syn() {
+                    Some(self.seq)
+                } else {
+                    None
+                }
+            }
+        }
+    }
+}

@@ -1,0 +1,95 @@
+//! The window scales of an era's SYNs.
+ghost use Rattle.std.specs.Prelude.{◌≡◌, ℕ, ◌≤◌, Some, List, [], ◌||◌, max, min, is_some, true};
+ghost use Rattle.era_state.specs.Offsets.{number_in};
+
+use crate::segment::Seg;
+
+/// Which SYNs were written, and which of them with a window scale: outbound with the greatest shift, at most 14, inbound with any
+/// (RFC 7323 section 2).
+#[derive(Clone, Copy)]
+pub struct Syns {
+    pub out_seen: bool,
+    pub out_scale: Option<u8>,
+    pub in_seen: bool,
+    pub in_scale: bool,
+    ghost out_scaled: { is_some out_scale ≡ true → out_seen ≡ true },
+    ghost in_scaled: { in_scale ≡ true → in_seen ≡ true },
+    ghost small: { (shift : ℕ) → out_scale ≡ Some shift → shift ≤ 14 },
+}
+
+/// The greatest shift (RFC 7323 section 2.3).
+const MOST: u8 = 14;
+
+// The greater shift, at most 14.
+fn greater(old: Option<u8>, new: Option<u8>) -> Option<u8>
+    requires { (shift : ℕ) → old ≡ Some shift → shift ≤ 14 }
+    ensures some { is_some result ≡ (is_some old || is_some new) }
+    ensures number { number_in result ≡ max (number_in old) (min 14 (number_in new)) }
+    ensures small { (shift : ℕ) → result ≡ Some shift → shift ≤ 14 }
+{
+    match (old, new) {
+        (None, None) => None,
+        (Some(old), None) => Some(old),
+        (None, Some(new)) => Some(new.min(MOST)),
+        (Some(old), Some(new)) => Some(old.max(new.min(MOST))),
+    }
+}
+
+impl Syns {
+    ghost use Rattle.era_state.specs.Read.{sent, came};
+    ghost use Rattle.era_state.specs.Scales.{SynsFor, SynsAfter, shift_of};
+
+    // None were written.
+    pub(crate) fn none() -> Syns
+        ensures { SynsFor result [] }
+    {
+        Syns {
+            out_seen: false,
+            out_scale: None,
+            in_seen: false,
+            in_scale: false,
+        }
+    }
+
+    // With an outbound segment.
+    pub(crate) fn sent(self, seg: &Seg) -> Syns
+        ensures { SynsAfter (sent seg.now []) self result }
+    {
+        let syn = seg.flags.syn();
+        let scale = if syn { seg.scale } else { None };
+        Syns {
+            out_seen: self.out_seen || syn,
+            out_scale: greater(self.out_scale, scale),
+            in_seen: self.in_seen,
+            in_scale: self.in_scale,
+        }
+    }
+
+    // With an inbound SYN.
+    pub(crate) fn came(self, seg: &Seg) -> Syns
+        ensures { SynsAfter (came seg.now) self result }
+    {
+        let syn = seg.flags.syn();
+        Syns {
+            out_seen: self.out_seen,
+            out_scale: self.out_scale,
+            in_seen: self.in_seen || syn,
+            in_scale: self.in_scale || syn && seg.scale.is_some(),
+        }
+    }
+
+    // By how many bits windows are scaled: both sides must have scaled, and before both have called the greatest shift may be meant.
+    pub(crate) fn shift(&self) -> u8
+        ensures value { result ≡ shift_of self.now }
+        ensures small { result ≤ 14 }
+    {
+        if self.out_seen && self.in_seen {
+            match self.out_scale {
+                Some(scale) => { if self.in_scale { scale } else { 0 } }
+                None => 0,
+            }
+        } else {
+            MOST
+        }
+    }
+}

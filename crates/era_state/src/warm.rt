@@ -1,0 +1,265 @@
+//! An era of whose stream a place is acknowledged.
+ghost use Rattle.std.specs.Prelude.{◌≡◌, ℕ, ◌+◌, ◌*◌, ◌^◌, ◌≤◌, ◌<◌, max, List, [], ◌∷◌, ◌++◌, length, Some, is_some, true, false};
+ghost use Rattle.wire_base.specs.Segments.{Written};
+ghost use Rattle.wire_base.specs.Tcp as tcp;
+ghost use Rattle.era_state.specs.Offsets.{number_in, whole};
+ghost use Rattle.era_state.specs.Marks.{edge_place};
+ghost use Rattle.era_state.specs.Read.{sent, received, came};
+
+use crate::interval::Interval;
+use crate::offset::{HALF, Offset, TURN};
+use crate::segment::Seg;
+use crate::syns::Syns;
+
+/// A place of the stream is acknowledged: the number of the stream's first octet, the number of the first outbound SYN where there is one, the
+/// number behind the last outbound segment, the SYNs' scales; the greatest acknowledged place, the greatest place behind what a window allows,
+/// the place behind all octets written inwards, the place of the inbound FIN where one was written, and whether an outbound one was.
+/// Places are octets from the stream's begin.
+#[derive(Clone, Copy)]
+pub struct Warm {
+    pub base: u32,
+    pub iss: Option<u32>,
+    pub out: u32,
+    pub syns: Syns,
+    pub acked: u64,
+    pub edge: u64,
+    pub top: u64,
+    pub end: Option<u64>,
+    pub out_fin: bool,
+    ghost called: { is_some iss ≡ syns.out_seen },
+    ghost in_turn: { acked < 2 ^ 31 },
+    ghost window_open: { acked ≤ edge },
+    ghost window_small: { edge ≤ acked + 65535 * 2 ^ 14 },
+    ghost top_in_turn: { top ≤ 2 ^ 31 },
+    ghost top_in_window: { top ≤ edge + 1 },
+    ghost end_in_turn: { (place : ℕ) → end ≡ Some place → place < 2 ^ 31 },
+    ghost end_above: { (place : ℕ) → end ≡ Some place → top ≤ place },
+    ghost end_in_window: { (place : ℕ) → end ≡ Some place → place ≤ edge },
+}
+
+// The greater place.
+fn greater(acked: u64, place: Option<u64>) -> u64
+    ensures { result ≡ max acked (number_in place) }
+{
+    match place {
+        None => acked,
+        Some(place) => acked.max(place),
+    }
+}
+
+// The greater edge, with a segment that may acknowledge a place.
+fn greater_edge(acked: u64, edge: u64, place: Option<u64>, shift: u8, seg: &Seg) -> u64
+    requires shift { shift ≤ 14 }
+    requires place { (n : ℕ) → place ≡ Some n → n < 2 ^ 31 }
+    requires above { acked ≤ edge }
+    requires near { edge ≤ acked + 65535 * 2 ^ 14 }
+    ensures value { (octets : List ℕ) → result ≡ max edge (edge_place place shift (sent seg.now octets)) }
+    ensures above { max acked (number_in place) ≤ result }
+    ensures near { result ≤ max acked (number_in place) + 65535 * 2 ^ 14 }
+{
+    match place {
+        None => edge,
+        Some(place) => edge.max(seg.allowed(place, shift)),
+    }
+}
+
+impl Warm {
+    ghost use Rattle.std.specs.Prelude.{None, ◌||◌, ◌-◌, pos, ◌+ℤ◌};
+    ghost use Rattle.era_state.specs.Offsets.{off, seen_from};
+    ghost use Rattle.era_state.specs.Quantities.{behind_end};
+    ghost use Rattle.era_state.specs.Keeping.{reach, is_kept_fin, ends_below, frame_sequence_of};
+    ghost use Rattle.era_state.specs.Raised.{offset_in};
+    ghost use Rattle.era_state.specs.Standing.{WarmFor, is_over_in, bounds_in};
+    ghost use Rattle.era_state.specs.Changes.{WarmOpens, WarmAfter, WarmCalled, WarmWith};
+    ghost use Rattle.era_state.specs.Intervals.{Keeps, KeptOf};
+    ghost use Rattle.era_state.specs.Frames.{IsGiven, IsFrame};
+
+    // The era after an outbound segment acknowledges a place, where none was acknowledged before.
+    pub(crate) fn open(
+        base: u32,
+        iss: Option<u32>,
+        syns: Syns,
+        out_fin: bool,
+        place: u64,
+        seg: &Seg,
+    ) -> Warm
+        requires called { is_some iss ≡ syns.out_seen }
+        requires near { place < 2 ^ 31 }
+        ensures stands { (octets : List ℕ) → length octets ≡ seg.now.len → WarmOpens base iss syns out_fin place (sent seg.now octets) result }
+    {
+        Warm {
+            base,
+            iss: seg.first_call(iss),
+            out: seg.behind(),
+            syns: syns.sent(seg),
+            acked: place,
+            edge: seg.allowed(place, syns.shift()),
+            top: 0,
+            end: None,
+            out_fin: out_fin | seg.flags.fin(),
+        }
+    }
+
+    /// The era that an outbound segment with ACK and without RST begins.
+    pub fn begin(seg: &Seg) -> Warm
+        requires legal { tcp.are_legal seg.now.flags.0 ≡ true }
+        requires ack { tcp.has_ack seg.now.flags.0 ≡ true }
+        requires no_rst { tcp.has_rst seg.now.flags.0 ≡ false }
+        ensures stands { (octets : List ℕ) → length octets ≡ seg.now.len → WarmFor result (sent seg.now octets ∷ []) }
+    {
+        Warm::open(seg.ack, None, Syns::none(), false, 0, seg)
+    }
+
+    // The era after an outbound segment.
+    pub(crate) fn sent(mut self, seg: &Seg) -> Warm
+        ensures stands { (octets : List ℕ) → length octets ≡ seg.now.len → WarmAfter (sent seg.now octets) self result }
+        ensures near { result.acked < self.acked + 2 ^ 31 }
+    {
+        let place = seg.acknowledged(self.base, self.acked);
+        let shift = self.syns.shift();
+        self.edge = greater_edge(self.acked, self.edge, place, shift, seg);
+        self.acked = greater(self.acked, place);
+        self.iss = seg.first_call(self.iss);
+        self.out = seg.behind();
+        self.syns = self.syns.sent(seg);
+        self.out_fin |= seg.flags.fin();
+        self
+    }
+
+    // The era after an inbound SYN.
+    pub(crate) fn came(mut self, seg: &Seg) -> Warm
+        ensures stands { WarmCalled (came seg.now) self result }
+    {
+        self.syns = self.syns.came(seg);
+        self
+    }
+
+    // Both sides have closed, and the inbound FIN is acknowledged.
+    pub(crate) fn is_over(&self) -> bool
+        ensures { result ≡ is_over_in self.now }
+    {
+        match self.end {
+            None => false,
+            Some(end) => end + 1 <= self.acked && self.out_fin,
+        }
+    }
+
+    // The place behind all that is acknowledged, was written inwards, or is the end.
+    pub(crate) fn next(&self) -> u64
+        ensures { result ≡ max self.now.acked (max self.now.top (behind_end (whole self.now.end))) }
+    {
+        let most = self.acked.max(self.top);
+        match self.end {
+            None => most,
+            Some(end) => most.max(end + 1),
+        }
+    }
+
+    // How far octets may go.
+    fn reach(&self) -> u64
+        ensures { result ≡ reach (bounds_in self.now) }
+    {
+        let most = (self.edge + 1).min(HALF);
+        match self.end {
+            None => most,
+            Some(end) => most.min(end),
+        }
+    }
+
+    // A FIN at this offset is kept.
+    fn is_kept_fin(&self, place: Offset) -> bool
+        ensures { result ≡ is_kept_fin (whole self.now.end) (bounds_in self.now) (offset_in place) }
+    {
+        match self.end {
+            None => {
+                !place.is_below(self.top.max(self.acked))
+                    && !place.is_above(self.edge)
+                    && place.is_below(HALF)
+            }
+            Some(end) => place.is_at(end),
+        }
+    }
+
+    // The end is below this offset.
+    fn ends_below(&self, place: Offset) -> bool
+        ensures { result ≡ ends_below (whole self.now.end) (offset_in place) }
+    {
+        match self.end {
+            None => false,
+            Some(end) => place.is_above(end),
+        }
+    }
+
+    /// Which octets of an inbound segment go out, whether its FIN does, and which rules hold.
+    pub fn interval(&self, seg: &Seg) -> Interval
+        requires legal { tcp.are_legal seg.now.flags.0 ≡ true }
+        requires no_syn { tcp.has_syn seg.now.flags.0 ≡ false }
+        requires no_rst { tcp.has_rst seg.now.flags.0 ≡ false }
+        ensures value { Keeps (bounds_in self.now) (off self.now.base (seen_from self.now.acked) seg.now.seq) seg.now.len (tcp.has_fin seg.now.flags.0) result }
+        ensures list { (ws : List Written) (octets : List ℕ) → length octets ≡ seg.now.len → WarmFor self.now ws → KeptOf ws (received seg.now octets) result }
+        ensures order { result.lo ≤ result.hi }
+        ensures short { result.hi ≤ result.lo + seg.now.len }
+    {
+        let from = Offset::of(self.base, self.acked, seg.seq);
+        let to = from.after(seg.len);
+        let some = 0 < seg.len;
+        let fin = seg.flags.fin();
+        let kept = self.is_kept_fin(to);
+        let below = from.is_below(self.acked);
+        let past_window = to.is_above(self.edge + 1);
+        let past_turn = to.is_above(HALF);
+        let past_end = self.ends_below(to);
+        let lo = from.or_zero().max(self.acked);
+        let hi = lo.max(to.or_zero().min(self.reach()));
+        Interval {
+            lo,
+            hi,
+            fin: fin & kept,
+            below: some & below,
+            window: some & past_window,
+            turn: some & past_turn,
+            end: (some & past_end) | (fin & !kept),
+        }
+    }
+
+    /// How many octets of an inbound segment stand before the first that goes out.
+    pub fn octets_before(&self, seg: &Seg, kept: &Interval) -> u32
+        requires legal { tcp.are_legal seg.now.flags.0 ≡ true }
+        requires kept { Keeps (bounds_in self.now) (off self.now.base (seen_from self.now.acked) seg.now.seq) seg.now.len (tcp.has_fin seg.now.flags.0) kept.now }
+        requires some { kept.now.lo < kept.now.hi }
+        ensures place { off self.now.base (seen_from self.now.acked) seg.now.seq +ℤ pos result ≡ pos kept.now.lo }
+        ensures inside { result + (kept.now.hi - kept.now.lo) ≤ seg.now.len }
+    {
+        Offset::of(self.base, self.acked, seg.seq).octets_to(kept.lo) as u32
+    }
+
+    /// The sequence number of the frame of an inbound segment: that of its first octet; that of its FIN, where this goes out alone; else the
+    /// segment's own.
+    pub fn frame_sequence(&self, seg: &Seg, kept: &Interval) -> u32
+        requires legal { tcp.are_legal seg.now.flags.0 ≡ true }
+        requires kept { Keeps (bounds_in self.now) (off self.now.base (seen_from self.now.acked) seg.now.seq) seg.now.len (tcp.has_fin seg.now.flags.0) kept.now }
+        ensures { (ws : List Written) (octets : List ℕ) → length octets ≡ seg.now.len → WarmFor self.now ws → result ≡ frame_sequence_of ws (received seg.now octets) }
+    {
+        let place = if kept.lo < kept.hi {
+            kept.lo
+        } else if kept.fin {
+            Offset::of(self.base, self.acked, seg.seq)
+                .after(seg.len)
+                .or_zero()
+        } else {
+            return seg.seq;
+        };
+        ((u64::from(self.base) + place) % TURN) as u32
+    }
+
+    /// The era after the frame with these octets and this FIN.
+    pub fn forwarded(mut self, kept: &Interval) -> Warm
+        requires { IsGiven self kept.now }
+        ensures value { WarmWith kept.now self result }
+        ensures list { (ws : List Written) (w frame : Written) → WarmFor self ws → KeptOf ws w kept.now → IsFrame ws w kept.now frame → WarmFor result (ws ++ frame ∷ []) }
+    {
+        self.top = kept.top_after(self.top);
+        self.end = kept.end_after(self.end);
+        self
+    }
+}

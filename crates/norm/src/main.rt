@@ -1,0 +1,71 @@
+//! The program `norm`: it opens the files that its words name, normalizes the capture, and ends with the status.
+#![tactic(auto)]
+
+mod texts;
+
+use bridge_run::run;
+use edge_io::{FileSink, FileSource, LineOut};
+use norm_settings::{Command, Names, WordFault, read_words};
+use std::alloc::AllocError;
+use std::env;
+use std::fs::File;
+use std::io;
+use std::process::ExitCode;
+
+fn main(rt: HostRuntime) -> ExitCode {
+    let words = match words_after_name(&rt) {
+        Ok(words) => words,
+        Err(error) if error.kind() == io::ErrorKind::OutOfMemory => return without_memory(&rt),
+        // A word that is not UTF-8 is a faulty command line, as one of no words is.
+        Err(_) => Vec::new(rt.alloc()),
+    };
+    if let Some(text) = asked_text(&words) {
+        let _ = rt.print(text);
+        return ExitCode::SUCCESS;
+    }
+    let (input, output) = match read_words(rt.alloc(), &words) {
+        Ok(Command::Run { names, settings: _ }) => opened(&rt, &names),
+        Ok(Command::Load { seed: _, count: _ }) => (None, None),
+        Err(WordFault::NoMemory) => return without_memory(&rt),
+        Err(_) => (None, None),
+    };
+    ExitCode::from(run(
+        rt.alloc(),
+        &words,
+        &mut FileSource::over(input),
+        &mut FileSink::over(output),
+        &mut LineOut::over(Some(rt.stdout())),
+    ))
+}
+
+// The words of the command line without the program's own name.
+fn words_after_name(rt: &HostRuntime) -> io::Result<Vec<String>> {
+    let mut words = env::args(rt)?;
+    let _ = words.next();
+    Ok(words.collect(rt.alloc())?)
+}
+
+// The text that the words ask for, where they ask for one alone.
+fn asked_text(words: &[String]) -> Option<&'static str> {
+    let [word] = words else {
+        return None;
+    };
+    match word.as_str() {
+        "--help" | "-h" => Some(texts::HELP),
+        "--version" => Some(texts::VERSION),
+        _ => None,
+    }
+}
+
+// The file to read, and where that was opened the file to write. One that is missing is a source or a sink whose every call fails.
+fn opened(rt: &HostRuntime, names: &Names) -> (Option<File>, Option<File>) {
+    let Ok(input) = File::open(rt, names.input.as_str()) else {
+        return (None, None);
+    };
+    (Some(input), File::create(rt, names.output.as_str()).ok())
+}
+
+fn without_memory(rt: &HostRuntime) -> ExitCode {
+    let _ = rt.print("stop memory 0\n");
+    ExitCode::from(8)
+}

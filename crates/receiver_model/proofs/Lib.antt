@@ -1,0 +1,6 @@
+pub mod Sound
+pub mod Members
+pub mod Places
+pub mod Waits
+pub mod Steps
+pub mod Deliveries

@@ -1,0 +1,9 @@
+pub use Rattle.wire_base.specs.Plain
+pub use Rattle.wire_base.specs.Segments
+pub use Rattle.wire_base.specs.Tcp
+pub mod Offsets
+pub mod Delivery
+pub mod Agreement
+pub mod Fields
+pub mod Policies
+pub mod Streams

@@ -1,0 +1,49 @@
+-- Which octet waits where several segments brought one for the same offset (this project's profile).
+use Rattle.std.specs.Prelude.{ℕ, ◌+◌, ◌-◌, ◌%◌, ◌^◌, Bool, true, false, List, length, ℤ, pos, negsuc, Option, Some, None, option_map, slice_get, nat_lt, fold, if◌then◌else◌}
+use Rattle.receiver_model.specs.declared.policy.Policy.{Policy}
+use Rattle.receiver_model.specs.declared.policy.Policy.TheVariants.{First, Newest, Left, Right}
+use Rattle.receiver_model.specs.declared.policy.Waiting.{Waiting}
+use Rattle.receiver_model.specs.Offsets.{offset_of}
+
+-- a segment that a stream took: the sequence number of its first octet, and its octets
+pub record Taken : Type 0 where
+  pub sequence : ℕ
+  pub octets : List ℕ
+
+-- the segment's octet for this offset
+abbrev pub octet_for : (base : ℕ) → Taken → ℤ → Option ℕ
+octet_for base t (pos offset) =
+    if nat_lt offset (2 ^ 32) then slice_get t.octets ((offset + base + 2 ^ 32 - t.sequence) % 2 ^ 32) else None
+octet_for base t (negsuc n) = None
+
+-- an octet of the segment as it waits: the segment begins at the offset of its first octet, and ends as many octets later,
+-- past 2^32 too
+abbrev pub waiting_of : (base : ℕ) → Taken → ℕ → Waiting
+waiting_of base t octet =
+    record { octet = octet; begin = offset_of base t.sequence; end = offset_of base t.sequence + length t.octets }
+
+-- what the segment brings for this offset
+abbrev pub brought : (base : ℕ) → Taken → ℤ → Option Waiting
+brought base t offset = option_map (waiting_of base t) (octet_for base t offset)
+
+-- whether an octet takes the place of one that waits: never; always; where its segment begins at a smaller offset;
+-- where it ends at a larger one
+abbrev pub replaces : Policy → (old new : Waiting) → Bool
+replaces First old new = false
+replaces Newest old new = true
+replaces Left old new = nat_lt new.begin old.begin
+replaces Right old new = nat_lt old.end new.end
+
+-- what waits after an octet came, or none: one that comes where none waits is set
+abbrev pub chosen : Policy → (old new : Option Waiting) → Option Waiting
+chosen policy old None = old
+chosen policy None (Some new) = Some new
+chosen policy (Some old) (Some new) = if replaces policy old new then Some new else Some old
+
+-- what waits for an offset after these segments, in their order
+abbrev pub waiting_after : Policy → (base : ℕ) → List Taken → ℤ → Option Waiting
+waiting_after policy base taken offset = fold (λ old t. chosen policy old (brought base t offset)) None taken
+
+-- its octet alone
+abbrev pub octet_after : Policy → (base : ℕ) → List Taken → ℤ → Option ℕ
+octet_after policy base taken offset = option_map (λ w. w.octet) (waiting_after policy base taken offset)

@@ -1,0 +1,117 @@
+-- A stream as one receiver of the family.
+use Rattle.std.specs.Prelude.{◌≡◌, ℕ, ◌+◌, ◌++◌, Bool, true, false, List, [], ◌∷◌, length, ℤ, pos, Option, Some, None, option_map, ◌||◌, ◌==◌}
+use Rattle.std.specs.Bool.{then_some}
+use Rattle.std.specs.Option.{option_or}
+use Rattle.wire_base.specs.Segments.{Segment}
+use Rattle.receiver_model.specs.declared.policy.Policy.{Policy}
+use Rattle.receiver_model.specs.declared.policy.Waiting.{Waiting}
+use Rattle.receiver_model.specs.Offsets.{offset_of, Carries, Ends}
+use Rattle.receiver_model.specs.Delivery.{Receiver, Extends, Step, Delivers}
+use Rattle.receiver_model.specs.Policies.{Taken, chosen, waiting_of, waiting_after, octet_after}
+
+-- what a stream holds: the segments that it took, in their order, tell which octets wait
+pub record StreamState : Type 0 where
+  pub policy : Policy
+  pub base : ℕ
+  pub start : ℕ
+  pub taken : List Taken
+  pub octets : List ℕ
+  pub fin : Option ℕ
+  pub ended : Bool
+
+-- a stream that took nothing
+abbrev pub fresh : Policy → (base start : ℕ) → StreamState
+fresh policy base start =
+    record { policy = policy; base = base; start = start; taken = []; octets = []; fin = None; ended = false }
+
+-- what waits for an offset, with the ends of the segment that brought it
+abbrev pub waiting_at : StreamState → ℤ → Option Waiting
+waiting_at stream offset = waiting_after stream.policy stream.base stream.taken offset
+
+-- the place of a FIN as an offset, where one is kept
+abbrev pub place_of : Option ℕ → Option ℤ
+place_of fin = option_map (λ n. pos n) fin
+
+-- the stream as a receiver
+abbrev pub receiver_of : StreamState → Receiver
+receiver_of stream =
+    record {
+      stream = stream.octets;
+      waiting = octet_after stream.policy stream.base stream.taken;
+      fin = place_of stream.fin;
+      ended = stream.ended;
+    }
+
+-- a segment as it is taken
+abbrev pub taken_of : Segment → Taken
+taken_of s = record { sequence = s.sequence; octets = s.octets }
+
+-- the stream takes a step of the family with this segment, or with none
+abbrev pub StepsWith : Option Segment → (before after : StreamState) → Type 0
+StepsWith s before after = Step before.base before.start s (receiver_of before) (receiver_of after)
+
+-- the place of a FIN that is kept stays, and a new one is kept where there is none
+abbrev pub first_fin : Option ℤ → ℤ → ℤ
+first_fin None new = new
+first_fin (Some old) new = old
+
+-- of the steps that a receiver may take with a segment, the one that the stream's policy names
+pub record Chooses (s : Segment) (before after : StreamState) : Type 0 where
+  -- an octet that comes for an offset is set there, or the one that waits there stays
+  pub carried :
+      (offset : ℤ) (octet : ℕ) →
+      Carries before.base (Some s) offset octet →
+      waiting_at after offset ≡ chosen before.policy (waiting_at before offset) (Some (waiting_of before.base (taken_of s) octet))
+  -- what waits elsewhere stays
+  pub others :
+      (offset : ℤ) →
+      ((octet : ℕ) → ¬ Carries before.base (Some s) offset octet) →
+      waiting_at after offset ≡ waiting_at before offset
+  -- the first FIN's place is kept
+  pub fin :
+      (offset : ℤ) →
+      Ends before.base (Some s) offset →
+      place_of after.fin ≡ Some (first_fin (place_of before.fin) offset)
+  -- the stream goes on as far as octets wait
+  pub far : waiting_at after (pos (before.start + length after.octets)) ≡ None
+  -- it ends as soon as it may
+  pub soon : place_of after.fin ≡ Some (pos (before.start + length after.octets)) → after.ended ≡ true
+
+-- the stream is still the same one
+pub record IsSameStream (before after : StreamState) : Type 0 where
+  pub policy : after.policy ≡ before.policy
+  pub base : after.base ≡ before.base
+  pub start : after.start ≡ before.start
+
+-- the places of these frames, each once and in their order, counted on from a number
+abbrev pub places_from : ℕ → List (List ℕ) → List ℕ
+places_from place [] = []
+places_from place (frame ∷ frames) = place ∷ places_from (place + 1) frames
+
+-- the stream is what a host at this distance makes of these frames, where each reaches it once and in their order
+pub record StandsFor (distance : ℕ) (stream : StreamState) (frames : List (List ℕ)) : Type 0 where
+  pub delivery : Delivers distance stream.base stream.start frames (places_from 0 frames) stream.octets stream.ended
+  pub last_is : delivery.last ≡ receiver_of stream
+
+-- whatever frames the stream stood for, it stands for these with one more after them
+abbrev pub AddsFrame : List ℕ → (before after : StreamState) → Type 0
+AddsFrame frame before after =
+    (distance : ℕ) (frames : List (List ℕ)) → StandsFor distance before frames → StandsFor distance after (frames ++ frame ∷ [])
+
+-- the place of a FIN that is kept after a segment, which has one or not
+abbrev pub fin_after : (base : ℕ) → Taken → (has_fin : Bool) → Option ℕ → Option ℕ
+fin_after base t has_fin old = option_or old (then_some has_fin (offset_of base (t.sequence + length t.octets)))
+
+-- a place is kept, and it is this one
+abbrev pub is_at : Option ℕ → ℕ → Bool
+is_at None place = false
+is_at (Some fin) place = fin == place
+
+-- all that a stream holds once it took a segment, which has a FIN or not
+pub record Takes (t : Taken) (has_fin : Bool) (before after : StreamState) : Type 0 where
+  pub same : IsSameStream before after
+  pub taken : after.taken ≡ before.taken ++ t ∷ []
+  pub octets : Extends (octet_after before.policy before.base (before.taken ++ t ∷ [])) before.start before.octets after.octets
+  pub far : waiting_after before.policy before.base (before.taken ++ t ∷ []) (pos (before.start + length after.octets)) ≡ None
+  pub fin : after.fin ≡ fin_after before.base t has_fin before.fin
+  pub ended : after.ended ≡ (before.ended || is_at after.fin (before.start + length after.octets))

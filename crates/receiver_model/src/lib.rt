@@ -1,0 +1,19 @@
+//! Every receiver that the bridge has to reckon with, and the law that makes all of them agree.
+#![tactic(auto)]
+
+pub mod agreement;
+pub mod laws;
+pub mod member;
+mod piece;
+pub mod policy;
+pub mod segment;
+pub mod stream;
+
+pub use agreement::agree;
+pub use member::Member;
+pub use policy::Policy;
+pub use segment::{Segment, read_plain};
+pub use stream::Stream;
+
+#[cfg(test)]
+mod tests;
