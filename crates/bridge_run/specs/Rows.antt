@@ -15,12 +15,12 @@ use Rattle.rule_book.specs.Rules.{drop_rows, fix_rows, step_rows}
 use Rattle.norm_settings.specs.Settings.{PlainSettings}
 use Rattle.norm_settings.specs.Side.{side}
 
--- the IPv4 packet in a frame: behind the Ethernet header of 14 octets (IEEE 802.3), or the whole frame
+-- the IPv4 packet in a frame: behind the Ethernet header of 14 octets (RFC 894), or the whole frame
 abbrev pub packet_in : Link → List ℕ → List ℕ
 packet_in Ethernet frame = drop 14 frame
 packet_in Raw frame = frame
 
--- the side of a frame's packet: outward from a trusted source to none, inward from none to a trusted destination, and else none
+-- the side of a frame's packet: outward from a trusted source to a destination that is not, inward the other way, and otherwise none
 abbrev pub side_in : PlainSettings → Link → List ℕ → Option Side
 side_in settings link frame =
     let p = packet_in link frame in
@@ -74,7 +74,8 @@ has_later_mark hops side p =
 abbrev pub udp_pseudo : List ℕ → ℕ
 udp_pseudo p = pseudo_sum (ip.source p) (ip.destination p) (ip.protocol p) (length (ip.payload p))
 
--- the faults of a UDP message that no built row judges: short, another length, a wrong sum
+-- the faults of a UDP message that no built row judges: short, another length, a wrong sum; a sum that is to be mended is among them, since no row
+-- that mends is built
 abbrev pub has_later_fault : (pseudo : ℕ) → (message : List ℕ) → Bool
 has_later_fault pseudo message =
     udp.is_short message || udp.has_other_length message || udp.has_wrong_sum pseudo message

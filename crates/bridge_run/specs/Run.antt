@@ -40,6 +40,7 @@ pub record Finished (words : List (List ℕ)) (source source' capture capture' r
   pub head : Head
   pub trace : List Item
   pub accepted : AsksRun words settings
+  pub form : is_read_now head ≡ true
   pub lawful : Lawful settings head.link trace
   pub whole : TookAll source head trace
   pub taken : TakenWhole source source'

@@ -43,7 +43,7 @@ dropped_by settings link history r = find (holds settings link history r) drop_r
 unfoldable pub named_rows : PlainSettings → Link → List Item → Packet → List Rule
 named_rows settings link history r = filter (holds settings link history r) (fix_rows ++ step_rows)
 
--- the rules before which the side is not told: those of the frame and of the header up to the side itself
+-- whether the entry of a record that this rule drops tells the side: not for the rules up to the one on the side itself
 abbrev pub tells_side : Rule → Bool
 tells_side rules.LSnap = false
 tells_side rules.LShort = false

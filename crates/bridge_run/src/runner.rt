@@ -54,7 +54,7 @@ pub fn run<S: Source, K: Sink, R: Sink>(
     ensures cut_exactly { spec.IsAccepted (map string_bytes words.now) → stops.IsCutShort (S.left source.old) → (result ≡ 4) ⊎ (5 ≤ result) }
     ensures complete { spec.IsAccepted (map string_bytes words.now) → stops.IsWhole (S.left source.old) → (result ≡ 0) ⊎ (5 ≤ result) }
 
-    ensures known { result ≤ 8 }
+    ensures known { (result ≡ 0) ⊎ ((2 ≤ result) × (result ≤ 8)) }
     ensures source_later { S.fault_count source.old ≤ S.fault_count source.new }
     ensures capture_later { K.fault_count capture.old ≤ K.fault_count capture.new }
     ensures report_later { R.fault_count report.old ≤ R.fault_count report.new }

@@ -44,7 +44,8 @@ in_scaled ws = list_any (λ (w : Written). is_inbound_syn w && is_some w.scale) 
 abbrev pub out_scale : List Written → ℕ
 out_scale ws = min 14 (greatest (λ (w : Written). if is_outbound_syn w then number_in w.scale else 0) ws)
 
--- the shift by which SYNs were written and scaled: both sides must have scaled (RFC 7323 section 2.2), and as long as a side's SYN is missing the greatest one may be meant
+-- the shift, by which sides' SYNs were written and which of them had a scale: both must have had one (RFC 7323 section 2.2), and as long as a side's
+-- SYN is missing the greatest shift may be meant
 abbrev pub shift_with : (out_seen in_seen out_scaled in_scaled : Bool) → ℕ → ℕ
 shift_with out_seen in_seen out_scaled in_scaled scale =
     if out_seen && in_seen then (if out_scaled && in_scaled then scale else 0) else 14

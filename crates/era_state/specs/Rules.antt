@@ -1,5 +1,6 @@
 -- Conditions of rules on one segment and one era (this project's profile): `ws` are the segments written of the era so far, `w` is the next one.
--- Each is named as its rule, in the order of the rules' numbers; the words before them say the same of an era's state, base and first call.
+-- Each is named as its rule, in the order of the rules' numbers; the words before them say the same of an era's state, base and first call, a call
+-- being a SYN by which a side opens a connection.
 use Rattle.std.specs.Prelude.{ℕ, ◌+◌, ◌%◌, ◌^◌, ◌&&◌, ◌||◌, not, Bool, false, List, length, pos, Option, Some, None, nat_eq, int_le, if◌then◌else◌}
 use Rattle.wire_base.specs.Tcp as tcp
 use Rattle.wire_base.specs.Segments.{Written}

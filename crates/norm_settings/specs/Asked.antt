@@ -31,13 +31,13 @@ abbrev pub is_name : List ℕ → Bool
 is_name [] = false
 is_name (first ∷ _) = not (first == 45)
 
--- the run that two names and a prefix ask for: refused where the names are one, and then where the prefix, the first, is none
+-- the run that two names and a prefix ask for: refused where the names are one, and then where the word for the prefix is none, which is the first
 abbrev pub run_of : (input output prefix : List ℕ) → Result PlainCommand WordFault
 run_of input output prefix =
     if bytes_eq input output then Err Same
     else (elim (prefix_of prefix) [ Ok p ↦ Ok (run (record { input = input; output = output }) (standard (p ∷ []))) | Err _ ↦ Err (Prefix 1) ])
 
--- the words are four: `run`, and three names
+-- the words are four: `run`, and three that are not empty and do not begin with `-`
 abbrev pub asked : List (List ℕ) → Result PlainCommand WordFault
 asked (verb ∷ input ∷ output ∷ prefix ∷ []) =
     if bytes_eq verb (codes "run") && is_name input && is_name output && is_name prefix then run_of input output prefix else Err Refused

@@ -29,7 +29,7 @@ ReadsHead old new (Err faults.Link) = Begins old new (Err bad_link)
 ReadsHead old new (Err faults.ReadFault) = TakesFewer old new 24
 ReadsHead old new (Err faults.Later) = IsOfAnotherForm old new
 
--- what the 24 octets of a head say by themselves
+-- what the 24 octets of a head say by themselves; the form is tested after this, and a fault of reading comes before it
 abbrev pub Judges : List ℕ → Result Head HeadFault → Type 0
 Judges octets (Ok head) = head_of octets ≡ Ok head
 Judges octets (Err faults.Cut) = head_of octets ≡ Err cut_short

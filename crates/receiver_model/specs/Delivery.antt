@@ -40,7 +40,7 @@ pub record Step (base start : ℕ) (s : Option Segment) (before after : Receiver
       (offset : ℤ) →
       (after.waiting offset ≡ before.waiting offset)
       ⊎ ((octet : ℕ) × Carries base s offset octet × (after.waiting offset ≡ Some octet))
-  -- the place of a FIN is left, or that of the segment's is kept
+  -- the place of a FIN is left, or the place of the segment's FIN is kept
   pub fin : (after.fin ≡ before.fin) ⊎ ((offset : ℤ) × Ends base s offset × (after.fin ≡ Some offset))
   -- then the stream may go on
   pub stream : Extends after.waiting start before.stream after.stream

@@ -90,7 +90,8 @@ has_wrong_sum p = not (sum_is_right (header p) 0)
 abbrev pub first_octet : ℕ → ℕ
 first_octet address = address / 16777216
 
--- no host sends from this address: "this network", loopback, multicast and above (RFC 1122 section 3.2.1.3), or from the one that it sends to (this project's profile)
+-- a source that no packet on a link between networks has: "this network", loopback, multicast and above (RFC 1122 section 3.2.1.3), or the
+-- destination itself; that a host which asks for its address falls under it is this project's profile
 abbrev pub is_bad_source : (source destination : ℕ) → Bool
 is_bad_source source destination =
     (first_octet source == 0) || (first_octet source == 127) || nat_le 224 (first_octet source) || (source == destination)
@@ -98,7 +99,8 @@ is_bad_source source destination =
 abbrev pub has_bad_source : List ℕ → Bool
 has_bad_source p = is_bad_source (source p) (destination p)
 
--- no packet goes to this address: "this network", loopback, or above multicast (RFC 1122 section 3.2.1.3)
+-- a destination that no packet is passed on to: "this network", loopback, or above multicast (RFC 1122 section 3.2.1.3); that a broadcast on the
+-- own link falls under it is this project's profile
 abbrev pub is_bad_destination : ℕ → Bool
 is_bad_destination destination =
     (first_octet destination == 0) || (first_octet destination == 127) || nat_le 240 (first_octet destination)

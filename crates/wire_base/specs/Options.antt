@@ -20,7 +20,7 @@ are_well_formed zero (kind ∷ octets) =
       ]
     ]
 
--- an option that passes the test, which reads its kind and the octets after it, stands before the end option
+-- an option other than a no-operation that passes the test, which reads its kind and the octets after it, stands before the end option
 abbrev pub has_option : (ℕ → List ℕ → Bool) → ℕ → List ℕ → Bool
 has_option test left [] = false
 has_option test (suc left) (x ∷ octets) = has_option test left octets

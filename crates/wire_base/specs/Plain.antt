@@ -10,7 +10,8 @@ use Rattle.wire_base.specs.Options.{are_well_formed, cleaned}
 abbrev pub pseudo_of : List ℕ → ℕ
 pseudo_of p = pseudo_sum (ip.source p) (ip.destination p) (ip.protocol p) (length (ip.payload p))
 
--- a TCP segment without reserved bits, urgent marks, or options that cleaning would change, and without octets on SYN or RST
+-- a TCP segment with a whole header, a right sum and legal flags, without reserved bits, urgent marks, or options that cleaning would change, and
+-- without octets on SYN or RST
 pub record IsPlainTcp (p : List ℕ) : Type 0 where
   pub whole_header : 20 ≤ length (ip.payload p)
   pub data_offset : 20 ≤ tcp.header_length (ip.payload p)

@@ -1,4 +1,4 @@
--- Checksums: the ones' complement sum of 16-bit words (RFC 791 section 3.1, RFC 768, RFC 792, RFC 9293 section 3.1, RFC 1624).
+-- Checksums: the ones' complement sum of 16-bit words (RFC 1071 section 1, RFC 791 section 3.1, RFC 768, RFC 792, RFC 9293 section 3.1).
 use Rattle.std.specs.Prelude.{◌≡◌, ℕ, ◌+◌, ◌-◌, ◌*◌, ◌/◌, ◌%◌, ◌==◌, ◌&&◌, nat_lt, Bool, List, [], ◌∷◌, if◌then◌else◌}
 
 -- the sum of the words of two octets each; an odd last octet is the high octet of its word

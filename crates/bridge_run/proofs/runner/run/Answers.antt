@@ -10,6 +10,7 @@ returns-clause-finished g c = λ e.
       head = n.head;
       trace = n.trace;
       accepted = c.in-Ok.ensures.asked;
+      form = n.form;
       lawful = n.lawful;
       whole = n.whole;
       taken = n.taken;

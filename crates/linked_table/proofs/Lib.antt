@@ -1,0 +1,16 @@
+pub mod Members
+pub mod Rings
+pub mod Writes
+pub mod Hubs
+pub mod Lists
+pub mod Entries
+pub mod Tables
+pub mod Readings
+pub mod Slots
+pub mod Touches
+pub mod Removes
+pub mod Inserts
+pub mod Puts
+pub mod Opens
+pub mod Searches
+pub mod Scans

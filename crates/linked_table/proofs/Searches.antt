@@ -1,0 +1,153 @@
+-- The walk along the ring of one bucket.
+use Rattle.std.proofs.Common.{◌≡◌, ◌≢◌, ℕ, ◌+◌, ◌-◌, ◌<◌, ◌≤◌, ◌^◌, ◌%◌, Bool, true, false, inl, inr, Option, Some, None, List, [], ◌∷◌, length, get_or, refl, sym, ap, subst, ◌∙◌, arith}
+use Rattle.std.specs.Cmp.{IsEquivalence}
+use Rattle.std.specs.List.{All}
+use Rattle.std.proofs.lemmas.List.{get_or_default}
+use Rattle.std.proofs.lemmas.List.Elements.{All-from_recursion, recursion_from_All}
+use Rattle.std.proofs.lemmas.List.Sums.{sum_by-set}
+use Rattle.linked_table.specs.declared.ring.Links.{Links}
+use Rattle.linked_table.specs.declared.table.Slot.{Slot}
+use Rattle.linked_table.specs.Rings.{link_at, In, IsRing}
+use Rattle.linked_table.specs.Sound.{slot_of, pair_at, bucket_at, table_of, IsSound}
+use Rattle.linked_table.specs.Table.{Table, Entry, IsIn, HasNone, Wherever}
+use Rattle.linked_table.proofs.Entries.{all_entries, each_entry}
+use Rattle.linked_table.proofs.Readings.{is_in, wherever}
+use Rattle.linked_table.proofs.Tables.{entries_are}
+use Rattle.linked_table.proofs.Slots.{same_key}
+
+-- the walk has come to a node: the slots left in the ring have pairs, and a slot that has the key is one of them
+pub record IsSearch {K V : Type 0} (pairs : List (Option (K × V))) (chains : List Links) (hub : ℕ) (key : K) (node left : ℕ) : Type 0 where
+  pub rest : List ℕ
+  pub from : ℕ
+  pub ring : IsRing chains from rest hub
+  pub at : node ≡ (link_at chains from).after
+  pub few : length rest ≤ left
+  pub inside : (i : ℕ) → In i rest → i < length pairs
+  pub past : length pairs ≤ hub
+  pub hub_in : hub < length chains
+  pub held : (i : ℕ) → In i rest → pair_at pairs i ≢ None
+  pub found : (i : ℕ) (value : V) → pair_at pairs i ≡ Some (key, value) → In i rest
+
+module _ {K V : Type 0} (pairs : List (Option (K × V))) (chains : List Links) (hub : ℕ) (key : K) (node left : ℕ) (search_at : IsSearch pairs chains hub key node left) where
+  -- the slot that comes next, and what is left after it
+  pub record IsNext : Type 0 where
+    pub slot : node < length pairs
+    pub within : node < length chains
+    pub more : (node_key : K) (value : V) → pair_at pairs node ≡ Some (node_key, value) → node_key ≢ key → IsSearch pairs chains hub key (link_at chains node).after (left - 1)
+    pub some : pair_at pairs node ≢ None
+    pub read : (x : Option (K × V)) → x ≡ get_or pairs node x → x ≡ pair_at pairs node
+
+  pub next_of : node ≢ hub → IsNext
+  next_of not_hub = go search_at.rest refl search_at.ring
+    where
+      go : (rest : List ℕ) → search_at.rest ≡ rest → IsRing chains search_at.from rest hub → IsNext
+      go [] rest_is ring = absurd (not_hub (search_at.at ∙ ring.on))
+      go (x ∷ xs) rest_is ring =
+          let node_is : node ≡ x = search_at.at ∙ ring.0.on in
+          let listed : In node search_at.rest = subst (λ l. In node l) (sym rest_is) (inl (sym node_is)) in
+          let later : (i : ℕ) → In i xs → In i search_at.rest = λ i h. subst (λ l. In i l) (sym rest_is) (inr h) in
+          record {
+            slot = search_at.inside node listed;
+            within = omega (arith, search_at.inside node listed, search_at.past, search_at.hub_in);
+            some = search_at.held node listed;
+            read = λ x read. read ∙ get_or_default pairs node x None (search_at.inside node listed);
+            more = λ node_key value pair differs. record {
+              rest = xs;
+              from = x;
+              ring = ring.1;
+              at = ap (λ k. (link_at chains k).after) node_is;
+              few = omega (arith, search_at.few, ap length rest_is);
+              inside = λ i h. search_at.inside i (later i h);
+              past = search_at.past;
+              hub_in = search_at.hub_in;
+              held = λ i h. search_at.held i (later i h);
+              found = λ i other there.
+                  let whole : In i (x ∷ xs) = subst (λ l. In i l) rest_is (search_at.found i other there) in
+                  elim whole [
+                    | inl same ↦
+                        let here : pair_at pairs node ≡ Some (key, other) = ap (pair_at pairs) (node_is ∙ same) ∙ there in
+                        absurd (differs (same_key node_key key value other (sym pair ∙ here)))
+                    | inr h ↦ h
+                  ];
+            };
+          }
+
+  -- at the hub, or after so many steps, no slot is left
+  pub none_left : (node ≡ hub) → search_at.rest ≡ []
+  none_left at_hub = go search_at.rest refl search_at.ring
+    where
+      go : (rest : List ℕ) → search_at.rest ≡ rest → IsRing chains search_at.from rest hub → search_at.rest ≡ []
+      go [] rest_is ring = rest_is
+      go (x ∷ xs) rest_is ring =
+          let x_is : x ≡ hub = sym ring.0.on ∙ (sym search_at.at ∙ at_hub) in
+          let below = search_at.inside x (subst (λ l. In x l) (sym rest_is) (inl refl)) in
+          absurd (omega (arith, below, x_is, search_at.past))
+
+  pub none_at_end : left ≡ 0 → search_at.rest ≡ []
+  none_at_end out = go search_at.rest search_at.few
+    where
+      go : (rest : List ℕ) → length rest ≤ left → rest ≡ []
+      go [] few = refl
+      go (x ∷ xs) few = absurd (omega (arith, few, out))
+
+module _ {K V : Type 0} (hash : K → ℕ) (pairs : List (Option (K × V))) (recency chains : List Links) (len : ℕ) (sound : IsSound hash pairs recency chains len) (table : Table K V) (is : table_of pairs recency len ≡ table) (key : K) where
+  in_range : hash key % length sound.buckets < length sound.buckets
+  in_range = omega (arith, sound.some_bucket)
+
+  -- the walk begins behind the hub of the key's bucket
+  pub begins : (hub : ℕ) → hub ≡ length pairs + hash key % length sound.buckets → (node : ℕ) → node ≡ (link_at chains hub).after → IsSearch pairs chains hub key node len
+  begins hub hub_is node node_is =
+      let b = hash key % length sound.buckets in
+      let has = sound.bucket_rings b in_range in
+      rw hub_is (record {
+        rest = bucket_at sound.buckets b;
+        from = length pairs + b;
+        ring = has.ring;
+        at = node_is ∙ ap (λ k. (link_at chains k).after) hub_is;
+        few = omega (arith, sum_by-set length sound.buckets b [] [] in_range, sound.bucket_total);
+        inside = has.inside;
+        past = has.past;
+        hub_in = has.hub_in;
+        held = λ i h none. (let hashed = sound.bucket_hashed b i h in let f : ◌≡◌ {A = Option (K × V)} (Some (hashed.key, hashed.value)) None = sym hashed.pair ∙ none in cc);
+        found = λ i value pair. (sound.kept i key value pair).bucket_in;
+      })
+
+  -- nothing is left, so no entry has the key
+  pub none_has : (hub node left : ℕ) → (search_at : IsSearch pairs chains hub key node left) → search_at.rest ≡ [] → HasNone table.entries key
+  none_has hub node left search_at rest_is =
+      rw (entries_are hash pairs recency chains len sound table is) (All-from_recursion (λ (e : Entry K V). e.key ≢ key) _ (all_entries pairs (λ e. e.key ≢ key) sound.used (λ i other value within pair same.
+      let there : pair_at pairs i ≡ Some (key, value) = pair ∙ ap (λ k. Some (k, value)) same in
+      let left : In i [] = subst (λ l. In i l) rest_is (search_at.found i value there) in
+      left)))
+
+  pub none_whichever : (result : Option Slot) → HasNone table.entries key → All (λ e. e.key ≡ key → result ≡ Some e.slot) table.entries
+  none_whichever result none k d below same = absurd (none k d below same)
+
+  -- a slot with the key is that of the entry with it
+  pub record HasKey (node : ℕ) : Type 0 where
+    pub listed : IsIn table.entries (slot_of node)
+    pub same : Wherever table.entries (slot_of node) (λ e. e.key ≡ key)
+    pub whichever : All (λ e. e.key ≡ key → Some (slot_of node) ≡ Some e.slot) table.entries
+    pub some : HasNone table.entries key → ⊥
+    pub small : node < 2 ^ 32
+
+  pub has_key : (node : ℕ) (own : K) (value : V) → pair_at pairs node ≡ Some (own, value) → own ≡ key → HasKey node
+  has_key node own value pair own_is =
+      let here : pair_at pairs node ≡ Some (key, value) = pair ∙ ap (λ k. Some (k, value)) own_is in
+      let within = (sound.kept node key value here).used_in in
+      record {
+        listed = is_in hash pairs recency chains len sound table is node within;
+        same = wherever hash pairs recency chains len sound table is (λ e. e.key ≡ key) (slot_of node) own value pair own_is;
+        whichever = rw (entries_are hash pairs recency chains len sound table is) (All-from_recursion (λ (e : Entry K V). e.key ≡ key → Some (slot_of node) ≡ Some e.slot) _ (all_entries pairs (λ e. e.key ≡ key → Some (slot_of node) ≡ Some e.slot) sound.used (λ i other rest h there other_is.
+            let there_key : pair_at pairs i ≡ Some (key, rest) = there ∙ ap (λ k. Some (k, rest)) other_is in
+            ap (λ k. Some (slot_of k)) (sound.keys_apart node i key value rest here there_key))));
+        some = λ none. each_entry pairs (λ e. e.key ≢ key) sound.used (rw (← entries_are hash pairs recency chains len sound table is) (recursion_from_All (λ (e : Entry K V). e.key ≢ key) table.entries none)) node own value within pair own_is;
+        small = omega (arith, sound.used_ring.inside node within, sound.room);
+      }
+
+-- a key compares equal to itself
+pub differs : {K : Type 0} (eq : K → K → Bool) → IsEquivalence eq → (own key : K) → eq own key ≡ false → own ≢ key
+differs eq laws own key unequal same =
+    let equal : eq own key ≡ true = subst (λ k. eq own k ≡ true) same (laws.refl own) in
+    let f : true ≡ false = sym equal ∙ unequal in
+    cc

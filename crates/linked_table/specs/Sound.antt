@@ -1,0 +1,73 @@
+-- How a table's entries are threaded through its slots (this project's profile).
+use Rattle.std.specs.Prelude.{◌≡◌, ◌≢◌, ℕ, ◌+◌, ◌<◌, ◌^◌, ◌%◌, Option, Some, None, List, [], ◌∷◌, length, slice_index_or}
+use Rattle.std.specs.List.{sum_by, range_with_len}
+use Rattle.linked_table.specs.declared.ring.Links.{Links}
+use Rattle.linked_table.specs.declared.table.Slot.{Slot}
+use Rattle.linked_table.specs.Rings.{In, HasRing, walk}
+use Rattle.linked_table.specs.Table.{Entry, Table}
+
+-- The slot of a node.
+abbrev pub slot_of : ℕ → Slot
+slot_of node = record { 0 = node }
+
+-- The slots of a bucket.
+abbrev pub bucket_at : List (List ℕ) → ℕ → List ℕ
+bucket_at buckets b = slice_index_or buckets b []
+
+-- The nodes of a new table: all slots are free.
+pub record IsAllFree (links : List Links) (max : ℕ) : Type 0 where
+  pub none_used : HasRing links max max []
+  pub all_free : HasRing links max (max + 1) (range_with_len 0 max)
+
+-- The slot is in the list by recency and in the bucket of this key.
+pub record IsKept {K : Type 0} (hash : K → ℕ) (used : List ℕ) (buckets : List (List ℕ)) (node : ℕ) (key : K) : Type 0 where
+  pub used_in : In node used
+  pub bucket_in : In node (bucket_at buckets (hash key % length buckets))
+
+module _ {K V : Type 0} where
+  -- The key and the value in a slot.
+  abbrev pub pair_at : List (Option (K × V)) → ℕ → Option (K × V)
+  pair_at pairs node = slice_index_or pairs node None
+
+  -- The entry of a slot before the others, where the slot has a pair.
+  abbrev pub cons_entry : ℕ → Option (K × V) → List (Entry K V) → List (Entry K V)
+  cons_entry node None rest = rest
+  cons_entry node (Some pair) rest = record { slot = slot_of node; key = pair.0; value = pair.1 } ∷ rest
+
+  -- The entries in these slots.
+  abbrev pub entries_of : List (Option (K × V)) → List ℕ → List (Entry K V)
+  entries_of pairs [] = []
+  entries_of pairs (node ∷ nodes) = cons_entry node (pair_at pairs node) (entries_of pairs nodes)
+
+  -- A table as contracts see it: the entries in the ring by recency.
+  abbrev pub table_of : List (Option (K × V)) → List Links → ℕ → Table K V
+  table_of pairs recency len =
+      record { entries = entries_of pairs (walk recency len (length pairs)); max = length pairs }
+
+  -- The slot has a pair, whose key belongs into this bucket.
+  pub record IsHashed (hash : K → ℕ) (pairs : List (Option (K × V))) (buckets : List (List ℕ)) (node bucket : ℕ) : Type 0 where
+    pub key : K
+    pub value : V
+    pub pair : pair_at pairs node ≡ Some (key, value)
+    pub bucket_is : hash key % length buckets ≡ bucket
+
+  -- The slots with a pair are those in the list by recency, each is in the bucket of its key, and no key stands twice.
+  pub record IsSound (hash : K → ℕ) (pairs : List (Option (K × V))) (recency chains : List Links) (len : ℕ) : Type 0 where
+    -- The slots of the entries, least recently touched first, the free slots, and the slots of each bucket.
+    pub used : List ℕ
+    pub free : List ℕ
+    pub buckets : List (List ℕ)
+    pub used_ring : HasRing recency (length pairs) (length pairs) used
+    pub free_ring : HasRing recency (length pairs) (length pairs + 1) free
+    pub bucket_rings : (b : ℕ) → b < length buckets → HasRing chains (length pairs) (length pairs + b) (bucket_at buckets b)
+    pub chain_nodes : length chains ≡ length pairs + length buckets
+    pub some_bucket : 0 < length buckets
+    pub room : length pairs < 2 ^ 32
+    pub used_count : length used ≡ len
+    pub total : len + length free ≡ length pairs
+    pub bucket_total : sum_by length buckets ≡ len
+    pub used_filled : (node : ℕ) → In node used → pair_at pairs node ≢ None
+    pub free_empty : (node : ℕ) → In node free → pair_at pairs node ≡ None
+    pub bucket_hashed : (b node : ℕ) → In node (bucket_at buckets b) → IsHashed hash pairs buckets node b
+    pub kept : (node : ℕ) (key : K) (value : V) → pair_at pairs node ≡ Some (key, value) → IsKept hash used buckets node key
+    pub keys_apart : (node other : ℕ) (key : K) (value rest : V) → pair_at pairs node ≡ Some (key, value) → pair_at pairs other ≡ Some (key, rest) → node ≡ other

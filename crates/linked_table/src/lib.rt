@@ -1,0 +1,12 @@
+//! A table of keys and values in order of recency, whose whole memory is taken when it is opened.
+#![tactic(auto)]
+
+mod key;
+mod ring;
+mod table;
+
+pub use key::Key;
+pub use table::{LinkedTable, Slot};
+
+#[cfg(test)]
+mod tests;

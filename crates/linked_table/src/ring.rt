@@ -1,0 +1,96 @@
+//! Rings of nodes that are linked by index.
+ghost use Rattle.std.specs.Prelude.{◌≡◌, ◌<◌, length, map, IfOk};
+ghost use Rattle.std.specs.List.{range_with_len};
+ghost use Rattle.linked_table.specs.Rings.{lone, link_at, unlinked, linked_last};
+
+use edge_io::NoMemory;
+use std::alloc::Global;
+use std::marker::Model;
+
+/// The nodes before and after a node in its ring.
+#[derive(Clone, Copy)]
+pub(crate) struct Links {
+    pub(crate) before: usize,
+    pub(crate) after: usize,
+}
+
+/// Nodes that are linked into rings.
+#[derive(Drop)]
+pub(crate) struct Rings {
+    links: Vec<Links>,
+}
+
+impl Model for Rings {
+    ghost use Rattle.std.specs.Prelude.{List};
+    ghost use Rattle.linked_table.specs.declared.ring.Links.{Links};
+
+    ghost Value = { List Links };
+
+    ghost view = { λ rings. rings.links.items };
+}
+
+impl Rings {
+    /// So many nodes, each in a ring of its own.
+    pub(crate) fn open(alloc: Global, count: usize) -> Result<Rings, NoMemory>
+        ensures { IfOk result (λ rings. rings ≡ map lone (range_with_len 0 count)) }
+    {
+        let links = (0..count)
+            .map(|node| Links {
+                before: node,
+                after: node,
+            })
+            .collect(alloc)?;
+        Ok(Rings { links })
+    }
+
+    /// How many nodes there are.
+    pub(crate) fn len(&self) -> usize
+        ensures { result ≡ length self.now }
+    {
+        self.links.len()
+    }
+
+    /// The node before this one.
+    pub(crate) fn before(&self, node: usize) -> usize
+        requires { node < length self.now }
+        ensures { result ≡ (link_at self.now node).before }
+    {
+        self.links[node].before
+    }
+
+    /// The node after this one.
+    pub(crate) fn after(&self, node: usize) -> usize
+        requires { node < length self.now }
+        ensures { result ≡ (link_at self.now node).after }
+    {
+        self.links[node].after
+    }
+
+    /// Lets the nodes around this one lead past it.
+    pub(crate) fn unlink(&mut self, node: usize)
+        requires inside { node < length self.old }
+        requires before_inside { (link_at self.old node).before < length self.old }
+        requires after_inside { (link_at self.old node).after < length self.old }
+        ensures { self.new ≡ unlinked self.old node }
+    {
+        let Links { before, after } = self.links[node];
+        self.links[before].after = after;
+        self.links[after].before = before;
+    }
+
+    /// Makes a node that is in no ring the last before this hub.
+    pub(crate) fn link_last(&mut self, hub: usize, node: usize)
+        requires inside { node < length self.old }
+        requires hub_inside { hub < length self.old }
+        requires last_inside { (link_at self.old hub).before < length self.old }
+        ensures { self.new ≡ linked_last self.old hub node }
+    {
+        let last = self.links[hub].before;
+        self.links[last].after = node;
+        self.links[node] = Links {
+            before: last,
+            after: hub,
+        };
+        self.links[hub].before = node;
+    }
+}

@@ -1,0 +1,267 @@
+//! The table: its entries by recency, and its look-up by the hash of a key.
+ghost use Rattle.std.specs.Prelude.{◌≡◌, ◌+◌, ◌-◌, ◌<◌, ◌≤◌, ◌≢◌, ◌%◌, ◌↔◌, [], ◌∷◌, ◌++◌, length, replicate, false, Option, Some, IfOk, IfErr, OnErr, IsErr, IfSome, IfNone, IsNone};
+ghost use Rattle.std.specs.List.{All, AllPairs};
+ghost use Rattle.linked_table.specs.Table.{IsIn, IsNotIn, HasNone, Wherever, Answers, IsCallableAt, PassesFirst, without, only, with_value, first_slot};
+ghost use Rattle.linked_table.specs.Sound.{IsAllFree};
+
+use crate::key::Key;
+use crate::ring::Rings;
+use edge_io::NoMemory;
+use std::alloc::Global;
+use std::marker::Model;
+use std::mem;
+
+/// The number of a slot, below the number of entries that its table may have.
+#[derive(Clone, Copy, Debug, PartialEq, Eq)]
+pub struct Slot(pub u32);
+
+/// Keys and values in order of recency, no key twice.
+#[derive(Drop)]
+pub struct LinkedTable<K: Key, V> {
+    seed: u64,
+    // The key and the value in each slot.
+    pairs: Vec<Option<(K, V)>>,
+    // A node for each slot, and two hubs: the ring of the entries from the oldest to the newest,
+    // and behind it that of the free slots.
+    recency: Rings,
+    // A node for each slot, and a hub for each bucket: the rings of the entries that share one.
+    chains: Rings,
+    len: u32,
+}
+
+impl<K: Key, V> Model for LinkedTable<K, V> {
+    ghost use Rattle.linked_table.specs.Table.{Table, table_code};
+
+    ghost Value = { Table K V };
+
+    ghost coded = { table_code K.code V.code };
+
+    ghost use Rattle.linked_table.specs.Sound.{table_of, IsSound};
+
+    ghost view = { λ t. table_of t.pairs.items t.recency t.len };
+
+    ghost invariant = { λ t. IsSound (λ k. K.hash_of k t.seed) t.pairs.items t.recency t.chains t.len };
+}
+
+// The bucket of a key, of so many.
+fn bucket_of<K: Key>(key: &K, seed: u64, buckets: usize) -> usize
+    requires { 0 < buckets }
+    ensures { result ≡ K.hash_of key.now seed % buckets }
+{
+    (key.hash_with(seed) % buckets as u64) as usize
+}
+
+// So many slots with nothing in them.
+fn empty_slots<K, V>(alloc: Global, count: u32) -> Result<Vec<Option<(K, V)>>, NoMemory>
+    ensures { IfOk result (λ pairs. pairs.items ≡ replicate count None) }
+{
+    let mut pairs = Vec::with_capacity(alloc, count as usize)?;
+    for _ in 0..count {
+        pairs.push_reserved(None);
+    }
+    Ok(pairs)
+}
+
+// The nodes of so many free slots, with the hubs of the entries and of the free slots.
+fn free_ring(alloc: Global, count: u32) -> Result<Rings, NoMemory>
+    ensures { IfOk result (λ recency. IsAllFree recency count) }
+{
+    let slots = count as usize;
+    let mut recency = Rings::open(alloc, slots + 2)?;
+    for node in 0..slots {
+        recency.link_last(slots + 1, node);
+    }
+    Ok(recency)
+}
+
+// Fills an empty place.
+fn fill<T>(place: &mut Option<T>, value: T)
+    requires { place.old ≡ None }
+    ensures { place.new ≡ Some value }
+{
+    match place.replace(value) {
+        None => {}
+        Some(_) => unreachable!(),
+    }
+}
+
+impl<K: Key, V> LinkedTable<K, V> {
+    /// A table with no entry and room for `max` entries. The seed decides which keys share a hash
+    /// chain, and nothing that a caller sees.
+    pub fn open(alloc: Global, max: u32, seed: u64) -> Result<LinkedTable<K, V>, NoMemory>
+        ensures { IfOk result (λ table. table ≡ record { entries = []; max = max }) }
+    {
+        let recency = free_ring(alloc, max)?;
+        let chains = Rings::open(alloc, 2 * max as usize + 1)?;
+        let pairs = empty_slots(alloc, max)?;
+        Ok(LinkedTable {
+            seed,
+            pairs,
+            recency,
+            chains,
+            len: 0,
+        })
+    }
+
+    /// How many entries there may be.
+    pub fn max(&self) -> u32
+        ensures { result ≡ self.now.max }
+    {
+        self.pairs.len() as u32
+    }
+
+    /// How many entries there are. No slot and no key stands twice.
+    pub fn len(&self) -> u32
+        ensures number { result ≡ length self.now.entries }
+        ensures bounded { length self.now.entries ≤ self.now.max }
+        ensures slots_below { All (λ e. e.slot.0 < self.now.max) self.now.entries }
+        ensures slots_apart { AllPairs (λ e f. e.slot ≢ f.slot) self.now.entries }
+        ensures keys_apart { AllPairs (λ e f. e.key ≢ f.key) self.now.entries }
+    {
+        self.len
+    }
+
+    /// The slot of the entry with this key.
+    pub fn find(&self, key: &K) -> Option<Slot>
+        ensures found { IfSome result (IsIn self.now.entries) }
+        ensures same_key { IfSome result (λ slot. Wherever self.now.entries slot (λ e. e.key ≡ key.now)) }
+        ensures whichever { All (λ e. e.key ≡ key.now → result ≡ Some e.slot) self.now.entries }
+        ensures absent { IsNone result ↔ HasNone self.now.entries key.now }
+    {
+        let slots = self.pairs.len();
+        let hub = slots + bucket_of(key, self.seed, self.chains.len() - slots);
+        let mut node = self.chains.after(hub);
+        for _ in 0..self.len {
+            if node == hub {
+                return None;
+            }
+            if let Some((own, _)) = &self.pairs[node] {
+                if own == key {
+                    return Some(Slot(node as u32));
+                }
+            }
+            node = self.chains.after(node);
+        }
+        None
+    }
+
+    /// The key of the entry.
+    pub fn key_at(&self, slot: Slot) -> K
+        requires { IsIn self.now.entries slot }
+        ensures { Wherever self.now.entries slot (λ e. result ≡ e.key) }
+    {
+        match &self.pairs[slot.0 as usize] {
+            Some((key, _)) => *key,
+            None => unreachable!(),
+        }
+    }
+
+    /// The value of the entry.
+    pub fn at(&self, slot: Slot) -> &V
+        requires { IsIn self.now.entries slot }
+        ensures { Wherever self.now.entries slot (λ e. result.now ≡ e.value) }
+    {
+        match &self.pairs[slot.0 as usize] {
+            Some((_, value)) => value,
+            None => unreachable!(),
+        }
+    }
+
+    /// Gives the entry this value, and answers the value before.
+    pub fn put(&mut self, slot: Slot, value: V) -> V
+        requires { IsIn self.old.entries slot }
+        ensures before { Wherever self.old.entries slot (λ e. result ≡ e.value) }
+        ensures after { self.new ≡ record self.old { entries = with_value self.old.entries slot value } }
+    {
+        match &mut self.pairs[slot.0 as usize] {
+            Some((_, own)) => mem::replace(own, value),
+            None => unreachable!(),
+        }
+    }
+
+    /// Makes the entry the most recently touched one.
+    pub fn touch(&mut self, slot: Slot)
+        requires { IsIn self.old.entries slot }
+        ensures { self.new ≡ record self.old { entries = without self.old.entries slot ++ only self.old.entries slot } }
+    {
+        let entries = self.pairs.len();
+        let node = slot.0 as usize;
+        self.recency.unlink(node);
+        self.recency.link_last(entries, node);
+    }
+
+    /// Takes the entry out.
+    pub fn remove(&mut self, slot: Slot) -> (K, V)
+        requires { IsIn self.old.entries slot }
+        ensures taken { Wherever self.old.entries slot (λ e. result ≡ (e.key, e.value)) }
+        ensures left { self.new ≡ record self.old { entries = without self.old.entries slot } }
+    {
+        let free = self.pairs.len() + 1;
+        let node = slot.0 as usize;
+        self.recency.unlink(node);
+        self.recency.link_last(free, node);
+        self.chains.unlink(node);
+        self.len -= 1;
+        match self.pairs[node].take() {
+            Some(pair) => pair,
+            None => unreachable!(),
+        }
+    }
+
+    /// Adds an entry as the most recently touched one, or hands the pair back where the table is full.
+    pub fn insert(&mut self, key: K, value: V) -> Result<Slot, (K, V)>
+        requires { HasNone self.old.entries key }
+        ensures full { IsErr result ↔ (length self.old.entries ≡ self.old.max) }
+        ensures back { IfErr result (λ pair. pair ≡ (key, value)) }
+        ensures unchanged { OnErr result (self.new ≡ self.old) }
+        ensures below { IfOk result (λ slot. slot.0 < self.old.max) }
+        ensures fresh { IfOk result (IsNotIn self.old.entries) }
+        ensures added { IfOk result (λ slot. self.new ≡ record self.old { entries = self.old.entries ++ record { slot = slot; key = key; value = value } ∷ [] }) }
+    {
+        let slots = self.pairs.len();
+        if self.len as usize == slots {
+            return Err((key, value));
+        }
+        let node = self.recency.before(slots + 1);
+        let hub = slots + bucket_of(&key, self.seed, self.chains.len() - slots);
+        self.recency.unlink(node);
+        self.recency.link_last(slots, node);
+        self.chains.link_last(hub, node);
+        fill(&mut self.pairs[node], (key, value));
+        self.len += 1;
+        Ok(Slot(node as u32))
+    }
+
+    /// The slot of the least recently touched entry.
+    pub fn oldest(&self) -> Option<Slot>
+        ensures first { result ≡ first_slot self.now.entries }
+        ensures inside { IfSome result (IsIn self.now.entries) }
+    {
+        let entries = self.pairs.len();
+        let node = self.recency.after(entries);
+        if node == entries {
+            return None;
+        }
+        Some(Slot(node as u32))
+    }
+
+    /// The slot of the least recently touched entry that passes the test.
+    pub fn oldest_where<F: Fn(Slot, &V) -> bool>(&self, test: F) -> Option<Slot>
+        requires { All (IsCallableAt F.Fn test) self.now.entries }
+        ensures first { IfSome result (PassesFirst F.Fn test self.now.entries) }
+        ensures inside { IfSome result (IsIn self.now.entries) }
+        ensures absent { IfNone result (All (λ e. Answers F.Fn test e false) self.now.entries) }
+    {
+        let mut node = self.pairs.len();
+        for _ in 0..self.len {
+            node = self.recency.after(node);
+            let slot = Slot(node as u32);
+            if let Some((_, value)) = &self.pairs[node] {
+                if test(slot, value) {
+                    return Some(slot);
+                }
+            }
+        }
+        None
+    }
+}
