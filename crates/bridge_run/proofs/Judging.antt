@@ -1,5 +1,5 @@
 -- Which row drops a record, as its tests come out.
-use Rattle.std.proofs.Common.{◌≡◌, ℕ, Bool, true, false, List, Option, Some, None, length, is_none, Ok, Err, refl, sym, ap, ap₂, ◌∙◌, ◌||◌, if◌then◌else◌}
+use Rattle.std.proofs.Common.{◌≡◌, ℕ, Bool, true, false, List, Option, Some, None, length, is_none, Ok, refl, sym, ap, ap₂, ◌∙◌, ◌||◌, if◌then◌else◌}
 use Rattle.wire_base.specs.Ipv4 as ip
 use Rattle.wire_base.specs.Sums.{pseudo_sum}
 use Rattle.wire_base.specs.declared.address.Side.{Side}
@@ -10,7 +10,6 @@ use Rattle.ipv4_codec.specs.declared.header.Ipv4.{Ipv4}
 use Rattle.ipv4_codec.specs.declared.header.IpFault.{IpFault}
 use Rattle.ipv4_codec.specs.declared.header.IpFault.TheVariants as faults
 use Rattle.ipv4_codec.specs.Header.{fields_of, fault_of, result_of, parsed}
-use Rattle.rule_book.specs.declared.rule.Rule.{Rule}
 use Rattle.rule_book.specs.declared.rule.Rule.TheVariants as rules
 use Rattle.norm_settings.specs.Settings.{PlainSettings}
 use Rattle.bridge_run.specs.Rows.{packet_in, side_in, l_snap, i_side, x_later, has_later_mark, has_later_fault, udp_pseudo}

@@ -1,39 +1,28 @@
 -- How a run goes on from record to record, and how it ends.
-use Rattle.std.proofs.Common.{◌≡◌, ℕ, ◌+◌, ◌-◌, ◌<◌, ◌≤◌, Bool, true, false, List, [], ◌∷◌, ◌++◌, map, length, drop, Option, Some, None, Ok, Err, Result, OnOk, refl, sym, ap, ap₂, subst, ◌∙◌, arith, inl, inr, add-one, suc}
+use Rattle.std.proofs.Common.{◌≡◌, ℕ, ◌+◌, ◌≤◌, true, List, [], ◌∷◌, ◌++◌, length, drop, Option, Some, None, Ok, Err, Result, OnOk, refl, sym, ap, ap₂, subst, ◌∙◌, arith, suc}
 use Rattle.std.proofs.KnownBytes.{Appends-trans}
 use Rattle.std.specs.Io.KnownBytes.{Appends}
 use Rattle.wire_base.specs.declared.address.Link.{Link}
 use Rattle.wire_base.specs.declared.address.Side.{Side}
-use Rattle.edge_io.specs.Faults.{Rose}
 use Rattle.pcap_file.specs.declared.head.Head.{Head}
 use Rattle.pcap_file.specs.declared.order.Order.{Order}
-use Rattle.pcap_file.specs.Flaws.{Flaw}
-use Rattle.pcap_file.specs.Heads.{head_of, head_octets, is_read_now}
+use Rattle.pcap_file.specs.Heads.{head_octets, is_read_now}
 use Rattle.pcap_file.specs.Records.{Packet, front_of}
-use Rattle.pcap_file.specs.Capture.{IsCapture, ReadsTo, FailsAt, FailsBehindHead, offset_of}
-use Rattle.pcap_file.specs.Reads.{Leaves, HasEnd, HasFlaw, Advances}
-use Rattle.pcap_file.specs.ReadsHead.{Begins, IsOfAnotherForm}
+use Rattle.pcap_file.specs.Capture.{ReadsTo}
+use Rattle.pcap_file.specs.Reads.{Leaves, HasEnd, Advances}
 use Rattle.pcap_file.specs.Reading.{Reading}
 use Rattle.rule_book.specs.declared.last.Last.TheVariants.{End}
 use Rattle.rule_book.specs.declared.rule.Rule.{Rule}
-use Rattle.rule_book.specs.Text.{first_line, lines_text, last_text, report_text}
+use Rattle.rule_book.specs.Text.{last_text}
 use Rattle.norm_settings.specs.Settings.{PlainSettings}
-use Rattle.bridge_run.specs.Trace.{Item, item_of, packets, entries, dropped_by, frames_by, entry_by, frame_count, frames_octets, named_rows}
-use Rattle.bridge_run.specs.Rows.{side_in}
+use Rattle.bridge_run.specs.Trace.{Item, item_of, packets, dropped_by, frames_by, entry_by, frame_count, frames_octets}
 use Rattle.bridge_run.specs.Engine.{Engaged, StandsFor}
-use Rattle.bridge_run.specs.Stops.{HasFlawAt, HasLaterHead, IsReadForm}
-use Rattle.bridge_run.specs.Run.{Took, TookAll, TakenWhole, SoFar, Going, Begun, Relayed, Normalized, capture_of, report_of}
+use Rattle.bridge_run.specs.Run.{Took, TookAll, TakenWhole, Going, Relayed, Normalized}
 use Rattle.bridge_run.proofs.Traces.{capture_is, report_is}
 
 pub length-packets : (trace : List Item) → length (packets trace) ≡ length trace
 length-packets [] = refl
 length-packets (item ∷ older) = ap suc (length-packets older)
-
--- the head was read, and no record yet
-pub took_head : (a b : Option (List ℕ)) (head : Head) → Begins a b (Ok head) → Took a b head []
-took_head None b head p = tt
-took_head (Some x) None head p = absurd p
-took_head (Some x) (Some y) head p = (p.0, sym p.1)
 
 -- one more record was taken
 took_more : (a b c : Option (List ℕ)) (head : Head) (trace : List Item) (item : Item) (order : Order) (given : ℕ) → order ≡ head.order → given ≡ length trace
@@ -121,47 +110,6 @@ normalized settings head s s' s'' c c' c'' r r' r'' engine reader frames count f
       frames_written = subst (λ x. Appends c x (head_octets head ++ frames_octets head.order trace)) (sym kept) (subst (Appends c c') (capture_is head trace) going.so_far.frames_written);
       report_written = subst (Appends r r'') (ap₂ (λ x y. x ++ y) (report_is trace) line) (Appends-trans r r' r'' _ _ going.so_far.report_written last);
     }
-
--- a head of a form that is read
-form_of_ok : (octets : List ℕ) (head : Head) → head_of octets ≡ Ok head → is_read_now head ≡ true → IsReadForm octets
-form_of_ok octets head a b = λ other c. let same : other ≡ head = cc in ap is_read_now same ∙ b
-
-form_of_err : (octets : List ℕ) (flaw : Flaw) → head_of octets ≡ Err flaw → IsReadForm octets
-form_of_err octets flaw a = λ other c. absurd (cc)
-
--- a flaw of the head is the first
-pub flawed_head : (a b : Option (List ℕ)) (flaw : Flaw) → Begins a b (Err flaw) → HasFlawAt a flaw 0
-flawed_head None b flaw p = tt
-flawed_head (Some x) None flaw p = absurd p
-flawed_head (Some x) (Some y) flaw p = (inl (p.0, refl), form_of_err x flaw p.0)
-
-pub later_head : (a b : Option (List ℕ)) → IsOfAnotherForm a b → HasLaterHead a
-later_head None b p = tt
-later_head (Some x) None p = absurd p.begins
-later_head (Some x) (Some y) p = (p.head, p.begins.0, p.other)
-
--- a flaw behind the records taken is the first
-flaw_behind : (a b : Option (List ℕ)) (head : Head) (trace : List Item) (order : Order) (given place : ℕ) (flaw : Flaw) → order ≡ head.order → given ≡ length trace → place ≡ offset_of (packets trace)
-    → is_read_now head ≡ true → Took a b head trace → HasFlaw order given b flaw → HasFlawAt a flaw place
-flaw_behind None b head trace order given place flaw o g e form p q = tt
-flaw_behind (Some x) None head trace order given place flaw o g e form p q = absurd p
-flaw_behind (Some x) (Some y) head trace order given place flaw o g e form p q = (
-  inr (record {
-    head = head;
-    packets = packets trace;
-    rest = y;
-    accepted = p.0;
-    reads = p.1;
-    flawed = ap₂ (λ k n. front_of k n y) (sym o) (length-packets trace ∙ sym g) ∙ q;
-    place = e;
-  }),
-  form_of_ok x head p.0 form,
-)
-
-pub flawed_record : (settings : PlainSettings) (head : Head) (s s' c c' r r' : Option (List ℕ)) (engine : Engaged) (reader : Reading) (frames : ℕ) (flaw : Flaw)
-    → is_read_now head ≡ true → Going settings head s s' c c' r r' engine reader frames → HasFlaw reader.head.order reader.given s' flaw → HasFlawAt s flaw reader.place
-flawed_record settings head s s' c c' r r' engine reader frames flaw form going flawed =
-    flaw_behind s s' head going.trace reader.head.order reader.given reader.place flaw (ap (λ (h : Head). h.order) going.reader_head) going.given_is going.place_is form going.so_far.took flawed
 
 -- two facts of what went well give a third
 pub on_both : {T E P Q R : Type 0} (r : Result T E) → (P → Q → R) → OnOk r P → OnOk r Q → OnOk r R

@@ -1,16 +1,14 @@
 -- Which status a stop is answered by, and what that says.
-use Rattle.std.proofs.Common.{◌≡◌, ℕ, ◌+◌, ◌≤◌, Bool, true, false, List, Option, Some, None, Ok, Err, refl, sym, ap, ◌∙◌, arith, ◌⊎◌, inl, inr}
+use Rattle.std.proofs.Common.{◌≡◌, ℕ, ◌≤◌, true, false, List, Option, Some, Ok, refl, ap, ◌∙◌, arith, ◌⊎◌, inl, inr}
 use Rattle.edge_io.specs.Faults.{Rose}
-use Rattle.pcap_file.specs.declared.head.Head.{Head}
 use Rattle.pcap_file.specs.Flaws.{Flaw, cut_short, bad_magic, bad_version, bad_link, too_long, too_many}
 use Rattle.pcap_file.specs.Heads.{head_of, is_read_now}
-use Rattle.pcap_file.specs.Records.{Packet}
-use Rattle.pcap_file.specs.Capture.{IsCapture, FailsAt}
+use Rattle.pcap_file.specs.Capture.{FailsAt}
 use Rattle.pcap_file.specs.Laws.{FlawIsOne, FlawExcludesEnd}
 use Rattle.norm_settings.specs.Settings.{PlainSettings}
 use Rattle.bridge_run.specs.declared.stop.Stop.{Stop}
 use Rattle.bridge_run.specs.declared.stop.Stop.TheVariants as stops
-use Rattle.bridge_run.specs.Stops.{Counts, Explains, status_of, is_cut, HasFlawAt, HasLaterHead, IsReadForm, IsFaulty, IsOfLaterForm, IsCutShort, IsWhole, WasFaulty, WasCut}
+use Rattle.bridge_run.specs.Stops.{Counts, Explains, status_of, is_cut, HasLaterHead, IsReadForm, IsFaulty, IsOfLaterForm, IsCutShort, IsWhole, WasFaulty, WasCut}
 use Rattle.bridge_run.specs.Run.{Normalized, TookAll}
 
 -- what the status says

@@ -1,14 +1,13 @@
 -- The item that a judgment is, after a history.
-use Rattle.std.proofs.Common.{◌≡◌, ℕ, ◌+◌, List, [], ◌∷◌, length, Option, Some, None, refl, sym, ap, ap₂, ◌∙◌}
+use Rattle.std.proofs.Common.{◌≡◌, ◌+◌, List, [], length, Option, Some, None, refl, sym, ap, ◌∙◌}
 use Rattle.wire_base.specs.declared.address.Link.{Link}
-use Rattle.wire_base.specs.declared.address.Side.{Side}
 use Rattle.pcap_file.specs.Records.{Packet}
 use Rattle.rule_book.specs.declared.rule.Rule.{Rule}
 use Rattle.norm_settings.specs.Settings.{PlainSettings}
 use Rattle.bridge_run.specs.declared.judge.Judgment.{Judgment}
 use Rattle.bridge_run.specs.declared.judge.Judgment.TheVariants.{Drop, Pass}
 use Rattle.bridge_run.specs.Rows.{side_in}
-use Rattle.bridge_run.specs.Trace.{Item, item_of, entry_by, frames_by, named_rows, dropped_by}
+use Rattle.bridge_run.specs.Trace.{Item, item_of, entry_by, frames_by, named_rows}
 use Rattle.bridge_run.specs.Engine.{Judges, entry_for, frames_for}
 
 pub frames_are : (settings : PlainSettings) (link : Link) (r : Packet) (judgment : Judgment) (history : List Item) → Judges settings link r judgment

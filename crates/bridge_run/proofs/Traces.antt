@@ -1,14 +1,13 @@
 -- Lawful traces: one for the same records, and clean records keep their payload in them.
-use Rattle.std.proofs.Common.{◌≡◌, ℕ, ◌+◌, Bool, true, false, List, [], ◌∷◌, ◌++◌, map, length, Option, Some, None, is_none, ◌&&◌, append-nil, refl, sym, ap, ap₂, ◌∙◌, append_assoc}
+use Rattle.std.proofs.Common.{◌≡◌, Bool, true, List, [], ◌∷◌, ◌++◌, Option, Some, None, is_none, ◌&&◌, append-nil, refl, sym, ap, ap₂, ◌∙◌, append_assoc}
 use Rattle.wire_base.specs.declared.address.Link.{Link}
 use Rattle.pcap_file.specs.declared.head.Head.{Head}
-use Rattle.pcap_file.specs.Records.{Packet}
 use Rattle.pcap_file.specs.Heads.{head_octets}
 use Rattle.rule_book.specs.declared.rule.Rule.{Rule}
 use Rattle.rule_book.specs.Text.{first_line, lines_text, entry_text}
 use Rattle.norm_settings.specs.Settings.{PlainSettings}
 use Rattle.bridge_run.specs.Trace.{Item, Lawful, item_of, packets, entries, dropped_by, frames_by, frames_octets, item_octets}
-use Rattle.bridge_run.specs.Clean.{KeepsPayload, CleanIsKept, is_clean, payload_in}
+use Rattle.bridge_run.specs.Clean.{KeepsPayload, CleanIsKept}
 use Rattle.bridge_run.specs.Run.{capture_of, report_of}
 
 -- a record that no row drops has itself as its one frame

@@ -1,5 +1,5 @@
 -- Clean records: those whose payload goes out as it came (this project's profile).
-use Rattle.std.specs.Prelude.{◌≡◌, ℕ, ◌==◌, ◌&&◌, not, Bool, true, false, List, [], ◌∷◌, drop, Option, Some, None, is_none, if◌then◌else◌}
+use Rattle.std.specs.Prelude.{◌≡◌, ℕ, ◌==◌, ◌&&◌, not, Bool, true, false, List, [], ◌∷◌, drop, is_none, if◌then◌else◌}
 use Rattle.std.specs.List.{list_any}
 use Rattle.wire_base.specs.declared.address.Link.{Link}
 use Rattle.wire_base.specs.Ipv4 as ip

@@ -13,7 +13,7 @@ use Rattle.norm_settings.specs.Settings.{PlainSettings}
 use Rattle.bridge_run.specs.declared.judge.Judgment.{Judgment}
 use Rattle.bridge_run.specs.declared.judge.Judgment.TheVariants.{Drop, Pass}
 use Rattle.bridge_run.specs.Rows.{side_in}
-use Rattle.bridge_run.specs.Trace.{Item, dropped_by, tells_side, item_of}
+use Rattle.bridge_run.specs.Trace.{Item, dropped_by, tells_side}
 
 -- an engine as contracts see it: its settings, its link, and the number of records so far
 pub record Engaged : Type 0 where

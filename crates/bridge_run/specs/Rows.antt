@@ -1,6 +1,6 @@
 -- The rows of the rule table, one definition each, in the order of their numbers (this project's profile).
 -- A row is read of one record, after the items of a history (the newest first), under settings and on a link.
-use Rattle.std.specs.Prelude.{ℕ, ◌+◌, ◌==◌, ◌&&◌, ◌||◌, nat_lt, nat_le, not, Bool, true, false, List, ◌++◌, length, drop, Option, Some, None, is_none, find, filter, if◌then◌else◌}
+use Rattle.std.specs.Prelude.{ℕ, ◌==◌, ◌&&◌, ◌||◌, nat_lt, nat_le, not, Bool, true, false, List, length, drop, Option, Some, None, is_none}
 use Rattle.wire_base.specs.declared.address.Link.{Link}
 use Rattle.wire_base.specs.declared.address.Link.TheVariants.{Ethernet, Raw}
 use Rattle.wire_base.specs.declared.address.Side.{Side}
@@ -9,9 +9,6 @@ use Rattle.wire_base.specs.Ipv4 as ip
 use Rattle.wire_base.specs.Udp as udp
 use Rattle.wire_base.specs.Sums.{pseudo_sum}
 use Rattle.pcap_file.specs.Records.{Packet}
-use Rattle.rule_book.specs.declared.rule.Rule.{Rule}
-use Rattle.rule_book.specs.declared.rule.Rule.TheVariants as rules
-use Rattle.rule_book.specs.Rules.{drop_rows, fix_rows, step_rows}
 use Rattle.norm_settings.specs.Settings.{PlainSettings}
 use Rattle.norm_settings.specs.Side.{side}
 

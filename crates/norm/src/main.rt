@@ -7,10 +7,9 @@ use bridge_run::run;
 use edge_io::{FileSink, FileSource, LineOut};
 use norm_settings::{Command, Names, WordFault, read_words};
 use std::alloc::AllocError;
-use std::env;
 use std::fs::File;
-use std::io;
 use std::process::ExitCode;
+use std::{env, io};
 
 fn main(rt: HostRuntime) -> ExitCode {
     let words = match words_after_name(&rt) {

@@ -4,7 +4,8 @@
 pub const VERSION: &str = "norm 0.1.0\n";
 
 /// The answer to `--help` and `-h`.
-pub const HELP: &str = "norm: an inline traffic normalizer for IPv4, from capture file to capture file
+pub const HELP: &str =
+    "norm: an inline traffic normalizer for IPv4, from capture file to capture file
 
 usage: norm run IN OUT PREFIX
 

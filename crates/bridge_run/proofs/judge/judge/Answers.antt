@@ -1,9 +1,8 @@
-use Rattle.std.proofs.Common.{sym, refl, ap₂, ◌∙◌, true, false}
-use Rattle.wire_base.specs.Sums.{pseudo_sum}
+use Rattle.std.proofs.Common.{sym, refl, ◌∙◌, true, false}
 use Rattle.ipv4_codec.specs.Header.{fields_of, fault_of}
 use Rattle.pcap_file.specs.Reads.{shown}
 use Rattle.norm_settings.specs.Settings.{plain_settings}
-use Rattle.bridge_run.proofs.Judging.{HasSide, read_is_fields, side_told, dropped_late, pseudo_is}
+use Rattle.bridge_run.proofs.Judging.{read_is_fields, side_told, dropped_late, pseudo_is}
 use Rattle.bridge_run.proofs.judge.judge.Goals as goal
 
 pub payload_of-message-requires-clause-fields : goal.payload_of-message-requires-clause-fields

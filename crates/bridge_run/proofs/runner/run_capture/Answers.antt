@@ -1,4 +1,4 @@
-use Rattle.std.proofs.Common.{◌≡◌, ◌∙◌, sym, inl, inr, arith, rules}
+use Rattle.std.proofs.Common.{◌∙◌, sym, inr, arith}
 use Rattle.bridge_run.proofs.Statuses as statuses
 use Rattle.bridge_run.proofs.runner.run_capture.Goals as goal
 

@@ -1,4 +1,4 @@
-use Rattle.std.proofs.Common.{◌≡◌, ℕ, ◌+◌, length, sym, ap, ◌∙◌}
+use Rattle.std.proofs.Common.{◌≡◌, ◌+◌, length, ap, ◌∙◌}
 use Rattle.pcap_file.specs.Reads.{shown}
 use Rattle.norm_settings.specs.Settings.{plain_settings}
 use Rattle.bridge_run.specs.Trace.{item_of}
