@@ -23,14 +23,14 @@ pub enum Judgment {
 
 /// Judges a record by the first row that holds.
 #[tactic(auto, unfolding(crate::specs::Trace::dropped_by))]
-pub fn judge(settings: &Settings, link: Link, record: &Record<'_>) -> Judgment
+pub fn judge(settings: &Settings, link: Link, input: &Record<'_>) -> Judgment
     requires { All (λ p. p.len ≤ 32) settings.now.prefixes.items }
-    ensures { Judges (plain_settings settings.now) link (shown record.now) result }
+    ensures { Judges (plain_settings settings.now) link (shown input.now) result }
 {
-    if is_snapped(record) {
+    if is_snapped(input) {
         return Judgment::Drop(None, Rule::LSnap);
     }
-    let packet = packet_in(link, record.bytes);
+    let packet = packet_in(link, input.bytes);
     let header = match parse(packet) {
         Ok(header) => header,
         Err(fault) => return Judgment::Drop(None, rule_of(fault)),
@@ -55,10 +55,10 @@ pub fn judge(settings: &Settings, link: Link, record: &Record<'_>) -> Judgment
 }
 
 // Whether fewer octets were captured than the packet had.
-fn is_snapped(record: &Record<'_>) -> bool
-    ensures { result ≡ rows.l_snap (shown record.now) }
+fn is_snapped(input: &Record<'_>) -> bool
+    ensures { result ≡ rows.l_snap (shown input.now) }
 {
-    (record.bytes.len() as u64) < u64::from(record.original)
+    (input.bytes.len() as u64) < u64::from(input.original)
 }
 
 // The IPv4 packet in a frame.

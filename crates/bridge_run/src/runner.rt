@@ -189,14 +189,14 @@ fn begin<S: Source, K: Sink, R: Sink>(
 fn relay<K: Sink, R: Sink>(
     engine: &mut Engine,
     head: &Head,
-    record: &Record<'_>,
+    input: &Record<'_>,
     capture: &mut K,
     report: &mut R,
 ) -> Result<u64, Stop>
     requires few { engine.old.records < 2 ^ 32 - 1 }
-    requires small { length record.now.bytes.now ≤ 262144 }
-    ensures relayed { (history : List Item) → StandsFor engine.old history → IfOk result (λ frames. spec.Relayed head.now.order (item_of engine.old.settings engine.old.link history (shown record.now)) (K.held capture.old) (K.held capture.new) (R.held report.old) (R.held report.new) frames) }
-    ensures stands { (history : List Item) → StandsFor engine.old history → StandsFor engine.new (item_of engine.old.settings engine.old.link history (shown record.now) ∷ history) }
+    requires small { length input.now.bytes.now ≤ 262144 }
+    ensures relayed { (history : List Item) → StandsFor engine.old history → IfOk result (λ frames. spec.Relayed head.now.order (item_of engine.old.settings engine.old.link history (shown input.now)) (K.held capture.old) (K.held capture.new) (R.held report.old) (R.held report.new) frames) }
+    ensures stands { (history : List Item) → StandsFor engine.old history → StandsFor engine.new (item_of engine.old.settings engine.old.link history (shown input.now) ∷ history) }
     ensures settings { engine.new.settings ≡ engine.old.settings }
     ensures link { engine.new.link ≡ engine.old.link }
     ensures short { IfOk result (λ frames. frames < 256) }
@@ -204,9 +204,9 @@ fn relay<K: Sink, R: Sink>(
     ensures capture_later { K.fault_count capture.old ≤ K.fault_count capture.new }
     ensures report_later { R.fault_count report.old ≤ R.fault_count report.new }
 {
-    let outcome = engine.step(record);
-    if write_frame(outcome.frame, head, record, capture).is_err() {
-        return Err(Stop::Capture(record.offset));
+    let outcome = engine.step(input);
+    if write_frame(outcome.frame, head, input, capture).is_err() {
+        return Err(Stop::Capture(input.offset));
     }
     if write_line(&outcome.entry, report).is_err() {
         return Err(Stop::Report);
@@ -218,17 +218,17 @@ fn relay<K: Sink, R: Sink>(
 fn write_frame<K: Sink>(
     frame: Option<&[u8]>,
     head: &Head,
-    record: &Record<'_>,
+    input: &Record<'_>,
     capture: &mut K,
 ) -> Result<(), Failed>
     requires { AreShort (frames_in frame) }
-    ensures written { OnOk result (Appends (K.held capture.old) (K.held capture.new) (frame_octets head.now.order (shown record.now) (frames_in frame.entry))) }
+    ensures written { OnOk result (Appends (K.held capture.old) (K.held capture.new) (frame_octets head.now.order (shown input.now) (frames_in frame.entry))) }
     ensures cause { HasCause (K.fault_count capture.old) (K.fault_count capture.new) result }
 {
     let Some(octets) = frame else {
         return Ok(());
     };
-    if write_record(capture, head, record.seconds, record.fraction, octets).is_err() {
+    if write_record(capture, head, input.seconds, input.fraction, octets).is_err() {
         return Err(Failed);
     }
     Ok(())

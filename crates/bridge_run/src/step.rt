@@ -64,19 +64,19 @@ impl Engine {
     }
 
     /// The entry and the frame of this record, after all before it. It takes no memory and copies no frame.
-    pub fn step<'a>(&mut self, record: &Record<'a>) -> Outcome<'a>
+    pub fn step<'a>(&mut self, input: &Record<'a>) -> Outcome<'a>
         requires { self.old.records < 2 ^ 32 - 1 }
         ensures settings { self.new.settings ≡ self.old.settings }
         ensures link { self.new.link ≡ self.old.link }
-        ensures entry { (history : List Item) → StandsFor self.old history → plain result.entry ≡ (item_of self.old.settings self.old.link history (shown record.now)).entry }
-        ensures frames { (history : List Item) → StandsFor self.old history → frames_in result.frame ≡ (item_of self.old.settings self.old.link history (shown record.now)).frames }
+        ensures entry { (history : List Item) → StandsFor self.old history → plain result.entry ≡ (item_of self.old.settings self.old.link history (shown input.now)).entry }
+        ensures frames { (history : List Item) → StandsFor self.old history → frames_in result.frame ≡ (item_of self.old.settings self.old.link history (shown input.now)).frames }
         // A record that may be written goes out as one.
-        ensures short { length record.now.bytes.now ≤ 262144 → AreShort (frames_in result.frame) }
-        ensures stands { (history : List Item) → StandsFor self.old history → StandsFor self.new (item_of self.old.settings self.old.link history (shown record.now) ∷ history) }
+        ensures short { length input.now.bytes.now ≤ 262144 → AreShort (frames_in result.frame) }
+        ensures stands { (history : List Item) → StandsFor self.old history → StandsFor self.new (item_of self.old.settings self.old.link history (shown input.now) ∷ history) }
     {
         self.records += 1;
-        let judgment = judge(&self.settings, self.link, record);
-        outcome_of(self.records, judgment, record)
+        let judgment = judge(&self.settings, self.link, input);
+        outcome_of(self.records, judgment, input)
     }
 }
 
@@ -85,15 +85,15 @@ ghost use Rattle.rule_book.specs.Entries.{plain};
 ghost use Rattle.bridge_run.specs.Engine.{entry_for, frames_for, frames_in, AreShort};
 
 // The entry of the record with this number, and its frame, as it was judged.
-fn outcome_of<'a>(number: u32, judgment: Judgment, record: &Record<'a>) -> Outcome<'a>
+fn outcome_of<'a>(number: u32, judgment: Judgment, input: &Record<'a>) -> Outcome<'a>
     ensures entry { plain result.entry ≡ entry_for number judgment }
-    ensures frames { frames_in result.frame ≡ frames_for judgment record.now.bytes.now }
-    ensures short { length record.now.bytes.now ≤ 262144 → AreShort (frames_in result.frame) }
+    ensures frames { frames_in result.frame ≡ frames_for judgment input.now.bytes.now }
+    ensures short { length input.now.bytes.now ≤ 262144 → AreShort (frames_in result.frame) }
 {
     match judgment {
         Judgment::Pass(side) => Outcome {
             entry: passed(number, side),
-            frame: Some(record.bytes),
+            frame: Some(input.bytes),
         },
         Judgment::Drop(side, rule) => Outcome {
             entry: dropped(number, side, rule),

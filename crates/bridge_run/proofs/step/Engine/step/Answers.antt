@@ -11,11 +11,11 @@ returns-clause-entry c = λ history stands.
     let counted : c.self.inside.records ≡ length history = ap (λ (e : Engaged). e.records) c.self.view_is ∙ stands.counted in
     c.outcome_of.ensures.entry
     ∙ ap (λ n. entry_for (n + 1) c.judge-judgment.result) counted
-    ∙ entry_is (plain_settings c.self.inside.settings) c.self.inside.link (shown c.args.record.now) c.judge-judgment.result history c.judge-judgment.ensures
-    ∙ ap (λ (e : Engaged). (item_of e.settings e.link history (shown c.args.record.now)).entry) c.self.view_is
+    ∙ entry_is (plain_settings c.self.inside.settings) c.self.inside.link (shown c.args.input.now) c.judge-judgment.result history c.judge-judgment.ensures
+    ∙ ap (λ (e : Engaged). (item_of e.settings e.link history (shown c.args.input.now)).entry) c.self.view_is
 
 pub returns-clause-frames : goal.returns-clause-frames
 returns-clause-frames c = λ history stands.
     c.outcome_of.ensures.frames
-    ∙ frames_are (plain_settings c.self.inside.settings) c.self.inside.link (shown c.args.record.now) c.judge-judgment.result history c.judge-judgment.ensures
-    ∙ ap (λ (e : Engaged). (item_of e.settings e.link history (shown c.args.record.now)).frames) c.self.view_is
+    ∙ frames_are (plain_settings c.self.inside.settings) c.self.inside.link (shown c.args.input.now) c.judge-judgment.result history c.judge-judgment.ensures
+    ∙ ap (λ (e : Engaged). (item_of e.settings e.link history (shown c.args.input.now)).frames) c.self.view_is
