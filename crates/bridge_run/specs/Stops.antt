@@ -21,6 +21,9 @@ pub record Counts : Type 0 where
   pub capture : ℕ
   pub report : ℕ
 
+abbrev pub counts : (source capture report : ℕ) → Counts
+counts source capture report = record { source = source; capture = capture; report = report }
+
 -- The octets begin with no head of a form that is not read yet.
 abbrev pub IsReadForm : List ℕ → Type 0
 IsReadForm octets = (head : Head) → head_of octets ≡ Ok head → is_read_now head ≡ true

@@ -11,6 +11,7 @@ ghost use Rattle.norm_settings.specs.Asked.{asked};
 ghost use Rattle.norm_settings.specs.Settings.{plain_settings};
 ghost use Rattle.bridge_run.specs.Trace.{Item, item_of, frame_octets};
 ghost use Rattle.bridge_run.specs.Engine.{StandsFor, frames_in, AreShort};
+ghost use Rattle.bridge_run.specs.Stops.{counts};
 ghost use Rattle.bridge_run.specs.Stops as stops;
 ghost use Rattle.bridge_run.specs.Run as spec;
 
@@ -33,10 +34,13 @@ pub fn run<S: Source, K: Sink, R: Sink>(
     capture: &mut K,
     report: &mut R,
 ) -> u8
-    ensures finished { result ≡ 0 → spec.Finished (map string_bytes words.now) (S.left source.old) (S.left source.new) (K.held capture.old) (K.held capture.new) (R.held report.old) (R.held report.new) }
+    ensures finished { result ≡ 0 → spec.Finished (map string_bytes words.now)
+        (S.left source.old) (S.left source.new) (K.held capture.old) (K.held capture.new)
+        (R.held report.old) (R.held report.new) }
 
     // Words that are refused are answered by 2, and nothing but the report is touched.
-    ensures refused { result ≡ 2 → spec.Refused (map string_bytes words.now) (R.held report.old) (R.held report.new) (R.fault_count report.old) (R.fault_count report.new) }
+    ensures refused { result ≡ 2 → spec.Refused (map string_bytes words.now)
+        (R.held report.old) (R.held report.new) (R.fault_count report.old) (R.fault_count report.new) }
     ensures source_untouched { result ≡ 2 → source.new ≡ source.old }
     ensures capture_untouched { result ≡ 2 → capture.new ≡ capture.old }
     ensures refused_exactly { spec.IsRefused (map string_bytes words.now) → (result ≡ 2) ⊎ (result ≡ 8) }
@@ -49,10 +53,14 @@ pub fn run<S: Source, K: Sink, R: Sink>(
     ensures report { result ≡ 7 → Rose (R.fault_count report.old) (R.fault_count report.new) }
 
     // What stands in the source is answered, unless a count rises or memory is wanting.
-    ensures faulty_exactly { spec.IsAccepted (map string_bytes words.now) → stops.IsFaulty (S.left source.old) → (result ≡ 3) ⊎ (5 ≤ result) }
-    ensures later_exactly { spec.IsAccepted (map string_bytes words.now) → stops.IsOfLaterForm (S.left source.old) → (result ≡ 3) ⊎ (5 ≤ result) }
-    ensures cut_exactly { spec.IsAccepted (map string_bytes words.now) → stops.IsCutShort (S.left source.old) → (result ≡ 4) ⊎ (5 ≤ result) }
-    ensures complete { spec.IsAccepted (map string_bytes words.now) → stops.IsWhole (S.left source.old) → (result ≡ 0) ⊎ (5 ≤ result) }
+    ensures faulty_exactly { spec.IsAccepted (map string_bytes words.now) →
+        stops.IsFaulty (S.left source.old) → (result ≡ 3) ⊎ (5 ≤ result) }
+    ensures later_exactly { spec.IsAccepted (map string_bytes words.now) →
+        stops.IsOfLaterForm (S.left source.old) → (result ≡ 3) ⊎ (5 ≤ result) }
+    ensures cut_exactly { spec.IsAccepted (map string_bytes words.now) →
+        stops.IsCutShort (S.left source.old) → (result ≡ 4) ⊎ (5 ≤ result) }
+    ensures complete { spec.IsAccepted (map string_bytes words.now) →
+        stops.IsWhole (S.left source.old) → (result ≡ 0) ⊎ (5 ≤ result) }
 
     ensures known { (result ≡ 0) ⊎ ((2 ≤ result) × (result ≤ 8)) }
     ensures source_later { S.fault_count source.old ≤ S.fault_count source.new }
@@ -77,7 +85,8 @@ pub fn run<S: Source, K: Sink, R: Sink>(
 fn settings_of(alloc: Global, words: &[String]) -> Result<Settings, WordFault>
     ensures asked { IfOk result (λ settings. spec.AsksRun (map string_bytes words.now) (plain_settings settings)) }
     ensures prefixes { IfOk result (λ settings. All (λ p. p.len ≤ 32) settings.prefixes.items) }
-    ensures refused { IfErr result (λ fault. (fault ≡ WordFault.NoMemory) ⊎ (asked (map string_bytes words.now) ≡ Err fault)) }
+    ensures refused { IfErr result (λ fault.
+        (fault ≡ WordFault.NoMemory) ⊎ (asked (map string_bytes words.now) ≡ Err fault)) }
 {
     match read_words(alloc, words)? {
         Command::Run {
@@ -97,7 +106,9 @@ fn run_capture<S: Source, K: Sink, R: Sink>(
     report: &mut R,
 ) -> u8
     requires { All (λ p. p.len ≤ 32) settings.prefixes.items }
-    ensures finished { result ≡ 0 → spec.Normalized (plain_settings settings) (S.left source.old) (S.left source.new) (K.held capture.old) (K.held capture.new) (R.held report.old) (R.held report.new) }
+    ensures finished { result ≡ 0 → spec.Normalized (plain_settings settings)
+        (S.left source.old) (S.left source.new) (K.held capture.old) (K.held capture.new)
+        (R.held report.old) (R.held report.new) }
     ensures faulty { result ≡ 3 → stops.WasFaulty (S.left source.old) }
     ensures cut { result ≡ 4 → stops.WasCut (S.left source.old) }
     ensures read { result ≡ 5 → Rose (S.fault_count source.old) (S.fault_count source.new) }
@@ -135,10 +146,12 @@ fn normalize<S: Source, K: Sink, R: Sink>(
 ) -> Result<(), Stop>
     requires prefixes { All (λ p. p.len ≤ 32) settings.prefixes.items }
     requires room { 262144 ≤ length buffer.old }
-    ensures finished { OnOk result (spec.Normalized (plain_settings settings) (S.left source.old) (S.left source.new) (K.held capture.old) (K.held capture.new) (R.held report.old) (R.held report.new)) }
+    ensures finished { OnOk result (spec.Normalized (plain_settings settings)
+        (S.left source.old) (S.left source.new) (K.held capture.old) (K.held capture.new)
+        (R.held report.old) (R.held report.new)) }
     ensures explained { IfErr result (λ stop. stops.Explains stop (S.left source.old)
-        (record { source = S.fault_count source.old; capture = K.fault_count capture.old; report = R.fault_count report.old })
-        (record { source = S.fault_count source.new; capture = K.fault_count capture.new; report = R.fault_count report.new })) }
+        (counts (S.fault_count source.old) (K.fault_count capture.old) (R.fault_count report.old))
+        (counts (S.fault_count source.new) (K.fault_count capture.new) (R.fault_count report.new))) }
     ensures source_later { S.fault_count source.old ≤ S.fault_count source.new }
     ensures capture_later { K.fault_count capture.old ≤ K.fault_count capture.new }
     ensures report_later { R.fault_count report.old ≤ R.fault_count report.new }
@@ -164,10 +177,12 @@ fn begin<S: Source, K: Sink, R: Sink>(
     capture: &mut K,
     report: &mut R,
 ) -> Result<Head, Stop>
-    ensures begun { IfOk result (λ head. spec.Begun head (S.left source.old) (S.left source.new) (K.held capture.old) (K.held capture.new) (R.held report.old) (R.held report.new)) }
+    ensures begun { IfOk result (λ head. spec.Begun head
+        (S.left source.old) (S.left source.new) (K.held capture.old) (K.held capture.new)
+        (R.held report.old) (R.held report.new)) }
     ensures explained { IfErr result (λ stop. stops.Explains stop (S.left source.old)
-        (record { source = S.fault_count source.old; capture = K.fault_count capture.old; report = R.fault_count report.old })
-        (record { source = S.fault_count source.new; capture = K.fault_count capture.new; report = R.fault_count report.new })) }
+        (counts (S.fault_count source.old) (K.fault_count capture.old) (R.fault_count report.old))
+        (counts (S.fault_count source.new) (K.fault_count capture.new) (R.fault_count report.new))) }
     ensures source_later { S.fault_count source.old ≤ S.fault_count source.new }
     ensures capture_later { K.fault_count capture.old ≤ K.fault_count capture.new }
     ensures report_later { R.fault_count report.old ≤ R.fault_count report.new }
@@ -195,12 +210,18 @@ fn relay<K: Sink, R: Sink>(
 ) -> Result<u64, Stop>
     requires few { engine.old.records < 2 ^ 32 - 1 }
     requires small { length input.now.bytes.now ≤ 262144 }
-    ensures relayed { (history : List Item) → StandsFor engine.old history → IfOk result (λ frames. spec.Relayed head.now.order (item_of engine.old.settings engine.old.link history (shown input.now)) (K.held capture.old) (K.held capture.new) (R.held report.old) (R.held report.new) frames) }
-    ensures stands { (history : List Item) → StandsFor engine.old history → StandsFor engine.new (item_of engine.old.settings engine.old.link history (shown input.now) ∷ history) }
+    ensures relayed { (history : List Item) → StandsFor engine.old history →
+        IfOk result (λ frames. spec.Relayed head.now.order
+        (item_of engine.old.settings engine.old.link history (shown input.now))
+        (K.held capture.old) (K.held capture.new) (R.held report.old) (R.held report.new) frames) }
+    ensures stands { (history : List Item) → StandsFor engine.old history →
+        StandsFor engine.new (item_of engine.old.settings engine.old.link history (shown input.now) ∷ history) }
     ensures settings { engine.new.settings ≡ engine.old.settings }
     ensures link { engine.new.link ≡ engine.old.link }
     ensures short { IfOk result (λ frames. frames < 256) }
-    ensures explained { IfErr result (λ stop. stops.ExplainsSinks stop (K.fault_count capture.old) (K.fault_count capture.new) (R.fault_count report.old) (R.fault_count report.new)) }
+    ensures explained { IfErr result (λ stop. stops.ExplainsSinks stop
+        (K.fault_count capture.old) (K.fault_count capture.new)
+        (R.fault_count report.old) (R.fault_count report.new)) }
     ensures capture_later { K.fault_count capture.old ≤ K.fault_count capture.new }
     ensures report_later { R.fault_count report.old ≤ R.fault_count report.new }
 {
@@ -222,7 +243,8 @@ fn write_frame<K: Sink>(
     capture: &mut K,
 ) -> Result<(), Failed>
     requires { AreShort (frames_in frame) }
-    ensures written { OnOk result (Appends (K.held capture.old) (K.held capture.new) (frame_octets head.now.order (shown input.now) (frames_in frame.entry))) }
+    ensures written { OnOk result (Appends (K.held capture.old) (K.held capture.new)
+        (frame_octets head.now.order (shown input.now) (frames_in frame.entry))) }
     ensures cause { HasCause (K.fault_count capture.old) (K.fault_count capture.new) result }
 {
     let Some(octets) = frame else {
@@ -254,7 +276,9 @@ fn finish<K: Sink, R: Sink>(
 ) -> Result<(), Stop>
     ensures kept { OnOk result (K.held capture.new ≡ K.held capture.old) }
     ensures written { OnOk result (Appends (R.held report.old) (R.held report.new) (last_text (End records frames))) }
-    ensures explained { IfErr result (λ stop. stops.ExplainsSinks stop (K.fault_count capture.old) (K.fault_count capture.new) (R.fault_count report.old) (R.fault_count report.new)) }
+    ensures explained { IfErr result (λ stop. stops.ExplainsSinks stop
+        (K.fault_count capture.old) (K.fault_count capture.new)
+        (R.fault_count report.old) (R.fault_count report.new)) }
     ensures capture_later { K.fault_count capture.old ≤ K.fault_count capture.new }
     ensures report_later { R.fault_count report.old ≤ R.fault_count report.new }
 {

@@ -68,11 +68,14 @@ impl Engine {
         requires { self.old.records < 2 ^ 32 - 1 }
         ensures settings { self.new.settings ≡ self.old.settings }
         ensures link { self.new.link ≡ self.old.link }
-        ensures entry { (history : List Item) → StandsFor self.old history → plain result.entry ≡ (item_of self.old.settings self.old.link history (shown input.now)).entry }
-        ensures frames { (history : List Item) → StandsFor self.old history → frames_in result.frame ≡ (item_of self.old.settings self.old.link history (shown input.now)).frames }
+        ensures entry { (history : List Item) → StandsFor self.old history →
+            plain result.entry ≡ (item_of self.old.settings self.old.link history (shown input.now)).entry }
+        ensures frames { (history : List Item) → StandsFor self.old history →
+            frames_in result.frame ≡ (item_of self.old.settings self.old.link history (shown input.now)).frames }
         // A record that may be written goes out as one.
         ensures short { length input.now.bytes.now ≤ 262144 → AreShort (frames_in result.frame) }
-        ensures stands { (history : List Item) → StandsFor self.old history → StandsFor self.new (item_of self.old.settings self.old.link history (shown input.now) ∷ history) }
+        ensures stands { (history : List Item) → StandsFor self.old history →
+            StandsFor self.new (item_of self.old.settings self.old.link history (shown input.now) ∷ history) }
     {
         self.records += 1;
         let judgment = judge(&self.settings, self.link, input);

@@ -111,7 +111,8 @@ pub fn tell_memory<R: Sink>(report: &mut R)
 
 /// Says that the words are refused, by the number of their fault.
 pub fn tell_words<R: Sink>(fault: &WordFault, report: &mut R)
-    ensures told { spec.Told (R.held report.old) (R.held report.new) (R.fault_count report.old) (R.fault_count report.new) (spec.words_line (number_of fault.now)) }
+    ensures told { spec.Told (R.held report.old) (R.held report.new)
+        (R.fault_count report.old) (R.fault_count report.new) (spec.words_line (number_of fault.now)) }
     ensures later { R.fault_count report.old ≤ R.fault_count report.new }
 {
     tell(words_line(fault), report);
@@ -139,7 +140,8 @@ fn tell_last<R: Sink>(last: &Last, report: &mut R)
 
 // Writes a line and hands it on, as far as the report takes it.
 fn tell<R: Sink>(line: &[u8], report: &mut R)
-    ensures told { spec.Told (R.held report.old) (R.held report.new) (R.fault_count report.old) (R.fault_count report.new) line.now }
+    ensures told { spec.Told (R.held report.old) (R.held report.new)
+        (R.fault_count report.old) (R.fault_count report.new) line.now }
     ensures later { R.fault_count report.old ≤ R.fault_count report.new }
 {
     if report.put(line).is_err() {
