@@ -24,9 +24,17 @@ use pcap_file::{Head, MAX_CAPTURED, Reader, Record, read_head, write_head, write
 use rule_book::{Entry, Last, entry_line, last_line};
 use std::alloc::Global;
 
-/// Normalizes a capture as the words say, writes the report, and answers the status: 0 where the source was read to its end, 2 where the
-/// words are refused, 3 for a fault of the head or of a captured length, 4 for a capture that is cut short, 5, 6 and 7 for a fault of the
-/// source, of the capture sink and of the report sink, and 8 for want of memory at opening.
+/// Normalizes a capture as the words say, writes the report, and answers the status:
+///
+/// - 0 where the source was read to its end;
+/// - 2 where the words are refused;
+/// - 3 for a flaw of the head, a captured length above 262,144 octets, or a record after 2^32 - 1 others;
+/// - 4 for a capture that ends inside its head or a record;
+/// - 5, 6 and 7 for a fault of the source, of the capture sink and of the report sink;
+/// - 8 for want of memory at opening.
+///
+/// The words do not hold the program's own name. Nothing is read before they are accepted, a fault stops the run, and
+/// what was written before it stays.
 pub fn run<S: Source, K: Sink, R: Sink>(
     alloc: Global,
     words: &[String],

@@ -39,8 +39,8 @@ impl Stop {
         }
     }
 
-    // The last line of the report, where rule and number are those of the report's grammar: not where the report itself failed, nor for
-    // a head of a later form, which has a line of its own.
+    // The last line of the report. There is none where the report itself failed, and a head of a later form has a line
+    // of its own.
     fn last(self) -> Option<Last> {
         let (kind, offset) = match self {
             Stop::Magic => (StopKind::Magic, 0),
