@@ -3,3 +3,4 @@ pub mod Stepping
 pub mod Traces
 pub mod Running
 pub mod Statuses
+pub mod Telling

@@ -1,4 +1,4 @@
--- Why a run stops before it has finished, what its status then says, and the line that refuses words (this project's profile).
+-- Why a run stops before it has finished, what its status then says, and the lines that say so (this project's profile).
 use Rattle.std.specs.Prelude.{◌≡◌, ℕ, ◌+◌, ◌≤◌, ◌⊎◌, Bool, true, false, List, ◌∷◌, [], ◌++◌, codes, Option, Some, None, Ok}
 use Rattle.std.specs.Io.KnownBytes.{Appends}
 use Rattle.edge_io.specs.Faults.{Rose}
@@ -12,6 +12,9 @@ use Rattle.pcap_file.specs.Flaws.{Flaw, cut_short, bad_magic, bad_version, bad_l
 use Rattle.pcap_file.specs.Heads.{head_of, is_read_now}
 use Rattle.pcap_file.specs.Records.{Packet}
 use Rattle.pcap_file.specs.Capture.{FailsAt, IsCapture}
+use Rattle.rule_book.specs.declared.last.Last.TheVariants as last
+use Rattle.rule_book.specs.declared.last.StopKind.TheVariants as kinds
+use Rattle.rule_book.specs.Text.{last_text}
 use Rattle.bridge_run.specs.declared.stop.Stop.{Stop}
 use Rattle.bridge_run.specs.declared.stop.Stop.TheVariants as stops
 
@@ -151,3 +154,20 @@ Told old new before now line = Appends old new line ⊎ (Rose before now × Appe
 -- the line that refuses words, by the number of the fault, which is one digit
 abbrev pub words_line : ℕ → List ℕ
 words_line number = codes "stop words " ++ (48 + number) ∷ 10 ∷ []
+
+-- the line that tells want of memory at opening
+abbrev pub memory_line : List ℕ
+memory_line = last_text (last.Stop kinds.Memory 0)
+
+-- the line that tells why a run stopped; there is none where the report itself failed
+abbrev pub stop_line : Stop → List ℕ
+stop_line stops.Magic = last_text (last.Stop kinds.Magic 0)
+stop_line stops.Version = last_text (last.Stop kinds.Version 0)
+stop_line stops.Link = last_text (last.Stop kinds.Link 0)
+stop_line stops.Later = codes "stop later 0" ++ 10 ∷ []
+stop_line (stops.Long offset) = last_text (last.Stop kinds.Long offset)
+stop_line (stops.Many offset) = last_text (last.Stop kinds.Many offset)
+stop_line (stops.Cut offset) = last_text (last.Stop kinds.Cut offset)
+stop_line (stops.Read offset) = last_text (last.Stop kinds.ReadFault offset)
+stop_line (stops.Capture offset) = last_text (last.Stop kinds.Capture offset)
+stop_line stops.Report = []

@@ -46,12 +46,15 @@ pub fn run<S: Source, K: Sink, R: Sink>(
         (S.left source.old) (S.left source.new) (K.held capture.old) (K.held capture.new)
         (R.held report.old) (R.held report.new) }
 
-    // Words that are refused are answered by 2, and nothing but the report is touched.
+    // Words that are refused are answered by 2, want of memory by 8; then nothing but the report is touched, by one line.
     ensures refused { result ≡ 2 → spec.Refused (map string_bytes words.now)
         (R.held report.old) (R.held report.new) (R.fault_count report.old) (R.fault_count report.new) }
-    ensures source_untouched { result ≡ 2 → source.new ≡ source.old }
-    ensures capture_untouched { result ≡ 2 → capture.new ≡ capture.old }
     ensures refused_exactly { spec.IsRefused (map string_bytes words.now) → (result ≡ 2) ⊎ (result ≡ 8) }
+
+    ensures memory { result ≡ 8 → stops.Told (R.held report.old) (R.held report.new)
+        (R.fault_count report.old) (R.fault_count report.new) stops.memory_line }
+    ensures source_untouched { (result ≡ 2) ⊎ (result ≡ 8) → source.new ≡ source.old }
+    ensures capture_untouched { (result ≡ 2) ⊎ (result ≡ 8) → capture.new ≡ capture.old }
 
     // Statuses 3 and 4 say what stands in the source, 5 to 7 that a count of faults rose.
     ensures faulty { result ≡ 3 → stops.WasFaulty (S.left source.old) }
@@ -114,6 +117,10 @@ fn run_capture<S: Source, K: Sink, R: Sink>(
     report: &mut R,
 ) -> u8
     requires { All (λ p. p.len ≤ 32) settings.prefixes.items }
+    ensures memory { result ≡ 8 → stops.Told (R.held report.old) (R.held report.new)
+        (R.fault_count report.old) (R.fault_count report.new) stops.memory_line }
+    ensures source_untouched { result ≡ 8 → source.new ≡ source.old }
+    ensures capture_untouched { result ≡ 8 → capture.new ≡ capture.old }
     ensures finished { result ≡ 0 → spec.Normalized (plain_settings settings)
         (S.left source.old) (S.left source.new) (K.held capture.old) (K.held capture.new)
         (R.held report.old) (R.held report.new) }

@@ -1,6 +1,7 @@
 //! Why a run stops before it has finished, and the line that says so.
 ghost use Rattle.std.specs.Prelude.{◌≡◌, ◌≤◌, ◌<◌, codes};
 ghost use Rattle.edge_io.specs.Faults.{Rose};
+ghost use Rattle.rule_book.specs.Text.{last_text};
 ghost use Rattle.norm_settings.specs.Faults.{number_of};
 ghost use Rattle.bridge_run.specs.Stops as spec;
 
@@ -38,23 +39,6 @@ impl Stop {
             Stop::Report => 7,
         }
     }
-
-    // The last line of the report. There is none where the report itself failed, and a head of a later form has a line
-    // of its own.
-    fn last(self) -> Option<Last> {
-        let (kind, offset) = match self {
-            Stop::Magic => (StopKind::Magic, 0),
-            Stop::Version => (StopKind::Version, 0),
-            Stop::Link => (StopKind::Link, 0),
-            Stop::Long(offset) => (StopKind::Long, offset),
-            Stop::Many(offset) => (StopKind::Many, offset),
-            Stop::Cut(offset) => (StopKind::Cut, offset),
-            Stop::Read(offset) => (StopKind::ReadFault, offset),
-            Stop::Capture(offset) => (StopKind::Capture, offset),
-            Stop::Later | Stop::Report => return None,
-        };
-        Some(Last::Stop { kind, offset })
-    }
 }
 
 /// The stop at a head with this fault.
@@ -85,28 +69,43 @@ pub fn stop_at_record(fault: RecordFault, offset: u64) -> Stop
 
 /// Hands on what the sinks keep back, and says in the report why the run stops. A fault here changes no status.
 pub fn tell_stop<K: Sink, R: Sink>(stop: Stop, capture: &mut K, report: &mut R)
+    ensures told { spec.Told (R.held report.old) (R.held report.new)
+        (R.fault_count report.old) (R.fault_count report.new) (spec.stop_line stop) }
     ensures capture_later { K.fault_count capture.old ≤ K.fault_count capture.new }
     ensures report_later { R.fault_count report.old ≤ R.fault_count report.new }
 {
     let _ = capture.flush();
     let _ = report.flush();
-    if let Some(last) = stop.last() {
-        tell_last(&last, report);
-    }
-    if stop == Stop::Later {
-        tell(b"stop later 0\n", report);
+    tell_reason(stop, report);
+}
+
+// Says why the run stops; nothing is said of a report that failed.
+fn tell_reason<R: Sink>(stop: Stop, report: &mut R)
+    ensures told { spec.Told (R.held report.old) (R.held report.new)
+        (R.fault_count report.old) (R.fault_count report.new) (spec.stop_line stop) }
+    ensures later { R.fault_count report.old ≤ R.fault_count report.new }
+{
+    match stop {
+        Stop::Magic => tell_kind(StopKind::Magic, 0, report),
+        Stop::Version => tell_kind(StopKind::Version, 0, report),
+        Stop::Link => tell_kind(StopKind::Link, 0, report),
+        Stop::Later => tell(b"stop later 0\n", report),
+        Stop::Long(offset) => tell_kind(StopKind::Long, offset, report),
+        Stop::Many(offset) => tell_kind(StopKind::Many, offset, report),
+        Stop::Cut(offset) => tell_kind(StopKind::Cut, offset, report),
+        Stop::Read(offset) => tell_kind(StopKind::ReadFault, offset, report),
+        Stop::Capture(offset) => tell_kind(StopKind::Capture, offset, report),
+        Stop::Report => {}
     }
 }
 
 /// Says that the memory of a run was not to be had.
 pub fn tell_memory<R: Sink>(report: &mut R)
+    ensures told { spec.Told (R.held report.old) (R.held report.new)
+        (R.fault_count report.old) (R.fault_count report.new) spec.memory_line }
     ensures later { R.fault_count report.old ≤ R.fault_count report.new }
 {
-    let stop = Last::Stop {
-        kind: StopKind::Memory,
-        offset: 0,
-    };
-    tell_last(&stop, report);
+    tell_kind(StopKind::Memory, 0, report);
 }
 
 /// Says that the words are refused, by the number of their fault.
@@ -130,11 +129,14 @@ fn words_line(fault: &WordFault) -> &'static [u8]
     }
 }
 
-fn tell_last<R: Sink>(last: &Last, report: &mut R)
+// Writes the `stop` line of this kind and offset.
+fn tell_kind<R: Sink>(kind: StopKind, offset: u64, report: &mut R)
+    ensures told { spec.Told (R.held report.old) (R.held report.new)
+        (R.fault_count report.old) (R.fault_count report.new) (last_text (Last.Stop kind offset)) }
     ensures later { R.fault_count report.old ≤ R.fault_count report.new }
 {
     let mut line = [0u8; 64];
-    let size = last_line(last, &mut line);
+    let size = last_line(&Last::Stop { kind, offset }, &mut line);
     tell(&line[..size], report);
 }
 

@@ -43,3 +43,12 @@ returns-clause-complete g c = λ f. inr (rw c.status.ensures (statuses.whole_goe
 
 pub returns-clause-known : goal.returns-clause-known
 returns-clause-known g c = let known = statuses.known_of c.in-Err.stop in inr (omega (arith, known.0, c.status.ensures), omega (arith, known.1, c.status.ensures))
+
+pub returns-clause-memory : goal.returns-clause-memory
+returns-clause-memory g c = λ e. absurd (let most = (statuses.known_of c.in-Err.stop).1 in omega (arith, most, c.status.ensures, e))
+
+pub returns-clause-source_untouched : goal.returns-clause-source_untouched
+returns-clause-source_untouched g c = λ e. absurd (let most = (statuses.known_of c.in-Err.stop).1 in omega (arith, most, c.status.ensures, e))
+
+pub returns-clause-capture_untouched : goal.returns-clause-capture_untouched
+returns-clause-capture_untouched g c = λ e. absurd (let most = (statuses.known_of c.in-Err.stop).1 in omega (arith, most, c.status.ensures, e))
