@@ -1,3 +1,4 @@
+pub mod OptionWalk
 pub mod Places
 pub mod Separators
 pub mod Totals

@@ -1,5 +1,6 @@
 pub mod Numbers
 pub mod Sums
+pub mod Frames
 pub mod Prefixes
 pub mod Ipv4
 pub mod Options

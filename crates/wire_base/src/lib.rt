@@ -3,12 +3,14 @@
 
 pub mod address;
 pub mod flags;
+pub mod frame;
 pub mod number;
 pub mod prefix;
 pub mod sums;
 
 pub use address::{Addr, FlowKey, Link, Side};
 pub use flags::Flags;
+pub use frame::{FrameKind, frame_kind};
 pub use number::{put_u16, put_u32, u16_at, u32_at};
 pub use prefix::{Prefix, PrefixFault, read_prefix};
 pub use sums::{pseudo_sum, sum_for, sum_right};

@@ -1,0 +1,33 @@
+-- The packet that an ICMP error message quotes (RFC 792, destination unreachable, time exceeded and parameter problem).
+use Rattle.std.specs.Prelude.{ℕ, ◌+◌, ◌==◌, ◌&&◌, nat_le, Bool, List, Option, Some, None, length, drop, if◌then◌else◌}
+use Rattle.wire_base.specs.Numbers.{u16_at}
+use Rattle.wire_base.specs.Ipv4 as ip
+use Rattle.icmp_codec.specs.declared.quote.QuotedKey.{QuotedKey}
+
+-- what stands behind the eight octets of the message's own header
+abbrev pub quote_of : List ℕ → List ℕ
+quote_of message = drop 8 message
+
+-- what stands behind the header of a quoted packet; its total length counts what was not quoted, and is not looked at
+abbrev pub behind_header : List ℕ → List ℕ
+behind_header packet = drop (ip.header_length packet) packet
+
+-- a version 4 header of at least five words, with eight octets behind it
+abbrev pub is_readable : List ℕ → Bool
+is_readable packet =
+    (ip.version packet == 4) && nat_le 20 (ip.header_length packet) && nat_le (ip.header_length packet + 8) (length packet)
+
+-- the addresses, the protocol, and the ports, which TCP and UDP have first behind the header
+abbrev pub key_of : List ℕ → QuotedKey
+key_of packet =
+    record {
+      src = record { 0 = ip.source packet };
+      dst = record { 0 = ip.destination packet };
+      protocol = ip.protocol packet;
+      sport = u16_at (behind_header packet) 0;
+      dport = u16_at (behind_header packet) 2;
+    }
+
+-- what a message quotes, where that can be read
+abbrev pub quoted_in : List ℕ → Option QuotedKey
+quoted_in message = if is_readable (quote_of message) then Some (key_of (quote_of message)) else None

@@ -1,0 +1,193 @@
+-- Which row on the packet holds, group by group.
+use Rattle.std.proofs.Common.{◌≡◌, ℕ, Bool, true, false, ◌&&◌, ◌||◌, ◌==◌, not, List, ◌++◌, Option, Some, None, Result, Ok, Err, is_none, filter, nat_le, refl, sym, ap, ap₂, ◌∙◌, if◌then◌else◌}
+use Rattle.wire_base.specs.declared.address.Side.{Side}
+use Rattle.wire_base.specs.Ipv4 as ip
+use Rattle.ipv4_codec.specs.declared.header.Ipv4.{Ipv4}
+use Rattle.ipv4_codec.specs.declared.header.IpFault.{IpFault}
+use Rattle.ipv4_codec.specs.declared.header.IpFault.TheVariants as faults
+use Rattle.ipv4_codec.specs.Header.{fields_of, fault_of, result_of, parsed}
+use Rattle.ipv4_codec.specs.Options.{facts_of}
+use Rattle.ipv4_codec.specs.declared.option_area.OptionFacts.{OptionFacts}
+use Rattle.ipv4_codec.specs.declared.option_area.BadOption.{BadOption}
+use Rattle.rule_book.specs.declared.rule.Rule.{Rule}
+use Rattle.rule_book.specs.declared.rule.Rule.TheVariants as rules
+use Rattle.norm_settings.specs.Settings.{PlainSettings}
+use Rattle.norm_settings.specs.Side.{side}
+use Rattle.ip_rules.specs.Rows.{side_in, is_inward, tells_side, i_ttl, piece_fix_rows, whole_fix_rows, i_trail, i_opt, i_res, i_opt_bad, i_route, p_proto}
+use Rattle.ip_rules.specs.Judged.{rule_of, side_or_row, content_row, packet_row, packet_fixes, header_fixes, where_holds}
+
+-- a header is read where it has no fault, with its fields; else its fault is told
+pub read_is_faultless : (fields head : Ipv4) (fault : Option IpFault) → result_of fields fault ≡ Ok head → fault ≡ None
+read_is_faultless fields head None h = refl
+read_is_faultless fields head (Some fault) h = absurd (cc)
+
+pub read_is_fields : (fields head : Ipv4) (fault : Option IpFault) → result_of fields fault ≡ Ok head → head ≡ fields
+read_is_fields fields head None h = cc
+read_is_fields fields head (Some fault) h = absurd (cc)
+
+pub refused_is_fault : (fields : Ipv4) (fault : Option IpFault) (told : IpFault) → result_of fields fault ≡ Err told → fault ≡ Some told
+refused_is_fault fields None told h = absurd (cc)
+refused_is_fault fields (Some fault) told h = cc
+
+-- the first row, from the fault of the header, from the addresses, and from the rest
+abbrev by_fault : Option IpFault → Option Rule → Option Rule
+by_fault (Some fault) rest = Some (rule_of fault)
+by_fault None rest = rest
+
+abbrev by_side : Result Side Rule → Option Rule → Option Rule
+by_side (Err rule) rest = Some rule
+by_side (Ok side) rest = rest
+
+header_first : (short version hlen len sum : Bool) (rest : Option Rule)
+    → (if short then Some rules.IShort else if version then Some rules.IVersion else if hlen then Some rules.IHlen else if len then Some rules.ILen else if sum then Some rules.ISum else rest)
+    ≡ by_fault (if short then Some faults.Short else if version then Some faults.Version else if hlen then Some faults.HeaderLength else if len then Some faults.Length else if sum then Some faults.Sum else None) rest
+header_first true version hlen len sum rest = refl
+header_first false true hlen len sum rest = refl
+header_first false false true len sum rest = refl
+header_first false false false true sum rest = refl
+header_first false false false false true rest = refl
+header_first false false false false false rest = refl
+
+addresses_next : (src dst : Bool) (told : Option Side) (rest : Option Rule)
+    → (if src then Some rules.ISrc else if dst then Some rules.IDst else if is_none told then Some rules.ISide else rest)
+    ≡ by_side (if src then Err rules.ISrc else if dst then Err rules.IDst else elim told [ Some side ↦ Ok side | None ↦ Err rules.ISide ]) rest
+addresses_next true dst told rest = refl
+addresses_next false true told rest = refl
+addresses_next false false (Some side) rest = refl
+addresses_next false false None rest = refl
+
+by_groups : (settings : PlainSettings) (p : List ℕ)
+    → packet_row settings p ≡ by_fault (fault_of p) (by_side (side_or_row settings (ip.source p) (ip.destination p)) (content_row p))
+unfolding packet_row
+by_groups settings p =
+    header_first (ip.is_short p) (ip.has_other_version p) (ip.has_bad_header_length p) (ip.has_bad_total_length p) (ip.has_wrong_sum p) _
+    ∙ ap (by_fault (fault_of p)) (addresses_next (ip.has_bad_source p) (ip.has_bad_destination p) (side_in settings p) (content_row p))
+
+-- the side or the row of a header that is read
+abbrev pub addressed : PlainSettings → Ipv4 → Result Side Rule
+addressed settings head = side_or_row settings head.src.0 head.dst.0
+
+pub faulty_row : (settings : PlainSettings) (p : List ℕ) (fault : IpFault) → parsed p ≡ Err fault → packet_row settings p ≡ Some (rule_of fault)
+faulty_row settings p fault h =
+    by_groups settings p ∙ ap (λ f. by_fault f (by_side (side_or_row settings (ip.source p) (ip.destination p)) (content_row p))) (refused_is_fault (fields_of p) (fault_of p) fault h)
+
+pub late_row : (settings : PlainSettings) (p : List ℕ) (head : Ipv4) (told : Result Side Rule) → parsed p ≡ Ok head → told ≡ addressed settings head
+    → packet_row settings p ≡ by_side told (content_row p)
+late_row settings p head told read is =
+    by_groups settings p
+    ∙ ap (λ f. by_fault f (by_side (side_or_row settings (ip.source p) (ip.destination p)) (content_row p))) (read_is_faultless (fields_of p) head (fault_of p) read)
+    ∙ ap (λ s. by_side s (content_row p)) (sym (is ∙ ap (addressed settings) (read_is_fields (fields_of p) head (fault_of p) read)))
+
+-- where the addresses are judged, the side is that of the packet
+side_by : (src dst : Bool) (told : Option Side) (side : Side)
+    → (if src then Err rules.ISrc else if dst then Err rules.IDst else elim told [ Some side ↦ Ok side | None ↦ Err rules.ISide ]) ≡ Ok side → told ≡ Some side
+side_by true dst told side h = absurd (cc)
+side_by false true told side h = absurd (cc)
+side_by false false None side h = absurd (cc)
+side_by false false (Some other) side h = cc
+
+pub side_told : (settings : PlainSettings) (p : List ℕ) (head : Ipv4) (side : Side) → parsed p ≡ Ok head → Ok side ≡ addressed settings head → side_in settings p ≡ Some side
+side_told settings p head side read is =
+    side_by _ _ _ side (sym (is ∙ ap (addressed settings) (read_is_fields (fields_of p) head (fault_of p) read)))
+
+-- the side is told of the rows on options and protocol, and of none before
+pub fault_is_early : (fault : IpFault) → tells_side (rule_of fault) ≡ false
+fault_is_early faults.Short = refl
+fault_is_early faults.Version = refl
+fault_is_early faults.HeaderLength = refl
+fault_is_early faults.Length = refl
+fault_is_early faults.Sum = refl
+
+address_by : (src dst : Bool) (told : Option Side) (rule : Rule)
+    → (if src then Err rules.ISrc else if dst then Err rules.IDst else elim told [ Some side ↦ Ok side | None ↦ Err rules.ISide ]) ≡ Err rule → tells_side rule ≡ false
+address_by true dst told rule h = let is : rule ≡ rules.ISrc = cc in ap tells_side is
+address_by false true told rule h = let is : rule ≡ rules.IDst = cc in ap tells_side is
+address_by false false None rule h = let is : rule ≡ rules.ISide = cc in ap tells_side is
+address_by false false (Some side) rule h = absurd (cc)
+
+pub address_is_early : (settings : PlainSettings) (head : Ipv4) (rule : Rule) → Err rule ≡ addressed settings head → tells_side rule ≡ false
+address_is_early settings head rule h = address_by _ _ _ rule (sym h)
+
+content_by : (bad route proto : Bool) (rule : Rule)
+    → (if bad then Some rules.IOptBad else if route then Some rules.IRoute else if proto then Some rules.PProto else None) ≡ Some rule → tells_side rule ≡ true
+content_by true route proto rule h = let is : rule ≡ rules.IOptBad = cc in ap tells_side is
+content_by false true proto rule h = let is : rule ≡ rules.IRoute = cc in ap tells_side is
+content_by false false true rule h = let is : rule ≡ rules.PProto = cc in ap tells_side is
+content_by false false false rule h = absurd (cc)
+
+pub content_is_late : (p : List ℕ) (rule : Rule) → content_row p ≡ Some rule → tells_side rule ≡ true
+content_is_late p rule h = content_by (i_opt_bad p) (i_route p) (p_proto p) rule h
+
+-- what the options and the protocol say, as they are read
+bad_by : (formed : Bool) (facts : OptionFacts) (one other : BadOption) → (if formed then Ok facts else Err one) ≡ Err other → formed ≡ false
+bad_by true facts one other h = absurd (cc)
+bad_by false facts one other h = refl
+
+formed_by : (formed : Bool) (facts other : OptionFacts) (bad : BadOption) → (if formed then Ok facts else Err bad) ≡ Ok other → (formed ≡ true) × (other ≡ facts)
+formed_by true facts other bad h = (refl, cc)
+formed_by false facts other bad h = absurd (cc)
+
+abbrev by_options : (formed route proto : Bool) → Option Rule
+by_options formed route proto = if not formed then Some rules.IOptBad else if route then Some rules.IRoute else if proto then Some rules.PProto else None
+
+pub bad_options : (p : List ℕ) (bad : BadOption) → facts_of (ip.options p) ≡ Err bad → Some rules.IOptBad ≡ content_row p
+bad_options p bad h = sym (ap (λ formed. by_options formed (i_route p) (p_proto p)) (bad_by _ _ _ bad h))
+
+pub read_options : (p : List ℕ) (facts : OptionFacts) (known : Bool) → facts_of (ip.options p) ≡ Ok facts
+    → known ≡ ((ip.protocol p == 1) || (ip.protocol p == 6) || (ip.protocol p == 17))
+    → content_row p ≡ (if facts.route then Some rules.IRoute else if not known then Some rules.PProto else None)
+read_options p facts known h is =
+    let told = formed_by _ _ facts _ h in
+    ap (λ formed. by_options formed (i_route p) (p_proto p)) told.0
+    ∙ ap₂ (λ (f : OptionFacts) proto. if f.route then Some rules.IRoute else if not proto then Some rules.PProto else None) (sym told.1) (sym is)
+
+-- the fix rows that hold, one by one
+abbrev chosen : (trail opt res ttl : Bool) → Rule → Bool
+chosen trail opt res ttl rules.ITrail = trail
+chosen trail opt res ttl rules.IOpt = opt
+chosen trail opt res ttl rules.IRes = res
+chosen trail opt res ttl rules.ITtl = ttl
+chosen trail opt res ttl _ = false
+
+piece_by : (trail opt res : Bool)
+    → (where_holds trail rules.ITrail ++ where_holds opt rules.IOpt ++ where_holds res rules.IRes) ≡ filter (chosen trail opt res false) piece_fix_rows
+piece_by true true true = refl
+piece_by true true false = refl
+piece_by true false true = refl
+piece_by true false false = refl
+piece_by false true true = refl
+piece_by false true false = refl
+piece_by false false true = refl
+piece_by false false false = refl
+
+whole_by : (trail opt res ttl : Bool)
+    → ((where_holds trail rules.ITrail ++ where_holds opt rules.IOpt ++ where_holds res rules.IRes) ++ where_holds ttl rules.ITtl) ≡ filter (chosen trail opt res ttl) whole_fix_rows
+whole_by true true true true = refl
+whole_by true true true false = refl
+whole_by true true false true = refl
+whole_by true true false false = refl
+whole_by true false true true = refl
+whole_by true false true false = refl
+whole_by true false false true = refl
+whole_by true false false false = refl
+whole_by false true true true = refl
+whole_by false true true false = refl
+whole_by false true false true = refl
+whole_by false true false false = refl
+whole_by false false true true = refl
+whole_by false false true false = refl
+whole_by false false false true = refl
+whole_by false false false false = refl
+
+pub piece_fixes : (settings : PlainSettings) (p : List ℕ) → header_fixes p ≡ packet_fixes settings p piece_fix_rows
+unfolding packet_fixes
+piece_fixes settings p = piece_by (i_trail p) (i_opt p) (i_res p)
+
+pub whole_fixes : (settings : PlainSettings) (p : List ℕ) (head : Ipv4) (told : Side) (low : Bool) → head ≡ fields_of p → side_in settings p ≡ Some told
+    → low ≡ (is_inward (Some told) && nat_le head.ttl settings.hops) → header_fixes p ++ where_holds low rules.ITtl ≡ packet_fixes settings p whole_fix_rows
+unfolding packet_fixes
+whole_fixes settings p head told low fields side is =
+    let same : low ≡ i_ttl settings p =
+    is ∙ ap (λ (h : Ipv4). is_inward (Some told) && nat_le h.ttl settings.hops) fields
+    ∙ ap (λ s. is_inward s && nat_le (ip.time_to_live p) settings.hops) (sym side) in
+    ap (λ ttl. header_fixes p ++ where_holds ttl rules.ITtl) same ∙ whole_by (i_trail p) (i_opt p) (i_res p) (i_ttl settings p)

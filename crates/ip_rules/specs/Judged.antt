@@ -1,0 +1,100 @@
+-- What an answer says of a record.
+use Rattle.std.specs.Prelude.{◌≡◌, ℕ, Bool, true, false, List, [], ◌∷◌, ◌++◌, drop, Option, Some, None, Result, Ok, Err, find, filter, if◌then◌else◌}
+use Rattle.wire_base.specs.declared.address.Link.{Link}
+use Rattle.wire_base.specs.declared.address.Side.{Side}
+use Rattle.wire_base.specs.Ipv4 as ip
+use Rattle.pcap_file.specs.Records.{Packet}
+use Rattle.ipv4_codec.specs.Header.{fields_of}
+use Rattle.ipv4_codec.specs.declared.header.IpFault.{IpFault}
+use Rattle.ipv4_codec.specs.declared.header.IpFault.TheVariants as faults
+use Rattle.rule_book.specs.declared.rule.Rule.{Rule}
+use Rattle.rule_book.specs.declared.rule.Rule.TheVariants as rules
+use Rattle.norm_settings.specs.Settings.{PlainSettings}
+use Rattle.norm_settings.specs.Side.{side}
+use Rattle.ip_rules.specs.declared.judged.IpPacket.{IpPacket}
+use Rattle.ip_rules.specs.declared.judged.IpJudged.{IpJudged}
+use Rattle.ip_rules.specs.declared.judged.IpJudged.TheVariants.{Arp, Drop, Piece, Whole}
+use Rattle.ip_rules.specs.declared.rows.Linked.{Linked}
+use Rattle.ip_rules.specs.declared.rows.Linked.TheVariants as linked
+use Rattle.ip_rules.specs.Rows.{carries_ip, carries_arp, packet_in, side_in, l_snap, l_short, l_type, i_opt_bad, i_route, p_proto, i_trail, i_opt, i_res, holds_in, ip_drop_rows, whole_fix_rows, piece_fix_rows, ip_dropped_by, ip_fixes, tells_side}
+
+-- the packet of a frame: its side, the fields of its header, the whole frame, the payload up to the total length, and these fix rows
+pub record IsRead (settings : PlainSettings) (octets p : List ℕ) (named : List Rule) (packet : IpPacket) : Type 0 where
+  pub side : side_in settings p ≡ Some packet.side
+  pub head : packet.head ≡ fields_of p
+  pub frame : packet.frame.now ≡ octets
+  pub payload : packet.payload.now ≡ ip.payload p
+  pub fixes : packet.fixes.items ≡ named
+
+-- no row drops the record, which carries IPv4
+pub record IsKept (settings : PlainSettings) (link : Link) (r : Packet) : Type 0 where
+  pub undropped : ip_dropped_by settings link r ≡ None
+  pub carries : carries_ip link r.octets ≡ true
+
+-- The answer is that of the rows: ARP that no row drops; the first row that holds, with the side where that is told; or the packet that the record
+-- carries, a fragment or whole, with the fix rows that hold.
+abbrev pub IsJudged : PlainSettings → Link → Packet → IpJudged → Type 0
+IsJudged settings link r Arp = (ip_dropped_by settings link r ≡ None) × (carries_arp link r.octets ≡ true)
+IsJudged settings link r (Drop side rule) =
+    (ip_dropped_by settings link r ≡ Some rule) × (side ≡ (if tells_side rule then side_in settings (packet_in link r.octets) else None))
+IsJudged settings link r (Piece packet) =
+    IsKept settings link r × (ip.is_fragment (packet_in link r.octets) ≡ true)
+    × IsRead settings r.octets (packet_in link r.octets) (ip_fixes settings link r piece_fix_rows) packet
+IsJudged settings link r (Whole packet) =
+    IsKept settings link r × (ip.is_fragment (packet_in link r.octets) ≡ false)
+    × IsRead settings r.octets (packet_in link r.octets) (ip_fixes settings link r whole_fix_rows) packet
+
+-- the first row on the link that holds, if there is one
+unfoldable pub link_row : Link → Packet → Option Rule
+link_row link r =
+    if l_snap r then Some rules.LSnap else if l_short link r.octets then Some rules.LShort else if l_type link r.octets then Some rules.LType else None
+
+-- what the link says of a record: a row drops it, or it carries ARP or an IPv4 packet
+abbrev pub IsLinked : Link → Packet → Linked → Type 0
+IsLinked link r (linked.Row rule) = link_row link r ≡ Some rule
+IsLinked link r linked.Arp = (link_row link r ≡ None) × (carries_arp link r.octets ≡ true)
+IsLinked link r (linked.Packet packet) = (link_row link r ≡ None) × (carries_ip link r.octets ≡ true) × (packet.now ≡ packet_in link r.octets)
+
+-- the rule that a fault of the header falls under
+abbrev pub rule_of : IpFault → Rule
+rule_of faults.Short = rules.IShort
+rule_of faults.Version = rules.IVersion
+rule_of faults.HeaderLength = rules.IHlen
+rule_of faults.Length = rules.ILen
+rule_of faults.Sum = rules.ISum
+
+-- the side from the one address to the other, or the first row on addresses that holds
+abbrev pub side_or_row : PlainSettings → (source destination : ℕ) → Result Side Rule
+side_or_row settings source destination =
+    if ip.is_bad_source source destination then Err rules.ISrc
+    else if ip.is_bad_destination destination then Err rules.IDst
+    else elim (side settings.prefixes source destination) [ Some side ↦ Ok side | None ↦ Err rules.ISide ]
+
+-- the first row on the options and the protocol that holds, if there is one
+abbrev pub content_row : (packet : List ℕ) → Option Rule
+content_row p = if i_opt_bad p then Some rules.IOptBad else if i_route p then Some rules.IRoute else if p_proto p then Some rules.PProto else None
+
+-- the rule where its condition holds
+abbrev pub where_holds : Bool → Rule → List Rule
+where_holds holds rule = if holds then rule ∷ [] else []
+
+-- the fix rows of a packet that hold, but for that on its TTL
+abbrev pub header_fixes : (packet : List ℕ) → List Rule
+header_fixes p = where_holds (i_trail p) rules.ITrail ++ where_holds (i_opt p) rules.IOpt ++ where_holds (i_res p) rules.IRes
+
+-- the first row on the packet that drops it, if there is one
+unfoldable pub packet_row : PlainSettings → (packet : List ℕ) → Option Rule
+packet_row settings p = find (holds_in settings p) (drop 3 ip_drop_rows)
+
+-- the fix rows that hold of a packet
+unfoldable pub packet_fixes : PlainSettings → (packet : List ℕ) → List Rule → List Rule
+packet_fixes settings p rows = filter (holds_in settings p) rows
+
+-- what the rows on the packet say, where it stands in this frame
+abbrev pub IsJudgedIn : PlainSettings → (frame packet : List ℕ) → IpJudged → Type 0
+IsJudgedIn settings frame p Arp = ⊥
+IsJudgedIn settings frame p (Drop side rule) = (packet_row settings p ≡ Some rule) × (side ≡ (if tells_side rule then side_in settings p else None))
+IsJudgedIn settings frame p (Piece packet) =
+    (packet_row settings p ≡ None) × (ip.is_fragment p ≡ true) × IsRead settings frame p (packet_fixes settings p piece_fix_rows) packet
+IsJudgedIn settings frame p (Whole packet) =
+    (packet_row settings p ≡ None) × (ip.is_fragment p ≡ false) × IsRead settings frame p (packet_fixes settings p whole_fix_rows) packet

@@ -1,0 +1,173 @@
+-- The rows of the rule table on the link, the IPv4 header and the protocol, one definition each, in the order of their numbers (this project's profile).
+-- A row is read of one record, or of the packet in it, under settings and on a link; it knows nothing of other records.
+use Rattle.std.specs.Prelude.{ℕ, ◌==◌, ◌&&◌, ◌||◌, nat_lt, nat_le, not, Bool, true, false, List, length, take, drop, Option, Some, None, is_none, find, filter}
+use Rattle.wire_base.specs.declared.address.Link.{Link}
+use Rattle.wire_base.specs.declared.address.Link.TheVariants.{Ethernet, Raw}
+use Rattle.wire_base.specs.declared.address.Side.{Side}
+use Rattle.wire_base.specs.declared.address.Side.TheVariants.{Inward, Outward}
+use Rattle.wire_base.specs.Ipv4 as ip
+use Rattle.wire_base.specs.Frames.{ethertype}
+use Rattle.wire_base.specs.Options.{are_well_formed, has_route}
+use Rattle.pcap_file.specs.Records.{Packet}
+use Rattle.rule_book.specs.declared.rule.Rule.{Rule}
+use Rattle.rule_book.specs.declared.rule.Rule.TheVariants as rules
+use Rattle.rule_book.specs.Rules.{drop_rows, fix_rows}
+use Rattle.norm_settings.specs.Settings.{PlainSettings}
+use Rattle.norm_settings.specs.Side.{side}
+
+-- the frame carries IPv4: EtherType 0x0800, and every frame of a raw link
+abbrev pub carries_ip : Link → List ℕ → Bool
+carries_ip Ethernet frame = ethertype frame == 2048
+carries_ip Raw frame = true
+
+-- the frame carries ARP: EtherType 0x0806 (RFC 826)
+abbrev pub carries_arp : Link → List ℕ → Bool
+carries_arp Ethernet frame = ethertype frame == 2054
+carries_arp Raw frame = false
+
+-- the IPv4 packet in a frame: behind the Ethernet header of 14 octets, or the whole frame
+abbrev pub packet_in : Link → List ℕ → List ℕ
+packet_in Ethernet frame = drop 14 frame
+packet_in Raw frame = frame
+
+-- the side of a packet: outward from a trusted source to a destination that is not, inward the other way, and otherwise none
+abbrev pub side_in : PlainSettings → (packet : List ℕ) → Option Side
+side_in settings p = side settings.prefixes (ip.source p) (ip.destination p)
+
+abbrev pub is_inward : Option Side → Bool
+is_inward (Some Inward) = true
+is_inward (Some Outward) = false
+is_inward None = false
+
+-- L_SNAP: the captured length is below the original length
+abbrev pub l_snap : Packet → Bool
+l_snap r = nat_lt (length r.octets) r.original
+
+-- L_SHORT: Ethernet with fewer than 14 octets
+abbrev pub l_short : Link → (frame : List ℕ) → Bool
+l_short Ethernet frame = nat_lt (length frame) 14
+l_short Raw frame = false
+
+-- L_TYPE: another EtherType than those of IPv4 and ARP, or ARP of more than 65,549 octets
+abbrev pub l_type : Link → (frame : List ℕ) → Bool
+l_type link frame = not (carries_ip link frame || (carries_arp link frame && nat_le (length frame) 65549))
+
+-- I_SHORT: fewer than 20 octets from the packet's place on (RFC 791 section 3.1)
+abbrev pub i_short : (packet : List ℕ) → Bool
+i_short p = ip.is_short p
+
+-- I_VERSION: the version is not 4
+abbrev pub i_version : (packet : List ℕ) → Bool
+i_version p = ip.has_other_version p
+
+-- I_HLEN: the header length is below 5 words or more than the octets that stand
+abbrev pub i_hlen : (packet : List ℕ) → Bool
+i_hlen p = ip.has_bad_header_length p
+
+-- I_LEN: the total length is below the header's or above the octets that stand
+abbrev pub i_len : (packet : List ℕ) → Bool
+i_len p = ip.has_bad_total_length p
+
+-- I_SUM: the header's words are not right
+abbrev pub i_sum : (packet : List ℕ) → Bool
+i_sum p = ip.has_wrong_sum p
+
+-- I_SRC: the source's first octet is 0, 127, or 224 and above, or source and destination are equal
+abbrev pub i_src : (packet : List ℕ) → Bool
+i_src p = ip.has_bad_source p
+
+-- I_DST: the destination's first octet is 0, 127, or 240 and above
+abbrev pub i_dst : (packet : List ℕ) → Bool
+i_dst p = ip.has_bad_destination p
+
+-- I_SIDE: both addresses are trusted, or neither
+abbrev pub i_side : PlainSettings → (packet : List ℕ) → Bool
+i_side settings p = is_none (side_in settings p)
+
+-- I_OPT_BAD: before the end option or the end of the area an option has no length octet, a length below 2, or reaches past the area
+abbrev pub i_opt_bad : (packet : List ℕ) → Bool
+i_opt_bad p = not (are_well_formed 0 (ip.options p))
+
+-- I_ROUTE: a source route stands before the end option
+abbrev pub i_route : (packet : List ℕ) → Bool
+i_route p = has_route (ip.options p)
+
+-- P_PROTO: the protocol is not ICMP (1), TCP (6) or UDP (17)
+abbrev pub p_proto : (packet : List ℕ) → Bool
+p_proto p = not ((ip.protocol p == 1) || (ip.protocol p == 6) || (ip.protocol p == 17))
+
+-- I_TRAIL: octets stand after the total length
+abbrev pub i_trail : (packet : List ℕ) → Bool
+i_trail p = ip.has_trailer p
+
+-- I_OPT: the header length is above 5 words
+abbrev pub i_opt : (packet : List ℕ) → Bool
+i_opt p = ip.has_options p
+
+-- I_RES: the reserved flag is set
+abbrev pub i_res : (packet : List ℕ) → Bool
+i_res p = ip.has_reserved p
+
+-- I_TTL: inbound, and the packet would not pass `hops` routers
+abbrev pub i_ttl : PlainSettings → (packet : List ℕ) → Bool
+i_ttl settings p = is_inward (side_in settings p) && nat_le (ip.time_to_live p) settings.hops
+
+-- whether the condition of a row on the packet holds of it; the rows of other layers hold of none
+abbrev pub holds_in : PlainSettings → (packet : List ℕ) → Rule → Bool
+holds_in settings p rules.IShort = i_short p
+holds_in settings p rules.IVersion = i_version p
+holds_in settings p rules.IHlen = i_hlen p
+holds_in settings p rules.ILen = i_len p
+holds_in settings p rules.ISum = i_sum p
+holds_in settings p rules.ISrc = i_src p
+holds_in settings p rules.IDst = i_dst p
+holds_in settings p rules.ISide = i_side settings p
+holds_in settings p rules.IOptBad = i_opt_bad p
+holds_in settings p rules.IRoute = i_route p
+holds_in settings p rules.PProto = p_proto p
+holds_in settings p rules.ITrail = i_trail p
+holds_in settings p rules.IOpt = i_opt p
+holds_in settings p rules.IRes = i_res p
+holds_in settings p rules.ITtl = i_ttl settings p
+holds_in settings p _ = false
+
+-- whether the condition of a row on the link, the header or the protocol holds of a record; those on the packet hold only where there is one
+abbrev pub holds_ip : PlainSettings → Link → Packet → Rule → Bool
+holds_ip settings link r rules.LSnap = l_snap r
+holds_ip settings link r rules.LShort = l_short link r.octets
+holds_ip settings link r rules.LType = l_type link r.octets
+holds_ip settings link r rule = carries_ip link r.octets && holds_in settings (packet_in link r.octets) rule
+
+-- the rows that drop, in the order of testing: the first 14
+abbrev pub ip_drop_rows : List Rule
+ip_drop_rows = take 14 drop_rows
+
+-- the rows that mend a whole packet, and those that mend a fragment: its TTL is read of the whole datagram
+abbrev pub whole_fix_rows : List Rule
+whole_fix_rows = take 4 fix_rows
+
+abbrev pub piece_fix_rows : List Rule
+piece_fix_rows = take 3 fix_rows
+
+-- the first row that drops the record, if there is one
+unfoldable pub ip_dropped_by : PlainSettings → Link → Packet → Option Rule
+ip_dropped_by settings link r = find (holds_ip settings link r) ip_drop_rows
+
+-- the rows of these that mend the record's packet, in their order
+unfoldable pub ip_fixes : PlainSettings → Link → Packet → List Rule → List Rule
+ip_fixes settings link r rows = filter (holds_ip settings link r) rows
+
+-- whether the side is told of a record that this row drops: not for the rows up to the one on the side itself
+abbrev pub tells_side : Rule → Bool
+tells_side rules.LSnap = false
+tells_side rules.LShort = false
+tells_side rules.LType = false
+tells_side rules.IShort = false
+tells_side rules.IVersion = false
+tells_side rules.IHlen = false
+tells_side rules.ILen = false
+tells_side rules.ISum = false
+tells_side rules.ISrc = false
+tells_side rules.IDst = false
+tells_side rules.ISide = false
+tells_side _ = true

@@ -1,0 +1,109 @@
+//! The options of an IPv4 header.
+ghost use Rattle.std.specs.Prelude.{◌≡◌, ◌==◌, ◌||◌};
+ghost use Rattle.ipv4_codec.specs.Options.{facts_of};
+
+use thiserror::Error;
+
+// The kinds of options that are told apart: the end of the list, one octet that does nothing, and a loose and a strict
+// source route (RFC 791 section 3.1).
+const END: u8 = 0;
+
+const NO_OPERATION: u8 = 1;
+
+const LOOSE_ROUTE: u8 = 131;
+
+const STRICT_ROUTE: u8 = 137;
+
+/// What an option area holds.
+#[derive(Clone, Copy, Debug, PartialEq, Eq)]
+pub struct OptionFacts {
+    /// The area is not empty.
+    pub some: bool,
+    /// A source route, loose or strict, stands before the end option.
+    pub route: bool,
+}
+
+/// Before the end option or the end of the area an option has no length octet, one below 2, or reaches past the area.
+#[derive(Clone, Copy, Debug, PartialEq, Eq, Error)]
+#[error("an option without a length of at least 2 that lies inside the area")]
+pub struct BadOption;
+
+/// What the octets between a header's 20 octets and its end hold (RFC 791 section 3.1).
+pub fn options(bytes: &[u8]) -> Result<OptionFacts, BadOption>
+    ensures { result ≡ facts_of bytes.now }
+{
+    let mut route = false;
+    let mut at = 0;
+    while at < bytes.len() && bytes[at] != END {
+        let kind = bytes[at];
+        if kind == NO_OPERATION {
+            at += 1;
+            continue;
+        }
+        if bytes.len() - at < 2 {
+            return Err(BadOption);
+        }
+        let size = usize::from(bytes[at + 1]);
+        if size < 2 || bytes.len() - at < size {
+            return Err(BadOption);
+        }
+        route |= is_route(kind);
+        at += size;
+    }
+    Ok(OptionFacts {
+        some: !bytes.is_empty(),
+        route,
+    })
+}
+
+// A source route, loose or strict.
+fn is_route(kind: u8) -> bool
+    ensures { result ≡ ((kind == 131) || (kind == 137)) }
+{
+    kind == LOOSE_ROUTE || kind == STRICT_ROUTE
+}
+
+#[cfg(test)]
+mod tests {
+    use super::*;
+
+    // RFC 791 section 3.1: 130 is security, 68 a time stamp.
+    #[test]
+    fn options_are_told(rt: HostRuntime) {
+        let plain = Ok(OptionFacts {
+            some: true,
+            route: false,
+        });
+        let routed = Ok(OptionFacts {
+            some: true,
+            route: true,
+        });
+        let none = Ok(OptionFacts {
+            some: false,
+            route: false,
+        });
+        let rows: [(&[u8], Result<OptionFacts, BadOption>); 18] = [
+            (&[], none),
+            (&[1, 1, 1, 0], plain),
+            (&[131, 3, 4], routed),
+            (&[137, 3, 4, 0], routed),
+            (&[1, 7, 3, 4, 0, 131, 3, 4], plain),
+            (&[68, 4, 5, 0, 131, 3, 4, 0], routed),
+            (&[68, 4, 131, 137], plain),
+            (&[130, 3, 4, 136, 4, 0, 1], plain),
+            (&[0, 131, 3, 4], plain),
+            (&[0, 131], plain),
+            (&[0, 7, 1, 0], plain),
+            (&[7, 2], plain),
+            (&[7, 1, 1, 0], Err(BadOption)),
+            (&[7, 0, 1, 0], Err(BadOption)),
+            (&[131, 4, 4], Err(BadOption)),
+            (&[1, 1, 131], Err(BadOption)),
+            (&[131, 3, 4, 7, 3], Err(BadOption)),
+            (&[7, 255, 0, 0], Err(BadOption)),
+        ];
+        for (area, facts) in rows {
+            assert_eq!(rt; options(area), facts, "{area:?}");
+        }
+    }
+}

@@ -1,0 +1,73 @@
+//! What a frame carries.
+ghost use Rattle.std.specs.Prelude.{◌≡◌};
+ghost use Rattle.wire_base.specs.Frames.{kind_of};
+
+use crate::{Link, u16_at};
+
+// The octets of an Ethernet II header: two addresses of six octets, and the EtherType (RFC 894).
+const ETHERNET_HEADER: usize = 14;
+
+// The EtherTypes of IPv4 (RFC 894) and of ARP (RFC 826).
+const IPV4: u16 = 0x0800;
+
+const ARP: u16 = 0x0806;
+
+/// What a frame carries.
+#[derive(Clone, Copy, Debug, PartialEq, Eq)]
+pub enum FrameKind {
+    /// An IPv4 packet, from this octet of the frame on.
+    Ip(usize),
+    /// An ARP packet.
+    Arp,
+    /// Nothing that is known: fewer octets than an Ethernet II header has.
+    Short,
+    /// A packet of another EtherType.
+    Other,
+}
+
+/// What the frame carries: on Ethernet by its EtherType (RFC 894, RFC 826), on a raw link always IPv4.
+pub fn frame_kind(link: Link, bytes: &[u8]) -> FrameKind
+    ensures { result ≡ kind_of link bytes.now }
+{
+    if link == Link::Raw {
+        return FrameKind::Ip(0);
+    }
+    if bytes.len() < ETHERNET_HEADER {
+        return FrameKind::Short;
+    }
+    match u16_at(bytes, 12) {
+        IPV4 => FrameKind::Ip(ETHERNET_HEADER),
+        ARP => FrameKind::Arp,
+        _ => FrameKind::Other,
+    }
+}
+
+#[cfg(test)]
+mod tests {
+    use super::*;
+
+    /// The start of an Ethernet II frame with an IPv4 packet, from 02:00:00:00:00:01 to 02:00:00:00:00:02.
+    const HEADER: [u8; 14] = [2, 0, 0, 0, 0, 2, 2, 0, 0, 0, 0, 1, 0x08, 0x00];
+
+    #[test]
+    fn frames_are_told_by_their_ethertype(rt: HostRuntime) {
+        let rows = [
+            ([0x08, 0x00], FrameKind::Ip(14)),
+            ([0x08, 0x06], FrameKind::Arp),
+            ([0x00, 0x08], FrameKind::Other),
+            ([0x08, 0x01], FrameKind::Other),
+            ([0x81, 0x00], FrameKind::Other),
+            ([0x86, 0xdd], FrameKind::Other),
+        ];
+        for (ethertype, kind) in rows {
+            let mut frame = HEADER;
+            frame[12] = ethertype[0];
+            frame[13] = ethertype[1];
+            assert_eq!(rt; frame_kind(Link::Ethernet, &frame), kind, "{ethertype:?}");
+            assert_eq!(rt; frame_kind(Link::Ethernet, &frame[..13]), FrameKind::Short);
+            assert_eq!(rt; frame_kind(Link::Raw, &frame), FrameKind::Ip(0));
+        }
+        assert_eq!(rt; frame_kind(Link::Ethernet, &[]), FrameKind::Short);
+        assert_eq!(rt; frame_kind(Link::Raw, &[]), FrameKind::Ip(0));
+    }
+}
