@@ -1,8 +1,8 @@
 ghost use Rattle.std.specs.Prelude.{◌<◌};
 
 use crate::{
-    BufferedSink, BufferedSource, Failed, FileSink, FileSource, LineOut, MemSink, MemSource, Sink,
-    Source, read_full,
+    BufferedSink, BufferedSource, Failed, FileSink, FileSource, LineOut, MAX_FRAME, MemSink,
+    MemSource, Outbox, Sink, Source, read_full,
 };
 use std::fs::File;
 use std::io::{ErrorKind, Read, Write};
@@ -109,5 +109,26 @@ fn memory_fails_where_it_is_told_to(rt: HostRuntime) -> Result<(), Fail> {
     assert_eq!(rt; put_in_pieces(&mut sink, b"abcdefgh", 3), Err(Failed));
     assert_eq!(rt; sink.put(b"def"), Err(Failed));
     assert_eq!(rt; sink.held(), b"abcde".as_slice());
+    Ok(())
+}
+
+// Two frames in an outbox, the first of the greatest length, and another one after they were taken out.
+#[test]
+fn an_outbox_has_the_frames_of_one_record(rt: HostRuntime) -> Result<(), Fail> {
+    let mut outbox = Outbox::open(rt.alloc()).ok().ok_or("no memory")?;
+    assert_eq!(rt; outbox.frames(), 0);
+    outbox.begin();
+    outbox.append(&[7; MAX_FRAME]);
+    outbox.begin();
+    outbox.append(b"ab");
+    outbox.append(b"cd");
+    assert_eq!(rt; outbox.frames(), 2);
+    assert_eq!(rt; outbox.frame(0).len(), MAX_FRAME);
+    assert_eq!(rt; outbox.frame(1), b"abcd".as_slice());
+    outbox.clear();
+    outbox.begin();
+    outbox.append(b"e");
+    assert_eq!(rt; outbox.frames(), 1);
+    assert_eq!(rt; outbox.frame(0), b"e".as_slice());
     Ok(())
 }

@@ -1,5 +1,5 @@
 -- What the octets that are left begin with, where their first 24 came in one read.
-use Rattle.std.proofs.Common.{◌≡◌, ℕ, Bool, ◌<◌, ◌≤◌, List, ◌++◌, length, take, drop, Some, None, Err, refl, sym, ap, ◌∙◌, arith}
+use Rattle.std.proofs.Common.{◌≡◌, ℕ, Bool, ◌<◌, ◌≤◌, List, ◌++◌, length, take, drop, Some, None, Ok, Err, refl, sym, ap, ◌∙◌, arith}
 use Rattle.std.proofs.lemmas.List.{drop_at, drop_all, length-append}
 use Rattle.std.proofs.lemmas.Bool.Decides.{nat_tests}
 use Rattle.std.specs.Io.KnownBytes.{Consumes, IsAtEnd}
@@ -42,17 +42,17 @@ begins_short (Some x) (Some y) h n few fits p end =
     let size = length_to_end x y h n fits p end in
     (head_short x (omega arith), end ∙ sym (drop_all 24 x (omega arith)))
 
-pub begins : (a b : Option (List ℕ)) (h : List ℕ) (verdict : Result Head Flaw) → length h ≡ 24 → Consumes a b h → head_of h ≡ verdict → Begins a b verdict
+begins : (a b : Option (List ℕ)) (h : List ℕ) (verdict : Result Head Flaw) → length h ≡ 24 → Consumes a b h → head_of h ≡ verdict → Begins a b verdict
 begins None b h verdict size p is = tt
 begins (Some x) None h verdict size p is = absurd p
 begins (Some x) (Some y) h verdict size p is =
     (ap head_of p ∙ head_front h y size ∙ is, sym (ap (drop 24) p ∙ drop_at h y 24 size))
 
 -- what 24 octets say is said of the octets that they came from
-pub refused : (a b : Option (List ℕ)) (h : List ℕ) (fault : HeadFault) → length h ≡ 24 → Consumes a b h → Judges h (Err fault) → ReadsHead a b (Err fault)
-refused a b h faults.Cut size p says = begins a b h _ size p says
-refused a b h faults.Magic size p says = begins a b h _ size p says
-refused a b h faults.Version size p says = begins a b h _ size p says
-refused a b h faults.Link size p says = begins a b h _ size p says
-refused a b h faults.ReadFault size p says = absurd says
-refused a b h faults.Later size p says = absurd says
+pub judged : (a b : Option (List ℕ)) (h : List ℕ) (result : Result Head HeadFault) → length h ≡ 24 → Consumes a b h → Judges h result → ReadsHead a b result
+judged a b h (Ok head) size p says = begins a b h _ size p says
+judged a b h (Err faults.Cut) size p says = begins a b h _ size p says
+judged a b h (Err faults.Magic) size p says = begins a b h _ size p says
+judged a b h (Err faults.Version) size p says = begins a b h _ size p says
+judged a b h (Err faults.Link) size p says = begins a b h _ size p says
+judged a b h (Err faults.ReadFault) size p says = absurd says

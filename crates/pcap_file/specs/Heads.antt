@@ -62,12 +62,3 @@ unfoldable pub head_octets : Head → List ℕ
 head_octets head =
     u32_octets head.order (magic_of head.nano) ++ u16_octets head.order 2 ++ u16_octets head.order 4 ++ replicate 8 0
     ++ u32_octets head.order 262144 ++ u32_octets head.order (network_of head.link)
-
--- of the forms of a head the one that is read so far: little-endian, microseconds, raw IP
-abbrev pub is_form_read : Order → (nano : Bool) → Link → Bool
-is_form_read Little false Raw = true
-is_form_read order nano link = false
-
--- the head has the form that is read so far
-abbrev pub is_read_now : Head → Bool
-is_read_now head = is_form_read head.order head.nano head.link

@@ -1,23 +1,17 @@
 -- What reading the head does to the octets that a source tells. None says that it tells nothing; then nothing is claimed of them.
-use Rattle.std.specs.Prelude.{◌≡◌, ℕ, List, drop, Option, Some, None, Result, Ok, Err, false}
+use Rattle.std.specs.Prelude.{◌≡◌, ℕ, List, drop, Option, Some, None, Result, Ok, Err}
 use Rattle.edge_io.specs.Octets.{TakesFewer}
 use Rattle.pcap_file.specs.declared.head.Head.{Head}
 use Rattle.pcap_file.specs.declared.head.HeadFault.{HeadFault}
 use Rattle.pcap_file.specs.declared.head.HeadFault.TheVariants as faults
 use Rattle.pcap_file.specs.Flaws.{Flaw, cut_short, bad_magic, bad_version, bad_link}
-use Rattle.pcap_file.specs.Heads.{head_of, is_read_now}
+use Rattle.pcap_file.specs.Heads.{head_of}
 
 -- the octets left begin with this head, or with this flaw, and the first 24 of them were taken, or all where they are fewer
 abbrev pub Begins : Option (List ℕ) → Option (List ℕ) → Result Head Flaw → Type 0
 Begins None new verdict = Unit {0}
 Begins (Some xs) None verdict = ⊥
 Begins (Some xs) (Some ys) verdict = (head_of xs ≡ verdict) × (ys ≡ drop 24 xs)
-
--- The head is accepted, but of another form than the one that is read so far.
-pub record IsOfAnotherForm (old new : Option (List ℕ)) : Type 0 where
-  pub head : Head
-  pub begins : Begins old new (Ok head)
-  pub other : is_read_now head ≡ false
 
 -- The head was read, or this is its flaw; a fault of reading takes fewer than 24 octets.
 abbrev pub ReadsHead : Option (List ℕ) → Option (List ℕ) → Result Head HeadFault → Type 0
@@ -27,9 +21,8 @@ ReadsHead old new (Err faults.Magic) = Begins old new (Err bad_magic)
 ReadsHead old new (Err faults.Version) = Begins old new (Err bad_version)
 ReadsHead old new (Err faults.Link) = Begins old new (Err bad_link)
 ReadsHead old new (Err faults.ReadFault) = TakesFewer old new 24
-ReadsHead old new (Err faults.Later) = IsOfAnotherForm old new
 
--- what the 24 octets of a head say by themselves; the form is tested after this, and a fault of reading comes before it
+-- what the 24 octets of a head say by themselves; a fault of reading comes before this
 abbrev pub Judges : List ℕ → Result Head HeadFault → Type 0
 Judges octets (Ok head) = head_of octets ≡ Ok head
 Judges octets (Err faults.Cut) = head_of octets ≡ Err cut_short
@@ -37,4 +30,3 @@ Judges octets (Err faults.Magic) = head_of octets ≡ Err bad_magic
 Judges octets (Err faults.Version) = head_of octets ≡ Err bad_version
 Judges octets (Err faults.Link) = head_of octets ≡ Err bad_link
 Judges octets (Err faults.ReadFault) = ⊥
-Judges octets (Err faults.Later) = ⊥

@@ -1,5 +1,5 @@
 //! The head of a capture file.
-ghost use Rattle.std.specs.Prelude.{◌≡◌, ◌≤◌, length, IfOk, IsErrOf, true};
+ghost use Rattle.std.specs.Prelude.{◌≡◌, ◌≤◌, length, IsErrOf};
 ghost use Rattle.edge_io.specs.Faults.{Rose};
 ghost use Rattle.pcap_file.specs.Heads as heads;
 ghost use Rattle.pcap_file.specs.ReadsHead.{ReadsHead, Judges};
@@ -31,8 +31,6 @@ pub enum HeadFault {
     Link,
     #[error("the source failed")]
     ReadFault,
-    #[error("a form that is not read yet")]
-    Later,
 }
 
 impl From<Failed> for HeadFault {
@@ -106,20 +104,9 @@ fn judge(octets: &[u8]) -> Result<Head, HeadFault>
     Ok(Head { order, nano, link })
 }
 
-// Whether the head has the one form that is read so far.
-fn is_read_now(head: &Head) -> bool
-    ensures { result ≡ heads.is_read_now head.now }
-{
-    match (head.order, head.nano, head.link) {
-        (Order::Little, false, Link::Raw) => true,
-        _ => false,
-    }
-}
-
 /// Reads the head. Zone, accuracy and snap length are not looked at.
 pub fn read_head<S: Source>(source: &mut S) -> Result<Head, HeadFault>
     ensures octets { ReadsHead (S.left source.old) (S.left source.new) result }
-    ensures form { IfOk result (λ head. heads.is_read_now head ≡ true) }
     ensures later { S.fault_count source.old ≤ S.fault_count source.new }
     ensures cause { IsErrOf result HeadFault.ReadFault → Rose (S.fault_count source.old) (S.fault_count source.new) }
 {
@@ -128,9 +115,5 @@ pub fn read_head<S: Source>(source: &mut S) -> Result<Head, HeadFault>
     if count < 24 {
         return Err(HeadFault::Cut);
     }
-    let head = judge(&octets)?;
-    if !is_read_now(&head) {
-        return Err(HeadFault::Later);
-    }
-    Ok(head)
+    judge(&octets)
 }

@@ -1,3 +1,4 @@
+pub mod Mending
 pub mod OptionWalk
 pub mod Places
 pub mod Separators

@@ -1,6 +1,8 @@
 -- The TCP header (RFC 9293 section 3.1), read in the octets of a segment: what an IPv4 packet carries.
-use Rattle.std.specs.Prelude.{ℕ, ◌*◌, ◌/◌, ◌%◌, ◌==◌, ◌&&◌, not, Bool, true, false, List, take, drop, slice_index}
+use Rattle.std.specs.Prelude.{ℕ, ◌*◌, ◌/◌, ◌%◌, ◌==◌, ◌&&◌, ◌||◌, nat_lt, not, Bool, true, false, List, length, take, drop, slice_index}
 use Rattle.wire_base.specs.Numbers.{u16_at, u32_at}
+use Rattle.wire_base.specs.Sums.{sum_is_right}
+use Rattle.wire_base.specs.Options.{are_well_formed}
 
 abbrev pub source_port : List ℕ → ℕ
 source_port m = u16_at m 0
@@ -71,3 +73,23 @@ go_together false fin false ack = ack
 
 abbrev pub are_legal : ℕ → Bool
 are_legal flags = go_together (has_syn flags) (has_fin flags) (has_rst flags) (has_ack flags)
+
+-- fewer octets than the header's fields
+abbrev pub is_short : List ℕ → Bool
+is_short m = nat_lt (length m) 20
+
+-- the header length is below its fields' or above the octets that stand
+abbrev pub has_bad_header_length : List ℕ → Bool
+has_bad_header_length m = nat_lt (header_length m) 20 || nat_lt (length m) (header_length m)
+
+-- the sum is not right; `pseudo` is what is summed before the segment
+abbrev pub has_wrong_sum : (pseudo : ℕ) → List ℕ → Bool
+has_wrong_sum pseudo m = not (sum_is_right m pseudo)
+
+-- SYN, FIN, RST and ACK do not go together
+abbrev pub has_illegal_flags : List ℕ → Bool
+has_illegal_flags m = not (are_legal (flags m))
+
+-- before the end option or the end of the area an option has no length octet, a length below 2, or reaches past the area
+abbrev pub has_bad_options : List ℕ → Bool
+has_bad_options m = not (are_well_formed 0 (options m))
