@@ -4,3 +4,5 @@ pub mod Places
 pub mod Waits
 pub mod Steps
 pub mod Deliveries
+pub mod PlainPackets
+pub mod WrittenPackets

@@ -16,7 +16,7 @@ drop-drop : (a b : ℕ) (p : List ℕ) → drop a (drop b p) ≡ drop (b + a) p
 drop-drop a b p = grind (arith, common_steps)
 
 -- a plain packet carries what stands after the 20 octets of its header
-payload_is : (p : List ℕ) → IsPlainHeader p → ip.payload p ≡ drop 20 p
+pub payload_is : (p : List ℕ) → IsPlainHeader p → ip.payload p ≡ drop 20 p
 payload_is p h = (λ i. drop (h.header_length i) (take (h.total_length i) p)) ∙ ap (drop 20) (take-length p)
 
 octet : (p : List ℕ) (k : ℕ) → IsPlainHeader p → slice_index (ip.payload p) k ≡ slice_index p (20 + k)

@@ -7,3 +7,5 @@ pub mod Agreement
 pub mod Fields
 pub mod Policies
 pub mod Streams
+pub mod Tests
+pub mod Written

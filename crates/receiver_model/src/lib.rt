@@ -5,12 +5,14 @@ pub mod agreement;
 pub mod laws;
 pub mod member;
 mod piece;
+pub mod plain_packet;
 pub mod policy;
 pub mod segment;
 pub mod stream;
 
 pub use agreement::agree;
 pub use member::Member;
+pub use plain_packet::plain;
 pub use policy::Policy;
 pub use segment::{Segment, read_plain};
 pub use stream::Stream;

@@ -1,0 +1,186 @@
+-- What the codecs read of a plain packet, and what is plain of what they read.
+use Rattle.std.proofs.Common.{◌≡◌, ◌↔◌, ◌⊎◌, inl, inr, ℕ, ◌-◌, ◌≤◌, ◌==◌, ◌&&◌, ◌||◌, not, nat_lt, Bool, true, false, List, [], length, take, drop, Option, Some, None, Ok, is_ok, if◌then◌else◌, refl, sym, ap, ◌∙◌, eq-eqb, length-drop, arith}
+use Rattle.std.proofs.lemmas.Bool.{eqb-true, not-true}
+use Rattle.std.proofs.lemmas.Bool.Decides.{nat_tests}
+use Rattle.std.proofs.lemmas.List.{drop_all}
+use Rattle.wire_base.specs.Ipv4 as ip
+use Rattle.wire_base.specs.Udp as udp
+use Rattle.wire_base.specs.Tcp as tcp
+use Rattle.wire_base.specs.Sums.{pseudo_sum, sum_is_right}
+use Rattle.wire_base.specs.Options.{cleaned}
+use Rattle.wire_base.specs.Plain.{IsPlainIcmp, IsPlainMessage, IsPlainTcp, IsPlainUdp, pseudo_of}
+use Rattle.ipv4_codec.specs.Header as ip_header
+use Rattle.udp_codec.specs.Header as udp_header
+use Rattle.icmp_codec.specs.Header as icmp_header
+use Rattle.tcp_codec.specs.Header as tcp_header
+use Rattle.ipv4_codec.specs.declared.header.Ipv4.{Ipv4}
+use Rattle.tcp_codec.specs.declared.header.Tcp.{Tcp}
+use Rattle.tcp_codec.specs.declared.header.TcpFault.{TcpFault}
+use Rattle.tcp_codec.specs.declared.header.SumRule.TheVariants.{Must}
+use Rattle.tcp_codec.proofs.Faults.{area_is, fault_of-options}
+use Rattle.receiver_model.specs.Tests.{is_bare}
+
+-- none of five faults holds
+pub record AllFalse (a b c d e : Bool) : Type 0 where
+  pub first : a ≡ false
+  pub second : b ≡ false
+  pub third : c ≡ false
+  pub fourth : d ≡ false
+  pub fifth : e ≡ false
+
+no_fault : {T : Type 0} (x y z w v : T) (a b c d e : Bool) → (if a then Some x else if b then Some y else if c then Some z else if d then Some w else if e then Some v else None) ≡ None → AllFalse a b c d e
+no_fault x y z w v true b c d e h = cc
+no_fault x y z w v false true c d e h = cc
+no_fault x y z w v false false true d e h = cc
+no_fault x y z w v false false false true e h = cc
+no_fault x y z w v false false false false true h = cc
+no_fault x y z w v false false false false false h = record { first = refl; second = refl; third = refl; fourth = refl; fifth = refl }
+
+not-false : (b : Bool) → not b ≡ false → b ≡ true
+not-false true e = refl
+not-false false e = cc
+
+both : (a b : Bool) → (a && b) ≡ true → (a ≡ true) × (b ≡ true)
+both true b e = (refl, e)
+both false b e = cc
+
+-- a header that was read: its fields, and no fault
+tcp-read : (fields head : Tcp) (fault : Option TcpFault) → Ok head ≡ tcp_header.result_of fields fault → (head ≡ fields) × (fault ≡ None)
+tcp-read fields head None e = (cc, refl)
+tcp-read fields head (Some f) e = cc
+
+pub tcp-header : (m : List ℕ) (pseudo : ℕ) (head : Tcp) → Ok head ≡ tcp_header.parsed Must pseudo m → head.header ≡ tcp.header_length m
+tcp-header m pseudo head e = ap (λ (h : Tcp). h.header) (tcp-read _ head _ e).0
+
+-- the number of octets behind a header
+behind : (m : List ℕ) (header : ℕ) → header ≤ length m → drop header m ≡ [] → header ≡ length m
+behind m header inside e =
+    let left = length-drop header m in
+    let none : length (drop header m) ≡ 0 = ap length e in
+    omega arith
+
+-- what is asked of a plain segment's header
+ends : (marked same : Bool) → marked ≡ true → (not marked || same) ≡ true → same ≡ true
+ends true same m o = o
+ends false same m o = cc
+
+bare-facts : (head : Tcp) (size : ℕ) → is_bare head size ≡ true → (head.reserved ≡ 0) × (tcp.has_urg head.flags.0 ≡ false) × (head.urgent ≡ 0) × ((tcp.has_syn head.flags.0 || tcp.has_rst head.flags.0) ≡ true → head.header ≡ size)
+bare-facts head size e =
+    let a = both _ _ e in
+    let b = both _ _ a.0 in
+    let d = both _ _ b.0 in
+    (eqb-true head.reserved 0 d.0, not-true _ d.1, eqb-true head.urgent 0 b.1, λ marked. eqb-true head.header size (ends _ (head.header == size) marked a.1))
+
+pub tcp-sound : (p : List ℕ) (head : Tcp) → Ok head ≡ tcp_header.parsed Must (pseudo_of p) (ip.payload p) → is_bare head (length (ip.payload p)) ≡ true → cleaned (tcp.has_syn head.flags.0) (tcp.options (ip.payload p)) ≡ tcp.options (ip.payload p) → IsPlainTcp p
+tcp-sound p head e bare kept =
+    let m = ip.payload p in
+    let read = tcp-read _ head _ e in
+    let faults = no_fault _ _ _ _ _ (tcp.is_short m) (tcp.has_bad_header_length m) (tcp.has_wrong_sum (pseudo_of p) m) (tcp.has_illegal_flags m) (tcp.has_bad_options m) read.1 in
+    let facts = bare-facts head (length m) bare in
+    let header : head.header ≡ tcp.header_length m = ap (λ (h : Tcp). h.header) read.0 in
+    let flags : head.flags.0 ≡ tcp.flags m = ap (λ (h : Tcp). h.flags.0) read.0 in
+    let whole : 20 ≤ length m = leb-of (length m) 20 faults.first in
+    let bounds = either-false _ _ faults.second in
+    record {
+      whole_header = whole;
+      data_offset = leb-of (tcp.header_length m) 20 bounds.0;
+      inside = leb-of (length m) (tcp.header_length m) bounds.1;
+      sum = not-false _ faults.third;
+      flags = not-false _ faults.fourth;
+      reserved = ap (λ (h : Tcp). h.reserved) (sym read.0) ∙ facts.0;
+      urgent = ap tcp.has_urg (sym flags) ∙ facts.1;
+      pointer = ap (λ (h : Tcp). h.urgent) (sym read.0) ∙ facts.2;
+      options = not-false _ faults.fifth;
+      kept = ap (λ f. cleaned (tcp.has_syn f) (tcp.options m)) (sym flags) ∙ kept;
+      bare = λ marked. drop_all _ m (omega (arith, header, facts.3 (ap (λ f. tcp.has_syn f || tcp.has_rst f) flags ∙ marked)));
+    }
+  where
+    leb-of : (a b : ℕ) → nat_lt a b ≡ false → b ≤ a
+    leb-of a b h = grind (arith, nat_tests)
+
+    either-false : (a b : Bool) → (a || b) ≡ false → (a ≡ false) × (b ≡ false)
+    either-false true b h = cc
+    either-false false b h = (refl, h)
+
+-- a plain segment is read, and passes what is asked
+pub tcp-reads : (p : List ℕ) → IsPlainTcp p → tcp_header.parsed Must (pseudo_of p) (ip.payload p) ≡ Ok (tcp_header.fields_of (pseudo_of p) (ip.payload p))
+tcp-reads p t =
+    let m = ip.payload p in
+    ap (tcp_header.result_of (tcp_header.fields_of (pseudo_of p) m)) (fault_of-options Must (pseudo_of p) m true t.whole_header t.data_offset t.inside (ap not t.sum) t.flags t.options)
+
+pub tcp-bare : (p : List ℕ) → IsPlainTcp p → is_bare (tcp_header.fields_of (pseudo_of p) (ip.payload p)) (length (ip.payload p)) ≡ true
+tcp-bare p t =
+    let m = ip.payload p in
+    let reserved = eq-eqb _ _ t.reserved in
+    let pointer = eq-eqb _ _ t.pointer in
+    rw (reserved, t.urgent, pointer) (empty _ (λ marked. eq-eqb _ _ (behind m (tcp.header_length m) t.inside (t.bare marked))))
+  where
+    empty : (marked : Bool) {same : Bool} → (marked ≡ true → same ≡ true) → (not marked || same) ≡ true
+    empty true h = h refl
+    empty false h = refl
+
+-- all that a segment was asked, and whether it is plain
+pub tcp-decides : (p m : List ℕ) (pseudo : ℕ) (head : Tcp) (clean bare syn result : Bool) → ip.payload p ≡ m → pseudo_of p ≡ pseudo → Ok head ≡ tcp_header.parsed Must pseudo m → 20 ≤ head.header → syn ≡ tcp.has_syn head.flags.0 → ((clean ≡ true) ↔ (cleaned syn (take (head.header - 20) (drop 20 m)) ≡ take (head.header - 20) (drop 20 m))) → bare ≡ is_bare head (length m) → result ≡ (clean && bare) → (result ≡ true) ↔ IsPlainTcp p
+tcp-decides p m pseudo head clean bare syn result e f read some s kept b r =
+    let here : Ok head ≡ tcp_header.parsed Must (pseudo_of p) (ip.payload p) = read ∙ (λ i. tcp_header.parsed Must (sym f i) (sym e i)) in
+    let fields = (tcp-read _ head _ here).0 in
+    let header : head.header ≡ tcp.header_length m = ap (λ (h : Tcp). h.header) fields ∙ ap tcp.header_length e in
+    let area : take (head.header - 20) (drop 20 m) ≡ tcp.options (ip.payload p) = area_is m head.header header some ∙ ap tcp.options (sym e) in
+    let size : is_bare head (length m) ≡ is_bare head (length (ip.payload p)) = ap (λ xs. is_bare head (length xs)) (sym e) in (
+      λ h.
+          let parts = both clean bare (sym r ∙ h) in
+          tcp-sound p head here (sym size ∙ sym b ∙ parts.1) ((λ i. cleaned (sym s i) (sym area i)) ∙ kept.0 parts.0 ∙ area),
+      λ t.
+          let flags : tcp.has_syn head.flags.0 ≡ tcp.has_syn (tcp.flags (ip.payload p)) = ap (λ (h : Tcp). tcp.has_syn h.flags.0) fields in
+          let one = kept.1 ((λ i. cleaned ((s ∙ flags) i) (area i)) ∙ t.kept ∙ sym area) in
+          let two = b ∙ size ∙ ap (λ (h : Tcp). is_bare h (length (ip.payload p))) fields ∙ tcp-bare p t in
+          r ∙ (λ i. one i && two i),
+    )
+
+-- a message is plain where that of its protocol is
+pub icmp-message : {P : Type 0} (p : List ℕ) → ip.protocol p ≡ 1 → P ↔ IsPlainIcmp p → P ↔ IsPlainMessage p
+icmp-message p e h = (
+  λ x. record { protocol = inl e; icmp = λ _. h.0 x; tcp = λ f. absurd (omega (arith, e, f)); udp = λ f. absurd (omega (arith, e, f)) },
+  λ t. h.1 (t.icmp e),
+)
+
+pub tcp-message : {P : Type 0} (p : List ℕ) → ip.protocol p ≡ 6 → P ↔ IsPlainTcp p → P ↔ IsPlainMessage p
+tcp-message p e h = (
+  λ x. record { protocol = inr (inl e); icmp = λ f. absurd (omega (arith, e, f)); tcp = λ _. h.0 x; udp = λ f. absurd (omega (arith, e, f)) },
+  λ t. h.1 (t.tcp e),
+)
+
+pub udp-message : {P : Type 0} (p : List ℕ) → ip.protocol p ≡ 17 → P ↔ IsPlainUdp p → P ↔ IsPlainMessage p
+udp-message p e h = (
+  λ x. record { protocol = inr (inr e); icmp = λ f. absurd (omega (arith, e, f)); tcp = λ f. absurd (omega (arith, e, f)); udp = λ _. h.0 x },
+  λ t. h.1 (t.udp e),
+)
+
+-- what the two codecs of datagrams read is plain
+icmp-ok : (m : List ℕ) → (is_ok (icmp_header.parsed m) ≡ true) ↔ ((8 ≤ length m) × (sum_is_right m 0 ≡ true))
+icmp-ok m = grind (arith, nat_tests)
+
+pub icmp-decides : (p m : List ℕ) (result : Bool) → ip.payload p ≡ m → result ≡ is_ok (icmp_header.parsed m) → (result ≡ true) ↔ IsPlainIcmp p
+icmp-decides p m result e r =
+    let same : result ≡ is_ok (icmp_header.parsed (ip.payload p)) = r ∙ ap (λ xs. is_ok (icmp_header.parsed xs)) (sym e) in
+    let ok = icmp-ok (ip.payload p) in (
+      λ h. let parts = ok.0 (sym same ∙ h) in record { whole_header = parts.0; sum = parts.1 },
+      λ t. same ∙ ok.1 (t.whole_header, t.sum),
+    )
+
+udp-ok : (pseudo : ℕ) (m : List ℕ) → (is_ok (udp_header.parsed pseudo m) ≡ true) ↔ ((8 ≤ length m) × (udp.length_field m ≡ length m) × ((udp.checksum m ≡ 0) ⊎ (sum_is_right m pseudo ≡ true)))
+udp-ok pseudo m = grind (arith, nat_tests)
+
+pub udp-decides : (p m : List ℕ) (pseudo : ℕ) (result : Bool) → ip.payload p ≡ m → pseudo_of p ≡ pseudo → result ≡ is_ok (udp_header.parsed pseudo m) → (result ≡ true) ↔ IsPlainUdp p
+udp-decides p m pseudo result e f r =
+    let same : result ≡ is_ok (udp_header.parsed (pseudo_of p) (ip.payload p)) = r ∙ (λ i. is_ok (udp_header.parsed (sym f i) (sym e i))) in
+    let ok = udp-ok (pseudo_of p) (ip.payload p) in (
+      λ h. let parts = ok.0 (sym same ∙ h) in record { whole_header = parts.0; size = parts.1; sum = parts.2 },
+      λ t. same ∙ ok.1 (t.whole_header, t.size, t.sum),
+    )
+
+-- what is summed before a message, of the fields that were read
+pub pseudo_is : (p m : List ℕ) (head : Ipv4) → ip.payload p ≡ m → head ≡ ip_header.fields_of p → pseudo_of p ≡ pseudo_sum head.src.0 head.dst.0 head.protocol (length m)
+pseudo_is p m head e fields =
+    let back : ip_header.fields_of p ≡ head = sym fields in
+    λ i. pseudo_sum (back i).src.0 (back i).dst.0 (back i).protocol (length (e i))

@@ -1,0 +1,110 @@
+//! Packets that every host of the family reads alike.
+ghost use Rattle.std.specs.Prelude.{◌≡◌, ◌↔◌, ◌<◌, ◌≤◌, ℕ, List, true, length, IfNone, IfSome, IsTrue};
+ghost use Rattle.ipv4_codec.specs.Header.{fields_of};
+ghost use Rattle.wire_base.specs.Ipv4 as ip;
+ghost use Rattle.wire_base.specs.Options.{are_well_formed, cleaned};
+ghost use Rattle.wire_base.specs.Plain.{IsPlainHeader, IsPlainIcmp, IsPlainMessage, IsPlainTcp, IsPlainUdp, Plain, pseudo_of};
+ghost use Rattle.receiver_model.specs.Tests as test;
+
+use ipv4_codec::Ipv4;
+use tcp_codec::{SumRule, Tcp, clean_options};
+use wire_base::pseudo_sum;
+
+// The octets of a header without options, of IP and of TCP (RFC 791 section 3.1, RFC 9293 section 3.1), and the most that the
+// options of a TCP header have.
+const HEADER: usize = 20;
+
+const OPTIONS: usize = 40;
+
+// The numbers of the protocols that are read.
+const ICMP: u8 = 1;
+
+const TCP: u8 = 6;
+
+const UDP: u8 = 17;
+
+/// Whether each host behind at most `hops` routers gets this packet and reads it as its fields say (this project's profile).
+pub fn plain(hops: u8, bytes: &[u8]) -> bool
+    ensures { IsTrue result ↔ Plain hops bytes.now }
+{
+    match plain_header(bytes) {
+        Some(head) => {
+            let message = is_plain_message(&head, bytes);
+            hops < head.ttl && message
+        }
+        None => false,
+    }
+}
+
+// The header of a packet, where it is plain.
+fn plain_header(bytes: &[u8]) -> Option<Ipv4>
+    ensures fields { IfSome result (λ head. head ≡ fields_of bytes.now) }
+    ensures some { IfSome result (λ head. IsPlainHeader bytes.now) }
+    ensures none { IfNone result (IsPlainHeader bytes.now → ⊥) }
+{
+    match ipv4_codec::parse(bytes) {
+        Ok(head) if is_whole(&head, bytes.len()) => Some(head),
+        _ => None,
+    }
+}
+
+// Of a packet with so many octets: no options, no octet behind it, no reserved mark, and no piece.
+fn is_whole(head: &Ipv4, len: usize) -> bool
+    ensures { result ≡ test.is_whole head.now len }
+{
+    head.header == HEADER
+        && usize::from(head.total) == len
+        && !head.reserved
+        && !head.more
+        && head.offset == 0
+}
+
+// The message behind a plain header.
+fn is_plain_message(head: &Ipv4, bytes: &[u8]) -> bool
+    requires header { IsPlainHeader bytes.now }
+    requires fields { head.now ≡ fields_of bytes.now }
+    ensures { IsTrue result ↔ IsPlainMessage bytes.now }
+{
+    let message = &bytes[HEADER..];
+    let pseudo = pseudo_sum(head.src, head.dst, head.protocol, message.len() as u16);
+    match head.protocol {
+        ICMP => icmp_codec::parse(message).is_ok(),
+        TCP => is_plain_tcp(message, pseudo),
+        UDP => udp_codec::parse(message, pseudo).is_ok(),
+        _ => false,
+    }
+}
+
+// A segment, with what is summed before it.
+fn is_plain_tcp(message: &[u8], pseudo: u32) -> bool
+    ensures { (p : List ℕ) → ip.payload p ≡ message.now → pseudo_of p ≡ pseudo → IsTrue result ↔ IsPlainTcp p }
+{
+    match tcp_codec::parse(message, pseudo, SumRule::Must) {
+        Ok(head) => {
+            let clean = is_clean(&message[HEADER..head.header], head.flags.syn());
+            let bare = is_bare(&head, message.len());
+            clean && bare
+        }
+        Err(_) => false,
+    }
+}
+
+// Of a segment with so many octets: no reserved bit and no urgent mark, and no octets on SYN or RST.
+fn is_bare(head: &Tcp, len: usize) -> bool
+    ensures { result ≡ test.is_bare head.now len }
+{
+    let empty = !(head.flags.syn() || head.flags.rst()) || head.header == len;
+    head.reserved == 0 && !head.flags.urg() && head.urgent == 0 && empty
+}
+
+// Cleaning leaves the options alone.
+fn is_clean(options: &[u8], syn: bool) -> bool
+    requires room { length options.now ≤ 40 }
+    requires formed { are_well_formed 0 options.now ≡ true }
+    ensures { IsTrue result ↔ (cleaned syn options.now ≡ options.now) }
+{
+    let mut area = [0; OPTIONS];
+    let area = &mut area[..options.len()];
+    area.copy_from_slice(options);
+    !clean_options(area, syn)
+}

@@ -1,0 +1,158 @@
+-- What cleaning leaves of an area: laws over all areas.
+use Rattle.std.proofs.Common.{◌≡◌, ℕ, zero, suc, ◌-◌, ◌≤◌, ◌<◌, ◌⊎◌, ◌==◌, inl, inr, Bool, true, false, List, [], ◌∷◌, length, get_or, replicate, refl, sym, ap, ◌∙◌, ⊎_elim, arith}
+use Rattle.std.proofs.lemmas.Bool.{cases_lt, ne_eqb}
+use Rattle.std.proofs.lemmas.Bool.Decides.{nat_tests}
+use Rattle.std.proofs.lemmas.List.{length-replicate}
+use Rattle.wire_base.specs.Options.{are_well_formed, cleaned_from, is_kept}
+use Rattle.wire_base.proofs.OptionWalk.{are_well_formed-size, are_well_formed-small}
+use Rattle.tcp_codec.specs.Cleaning.{CleansOctets, CleansOnce, StaysWellFormed, end_from}
+use Rattle.tcp_codec.proofs.Cleanings.{cleaned_from-first, cleaned_from-other}
+
+-- the octets that still belong to an option where the cleaned area is walked: those of one that was kept
+abbrev pub again : Bool → ℕ → ℕ
+again true left = left
+again false left = 0
+
+again-zero : (keep : Bool) → again keep zero ≡ zero
+again-zero true = refl
+again-zero false = refl
+
+which : (b : Bool) → (b ≡ true) ⊎ (b ≡ false)
+which true = inl refl
+which false = inr refl
+
+-- an option that is kept has its length octet
+kept-size : (syn : Bool) (before : List ℕ) (kind size : ℕ) → is_kept syn before kind size ≡ true → 2 ≤ size
+kept-size syn before kind size keep = grind (arith, nat_tests)
+
+-- which is kept
+first-octet : (syn : Bool) (before : List ℕ) (left : ℕ) (octets : List ℕ) → 1 ≤ left → get_or (cleaned_from syn before true left octets) 0 0 ≡ get_or octets 0 0
+first-octet syn before zero octets some = absurd (omega arith)
+first-octet syn before (suc left) [] some = refl
+first-octet syn before (suc left) (x ∷ octets) some = refl
+
+-- a cleaned area stays as it is
+once : (syn : Bool) (before : List ℕ) (keep : Bool) (left : ℕ) (octets : List ℕ) → cleaned_from syn before true (again keep left) (cleaned_from syn before keep left octets) ≡ cleaned_from syn before keep left octets
+once syn before keep left [] = refl
+once syn before true (suc left) (x ∷ octets) = ap (λ xs. x ∷ xs) (once syn before true left octets)
+once syn before false (suc left) (x ∷ octets) = ap (λ xs. 1 ∷ xs) (once syn before false left octets)
+once syn before keep zero (zero ∷ octets) = rw (again-zero keep) (ap (λ n. 0 ∷ replicate n 0) (length-replicate (length octets) 0))
+once syn before keep zero (suc zero ∷ octets) = rw (again-zero keep) (ap (λ xs. 1 ∷ xs) (once syn before true 0 octets))
+once syn before keep zero (suc (suc k) ∷ octets) =
+    let kind = suc (suc k) in
+    let other : 2 ≤ kind = omega arith in
+    let size = get_or octets 0 0 in
+    rw (again-zero keep) (⊎_elim (λ kept.
+    let e = cleaned_from-first syn before kind octets other kept in
+    let left = cleaned_from syn (kind ∷ before) true (size - 1) octets in
+    let first : get_or left 0 0 ≡ size = let two = kept-size syn before kind size kept in first-octet syn (kind ∷ before) (size - 1) octets (omega arith) in
+    ap (cleaned_from syn before true 0) e
+    ∙ cleaned_from-first syn before kind left other (ap (is_kept syn before kind) first ∙ kept)
+    ∙ ap (λ n. kind ∷ cleaned_from syn (kind ∷ before) true (n - 1) left) first
+    ∙ ap (λ xs. kind ∷ xs) (once syn (kind ∷ before) true (size - 1) octets)
+    ∙ sym e)
+    (λ blank.
+    let e = cleaned_from-other syn before kind octets other blank in
+    ap (cleaned_from syn before true 0) e ∙ ap (λ xs. 1 ∷ xs) (once syn before false (size - 1) octets) ∙ sym e)
+    (which (is_kept syn before kind size)))
+
+pub cleans_once : CleansOnce
+cleans_once syn area = once syn [] true 0 area
+
+-- what a well formed list says of an option at its front
+sized-some : (kind : ℕ) (octets : List ℕ) → 2 ≤ kind → are_well_formed 0 (kind ∷ octets) ≡ true → 2 ≤ get_or octets 0 0
+sized-some kind octets other formed =
+    ⊎_elim (λ small. let bad = are_well_formed-small kind octets other small in cc)
+    (λ some. some)
+    (cases_lt (get_or octets 0 0) 2)
+
+has-first : (octets : List ℕ) → 2 ≤ get_or octets 0 0 → 1 ≤ length octets
+has-first [] some = absurd (omega arith)
+has-first (x ∷ octets) some = omega arith
+
+-- well formed options still are when they are cleaned
+formed : (syn : Bool) (before : List ℕ) (keep : Bool) (left : ℕ) (octets : List ℕ) → are_well_formed left octets ≡ true → are_well_formed (again keep left) (cleaned_from syn before keep left octets) ≡ true
+formed syn before true left [] h = h
+formed syn before false left [] h = refl
+formed syn before true (suc left) (x ∷ octets) h = formed syn before true left octets h
+formed syn before false (suc left) (x ∷ octets) h = formed syn before false left octets h
+formed syn before keep zero (zero ∷ octets) h = rw (again-zero keep) refl
+formed syn before keep zero (suc zero ∷ octets) h = rw (again-zero keep) (formed syn before true 0 octets h)
+formed syn before keep zero (suc (suc k) ∷ octets) h =
+    let kind = suc (suc k) in
+    let other : 2 ≤ kind = omega arith in
+    let size = get_or octets 0 0 in
+    let two = sized-some kind octets other h in
+    let left : are_well_formed (size - 1) octets ≡ true = sym (are_well_formed-size kind octets other (has-first octets two) two) ∙ h in
+    rw (again-zero keep) (⊎_elim (λ kept.
+    let behind = cleaned_from syn (kind ∷ before) true (size - 1) octets in
+    let first : get_or behind 0 0 ≡ size = first-octet syn (kind ∷ before) (size - 1) octets (omega arith) in
+    let some : 2 ≤ get_or behind 0 0 = omega arith in
+    ap (are_well_formed 0) (cleaned_from-first syn before kind octets other kept)
+    ∙ are_well_formed-size kind behind other (has-first behind some) some
+    ∙ ap (λ n. are_well_formed (n - 1) behind) first
+    ∙ formed syn (kind ∷ before) true (size - 1) octets left)
+    (λ blank. ap (are_well_formed 0) (cleaned_from-other syn before kind octets other blank) ∙ formed syn before false (size - 1) octets left)
+    (which (is_kept syn before kind size)))
+
+pub stays_well_formed : StaysWellFormed
+stays_well_formed syn area h = formed syn [] true 0 area h
+
+-- an octet at a place: it stays or is a no-operation before the end option, and it is 0 from there on
+abbrev pub IsOctet : (end : ℕ) (area new : List ℕ) (place : ℕ) → Type 0
+IsOctet end area new place = (place < end → (get_or new place 0 ≡ get_or area place 0) ⊎ (get_or new place 0 ≡ 1)) × (end ≤ place → get_or new place 0 ≡ 0)
+
+one_more : (end : ℕ) (x y : ℕ) (area new : List ℕ) → (y ≡ x) ⊎ (y ≡ 1) → ((place : ℕ) → IsOctet end area new place) → (place : ℕ) → IsOctet (suc end) (x ∷ area) (y ∷ new) place
+one_more end x y area new first rest zero = (λ inside. first, λ past. absurd (omega arith))
+one_more end x y area new first rest (suc place) = (λ inside. (rest place).0 (omega arith), λ past. (rest place).1 (omega arith))
+
+zeros-at : (n place : ℕ) → get_or {A = ℕ} (replicate n 0) place 0 ≡ 0
+zeros-at zero place = refl
+zeros-at (suc n) zero = refl
+zeros-at (suc n) (suc place) = zeros-at n place
+
+end_from-sized : (kind : ℕ) (octets : List ℕ) → 2 ≤ kind → end_from 0 (kind ∷ octets) ≡ suc (end_from (get_or octets 0 0 - 1) octets)
+end_from-sized kind octets other =
+    let a : (kind == 0) ≡ false = ne_eqb kind 0 (omega arith) in
+    let b : (kind == 1) ≡ false = ne_eqb kind 1 (omega arith) in
+    rw (a, b, end_from) refl
+
+octets_are : (syn : Bool) (before : List ℕ) (keep : Bool) (left : ℕ) (octets : List ℕ) (place : ℕ) → IsOctet (end_from left octets) octets (cleaned_from syn before keep left octets) place
+octets_are syn before keep left [] place = (λ inside. absurd (omega arith), λ past. refl)
+octets_are syn before true (suc left) (x ∷ octets) place = one_more _ x x octets _ (inl refl) (octets_are syn before true left octets) place
+octets_are syn before false (suc left) (x ∷ octets) place = one_more _ x 1 octets _ (inr refl) (octets_are syn before false left octets) place
+octets_are syn before keep zero (zero ∷ octets) place = (λ inside. absurd (omega arith), λ past. zeros-at (suc (length octets)) place)
+octets_are syn before keep zero (suc zero ∷ octets) place = one_more _ 1 1 octets _ (inl refl) (octets_are syn before true 0 octets) place
+octets_are syn before keep zero (suc (suc k) ∷ octets) place =
+    let kind = suc (suc k) in
+    let other : 2 ≤ kind = omega arith in
+    let size = get_or octets 0 0 in
+    let end = end_from-sized kind octets other in
+    ⊎_elim (λ kept.
+    let e = cleaned_from-first syn before kind octets other kept in
+    rw (end, e) (one_more _ kind kind octets _ (inl refl) (octets_are syn (kind ∷ before) true (size - 1) octets) place))
+    (λ blank.
+    let e = cleaned_from-other syn before kind octets other blank in
+    rw (end, e) (one_more _ kind 1 octets _ (inr refl) (octets_are syn before false (size - 1) octets) place))
+    (which (is_kept syn before kind size))
+
+-- cleaning keeps the number of octets
+cleaned_from-length : (syn : Bool) (before : List ℕ) (keep : Bool) (left : ℕ) (octets : List ℕ) → length (cleaned_from syn before keep left octets) ≡ length octets
+cleaned_from-length syn before keep left [] = refl
+cleaned_from-length syn before keep (suc left) (x ∷ octets) = ap suc (cleaned_from-length syn before keep left octets)
+cleaned_from-length syn before keep zero (zero ∷ octets) = ap suc (length-replicate (length octets) 0)
+cleaned_from-length syn before keep zero (suc zero ∷ octets) = ap suc (cleaned_from-length syn before true 0 octets)
+cleaned_from-length syn before keep zero (suc (suc k) ∷ octets) =
+    let kind = suc (suc k) in
+    let other : 2 ≤ kind = omega arith in
+    let size = get_or octets 0 0 in
+    ⊎_elim (λ kept. ap length (cleaned_from-first syn before kind octets other kept) ∙ ap suc (cleaned_from-length syn (kind ∷ before) true (size - 1) octets))
+    (λ blank. ap length (cleaned_from-other syn before kind octets other blank) ∙ ap suc (cleaned_from-length syn before false (size - 1) octets))
+    (which (is_kept syn before kind size))
+
+pub cleans_octets : CleansOctets
+cleans_octets syn area = record {
+  size = cleaned_from-length syn [] true 0 area;
+  options = λ place. (octets_are syn [] true 0 area place).0;
+  behind = λ place. (octets_are syn [] true 0 area place).1;
+}

@@ -1,0 +1,198 @@
+-- Cleaning an area in place, option by option.
+use Rattle.std.proofs.Common.{◌≡◌, ◌↔◌, ℕ, zero, suc, ◌+◌, ◌-◌, ◌≤◌, ◌<◌, ◌==◌, ◌||◌, not, Bool, true, false, List, [], ◌∷◌, ◌++◌, length, get_or, take, drop, replicate, refl, sym, ap, ◌∙◌, ⊎_elim, arith}
+use Rattle.std.proofs.Math.Seq.{take-add}
+use Rattle.std.proofs.Math.Dec.{eqb-suc-zero}
+use Rattle.std.proofs.lemmas.Bool.{cases_lt, ne_eqb}
+use Rattle.std.proofs.lemmas.List.{append_assoc, append-nil, drop_all, drop-drop, drop_at, take_at, take_more, take_rest, length-drop, length-take-le, length-replicate, length-append, get_or-append_right, take-append-drop}
+use Rattle.std.specs.List.{list_any}
+use Rattle.wire_base.specs.Options.{are_well_formed, cleaned, cleaned_from, is_kept}
+use Rattle.wire_base.proofs.OptionWalk.{drop-kind, drop-option, size-at, cleaned_from-kept, cleaned_from-blank, are_well_formed-none, are_well_formed-option}
+use Rattle.tcp_codec.specs.declared.cleaning.Kept.{Kept}
+use Rattle.tcp_codec.specs.Cleaning.{StandsFor}
+
+-- a kept option, and one that is not kept, at the front of what is left
+pub cleaned_from-first : (syn : Bool) (before : List ℕ) (kind : ℕ) (octets : List ℕ) → 2 ≤ kind → is_kept syn before kind (get_or octets 0 0) ≡ true → cleaned_from syn before true 0 (kind ∷ octets) ≡ kind ∷ cleaned_from syn (kind ∷ before) true (get_or octets 0 0 - 1) octets
+cleaned_from-first syn before kind octets other e =
+    let a : (kind == 0) ≡ false = ne_eqb kind 0 (omega arith) in
+    let b : (kind == 1) ≡ false = ne_eqb kind 1 (omega arith) in
+    rw (a, b, e, cleaned_from) refl
+
+pub cleaned_from-other : (syn : Bool) (before : List ℕ) (kind : ℕ) (octets : List ℕ) → 2 ≤ kind → is_kept syn before kind (get_or octets 0 0) ≡ false → cleaned_from syn before true 0 (kind ∷ octets) ≡ 1 ∷ cleaned_from syn before false (get_or octets 0 0 - 1) octets
+cleaned_from-other syn before kind octets other e =
+    let a : (kind == 0) ≡ false = ne_eqb kind 0 (omega arith) in
+    let b : (kind == 1) ≡ false = ne_eqb kind 1 (omega arith) in
+    rw (a, b, e, cleaned_from) refl
+
+-- the octets of an option begin with its kind
+take-option : (area : List ℕ) (at size : ℕ) → at < length area → 1 ≤ size → take size (drop at area) ≡ get_or area at 0 ∷ take (size - 1) (drop (at + 1) area)
+take-option area at size begins some =
+    let e : size ≡ suc (size - 1) = omega arith in
+    ap (take size) (drop-kind area at _ begins refl) ∙ ap (λ n. take n (get_or area at 0 ∷ drop (at + 1) area)) e
+
+-- cleaning at a place: an option that is kept, one that is not, a no-operation, and the end
+cleaned_from-keep : (syn : Bool) (before area : List ℕ) (at size : ℕ) → get_or area (at + 1) 0 ≡ size → 2 ≤ size → at + size ≤ length area → 2 ≤ get_or area at 0 → is_kept syn before (get_or area at 0) size ≡ true → cleaned_from syn before true 0 (drop at area) ≡ take size (drop at area) ++ cleaned_from syn (get_or area at 0 ∷ before) true 0 (drop (at + size) area)
+cleaned_from-keep syn before area at size e two inside other keep =
+    let kind = get_or area at 0 in
+    let octets = drop (at + 1) area in
+    let count : length octets ≡ length area - (at + 1) = length-drop (at + 1) area in
+    let known : get_or octets 0 0 ≡ size = size-at area at size e in
+    ap (cleaned_from syn before true 0) (drop-kind area at _ (omega arith) refl)
+    ∙ cleaned_from-first syn before kind octets other (ap (is_kept syn before kind) known ∙ keep)
+    ∙ ap (λ n. kind ∷ cleaned_from syn (kind ∷ before) true (n - 1) octets) known
+    ∙ ap (λ xs. kind ∷ xs) (cleaned_from-kept syn (kind ∷ before) (size - 1) octets (omega arith))
+    ∙ ap (λ rest. kind ∷ take (size - 1) octets ++ cleaned_from syn (kind ∷ before) true 0 rest) (drop-option area at size (omega arith))
+    ∙ ap (λ xs. xs ++ cleaned_from syn (kind ∷ before) true 0 (drop (at + size) area)) (sym (take-option area at size (omega arith) (omega arith)))
+
+cleaned_from-drop : (syn : Bool) (before area : List ℕ) (at size : ℕ) → get_or area (at + 1) 0 ≡ size → 2 ≤ size → at + size ≤ length area → 2 ≤ get_or area at 0 → is_kept syn before (get_or area at 0) size ≡ false → cleaned_from syn before true 0 (drop at area) ≡ replicate size 1 ++ cleaned_from syn before true 0 (drop (at + size) area)
+cleaned_from-drop syn before area at size e two inside other keep =
+    let kind = get_or area at 0 in
+    let octets = drop (at + 1) area in
+    let count : length octets ≡ length area - (at + 1) = length-drop (at + 1) area in
+    let known : get_or octets 0 0 ≡ size = size-at area at size e in
+    let more : suc (size - 1) ≡ size = omega arith in
+    ap (cleaned_from syn before true 0) (drop-kind area at _ (omega arith) refl)
+    ∙ cleaned_from-other syn before kind octets other (ap (is_kept syn before kind) known ∙ keep)
+    ∙ ap (λ n. 1 ∷ cleaned_from syn before false (n - 1) octets) known
+    ∙ ap (λ xs. 1 ∷ xs) (cleaned_from-blank syn before (size - 1) octets (omega arith))
+    ∙ ap (λ rest. 1 ∷ replicate (size - 1) 1 ++ cleaned_from syn before true 0 rest) (drop-option area at size (omega arith))
+    ∙ ap (λ n. replicate n 1 ++ cleaned_from syn before true 0 (drop (at + size) area)) more
+
+cleaned_from-none : (syn : Bool) (before area : List ℕ) (at : ℕ) → at < length area → get_or area at 0 ≡ 1 → cleaned_from syn before true 0 (drop at area) ≡ get_or area at 0 ∷ cleaned_from syn before true 0 (drop (at + 1) area)
+cleaned_from-none syn before area at begins kind =
+    ap (cleaned_from syn before true 0) (drop-kind area at 1 begins kind) ∙ ap (λ x. x ∷ cleaned_from syn before true 0 (drop (at + 1) area)) (sym kind)
+
+cleaned_from-end : (syn : Bool) (before area : List ℕ) (at : ℕ) → (at < length area → get_or area at 0 ≡ 0) → cleaned_from syn before true 0 (drop at area) ≡ replicate (length (drop at area)) 0
+cleaned_from-end syn before area at ends =
+    ⊎_elim (λ begins. let e = drop-kind area at 0 begins (ends begins) in ap (cleaned_from syn before true 0) e ∙ ap (λ xs. replicate (length xs) 0) (sym e))
+    (λ past. let e = drop_all at area past in ap (cleaned_from syn before true 0) e ∙ ap (λ xs. replicate (length xs) 0) (sym e))
+    (cases_lt at (length area))
+
+-- how far an area was cleaned: up to a place that an option begins at, with these kinds kept before
+pub record SoFar (syn : Bool) (old now : List ℕ) (at : ℕ) (kept : Kept) (changed : Bool) : Type 0 where
+  pub before : List ℕ
+  pub stands : StandsFor kept before
+  pub inside : at ≤ length now
+  pub formed : are_well_formed 0 (drop at now) ≡ true
+  pub front : cleaned syn old ≡ take at now ++ cleaned_from syn before true 0 (drop at now)
+  pub untouched : drop at now ≡ drop at old
+  pub same : (changed ≡ false) ↔ (now ≡ old)
+
+-- what stays where more was passed over
+passed : (at n : ℕ) (old now : List ℕ) → drop at now ≡ drop at old → drop (at + n) now ≡ drop (at + n) old
+passed at n old now e = sym (drop-drop n at now) ∙ ap (drop n) e ∙ drop-drop n at old
+
+pub SoFar-none : (syn : Bool) (old now : List ℕ) (at : ℕ) (kept : Kept) (changed : Bool) → SoFar syn old now at kept changed → at < length now → get_or now at 0 ≡ 1 → SoFar syn old now (at + 1) kept changed
+SoFar-none syn old now at kept changed s begins kind = record {
+  before = s.before;
+  stands = s.stands;
+  inside = omega arith;
+  formed = sym (are_well_formed-none now at begins kind) ∙ s.formed;
+  front = s.front ∙ ap (λ xs. take at now ++ xs) (cleaned_from-none syn s.before now at begins kind) ∙ sym (append_assoc (take at now) (get_or now at 0 ∷ []) _) ∙ ap (λ xs. xs ++ cleaned_from syn s.before true 0 (drop (at + 1) now)) (sym (take_more now at 0 begins));
+  untouched = passed at 1 old now s.untouched;
+  same = s.same;
+}
+
+pub SoFar-kept : (syn : Bool) (old now : List ℕ) (at size : ℕ) (kept new : Kept) (changed : Bool) (s : SoFar syn old now at kept changed) → get_or now (at + 1) 0 ≡ size → 2 ≤ size → at + size ≤ length now → 2 ≤ get_or now at 0 → is_kept syn s.before (get_or now at 0) size ≡ true → StandsFor new (get_or now at 0 ∷ s.before) → SoFar syn old now (at + size) new changed
+SoFar-kept syn old now at size kept new changed s e two inside other keep stands = record {
+  before = get_or now at 0 ∷ s.before;
+  stands = stands;
+  inside = inside;
+  formed = sym (are_well_formed-option now at size e two inside other) ∙ s.formed;
+  front = s.front ∙ ap (λ xs. take at now ++ xs) (cleaned_from-keep syn s.before now at size e two inside other keep) ∙ sym (append_assoc (take at now) (take size (drop at now)) _) ∙ ap (λ xs. xs ++ cleaned_from syn (get_or now at 0 ∷ s.before) true 0 (drop (at + size) now)) (sym (take-add at size now));
+  untouched = passed at size old now s.untouched;
+  same = s.same;
+}
+
+-- an octet of the blanked option
+blanked-first : (now new : List ℕ) (at size : ℕ) → new ≡ take at now ++ (replicate size 1 ++ drop (at + size) now) → 2 ≤ size → at + size ≤ length now → get_or new at 0 ≡ 1
+blanked-first now new at size e two inside =
+    let front : length (take at now) ≡ at = length-take-le at now (omega arith) in
+    let none : at - at ≡ 0 = omega arith in
+    let some : size ≡ suc (size - 1) = omega arith in
+    ap (λ xs. get_or xs at 0) e ∙ get_or-append_right (take at now) _ at at 0 front (omega arith) ∙ ap (λ n. get_or (replicate size 1 ++ drop (at + size) now) n 0) none ∙ ap (λ n. get_or (replicate n 1 ++ drop (at + size) now) 0 0) some
+
+same-first : (old now : List ℕ) (at : ℕ) → drop at now ≡ drop at old → get_or now at 0 ≡ get_or old at 0
+same-first old now at e = from_drop now at ∙ ap (λ xs. get_or xs 0 0) e ∙ sym (from_drop old at)
+  where
+    from_drop : (xs : List ℕ) (at : ℕ) → get_or xs at 0 ≡ get_or (drop at xs) 0 0
+    from_drop xs zero = refl
+    from_drop [] (suc at) = refl
+    from_drop (x ∷ xs) (suc at) = from_drop xs at
+
+pub SoFar-blanked : (syn : Bool) (old now new : List ℕ) (at size : ℕ) (kept noted : Kept) (changed : Bool) (s : SoFar syn old now at kept changed) → get_or now (at + 1) 0 ≡ size → 2 ≤ size → at + size ≤ length now → 2 ≤ get_or now at 0 → is_kept syn s.before (get_or now at 0) size ≡ false → StandsFor noted s.before → new ≡ take at now ++ (replicate size 1 ++ drop (at + size) now) → SoFar syn old new (at + size) noted true
+SoFar-blanked syn old now new at size kept noted changed s e two inside other keep stands written =
+    let taken : length (take at now) ≡ at = length-take-le at now (omega arith) in
+    let blank : List ℕ = replicate size 1 in
+    let ones : length blank ≡ size = length-replicate size 1 in
+    let front : length (take at now ++ blank) ≡ at + size = length-append (take at now) (replicate size 1) ∙ (λ i. taken i + ones i) in
+    let split : new ≡ (take at now ++ replicate size 1) ++ drop (at + size) now = written ∙ sym (append_assoc (take at now) (replicate size 1) (drop (at + size) now)) in
+    let done : take (at + size) new ≡ take at now ++ replicate size 1 = ap (take (at + size)) split ∙ take_at (take at now ++ replicate size 1) (drop (at + size) now) (at + size) front in
+    let left : drop (at + size) new ≡ drop (at + size) now = ap (drop (at + size)) split ∙ drop_at (take at now ++ replicate size 1) (drop (at + size) now) (at + size) front in
+    let count : length new ≡ at + size + length (drop (at + size) now) = ap length split ∙ length-append (take at now ++ replicate size 1) (drop (at + size) now) ∙ ap (λ n. n + length (drop (at + size) now)) front in
+    record {
+      before = s.before;
+      stands = stands;
+      inside = omega arith;
+      formed = ap (are_well_formed 0) left ∙ sym (are_well_formed-option now at size e two inside other) ∙ s.formed;
+      front = s.front ∙ ap (λ xs. take at now ++ xs) (cleaned_from-drop syn s.before now at size e two inside other keep) ∙ sym (append_assoc (take at now) (replicate size 1) _) ∙ (λ i. sym done i ++ cleaned_from syn s.before true 0 (sym left i));
+      untouched = left ∙ passed at size old now s.untouched;
+      same = (λ no. cc, λ same. let one = blanked-first now new at size written two inside in let first = same-first old now at s.untouched in let there = ap (λ xs. get_or xs at 0) same in absurd (omega (arith, one, first, there)));
+    }
+
+-- no octet is other than 0 exactly where all are 0
+zeros : (xs : List ℕ) → list_any (λ octet. not (octet == 0)) xs ≡ false → xs ≡ replicate (length xs) 0
+zeros [] none = refl
+zeros (zero ∷ xs) none = ap (λ ys. 0 ∷ ys) (zeros xs none)
+zeros (suc x ∷ xs) none =
+    let other = rw (eqb-suc-zero x) at none in
+    cc
+
+no_others : (n : ℕ) → list_any (λ octet. not (octet == 0)) (replicate n 0) ≡ false
+no_others zero = refl
+no_others (suc n) = no_others n
+
+-- the octets of an option that were written, and those behind them
+pub blanked : (now ones : List ℕ) (at size : ℕ) → at + size ≤ length now → ones ≡ replicate (length (take (at + size - at) (drop at now))) 1 → take at now ++ (ones ++ drop (at + size - at) (drop at now)) ≡ take at now ++ (replicate size 1 ++ drop (at + size) now)
+blanked now ones at size inside e =
+    let k : at + size - at ≡ size = omega arith in
+    let left : length (drop at now) ≡ length now - at = length-drop at now in
+    let count : length (take (at + size - at) (drop at now)) ≡ size = length-take-le (at + size - at) (drop at now) (omega arith) ∙ k in
+    let behind : drop (at + size - at) (drop at now) ≡ drop (at + size) now = ap (λ n. drop n (drop at now)) k ∙ drop-drop size at now in
+    let all : ones ≡ replicate size 1 = e ∙ ap (λ n. replicate n 1) count in
+    λ i. take at now ++ (all i ++ behind i)
+
+-- octets that were written from a place on, and nothing behind them
+pub filled : (now zeros : List ℕ) (at : ℕ) → zeros ≡ replicate (length (take (length now - at) (drop at now))) 0 → take at now ++ (zeros ++ drop (length now - at) (drop at now)) ≡ take at now ++ replicate (length (drop at now)) 0
+filled now zeros at e =
+    let past : drop (length now - at) (drop at now) ≡ [] = drop-drop (length now - at) at now ∙ drop_all _ now (omega arith) in
+    let all : zeros ≡ replicate (length (drop at now)) 0 = e ∙ ap (λ xs. replicate (length xs) 0) (take_rest now at) in
+    (λ i. take at now ++ (all i ++ past i)) ∙ ap (λ xs. take at now ++ xs) (append-nil (replicate (length (drop at now)) 0))
+
+-- with all from the end option on made 0 the area is clean
+pub SoFar-end : (syn : Bool) (old now new : List ℕ) (at : ℕ) (kept : Kept) (changed : Bool) → SoFar syn old now at kept changed → (at < length now → get_or now at 0 ≡ 0) → new ≡ take at now ++ replicate (length (drop at now)) 0 → new ≡ cleaned syn old
+SoFar-end syn old now new at kept changed s ends e =
+    e ∙ ap (λ xs. take at now ++ xs) (sym (cleaned_from-end syn s.before now at ends)) ∙ sym s.front
+
+-- what is made 0 from a place on stays exactly where it was 0
+cleared : (now new : List ℕ) (at : ℕ) → at ≤ length now → new ≡ take at now ++ replicate (length (drop at now)) 0 → drop at new ≡ replicate (length (drop at now)) 0
+cleared now new at inside e = ap (drop at) e ∙ drop_at (take at now) _ at (length-take-le at now inside)
+
+pub SoFar-changed : (syn : Bool) (old now new : List ℕ) (at : ℕ) (kept : Kept) (changed some : Bool) → SoFar syn old now at kept changed → new ≡ take at now ++ replicate (length (drop at now)) 0 → some ≡ list_any (λ octet. not (octet == 0)) (take (length now - at) (drop at now)) → ((changed || some) ≡ false) ↔ (new ≡ old)
+SoFar-changed syn old now new at kept changed some s e g =
+    let f = g ∙ ap (list_any (λ octet. not (octet == 0))) (take_rest now at) in (
+      λ none. e ∙ ap (λ xs. take at now ++ xs) (sym (zeros (drop at now) (sym f ∙ or_right changed some none))) ∙ take-append-drop at now ∙ s.same.0 (or_left changed some none),
+      λ same.
+          let left : drop at now ≡ replicate (length (drop at now)) 0 = s.untouched ∙ sym (ap (drop at) same) ∙ cleared now new at s.inside e in
+          let before : now ≡ old = sym (take-append-drop at now) ∙ ap (λ xs. take at now ++ xs) left ∙ sym e ∙ same in
+          let kept = s.same.1 before in
+          let none = f ∙ ap (list_any (λ octet. not (octet == 0))) left ∙ no_others (length (drop at now)) in
+          λ i. kept i || none i,
+    )
+  where
+    or_left : (a b : Bool) → (a || b) ≡ false → a ≡ false
+    or_left true b e = e
+    or_left false b e = refl
+
+    or_right : (a b : Bool) → (a || b) ≡ false → b ≡ false
+    or_right true b e = cc
+    or_right false b e = e

@@ -1,0 +1,5 @@
+pub mod Faults
+pub mod Walks
+pub mod Cleanings
+pub mod Cleaned
+pub mod Written

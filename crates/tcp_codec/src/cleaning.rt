@@ -1,0 +1,174 @@
+//! The options of a TCP header, cleaned.
+ghost use Rattle.std.specs.Prelude.{◌≡◌, ◌↔◌, ◌<◌, ◌==◌, ℕ, List, IsFalse, IsTrue, true, not, length, replicate, if◌then◌else◌, ◌∷◌};
+ghost use Rattle.std.specs.List.{list_any};
+ghost use Rattle.wire_base.specs.Options.{are_well_formed, cleaned, is_kept, may_be_kept};
+ghost use Rattle.tcp_codec.specs.Cleaning.{StandsFor};
+
+use crate::option_area::{END, NO_OPERATION, WINDOW_SCALE, size_at};
+
+// The kinds of options that may be kept, beside the window scale: the maximum segment size (RFC 9293 section 3.2), SACK
+// permitted and SACK (RFC 2018), and timestamps (RFC 7323).
+const SEGMENT_SIZE: u8 = 2;
+
+const SACK_PERMITTED: u8 = 4;
+
+const SACK: u8 = 5;
+
+const TIMESTAMPS: u8 = 8;
+
+// All of them are below this number.
+const KINDS: usize = 9;
+
+// Which kinds of options were kept.
+#[derive(Clone, Copy, Default)]
+struct Kept([bool; KINDS]);
+
+impl Kept {
+    // Whether an option of this kind and length is kept; it is the first of its kind that is, then.
+    fn keeps(&mut self, syn: bool, kind: u8, size: usize) -> bool
+        ensures exact { (before : List ℕ) → StandsFor self.old before → result ≡ is_kept syn before kind size }
+        ensures stands { (before : List ℕ) → StandsFor self.old before → StandsFor self.new (if result then kind ∷ before else before) }
+    {
+        if !may_be_kept(syn, kind, size) {
+            return false;
+        }
+        let kept = &mut self.0[usize::from(kind)];
+        let first = !*kept;
+        *kept = true;
+        first
+    }
+}
+
+// Whether an option of this kind and length may be kept (this project's profile).
+fn may_be_kept(syn: bool, kind: u8, size: usize) -> bool
+    ensures exact { result ≡ may_be_kept syn kind size }
+    ensures known { IsTrue result → kind < 9 }
+{
+    match kind {
+        SEGMENT_SIZE => syn && size == 4,
+        WINDOW_SCALE => syn && size == 3,
+        SACK_PERMITTED => syn && size == 2,
+        SACK => matches!(size, 10 | 18 | 26 | 34),
+        TIMESTAMPS => size == 10,
+        _ => false,
+    }
+}
+
+/// Makes no-operations of the octets of each option before the end option that is not kept, and 0 of each octet after it.
+/// On a SYN the maximum segment size, the window scale and SACK permitted are kept, and on every segment SACK of one to four
+/// blocks and timestamps, each with its length, and the first of its kind alone (this project's profile). Answers whether
+/// an octet changed.
+pub fn clean_options(options: &mut [u8], syn: bool) -> bool
+    requires { are_well_formed 0 options.old ≡ true }
+    ensures exact { options.new ≡ cleaned syn options.old }
+    ensures changed { IsFalse result ↔ (options.new ≡ options.old) }
+{
+    let mut kept = Kept::default();
+    let mut changed = false;
+    let mut at = 0;
+    while at < options.len() && options[at] != END {
+        if options[at] == NO_OPERATION {
+            at += 1;
+            continue;
+        }
+        let size = size_at(options, at);
+        if !kept.keeps(syn, options[at], size) {
+            options[at..at + size].fill(NO_OPERATION);
+            changed = true;
+        }
+        at += size;
+    }
+    changed |= clear(&mut options[at..]);
+    changed
+}
+
+// Makes each octet 0, and answers whether one was not.
+fn clear(octets: &mut [u8]) -> bool
+    ensures exact { octets.new ≡ replicate (length octets.old) 0 }
+    ensures changed { result ≡ list_any (λ octet. not (octet == 0)) octets.old }
+{
+    let some = octets.iter().any(|octet| *octet != 0);
+    octets.fill(0);
+    some
+}
+
+#[cfg(test)]
+mod tests {
+    use super::*;
+    use crate::option_area::are_well_formed;
+
+    // Kinds that are known and one that is not; those of a SYN without it; lengths that are not theirs; a second one of its kind,
+    // and after one that was not kept; octets after the end (RFC 9293 section 3.2, RFC 7323, RFC 2018).
+    #[test]
+    fn options_are_kept_or_cleared(rt: HostRuntime) {
+        let rows: [(bool, &[u8], &[u8]); 17] = [
+            (false, &[], &[]),
+            (false, &[0xfe, 4, 0xaa, 0xbb], &[1, 1, 1, 1]),
+            (
+                true,
+                &[2, 4, 5, 180, 4, 2, 3, 3, 7, 1],
+                &[2, 4, 5, 180, 4, 2, 3, 3, 7, 1],
+            ),
+            (
+                false,
+                &[2, 4, 5, 180, 4, 2, 3, 3, 7, 1],
+                &[1, 1, 1, 1, 1, 1, 1, 1, 1, 1],
+            ),
+            (
+                true,
+                &[2, 3, 5, 3, 4, 7, 0, 4, 3, 0],
+                &[1, 1, 1, 1, 1, 1, 1, 1, 1, 1],
+            ),
+            (
+                true,
+                &[2, 4, 5, 180, 2, 4, 2, 24],
+                &[2, 4, 5, 180, 1, 1, 1, 1],
+            ),
+            (true, &[3, 2, 3, 3, 7, 3, 3, 8], &[1, 1, 3, 3, 7, 1, 1, 1]),
+            (
+                false,
+                &[1, 8, 10, 0, 0, 0, 1, 0, 0, 0, 2],
+                &[1, 8, 10, 0, 0, 0, 1, 0, 0, 0, 2],
+            ),
+            (
+                false,
+                &[8, 10, 0, 0, 0, 1, 0, 0, 0, 2, 8, 10, 0, 0, 0, 3, 0, 0, 0, 4],
+                &[8, 10, 0, 0, 0, 1, 0, 0, 0, 2, 1, 1, 1, 1, 1, 1, 1, 1, 1, 1],
+            ),
+            (
+                false,
+                &[8, 9, 0, 0, 0, 1, 0, 0, 0],
+                &[1, 1, 1, 1, 1, 1, 1, 1, 1],
+            ),
+            (
+                false,
+                &[5, 10, 0, 0, 0, 9, 0, 0, 0, 19],
+                &[5, 10, 0, 0, 0, 9, 0, 0, 0, 19],
+            ),
+            (
+                false,
+                &[5, 11, 0, 0, 0, 9, 0, 0, 0, 19, 0],
+                &[1, 1, 1, 1, 1, 1, 1, 1, 1, 1, 1],
+            ),
+            (false, &[5, 2, 0, 0], &[1, 1, 0, 0]),
+            (false, &[1, 1, 0, 7], &[1, 1, 0, 0]),
+            (
+                true,
+                &[2, 4, 5, 180, 0, 4, 2, 9],
+                &[2, 4, 5, 180, 0, 0, 0, 0],
+            ),
+            (false, &[0xfe, 2, 0, 0], &[1, 1, 0, 0]),
+            (false, &[0, 0, 0, 0], &[0, 0, 0, 0]),
+        ];
+        for (syn, old, new) in rows {
+            let mut buf = [0; 40];
+            let area = &mut buf[..old.len().min(40)];
+            area.copy_from_slice(&old[..old.len().min(40)]);
+            let formed = are_well_formed(area);
+            assert!(rt; formed, "{old:?}");
+            let changed = clean_options(area, syn);
+            assert_eq!(rt; &*area, new, "{old:?}");
+            assert_eq!(rt; changed, old != new, "{old:?}");
+        }
+    }
+}

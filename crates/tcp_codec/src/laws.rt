@@ -1,0 +1,16 @@
+//! Laws over the definitions alone.
+ghost use Rattle.tcp_codec.specs.Cleaning.{CleansOctets, CleansOnce, StaysWellFormed};
+ghost use Rattle.tcp_codec.specs.Write.{AreReadBack};
+
+/// Cleaned options are those that cleaning leaves alone, and they are as well formed as before; octet for octet they are kept
+/// or no-operations up to the end option, and 0 from there on.
+pub fn options_are_cleaned()
+    ensures once { CleansOnce }
+    ensures formed { StaysWellFormed }
+    ensures octets { CleansOctets }
+{}
+
+/// A segment that was written is read as the parts that it was written from.
+pub fn segments_are_read_back()
+    ensures { AreReadBack }
+{}

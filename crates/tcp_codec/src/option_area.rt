@@ -1,0 +1,105 @@
+//! The options of a TCP header, read.
+ghost use Rattle.std.specs.Prelude.{◌≡◌, ◌+◌, ◌≤◌, ◌<◌, ◌==◌, ◌&&◌, true, length, drop, slice_index};
+ghost use Rattle.wire_base.specs.Options as spec;
+
+/// The kind of the option that ends the list (RFC 9293 section 3.2).
+pub const END: u8 = 0;
+
+/// The kind of the option that is one octet and does nothing (RFC 9293 section 3.2).
+pub const NO_OPERATION: u8 = 1;
+
+/// The kind of the window scale option (RFC 7323 section 2).
+pub const WINDOW_SCALE: u8 = 3;
+
+// The length of a window scale option, and the largest shift that counts (RFC 7323 section 2).
+const WINDOW_SCALE_SIZE: usize = 3;
+
+const LARGEST_SHIFT: u8 = 14;
+
+/// Whether each option before the end option or the area's end has a length of at least 2 and lies inside the area.
+pub fn are_well_formed(area: &[u8]) -> bool
+    ensures { result ≡ spec.are_well_formed 0 area.now }
+{
+    let mut at = 0;
+    while at < area.len() && area[at] != END {
+        if area[at] == NO_OPERATION {
+            at += 1;
+            continue;
+        }
+        if area.len() - at < 2 {
+            return false;
+        }
+        let size = usize::from(area[at + 1]);
+        if size < 2 || area.len() - at < size {
+            return false;
+        }
+        at += size;
+    }
+    true
+}
+
+/// The length in octets of the option at this place, which is neither the end option nor a no-operation.
+pub fn size_at(area: &[u8], at: usize) -> usize
+    requires formed { spec.are_well_formed 0 (drop at area.now) ≡ true }
+    requires begins { at < length area.now }
+    requires sized { 2 ≤ slice_index area.now at }
+    ensures exact { result ≡ slice_index area.now (at + 1) }
+    ensures some { 2 ≤ result }
+    ensures inside { at + result ≤ length area.now }
+{
+    usize::from(area[at + 1])
+}
+
+/// The shift, at most 14, of the first window scale option of length 3 before the end option (RFC 7323 section 2).
+pub fn scale_of(options: &[u8]) -> Option<u8>
+    requires { spec.are_well_formed 0 options.now ≡ true }
+    ensures { result ≡ spec.scale_of options.now }
+{
+    let mut at = 0;
+    while at < options.len() && options[at] != END {
+        if options[at] == NO_OPERATION {
+            at += 1;
+            continue;
+        }
+        let size = size_at(options, at);
+        if is_window_scale(options[at], size) {
+            return Some(LARGEST_SHIFT.min(options[at + 2]));
+        }
+        at += size;
+    }
+    None
+}
+
+// A window scale option.
+fn is_window_scale(kind: u8, size: usize) -> bool
+    ensures { result ≡ ((kind == 3) && (size == 3)) }
+{
+    kind == WINDOW_SCALE && size == WINDOW_SCALE_SIZE
+}
+
+#[cfg(test)]
+mod tests {
+    use super::*;
+
+    // The first of two; one of another length, and one of another kind; behind the end; past 14, where 14 counts (RFC 7323).
+    #[test]
+    fn the_first_window_scale_counts(rt: HostRuntime) {
+        let rows: [(&[u8], Option<u8>); 10] = [
+            (&[], None),
+            (&[3, 3, 7, 0], Some(7)),
+            (&[1, 3, 3, 14], Some(14)),
+            (&[1, 3, 3, 15], Some(14)),
+            (&[3, 3, 255, 3, 3, 1, 0, 0], Some(14)),
+            (&[3, 3, 1, 3, 3, 2, 0, 0], Some(1)),
+            (&[3, 4, 5, 6, 3, 3, 2, 0], Some(2)),
+            (&[254, 3, 3, 254, 3, 3, 1, 1], None),
+            (&[2, 4, 3, 3, 4, 2, 1, 1], None),
+            (&[0, 3, 3, 7], None),
+        ];
+        for (area, expected) in rows {
+            let formed = are_well_formed(area);
+            assert!(rt; formed, "{area:?}");
+            assert_eq!(rt; scale_of(area), expected, "{area:?}");
+        }
+    }
+}
