@@ -1,2 +1,14 @@
+pub mod Cuts
 pub mod Decimals
+pub mod Names
+pub mod Lasts
+pub mod Lines
+pub mod Marks
+pub mod Options
+pub mod Outcomes
+pub mod Reading
 pub mod Rising
+pub mod Solids
+pub mod Texts
+pub mod Unique
+pub mod Whole

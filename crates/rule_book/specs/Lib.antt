@@ -1,4 +1,6 @@
 pub mod Entries
 pub mod Lines
+pub mod Reports
 pub mod Rules
 pub mod Text
+pub mod Words

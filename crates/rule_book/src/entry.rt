@@ -4,6 +4,8 @@ ghost use Rattle.std.specs.List.{flat_map};
 ghost use Rattle.rule_book.specs.Entries.{plain};
 ghost use Rattle.rule_book.specs.Lines.{Adds};
 ghost use Rattle.rule_book.specs.Text as text;
+ghost use Rattle.rule_book.specs.declared.entry.Reason.{Reason};
+ghost use Rattle.rule_book.specs.declared.entry.Verdict.{Verdict};
 
 use crate::Rule;
 use crate::line::Line;
@@ -77,6 +79,19 @@ impl Verdict {
             Verdict::Drop => "drop",
         }
     }
+
+    /// The verdict of this word.
+    pub(crate) fn of_word(word: &[u8]) -> Option<Verdict>
+        ensures { (verdict : Verdict) → word.now ≡ text.verdict_word verdict → result ≡ Some verdict }
+    {
+        match word {
+            b"pass" => Some(Verdict::Pass),
+            b"fix" => Some(Verdict::Fix),
+            b"hold" => Some(Verdict::Hold),
+            b"drop" => Some(Verdict::Drop),
+            _ => None,
+        }
+    }
 }
 
 impl Reason {
@@ -90,6 +105,19 @@ impl Reason {
             Reason::Evicted => "evicted",
             Reason::Idle => "idle",
             Reason::Reopened => "reopened",
+        }
+    }
+
+    /// The reason of this word.
+    pub(crate) fn of_word(word: &[u8]) -> Option<Reason>
+        ensures { (reason : Reason) → word.now ≡ text.reason_word reason → result ≡ Some reason }
+    {
+        match word {
+            b"reset" => Some(Reason::Reset),
+            b"evicted" => Some(Reason::Evicted),
+            b"idle" => Some(Reason::Idle),
+            b"reopened" => Some(Reason::Reopened),
+            _ => None,
         }
     }
 }

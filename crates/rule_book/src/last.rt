@@ -1,6 +1,7 @@
 //! The last line of the report.
 ghost use Rattle.std.specs.Prelude.{◌≡◌, ◌≤◌, length, take};
 ghost use Rattle.rule_book.specs.Text.{last_text, stop_word};
+ghost use Rattle.rule_book.specs.declared.last.StopKind.{StopKind};
 
 use crate::line::Line;
 
@@ -51,6 +52,24 @@ impl StopKind {
             StopKind::ReadFault => "read",
             StopKind::Capture => "capture",
             StopKind::Memory => "memory",
+        }
+    }
+
+    /// The cause of this word.
+    pub(crate) fn of_word(word: &[u8]) -> Option<StopKind>
+        ensures { (kind : StopKind) → word.now ≡ stop_word kind → result ≡ Some kind }
+    {
+        match word {
+            b"magic" => Some(StopKind::Magic),
+            b"version" => Some(StopKind::Version),
+            b"link" => Some(StopKind::Link),
+            b"long" => Some(StopKind::Long),
+            b"many" => Some(StopKind::Many),
+            b"cut" => Some(StopKind::Cut),
+            b"read" => Some(StopKind::ReadFault),
+            b"capture" => Some(StopKind::Capture),
+            b"memory" => Some(StopKind::Memory),
+            _ => None,
         }
     }
 }

@@ -1,6 +1,7 @@
 //! The rules that an entry of the report may name.
-ghost use Rattle.std.specs.Prelude.{◌≡◌, ◌≤◌, length};
+ghost use Rattle.std.specs.Prelude.{◌≡◌, ◌≤◌, ◌↔◌, length};
 ghost use Rattle.rule_book.specs.Rules.{rule_name, rule_number};
+ghost use Rattle.rule_book.specs.declared.rule.Rule.{Rule};
 
 /// A rule: why a packet is dropped (up to `TRoom`, and `XLater`), or what happens to one that is not.
 /// The first letter says what it is about: the link, the IPv4 header, the protocol, fragments, UDP, ICMP, TCP,
@@ -128,6 +129,69 @@ pub enum Rule {
     XLater,
 }
 
+/// All rules.
+const ALL: [Rule; 59] = [
+    Rule::LSnap,
+    Rule::LShort,
+    Rule::LType,
+    Rule::IShort,
+    Rule::IVersion,
+    Rule::IHlen,
+    Rule::ILen,
+    Rule::ISum,
+    Rule::ISrc,
+    Rule::IDst,
+    Rule::ISide,
+    Rule::IOptBad,
+    Rule::IRoute,
+    Rule::PProto,
+    Rule::FDf,
+    Rule::FEmpty,
+    Rule::FAlign,
+    Rule::FBig,
+    Rule::FEnd,
+    Rule::FClash,
+    Rule::FMany,
+    Rule::FRoom,
+    Rule::UShort,
+    Rule::ULen,
+    Rule::USum,
+    Rule::MShort,
+    Rule::MSum,
+    Rule::MType,
+    Rule::MQuote,
+    Rule::TShort,
+    Rule::THlen,
+    Rule::TSum,
+    Rule::TFlags,
+    Rule::TOptBad,
+    Rule::TCold,
+    Rule::TState,
+    Rule::TSyn,
+    Rule::TRst,
+    Rule::TFull,
+    Rule::TRoom,
+    Rule::XLater,
+    Rule::ITrail,
+    Rule::IOpt,
+    Rule::IRes,
+    Rule::ITtl,
+    Rule::FHeld,
+    Rule::FDone,
+    Rule::USumOut,
+    Rule::TSumOut,
+    Rule::TRes,
+    Rule::TUrg,
+    Rule::TOpt,
+    Rule::TStrip,
+    Rule::CProbe,
+    Rule::TOld,
+    Rule::TWindow,
+    Rule::TTurn,
+    Rule::TEnd,
+    Rule::TClash,
+];
+
 impl Rule {
     /// The number of the rule, from 1 to 59.
     pub fn number(self) -> u8
@@ -202,5 +266,13 @@ impl Rule {
             Rule::TClash => "T_CLASH",
             Rule::XLater => "X_LATER",
         }
+    }
+    /// The rule of this name, where there is one.
+    pub fn of_name(text: &[u8]) -> Option<Rule>
+        ensures { (rule : Rule) → (result ≡ Some rule) ↔ (rule_name rule ≡ text.now) }
+    {
+        ALL.iter()
+            .copied()
+            .find(|rule| rule.name().as_bytes() == text)
     }
 }

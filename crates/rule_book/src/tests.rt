@@ -1,5 +1,9 @@
-use crate::{Ended, Entry, Last, Reason, Rule, StopKind, Verdict, entry_line, last_line};
+use crate::{
+    Ended, Entry, Last, LineFault, Reason, Rule, StopKind, Verdict, entry_line, last_line,
+    read_report,
+};
 use arrayvec::ArrayVec;
+use std::test::Fail;
 use wire_base::Side;
 
 /// An entry of this number, side, verdict and number of frames, with no rule and no era.
@@ -146,4 +150,131 @@ fn end(records: u32, packets: u64) -> Last {
 /// The last line of a run that stopped.
 fn stop(kind: StopKind, offset: u64) -> Last {
     Last::Stop { kind, offset }
+}
+
+#[test]
+fn a_report_of_a_connection_is_read(rt: HostRuntime) -> Result<(), Fail> {
+    let text = "norm 1\n1 in pass 1 @1 +1\n2 out pass 1 @1\n3 in pass 1 @1\n4 in pass 1 @1\n\
+                5 out pass 1 @1\n6 out pass 1 @1\n7 in pass 1 @1\n8 out pass 1 @1\n9 in pass 1 @1\n\
+                10 out pass 1 @1\nend 10 10\n";
+    let report = read_report(rt.alloc(), text.as_bytes())?;
+    assert_eq!(rt; report.last, end(10, 10));
+    assert_eq!(rt; report.entries.len(), 10);
+    assert_eq!(rt; report.entries[0].begun, Some(1));
+    for (entry, number) in report.entries.iter().zip(1u32..11) {
+        assert_eq!(rt;
+            (entry.number, entry.packets, entry.era),
+            (number, 1, Some(1))
+        );
+        assert_eq!(rt; entry.verdict, Verdict::Pass);
+    }
+    Ok(())
+}
+
+#[test]
+fn texts_of_values_are_read(rt: HostRuntime) -> Result<(), Fail> {
+    let table = [
+        ("norm 1\nend 0 0\n", 0, end(0, 0)),
+        ("norm 1\n1 in pass 1 @0\nend 7 0\n", 1, end(7, 0)),
+        (
+            "norm 1\n1 - drop 0 L_SNAP\n2 out hold 3 T_FULL\nstop magic 7\n",
+            2,
+            stop(StopKind::Magic, 7),
+        ),
+        (
+            "norm 1\n1 in pass 255 X_LATER I_TRAIL @4294967295 +0 -0:idle -9:evicted -9:reset -1:reopened\n\
+             stop read 18446744073709551615\n",
+            1,
+            stop(StopKind::ReadFault, u64::MAX),
+        ),
+    ];
+    for (text, entries, last) in table {
+        let report = read_report(rt.alloc(), text.as_bytes())?;
+        assert_eq!(rt; report.entries.len(), entries, "{text}");
+        assert_eq!(rt; report.last, last, "{text}");
+    }
+    Ok(())
+}
+
+#[test]
+fn each_fault_is_told_at_its_line(rt: HostRuntime) {
+    let table = [
+        ("", LineFault::First),
+        ("norm 0\n", LineFault::First),
+        ("norm 1", LineFault::First),
+        ("end 0 0\n", LineFault::First),
+        ("norm 1\n", LineFault::Shape(2)),
+        ("norm 1\n\n", LineFault::Shape(2)),
+        ("norm 1\n1 in pass 1\n", LineFault::Shape(3)),
+        ("norm 1\n1 in pass 1", LineFault::Shape(2)),
+        ("norm 1\nend 0 0", LineFault::Shape(2)),
+        ("norm 1\nend 0 0\n\n", LineFault::Shape(3)),
+        ("norm 1\nend 0 0\nend 0 0\n", LineFault::Shape(3)),
+        (
+            "norm 1\n1 in pass 1\nend 1 1\n2 in pass 1\n",
+            LineFault::Shape(4),
+        ),
+        ("norm 1\n2 in pass 1\nend 1 1\n", LineFault::Number(2)),
+        ("norm 1\n0 in pass 1\nend 1 1\n", LineFault::Number(2)),
+        (
+            "norm 1\n1 in pass 1\n1 in pass 1\nend 2 2\n",
+            LineFault::Number(3),
+        ),
+        ("norm 1\n2 in past 1\nend 1 1\n", LineFault::Shape(2)),
+        ("norm 1\n01 in pass 1\nend 1 1\n", LineFault::Shape(2)),
+        ("norm 1\n1 in pass 00\nend 1 1\n", LineFault::Shape(2)),
+        ("norm 1\n+1 in pass 1\nend 1 1\n", LineFault::Shape(2)),
+        ("norm 1\n1  in pass 1\nend 1 1\n", LineFault::Shape(2)),
+        ("norm 1\n1 in pass 1 \nend 1 1\n", LineFault::Shape(2)),
+        (
+            "norm 1\n4294967296 in pass 1\nend 1 1\n",
+            LineFault::Shape(2),
+        ),
+        ("norm 1\n1 in pass 256\nend 1 1\n", LineFault::Shape(2)),
+        (
+            "norm 1\n1 in pass 1 @4294967296\nend 1 1\n",
+            LineFault::Shape(2),
+        ),
+        ("norm 1\n1 in drop 0 L_SNAQ\nend 1 1\n", LineFault::Shape(2)),
+        (
+            "norm 1\n1 in drop 0 @1 L_SNAP\nend 1 1\n",
+            LineFault::Shape(2),
+        ),
+        ("norm 1\n1 in pass 1 +1 @1\nend 1 1\n", LineFault::Shape(2)),
+        (
+            "norm 1\n1 in pass 1 @1 -2:idle +1\nend 1 1\n",
+            LineFault::Shape(2),
+        ),
+        ("norm 1\n1 in pass 1 @1 @1\nend 1 1\n", LineFault::Shape(2)),
+        (
+            "norm 1\n1 in pass 1 @1 -2:gone\nend 1 1\n",
+            LineFault::Shape(2),
+        ),
+        (
+            "norm 1\n1 in pass 1 -1:idle -2:idle -3:idle -4:idle -5:idle\nend 1 1\n",
+            LineFault::Shape(2),
+        ),
+        (
+            "norm 1\n1 in fix 1 T_OPT T_OPT T_OPT T_OPT T_OPT T_OPT T_OPT T_OPT T_OPT T_OPT \
+             T_OPT T_OPT T_OPT T_OPT T_OPT T_OPT T_OPT\nend 1 1\n",
+            LineFault::Shape(2),
+        ),
+        ("norm 1\nend 4294967296 0\n", LineFault::Shape(2)),
+        ("norm 1\nend 0 18446744073709551616\n", LineFault::Shape(2)),
+        ("norm 1\nstop words 1\n", LineFault::Shape(2)),
+        ("norm 1\nstop later 0\n", LineFault::Shape(2)),
+        ("norm 1\nend 0 0 \n", LineFault::Shape(2)),
+    ];
+    for (text, fault) in table {
+        let found = read_report(rt.alloc(), text.as_bytes()).err();
+        assert_eq!(rt; found, Some(fault), "{text}");
+    }
+}
+
+#[test]
+fn a_rule_is_found_by_its_name(rt: HostRuntime) {
+    assert_eq!(rt; Rule::of_name(b"T_SUM_OUT"), Some(Rule::TSumOut));
+    assert_eq!(rt; Rule::of_name(b"T_SUM"), Some(Rule::TSum));
+    assert_eq!(rt; Rule::of_name(b"T_SU"), None);
+    assert_eq!(rt; Rule::of_name(b""), None);
 }

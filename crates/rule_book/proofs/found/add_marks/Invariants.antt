@@ -1,0 +1,15 @@
+use Rattle.std.proofs.Common.{length}
+use Rattle.rule_book.specs.Entries.{PlainEntry, plain}
+use Rattle.rule_book.specs.Reports.{EntryFits}
+use Rattle.rule_book.specs.Words.{Awaits}
+use Rattle.rule_book.proofs.found.add_marks.Given as goal
+
+-- what the words told of a whole entry, the rest of them tell of it beside what is there
+abbrev pub invariant-loop-rest : goal.invariant-loop-rest
+invariant-loop-rest l = record {
+  awaits : (whole : PlainEntry) → EntryFits whole → Awaits (plain l.fn.entry) l.words whole → Awaits (plain l.entry) l.rest whole;
+  fits : EntryFits (plain l.fn.entry) → EntryFits (plain l.entry);
+}
+
+abbrev pub decreases-loop-rest : goal.decreases-loop-rest
+decreases-loop-rest l = length l.rest

@@ -1,0 +1,128 @@
+-- A whole report, its text, and what is wrong with octets that are the text of none (this project's profile).
+use Rattle.std.specs.Prelude.{◌≡◌, ◌≢◌, ℕ, ◌+◌, ◌^◌, ◌<◌, ◌≤◌, ◌==◌, if◌then◌else◌, List, [], ◌∷◌, ◌++◌, length, map, reverse, ◌⊎◌, IfSome}
+use Rattle.std.specs.List.{AllByRecursion, flat_map, onto_first, range_with_len}
+use Rattle.rule_book.specs.Entries.{PlainEntry, plain}
+use Rattle.rule_book.specs.Text.{entry_text, first_line, last_text, report_text}
+use Rattle.rule_book.specs.declared.entry.Ended.{Ended}
+use Rattle.rule_book.specs.declared.fault.LineFault.{LineFault}
+use Rattle.rule_book.specs.declared.fault.LineFault.TheVariants.{First, Shape, Number, NoMemory}
+use Rattle.rule_book.specs.declared.last.Last.{Last}
+use Rattle.rule_book.specs.declared.last.Last.TheVariants.{End, Stop}
+use Rattle.rule_book.specs.declared.report.Report.{Report}
+
+-- a report in which each collection is a list, the entries in the order of their lines
+pub record PlainReport : Type 0 where
+  pub entries : List PlainEntry
+  pub last : Last
+
+abbrev pub plain_report : Report → PlainReport
+plain_report report = record { entries = map plain report.entries.items; last = report.last }
+
+-- the text of a report
+abbrev pub text_of : PlainReport → List ℕ
+text_of report = report_text (reverse report.entries) report.last
+
+-- its lines
+abbrev pub lines_of : PlainReport → List (List ℕ)
+lines_of report = (first_line ∷ map entry_text report.entries) ++ last_text report.last ∷ []
+
+-- an ended era's number is one of 32 bits
+abbrev pub EndedFits : Ended → Type 0
+EndedFits ended = ended.era < 2 ^ 32
+
+-- the numbers of an entry are of their types, and it has at most 16 rules and 4 ended eras
+pub record EntryFits (entry : PlainEntry) : Type 0 where
+  pub number : entry.number < 2 ^ 32
+  pub packets : entry.packets < 2 ^ 8
+  pub rules : length entry.rules ≤ 16
+  pub era : IfSome entry.era (λ era. era < 2 ^ 32)
+  pub begun : IfSome entry.begun (λ era. era < 2 ^ 32)
+  pub ended : length entry.ended ≤ 4
+  pub eras : AllByRecursion EndedFits entry.ended
+
+-- the numbers of a last line are of their types
+abbrev pub LastFits : Last → Type 0
+LastFits (End records packets) = (records < 2 ^ 32) × (packets < 2 ^ 64)
+LastFits (Stop kind offset) = offset < 2 ^ 64
+
+-- the entries are numbered 1, 2 and so on
+abbrev pub AreNumbered : List PlainEntry → Type 0
+AreNumbered entries = map (λ entry. entry.number) entries ≡ range_with_len 1 (length entries)
+
+-- a report: its numbers are of their types, and its entries are numbered 1, 2 and so on
+pub record IsReport (report : PlainReport) : Type 0 where
+  pub fit : AllByRecursion EntryFits report.entries
+  pub numbered : AreNumbered report.entries
+  pub last : LastFits report.last
+
+-- the lines of octets, each with its line feed (10); behind the last line feed there may be one without
+abbrev pub lines : List ℕ → List (List ℕ)
+lines [] = []
+lines (octet ∷ octets) = if octet == 10 then (octet ∷ []) ∷ lines octets else onto_first octet (lines octets)
+
+-- of all lines the first and those of these entries, numbered 1, 2 and so on, stand before the others
+pub record IsReadTo (all : List (List ℕ)) (entries : List PlainEntry) (others : List (List ℕ)) : Type 0 where
+  pub fit : AllByRecursion EntryFits entries
+  pub numbered : AreNumbered entries
+  pub before : all ≡ (first_line ∷ map entry_text entries) ++ others
+
+-- it is no entry's line, and no last line
+pub record IsNoLine (text : List ℕ) : Type 0 where
+  pub entry : (entry : PlainEntry) → EntryFits entry → text ≢ entry_text entry
+  pub last : (last : Last) → LastFits last → text ≢ last_text last
+
+-- there is no line, or the first is none of the text
+abbrev pub BeginsAmiss : List (List ℕ) → Type 0
+BeginsAmiss [] = Unit {0}
+BeginsAmiss (text ∷ others) = IsNoLine text
+
+-- all lines before this one are right, and it is missing or is no line of the text
+pub record HasNoLine (all : List (List ℕ)) (line : ℕ) : Type 0 where
+  pub entries : List PlainEntry
+  pub others : List (List ℕ)
+  pub read : IsReadTo all entries others
+  pub amiss : BeginsAmiss others
+  pub place : line ≡ length entries + 2
+
+-- all lines before this one are right, and the last of them is a last line
+pub record GoesOn (all : List (List ℕ)) (line : ℕ) : Type 0 where
+  pub entries : List PlainEntry
+  pub last : Last
+  pub fits : LastFits last
+  pub text : List ℕ
+  pub others : List (List ℕ)
+  pub read : IsReadTo all entries (last_text last ∷ text ∷ others)
+  pub place : line ≡ length entries + 3
+
+-- all lines before this one are right, and it is the line of an entry whose number is not the next
+pub record IsMisnumbered (all : List (List ℕ)) (line : ℕ) : Type 0 where
+  pub entries : List PlainEntry
+  pub entry : PlainEntry
+  pub fits : EntryFits entry
+  pub others : List (List ℕ)
+  pub read : IsReadTo all entries (entry_text entry ∷ others)
+  pub number : entry.number ≢ length entries + 1
+  pub place : line ≡ length entries + 2
+
+-- why lines are those of no report
+abbrev pub HasFault : List (List ℕ) → LineFault → Type 0
+HasFault all First = (others : List (List ℕ)) → all ≢ first_line ∷ others
+HasFault all (Shape line) = HasNoLine all line ⊎ GoesOn all line
+HasFault all (Number line) = IsMisnumbered all line
+HasFault all NoMemory = ⊥
+
+-- no text is of two reports
+abbrev pub TextsDiffer : Type 0
+TextsDiffer = (one other : PlainReport) → IsReport one → IsReport other → text_of one ≡ text_of other → one ≡ other
+
+-- no line is of two entries
+abbrev pub EntriesDiffer : Type 0
+EntriesDiffer = (one other : PlainEntry) → EntryFits one → EntryFits other → entry_text one ≡ entry_text other → one ≡ other
+
+-- no last line tells two ends of a run
+abbrev pub LastsDiffer : Type 0
+LastsDiffer = (one other : Last) → LastFits one → LastFits other → last_text one ≡ last_text other → one ≡ other
+
+-- the text of a report is the first line, the lines of its entries in their order, and the last line
+abbrev pub TextsAreInOrder : Type 0
+TextsAreInOrder = (report : PlainReport) → text_of report ≡ first_line ++ flat_map entry_text report.entries ++ last_text report.last

@@ -1,0 +1,172 @@
+//! What a line tells. An entry and a last line have one text each, so a line is read leniently, and is taken only where
+//! what was found in it is written as this very line.
+ghost use Rattle.std.specs.Prelude.{◌≡◌, ◌≢◌, ℕ, ◌∷◌, ◌++◌, decimal, Option, IfSome, IsSome, IsSomeAnd, MatchOption};
+ghost use Rattle.rule_book.specs.Entries.{PlainEntry, plain};
+ghost use Rattle.rule_book.specs.Reports.{EndedFits, EntryFits, LastFits};
+ghost use Rattle.rule_book.specs.Text.{entry_text, last_text, reason_word, side_word};
+ghost use Rattle.rule_book.specs.Words.{Awaits, HasLastWords, HasRoom, HasWords, Mark, MarkFits, mark_word, with_mark};
+ghost use Rattle.rule_book.specs.declared.entry.Ended.{Ended};
+ghost use Rattle.rule_book.specs.declared.last.Last.{Last};
+ghost use Rattle.wire_base.specs.declared.address.Side.{Side};
+
+use crate::words::{cut, long_number_of, number_of, short_number_of};
+use crate::{Ended, Entry, Last, Reason, Rule, StopKind, Verdict, entry_line, last_line};
+use arrayvec::ArrayVec;
+use wire_base::Side;
+
+/// The entry whose line this is.
+pub fn read_entry(line: &[u8]) -> Option<Entry>
+    ensures { MatchOption result ((entry : PlainEntry) → EntryFits entry → line.now ≢ entry_text entry) (λ entry. EntryFits (plain entry) × (line.now ≡ entry_text (plain entry))) }
+{
+    let entry = found_entry(line)?;
+    let mut buf = [0; 400];
+    let len = entry_line(&entry, &mut buf);
+    if line == &buf[..len] {
+        Some(entry)
+    } else {
+        None
+    }
+}
+
+/// The last line of a report that this is.
+pub fn read_last(line: &[u8]) -> Option<Last>
+    ensures { MatchOption result ((last : Last) → LastFits last → line.now ≢ last_text last) (λ last. LastFits last × (line.now ≡ last_text last)) }
+{
+    let last = found_last(line)?;
+    let mut buf = [0; 64];
+    let len = last_line(&last, &mut buf);
+    if line == &buf[..len] {
+        Some(last)
+    } else {
+        None
+    }
+}
+
+/// The entry of a line that is one's.
+fn found_entry(line: &[u8]) -> Option<Entry>
+    ensures found { (entry : PlainEntry) → EntryFits entry → line.now ≡ entry_text entry → IsSomeAnd result (λ found. plain found ≡ entry) }
+    ensures fits { IfSome result (λ found. EntryFits (plain found)) }
+{
+    let words = words_of(line);
+    let mut entry = Entry {
+        number: number_of(words.number)?,
+        side: side_of(words.side)?,
+        verdict: Verdict::of_word(words.verdict)?,
+        packets: short_number_of(words.packets)?,
+        rules: ArrayVec::new(),
+        era: None,
+        begun: None,
+        ended: ArrayVec::new(),
+    };
+    add_marks(&mut entry, words.marks)?;
+    Some(entry)
+}
+
+/// The words of an entry's line: the first four, and the others as they stand.
+#[derive(Clone, Copy)]
+struct Words<'a> {
+    number: &'a [u8],
+    side: &'a [u8],
+    verdict: &'a [u8],
+    packets: &'a [u8],
+    marks: &'a [u8],
+}
+
+/// Cuts a line into its words.
+fn words_of(line: &[u8]) -> Words<'_>
+    ensures { (entry : PlainEntry) → EntryFits entry → line.now ≡ entry_text entry → HasWords entry result.number.now result.side.now result.verdict.now result.packets.now result.marks.now }
+{
+    let (line, _) = cut(line, b'\n');
+    let (number, behind_number) = cut(line, b' ');
+    let (side, behind_side) = cut(behind_number, b' ');
+    let (verdict, behind_verdict) = cut(behind_side, b' ');
+    let (packets, marks) = cut(behind_verdict, b' ');
+    Words {
+        number,
+        side,
+        verdict,
+        packets,
+        marks,
+    }
+}
+
+/// The side of a word, which may be none.
+fn side_of(word: &[u8]) -> Option<Option<Side>>
+    ensures { (side : Option Side) → word.now ≡ side_word side → result ≡ Some side }
+{
+    match word {
+        b"in" => Some(Some(Side::Inward)),
+        b"out" => Some(Some(Side::Outward)),
+        b"-" => Some(None),
+        _ => None,
+    }
+}
+
+/// Adds to an entry what further words tell.
+fn add_marks(entry: &mut Entry, words: &[u8]) -> Option<()>
+    ensures adds { (whole : PlainEntry) → EntryFits whole → Awaits (plain entry.old) words.now whole → IsSome result × (plain entry.new ≡ whole) }
+    ensures fits { EntryFits (plain entry.old) → EntryFits (plain entry.new) }
+{
+    let mut rest = words;
+    while !rest.is_empty() {
+        let (word, behind) = cut(rest, b' ');
+        add_mark(entry, word)?;
+        rest = behind;
+    }
+    Some(())
+}
+
+/// Adds to an entry what a word tells: a rule, the entry's era, the era that it began, or one that ended.
+fn add_mark(entry: &mut Entry, word: &[u8]) -> Option<()>
+    ensures adds { (mark : Mark) → MarkFits mark → HasRoom (plain entry.old) mark → word.now ≡ mark_word mark → IsSome result × (plain entry.new ≡ with_mark (plain entry.old) mark) }
+    ensures fits { EntryFits (plain entry.old) → EntryFits (plain entry.new) }
+{
+    match word {
+        [b'@', era @ ..] => entry.era = Some(number_of(era)?),
+        [b'+', era @ ..] => entry.begun = Some(number_of(era)?),
+        [b'-', ended @ ..] => entry.ended.try_push(ended_of(ended)?).ok()?,
+        name => entry.rules.try_push(Rule::of_name(name)?).ok()?,
+    }
+    Some(())
+}
+
+/// The era that ended, and why.
+fn ended_of(word: &[u8]) -> Option<Ended>
+    ensures value { (ended : Ended) → EndedFits ended → word.now ≡ decimal ended.era ++ 58 ∷ reason_word ended.reason → result ≡ Some ended }
+    ensures fits { IfSome result EndedFits }
+{
+    let (era, reason) = cut(word, b':');
+    Some(Ended {
+        era: number_of(era)?,
+        reason: Reason::of_word(reason)?,
+    })
+}
+
+/// The last line of a line that is one.
+fn found_last(line: &[u8]) -> Option<Last>
+    ensures found { (last : Last) → LastFits last → line.now ≡ last_text last → result ≡ Some last }
+    ensures fits { IfSome result LastFits }
+{
+    let (word, first, second) = last_words_of(line);
+    match word {
+        b"end" => Some(Last::End {
+            records: number_of(first)?,
+            packets: long_number_of(second)?,
+        }),
+        b"stop" => Some(Last::Stop {
+            kind: StopKind::of_word(first)?,
+            offset: long_number_of(second)?,
+        }),
+        _ => None,
+    }
+}
+
+/// Cuts a last line into its three words.
+fn last_words_of(line: &[u8]) -> (&[u8], &[u8], &[u8])
+    ensures { (last : Last) → LastFits last → line.now ≡ last_text last → HasLastWords last result.0.now result.1.now result.2.now }
+{
+    let (line, _) = cut(line, b'\n');
+    let (word, behind) = cut(line, b' ');
+    let (first, second) = cut(behind, b' ');
+    (word, first, second)
+}

@@ -1,0 +1,47 @@
+//! The words of a line that is read.
+ghost use Rattle.std.specs.Prelude.{◌≡◌, ℕ, ◌^◌, ◌<◌, ◌≤◌, ◌+◌, ◌==◌, length, decimal, IfSome};
+ghost use Rattle.std.specs.List.{after_first, before_first, position_or_len};
+
+/// What stands before the first of these octets, and what stands behind it; all of the text where there is none.
+pub fn cut(text: &[u8], octet: u8) -> (&[u8], &[u8])
+    ensures front { result.0.now ≡ before_first (λ other. other == octet) text.now }
+    ensures behind { result.1.now ≡ after_first (λ other. other == octet) text.now }
+{
+    let at = place_of(text, octet);
+    let end = (at + 1).min(text.len());
+    (&text[..at], &text[end..])
+}
+
+/// Where the first of these octets stands, or the length of the text where there is none.
+pub fn place_of(text: &[u8], octet: u8) -> usize
+    ensures place { result ≡ position_or_len (λ other. other == octet) text.now }
+    ensures within { result ≤ length text.now }
+{
+    text.iter()
+        .position(|other| *other == octet)
+        .unwrap_or(text.len())
+}
+
+/// The number that is written so.
+pub fn long_number_of(word: &[u8]) -> Option<u64>
+    ensures value { (number : ℕ) → number < 2 ^ 64 → word.now ≡ decimal number → result ≡ Some number }
+    ensures bound { IfSome result (λ number. number < 2 ^ 64) }
+{
+    std::str::from_utf8(word).ok()?.parse().ok()
+}
+
+/// The number of 32 bits that is written so.
+pub fn number_of(word: &[u8]) -> Option<u32>
+    ensures value { (number : ℕ) → number < 2 ^ 32 → word.now ≡ decimal number → result ≡ Some number }
+    ensures bound { IfSome result (λ number. number < 2 ^ 32) }
+{
+    u32::try_from(long_number_of(word)?).ok()
+}
+
+/// The number of 8 bits that is written so.
+pub fn short_number_of(word: &[u8]) -> Option<u8>
+    ensures value { (number : ℕ) → number < 2 ^ 8 → word.now ≡ decimal number → result ≡ Some number }
+    ensures bound { IfSome result (λ number. number < 2 ^ 8) }
+{
+    u8::try_from(long_number_of(word)?).ok()
+}
