@@ -23,7 +23,7 @@ pub struct IpPacket<'a> {
 /// What becomes of a record.
 #[derive(Debug, Drop)]
 pub enum IpJudged<'a> {
-    /// ARP, which no row reads.
+    /// ARP that no row on the link drops.
     Arp,
     /// This row drops it; the side is told from I_OPT_BAD on.
     Drop(Option<Side>, Rule),

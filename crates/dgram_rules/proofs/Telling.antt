@@ -1,0 +1,106 @@
+-- What the rows say of a datagram, in its protocol's answer.
+use Rattle.std.proofs.Common.{◌≡◌, Bool, true, false, ◌&&◌, ◌==◌, not, List, [], ◌∷◌, Option, Some, None, refl, sym, ap, ◌∙◌, subst, find, cond, if◌then◌else◌}
+use Rattle.std.proofs.lemmas.Bool.{and_parts, and_right, ne_eqb, both_ways}
+use Rattle.rule_book.specs.declared.rule.Rule.{Rule}
+use Rattle.rule_book.specs.declared.rule.Rule.TheVariants as rules
+use Rattle.norm_settings.specs.Settings.{PlainSettings}
+use Rattle.dgram_rules.specs.declared.judged.DgramJudged.TheVariants.{Pass, Mend, Drop}
+use Rattle.dgram_rules.specs.Rows.{Message, is_outward, has_wrong_sum, u_short, u_len, u_sum, u_sum_out, m_short, m_sum, m_type, m_quote, holds_dgram, dgram_drop_rows, dgram_dropped_by}
+use Rattle.dgram_rules.specs.Judged.{udp_judged, icmp_judged}
+use Rattle.dgram_rules.specs.Laws.{Tells, UdpTellsTheRows, IcmpTellsTheRows, OthersHaveNoRow, OffloadKeepsWrongSums}
+
+-- the three answers tell of their rows
+drop_tells : (rule : Rule) (mended : Bool) → Tells (Some rule) mended (Drop rule)
+drop_tells rule mended = record { drops = refl; mends = λ none. absurd (cc) }
+
+mend_tells : Tells None true Mend
+mend_tells = record { drops = refl; mends = λ none. refl }
+
+pass_tells : Tells None false Pass
+pass_tells = record { drops = refl; mends = λ none. refl }
+
+-- the first row that drops, by the tests of the protocol and those of the rows
+abbrev first_row : (udp icmp : Bool) (u_short u_len u_sum m_short m_sum m_type m_quote : Bool) → Option Rule
+first_row udp icmp a b c d e f g =
+    if udp && a then Some rules.UShort else if udp && b then Some rules.ULen else if udp && c then Some rules.USum
+    else if icmp && d then Some rules.MShort else if icmp && e then Some rules.MSum else if icmp && f then Some rules.MType
+    else if icmp && g then Some rules.MQuote else None
+
+abbrev row_of : (udp icmp : Bool) → PlainSettings → Bool → Message → Option Rule
+row_of udp icmp settings live m =
+    first_row udp icmp (u_short m) (u_len m) (u_sum settings m) (m_short m) (m_sum m) (m_type m) (m_quote settings live m)
+
+by_tests : (settings : PlainSettings) (live : Bool) (m : Message) → dgram_dropped_by settings live m ≡ row_of (m.protocol == 17) (m.protocol == 1) settings live m
+unfolding dgram_dropped_by
+by_tests settings live m = refl
+
+udp_by : (a b c d e f g mended : Bool)
+    → Tells (first_row true false a b c d e f g) mended
+    (if a then Drop rules.UShort else if b then Drop rules.ULen else if c then Drop rules.USum else if mended then Mend else Pass)
+udp_by true b c d e f g mended = drop_tells rules.UShort mended
+udp_by false true c d e f g mended = drop_tells rules.ULen mended
+udp_by false false true d e f g mended = drop_tells rules.USum mended
+udp_by false false false d e f g true = mend_tells
+udp_by false false false d e f g false = pass_tells
+
+pub udp_tells : UdpTellsTheRows
+udp_tells settings live m h =
+    let row : dgram_dropped_by settings live m ≡ row_of true false settings live m =
+    by_tests settings live m ∙ ap (λ p. row_of (p == 17) (p == 1) settings live m) h in
+    let mended : holds_dgram settings live m rules.USumOut ≡ u_sum_out settings m = ap (λ p. (p == 17) && u_sum_out settings m) h in
+    let P : Option Rule → Bool → Type 0 = λ dropped mended. Tells dropped mended (udp_judged settings m) in
+    subst (λ dropped. P dropped (holds_dgram settings live m rules.USumOut)) (sym row)
+    (subst (P (row_of true false settings live m)) (sym mended) (udp_by (u_short m) (u_len m) (u_sum settings m) (m_short m) (m_sum m) (m_type m) (m_quote settings live m) (u_sum_out settings m)))
+
+icmp_by : (a b c d e f g : Bool)
+    → Tells (first_row false true a b c d e f g) false
+    (if d then Drop rules.MShort else if e then Drop rules.MSum else if f then Drop rules.MType else if g then Drop rules.MQuote else Pass)
+icmp_by a b c true e f g = drop_tells rules.MShort false
+icmp_by a b c false true f g = drop_tells rules.MSum false
+icmp_by a b c false false true g = drop_tells rules.MType false
+icmp_by a b c false false false true = drop_tells rules.MQuote false
+icmp_by a b c false false false false = pass_tells
+
+pub icmp_tells : IcmpTellsTheRows
+icmp_tells settings live m h =
+    let row : dgram_dropped_by settings live m ≡ row_of false true settings live m =
+    by_tests settings live m ∙ ap (λ p. row_of (p == 17) (p == 1) settings live m) h in
+    let mended : holds_dgram settings live m rules.USumOut ≡ false = ap (λ p. (p == 17) && u_sum_out settings m) h in
+    let P : Option Rule → Bool → Type 0 = λ dropped mended. Tells dropped mended (icmp_judged settings live m) in
+    subst (λ dropped. P dropped (holds_dgram settings live m rules.USumOut)) (sym row)
+    (subst (P (row_of false true settings live m)) (sym mended) (icmp_by (u_short m) (u_len m) (u_sum settings m) (m_short m) (m_sum m) (m_type m) (m_quote settings live m)))
+
+-- no row holds where both tests of the protocol fail
+none_holds : (settings : PlainSettings) (live : Bool) (m : Message) → (m.protocol == 17) ≡ false → (m.protocol == 1) ≡ false → (rule : Rule) → holds_dgram settings live m rule ≡ false
+none_holds settings live m a b rules.UShort = ap (λ t. t && u_short m) a
+none_holds settings live m a b rules.ULen = ap (λ t. t && u_len m) a
+none_holds settings live m a b rules.USum = ap (λ t. t && u_sum settings m) a
+none_holds settings live m a b rules.MShort = ap (λ t. t && m_short m) b
+none_holds settings live m a b rules.MSum = ap (λ t. t && m_sum m) b
+none_holds settings live m a b rules.MType = ap (λ t. t && m_type m) b
+none_holds settings live m a b rules.MQuote = ap (λ t. t && m_quote settings live m) b
+none_holds settings live m a b rules.USumOut = ap (λ t. t && u_sum_out settings m) a
+none_holds settings live m a b _ = refl
+
+pub others_have_none : OthersHaveNoRow
+others_have_none settings live m a b =
+    let udp : (m.protocol == 17) ≡ false = ne_eqb m.protocol 17 a in
+    let icmp : (m.protocol == 1) ≡ false = ne_eqb m.protocol 1 b in
+    (by_tests settings live m ∙ (λ i. row_of (udp i) (icmp i) settings live m), none_holds settings live m udp icmp)
+
+-- what is found passes the test
+first_passes : (p : Rule → Bool) (told : Bool) (y x : Rule) (rest : Option Rule) → p y ≡ told → (rest ≡ Some x → p x ≡ true) → cond told (Some y) rest ≡ Some x → p x ≡ true
+first_passes p true y x rest e later h = let same : y ≡ x = cc in ap p (sym same) ∙ e
+first_passes p false y x rest e later h = later h
+
+found_passes : (p : Rule → Bool) (xs : List Rule) (x : Rule) → find p xs ≡ Some x → p x ≡ true
+found_passes p [] x h = absurd (cc)
+found_passes p (y ∷ ys) x h = first_passes p (p y) y x (find p ys) refl (found_passes p ys x) h
+
+pub offload_keeps : OffloadKeepsWrongSums
+unfolding dgram_dropped_by
+offload_keeps settings live m offload side h =
+    let spared : u_sum settings m ≡ false =
+    (λ i. has_wrong_sum m && not (is_outward (side i) && offload i)) ∙ and_right (has_wrong_sum m) false refl in
+    let holds = and_parts (m.protocol == 17) (u_sum settings m) (found_passes (holds_dgram settings live m) dgram_drop_rows rules.USum h) in
+    both_ways (u_sum settings m) spared holds.1

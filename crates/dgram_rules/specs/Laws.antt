@@ -1,0 +1,52 @@
+-- Laws of the rows on UDP and ICMP.
+use Rattle.std.specs.Prelude.{◌≡◌, ◌≢◌, Bool, true, false, Option, Some, None}
+use Rattle.wire_base.specs.declared.address.Side.TheVariants.{Outward}
+use Rattle.rule_book.specs.declared.rule.Rule.{Rule}
+use Rattle.rule_book.specs.declared.rule.Rule.TheVariants as rules
+use Rattle.norm_settings.specs.Settings.{PlainSettings}
+use Rattle.dgram_rules.specs.declared.judged.DgramJudged.{DgramJudged}
+use Rattle.dgram_rules.specs.declared.judged.DgramJudged.TheVariants.{Pass, Mend, Drop}
+use Rattle.dgram_rules.specs.Rows.{Message, holds_dgram, dgram_dropped_by}
+use Rattle.dgram_rules.specs.Judged.{udp_judged, icmp_judged}
+
+-- the row that an answer drops by, if it drops
+abbrev pub row_in : DgramJudged → Option Rule
+row_in (Drop rule) = Some rule
+row_in Mend = None
+row_in Pass = None
+
+-- the answer mends
+abbrev pub is_mend : DgramJudged → Bool
+is_mend (Drop rule) = false
+is_mend Mend = true
+is_mend Pass = false
+
+-- the answer tells of the rows: it drops by a rule exactly where that is the first row that drops, and where none does, it mends exactly
+-- where the row that mends holds
+pub record Tells (dropped : Option Rule) (mended : Bool) (answer : DgramJudged) : Type 0 where
+  pub drops : dropped ≡ row_in answer
+  pub mends : dropped ≡ None → mended ≡ is_mend answer
+
+-- what becomes of UDP tells of the rows, whichever eras are live
+abbrev pub UdpTellsTheRows : Type 0
+UdpTellsTheRows =
+    (settings : PlainSettings) (live : Bool) (m : Message) → m.protocol ≡ 17
+    → Tells (dgram_dropped_by settings live m) (holds_dgram settings live m rules.USumOut) (udp_judged settings m)
+
+-- what becomes of ICMP tells of the rows
+abbrev pub IcmpTellsTheRows : Type 0
+IcmpTellsTheRows =
+    (settings : PlainSettings) (live : Bool) (m : Message) → m.protocol ≡ 1
+    → Tells (dgram_dropped_by settings live m) (holds_dgram settings live m rules.USumOut) (icmp_judged settings live m)
+
+-- of another protocol no row holds, and none drops it
+abbrev pub OthersHaveNoRow : Type 0
+OthersHaveNoRow =
+    (settings : PlainSettings) (live : Bool) (m : Message) → m.protocol ≢ 17 → m.protocol ≢ 1
+    → (dgram_dropped_by settings live m ≡ None) × ((rule : Rule) → holds_dgram settings live m rule ≡ false)
+
+-- under offload no outbound UDP message is dropped for its checksum
+abbrev pub OffloadKeepsWrongSums : Type 0
+OffloadKeepsWrongSums =
+    (settings : PlainSettings) (live : Bool) (m : Message) → settings.offload ≡ true → m.side ≡ Some Outward
+    → dgram_dropped_by settings live m ≢ Some rules.USum
