@@ -94,12 +94,12 @@ fill_begins has =
     let here = ap (λ (l : List (List Held)). get_or l 0 []) has.chains_are in
     record { has = has_first has; last_is = rw here refl; above = rw here tt }
 
-last_id-push : (l : List Held) (x : Held) → last_id (l ++ x ∷ []) ≡ Some x.id
+pub last_id-push : (l : List Held) (x : Held) → last_id (l ++ x ∷ []) ≡ Some x.id
 last_id-push [] x = refl
 last_id-push (y ∷ []) x = refl
 last_id-push (y ∷ z ∷ zs) x = last_id-push (z ∷ zs) x
 
-EndsBelow-push : (block : ℕ) (l : List Held) (x : Held) → x.block < block → EndsBelow block (l ++ x ∷ [])
+pub EndsBelow-push : (block : ℕ) (l : List Held) (x : Held) → x.block < block → EndsBelow block (l ++ x ∷ [])
 EndsBelow-push block [] x lt = lt
 EndsBelow-push block (y ∷ []) x lt = lt
 EndsBelow-push block (y ∷ z ∷ zs) x lt = EndsBelow-push block (z ∷ zs) x lt

@@ -1,0 +1,12 @@
+pub mod Blocks
+pub mod Counts
+pub mod Fills
+pub mod Fronts
+pub mod Holdings
+pub mod Missing
+pub mod Opens
+pub mod Pieces
+pub mod Segments
+pub mod Shown
+pub mod Trims
+pub mod Walks

@@ -1,0 +1,135 @@
+-- The octets that segments have at an offset.
+use Rattle.std.proofs.Common.{◌≡◌, ◌≢◌, ℕ, zero, suc, ◌+◌, ◌-◌, ◌<◌, ◌≤◌, inl, inr, nat_lt, if◌then◌else◌, List, [], ◌∷◌, ◌++◌, length, get_or, take, drop, slice_get, Option, Some, None, refl, sym, ap, ap₂, ◌∙◌, arith, lt-ltb, le-ltb, get_or-set_same, get_or-set_other}
+use Rattle.std.specs.Option.{option_or}
+use Rattle.std.proofs.Math.Seq.{take-add}
+use Rattle.std.proofs.lemmas.Bool.{cases_lt, cases_eq}
+use Rattle.std.proofs.lemmas.Bool.Decides.{nat_tests}
+use Rattle.std.proofs.lemmas.List.{length-set, same_lists, take_more, length-take-le, get_or_default}
+use Rattle.std.proofs.lemmas.List.FromFn.{get_or-map-range_with_len, length-map-range_with_len}
+use Rattle.std.proofs.lemmas.Option.{slice_get_past}
+use Rattle.retain_store.specs.Maps.{Block, Places, octet_at, octet_in}
+use Rattle.retain_store.specs.Changes.{with_octet, with_octets}
+
+pub or_assoc : (a b c : Option ℕ) → option_or (option_or a b) c ≡ option_or a (option_or b c)
+or_assoc None b c = refl
+or_assoc (Some x) b c = refl
+
+pub or_none : (a : Option ℕ) → option_or a None ≡ a
+or_none None = refl
+or_none (Some x) = refl
+
+-- outside of a segment it has no octet
+pub octet_before : (from : ℕ) (octets : List ℕ) (i : ℕ) → i < from → octet_in from octets i ≡ None
+octet_before from octets i lt = rw (lt-ltb i from lt) refl
+
+pub octet_past : (from : ℕ) (octets : List ℕ) (i : ℕ) → from + length octets ≤ i → octet_in from octets i ≡ None
+octet_past from octets i le = rw (le-ltb i from (omega arith)) (slice_get_past octets (i - from) (omega arith))
+
+-- a segment of one octet has it at its begin alone
+octet_here : (from y : ℕ) → octet_in from (y ∷ []) from ≡ Some y
+octet_here from y =
+    let zero_is : from - from ≡ 0 = omega arith in
+    rw (le-ltb from from (omega arith), zero_is) refl
+
+octet_elsewhere : (from y i : ℕ) → i ≢ from → octet_in from (y ∷ []) i ≡ None
+octet_elsewhere from y i other = elim (cases_lt i from) [
+  | inl lt ↦ octet_before from (y ∷ []) i lt
+  | inr le ↦ octet_past from (y ∷ []) i (omega arith)
+]
+
+got_append : (xs ys : List ℕ) (j : ℕ) →
+    slice_get (xs ++ ys) j ≡ option_or (slice_get xs j) (if nat_lt j (length xs) then None else slice_get ys (j - length xs))
+got_append [] ys j =
+    let same : j - 0 ≡ j = omega arith in
+    rw (le-ltb j 0 (omega arith), same) refl
+got_append (x ∷ xs) ys zero = refl
+got_append (x ∷ xs) ys (suc j) =
+    let less : suc j - suc (length xs) ≡ j - length xs = omega arith in
+    let test : nat_lt (suc j) (suc (length xs)) ≡ nat_lt j (length xs) = grind (arith, nat_tests) in
+    got_append xs ys j ∙ ap (option_or (slice_get xs j)) (rw (test, less) refl)
+
+-- a segment behind another
+pub octet_append : (from : ℕ) (xs ys : List ℕ) (i : ℕ) →
+    octet_in from (xs ++ ys) i ≡ option_or (octet_in from xs i) (octet_in (from + length xs) ys i)
+octet_append from xs ys i = elim (cases_lt i from) [
+  | inl lt ↦ octet_before from (xs ++ ys) i lt ∙ sym (ap₂ option_or (octet_before from xs i lt)
+      (octet_before (from + length xs) ys i (omega arith)))
+  | inr le ↦
+      let less : i - from - length xs ≡ i - (from + length xs) = omega arith in
+      let test : nat_lt (i - from) (length xs) ≡ nat_lt i (from + length xs) = grind (arith, nat_tests) in
+      rw (le-ltb i from le) (got_append xs ys (i - from) ∙ ap (option_or (slice_get xs (i - from))) (rw (test, less) refl))
+]
+
+-- a segment with no octet
+pub octet_none : (from i : ℕ) → octet_in from [] i ≡ None
+octet_none from i = elim (cases_lt i from) [
+  | inl lt ↦ octet_before from [] i lt
+  | inr le ↦ octet_past from [] i (omega arith)
+]
+
+-- the octet at a place, with others put in
+pub got_with : (octets : List (Option ℕ)) (at : ℕ) (piece : List ℕ) (i : ℕ) (d : Option ℕ) → i < length octets →
+    get_or (with_octets octets at piece) i d ≡ option_or (get_or octets i None) (octet_in at piece i)
+got_with octets at piece i d lt = get_or-map-range_with_len
+    (λ k. option_or (get_or octets k None) (octet_in at piece k)) 0 (length octets) i i d lt (omega arith)
+
+pub length_with : (octets : List (Option ℕ)) (at : ℕ) (piece : List ℕ) →
+    length (with_octets octets at piece) ≡ length octets
+length_with octets at piece = length-map-range_with_len
+    (λ k. option_or (get_or octets k None) (octet_in at piece k)) 0 (length octets)
+
+-- where nothing is put in
+pub with_octets_none : (octets : List (Option ℕ)) (at : ℕ) → with_octets octets at [] ≡ octets
+with_octets_none octets at = same_lists (with_octets octets at []) octets (length_with octets at [])
+    (λ k d h.
+    let lt : k < length octets = omega (arith, length_with octets at []) in
+    got_with octets at [] k d lt ∙ (ap (option_or (get_or octets k None)) (octet_none at k)
+    ∙ (or_none (get_or octets k None) ∙ get_or_default octets k None d lt)))
+
+-- one octet more is put in
+pub with_octets_more : (octets : List (Option ℕ)) (at : ℕ) (piece : List ℕ) (k : ℕ) → k < length piece →
+    with_octet (with_octets octets at (take k piece)) (at + k) (get_or piece k 0) ≡ with_octets octets at (take (k + 1) piece)
+with_octets_more octets at piece k lt =
+    let y = get_or piece k 0 in
+    let part = take k piece in
+    let filled = with_octets octets at part in
+    let long : length part ≡ k = length-take-le k piece (omega arith) in
+    let more : (i : ℕ) → octet_in at (take (k + 1) piece) i ≡ option_or (octet_in at part i) (octet_in (at + k) (y ∷ []) i) =
+    λ i. ap (λ l. octet_in at l i) (take_more piece k 0 lt) ∙ (octet_append at part (y ∷ []) i
+    ∙ ap (λ n. option_or (octet_in at part i) (octet_in (at + n) (y ∷ []) i)) long) in
+    let new = with_octet filled (at + k) y in
+    let new_length : length new ≡ length octets = length-set filled (at + k) _ ∙ length_with octets at part in
+    same_lists new (with_octets octets at (take (k + 1) piece)) (new_length ∙ sym (length_with octets at (take (k + 1) piece)))
+    (λ i d h.
+    let inside : i < length octets = omega (arith, new_length) in
+    let there = got_with octets at (take (k + 1) piece) i d inside in
+    let goal_is = there ∙ (ap (option_or (get_or octets i None)) (more i)
+    ∙ sym (or_assoc (get_or octets i None) (octet_in at part i) (octet_in (at + k) (y ∷ []) i))) in
+    let front : ℕ → Option ℕ = λ j. option_or (get_or octets j None) (octet_in at part j) in
+    elim (cases_eq i (at + k)) [
+      | inl e ↦
+          let within : at + k < length filled = omega (arith, length_with octets at part) in
+          let within_octets : at + k < length octets = omega arith in
+          ap (λ j. get_or new j d) e ∙ (get_or-set_same filled (at + k) _ d within
+          ∙ (ap (λ o. option_or o (Some y)) (got_with octets at part (at + k) None within_octets)
+          ∙ sym (goal_is ∙ (ap (λ j. option_or (front j) (octet_in (at + k) (y ∷ []) j)) e
+          ∙ ap (option_or (front (at + k))) (octet_here (at + k) y)))))
+      | inr other ↦ get_or-set_other filled (at + k) i _ d other ∙ (got_with octets at part i d inside
+          ∙ sym (goal_is ∙ (ap (option_or (front i)) (octet_elsewhere (at + k) y i other) ∙ or_none (front i))))
+    ])
+
+-- one segment placed behind another is both placed
+pub places_then : (old mid new : List Block) (from n : ℕ) (xs ys : List ℕ) → length xs ≡ n → Places old mid from xs →
+    Places mid new (from + n) ys → Places old new from (xs ++ ys)
+places_then old mid new from n xs ys long first second offset =
+    let was = octet_at old offset in
+    second offset ∙ (ap (λ o. option_or o (octet_in (from + n) ys offset)) (first offset)
+    ∙ (or_assoc was (octet_in from xs offset) (octet_in (from + n) ys offset)
+    ∙ ap (option_or was) (ap (λ k. option_or (octet_in from xs offset) (octet_in (from + k) ys offset)) (sym long)
+    ∙ sym (octet_append from xs ys offset))))
+
+-- the front up to one place, and what goes on to another
+pub pieces_join : (done end : ℕ) (xs : List ℕ) → done ≤ end → take end xs ≡ take done xs ++ take (end - done) (drop done xs)
+pieces_join done end xs le =
+    let end_is : end ≡ done + (end - done) = omega arith in
+    ap (λ n. take n xs) end_is ∙ take-add done (end - done) xs

@@ -1,0 +1,10 @@
+use Rattle.std.proofs.Common.{length}
+use Rattle.cell_pool.specs.Lists.{chain_at}
+use Rattle.retain_store.specs.Changes.{IsChanged}
+use Rattle.retain_store.proofs.forgets.forget_chain.Given as goal
+
+abbrev pub invariant-loop-pool : goal.invariant-loop-pool
+invariant-loop-pool l = IsChanged l.fn.pool l.pool l.fn.chain.0
+
+abbrev pub decreases-loop-pool : goal.decreases-loop-pool
+decreases-loop-pool l = length (chain_at l.pool l.fn.chain.0)

@@ -1,0 +1,12 @@
+use Rattle.std.proofs.Common.{◌≡◌, not}
+use Rattle.std.specs.List.{count_by, range_with_len}
+use Rattle.cell_pool.specs.Lists.{chain_at}
+use Rattle.retain_store.specs.Maps.{holds}
+use Rattle.retain_store.specs.Seats.{blocks_in, IsNear}
+use Rattle.retain_store.proofs.reads.count_missing.Given as goal
+
+abbrev pub invariant-loop-index : goal.invariant-loop-index
+invariant-loop-index l = record {
+  near : IsNear (chain_at l.pool l.fn.chain.0) l.near;
+  counted : l.count ≡ count_by (λ n. not (holds (blocks_in l.pool l.fn.chain.0) n)) (range_with_len l.first l.index);
+}

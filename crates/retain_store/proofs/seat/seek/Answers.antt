@@ -1,0 +1,13 @@
+use Rattle.std.proofs.Common.{◌<◌, arith}
+use Rattle.cell_pool.specs.Lists.{chain_at}
+use Rattle.retain_store.specs.Seats.{IsAmong}
+use Rattle.retain_store.proofs.Walks.{stands, from_cell}
+use Rattle.retain_store.proofs.seat.seek.Goals as goal
+
+pub walk-requires-clause-begun : goal.walk-requires-clause-begun
+walk-requires-clause-begun c =
+    let among : IsAmong (chain_at c.args.pool.now c.args.chain.0) c.in-Some.cell = rw c.in-Some.is at c.requires.near_in_chain in
+    let at = stands c.requires.chain_in_range among.at in
+    let block = c.block-reached.ensures _ _ _ _ at in
+    let below : among.cell.block < c.args.block = omega (arith, block) in
+    from_cell among below (c.next_of.ensures.value _ _ _ _ at)

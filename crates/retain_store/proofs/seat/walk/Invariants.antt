@@ -1,0 +1,6 @@
+use Rattle.cell_pool.specs.Lists.{chain_at}
+use Rattle.retain_store.specs.Seats.{IsWalk}
+use Rattle.retain_store.proofs.seat.walk.Given as goal
+
+abbrev pub invariant-loop : goal.invariant-loop
+invariant-loop l = IsWalk (chain_at l.pool l.fn.chain.0) l.fn.block l.after l.next l.counter

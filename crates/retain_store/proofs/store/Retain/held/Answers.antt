@@ -1,0 +1,15 @@
+use Rattle.std.proofs.Common.{subst}
+use Rattle.retain_store.specs.Maps.{IsMap}
+use Rattle.retain_store.proofs.Holdings.{held_counted}
+use Rattle.retain_store.proofs.Shown.{kept_map, chain_shown, inside_pool}
+use Rattle.retain_store.proofs.store.Retain.held.Goals as goal
+
+pub returns-clause-map : goal.returns-clause-map
+returns-clause-map c = subst IsMap (chain_shown c.self.inside.pool c.args.self.now c.args.chain.0 c.self.view_is c.requires)
+    (kept_map (c.self.invariant.kept c.args.chain.0 (inside_pool c.self.inside.pool c.args.self.now c.args.chain.0 c.self.view_is c.requires)))
+
+pub returns-clause-held : goal.returns-clause-held
+returns-clause-held c n within =
+    let shown = chain_shown c.self.inside.pool c.args.self.now c.args.chain.0 c.self.view_is c.requires in
+    let kept = c.self.invariant.kept c.args.chain.0 (inside_pool c.self.inside.pool c.args.self.now c.args.chain.0 c.self.view_is c.requires) in
+    held_counted _ n kept shown c.count.ensures within

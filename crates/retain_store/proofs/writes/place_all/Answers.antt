@@ -1,0 +1,45 @@
+use Rattle.std.proofs.Common.{◌≡◌, ℕ, ◌+◌, ◌-◌, ◌/◌, ◌%◌, ◌⊎◌, inl, inr, length, take, drop, cond, ap₂, subst, ◌∙◌, sym, arith}
+use Rattle.std.proofs.lemmas.Bool.{cases_lt}
+use Rattle.std.proofs.lemmas.List.{length-take-le}
+use Rattle.cell_pool.specs.Lists.{chain_at}
+use Rattle.retain_store.specs.Maps.{Places, holds, missing}
+use Rattle.retain_store.specs.Seats.{blocks_in}
+use Rattle.retain_store.proofs.Missing.{first_held, missing_step}
+use Rattle.retain_store.proofs.Segments.{places_then, pieces_join}
+use Rattle.retain_store.proofs.Pieces.{changed_then}
+use Rattle.retain_store.proofs.writes.place_all.Goals as goal
+
+pub place_piece-requires-clause-room : goal.place_piece-requires-clause-room
+place_piece-requires-clause-room c none = first_held _ (c.args.from + c.loop-done.done) (length c.args.bytes.now - c.loop-done.done) (omega arith) (omega arith)
+
+pub loop-done-preserved : goal.loop-done-preserved
+loop-done-preserved c =
+    let done = c.loop-done.done in
+    let end = c.min-end.result in
+    let at = c.args.from + done in
+    let left = length c.args.bytes.now - done in
+    let piece = c.place_piece.ensures in
+    let old = blocks_in c.args.pool.now c.args.chain.0 in
+    let mid = blocks_in c.loop-done.pool c.args.chain.0 in
+    let new = blocks_in c.place_piece.new.pool c.args.chain.0 in
+    let ends : (end - done ≡ left) ⊎ (at % 256 + (end - done) ≡ 256) = elim (cases_lt end (length c.args.bytes.now)) [
+      | inl part ↦ inr (omega arith)
+      | inr all ↦ inl (omega arith)
+    ] in
+    let first : ℕ = cond (holds mid (at / 256)) 0 1 in
+    let step = missing_step mid new at left (end - done) (omega arith) (omega arith) (omega arith) ends piece.held in
+    let on : at + (end - done) ≡ c.args.from + end = omega arith in
+    let over : left - (end - done) ≡ length c.args.bytes.now - end = omega arith in
+    let step_on = step ∙ ap₂ (λ a l. first + missing new a l) on over in
+    let joined = pieces_join done end c.args.bytes.now (omega arith) in
+    record {
+      within = omega arith;
+      near = piece.near;
+      kept = piece.kept;
+      changed = changed_then (chain_at c.place_piece.new.pool c.args.chain.0) c.place_piece.new.pool.free c.requires.chain_in_range
+          c.loop-done.invariant.changed piece.changed.others piece.changed.cells;
+      spent = omega (arith, step_on, piece.spent, c.loop-done.invariant.spent);
+      octets = subst (λ l. Places old new c.args.from l) (sym joined)
+          (places_then old mid new c.args.from done (take done c.args.bytes.now) (take (end - done) (drop done c.args.bytes.now))
+          (length-take-le done c.args.bytes.now c.loop-done.invariant.within) c.loop-done.invariant.octets piece.octets);
+    }

@@ -1,0 +1,96 @@
+//! What of a chain is forgotten.
+ghost use Rattle.std.specs.Prelude.{◌≡◌, ◌+◌, ◌*◌, ◌<◌, ◌/◌, [], false, length};
+ghost use Rattle.cell_pool.specs.Lists.{chain_at};
+ghost use Rattle.retain_store.specs.Maps.{ForgetsBelow};
+ghost use Rattle.retain_store.specs.Seats.{blocks_in, IsKept, IsNear};
+ghost use Rattle.retain_store.specs.Changes.{begins_below, IsAbove, Forgets, IsChanged};
+
+use crate::seat::place_of;
+use cell_pool::{CellId, ChainId, Pool};
+
+// Whether the first block of the chain is below this one.
+fn begins_below(pool: &Pool, chain: ChainId, block: u64) -> bool
+    requires { chain.0 < length pool.now.chains }
+    ensures { result ≡ begins_below (chain_at pool.now chain.0) block }
+{
+    match pool.first(chain) {
+        Some(cell) => pool.block(cell) < block,
+        None => false,
+    }
+}
+
+// The cell given, where its block is above this one.
+fn near_above(pool: &Pool, chain: ChainId, near: Option<CellId>, block: u64) -> Option<CellId>
+    requires chain_in_range { chain.0 < length pool.now.chains }
+    requires near_in_chain { IsNear (chain_at pool.now chain.0) near }
+    ensures { IsAbove (chain_at pool.now chain.0) block result }
+{
+    match near {
+        Some(cell) if pool.block(cell) > block => Some(cell),
+        _ => None,
+    }
+}
+
+// Frees the cells of the blocks below this one.
+fn free_below(pool: &mut Pool, chain: ChainId, block: u64)
+    requires chain_in_range { chain.0 < length pool.old.chains }
+    requires kept { IsKept (chain_at pool.old chain.0) }
+    ensures begins { begins_below (chain_at pool.new chain.0) block ≡ false }
+    ensures forgets { Forgets pool.old pool.new chain.0 block (256 * block) }
+{
+    while begins_below(pool, chain, block) {
+        pool.give_back_after(chain, None);
+    }
+}
+
+// Forgets the octets below an offset in its own block, where no block before it is left.
+fn trim(pool: &mut Pool, chain: ChainId, at: u64)
+    requires chain_in_range { chain.0 < length pool.old.chains }
+    requires kept { IsKept (chain_at pool.old chain.0) }
+    requires begins { begins_below (chain_at pool.old chain.0) (at / 256) ≡ false }
+    ensures { Forgets pool.old pool.new chain.0 (at / 256) at }
+{
+    let Some(cell) = pool.first(chain) else {
+        return;
+    };
+    if pool.block(cell) != at / 256 {
+        return;
+    }
+    if !pool.clear_below(cell, u16::from(place_of(at))) {
+        return;
+    }
+    pool.give_back_after(chain, None);
+}
+
+/// Forgets the octets below an offset, and answers a cell from which the next walk may begin.
+pub(crate) fn forget_before(
+    pool: &mut Pool,
+    chain: ChainId,
+    near: Option<CellId>,
+    at: u64,
+) -> Option<CellId>
+    requires chain_in_range { chain.0 < length pool.old.chains }
+    requires near_in_chain { IsNear (chain_at pool.old chain.0) near }
+    requires kept { IsKept (chain_at pool.old chain.0) }
+    ensures near { IsNear (chain_at pool.new chain.0) result }
+    ensures kept { IsKept (chain_at pool.new chain.0) }
+    ensures changed { IsChanged pool.old pool.new chain.0 }
+    ensures octets { ForgetsBelow (blocks_in pool.old chain.0) (blocks_in pool.new chain.0) at }
+{
+    let block = at / 256;
+    let near = near_above(pool, chain, near, block);
+    free_below(pool, chain, block);
+    trim(pool, chain, at);
+    near
+}
+
+/// Forgets all octets of a chain.
+pub(crate) fn forget_chain(pool: &mut Pool, chain: ChainId)
+    requires { chain.0 < length pool.old.chains }
+    ensures empty { chain_at pool.new chain.0 ≡ [] }
+    ensures changed { IsChanged pool.old pool.new chain.0 }
+{
+    while let Some(_) = pool.first(chain) {
+        pool.give_back_after(chain, None);
+    }
+}

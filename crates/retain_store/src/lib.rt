@@ -1,0 +1,14 @@
+//! Octets by chain and offset: the first octet at an offset stays until it is forgotten.
+#![tactic(auto)]
+
+mod forgets;
+mod reads;
+mod seat;
+mod store;
+mod writes;
+
+pub use cell_pool::ChainId;
+pub use store::Retain;
+
+#[cfg(test)]
+mod tests;

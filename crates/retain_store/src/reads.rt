@@ -1,0 +1,133 @@
+//! What is read along the octets of a segment.
+ghost use Rattle.std.specs.Prelude.{◌≡◌, ℕ, ◌+◌, ◌-◌, ◌<◌, ◌≤◌, ◌/◌, ◌^◌, ◌↔◌, Some, false, length, slice_index, IsTrue};
+ghost use Rattle.std.specs.List.{range_with_len};
+ghost use Rattle.cell_pool.specs.Lists.{chain_at, IsRising};
+ghost use Rattle.retain_store.specs.Maps.{holds, octet_at, touched, missing, Covers, Settles};
+ghost use Rattle.retain_store.specs.Seats.{blocks_in, IsKept, IsNear};
+
+use crate::seat::{Seat, look, seek};
+use cell_pool::{CellId, ChainId, Pool};
+
+// How many blocks are touched by so many offsets.
+fn blocks_touched(from: u64, len: u32) -> u32
+    requires { from + len ≤ 2 ^ 64 - 1 }
+    ensures { touched from len ≡ range_with_len (from / 256) result }
+{
+    if len == 0 {
+        return 0;
+    }
+    let last = from + u64::from(len) - 1;
+    (last / 256 - from / 256 + 1) as u32
+}
+
+// Whether a block has an octet, and a cell from which the next walk may begin.
+fn look_up(pool: &Pool, chain: ChainId, near: Option<CellId>, block: u64) -> (bool, Option<CellId>)
+    requires chain_in_range { chain.0 < length pool.now.chains }
+    requires near_in_chain { IsNear (chain_at pool.now chain.0) near }
+    requires kept { IsKept (chain_at pool.now chain.0) }
+    ensures held { result.0 ≡ holds (blocks_in pool.now chain.0) block }
+    ensures near { IsNear (chain_at pool.now chain.0) result.1 }
+{
+    match seek(pool, chain, near, block) {
+        Seat::Cell(cell) => (true, Some(cell)),
+        Seat::After(after) => (false, after),
+    }
+}
+
+/// How many of the blocks touched have no octet.
+pub(crate) fn count_missing(
+    pool: &Pool,
+    chain: ChainId,
+    near: Option<CellId>,
+    from: u64,
+    len: u32,
+) -> u32
+    requires chain_in_range { chain.0 < length pool.now.chains }
+    requires near_in_chain { IsNear (chain_at pool.now chain.0) near }
+    requires kept { IsKept (chain_at pool.now chain.0) }
+    requires offsets { from + len ≤ 2 ^ 64 - 1 }
+    ensures { result ≡ missing (blocks_in pool.now chain.0) from len }
+{
+    let mut near = near;
+    let mut count = 0;
+    let first = from / 256;
+    for index in 0..blocks_touched(from, len) {
+        let (held, next) = look_up(pool, chain, near, first + u64::from(index));
+        if !held {
+            count += 1;
+        }
+        near = next;
+    }
+    count
+}
+
+/// Whether each of the offsets has its octet.
+pub(crate) fn covers_all(
+    pool: &Pool,
+    chain: ChainId,
+    near: Option<CellId>,
+    from: u64,
+    len: u32,
+) -> bool
+    requires chain_in_range { chain.0 < length pool.now.chains }
+    requires near_in_chain { IsNear (chain_at pool.now chain.0) near }
+    requires rising { IsRising (chain_at pool.now chain.0) }
+    requires offsets { from + len ≤ 2 ^ 64 - 1 }
+    ensures { IsTrue result ↔ Covers (blocks_in pool.now chain.0) from len }
+{
+    let mut near = near;
+    for index in 0..len {
+        let (octet, next) = look(pool, chain, near, from + u64::from(index));
+        if octet.is_none() {
+            return false;
+        }
+        near = next;
+    }
+    true
+}
+
+/// Copies octets out, where each offset has one.
+pub(crate) fn copy(pool: &Pool, chain: ChainId, near: Option<CellId>, from: u64, out: &mut [u8])
+    requires chain_in_range { chain.0 < length pool.now.chains }
+    requires near_in_chain { IsNear (chain_at pool.now chain.0) near }
+    requires rising { IsRising (chain_at pool.now chain.0) }
+    requires offsets { from + length out.old ≤ 2 ^ 64 - 1 }
+    requires covered { Covers (blocks_in pool.now chain.0) from (length out.old) }
+    ensures { (i : ℕ) → i < length out.new →
+        octet_at (blocks_in pool.now chain.0) (from + i) ≡ Some (slice_index out.new i) }
+{
+    let mut near = near;
+    for (index, place) in out.iter_mut().enumerate() {
+        let (octet, next) = look(pool, chain, near, from + index as u64);
+        let Some(octet) = octet else { unreachable!() };
+        *place = octet;
+        near = next;
+    }
+}
+
+/// Puts kept octets in place of those that differ, and answers whether one did.
+pub(crate) fn settle_all(
+    pool: &Pool,
+    chain: ChainId,
+    near: Option<CellId>,
+    from: u64,
+    bytes: &mut [u8],
+) -> bool
+    requires chain_in_range { chain.0 < length pool.now.chains }
+    requires near_in_chain { IsNear (chain_at pool.now chain.0) near }
+    requires rising { IsRising (chain_at pool.now chain.0) }
+    requires offsets { from + length bytes.old ≤ 2 ^ 64 - 1 }
+    ensures settled { Settles (blocks_in pool.now chain.0) from bytes.old bytes.new }
+    ensures same { (result ≡ false) ↔ (bytes.new ≡ bytes.old) }
+{
+    let mut near = near;
+    let mut changed = false;
+    for (index, place) in bytes.iter_mut().enumerate() {
+        let (kept, next) = look(pool, chain, near, from + index as u64);
+        let octet = kept.unwrap_or(*place);
+        changed |= octet != *place;
+        *place = octet;
+        near = next;
+    }
+    changed
+}

@@ -1,0 +1,89 @@
+//! Where a block stands in a chain of the pool.
+ghost use Rattle.std.specs.Prelude.{◌≡◌, ◌<◌, ◌%◌, length};
+ghost use Rattle.cell_pool.specs.Lists.{chain_at, IsRising};
+ghost use Rattle.retain_store.specs.Seats.{blocks_in, IsNear, IsSeat, IsWalk};
+ghost use Rattle.retain_store.specs.Maps.{octet_at};
+
+use cell_pool::{CellId, ChainId, Pool};
+
+/// The cell of a block, or the cell after which a cell for it belongs, none at the front.
+#[derive(Clone, Copy)]
+pub(crate) enum Seat {
+    Cell(CellId),
+    After(Option<CellId>),
+}
+
+/// Finds the seat of a block. The walk begins at `near` where that cell is not past the block, else at the front.
+pub(crate) fn seek(pool: &Pool, chain: ChainId, near: Option<CellId>, block: u64) -> Seat
+    requires chain_in_range { chain.0 < length pool.now.chains }
+    requires near_in_chain { IsNear (chain_at pool.now chain.0) near }
+    ensures { IsSeat (chain_at pool.now chain.0) block result }
+{
+    if let Some(cell) = near {
+        let reached = pool.block(cell);
+        if reached == block {
+            return Seat::Cell(cell);
+        }
+        if reached < block {
+            return walk(pool, chain, near, pool.next_of(cell), block);
+        }
+    }
+    walk(pool, chain, None, pool.first(chain), block)
+}
+
+// Walks on to the block, from behind the cell `after` to `next` and the cells that follow.
+fn walk(
+    pool: &Pool,
+    chain: ChainId,
+    after: Option<CellId>,
+    next: Option<CellId>,
+    block: u64,
+) -> Seat
+    requires chain_in_range { chain.0 < length pool.now.chains }
+    requires begun { IsWalk (chain_at pool.now chain.0) block after next 0 }
+    ensures { IsSeat (chain_at pool.now chain.0) block result }
+{
+    let mut after = after;
+    let mut next = next;
+    for _ in 0..pool.count(chain) {
+        let Some(cell) = next else {
+            return Seat::After(after);
+        };
+        let reached = pool.block(cell);
+        if reached == block {
+            return Seat::Cell(cell);
+        }
+        if reached > block {
+            return Seat::After(after);
+        }
+        after = next;
+        next = pool.next_of(cell);
+    }
+    Seat::After(after)
+}
+
+/// The octet at an offset, if there is one, and a cell from which the next walk may begin.
+pub(crate) fn look(
+    pool: &Pool,
+    chain: ChainId,
+    near: Option<CellId>,
+    offset: u64,
+) -> (Option<u8>, Option<CellId>)
+    requires chain_in_range { chain.0 < length pool.now.chains }
+    requires near_in_chain { IsNear (chain_at pool.now chain.0) near }
+    requires rising { IsRising (chain_at pool.now chain.0) }
+    ensures octet { result.0 ≡ octet_at (blocks_in pool.now chain.0) offset }
+    ensures near { IsNear (chain_at pool.now chain.0) result.1 }
+{
+    match seek(pool, chain, near, offset / 256) {
+        Seat::Cell(cell) => (pool.get(cell, place_of(offset)), Some(cell)),
+        Seat::After(after) => (None, after),
+    }
+}
+
+/// The place of an offset in its block.
+pub(crate) fn place_of(offset: u64) -> u8
+    ensures { result ≡ offset % 256 }
+{
+    (offset % 256) as u8
+}

@@ -1,0 +1,136 @@
+//! The store of octets by chain and offset.
+ghost use Rattle.std.specs.Prelude.{◌≡◌, ℕ, ◌+◌, ◌-◌, ◌*◌, ◌<◌, ◌≤◌, ◌^◌, ◌↔◌, [], Some, false, length, replicate, slice_index, IfOk, IsTrue};
+ghost use Rattle.std.specs.List.{count_by, range_with_len, sum_by};
+ghost use Rattle.retain_store.specs.Maps.{chain_of, holds, octet_at, missing, ChangesOnly, Covers, ForgetsBelow, IsMap, IsWithin, Places, Settles};
+
+use crate::forgets::{forget_before, forget_chain};
+use crate::reads::{copy, count_missing, covers_all, settle_all};
+use crate::writes::place_all;
+use cell_pool::{CellId, ChainId, Pool};
+use edge_io::NoMemory;
+use std::alloc::Global;
+use std::marker::Model;
+
+/// Octets that are kept until they are forgotten, by chain and offset.
+#[derive(Drop)]
+pub struct Retain {
+    pool: Pool,
+    // For each chain the cell touched last, where the next walk begins, or none.
+    hints: Vec<Option<CellId>>,
+}
+
+impl Model for Retain {
+    ghost use Rattle.retain_store.specs.Maps.{Store};
+    ghost use Rattle.retain_store.specs.Seats.{store_of, IsSound};
+
+    ghost Value = { Store };
+
+    ghost view = { λ r. store_of r.pool };
+
+    ghost invariant = { λ r. IsSound r.pool r.hints.items };
+}
+
+impl Retain {
+    /// A store with so many free cells, of 256 octets each, and so many chains with no octet.
+    pub fn open(alloc: Global, cells: u32, chains: u32) -> Result<Retain, NoMemory>
+        requires { cells + chains < 2 ^ 32 - 1 }
+        ensures { IfOk result
+            (λ store. store ≡ record { chains = replicate chains []; free = cells; cells = cells }) }
+    {
+        let pool = Pool::open(alloc, cells, chains)?;
+        let hints = vec![in alloc; None; chains as usize]?;
+        Ok(Retain { pool, hints })
+    }
+
+    /// How many cells are free.
+    pub fn free(&self) -> u32
+        ensures value { result ≡ self.now.free }
+        ensures total { self.now.free + sum_by length self.now.chains ≡ self.now.cells }
+    {
+        self.pool.free()
+    }
+
+    /// How many blocks of 256 offsets have an octet in the chain. Each takes one cell.
+    pub fn held(&self, chain: ChainId) -> u32
+        requires { chain.0 < length self.now.chains }
+        ensures count { result ≡ length (chain_of self.now chain.0) }
+        ensures map { IsMap (chain_of self.now chain.0) }
+        ensures held { (n : ℕ) → IsWithin (chain_of self.now chain.0) (256 * n) →
+            result ≡ count_by (holds (chain_of self.now chain.0)) (range_with_len 0 n) }
+    {
+        self.pool.count(chain)
+    }
+
+    /// How many of the blocks touched have no octet yet.
+    pub fn need(&self, chain: ChainId, from: u64, len: u32) -> u32
+        requires chain_in_range { chain.0 < length self.now.chains }
+        requires offsets { from + len ≤ 2 ^ 64 - 1 }
+        ensures { result ≡ missing (chain_of self.now chain.0) from len }
+    {
+        count_missing(&self.pool, chain, self.hints[chain.0 as usize], from, len)
+    }
+
+    /// Adds the octets at offsets that have none. It takes no memory.
+    pub fn place(&mut self, chain: ChainId, from: u64, bytes: &[u8])
+        requires chain_in_range { chain.0 < length self.old.chains }
+        requires offsets { from + length bytes.now ≤ 2 ^ 64 - 1 }
+        requires room { missing (chain_of self.old chain.0) from (length bytes.now) ≤ self.old.free }
+        ensures octets { Places (chain_of self.old chain.0) (chain_of self.new chain.0) from bytes.now }
+        ensures free { self.new.free + missing (chain_of self.old chain.0) from (length bytes.now) ≡ self.old.free }
+        ensures changed { ChangesOnly self.old self.new chain.0 }
+    {
+        let near = self.hints[chain.0 as usize];
+        let near = place_all(&mut self.pool, chain, near, from, bytes);
+        self.hints[chain.0 as usize] = near;
+    }
+
+    /// Puts kept octets in place of those that differ, and answers whether one did.
+    pub fn settle(&self, chain: ChainId, from: u64, bytes: &mut [u8]) -> bool
+        requires chain_in_range { chain.0 < length self.now.chains }
+        requires offsets { from + length bytes.old ≤ 2 ^ 64 - 1 }
+        ensures settled { Settles (chain_of self.now chain.0) from bytes.old bytes.new }
+        ensures same { (result ≡ false) ↔ (bytes.new ≡ bytes.old) }
+    {
+        settle_all(&self.pool, chain, self.hints[chain.0 as usize], from, bytes)
+    }
+
+    /// Forgets the octets below an offset.
+    pub fn forget_below(&mut self, chain: ChainId, at: u64)
+        requires { chain.0 < length self.old.chains }
+        ensures octets { ForgetsBelow (chain_of self.old chain.0) (chain_of self.new chain.0) at }
+        ensures changed { ChangesOnly self.old self.new chain.0 }
+    {
+        let near = self.hints[chain.0 as usize];
+        let near = forget_before(&mut self.pool, chain, near, at);
+        self.hints[chain.0 as usize] = near;
+    }
+
+    /// Forgets all octets of the chain.
+    pub fn forget_all(&mut self, chain: ChainId)
+        requires { chain.0 < length self.old.chains }
+        ensures empty { chain_of self.new chain.0 ≡ [] }
+        ensures changed { ChangesOnly self.old self.new chain.0 }
+    {
+        forget_chain(&mut self.pool, chain);
+        self.hints[chain.0 as usize] = None;
+    }
+
+    /// Whether each of so many offsets has its octet.
+    pub fn covers(&self, chain: ChainId, from: u64, len: u32) -> bool
+        requires chain_in_range { chain.0 < length self.now.chains }
+        requires offsets { from + len ≤ 2 ^ 64 - 1 }
+        ensures { IsTrue result ↔ Covers (chain_of self.now chain.0) from len }
+    {
+        covers_all(&self.pool, chain, self.hints[chain.0 as usize], from, len)
+    }
+
+    /// Copies out octets that are all there.
+    pub fn copy_out(&self, chain: ChainId, from: u64, out: &mut [u8])
+        requires chain_in_range { chain.0 < length self.now.chains }
+        requires offsets { from + length out.old ≤ 2 ^ 64 - 1 }
+        requires covered { Covers (chain_of self.now chain.0) from (length out.old) }
+        ensures { (i : ℕ) → i < length out.new → octet_at (chain_of self.now chain.0) (from + i) ≡ Some (slice_index out.new i) }
+    {
+        copy(&self.pool, chain, self.hints[chain.0 as usize], from, out);
+    }
+}
