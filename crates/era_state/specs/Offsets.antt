@@ -5,6 +5,10 @@ use Rattle.std.specs.Prelude.{◌≡◌, ◌↔◌, ℕ, ◌+◌, ◌-◌, ◌%�
 abbrev pub turn_past : ℕ → ℕ → ℕ
 turn_past from number = (number + 2 ^ 32 - from % 2 ^ 32) % 2 ^ 32
 
+-- the number before a number, modulo one turn
+abbrev pub number_before : ℕ → ℕ
+number_before number = (number + (2 ^ 32 - 1)) % 2 ^ 32
+
 -- Off: the offset of a number, seen from the offset `at`: less than half a turn past it, or at most half a turn before it
 abbrev pub off : (base at number : ℕ) → ℤ
 off base at number =

@@ -1,0 +1,48 @@
+//! An inbound segment for which no era is live.
+ghost use Rattle.std.specs.Prelude.{◌≡◌, true};
+ghost use Rattle.wire_base.specs.Tcp as tcp;
+ghost use Rattle.era_state.specs.Read.{came};
+ghost use Rattle.cold_start.specs.Rules.{cold_probe_of, is_asked, is_call, t_cold};
+ghost use Rattle.cold_start.specs.Answers.{AnswersTo, is_begin, is_probe, is_refuse};
+
+use era_state::{Offered, Probe, Seg};
+
+/// What becomes of an inbound segment for which no era is live.
+#[derive(Clone, Copy)]
+pub enum ColdAnswer {
+    /// It begins this era.
+    Begin(Offered),
+    /// It stays outside, and this asks the host whether it holds the connection.
+    Probe(Probe),
+    /// T_COLD: it stays outside.
+    Refuse,
+}
+
+/// Judges an inbound segment for which no era is live.
+pub fn cold(seg: &Seg) -> ColdAnswer
+    requires legal { tcp.are_legal seg.now.flags.0 ≡ true }
+    ensures begins { is_begin result ≡ is_call (came seg.now) }
+    ensures asks { is_probe result ≡ is_asked (came seg.now) }
+    ensures refuses { is_refuse result ≡ t_cold (came seg.now) }
+    ensures fields { AnswersTo seg.now result }
+{
+    let flags = seg.flags;
+    if flags.rst() || flags.syn() && flags.ack() {
+        return ColdAnswer::Refuse;
+    }
+    if flags.syn() {
+        return ColdAnswer::Begin(Offered::offer(seg));
+    }
+    ColdAnswer::Probe(cold_probe(seg))
+}
+
+/// The probe that asks a host about an inbound segment: from one below its sequence number, with its acknowledgment and its window.
+pub fn cold_probe(seg: &Seg) -> Probe
+    ensures { result ≡ cold_probe_of (came seg.now) }
+{
+    Probe {
+        seq: seg.seq.wrapping_sub(1),
+        ack: seg.ack,
+        window: seg.window,
+    }
+}
