@@ -1,6 +1,5 @@
-pub mod Judging
-pub mod Stepping
 pub mod Traces
+pub mod Writing
 pub mod Running
 pub mod Statuses
 pub mod Telling

@@ -6,7 +6,7 @@ use Rattle.wire_base.specs.declared.address.Link.{Link}
 use Rattle.wire_base.specs.declared.address.Side.{Side}
 use Rattle.pcap_file.specs.declared.head.Head.{Head}
 use Rattle.pcap_file.specs.declared.order.Order.{Order}
-use Rattle.pcap_file.specs.Heads.{head_octets, is_read_now}
+use Rattle.pcap_file.specs.Heads.{head_octets}
 use Rattle.pcap_file.specs.Records.{Packet, front_of}
 use Rattle.pcap_file.specs.Capture.{ReadsTo}
 use Rattle.pcap_file.specs.Reads.{Leaves, HasEnd, Advances}
@@ -15,8 +15,12 @@ use Rattle.rule_book.specs.declared.last.Last.TheVariants.{End}
 use Rattle.rule_book.specs.declared.rule.Rule.{Rule}
 use Rattle.rule_book.specs.Text.{last_text}
 use Rattle.norm_settings.specs.Settings.{PlainSettings}
-use Rattle.bridge_run.specs.Trace.{Item, item_of, packets, dropped_by, frames_by, entry_by, frame_count, frames_octets}
-use Rattle.bridge_run.specs.Engine.{Engaged, StandsFor}
+use Rattle.norm_engine.specs.Frames.{mended_frame}
+use Rattle.norm_engine.specs.Trace.{Item, item_of, packets, dropped_by, named_rows, frames_by, entry_by}
+use Rattle.norm_engine.specs.Clean.{HasOctets}
+use Rattle.norm_engine.specs.Laws.{LawfulKeepsClean, LawfulAgrees}
+use Rattle.norm_engine.specs.Engine.{Engaged, StandsFor}
+use Rattle.bridge_run.specs.Frames.{frame_count, frames_octets}
 use Rattle.bridge_run.specs.Run.{Took, TookAll, TakenWhole, Going, Relayed, Normalized}
 use Rattle.bridge_run.proofs.Traces.{capture_is, report_is}
 
@@ -47,18 +51,21 @@ taken_whole (Some x) (Some y) None head trace p q = absurd q
 taken_whole (Some x) (Some y) (Some z) head trace p q = q.1
 
 -- the frames of an entry are counted in it, and there is one at the most
-entry_packets : (dropped : Option Rule) (number : ℕ) (told : Option Side) (named : List Rule) (count : ℕ) → (entry_by dropped number told named count).packets ≡ count
-entry_packets None number told named count = refl
-entry_packets (Some rule) number told named count = refl
+entry_packets : (dropped : Option Rule) (named : List Rule) (number : ℕ) (told : Option Side) (count : ℕ) → (entry_by dropped named number told count).packets ≡ count
+entry_packets None named number told count = refl
+entry_packets (Some rule) named number told count = refl
 
-few_frames : (dropped : Option Rule) (r : Packet) → length (frames_by dropped r) ≤ 1
-few_frames None r = omega arith
-few_frames (Some rule) r = omega arith
+few_frames : (dropped : Option Rule) (named : List Rule) (read mended : List ℕ) → length (frames_by dropped named read mended) ≤ 1
+few_frames None [] read mended = omega arith
+few_frames None (rule ∷ others) read mended = omega arith
+few_frames (Some rule) named read mended = omega arith
 
 packets_are : (settings : PlainSettings) (link : Link) (history : List Item) (r : Packet)
     → ((item_of settings link history r).entry.packets ≡ length (item_of settings link history r).frames) × (length (item_of settings link history r).frames ≤ 1)
-packets_are settings link history r =
-    (entry_packets (dropped_by settings link history r) _ _ _ _, few_frames (dropped_by settings link history r) r)
+packets_are settings link history r = (
+  entry_packets (dropped_by settings link history r) (named_rows settings link history r) _ _ _,
+  few_frames (dropped_by settings link history r) (named_rows settings link history r) r.octets (mended_frame settings link r.octets),
+)
 
 -- The item of one more record was written, and the run goes on.
 pub goes_on : (settings : PlainSettings) (head : Head) (s s' s'' c c' c'' r r' r'' : Option (List ℕ)) (engine engine' : Engaged) (reader reader' : Reading) (frames n : ℕ) (p : Packet)
@@ -66,9 +73,10 @@ pub goes_on : (settings : PlainSettings) (head : Head) (s s' s'' c c' c'' r r' r
     → Leaves reader.head.order reader.given s' s'' p → Advances reader reader' (length p.octets) → reader'.head ≡ reader.head
     → ((history : List Item) → StandsFor engine history → Relayed head.order (item_of engine.settings engine.link history p) c' c'' r' r'' n)
     → ((history : List Item) → StandsFor engine history → StandsFor engine' (item_of engine.settings engine.link history p ∷ history))
+    → HasOctets p
     → engine'.settings ≡ engine.settings → engine'.link ≡ engine.link
     → Going settings head s s'' c c'' r r'' engine' reader' (frames + n)
-goes_on settings head s s' s'' c c' c'' r r' r'' engine engine' reader reader' frames n p going left ahead same written stands settled linked =
+goes_on settings head s s' s'' c c' c'' r r' r'' engine engine' reader reader' frames n p going left ahead same written stands octets settled linked =
     let trace = going.trace in
     let item = item_of settings head.link trace p in
     let is : item_of engine.settings engine.link trace p ≡ item = ap₂ (λ x y. item_of x y trace p) going.engine_settings going.engine_link in
@@ -78,6 +86,7 @@ goes_on settings head s s' s'' c c' c'' r r' r'' engine engine' reader reader' f
       trace = item ∷ trace;
       so_far = record {
         lawful = (going.so_far.lawful, refl);
+        octets = (going.so_far.octets, octets);
         took = took_more s s' s'' head trace item reader.head.order reader.given (ap (λ (h : Head). h.order) going.reader_head) going.given_is going.so_far.took left;
         frames_written = Appends-trans c c' c'' _ _ going.so_far.frames_written put.frames_written;
         report_written = Appends-trans r r' r'' _ _ going.so_far.report_written put.report_written;
@@ -94,21 +103,22 @@ goes_on settings head s s' s'' c c' c'' r r' r'' engine engine' reader reader' f
 
 -- the run is over: all was read, and the last line is written
 pub normalized : (settings : PlainSettings) (head : Head) (s s' s'' c c' c'' r r' r'' : Option (List ℕ)) (engine : Engaged) (reader : Reading) (frames count : ℕ)
-    → is_read_now head ≡ true
+    → LawfulKeepsClean → LawfulAgrees
     → Going settings head s s' c c' r r' engine reader frames → HasEnd s' s'' → count ≡ engine.records → c'' ≡ c' → Appends r' r'' (last_text (End count frames))
     → Normalized settings s s'' c c'' r r''
-normalized settings head s s' s'' c c' c'' r r' r'' engine reader frames count form going end counted kept last =
+normalized settings head s s' s'' c c' c'' r r' r'' engine reader frames count keeps agrees going end counted kept last =
     let trace = going.trace in
     let line : last_text (End count frames) ≡ last_text (End (length trace) (frame_count trace)) = ap₂ (λ x y. last_text (End x y)) (counted ∙ going.stands.counted) going.frames_are in
     record {
       head = head;
       trace = trace;
-      form = form;
       lawful = going.so_far.lawful;
       whole = took_all s s' s'' head trace going.so_far.took end;
       taken = taken_whole s s' s'' head trace going.so_far.took end;
       frames_written = subst (λ x. Appends c x (head_octets head ++ frames_octets head.order trace)) (sym kept) (subst (Appends c c') (capture_is head trace) going.so_far.frames_written);
       report_written = subst (Appends r r'') (ap₂ (λ x y. x ++ y) (report_is trace) line) (Appends-trans r r' r'' _ _ going.so_far.report_written last);
+      clean_kept = keeps settings head.link trace going.so_far.octets going.so_far.lawful;
+      agree = agrees settings head.link trace going.so_far.lawful;
     }
 
 -- two facts of what went well give a third

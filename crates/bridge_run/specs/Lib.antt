@@ -1,7 +1,3 @@
-pub mod Rows
-pub mod Trace
-pub mod Clean
-pub mod Engine
+pub mod Frames
 pub mod Stops
 pub mod Run
-pub mod Laws

@@ -1,9 +1,9 @@
 -- What stands in the course of a run, and at its end. Where an object does not tell its octets nothing is claimed of them.
-use Rattle.std.specs.Prelude.{◌≡◌, true, ℕ, ◌≤◌, List, [], ◌∷◌, ◌++◌, length, drop, Option, Some, None, Ok, Err}
+use Rattle.std.specs.Prelude.{◌≡◌, ℕ, ◌≤◌, List, [], ◌∷◌, ◌++◌, length, drop, Option, Some, None, Ok, Err}
 use Rattle.std.specs.Io.KnownBytes.{Appends}
 use Rattle.pcap_file.specs.declared.head.Head.{Head}
 use Rattle.pcap_file.specs.declared.order.Order.{Order}
-use Rattle.pcap_file.specs.Heads.{head_of, head_octets, is_read_now}
+use Rattle.pcap_file.specs.Heads.{head_of, head_octets}
 use Rattle.pcap_file.specs.Reading.{Reading}
 use Rattle.pcap_file.specs.Capture.{IsCapture, ReadsTo, offset_of}
 use Rattle.rule_book.specs.declared.last.Last.TheVariants.{End}
@@ -12,9 +12,11 @@ use Rattle.norm_settings.specs.declared.fault.WordFault.{WordFault}
 use Rattle.norm_settings.specs.Settings.{PlainSettings}
 use Rattle.norm_settings.specs.Faults.{number_of}
 use Rattle.norm_settings.specs.Asked.{asked, PlainNames, run}
-use Rattle.bridge_run.specs.Trace.{Item, Lawful, packets, entries, frames_octets, item_octets, frame_count}
-use Rattle.bridge_run.specs.Clean.{CleanIsKept}
-use Rattle.bridge_run.specs.Engine.{Engaged, StandsFor}
+use Rattle.norm_engine.specs.Trace.{Item, Lawful, packets, entries}
+use Rattle.norm_engine.specs.Clean.{CleanIsKept, HaveOctets}
+use Rattle.norm_engine.specs.Agreement.{Agree}
+use Rattle.norm_engine.specs.Engine.{Engaged, StandsFor}
+use Rattle.bridge_run.specs.Frames.{frames_octets, item_octets, frame_count}
 use Rattle.bridge_run.specs.Stops.{Told, words_line}
 
 -- Where the source tells its octets, those that it had left are a capture with this head, read to its end as the trace's records.
@@ -32,20 +34,24 @@ TakenWhole (Some octets) (Some rest) = rest ≡ []
 abbrev pub AsksRun : List (List ℕ) → PlainSettings → Type 0
 AsksRun words settings = (names : PlainNames) × (asked words ≡ Ok (run names settings))
 
--- A finished run: what the source had left is a capture, all of it was taken, and what was written is the frames and the report of its one lawful
--- trace; every clean packet has exactly one frame with its payload.
-pub record Finished (words : List (List ℕ)) (source source' capture capture' report report' : Option (List ℕ)) : Type 0 where
-  pub settings : PlainSettings
+-- A capture was normalized: what the source had left is a capture, all of it was taken, and what was written is the frames and the report of its one
+-- lawful trace under these settings; every clean packet has exactly one frame with its payload; and in each era all receivers agree.
+pub record Normalized (settings : PlainSettings) (source source' capture capture' report report' : Option (List ℕ)) : Type 0 where
   pub head : Head
   pub trace : List Item
-  pub accepted : AsksRun words settings
-  pub form : is_read_now head ≡ true
   pub lawful : Lawful settings head.link trace
   pub whole : TookAll source head trace
   pub taken : TakenWhole source source'
   pub frames_written : Appends capture capture' (head_octets head ++ frames_octets head.order trace)
   pub report_written : Appends report report' (report_text (entries trace) (End (length trace) (frame_count trace)))
   pub clean_kept : CleanIsKept settings head.link trace
+  pub agree : Agree settings.hops head.link trace
+
+-- A finished run: the words ask for a run, and under their settings the capture was normalized.
+pub record Finished (words : List (List ℕ)) (source source' capture capture' report report' : Option (List ℕ)) : Type 0 where
+  pub settings : PlainSettings
+  pub accepted : AsksRun words settings
+  pub normalized : Normalized settings source source' capture capture' report report'
 
 -- The words are accepted.
 abbrev pub IsAccepted : List (List ℕ) → Type 0
@@ -74,6 +80,7 @@ Took (Some octets) (Some rest) head trace = (head_of octets ≡ Ok head) × Read
 -- so far: a lawful trace of the records that were taken, whose frames and lines were written
 pub record SoFar (settings : PlainSettings) (head : Head) (source source' capture capture' report report' : Option (List ℕ)) (trace : List Item) : Type 0 where
   pub lawful : Lawful settings head.link trace
+  pub octets : HaveOctets trace
   pub took : Took source source' head trace
   pub frames_written : Appends capture capture' (capture_of head trace)
   pub report_written : Appends report report' (report_of trace)
@@ -93,7 +100,6 @@ pub record Going (settings : PlainSettings) (head : Head) (source source' captur
 
 -- The first line and the head were written, and the head was read.
 pub record Begun (head : Head) (source source' capture capture' report report' : Option (List ℕ)) : Type 0 where
-  pub form : is_read_now head ≡ true
   pub took : Took source source' head []
   pub frames_written : Appends capture capture' (head_octets head)
   pub report_written : Appends report report' first_line
@@ -103,17 +109,6 @@ pub record Relayed (order : Order) (item : Item) (capture capture' report report
   pub frames_are : frames ≡ item.entry.packets
   pub frames_written : Appends capture capture' (item_octets order item)
   pub report_written : Appends report report' (entry_text item.entry)
-
--- all records were taken, and what was written is the frames and the report of their lawful trace
-pub record Normalized (settings : PlainSettings) (source source' capture capture' report report' : Option (List ℕ)) : Type 0 where
-  pub head : Head
-  pub trace : List Item
-  pub form : is_read_now head ≡ true
-  pub lawful : Lawful settings head.link trace
-  pub whole : TookAll source head trace
-  pub taken : TakenWhole source source'
-  pub frames_written : Appends capture capture' (head_octets head ++ frames_octets head.order trace)
-  pub report_written : Appends report report' (report_text (entries trace) (End (length trace) (frame_count trace)))
 
 -- what the run answers where the words are refused: their fault, in one line of the report
 pub record Refused (words : List (List ℕ)) (report report' : Option (List ℕ)) (before now : ℕ) : Type 0 where

@@ -9,7 +9,6 @@ use Rattle.pcap_file.specs.declared.head.HeadFault.TheVariants as heads
 use Rattle.pcap_file.specs.declared.reader.RecordFault.{RecordFault}
 use Rattle.pcap_file.specs.declared.reader.RecordFault.TheVariants as records
 use Rattle.pcap_file.specs.Flaws.{Flaw, cut_short, bad_magic, bad_version, bad_link, too_long, too_many}
-use Rattle.pcap_file.specs.Heads.{head_of, is_read_now}
 use Rattle.pcap_file.specs.Records.{Packet}
 use Rattle.pcap_file.specs.Capture.{FailsAt, IsCapture}
 use Rattle.rule_book.specs.declared.last.Last.TheVariants as last
@@ -27,26 +26,16 @@ pub record Counts : Type 0 where
 abbrev pub counts : (source capture report : ℕ) → Counts
 counts source capture report = record { source = source; capture = capture; report = report }
 
--- The octets begin with no head of a form that is not read yet.
-abbrev pub IsReadForm : List ℕ → Type 0
-IsReadForm octets = (head : Head) → head_of octets ≡ Ok head → is_read_now head ≡ true
-
 -- Where the source tells its octets, this is their first flaw, and its offset.
 abbrev pub HasFlawAt : Option (List ℕ) → Flaw → (offset : ℕ) → Type 0
 HasFlawAt None flaw offset = Unit {0}
-HasFlawAt (Some octets) flaw offset = FailsAt octets flaw offset × IsReadForm octets
-
--- Where the source tells its octets, they begin with a head that is accepted, but of a form that is not read yet.
-abbrev pub HasLaterHead : Option (List ℕ) → Type 0
-HasLaterHead None = Unit {0}
-HasLaterHead (Some octets) = (head : Head) × (head_of octets ≡ Ok head) × (is_read_now head ≡ false)
+HasFlawAt (Some octets) flaw offset = FailsAt octets flaw offset
 
 -- What a stop says: of the octets that the source had left, or of the counts of faults before the run and now.
 abbrev pub Explains : Stop → Option (List ℕ) → (before now : Counts) → Type 0
 Explains stops.Magic source before now = HasFlawAt source bad_magic 0
 Explains stops.Version source before now = HasFlawAt source bad_version 0
 Explains stops.Link source before now = HasFlawAt source bad_link 0
-Explains stops.Later source before now = HasLaterHead source
 Explains (stops.Long offset) source before now = HasFlawAt source too_long offset
 Explains (stops.Many offset) source before now = HasFlawAt source too_many offset
 Explains (stops.Cut offset) source before now = HasFlawAt source cut_short offset
@@ -67,7 +56,6 @@ stop_at_head heads.Magic = stops.Magic
 stop_at_head heads.Version = stops.Version
 stop_at_head heads.Link = stops.Link
 stop_at_head heads.ReadFault = stops.Read 0
-stop_at_head heads.Later = stops.Later
 
 -- the stop at a record with this fault, which begins at this offset
 abbrev pub stop_at_record : RecordFault → (offset : ℕ) → Stop
@@ -81,7 +69,6 @@ abbrev pub status_of : Stop → ℕ
 status_of stops.Magic = 3
 status_of stops.Version = 3
 status_of stops.Link = 3
-status_of stops.Later = 3
 status_of (stops.Long offset) = 3
 status_of (stops.Many offset) = 3
 status_of (stops.Cut offset) = 4
@@ -108,7 +95,6 @@ is_cut too_many = false
 pub record IsCutShort (source : Option (List ℕ)) : Type 0 where
   pub octets : List ℕ
   pub told : source ≡ Some octets
-  pub form : IsReadForm octets
   pub offset : ℕ
   pub flawed : FailsAt octets cut_short offset
 
@@ -116,36 +102,26 @@ pub record IsCutShort (source : Option (List ℕ)) : Type 0 where
 pub record IsFaulty (source : Option (List ℕ)) : Type 0 where
   pub octets : List ℕ
   pub told : source ≡ Some octets
-  pub form : IsReadForm octets
   pub flaw : Flaw
   pub other : is_cut flaw ≡ false
   pub offset : ℕ
   pub flawed : FailsAt octets flaw offset
 
--- The source tells its octets, and they begin with a head that is accepted, but of a form that is not read yet.
-pub record IsOfLaterForm (source : Option (List ℕ)) : Type 0 where
-  pub octets : List ℕ
-  pub told : source ≡ Some octets
-  pub head : Head
-  pub accepted : head_of octets ≡ Ok head
-  pub other : is_read_now head ≡ false
-
--- The source tells its octets, and they are a capture of the form that is read, with its end and no flaw.
+-- The source tells its octets, and they are a capture, with its end and no flaw.
 pub record IsWhole (source : Option (List ℕ)) : Type 0 where
   pub octets : List ℕ
   pub told : source ≡ Some octets
   pub head : Head
   pub packets : List Packet
-  pub form : is_read_now head ≡ true
   pub capture : IsCapture octets head packets
 
 -- Where the source tells its octets, their first flaw is that they are cut short.
 abbrev pub WasCut : Option (List ℕ) → Type 0
 WasCut source = (offset : ℕ) × HasFlawAt source cut_short offset
 
--- Where the source tells its octets, their first flaw is another one, or their head is of a form that is not read yet.
+-- Where the source tells its octets, their first flaw is another one.
 abbrev pub WasFaulty : Option (List ℕ) → Type 0
-WasFaulty source = ((flaw : Flaw) × (offset : ℕ) × (is_cut flaw ≡ false) × HasFlawAt source flaw offset) ⊎ HasLaterHead source
+WasFaulty source = (flaw : Flaw) × (offset : ℕ) × (is_cut flaw ≡ false) × HasFlawAt source flaw offset
 
 -- A line was given to the report whole, unless the report failed: then a prefix of it was.
 abbrev pub Told : (old new : Option (List ℕ)) → (before now : ℕ) → List ℕ → Type 0
@@ -164,7 +140,6 @@ abbrev pub stop_line : Stop → List ℕ
 stop_line stops.Magic = last_text (last.Stop kinds.Magic 0)
 stop_line stops.Version = last_text (last.Stop kinds.Version 0)
 stop_line stops.Link = last_text (last.Stop kinds.Link 0)
-stop_line stops.Later = codes "stop later 0" ++ 10 ∷ []
 stop_line (stops.Long offset) = last_text (last.Stop kinds.Long offset)
 stop_line (stops.Many offset) = last_text (last.Stop kinds.Many offset)
 stop_line (stops.Cut offset) = last_text (last.Stop kinds.Cut offset)

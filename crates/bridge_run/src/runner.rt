@@ -1,5 +1,5 @@
 //! The run over a whole capture.
-ghost use Rattle.std.specs.Prelude.{◌≡◌, ◌⊎◌, ◌≤◌, ◌<◌, ◌-◌, ◌^◌, List, ℕ, [], ◌∷◌, ◌++◌, length, map, string_bytes, All, IfOk, IfErr, OnOk};
+ghost use Rattle.std.specs.Prelude.{◌≡◌, ◌⊎◌, ◌≤◌, ◌<◌, ◌-◌, ◌^◌, List, ℕ, [], ◌∷◌, ◌++◌, length, map, slice_index, string_bytes, vec_len, IfOk, IfErr, OnOk};
 ghost use Rattle.std.specs.Io.KnownBytes.{Appends};
 ghost use Rattle.edge_io.specs.Faults.{Rose, HasCause};
 ghost use Rattle.edge_io.specs.Octets.{Puts};
@@ -8,16 +8,19 @@ ghost use Rattle.rule_book.specs.Entries.{plain};
 ghost use Rattle.rule_book.specs.Text.{entry_text, last_text};
 ghost use Rattle.rule_book.specs.declared.last.Last.TheVariants.{End};
 ghost use Rattle.norm_settings.specs.Asked.{asked};
-ghost use Rattle.norm_settings.specs.Settings.{plain_settings};
-ghost use Rattle.bridge_run.specs.Trace.{Item, item_of, frame_octets};
-ghost use Rattle.bridge_run.specs.Engine.{StandsFor, frames_in, AreShort};
+ghost use Rattle.norm_settings.specs.Settings.{plain_settings, AreInRange};
+ghost use Rattle.norm_engine.specs.Trace.{Item, item_of};
+ghost use Rattle.norm_engine.specs.Clean.{HasOctets};
+ghost use Rattle.norm_engine.specs.Engine.{StandsFor};
+ghost use Rattle.bridge_run.specs.Frames.{frame_octets};
 ghost use Rattle.bridge_run.specs.Stops.{counts};
 ghost use Rattle.bridge_run.specs.Stops as stops;
 ghost use Rattle.bridge_run.specs.Run as spec;
 
-use crate::step::Engine;
 use crate::stop::{Stop, stop_at_head, stop_at_record, tell_memory, tell_stop, tell_words};
-use edge_io::{Failed, Sink, Source};
+use edge_io::{Failed, NoMemory, Outbox, Sink, Source};
+use norm_engine::Engine;
+use norm_engine::laws::{lawful_agrees, lawful_keeps_clean};
 use norm_settings::{Command, Settings, WordFault, read_words};
 use pcap_file::laws::{flaw_excludes_end, flaw_is_one};
 use pcap_file::{Head, MAX_CAPTURED, Reader, Record, read_head, write_head, write_record};
@@ -66,8 +69,6 @@ pub fn run<S: Source, K: Sink, R: Sink>(
     // What stands in the source is answered, unless a count rises or memory is wanting.
     ensures faulty_exactly { spec.IsAccepted (map string_bytes words.now) →
         stops.IsFaulty (S.left source.old) → (result ≡ 3) ⊎ (5 ≤ result) }
-    ensures later_exactly { spec.IsAccepted (map string_bytes words.now) →
-        stops.IsOfLaterForm (S.left source.old) → (result ≡ 3) ⊎ (5 ≤ result) }
     ensures cut_exactly { spec.IsAccepted (map string_bytes words.now) →
         stops.IsCutShort (S.left source.old) → (result ≡ 4) ⊎ (5 ≤ result) }
     ensures complete { spec.IsAccepted (map string_bytes words.now) →
@@ -89,13 +90,13 @@ pub fn run<S: Source, K: Sink, R: Sink>(
             return 2;
         }
     };
-    run_capture(alloc, settings, source, capture, report)
+    run_capture(alloc, &settings, source, capture, report)
 }
 
 // The settings that the words ask for.
 fn settings_of(alloc: Global, words: &[String]) -> Result<Settings, WordFault>
     ensures asked { IfOk result (λ settings. spec.AsksRun (map string_bytes words.now) (plain_settings settings)) }
-    ensures prefixes { IfOk result (λ settings. All (λ p. p.len ≤ 32) settings.prefixes.items) }
+    ensures range { IfOk result (λ settings. AreInRange (plain_settings settings)) }
     ensures refused { IfErr result (λ fault.
         (fault ≡ WordFault.NoMemory) ⊎ (asked (map string_bytes words.now) ≡ Err fault)) }
 {
@@ -108,20 +109,21 @@ fn settings_of(alloc: Global, words: &[String]) -> Result<Settings, WordFault>
     }
 }
 
-// Takes the memory of a run, and normalizes the capture under these settings.
-fn run_capture<S: Source, K: Sink, R: Sink>(
+/// Normalizes a capture under these settings, writes the report, and answers the status as `run` does; 2 is none of them.
+/// Its memory is taken first: the buffer of one record, the outbox and the engine.
+pub fn run_capture<S: Source, K: Sink, R: Sink>(
     alloc: Global,
-    settings: Settings,
+    settings: &Settings,
     source: &mut S,
     capture: &mut K,
     report: &mut R,
 ) -> u8
-    requires { All (λ p. p.len ≤ 32) settings.prefixes.items }
+    requires { AreInRange (plain_settings settings.now) }
     ensures memory { result ≡ 8 → stops.Told (R.held report.old) (R.held report.new)
         (R.fault_count report.old) (R.fault_count report.new) stops.memory_line }
     ensures source_untouched { result ≡ 8 → source.new ≡ source.old }
     ensures capture_untouched { result ≡ 8 → capture.new ≡ capture.old }
-    ensures finished { result ≡ 0 → spec.Normalized (plain_settings settings)
+    ensures finished { result ≡ 0 → spec.Normalized (plain_settings settings.now)
         (S.left source.old) (S.left source.new) (K.held capture.old) (K.held capture.new)
         (R.held report.old) (R.held report.new) }
     ensures faulty { result ≡ 3 → stops.WasFaulty (S.left source.old) }
@@ -130,7 +132,6 @@ fn run_capture<S: Source, K: Sink, R: Sink>(
     ensures capture { result ≡ 6 → Rose (K.fault_count capture.old) (K.fault_count capture.new) }
     ensures report { result ≡ 7 → Rose (R.fault_count report.old) (R.fault_count report.new) }
     ensures faulty_exactly { stops.IsFaulty (S.left source.old) → (result ≡ 3) ⊎ (5 ≤ result) }
-    ensures later_exactly { stops.IsOfLaterForm (S.left source.old) → (result ≡ 3) ⊎ (5 ≤ result) }
     ensures cut_exactly { stops.IsCutShort (S.left source.old) → (result ≡ 4) ⊎ (5 ≤ result) }
     ensures complete { stops.IsWhole (S.left source.old) → (result ≡ 0) ⊎ (5 ≤ result) }
     ensures known { (result ≡ 0) ⊎ ((3 ≤ result) × (result ≤ 8)) }
@@ -140,28 +141,63 @@ fn run_capture<S: Source, K: Sink, R: Sink>(
 {
     flaw_is_one();
     flaw_excludes_end();
-    let Ok(mut buffer) = vec![in alloc; 0u8; MAX_CAPTURED as usize] else {
+    let Ok(mut room) = take_room(alloc, settings) else {
         tell_memory(report);
         return 8;
     };
-    let Err(stop) = normalize(settings, &mut buffer, source, capture, report) else {
+    let Err(stop) = normalize(
+        &mut room.engine,
+        &mut room.buffer,
+        &mut room.out,
+        source,
+        capture,
+        report,
+    ) else {
         return 0;
     };
     tell_stop(stop, capture, report);
     stop.status()
 }
 
+/// What a run works in.
+#[derive(Drop)]
+struct Room {
+    /// The octets of one record.
+    buffer: Vec<u8>,
+    /// The frames of one record.
+    out: Outbox,
+    engine: Engine,
+}
+
+// Takes the memory of a run: the buffer of one record, the outbox and the engine.
+fn take_room(alloc: Global, settings: &Settings) -> Result<Room, NoMemory>
+    requires { AreInRange (plain_settings settings.now) }
+    ensures buffer { IfOk result (λ room. vec_len room.buffer ≡ 262144) }
+    ensures stands { IfOk result (λ room. StandsFor room.engine []) }
+    ensures settings { IfOk result (λ room. room.engine.settings ≡ plain_settings settings.now) }
+{
+    let buffer = vec![in alloc; 0u8; MAX_CAPTURED as usize]?;
+    let out = Outbox::open(alloc)?;
+    let engine = Engine::open(alloc, settings.copied())?;
+    Ok(Room {
+        buffer,
+        out,
+        engine,
+    })
+}
+
 // Judges every record of the capture, writes what goes out and the report, and hands on what the sinks keep back.
 fn normalize<S: Source, K: Sink, R: Sink>(
-    settings: Settings,
+    engine: &mut Engine,
     buffer: &mut [u8],
+    out: &mut Outbox,
     source: &mut S,
     capture: &mut K,
     report: &mut R,
 ) -> Result<(), Stop>
-    requires prefixes { All (λ p. p.len ≤ 32) settings.prefixes.items }
+    requires stands { StandsFor engine.old [] }
     requires room { 262144 ≤ length buffer.old }
-    ensures finished { OnOk result (spec.Normalized (plain_settings settings)
+    ensures finished { OnOk result (spec.Normalized engine.old.settings
         (S.left source.old) (S.left source.new) (K.held capture.old) (K.held capture.new)
         (R.held report.old) (R.held report.new)) }
     ensures explained { IfErr result (λ stop. stops.Explains stop (S.left source.old)
@@ -171,8 +207,10 @@ fn normalize<S: Source, K: Sink, R: Sink>(
     ensures capture_later { K.fault_count capture.old ≤ K.fault_count capture.new }
     ensures report_later { R.fault_count report.old ≤ R.fault_count report.new }
 {
+    lawful_keeps_clean();
+    lawful_agrees();
     let head = begin(source, capture, report)?;
-    let mut engine = Engine::open(settings, head.link);
+    engine.set_link(head.link);
     let mut reader = Reader::new(head);
     let mut frames = 0u64;
     'records: loop {
@@ -181,7 +219,7 @@ fn normalize<S: Source, K: Sink, R: Sink>(
             Ok(None) => break,
             Err(fault) => return Err(stop_at_record(fault, reader.offset())),
         };
-        frames += relay(&mut engine, &head, &record, capture, report)?;
+        frames += relay(engine, out, &head, &record, capture, report)?;
     }
     finish(engine.records(), frames, reader.offset(), capture, report)
 }
@@ -215,22 +253,23 @@ fn begin<S: Source, K: Sink, R: Sink>(
     Ok(head)
 }
 
-// Judges one record, writes its frame and its line, and answers how many frames it wrote.
+// Judges one record, writes its frames and its line, and answers how many frames it wrote.
 fn relay<K: Sink, R: Sink>(
     engine: &mut Engine,
+    out: &mut Outbox,
     head: &Head,
     input: &Record<'_>,
     capture: &mut K,
     report: &mut R,
 ) -> Result<u64, Stop>
     requires few { engine.old.records < 2 ^ 32 - 1 }
-    requires small { length input.now.bytes.now ≤ 262144 }
     ensures relayed { (history : List Item) → StandsFor engine.old history →
         IfOk result (λ frames. spec.Relayed head.now.order
         (item_of engine.old.settings engine.old.link history (shown input.now))
         (K.held capture.old) (K.held capture.new) (R.held report.old) (R.held report.new) frames) }
     ensures stands { (history : List Item) → StandsFor engine.old history →
         StandsFor engine.new (item_of engine.old.settings engine.old.link history (shown input.now) ∷ history) }
+    ensures octets { HasOctets (shown input.now) }
     ensures settings { engine.new.settings ≡ engine.old.settings }
     ensures link { engine.new.link ≡ engine.old.link }
     ensures short { IfOk result (λ frames. frames < 256) }
@@ -240,33 +279,40 @@ fn relay<K: Sink, R: Sink>(
     ensures capture_later { K.fault_count capture.old ≤ K.fault_count capture.new }
     ensures report_later { R.fault_count report.old ≤ R.fault_count report.new }
 {
-    let outcome = engine.step(input);
-    if write_frame(outcome.frame, head, input, capture).is_err() {
+    have_octets(input.bytes);
+    let entry = engine.step(input, out);
+    if write_frames(out, head, input, capture).is_err() {
         return Err(Stop::Capture(input.offset));
     }
-    if write_line(&outcome.entry, report).is_err() {
+    if write_line(&entry, report).is_err() {
         return Err(Stop::Report);
     }
-    Ok(u64::from(outcome.entry.packets))
+    Ok(u64::from(entry.packets))
 }
 
-// Writes the frame of a record, where there is one, with the record's time.
-fn write_frame<K: Sink>(
-    frame: Option<&[u8]>,
+// What stands in a buffer of octets is below 256.
+fn have_octets(bytes: &[u8])
+    ensures { (at : ℕ) → slice_index bytes.now at < 256 }
+{
+    let _octets = bytes;
+}
+
+// Writes the frames of a record, each with the record's time.
+fn write_frames<K: Sink>(
+    out: &Outbox,
     head: &Head,
     input: &Record<'_>,
     capture: &mut K,
 ) -> Result<(), Failed>
-    requires { AreShort (frames_in frame) }
     ensures written { OnOk result (Appends (K.held capture.old) (K.held capture.new)
-        (frame_octets head.now.order (shown input.now) (frames_in frame.entry))) }
+        (frame_octets head.now.order (shown input.now) out.now)) }
     ensures cause { HasCause (K.fault_count capture.old) (K.fault_count capture.new) result }
 {
-    let Some(octets) = frame else {
-        return Ok(());
-    };
-    if write_record(capture, head, input.seconds, input.fraction, octets).is_err() {
-        return Err(Failed);
+    for index in 0..out.frames() {
+        let frame = out.frame(index);
+        if write_record(capture, head, input.seconds, input.fraction, frame).is_err() {
+            return Err(Failed);
+        }
     }
     Ok(())
 }

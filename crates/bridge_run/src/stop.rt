@@ -16,7 +16,6 @@ pub enum Stop {
     Magic,
     Version,
     Link,
-    Later,
     Long(u64),
     Many(u64),
     Cut(u64),
@@ -31,7 +30,7 @@ impl Stop {
         ensures { result ≡ spec.status_of self }
     {
         match self {
-            Stop::Magic | Stop::Version | Stop::Link | Stop::Later => 3,
+            Stop::Magic | Stop::Version | Stop::Link => 3,
             Stop::Long(_) | Stop::Many(_) => 3,
             Stop::Cut(_) => 4,
             Stop::Read(_) => 5,
@@ -51,7 +50,6 @@ pub fn stop_at_head(fault: HeadFault) -> Stop
         HeadFault::Version => Stop::Version,
         HeadFault::Link => Stop::Link,
         HeadFault::ReadFault => Stop::Read(0),
-        HeadFault::Later => Stop::Later,
     }
 }
 
@@ -89,7 +87,6 @@ fn tell_reason<R: Sink>(stop: Stop, report: &mut R)
         Stop::Magic => tell_kind(StopKind::Magic, 0, report),
         Stop::Version => tell_kind(StopKind::Version, 0, report),
         Stop::Link => tell_kind(StopKind::Link, 0, report),
-        Stop::Later => tell(b"stop later 0\n", report),
         Stop::Long(offset) => tell_kind(StopKind::Long, offset, report),
         Stop::Many(offset) => tell_kind(StopKind::Many, offset, report),
         Stop::Cut(offset) => tell_kind(StopKind::Cut, offset, report),

@@ -1,10 +1,16 @@
 //! Whole runs, with expected octets from the formats' standards and the worked captures.
-ghost use Rattle.std.specs.Prelude.{◌<◌};
+ghost use Rattle.std.specs.Prelude.{◌<◌, ◌≤◌};
+ghost use Rattle.norm_settings.specs.Settings.{plain_settings, AreInRange};
 
-use crate::run;
+use crate::{run, run_capture};
+use arrayvec::ArrayVec;
 use edge_io::{Failed, MemSink, MemSource, Sink};
+use norm_settings::Settings;
 use std::alloc::{AllocError, Global};
 use std::test::Fail;
+use wire_base::{Addr, Prefix};
+
+mod forms;
 
 /// Little-endian, microseconds, raw IP.
 const HEAD: [u8; 24] = [
@@ -119,7 +125,7 @@ struct Whole {
 const NONE: (u32, u32, u32) = (0, 0, 0);
 
 #[rattlefmt::skip]
-const WHOLES: [Whole; 18] = [
+const WHOLES: [Whole; 15] = [
     Whole { head: &[], records: 1, last: &[], size: 70, failing: NONE, status: 0, report: "norm 1\n1 in pass 1\nend 1 1\n", written: 70 },
     Whole { head: &[], records: 0, last: &[], size: 24, failing: NONE, status: 0, report: "norm 1\nend 0 0\n", written: 24 },
     Whole { head: &[], records: 0, last: &[], size: 0, failing: NONE, status: 4, report: "norm 1\nstop cut 0\n", written: 0 },
@@ -129,9 +135,6 @@ const WHOLES: [Whole; 18] = [
     Whole { head: &[(0, 0), (1, 0), (2, 0), (3, 0)], records: 1, last: &[], size: 70, failing: NONE, status: 3, report: "norm 1\nstop magic 0\n", written: 0 },
     Whole { head: &[(6, 3)], records: 1, last: &[], size: 70, failing: NONE, status: 3, report: "norm 1\nstop version 0\n", written: 0 },
     Whole { head: &[(20, 113)], records: 1, last: &[], size: 70, failing: NONE, status: 3, report: "norm 1\nstop link 0\n", written: 0 },
-    Whole { head: &[(0, 0x4d), (1, 0x3c)], records: 1, last: &[], size: 70, failing: NONE, status: 3, report: "norm 1\nstop later 0\n", written: 0 },
-    Whole { head: &[(20, 1)], records: 1, last: &[], size: 70, failing: NONE, status: 3, report: "norm 1\nstop later 0\n", written: 0 },
-    Whole { head: &[(0, 0xa1), (1, 0xb2), (2, 0xc3), (3, 0xd4), (4, 0), (5, 2), (6, 0), (7, 4), (20, 0), (23, 101)], records: 1, last: &[], size: 70, failing: NONE, status: 3, report: "norm 1\nstop later 0\n", written: 0 },
     Whole { head: &[], records: 1, last: &[(8, 1), (10, 4)], size: 70, failing: NONE, status: 3, report: "norm 1\nstop long 24\n", written: 24 },
     Whole { head: &[], records: 2, last: &[(8, 1), (10, 4)], size: 116, failing: NONE, status: 3, report: "norm 1\n1 in pass 1\nstop long 70\n", written: 70 },
     Whole { head: &[], records: 1, last: &[], size: 70, failing: (1, 0, 0), status: 5, report: "norm 1\nstop read 0\n", written: 0 },
@@ -177,12 +180,26 @@ fn refused_words_leave_one_line(rt: HostRuntime) -> Result<(), Fail> {
     Ok(())
 }
 
-/// The datagram with these changes, how many of its octets were captured and how many it had; and the record's line without its number.
+/// What is written of the datagram.
+#[derive(Clone, Copy)]
+enum Written {
+    Nothing,
+    /// What was captured.
+    AsRead,
+    /// Its 30 octets with these changes.
+    Anew(Changes),
+}
+
+use Written::{Anew, AsRead, Nothing};
+
+/// The datagram with these changes, how many of its octets were captured and how many it had; the record's line without its number, and what is
+/// written.
 struct Judged {
     changes: Changes,
     captured: u8,
     original: u8,
     line: &'static str,
+    written: Written,
 }
 
 const OUTWARD: Changes = &[
@@ -223,62 +240,170 @@ const INSIDE: Changes = &[
 const OUTSIDE: Changes = &[(10, 0x8e), (11, 0x92), (16, 192), (18, 2), (26, 0x0e)];
 
 #[rattlefmt::skip]
-const JUDGED: [Judged; 25] = [
-    Judged { changes: &[], captured: 30, original: 30, line: "in pass 1" },
-    Judged { changes: &[], captured: 30, original: 31, line: "- drop 0 L_SNAP" },
-    Judged { changes: &[], captured: 30, original: 29, line: "in pass 1" },
-    Judged { changes: &[], captured: 19, original: 19, line: "- drop 0 I_SHORT" },
-    Judged { changes: &[(0, 0x55)], captured: 30, original: 30, line: "- drop 0 I_VERSION" },
-    Judged { changes: &[(0, 0x44)], captured: 30, original: 30, line: "- drop 0 I_HLEN" },
-    Judged { changes: &[(3, 31)], captured: 30, original: 30, line: "- drop 0 I_LEN" },
-    Judged { changes: &[(11, 0x94)], captured: 30, original: 30, line: "- drop 0 I_SUM" },
-    Judged { changes: INSIDE, captured: 30, original: 30, line: "- drop 0 I_SIDE" },
-    Judged { changes: OUTSIDE, captured: 30, original: 30, line: "- drop 0 I_SIDE" },
-    Judged { changes: OUTWARD, captured: 30, original: 30, line: "out pass 1" },
-    Judged { changes: FADING, captured: 30, original: 30, line: "out pass 1" },
-    Judged { changes: &[(8, 30), (10, 0x68)], captured: 30, original: 30, line: "in drop 0 X_LATER" },
-    Judged { changes: &[(8, 31), (10, 0x67)], captured: 30, original: 30, line: "in pass 1" },
-    Judged { changes: &[(6, 0x20), (10, 0x26)], captured: 30, original: 30, line: "in drop 0 X_LATER" },
-    Judged { changes: &[(7, 1), (11, 0x92)], captured: 30, original: 30, line: "in drop 0 X_LATER" },
-    Judged { changes: &[(6, 0x40), (10, 0x06)], captured: 30, original: 30, line: "in pass 1" },
-    Judged { changes: &[(6, 0x80), (10, 0xc6), (11, 0x92)], captured: 30, original: 30, line: "in drop 0 X_LATER" },
-    Judged { changes: &[(9, 1), (11, 0xa3)], captured: 30, original: 30, line: "in drop 0 X_LATER" },
-    Judged { changes: &[(10, 0x2d), (12, 223), (26, 0xad)], captured: 30, original: 30, line: "in pass 1" },
-    Judged { changes: &[(10, 0x2c), (12, 224), (26, 0xac)], captured: 30, original: 30, line: "in drop 0 X_LATER" },
-    Judged { changes: &[], captured: 31, original: 31, line: "in drop 0 X_LATER" },
-    Judged { changes: &[(25, 9)], captured: 30, original: 30, line: "in drop 0 X_LATER" },
-    Judged { changes: &[(26, 0), (27, 0)], captured: 30, original: 30, line: "in pass 1" },
-    Judged { changes: &[(29, 0x6a)], captured: 30, original: 30, line: "in drop 0 X_LATER" },
+const JUDGED: [Judged; 27] = [
+    Judged { changes: &[], captured: 30, original: 30, line: "in pass 1", written: AsRead },
+    Judged { changes: &[], captured: 30, original: 31, line: "- drop 0 L_SNAP", written: Nothing },
+    Judged { changes: &[], captured: 30, original: 29, line: "in pass 1", written: AsRead },
+    Judged { changes: &[], captured: 19, original: 19, line: "- drop 0 I_SHORT", written: Nothing },
+    Judged { changes: &[(0, 0x55)], captured: 30, original: 30, line: "- drop 0 I_VERSION", written: Nothing },
+    Judged { changes: &[(0, 0x44)], captured: 30, original: 30, line: "- drop 0 I_HLEN", written: Nothing },
+    Judged { changes: &[(3, 31)], captured: 30, original: 30, line: "- drop 0 I_LEN", written: Nothing },
+    Judged { changes: &[(11, 0x94)], captured: 30, original: 30, line: "- drop 0 I_SUM", written: Nothing },
+    Judged { changes: INSIDE, captured: 30, original: 30, line: "- drop 0 I_SIDE", written: Nothing },
+    Judged { changes: OUTSIDE, captured: 30, original: 30, line: "- drop 0 I_SIDE", written: Nothing },
+    Judged { changes: OUTWARD, captured: 30, original: 30, line: "out pass 1", written: AsRead },
+    Judged { changes: FADING, captured: 30, original: 30, line: "out pass 1", written: AsRead },
+    Judged { changes: &[(8, 30), (10, 0x68)], captured: 30, original: 30, line: "in fix 1 I_TTL", written: Anew(&[(8, 31), (10, 0x67)]) },
+    Judged { changes: &[(8, 31), (10, 0x67)], captured: 30, original: 30, line: "in pass 1", written: AsRead },
+    Judged { changes: &[(6, 0x20), (10, 0x26)], captured: 30, original: 30, line: "in drop 0 X_LATER", written: Nothing },
+    Judged { changes: &[(7, 1), (11, 0x92)], captured: 30, original: 30, line: "in drop 0 X_LATER", written: Nothing },
+    Judged { changes: &[(6, 0x40), (10, 0x06)], captured: 30, original: 30, line: "in pass 1", written: AsRead },
+    Judged { changes: &[(6, 0x80), (10, 0xc6), (11, 0x92)], captured: 30, original: 30, line: "in fix 1 I_RES", written: Anew(&[]) },
+    Judged { changes: &[(9, 1), (11, 0xa3)], captured: 30, original: 30, line: "in drop 0 M_SUM", written: Nothing },
+    Judged { changes: &[(9, 6), (11, 0x9e)], captured: 30, original: 30, line: "in drop 0 T_SHORT", written: Nothing },
+    Judged { changes: &[(9, 2), (11, 0xa2)], captured: 30, original: 30, line: "in drop 0 P_PROTO", written: Nothing },
+    Judged { changes: &[(10, 0x2d), (12, 223), (26, 0xad)], captured: 30, original: 30, line: "in pass 1", written: AsRead },
+    Judged { changes: &[(10, 0x2c), (12, 224), (26, 0xac)], captured: 30, original: 30, line: "- drop 0 I_SRC", written: Nothing },
+    Judged { changes: &[], captured: 31, original: 31, line: "in fix 1 I_TRAIL", written: Anew(&[]) },
+    Judged { changes: &[(25, 9)], captured: 30, original: 30, line: "in drop 0 U_LEN", written: Nothing },
+    Judged { changes: &[(26, 0), (27, 0)], captured: 30, original: 30, line: "in pass 1", written: AsRead },
+    Judged { changes: &[(29, 0x6a)], captured: 30, original: 30, line: "in drop 0 U_SUM", written: Nothing },
 ];
+
+/// The datagram with these changes, and the octet behind it.
+fn datagram_with(changes: Changes) -> [u8; 31] {
+    let mut packet = DATAGRAM;
+    change(&mut packet, changes);
+    packet
+}
+
+/// The datagram without the octet behind it.
+fn datagram_in(packet: &[u8; 31]) -> &[u8] {
+    &packet[..30]
+}
+
+/// A file of one record, at time 0, of these octets, of which the packet had so many.
+fn one_record(alloc: Global, octets: &[u8], original: u8) -> Result<Vec<u8>, AllocError> {
+    let mut front = FRONT;
+    front[8] = octets.len().min(255) as u8;
+    front[12] = original;
+    let mut file = Vec::from_slice(alloc, &HEAD)?;
+    file.extend_from_slice(&front)?;
+    file.extend_from_slice(octets)?;
+    Ok(file)
+}
+
+/// The file that is written for a record of these octets.
+fn written_file(alloc: Global, octets: &[u8], written: Written) -> Result<Vec<u8>, AllocError> {
+    match written {
+        Nothing => Vec::from_slice(alloc, &HEAD),
+        AsRead => one_record(alloc, octets, octets.len().min(255) as u8),
+        Anew(changes) => {
+            let packet = datagram_with(changes);
+            one_record(alloc, datagram_in(&packet), 30)
+        }
+    }
+}
+
+/// The report of a run over one record with this line.
+fn report_of(alloc: Global, line: &str, written: Written) -> Result<String, AllocError> {
+    let frames = match written {
+        Nothing => 0,
+        AsRead | Anew(_) => 1,
+    };
+    format!(in alloc; "norm 1\n1 {line}\nend 1 {frames}\n")
+}
 
 #[test]
 fn each_row_judges_its_packet(rt: HostRuntime) -> Result<(), Fail> {
     for row in &JUDGED {
-        let mut packet = DATAGRAM;
-        change(&mut packet, row.changes);
+        let packet = datagram_with(row.changes);
         let Some(octets) = packet.get(..usize::from(row.captured)) else {
             return Err(Fail::new("more octets than there are"));
         };
-        let mut front = FRONT;
-        front[8] = row.captured;
-        front[12] = row.original;
-        let mut file = Vec::from_slice(rt.alloc(), &HEAD)?;
-        file.extend_from_slice(&front)?;
-        file.extend_from_slice(octets)?;
+        let file = one_record(rt.alloc(), octets, row.original)?;
         let words = ["run", "a", "b", "10.0.0.0/8"];
         let ended = ended_run(rt.alloc(), &words, &file, 65536, NONE)?;
-        let frames = u8::from(row.line.ends_with("pass 1"));
         let line = row.line;
-        let report = format!(in rt.alloc(); "norm 1\n1 {line}\nend 1 {frames}\n")?;
+        let report = report_of(rt.alloc(), line, row.written)?;
         assert_eq!(rt; ended.status, 0, "{line}");
         assert_eq!(rt; ended.report.held(), report.as_bytes(), "{line}");
-        let mut written = Vec::from_slice(rt.alloc(), &HEAD)?;
-        if frames == 1 {
-            front[12] = row.captured;
-            written.extend_from_slice(&front)?;
-            written.extend_from_slice(octets)?;
-        }
+        let written = written_file(rt.alloc(), octets, row.written)?;
         assert_eq!(rt; ended.capture.held(), written.as_slice(), "{line}");
+    }
+    Ok(())
+}
+
+fn settings_of(hops: u8, offload: bool) -> Settings
+    requires { hops ≤ 254 }
+    ensures { AreInRange (plain_settings result) }
+{
+    let mut prefixes = ArrayVec::new();
+    prefixes.push(Prefix {
+        addr: Addr(0x0a00_0000),
+        len: 8,
+    });
+    let mut settings = Settings::standard(prefixes);
+    settings.hops = hops;
+    settings.offload = offload;
+    settings
+}
+
+/// Routers behind the bridge, and whether checksums are left to the interface; the changes of the datagram, and what becomes of it.
+struct Set {
+    hops: u8,
+    offload: bool,
+    changes: Changes,
+    line: &'static str,
+    written: Written,
+}
+
+#[rattlefmt::skip]
+const SETS: [Set; 7] = [
+    Set { hops: 0, offload: false, changes: &[(8, 0), (10, 0x86)], line: "in fix 1 I_TTL", written: Anew(&[(8, 1), (10, 0x85)]) },
+    Set { hops: 0, offload: false, changes: &[(8, 1), (10, 0x85)], line: "in pass 1", written: AsRead },
+    Set { hops: 254, offload: false, changes: &[], line: "in fix 1 I_TTL", written: Anew(&[(8, 255), (10, 0x87), (11, 0x92)]) },
+    Set { hops: 254, offload: false, changes: OUTWARD, line: "out pass 1", written: AsRead },
+    Set { hops: 30, offload: false, changes: WRONG_OUTWARD, line: "out drop 0 U_SUM", written: Nothing },
+    Set { hops: 30, offload: true, changes: WRONG_OUTWARD, line: "out fix 1 U_SUM_OUT", written: Anew(OUTWARD) },
+    Set { hops: 30, offload: true, changes: &[(27, 0xbe)], line: "in drop 0 U_SUM", written: Nothing },
+];
+
+const WRONG_OUTWARD: Changes = &[
+    (12, 10),
+    (13, 0),
+    (14, 0),
+    (15, 1),
+    (16, 198),
+    (17, 51),
+    (18, 100),
+    (19, 7),
+    (27, 0xbe),
+];
+
+#[test]
+fn settings_other_than_the_standard_ones_count(rt: HostRuntime) -> Result<(), Fail> {
+    for row in &SETS {
+        let packet = datagram_with(row.changes);
+        let octets = datagram_in(&packet);
+        let file = one_record(rt.alloc(), octets, 30)?;
+        let mut source = MemSource::new(file, 65536, only(rt.alloc(), 0)?);
+        let mut capture = MemSink::new(rt.alloc(), 4096, only(rt.alloc(), 0)?)?;
+        let mut report = MemSink::new(rt.alloc(), 4096, only(rt.alloc(), 0)?)?;
+        let settings = settings_of(row.hops.min(254), row.offload);
+        let status = run_capture(
+            rt.alloc(),
+            &settings,
+            &mut source,
+            &mut capture,
+            &mut report,
+        );
+        let line = row.line;
+        assert_eq!(rt; status, 0, "{line}");
+        let told = report_of(rt.alloc(), line, row.written)?;
+        assert_eq!(rt; report.held(), told.as_bytes(), "{line}");
+        let written = written_file(rt.alloc(), octets, row.written)?;
+        assert_eq!(rt; capture.held(), written.as_slice(), "{line}");
     }
     Ok(())
 }

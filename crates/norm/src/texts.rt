@@ -9,7 +9,7 @@ pub const HELP: &str =
 
 usage: norm run IN OUT PREFIX
 
-  IN      the capture to read: classic pcap, little-endian, microseconds, raw IP
+  IN      the capture to read: classic pcap of Ethernet or raw IP
   OUT     the normalized capture to write; a file that is there is emptied
   PREFIX  the trusted addresses, such as 10.0.0.0/8
 

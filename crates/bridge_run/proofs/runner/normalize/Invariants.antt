@@ -1,6 +1,4 @@
 use Rattle.std.proofs.Common.{◌≡◌, ◌≤◌, ◌-◌, ◌^◌, true, length}
-use Rattle.pcap_file.specs.Heads.{is_read_now}
-use Rattle.norm_settings.specs.Settings.{plain_settings}
 use Rattle.bridge_run.specs.Run.{Going}
 use Rattle.bridge_run.proofs.runner.normalize.Given as goal
 
@@ -8,8 +6,7 @@ abbrev pub invariant-records : goal.invariant-records
 invariant-records g l = record {
   may_ask : l.reader.is_open ≡ true;
   room : 262144 ≤ length l.buffer;
-  form : is_read_now l.head ≡ true;
-  going : Going (plain_settings l.fn.settings) l.head (g.S.Source.left l.fn.source) (g.S.Source.left l.source) (g.K.Sink.held l.fn.capture) (g.K.Sink.held l.capture) (g.R.Sink.held l.fn.report) (g.R.Sink.held l.report) l.engine l.reader l.frames;
+  going : Going l.fn.engine.settings l.head (g.S.Source.left l.fn.source) (g.S.Source.left l.source) (g.K.Sink.held l.fn.capture) (g.K.Sink.held l.capture) (g.R.Sink.held l.fn.report) (g.R.Sink.held l.report) l.engine l.reader l.frames;
   source_later : g.S.Source.fault_count l.fn.source ≤ g.S.Source.fault_count l.source;
   capture_later : g.K.Sink.fault_count l.fn.capture ≤ g.K.Sink.fault_count l.capture;
   report_later : g.R.Sink.fault_count l.fn.report ≤ g.R.Sink.fault_count l.report;

@@ -5,9 +5,6 @@ use Rattle.bridge_run.proofs.runner.run_capture.Goals as goal
 pub returns-in_default-normalize-clause-faulty_exactly : goal.returns-in_default-normalize-clause-faulty_exactly
 returns-in_default-normalize-clause-faulty_exactly g c = λ f. absurd (statuses.finished_or_faulty c.flaw_excludes_end.ensures _ _ _ _ _ _ _ c.in_default-normalize.ensures.finished f)
 
-pub returns-in_default-normalize-clause-later_exactly : goal.returns-in_default-normalize-clause-later_exactly
-returns-in_default-normalize-clause-later_exactly g c = λ f. absurd (statuses.finished_or_later _ _ _ _ _ _ _ c.in_default-normalize.ensures.finished f)
-
 pub returns-in_default-normalize-clause-cut_exactly : goal.returns-in_default-normalize-clause-cut_exactly
 returns-in_default-normalize-clause-cut_exactly g c = λ f. absurd (statuses.finished_or_cut c.flaw_excludes_end.ensures _ _ _ _ _ _ _ c.in_default-normalize.ensures.finished f)
 
@@ -31,9 +28,6 @@ returns-clause-report g c = λ e. omega (arith, statuses.report_of c.in-Err.stop
 
 pub returns-clause-faulty_exactly : goal.returns-clause-faulty_exactly
 returns-clause-faulty_exactly g c = λ f. rw c.status.ensures (statuses.faulty_is_3 c.flaw_is_one.ensures c.in-Err.stop _ _ _ c.in-Err.ensures.explained f)
-
-pub returns-clause-later_exactly : goal.returns-clause-later_exactly
-returns-clause-later_exactly g c = λ f. rw c.status.ensures (statuses.later_is_3 c.in-Err.stop _ _ _ c.in-Err.ensures.explained f)
 
 pub returns-clause-cut_exactly : goal.returns-clause-cut_exactly
 returns-clause-cut_exactly g c = λ f. rw c.status.ensures (statuses.cut_is_4 c.flaw_is_one.ensures c.in-Err.stop _ _ _ c.in-Err.ensures.explained f)

@@ -1,5 +1,0 @@
-use Rattle.bridge_run.proofs.Traces.{trace_is_one}
-use Rattle.bridge_run.proofs.laws.lawful_is_one.Goals as goal
-
-pub returns : goal.returns
-returns c = trace_is_one
