@@ -60,6 +60,14 @@ Reads order count old new (Ok None) = HasEnd old new
 Reads order count old new (Ok (Some r)) = Leaves order count old new (shown r)
 Reads order count old new (Err fault) = FailsWith order count old new fault
 
+-- Unless the source itself failed, its count of faults is as it was.
+abbrev pub KeepsCount : Result (Option Record) RecordFault → (before now : ℕ) → Type 0
+KeepsCount (Ok given) before now = now ≡ before
+KeepsCount (Err faults.Cut) before now = now ≡ before
+KeepsCount (Err faults.Long) before now = now ≡ before
+KeepsCount (Err faults.TooMany) before now = now ≡ before
+KeepsCount (Err faults.ReadFault) before now = Unit {0}
+
 -- a record was given
 abbrev pub is_record : Result (Option Record) RecordFault → Bool
 is_record (Ok (Some r)) = true

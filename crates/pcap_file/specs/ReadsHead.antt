@@ -22,6 +22,15 @@ ReadsHead old new (Err faults.Version) = Begins old new (Err bad_version)
 ReadsHead old new (Err faults.Link) = Begins old new (Err bad_link)
 ReadsHead old new (Err faults.ReadFault) = TakesFewer old new 24
 
+-- Unless the source itself failed, its count of faults is as it was.
+abbrev pub KeepsCount : Result Head HeadFault → (before now : ℕ) → Type 0
+KeepsCount (Ok head) before now = now ≡ before
+KeepsCount (Err faults.Cut) before now = now ≡ before
+KeepsCount (Err faults.Magic) before now = now ≡ before
+KeepsCount (Err faults.Version) before now = now ≡ before
+KeepsCount (Err faults.Link) before now = now ≡ before
+KeepsCount (Err faults.ReadFault) before now = Unit {0}
+
 -- what the 24 octets of a head say by themselves; a fault of reading comes before this
 abbrev pub Judges : List ℕ → Result Head HeadFault → Type 0
 Judges octets (Ok head) = head_of octets ≡ Ok head

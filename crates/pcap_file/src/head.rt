@@ -2,7 +2,7 @@
 ghost use Rattle.std.specs.Prelude.{◌≡◌, ◌≤◌, length, IsErrOf};
 ghost use Rattle.edge_io.specs.Faults.{Rose};
 ghost use Rattle.pcap_file.specs.Heads as heads;
-ghost use Rattle.pcap_file.specs.ReadsHead.{ReadsHead, Judges};
+ghost use Rattle.pcap_file.specs.ReadsHead.{ReadsHead, KeepsCount, Judges};
 
 use crate::Order;
 use edge_io::{Failed, Source, read_full};
@@ -108,6 +108,7 @@ fn judge(octets: &[u8]) -> Result<Head, HeadFault>
 pub fn read_head<S: Source>(source: &mut S) -> Result<Head, HeadFault>
     ensures octets { ReadsHead (S.left source.old) (S.left source.new) result }
     ensures later { S.fault_count source.old ≤ S.fault_count source.new }
+    ensures kept { KeepsCount result (S.fault_count source.old) (S.fault_count source.new) }
     ensures cause { IsErrOf result HeadFault.ReadFault → Rose (S.fault_count source.old) (S.fault_count source.new) }
 {
     let mut octets = [0u8; 24];

@@ -1,7 +1,7 @@
 //! Reads the records of a capture file one by one.
 ghost use Rattle.std.specs.Prelude.{◌≡◌, ◌≤◌, length, true, IsErrOf};
 ghost use Rattle.edge_io.specs.Faults.{Rose};
-ghost use Rattle.pcap_file.specs.Reads.{Reads, is_record, IfRecord, IfNoRecord, Advances, Stays};
+ghost use Rattle.pcap_file.specs.Reads.{Reads, KeepsCount, is_record, IfRecord, IfNoRecord, Advances, Stays};
 
 use crate::{Head, Record};
 use edge_io::{Failed, Source, read_full};
@@ -94,6 +94,7 @@ impl Reader {
         requires room { 262144 ≤ length buf.old }
         ensures octets { Reads self.old.head.order self.old.given (S.left source.old) (S.left source.new) result }
         ensures later { S.fault_count source.old ≤ S.fault_count source.new }
+        ensures kept { KeepsCount result (S.fault_count source.old) (S.fault_count source.new) }
         ensures cause { IsErrOf result RecordFault.ReadFault → Rose (S.fault_count source.old) (S.fault_count source.new) }
         ensures head { self.new.head ≡ self.old.head }
         ensures asked { self.new.asked ≡ self.old.place }
