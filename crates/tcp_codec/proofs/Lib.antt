@@ -3,3 +3,4 @@ pub mod Walks
 pub mod Cleanings
 pub mod Cleaned
 pub mod Written
+pub mod Mended

@@ -1,3 +1,4 @@
 pub mod Header
 pub mod Cleaning
 pub mod Write
+pub mod Mending

@@ -1,5 +1,6 @@
 //! Laws over the definitions alone.
 ghost use Rattle.tcp_codec.specs.Cleaning.{CleansOctets, CleansOnce, StaysWellFormed};
+ghost use Rattle.tcp_codec.specs.Mending.{MendedSayTheSame};
 ghost use Rattle.tcp_codec.specs.Write.{AreReadBack};
 
 /// Cleaned options are those that cleaning leaves alone, and they are as well formed as before; octet for octet they are kept
@@ -13,4 +14,9 @@ pub fn options_are_cleaned()
 /// A segment that was written is read as the parts that it was written from.
 pub fn segments_are_read_back()
     ensures { AreReadBack }
+{}
+
+/// A segment with its checksum mended says what it said before.
+pub fn mended_say_the_same()
+    ensures { MendedSayTheSame }
 {}

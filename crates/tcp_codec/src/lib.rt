@@ -10,4 +10,4 @@ pub mod write;
 pub use cleaning::clean_options;
 pub use header::{SumRule, Tcp, TcpFault, parse};
 pub use option_area::scale_of;
-pub use write::{SegmentParts, write_segment};
+pub use write::{SegmentParts, mend, write_segment};

@@ -2,6 +2,7 @@
 ghost use Rattle.std.specs.Prelude.{◌≡◌, ◌+◌, ◌%◌, ◌≤◌, ◌++◌, true, false, length, drop, []};
 ghost use Rattle.wire_base.specs.Sums.{pseudo_sum, sum_is_right};
 ghost use Rattle.wire_base.specs.Tcp as tcp;
+ghost use Rattle.tcp_codec.specs.Mending.{mended};
 ghost use Rattle.tcp_codec.specs.Write.{header_octets, octets_with, pseudo_of, segment_octets, segment_of};
 
 use arrayvec::ArrayVec;
@@ -52,6 +53,17 @@ pub fn write_segment(parts: &SegmentParts, payload: &[u8], buf: &mut [u8]) -> us
     let sum = sum_for(segment, pseudo_sum(parts.src, parts.dst, TCP, size as u16));
     put_u16(segment, CHECKSUM, sum);
     size
+}
+
+/// Writes the right checksum of the segment that these octets are, and leaves all other octets. `pseudo` is what is summed before it.
+pub fn mend(bytes: &mut [u8], pseudo: u32)
+    requires { 18 ≤ length bytes.old }
+    ensures exact { bytes.new ≡ mended pseudo bytes.old }
+    ensures right { sum_is_right bytes.new pseudo ≡ true }
+{
+    put_u16(bytes, CHECKSUM, 0);
+    let sum = sum_for(bytes, pseudo);
+    put_u16(bytes, CHECKSUM, sum);
 }
 
 // Writes the whole segment, with 0 in the place of the checksum.

@@ -1,0 +1,25 @@
+-- A segment of which only the checksum is written anew (RFC 9293 section 3.1).
+use Rattle.std.specs.Prelude.{◌≡◌, ℕ, ◌+◌, ◌≤◌, List, length}
+use Rattle.wire_base.specs.Numbers.{with_u16}
+use Rattle.wire_base.specs.Sums.{word_sum, checksum_for}
+use Rattle.wire_base.specs.Tcp as tcp
+
+-- the segment with the right checksum, which is summed with 0 in its own place, and all other octets as they were; `pseudo` is what is summed before it
+abbrev pub mended : (pseudo : ℕ) → List ℕ → List ℕ
+mended pseudo segment = with_u16 segment 16 (checksum_for (pseudo + word_sum (with_u16 segment 16 0)))
+
+-- two segments say the same but for what stands behind the window in their headers
+pub record SaysTheSame (a b : List ℕ) : Type 0 where
+  pub source_port : tcp.source_port a ≡ tcp.source_port b
+  pub destination_port : tcp.destination_port a ≡ tcp.destination_port b
+  pub sequence : tcp.sequence a ≡ tcp.sequence b
+  pub acknowledgment : tcp.acknowledgment a ≡ tcp.acknowledgment b
+  pub flags : tcp.flags a ≡ tcp.flags b
+  pub window : tcp.window a ≡ tcp.window b
+  pub options : tcp.options a ≡ tcp.options b
+  pub payload : tcp.payload a ≡ tcp.payload b
+  pub size : length a ≡ length b
+
+-- a mended segment says what it said before
+abbrev pub MendedSayTheSame : Type 0
+MendedSayTheSame = (pseudo : ℕ) (segment : List ℕ) → 20 ≤ length segment → 20 ≤ tcp.header_length segment → SaysTheSame (mended pseudo segment) segment
