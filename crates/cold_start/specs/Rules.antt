@@ -22,7 +22,7 @@ is_asked w = w.inward && not (tcp.has_syn w.flags) && not (tcp.has_rst w.flags)
 abbrev pub begins_warm : Written → Bool
 begins_warm w = acknowledges w && not (tcp.has_rst w.flags)
 
--- The cold probe asks a host whether it holds the connection of an inbound segment: one that does answers a number which it has behind it with
--- an ACK, one that does not answers with a RST (RFC 9293 sections 3.10.7.4 and 3.10.7.1).
+-- The cold probe asks a host whether it holds the connection of an inbound segment: one that does answers a number below the one that it awaits by an
+-- ACK, one that does not answers by a RST (RFC 9293 sections 3.10.7.4 and 3.10.7.1).
 abbrev pub cold_probe_of : Written → Probe
 cold_probe_of w = record { seq = number_before w.seq; ack = w.ack; window = w.window }

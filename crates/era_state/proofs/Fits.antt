@@ -1,5 +1,5 @@
 -- How an interval lies in its segment and its era.
-use Rattle.std.proofs.Common.{◌≡◌, ℕ, ◌+◌, ◌^◌, ◌<◌, ◌≤◌, Option, Some, None, Bool, true, false, ◌&&◌, refl, sym, ◌∙◌, ap, arith, length}
+use Rattle.std.proofs.Common.{◌≡◌, ℕ, ◌+◌, ◌<◌, ◌≤◌, Option, Some, None, Bool, true, false, ◌&&◌, refl, sym, ◌∙◌, ap, arith, length}
 use Rattle.std.specs.Prelude.{max, min, ℤ, pos, negsuc, ◌+ℤ◌, ◌≤ℤ◌}
 use Rattle.std.proofs.lemmas.Int.{ints}
 use Rattle.std.proofs.lemmas.Bool.Decides.{nat_tests, Decides-int_eq}
@@ -20,10 +20,9 @@ record Kept (top acked edge : ℕ) (place : ℤ) : Type 0 where
   is : place ≡ pos number
   above : max top acked ≤ number
   inside : number ≤ edge
-  near : number < 2 ^ 31
 
 kept_where : (b : Bounds) (place : ℤ) → is_kept_fin None b place ≡ true → Kept b.top b.acked b.edge place
-kept_where b (pos n) e = let h : (max b.top b.acked ≤ n) × (n ≤ b.edge) × (n < 2 ^ 31) = grind (arith, ints, nat_tests) in record { number = n; is = refl; above = h.0; inside = h.1; near = h.2 }
+kept_where b (pos n) e = let h : (max b.top b.acked ≤ n) × (n ≤ b.edge) = grind (arith, ints, nat_tests) in record { number = n; is = refl; above = h.0; inside = h.1 }
 kept_where b (negsuc n) e = cc
 
 behind : (at : ℤ) (len n : ℕ) → at +ℤ pos len ≡ pos n → nat_of at ≤ n
@@ -49,12 +48,11 @@ pub record Lies (b : Bounds) (at : ℤ) (len : ℕ) (i : Interval) : Type 0 wher
   pub begins : i.lo < i.hi → at ≤ℤ pos i.lo
   pub ends : i.lo < i.hi → pos i.hi ≤ℤ (at +ℤ pos len)
   pub window : i.lo < i.hi → i.hi ≤ b.edge + 1
-  pub turn : i.lo < i.hi → i.hi ≤ 2 ^ 31
   pub end : (place : ℕ) → b.end ≡ Some (pos place) → i.lo < i.hi → i.hi ≤ place
   -- a FIN that pins the end
-  pub fin : i.fin ≡ true → b.end ≡ None → (b.top ≤ i.hi) × (i.hi ≤ b.edge) × (i.hi < 2 ^ 31) × (at +ℤ pos len ≡ pos i.hi)
+  pub fin : i.fin ≡ true → b.end ≡ None → (b.top ≤ i.hi) × (i.hi ≤ b.edge) × (at +ℤ pos len ≡ pos i.hi)
   -- a FIN at the pinned end
-  pub last : (place : ℕ) → b.end ≡ Some (pos place) → place ≤ b.edge → place < 2 ^ 31 → i.fin ≡ true → (i.lo < i.hi → i.hi ≡ place) × (at +ℤ pos len ≡ pos place)
+  pub last : (place : ℕ) → b.end ≡ Some (pos place) → place ≤ b.edge → i.fin ≡ true → (i.lo < i.hi → i.hi ≡ place) × (at +ℤ pos len ≡ pos place)
 
 pub lies : (b : Bounds) (at : ℤ) (len : ℕ) (fin : Bool) (i : Interval) → Spans b at len fin i → Lies b at len i
 lies b at len fin i s = record {
@@ -63,7 +61,6 @@ lies b at len fin i s = record {
   begins = λ h. above_all at i.lo (omega (arith, lo));
   ends = λ h. below_all to i.hi (omega arith) (omega (arith, lo, hi));
   window = λ h. omega (arith, lo, hi, most);
-  turn = λ h. omega (arith, lo, hi, most);
   end = λ place is h. omega (arith, lo, hi_to place is);
   fin = pins;
   last = stays;
@@ -75,33 +72,33 @@ lies b at len fin i s = record {
     lo : i.lo ≡ max (nat_of at) b.acked
     lo = s.lo_is
 
-    hi : i.hi ≡ max (max (nat_of at) b.acked) (min (nat_of to) (up_to_end b.end (min (b.edge + 1) (2 ^ 31))))
+    hi : i.hi ≡ max (max (nat_of at) b.acked) (min (nat_of to) (up_to_end b.end (b.edge + 1)))
     hi = s.hi_is
 
-    most : up_to_end b.end (min (b.edge + 1) (2 ^ 31)) ≤ min (b.edge + 1) (2 ^ 31)
-    most = within b.end (min (b.edge + 1) (2 ^ 31))
+    most : up_to_end b.end (b.edge + 1) ≤ (b.edge + 1)
+    most = within b.end (b.edge + 1)
 
-    hi_to : (place : ℕ) → b.end ≡ Some (pos place) → i.hi ≡ max (max (nat_of at) b.acked) (min (nat_of to) (min (min (b.edge + 1) (2 ^ 31)) place))
-    hi_to place is = hi ∙ ap (λ o. max (max (nat_of at) b.acked) (min (nat_of to) (up_to_end o (min (b.edge + 1) (2 ^ 31))))) is
+    hi_to : (place : ℕ) → b.end ≡ Some (pos place) → i.hi ≡ max (max (nat_of at) b.acked) (min (nat_of to) (min (b.edge + 1) place))
+    hi_to place is = hi ∙ ap (λ o. max (max (nat_of at) b.acked) (min (nat_of to) (up_to_end o (b.edge + 1)))) is
 
     tested : i.fin ≡ true → is_kept_fin b.end b to ≡ true
     tested kept = and_right fin _ (sym s.fin_is ∙ kept)
 
-    pins : i.fin ≡ true → b.end ≡ None → (b.top ≤ i.hi) × (i.hi ≤ b.edge) × (i.hi < 2 ^ 31) × (to ≡ pos i.hi)
+    pins : i.fin ≡ true → b.end ≡ None → (b.top ≤ i.hi) × (i.hi ≤ b.edge) × (to ≡ pos i.hi)
     pins kept none =
         let k : Kept b.top b.acked b.edge to = kept_where b to (ap (λ o. is_kept_fin o b to) (sym none) ∙ tested kept) in
         let low : nat_of at ≤ k.number = behind at len k.number k.is in
-        let hi_at : i.hi ≡ max (max (nat_of at) b.acked) (min k.number (min (b.edge + 1) (2 ^ 31))) = hi ∙ (λ j. max (max (nat_of at) b.acked) (min (nat_of (k.is j)) (up_to_end (none j) (min (b.edge + 1) (2 ^ 31))))) in
-        let same : i.hi ≡ k.number = omega (arith, hi_at, low, k.above, k.inside, k.near) in
-        (omega (arith, same, k.above), omega (arith, same, k.inside), omega (arith, same, k.near), k.is ∙ ap (λ n. pos n) (sym same))
+        let hi_at : i.hi ≡ max (max (nat_of at) b.acked) (min k.number (b.edge + 1)) = hi ∙ (λ j. max (max (nat_of at) b.acked) (min (nat_of (k.is j)) (up_to_end (none j) (b.edge + 1)))) in
+        let same : i.hi ≡ k.number = omega (arith, hi_at, low, k.above, k.inside) in
+        (omega (arith, same, k.above), omega (arith, same, k.inside), k.is ∙ ap (λ n. pos n) (sym same))
 
-    stays : (place : ℕ) → b.end ≡ Some (pos place) → place ≤ b.edge → place < 2 ^ 31 → i.fin ≡ true → (i.lo < i.hi → i.hi ≡ place) × (to ≡ pos place)
-    stays place is inside near kept =
+    stays : (place : ℕ) → b.end ≡ Some (pos place) → place ≤ b.edge → i.fin ≡ true → (i.lo < i.hi → i.hi ≡ place) × (to ≡ pos place)
+    stays place is inside kept =
         let stands : to ≡ pos place = (Decides-int_eq to (pos place)).0 (ap (λ o. is_kept_fin o b to) (sym is) ∙ tested kept) in
-        let hi_at = hi_to place is ∙ ap (λ z. max (max (nat_of at) b.acked) (min (nat_of z) (min (min (b.edge + 1) (2 ^ 31)) place))) stands in
-        ((λ h. omega (arith, lo, hi_at, inside, near)), stands)
+        let hi_at = hi_to place is ∙ ap (λ z. max (max (nat_of at) b.acked) (min (nat_of z) (min (b.edge + 1) place))) stands in
+        ((λ h. omega (arith, lo, hi_at, inside)), stands)
 
 pub intervals_fit : IntervalsFit
 intervals_fit ws w i k =
     let h = lies (bounds_of ws) (offset_of ws w.seq) (length w.octets) (tcp.has_fin w.flags) i k.spans in
-    record { order = h.order; above = h.above; begins = h.begins; ends = h.ends; window = h.window; turn = h.turn; end = h.end }
+    record { order = h.order; above = h.above; begins = h.begins; ends = h.ends; window = h.window; end = h.end }

@@ -6,15 +6,16 @@ use Rattle.std.proofs.Math.Bool.{or-false}
 use Rattle.std.proofs.Math.Nat.{max-zero}
 use Rattle.wire_base.specs.Tcp as tcp
 use Rattle.wire_base.specs.Segments.{Written}
-use Rattle.era_state.specs.Offsets.{off, seen_from, natural, nat_of, number_in}
+use Rattle.era_state.specs.Offsets.{off, natural, nat_of, number_in}
 use Rattle.era_state.specs.Marks.{has_octets, number_behind, ack_of, edge_place, top_place, octet_at, get_at, fin_place}
 use Rattle.era_state.specs.Quantities.{base_of, iss, out, out_fin, acked, edge, top, first, end_of, behind_end, is_opened, shift, shift_with, out_seen, in_seen, in_scaled, out_scaled, out_scale}
 use Rattle.era_state.specs.Silence.{SameNumbers, SilenceChangesNothing}
 use Rattle.era_state.proofs.Pushes.{or_none}
+use Rattle.era_state.proofs.Counts.{count_same}
 use Rattle.era_state.proofs.Steps.{base_push, iss_push, out_push, out_fin_push, out_seen_push, in_seen_push, in_scaled_push, out_scaled_push, out_scale_push, acked_push, opened_push, edge_push, top_push, octet_push, end_push}
 
 pub no_ack : (base a : ℕ) (w : Written) → w.inward ≡ true → ack_of base a w ≡ None
-no_ack base a w inward = λ i. if not (inward i) && tcp.has_ack w.flags then natural (off base (seen_from a) w.ack) else None
+no_ack base a w inward = λ i. if not (inward i) && tcp.has_ack w.flags then natural (off base a w.ack) else None
 
 -- one without SYN
 pub same_numbers : (ws : List Written) (w : Written) → w.inward ≡ true → tcp.has_syn w.flags ≡ false → SameNumbers ws (ws ++ w ∷ [])
@@ -44,26 +45,26 @@ if_same false x = refl
 -- one without octets
 pub no_octet : (base a : ℕ) (w : Written) (offset : ℤ) → w.octets ≡ [] → octet_at base a offset w ≡ None
 no_octet base a w offset none =
-    (λ i. if w.inward then get_at (none i) (natural (offset -ℤ off base (seen_from a) w.seq)) else None)
-    ∙ (λ i. if w.inward then get_none (natural (offset -ℤ off base (seen_from a) w.seq)) i else None)
+    (λ i. if w.inward then get_at (none i) (natural (offset -ℤ off base a w.seq)) else None)
+    ∙ (λ i. if w.inward then get_none (natural (offset -ℤ off base a w.seq)) i else None)
     ∙ if_same w.inward None
 
 pub no_top : (base a : ℕ) (w : Written) → w.octets ≡ [] → top_place base a w ≡ 0
 no_top base a w none = by w.inward
   where
-    by : (b : Bool) → (if b && has_octets w then nat_of (off base (seen_from a) w.seq +ℤ pos (length w.octets)) else 0) ≡ 0
-    by true = λ i. if nat_lt 0 (length (none i)) then nat_of (off base (seen_from a) w.seq +ℤ pos (length w.octets)) else 0
+    by : (b : Bool) → (if b && has_octets w then nat_of (off base a w.seq +ℤ pos (length w.octets)) else 0) ≡ 0
+    by true = λ i. if nat_lt 0 (length (none i)) then nat_of (off base a w.seq +ℤ pos (length w.octets)) else 0
     by false = refl
 
 -- one without FIN
 pub no_end : (base a : ℕ) (w : Written) → tcp.has_fin w.flags ≡ false → fin_place base a w ≡ None
 no_end base a w endless = by w.inward
   where
-    by : (b : Bool) → (if b && tcp.has_fin w.flags then Some (off base (seen_from a) w.seq +ℤ pos (length w.octets)) else None) ≡ None
-    by true = λ i. if endless i then Some (off base (seen_from a) w.seq +ℤ pos (length w.octets)) else None
+    by : (b : Bool) → (if b && tcp.has_fin w.flags then Some (off base a w.seq +ℤ pos (length w.octets)) else None) ≡ None
+    by true = λ i. if endless i then Some (off base a w.seq +ℤ pos (length w.octets)) else None
     by false = refl
 
-shift_kept : (ws vs : List Written) → SameNumbers ws vs → shift vs ≡ shift ws
+pub shift_kept : (ws vs : List Written) → SameNumbers ws vs → shift vs ≡ shift ws
 shift_kept ws vs h = λ i. shift_with (h.out_seen_is i) (h.in_seen_is i) (h.out_scaled_is i) (h.in_scaled_is i) (h.out_scale_is i)
 
 pub silence_changes_nothing : SilenceChangesNothing
@@ -71,8 +72,9 @@ silence_changes_nothing ws w h = record {
   numbers = numbers;
   top_is = tops;
   end_is = ends;
-  first_is = λ base offset. octet_push base ws w offset ∙ ap (option_or (first base ws offset)) (no_octet base (acked base ws) w offset h.no_octets) ∙ or_none (first base ws offset);
+  first_is = firsts;
   next_is = λ base i. max (numbers.acked_is base i) (max (tops base i) (behind_end (ends base i)));
+  octets_are = λ base. count_same base ws (ws ++ w ∷ []) (tops base) (firsts base);
   shift_is = shift_kept ws (ws ++ w ∷ []) numbers;
 }
   where
@@ -81,6 +83,9 @@ silence_changes_nothing ws w h = record {
 
     tops : (base : ℕ) → top base (ws ++ w ∷ []) ≡ top base ws
     tops base = top_push base ws w ∙ ap (max (top base ws)) (no_top base (acked base ws) w h.no_octets) ∙ max-zero (top base ws)
+
+    firsts : (base : ℕ) (offset : ℤ) → first base (ws ++ w ∷ []) offset ≡ first base ws offset
+    firsts base offset = octet_push base ws w offset ∙ ap (option_or (first base ws offset)) (no_octet base (acked base ws) w offset h.no_octets) ∙ or_none (first base ws offset)
 
     ends : (base : ℕ) → end_of base (ws ++ w ∷ []) ≡ end_of base ws
     ends base = end_push base ws w ∙ ap (option_or (end_of base ws)) (no_end base (acked base ws) w h.no_fin) ∙ or_none (end_of base ws)

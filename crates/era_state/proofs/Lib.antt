@@ -2,6 +2,7 @@ pub mod Pushes
 pub mod Steps
 pub mod Legal
 pub mod Shifts
+pub mod Counts
 pub mod Inwards
 pub mod Untouched
 pub mod Warms
@@ -9,7 +10,14 @@ pub mod Windows
 pub mod Reading
 pub mod Fits
 pub mod After
+pub mod Framed
 pub mod Forwards
 pub mod Octets
+pub mod Additions
 pub mod Moments
+pub mod Remaining
+pub mod Alike
+pub mod Bounded
+pub mod Emitting
+pub mod Worked
 pub mod Lists

@@ -1,15 +1,18 @@
 -- What holds of every era and its list.
-use Rattle.std.proofs.Common.{◌≡◌, ℕ, List, [], ◌∷◌, ◌++◌, sym, ◌∙◌, ap}
-use Rattle.std.specs.Prelude.{if◌then◌else◌}
+use Rattle.std.proofs.Common.{◌≡◌, ℕ, List, [], ◌∷◌, ◌++◌, sym, ◌∙◌, ap, arith}
+use Rattle.std.specs.Prelude.{if◌then◌else◌, pos}
 use Rattle.wire_base.specs.Segments.{Written}
 use Rattle.era_state.specs.declared.era.Era.{Era}
 use Rattle.era_state.specs.declared.era.Era.TheVariants.{Called, Offered, Warm, Closed}
 use Rattle.era_state.specs.declared.warm.Warm as w
-use Rattle.era_state.specs.Quantities.{acked, end_of, out_fin, is_over, Untouched}
+use Rattle.era_state.specs.Offsets.{number_in}
+use Rattle.era_state.specs.Quantities.{base_at, first, octets_with, octets_of, acked, end_of, out_fin, is_over, Untouched}
 use Rattle.era_state.specs.States.{offered, warm, closed, state_with}
 use Rattle.era_state.specs.Silence.{Same}
 use Rattle.era_state.specs.Standing.{WarmFor, is_over_in}
-use Rattle.era_state.specs.Eras.{StandsFor, StatesAreTheLists, SilenceStands}
+use Rattle.era_state.specs.Eras.{StandsFor, StatesAreTheLists, SilenceStands, octets_in}
+use Rattle.era_state.specs.Emitted.{UnacknowledgedHasNoOctet}
+use Rattle.era_state.proofs.Counts.{count_none, first_past}
 use Rattle.era_state.proofs.Inwards.{silence_changes_nothing}
 use Rattle.era_state.proofs.Shifts.{syns_kept}
 
@@ -21,6 +24,13 @@ states_are_the_lists (Called e) ws h = record { state_is = sym (ap (λ b. state_
 states_are_the_lists (Offered e) ws h = record { state_is = sym (ap (λ b. state_with b ws) h.base_is ∙ (λ i. if h.untouched.unopened i then (if is_over (acked e.base ws) (end_of e.base ws) (out_fin ws) then closed else warm) else offered)); base_is = sym h.base_is; iss_is = h.iss_is }
 states_are_the_lists (Warm e) ws h = record { state_is = sym (ap (λ b. state_with b ws) h.0.base_is ∙ (λ i. if h.0.opened i then (if (over_same e ws h.0 ∙ h.1) i then closed else warm) else offered)); base_is = sym h.0.base_is; iss_is = h.0.iss_is }
 states_are_the_lists (Closed e) ws h = record { state_is = sym (ap (λ b. state_with b ws) h.base_is ∙ (λ i. if h.opened i then (if (over_same e.last ws h ∙ e.over) i then closed else warm) else offered)); base_is = sym h.base_is; iss_is = h.iss_is }
+
+-- before a place is acknowledged no octet was written
+pub octets_are_the_lists : (e : Era) (ws : List Written) → StandsFor e ws → octets_in e ≡ octets_of ws
+octets_are_the_lists (Called e) ws h = sym (ap (λ b. octets_with b ws) h.unbased)
+octets_are_the_lists (Offered e) ws h = sym (ap (λ b. octets_with b ws) h.base_is ∙ count_none e.base ws h.untouched.top_is)
+octets_are_the_lists (Warm e) ws h = h.0.octets_are ∙ sym (ap (λ b. octets_with b ws) h.0.base_is)
+octets_are_the_lists (Closed e) ws h = h.octets_are ∙ sym (ap (λ b. octets_with b ws) h.base_is)
 
 untouched_kept : (base : ℕ) (ws vs : List Written) → Same ws vs → Untouched base ws → Untouched base vs
 untouched_kept base ws vs s h = record {
@@ -43,9 +53,10 @@ warm_kept e ws vs s h = record {
   top_is = h.top_is ∙ sym (s.top_is e.base);
   end_is = h.end_is ∙ sym (s.end_is e.base);
   out_fin_is = h.out_fin_is ∙ sym s.numbers.out_fin_is;
+  octets_are = h.octets_are ∙ sym (s.octets_are e.base);
 }
 
-kept : (e : Era) (ws vs : List Written) → Same ws vs → StandsFor e ws → StandsFor e vs
+pub kept : (e : Era) (ws vs : List Written) → Same ws vs → StandsFor e ws → StandsFor e vs
 kept (Called e) ws vs s h = record {
   unbased = s.numbers.base_is ∙ h.unbased;
   untouched = λ base. untouched_kept base ws vs s (h.untouched base);
@@ -67,3 +78,12 @@ kept (Closed e) ws vs s h = warm_kept e.last ws vs s h
 
 pub silence_stands : SilenceStands
 silence_stands e ws w silent h = kept e ws (ws ++ w ∷ []) (silence_changes_nothing ws w silent) h
+
+-- before a place is acknowledged no octet was written
+pub unacknowledged_has_no_octet : UnacknowledgedHasNoOctet
+unacknowledged_has_no_octet (Called e) ws h before place = first_past (base_at ws) ws place (let t = (h.untouched (base_at ws)).top_is in omega (arith, t))
+unacknowledged_has_no_octet (Offered e) ws h before place =
+    let t = h.untouched.top_is in
+    ap (λ b. first b ws (pos place)) (ap number_in h.base_is) ∙ first_past e.base ws place (omega (arith, t))
+unacknowledged_has_no_octet (Warm e) ws h before place = cc
+unacknowledged_has_no_octet (Closed e) ws h before place = cc

@@ -5,7 +5,7 @@ use Rattle.std.proofs.lemmas.Int.{ints}
 use Rattle.std.proofs.lemmas.Bool.Decides.{nat_tests}
 use Rattle.era_state.specs.Offsets.{off, turn_past, IsOff, OffsetsAreRead, PlacesAreRead}
 
-off_is : (base at number : ℕ) → IsOff base at number (off base at number)
+pub off_is : (base at number : ℕ) → IsOff base at number (off base at number)
 off_is base at number = by (nat_lt (turn_past (base + at) number) (2 ^ 31)) refl
   where
     by : (b : Bool) → nat_lt (turn_past (base + at) number) (2 ^ 31) ≡ b → IsOff base at number (off base at number)

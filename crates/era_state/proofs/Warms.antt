@@ -13,15 +13,16 @@ use Rattle.era_state.specs.declared.offered.Offered.{Offered}
 use Rattle.era_state.specs.declared.warm.Warm.{Warm}
 use Rattle.era_state.specs.Offsets.{off, natural, turn_past, whole, number_in}
 use Rattle.era_state.specs.Marks.{fixes, ack_of, edge_place, iss_after}
-use Rattle.era_state.specs.Quantities.{base_of, iss, out_fin, acked, edge, top, end_of, is_opened, shift, Untouched}
+use Rattle.era_state.specs.Quantities.{base_of, iss, out_fin, acked, edge, top, first, end_of, is_opened, shift, octet_count, Untouched}
 use Rattle.era_state.specs.Read.{sent, came}
 use Rattle.era_state.specs.Scales.{SynsFor}
 use Rattle.era_state.specs.Standing.{CalledFor, OfferedFor, WarmFor}
 use Rattle.era_state.specs.Changes.{WarmAfter, WarmOpens, WarmCalled}
 use Rattle.era_state.proofs.Pushes.{or_none, or_kept}
-use Rattle.era_state.proofs.Steps.{base_push, iss_push, out_push, out_fin_push, acked_push, opened_push, edge_push, top_push, end_push}
+use Rattle.era_state.proofs.Steps.{base_push, iss_push, out_push, out_fin_push, acked_push, opened_push, edge_push, top_push, octet_push, end_push}
 use Rattle.era_state.proofs.Shifts.{syns_push, shift_same}
-use Rattle.era_state.proofs.Inwards.{no_end}
+use Rattle.era_state.proofs.Counts.{count_same, count_none}
+use Rattle.era_state.proofs.Inwards.{no_end, no_octet}
 use Rattle.era_state.proofs.Untouched.{untouched_none}
 
 true_or : (a b : Bool) → a ≡ true → (a || b) ≡ true
@@ -41,6 +42,7 @@ warm_sent s octets old new ws t h = record {
   top_is = t.top_is ∙ h.top_is ∙ sym (top_push old.base ws w ∙ max-zero (top old.base ws)) ∙ ap (λ b. top b (ws ++ w ∷ [])) (sym t.base_is);
   end_is = ap whole t.end_is ∙ h.end_is ∙ sym (end_push old.base ws w ∙ or_none (end_of old.base ws)) ∙ ap (λ b. end_of b (ws ++ w ∷ [])) (sym t.base_is);
   out_fin_is = t.out_fin_is ∙ ap (λ b. b || tcp.has_fin w.flags) h.out_fin_is ∙ sym (out_fin_push ws w);
+  octets_are = t.octets_are ∙ h.octets_are ∙ sym (count_same old.base ws (ws ++ w ∷ []) (top_push old.base ws w ∙ max-zero (top old.base ws)) (λ o. octet_push old.base ws w o ∙ or_none (first old.base ws o))) ∙ ap (λ b. octet_count b (ws ++ w ∷ [])) (sym t.base_is);
 }
   where
     w : Written
@@ -59,6 +61,7 @@ warm_came s old new ws endless t h = record {
   top_is = t.top_is ∙ h.top_is ∙ sym (top_push old.base ws w ∙ max-zero (top old.base ws)) ∙ ap (λ b. top b (ws ++ w ∷ [])) (sym t.base_is);
   end_is = ap whole t.end_is ∙ h.end_is ∙ sym (end_push old.base ws w ∙ ap (option_or (end_of old.base ws)) (no_end old.base (acked old.base ws) w endless) ∙ or_none (end_of old.base ws)) ∙ ap (λ b. end_of b (ws ++ w ∷ [])) (sym t.base_is);
   out_fin_is = t.out_fin_is ∙ h.out_fin_is ∙ sym (out_fin_push ws w ∙ or-false (out_fin ws));
+  octets_are = t.octets_are ∙ h.octets_are ∙ sym (count_same old.base ws (ws ++ w ∷ []) (top_push old.base ws w ∙ max-zero (top old.base ws)) (λ o. octet_push old.base ws w o ∙ ap (option_or (first old.base ws o)) (no_octet old.base (acked old.base ws) w o refl) ∙ or_none (first old.base ws o))) ∙ ap (λ b. octet_count b (ws ++ w ∷ [])) (sym t.base_is);
 }
   where
     w : Written
@@ -77,6 +80,7 @@ warm_opens base old_iss syns fin place s octets new ws t based h acks first have
   top_is = t.top_is ∙ sym (top_push base ws w ∙ ap (λ n. max n 0) h.top_is) ∙ ap (λ b. top b (ws ++ w ∷ [])) (sym t.base_is);
   end_is = ap whole t.end_is ∙ sym (end_push base ws w ∙ ap (λ o. option_or o None) h.end_is) ∙ ap (λ b. end_of b (ws ++ w ∷ [])) (sym t.base_is);
   out_fin_is = t.out_fin_is ∙ ap (λ b. b || tcp.has_fin w.flags) finned ∙ sym (out_fin_push ws w);
+  octets_are = t.octets_are ∙ sym (count_none base (ws ++ w ∷ []) (top_push base ws w ∙ ap (λ n. max n 0) h.top_is)) ∙ ap (λ b. octet_count b (ws ++ w ∷ [])) (sym t.base_is);
 }
   where
     w : Written

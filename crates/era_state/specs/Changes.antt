@@ -1,5 +1,5 @@
 -- What one more segment changes of the fields of an era of which a place is acknowledged.
-use Rattle.std.specs.Prelude.{◌≡◌, ℕ, ◌||◌, max, Bool, Option, Some, None}
+use Rattle.std.specs.Prelude.{◌≡◌, ℕ, ◌+◌, ◌||◌, max, Bool, Option, Some, None}
 use Rattle.wire_base.specs.Tcp as tcp
 use Rattle.wire_base.specs.Segments.{Written}
 use Rattle.era_state.specs.declared.interval.Interval.{Interval}
@@ -21,6 +21,7 @@ pub record WarmAfter (w : Written) (old new : Warm) : Type 0 where
   pub top_is : new.top ≡ old.top
   pub end_is : new.end ≡ old.end
   pub out_fin_is : new.out_fin ≡ (old.out_fin || tcp.has_fin w.flags)
+  pub octets_are : new.octets ≡ old.octets
 
 -- an outbound segment that acknowledges a place, where none was acknowledged before
 pub record WarmOpens (base : ℕ) (old_iss : Option ℕ) (old_syns : Syns) (old_fin : Bool) (place : ℕ) (w : Written) (new : Warm) : Type 0 where
@@ -33,6 +34,7 @@ pub record WarmOpens (base : ℕ) (old_iss : Option ℕ) (old_syns : Syns) (old_
   pub top_is : new.top ≡ 0
   pub end_is : new.end ≡ None
   pub out_fin_is : new.out_fin ≡ (old_fin || tcp.has_fin w.flags)
+  pub octets_are : new.octets ≡ 0
 
 -- an inbound SYN
 pub record WarmCalled (w : Written) (old new : Warm) : Type 0 where
@@ -45,9 +47,10 @@ pub record WarmCalled (w : Written) (old new : Warm) : Type 0 where
   pub top_is : new.top ≡ old.top
   pub end_is : new.end ≡ old.end
   pub out_fin_is : new.out_fin ≡ old.out_fin
+  pub octets_are : new.octets ≡ old.octets
 
--- a frame with the octets and the FIN of an interval
-pub record WarmWith (i : Interval) (old new : Warm) : Type 0 where
+-- a frame with the octets and the FIN of an interval, so many of these octets being the first at their places
+pub record WarmWith (i : Interval) (fresh : ℕ) (old new : Warm) : Type 0 where
   pub base_is : new.base ≡ old.base
   pub iss_is : new.iss ≡ old.iss
   pub out_is : new.out ≡ old.out
@@ -57,3 +60,4 @@ pub record WarmWith (i : Interval) (old new : Warm) : Type 0 where
   pub top_is : new.top ≡ top_after old.top i.lo i.hi
   pub end_is : new.end ≡ end_after old.end i.fin i.hi
   pub out_fin_is : new.out_fin ≡ old.out_fin
+  pub octets_are : new.octets ≡ old.octets + fresh

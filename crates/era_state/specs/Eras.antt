@@ -1,5 +1,5 @@
 -- What an era stands for, and where segments take it.
-use Rattle.std.specs.Prelude.{◌≡◌, ℕ, ◌+◌, ◌^◌, ◌<◌, ◌++◌, ◌∷◌, [], length, true, false, List, Option, Some, None}
+use Rattle.std.specs.Prelude.{◌≡◌, ℕ, ◌+◌, ◌^◌, ◌<◌, ◌++◌, ◌∷◌, [], length, Bool, true, false, List, Option, Some, None}
 use Rattle.wire_base.specs.Tcp as tcp
 use Rattle.wire_base.specs.Segments.{Written}
 use Rattle.era_state.specs.declared.segment.Seg.{Seg}
@@ -49,6 +49,13 @@ acked_in (Offered e) = 0
 acked_in (Warm e) = e.acked
 acked_in (Closed e) = e.last.acked
 
+-- how many places have an octet, and none before a place is acknowledged
+abbrev pub octets_in : Era → ℕ
+octets_in (Called e) = 0
+octets_in (Offered e) = 0
+octets_in (Warm e) = e.octets
+octets_in (Closed e) = e.last.octets
+
 -- Where an outbound segment takes an era of which these segments were written: RST ends it, another call reopens it,
 -- and else the next era stands for the list with the segment, whatever its octets.
 abbrev pub MovesTo : List Written → Seg → Moved → Type 0
@@ -59,11 +66,23 @@ MovesTo ws s (Next new) =
     × (reopens_outward ws (sent s []) ≡ false)
     × ((octets : List ℕ) → length octets ≡ s.len → StandsFor new (ws ++ sent s octets ∷ []))
 
+-- the era ends without another
+abbrev pub is_reset : Moved → Bool
+is_reset Reset = true
+is_reset Reopen = false
+is_reset (Next new) = false
+
 -- what is acknowledged grows by less than half a turn
 abbrev pub MovesNear : Era → Moved → Type 0
 MovesNear e Reset = Unit {0}
 MovesNear e Reopen = Unit {0}
 MovesNear e (Next new) = acked_in new < acked_in e + 2 ^ 31
+
+-- no more places have an octet
+abbrev pub MovesSame : Era → Moved → Type 0
+MovesSame e Reset = Unit {0}
+MovesSame e Reopen = Unit {0}
+MovesSame e (Next new) = octets_in new ≡ octets_in e
 
 -- the next place of the stream, and none where no base is fixed
 abbrev pub NextIs : Option ℕ → List Written → Type 0

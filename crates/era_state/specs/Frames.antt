@@ -4,7 +4,7 @@ use Rattle.wire_base.specs.Tcp as tcp
 use Rattle.wire_base.specs.Segments.{Written}
 use Rattle.era_state.specs.declared.interval.Interval.{Interval}
 use Rattle.era_state.specs.declared.warm.Warm.{Warm}
-use Rattle.era_state.specs.Offsets.{off, seen_from}
+use Rattle.era_state.specs.Offsets.{off}
 use Rattle.era_state.specs.Keeping.{frame_sequence_of}
 use Rattle.era_state.specs.Intervals.{Keeps}
 use Rattle.era_state.specs.Standing.{bounds_in}
@@ -14,7 +14,7 @@ pub record IsGiven (e : Warm) (i : Interval) : Type 0 where
   pub sequence : ℕ
   pub len : ℕ
   pub fin : Bool
-  pub keeps : Keeps (bounds_in e) (off e.base (seen_from e.acked) sequence) len fin i
+  pub keeps : Keeps (bounds_in e) (off e.base e.acked sequence) len fin i
 
 -- the frame of the segment `w` after the segments written so far: with as many octets as the interval, its FIN, and the sequence number that is theirs
 pub record IsFrame (ws : List Written) (w : Written) (i : Interval) (frame : Written) : Type 0 where

@@ -3,8 +3,8 @@ use Rattle.std.specs.Prelude.{◌≡◌, ℕ, Bool, List, length, ℤ}
 use Rattle.wire_base.specs.Tcp as tcp
 use Rattle.wire_base.specs.Segments.{Written}
 use Rattle.era_state.specs.declared.interval.Interval.{Interval}
-use Rattle.era_state.specs.Keeping.{Bounds, bounds_of, offset_of, low, high, keeps_fin, begins_below, passes_window, passes_turn, passes_end}
-use Rattle.era_state.specs.Rules.{t_old, t_window, t_turn, t_end}
+use Rattle.era_state.specs.Keeping.{Bounds, bounds_of, offset_of, low, high, keeps_fin, begins_below, passes_window, passes_end}
+use Rattle.era_state.specs.Rules.{t_old, t_window, t_end}
 
 -- which octets and whether the FIN go out, of a segment at this offset, of this length, with or without FIN
 pub record Spans (b : Bounds) (at : ℤ) (len : ℕ) (fin : Bool) (i : Interval) : Type 0 where
@@ -17,7 +17,6 @@ pub record Keeps (b : Bounds) (at : ℤ) (len : ℕ) (fin : Bool) (i : Interval)
   pub spans : Spans b at len fin i
   pub below_is : i.below ≡ begins_below b at len
   pub window_is : i.window ≡ passes_window b at len
-  pub turn_is : i.turn ≡ passes_turn at len
   pub end_is : i.end ≡ passes_end b at len fin
 
 -- the same of the segment `w`, after the segments written so far
@@ -25,5 +24,4 @@ pub record KeptOf (ws : List Written) (w : Written) (i : Interval) : Type 0 wher
   pub spans : Spans (bounds_of ws) (offset_of ws w.seq) (length w.octets) (tcp.has_fin w.flags) i
   pub below_is : i.below ≡ t_old ws w
   pub window_is : i.window ≡ t_window ws w
-  pub turn_is : i.turn ≡ t_turn ws w
   pub end_is : i.end ≡ t_end ws w

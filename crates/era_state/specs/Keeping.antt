@@ -4,7 +4,7 @@ use Rattle.std.specs.Prelude.{ℕ, ◌+◌, ◌%◌, ◌^◌, ◌&&◌, ◌||◌
 use Rattle.std.specs.Ordering.{int_eq}
 use Rattle.wire_base.specs.Tcp as tcp
 use Rattle.wire_base.specs.Segments.{Written}
-use Rattle.era_state.specs.Offsets.{off, seen_from, nat_of}
+use Rattle.era_state.specs.Offsets.{off, nat_of}
 use Rattle.era_state.specs.Quantities.{acked, edge, top, end_of, base_at}
 
 -- what of an era the interval depends on
@@ -24,7 +24,7 @@ bounds_of ws = bounds (base_at ws) ws
 
 -- the offset of a sequence number, after the segments written so far
 abbrev pub offset_of : List Written → ℕ → ℤ
-offset_of ws sequence = off (base_at ws) (seen_from (acked (base_at ws) ws)) sequence
+offset_of ws sequence = off (base_at ws) (acked (base_at ws) ws) sequence
 
 -- the least of a place and the end, where it is pinned
 abbrev pub up_to_end : Option ℤ → ℕ → ℕ
@@ -35,17 +35,17 @@ up_to_end (Some end) place = min place (nat_of end)
 abbrev pub low : Bounds → ℤ → ℕ
 low b at = max (nat_of at) b.acked
 
--- how far octets may go: one past the window, half a turn, and the end
+-- how far octets may go: one past the window, and the end
 abbrev pub reach : Bounds → ℕ
-reach b = up_to_end b.end (min (b.edge + 1) (2 ^ 31))
+reach b = up_to_end b.end (b.edge + 1)
 
 -- where the octets that go out end, and `low` where none goes out
 abbrev pub high : Bounds → ℤ → ℕ → ℕ
 high b at len = max (low b at) (min (nat_of (at +ℤ pos len)) (reach b))
 
--- a FIN at this offset is kept: the end, where it is pinned; else a place behind all octets, in the window and below half a turn
+-- a FIN at this offset is kept: the end, where it is pinned; else a place behind all octets and in the window
 abbrev pub is_kept_fin : Option ℤ → Bounds → ℤ → Bool
-is_kept_fin None b place = int_le (pos (max b.top b.acked)) place && int_le place (pos b.edge) && int_lt place (pos (2 ^ 31))
+is_kept_fin None b place = int_le (pos (max b.top b.acked)) place && int_le place (pos b.edge)
 is_kept_fin (Some end) b place = int_eq place end
 
 -- the segment has a FIN, and it is kept
@@ -60,10 +60,6 @@ begins_below b at len = nat_lt 0 len && int_lt at (pos b.acked)
 abbrev pub passes_window : Bounds → ℤ → ℕ → Bool
 passes_window b at len = nat_lt 0 len && int_lt (pos (b.edge + 1)) (at +ℤ pos len)
 
--- its octets reach further than half a turn
-abbrev pub passes_turn : ℤ → ℕ → Bool
-passes_turn at len = nat_lt 0 len && int_lt (pos (2 ^ 31)) (at +ℤ pos len)
-
 -- the end is pinned below this offset
 abbrev pub ends_below : Option ℤ → ℤ → Bool
 ends_below None place = false
@@ -73,7 +69,7 @@ ends_below (Some end) place = int_lt end place
 abbrev pub passes_end : Bounds → ℤ → ℕ → Bool → Bool
 passes_end b at len fin = (nat_lt 0 len && ends_below b.end (at +ℤ pos len)) || (fin && not (is_kept_fin b.end b (at +ℤ pos len)))
 
--- the sequence number of the frame: that of its first octet; that of its FIN, where this goes out alone; else the segment's own
+-- the sequence number of the frame: that of its first octet; that of its FIN, where only this goes out; else the segment's own
 abbrev pub frame_sequence : (base : ℕ) → Bounds → ℤ → (sequence len : ℕ) → Bool → ℕ
 frame_sequence base b at sequence len fin =
     if nat_lt (low b at) (high b at len)

@@ -7,7 +7,7 @@ use Rattle.era_state.specs.declared.warm.Warm.{Warm}
 use Rattle.era_state.specs.Words.{greatest, Moment, moments}
 use Rattle.era_state.specs.Offsets.{nat_of, number_in}
 use Rattle.era_state.specs.Marks.{ack_of, edge_place, octet_at, fin_place}
-use Rattle.era_state.specs.Quantities.{base_at, acked, edge, shift, first, end_of}
+use Rattle.era_state.specs.Quantities.{base_at, acked, edge, shift, top, first, end_of, octet_count}
 use Rattle.era_state.specs.Keeping.{offset_of}
 use Rattle.era_state.specs.Intervals.{KeptOf}
 use Rattle.era_state.specs.Frames.{IsFrame}
@@ -25,19 +25,31 @@ AckedGrowsNear = (base : ℕ) (ws : List Written) (w : Written) → acked base (
 abbrev pub FirstStays : Type 0
 FirstStays = (base : ℕ) (ws : List Written) (w : Written) (offset : ℤ) → first base (ws ++ w ∷ []) offset ≡ option_or (first base ws offset) (octet_at base (acked base ws) offset w)
 
--- an interval lies above what is acknowledged, and inside its segment, the window, half a turn and the end
+-- no octet stands at or past Top, so there are at most Top of them
+pub record OctetsLieBelowTop (base : ℕ) (ws : List Written) : Type 0 where
+  pub none_past : (place : ℕ) → top base ws ≤ place → first base ws (pos place) ≡ None
+  pub most : octet_count base ws ≤ top base ws
+
+-- this holds of every list
+abbrev pub OctetsAreBelowTop : Type 0
+OctetsAreBelowTop = (base : ℕ) (ws : List Written) → OctetsLieBelowTop base ws
+
+-- an interval lies above what is acknowledged, and inside its segment, the window and the end
 pub record Fits (ws : List Written) (w : Written) (i : Interval) : Type 0 where
   pub order : i.lo ≤ i.hi
   pub above : acked (base_at ws) ws ≤ i.lo
   pub begins : i.lo < i.hi → offset_of ws w.seq ≤ℤ pos i.lo
   pub ends : i.lo < i.hi → pos i.hi ≤ℤ (offset_of ws w.seq +ℤ pos (length w.octets))
   pub window : i.lo < i.hi → i.hi ≤ edge (base_at ws) ws + 1
-  pub turn : i.lo < i.hi → i.hi ≤ 2 ^ 31
   pub end : (place : ℕ) → end_of (base_at ws) ws ≡ Some (pos place) → i.lo < i.hi → i.hi ≤ place
 
 -- every kept interval lies so
 abbrev pub IntervalsFit : Type 0
 IntervalsFit = (ws : List Written) (w : Written) (i : Interval) → KeptOf ws w i → Fits ws w i
+
+-- a kept octet lies from what is acknowledged to less than 2^30 + 1 past it, which is more than any window allows, so its number is read as its place
+abbrev pub KeptOctetsAreNear : Type 0
+KeptOctetsAreNear = (e : Warm) (ws : List Written) (w : Written) (i : Interval) → WarmFor e ws → KeptOf ws w i → i.lo < i.hi → (acked (base_at ws) ws ≤ i.lo) × (i.hi ≤ acked (base_at ws) ws + 2 ^ 30 + 1)
 
 -- a frame's octets stand from `lo` to below `hi`, and nowhere else
 abbrev pub FrameOctets : Type 0

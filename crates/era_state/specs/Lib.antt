@@ -14,4 +14,8 @@ pub mod Changes
 pub mod Frames
 pub mod Eras
 pub mod Silence
+pub mod Alike
 pub mod Laws
+pub mod Emission
+pub mod Emitted
+pub mod Worked

@@ -3,7 +3,7 @@ use Rattle.std.specs.Prelude.{ℕ, ◌+◌, ◌*◌, ◌%◌, ◌^◌, ◌&&◌,
 use Rattle.std.specs.Option.{option_or}
 use Rattle.wire_base.specs.Tcp as tcp
 use Rattle.wire_base.specs.Segments.{Written}
-use Rattle.era_state.specs.Offsets.{off, seen_from, natural, nat_of}
+use Rattle.era_state.specs.Offsets.{off, natural, nat_of}
 
 -- it is an outbound segment with ACK
 abbrev pub acknowledges : Written → Bool
@@ -43,7 +43,7 @@ fixes w =
 
 -- the place of the stream that it acknowledges, and none below the stream's begin
 abbrev pub ack_of : (base acked : ℕ) → Written → Option ℕ
-ack_of base acked w = if acknowledges w then natural (off base (seen_from acked) w.ack) else None
+ack_of base acked w = if acknowledges w then natural (off base acked w.ack) else None
 
 -- the place behind what its window allows, and 0 where it acknowledges no place; the window of a SYN is not scaled (RFC 7323 section 2.2)
 abbrev pub edge_place : Option ℕ → (shift : ℕ) → Written → ℕ
@@ -52,7 +52,7 @@ edge_place (Some place) shift w = place + w.window * (if tcp.has_syn w.flags the
 
 -- the place behind the octets of an inward segment, and 0 where there are none
 abbrev pub top_place : (base acked : ℕ) → Written → ℕ
-top_place base acked w = if w.inward && has_octets w then nat_of (off base (seen_from acked) w.seq +ℤ pos (length w.octets)) else 0
+top_place base acked w = if w.inward && has_octets w then nat_of (off base acked w.seq +ℤ pos (length w.octets)) else 0
 
 -- the octet at an index, if there is one
 abbrev pub get_at : List ℕ → Option ℕ → Option ℕ
@@ -61,12 +61,12 @@ get_at octets (Some i) = slice_get octets i
 
 -- the octet that an inward segment has at an offset
 abbrev pub octet_at : (base acked : ℕ) → ℤ → Written → Option ℕ
-octet_at base acked offset w = if w.inward then get_at w.octets (natural (offset -ℤ off base (seen_from acked) w.seq)) else None
+octet_at base acked offset w = if w.inward then get_at w.octets (natural (offset -ℤ off base acked w.seq)) else None
 
 -- the offset of an inward segment's FIN
 abbrev pub fin_place : (base acked : ℕ) → Written → Option ℤ
-fin_place base acked w = if w.inward && tcp.has_fin w.flags then Some (off base (seen_from acked) w.seq +ℤ pos (length w.octets)) else None
+fin_place base acked w = if w.inward && tcp.has_fin w.flags then Some (off base acked w.seq +ℤ pos (length w.octets)) else None
 
--- the number of the first outbound SYN, with this segment after those that gave the old one
+-- the number of the first outbound SYN, once this segment is written too
 abbrev pub iss_after : Option ℕ → Written → Option ℕ
 iss_after old w = option_or old (if is_outbound_syn w then Some w.seq else None)

@@ -9,16 +9,12 @@ turn_past from number = (number + 2 ^ 32 - from % 2 ^ 32) % 2 ^ 32
 abbrev pub number_before : ℕ → ℕ
 number_before number = (number + (2 ^ 32 - 1)) % 2 ^ 32
 
--- Off: the offset of a number, seen from the offset `at`: less than half a turn past it, or at most half a turn before it
+-- Off: the offset of a number, seen from the offset `at`, which is what is acknowledged: less than half a turn past it, or at most half a turn before it
 abbrev pub off : (base at number : ℕ) → ℤ
 off base at number =
     if nat_lt (turn_past (base + at) number) (2 ^ 31)
     then pos at +ℤ pos (turn_past (base + at) number)
     else (pos at +ℤ pos (turn_past (base + at) number)) -ℤ pos (2 ^ 32)
-
--- the offset from which numbers are read, when so much is acknowledged: the stream's begin, since a stream has at most half a turn
-abbrev pub seen_from : ℕ → ℕ
-seen_from acked = 0
 
 -- an offset that is not below 0
 abbrev pub natural : ℤ → Option ℕ

@@ -1,8 +1,8 @@
 -- The quantities of an era: first and last elements, maxima and counts over the whole list of its written segments, in order
 -- (RFC 9293 sections 3.4 and 3.10 for numbers and windows, RFC 7323 section 2 for their scaling; which of them are kept is this project's profile).
 -- `base` is the number that Base fixes; what a segment says is read with what was acknowledged before it.
-use Rattle.std.specs.Prelude.{◌≡◌, ℕ, ◌&&◌, max, min, Bool, false, List, fold, ℤ, pos, ◌+ℤ◌, Option, Some, None, is_some, nat_le, if◌then◌else◌}
-use Rattle.std.specs.List.{list_any}
+use Rattle.std.specs.Prelude.{◌≡◌, ℕ, ◌-◌, ◌&&◌, max, min, Bool, false, List, fold, ℤ, pos, ◌+ℤ◌, Option, Some, None, is_none, is_some, nat_le, if◌then◌else◌}
+use Rattle.std.specs.List.{list_any, count_by, range_with_len}
 use Rattle.wire_base.specs.Segments.{Written}
 use Rattle.era_state.specs.Words.{first_of, last_of, greatest, Moment, moments}
 use Rattle.era_state.specs.Offsets.{nat_of, number_in}
@@ -12,11 +12,12 @@ use Rattle.era_state.specs.Marks.{is_outbound_syn, is_inbound_syn, is_outbound_f
 abbrev pub base_of : List Written → Option ℕ
 base_of ws = first_of fixes ws
 
--- Base, and 0 where none is fixed: there no definition that is read asks for it
+-- Base, and 0 where none is fixed: then no inward segment that goes out has an octet, and no quantity below is asked for
 abbrev pub base_at : List Written → ℕ
 base_at ws = number_in (base_of ws)
 
--- Acked: the greatest place that an outbound segment acknowledges, and 0 where none does
+-- Acked: the greatest place that an outbound segment acknowledges, each read with what was acknowledged before it, and 0 where none does. Before a base is
+-- fixed no ACK goes outwards but that of a RST, which ends the era; so the segment that fixes it is read with 0
 abbrev pub acked : ℕ → List Written → ℕ
 acked base ws = fold (λ a w. max a (number_in (ack_of base a w))) 0 ws
 
@@ -69,6 +70,23 @@ first base ws offset = first_of (λ (m : Moment Written). octet_at base (acked b
 -- End: the offset of the FIN of the first inward segment with FIN
 abbrev pub end_of : ℕ → List Written → Option ℤ
 end_of base ws = first_of (λ (m : Moment Written). fin_place base (acked base m.before) m.now) (moments ws)
+
+-- Octets: how many offsets have an octet. One that goes out stands at or above 0 and below Top (`EmittedOctetsArePlaces`), so these are gone through
+abbrev pub octet_count : ℕ → List Written → ℕ
+octet_count base ws = count_by (λ n. is_some (first base ws (pos n))) (range_with_len 0 (top base ws))
+
+-- the same with a base that may be fixed: where none is, no offset has an octet
+abbrev pub octets_with : Option ℕ → List Written → ℕ
+octets_with None ws = 0
+octets_with (Some base) ws = octet_count base ws
+
+-- the same with the list's own base
+abbrev pub octets_of : List Written → ℕ
+octets_of ws = octets_with (base_of ws) ws
+
+-- how many of the places from `lo` to below `hi` have no octet
+abbrev pub fresh_places : (base : ℕ) → List Written → (lo hi : ℕ) → ℕ
+fresh_places base ws lo hi = count_by (λ n. is_none (first base ws (pos n))) (range_with_len lo (hi - lo))
 
 -- the place behind the end, and 0 where none is pinned
 abbrev pub behind_end : Option ℤ → ℕ

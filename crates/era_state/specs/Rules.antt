@@ -4,11 +4,11 @@
 use Rattle.std.specs.Prelude.{ℕ, ◌+◌, ◌%◌, ◌^◌, ◌&&◌, ◌||◌, not, Bool, false, List, length, pos, Option, Some, None, nat_eq, int_le, if◌then◌else◌}
 use Rattle.wire_base.specs.Tcp as tcp
 use Rattle.wire_base.specs.Segments.{Written}
-use Rattle.era_state.specs.Offsets.{off, seen_from}
+use Rattle.era_state.specs.Offsets.{off}
 use Rattle.era_state.specs.Marks.{is_inbound_syn, is_outbound_syn}
 use Rattle.era_state.specs.Quantities.{base_of, base_at, acked, next, iss}
 use Rattle.era_state.specs.States.{State, state_of, is_called, is_offered, is_closed, is_acknowledged}
-use Rattle.era_state.specs.Keeping.{bounds_of, offset_of, begins_below, passes_window, passes_turn, passes_end}
+use Rattle.era_state.specs.Keeping.{bounds_of, offset_of, begins_below, passes_window, passes_end}
 
 -- the number is the one behind a call, if there is one
 abbrev pub follows : Option ℕ → ℕ → Bool
@@ -20,7 +20,7 @@ abbrev pub precedes : Option ℕ → ℕ → Bool
 precedes None sequence = false
 precedes (Some base) sequence = nat_eq ((sequence + 1) % 2 ^ 32) base
 
--- another call than the first one; where none was made, a call unless the era is Offered
+-- the number is not that of the first outbound SYN; where there was none, any number, unless the era is Offered
 abbrev pub is_another : Option ℕ → State → ℕ → Bool
 is_another None state sequence = not (is_offered state)
 is_another (Some iss) state sequence = not (nat_eq iss sequence)
@@ -62,7 +62,7 @@ t_syn ws w = is_stray_at (state_of ws) (base_of ws) w
 
 -- a sequence number whose offset is not below what is acknowledged, and not above what comes next
 abbrev pub is_awaited : (base acked next sequence : ℕ) → Bool
-is_awaited base acked next sequence = int_le (pos acked) (off base (seen_from acked) sequence) && int_le (off base (seen_from acked) sequence) (pos next)
+is_awaited base acked next sequence = int_le (pos acked) (off base acked sequence) && int_le (off base acked sequence) (pos next)
 
 -- a reset that answers the call of a Called era, or is awaited by another one
 abbrev pub takes_reset : List Written → Written → Bool
@@ -86,10 +86,6 @@ t_old ws w = is_of_stream ws w && begins_below (bounds_of ws) (offset_of ws w.se
 -- T_WINDOW: its octets reach further than one past the window
 abbrev pub t_window : List Written → Written → Bool
 t_window ws w = is_of_stream ws w && passes_window (bounds_of ws) (offset_of ws w.seq) (length w.octets)
-
--- T_TURN: its octets reach further than half a turn
-abbrev pub t_turn : List Written → Written → Bool
-t_turn ws w = is_of_stream ws w && passes_turn (offset_of ws w.seq) (length w.octets)
 
 -- T_END: its octets reach past the end, or its FIN is not kept
 abbrev pub t_end : List Written → Written → Bool

@@ -2,7 +2,7 @@
 use Rattle.std.specs.Prelude.{◌≡◌, ℕ, ◌++◌, ◌∷◌, [], true, false, List, ℤ}
 use Rattle.wire_base.specs.Tcp as tcp
 use Rattle.wire_base.specs.Segments.{Written}
-use Rattle.era_state.specs.Quantities.{base_of, is_opened, iss, out, out_fin, acked, edge, top, first, end_of, next, out_seen, in_seen, in_scaled, out_scaled, out_scale, shift}
+use Rattle.era_state.specs.Quantities.{base_of, is_opened, iss, out, out_fin, acked, edge, top, first, end_of, octet_count, next, out_seen, in_seen, in_scaled, out_scaled, out_scale, shift}
 
 -- it has no SYN, no FIN and no octets
 pub record IsSilent (w : Written) : Type 0 where
@@ -33,6 +33,7 @@ pub record Same (ws vs : List Written) : Type 0 where
   pub end_is : (base : ℕ) → end_of base vs ≡ end_of base ws
   pub first_is : (base : ℕ) (offset : ℤ) → first base vs offset ≡ first base ws offset
   pub next_is : (base : ℕ) → next base vs ≡ next base ws
+  pub octets_are : (base : ℕ) → octet_count base vs ≡ octet_count base ws
   pub shift_is : shift vs ≡ shift ws
 
 -- such a segment changes no quantity

@@ -5,7 +5,7 @@ use Rattle.era_state.specs.declared.called.Called.{Called}
 use Rattle.era_state.specs.declared.offered.Offered.{Offered}
 use Rattle.era_state.specs.declared.warm.Warm.{Warm}
 use Rattle.era_state.specs.Offsets.{whole}
-use Rattle.era_state.specs.Quantities.{base_of, Untouched, is_opened, iss, out, out_fin, acked, edge, top, end_of, is_over}
+use Rattle.era_state.specs.Quantities.{base_of, Untouched, is_opened, iss, out, out_fin, acked, edge, top, end_of, is_over, octet_count}
 use Rattle.era_state.specs.Keeping.{Bounds}
 use Rattle.era_state.specs.Scales.{SynsFor}
 
@@ -39,6 +39,7 @@ pub record WarmFor (e : Warm) (ws : List Written) : Type 0 where
   pub top_is : e.top ≡ top e.base ws
   pub end_is : whole e.end ≡ end_of e.base ws
   pub out_fin_is : e.out_fin ≡ out_fin ws
+  pub octets_are : e.octets ≡ octet_count e.base ws
 
 -- both sides have closed and the inbound FIN is acknowledged, by the fields
 abbrev pub is_over_in : Warm → Bool

@@ -1,8 +1,8 @@
 //! An era, and where segments take it.
-ghost use Rattle.std.specs.Prelude.{◌≡◌, ℕ, ◌+◌, ◌^◌, ◌<◌, List, [], ◌∷◌, ◌++◌, length, true, false};
+ghost use Rattle.std.specs.Prelude.{◌≡◌, ℕ, ◌+◌, ◌^◌, ◌<◌, List, [], ◌∷◌, ◌++◌, length, is_none, true, false};
 ghost use Rattle.wire_base.specs.Segments.{Written};
 ghost use Rattle.wire_base.specs.Tcp as tcp;
-ghost use Rattle.era_state.specs.Offsets.{off, seen_from};
+ghost use Rattle.era_state.specs.Offsets.{off};
 ghost use Rattle.era_state.specs.Read.{sent, came};
 ghost use Rattle.era_state.specs.Rules.{is_awaited, follows, precedes};
 ghost use Rattle.era_state.specs.Standing.{CalledFor, OfferedFor, WarmFor, is_over_in};
@@ -39,8 +39,8 @@ pub enum Moved {
 
 // The sequence number lies between what is acknowledged and what comes next.
 fn is_awaited(base: u32, acked: u64, next: u64, sequence: u32) -> bool
-    requires acked { acked < 2 ^ 63 }
-    requires next { next < 2 ^ 63 }
+    requires acked { acked < 2 ^ 63 + 2 ^ 32 }
+    requires next { next < 2 ^ 63 + 2 ^ 33 }
     ensures { result ≡ is_awaited base acked next sequence }
 {
     let place = Offset::of(base, acked, sequence);
@@ -72,12 +72,14 @@ fn precedes(base: Option<u32>, sequence: u32) -> bool
 impl Era {
     ghost use Rattle.era_state.specs.Rules.{reopens_outward_at, reopens_inward, t_state, t_syn, takes_reset, t_rst};
     ghost use Rattle.era_state.specs.States.{is_called, is_offered, is_closed};
-    ghost use Rattle.era_state.specs.Eras.{StandsFor, MovesTo, MovesNear, NextIs, state_in, base_in, iss_in, acked_in};
+    ghost use Rattle.era_state.specs.Eras.{StandsFor, MovesTo, MovesNear, MovesSame, NextIs, is_reset, state_in, base_in, iss_in, acked_in, octets_in};
+    ghost use Rattle.era_state.specs.Quantities.{octets_of};
 
     /// The era in the state Warm or Closed.
     pub fn settled(last: Warm) -> Era
         ensures stands { (ws : List Written) → WarmFor last ws → StandsFor result ws }
         ensures same { acked_in result ≡ last.acked }
+        ensures octets { octets_in result ≡ last.octets }
     {
         if last.is_over() {
             Era::Closed(Closed { last })
@@ -92,6 +94,7 @@ impl Era {
         requires no_rst { tcp.has_rst seg.now.flags.0 ≡ false }
         ensures stands { (ws : List Written) (octets : List ℕ) → length octets ≡ seg.now.len → CalledFor era ws → StandsFor result (ws ++ sent seg.now octets ∷ []) }
         ensures near { acked_in result < 2 ^ 31 }
+        ensures octets { octets_in result ≡ 0 }
     {
         if seg.flags.ack() {
             Era::settled(Warm::open(seg.ack, Some(era.iss), era.syns, false, 0, seg))
@@ -106,6 +109,7 @@ impl Era {
         requires no_rst { tcp.has_rst seg.now.flags.0 ≡ false }
         ensures stands { (ws : List Written) (octets : List ℕ) → length octets ≡ seg.now.len → OfferedFor era ws → StandsFor result (ws ++ sent seg.now octets ∷ []) }
         ensures near { acked_in result < 2 ^ 31 }
+        ensures octets { octets_in result ≡ 0 }
     {
         match seg.acknowledged(era.base, 0) {
             Some(place) => Era::settled(Warm::open(
@@ -122,8 +126,10 @@ impl Era {
 
     // An outbound segment of a Warm or Closed era.
     fn warm_goes_on(era: Warm, seg: &Seg) -> Era
+        requires { era.acked < 2 ^ 63 }
         ensures stands { (ws : List Written) (octets : List ℕ) → length octets ≡ seg.now.len → WarmFor era ws → StandsFor result (ws ++ sent seg.now octets ∷ []) }
         ensures near { acked_in result < era.acked + 2 ^ 31 }
+        ensures octets { octets_in result ≡ era.octets }
     {
         Era::settled(era.sent(seg))
     }
@@ -132,8 +138,10 @@ impl Era {
     fn goes_on(self, seg: &Seg) -> Era
         requires legal { tcp.are_legal seg.now.flags.0 ≡ true }
         requires no_rst { tcp.has_rst seg.now.flags.0 ≡ false }
+        requires acked { acked_in self < 2 ^ 63 }
         ensures stands { (ws : List Written) (octets : List ℕ) → length octets ≡ seg.now.len → StandsFor self ws → StandsFor result (ws ++ sent seg.now octets ∷ []) }
         ensures near { acked_in result < acked_in self + 2 ^ 31 }
+        ensures octets { octets_in result ≡ octets_in self }
     {
         match self {
             Era::Called(era) => Era::called_goes_on(era, seg),
@@ -146,8 +154,11 @@ impl Era {
     /// Where an outbound segment takes the era.
     pub fn outbound(self, seg: &Seg) -> Moved
         requires legal { tcp.are_legal seg.now.flags.0 ≡ true }
+        requires acked { acked_in self < 2 ^ 63 }
         ensures moves { (ws : List Written) → StandsFor self ws → MovesTo ws seg.now result }
         ensures near { MovesNear self result }
+        ensures octets { MovesSame self result }
+        ensures reset { tcp.has_rst seg.now.flags.0 ≡ is_reset result }
     {
         if seg.flags.rst() {
             return Moved::Reset;
@@ -164,6 +175,7 @@ impl Era {
         requires syn { tcp.has_syn seg.now.flags.0 ≡ true }
         ensures stands { (ws : List Written) → StandsFor self ws → StandsFor result (ws ++ came seg.now ∷ []) }
         ensures same { acked_in result ≡ acked_in self }
+        ensures octets { octets_in result ≡ octets_in self }
     {
         match self {
             Era::Called(era) => Era::Offered(era.answered(seg)),
@@ -175,13 +187,39 @@ impl Era {
 
     /// The place behind all that is acknowledged, was written inwards, or is the end; and none where no base is fixed.
     pub fn next_place(&self) -> Option<u64>
-        ensures { (ws : List Written) → StandsFor self.now ws → NextIs result ws }
+        ensures called { is_none result ≡ is_called (state_in self.now) }
+        ensures list { (ws : List Written) → StandsFor self.now ws → NextIs result ws }
     {
         match self {
             Era::Called(_) => None,
             Era::Offered(_) => Some(0),
             Era::Warm(era) => Some(era.next()),
             Era::Closed(era) => Some(era.last.next()),
+        }
+    }
+
+    /// What is acknowledged, and 0 before a place is.
+    pub fn acknowledged(&self) -> u64
+        ensures { result ≡ acked_in self.now }
+    {
+        match self {
+            Era::Called(_) => 0,
+            Era::Offered(_) => 0,
+            Era::Warm(era) => era.acked,
+            Era::Closed(era) => era.last.acked,
+        }
+    }
+
+    /// How many places have an octet.
+    pub fn octets(&self) -> u64
+        ensures value { result ≡ octets_in self.now }
+        ensures list { (ws : List Written) → StandsFor self.now ws → result ≡ octets_of ws }
+    {
+        match self {
+            Era::Called(_) => 0,
+            Era::Offered(_) => 0,
+            Era::Warm(era) => era.octets,
+            Era::Closed(era) => era.last.octets,
         }
     }
 

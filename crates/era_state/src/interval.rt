@@ -3,7 +3,7 @@ ghost use Rattle.std.specs.Prelude.{◌≡◌};
 ghost use Rattle.era_state.specs.Keeping.{top_after, end_after};
 
 /// The octets of a segment that go out, from the place `lo` to below `hi`, and none where these are equal; whether its FIN goes out; and
-/// whether the rules T_OLD (`below`), T_WINDOW, T_TURN and T_END hold.
+/// whether the rules T_OLD (`below`), T_WINDOW and T_END hold.
 #[derive(Clone, Copy, Debug, PartialEq, Eq)]
 pub struct Interval {
     pub lo: u64,
@@ -11,7 +11,6 @@ pub struct Interval {
     pub fin: bool,
     pub below: bool,
     pub window: bool,
-    pub turn: bool,
     pub end: bool,
 }
 

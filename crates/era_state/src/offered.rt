@@ -1,4 +1,4 @@
-//! An era of which the outside called.
+//! An era to which the outside's SYN was written.
 ghost use Rattle.std.specs.Prelude.{◌≡◌, ℕ, List, [], ◌∷◌, ◌++◌, length, None, is_some, true, false};
 ghost use Rattle.wire_base.specs.Segments.{Written};
 ghost use Rattle.wire_base.specs.Tcp as tcp;
@@ -8,7 +8,7 @@ ghost use Rattle.era_state.specs.Read.{sent, came};
 use crate::segment::{Seg, number_after};
 use crate::syns::Syns;
 
-/// The outside called, and no place of its stream is acknowledged: the number of the stream's first octet, the number of the first outbound SYN
+/// The outside's SYN was written, and no place of its stream is acknowledged: the number of the stream's first octet, the number of the first outbound SYN
 /// and the number behind the last outbound segment where there are any, the SYNs' scales, and whether an outbound FIN was written.
 #[derive(Clone, Copy)]
 pub struct Offered {

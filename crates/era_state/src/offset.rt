@@ -1,7 +1,7 @@
 //! Sequence numbers as offsets of a stream.
 ghost use Rattle.std.specs.Prelude.{◌≡◌, ℕ, ◌+◌, ◌^◌, ◌<◌, ◌≤◌, pos, int_lt, ◌+ℤ◌, ◌≤ℤ◌, Some};
 ghost use Rattle.std.specs.Ordering.{int_eq};
-ghost use Rattle.era_state.specs.Offsets.{off, seen_from, natural, nat_of};
+ghost use Rattle.era_state.specs.Offsets.{off, natural, nat_of};
 
 /// Half a turn of sequence numbers.
 pub(crate) const HALF: u64 = 2147483648;
@@ -15,39 +15,31 @@ pub(crate) struct Offset {
     raised: u64,
 }
 
-// The place from which numbers are read, where so much is acknowledged: the begin, since a stream has at most half a turn.
-fn seen_from(_acked: u64) -> u64
-    ensures { result ≡ seen_from _acked }
-{
-    0
-}
-
 impl Offset {
     ghost use Rattle.era_state.specs.Raised.{offset_in};
 
     // The offset of a number, where so much is acknowledged.
     pub(crate) fn of(base: u32, acked: u64, number: u32) -> Offset
-        requires { acked < 2 ^ 63 }
-        ensures value { offset_in result ≡ off base (seen_from acked) number }
-        ensures near { result.raised < seen_from acked + 2 ^ 32 }
+        requires { acked < 2 ^ 63 + 2 ^ 32 }
+        ensures value { offset_in result ≡ off base acked number }
+        ensures near { result.raised < acked + 2 ^ 32 }
     {
-        let at = seen_from(acked);
-        let from = (u64::from(base) + at) % TURN;
+        let from = (u64::from(base) + acked) % TURN;
         let past = (u64::from(number) + TURN - from) % TURN;
         if past < HALF {
             Offset {
-                raised: at + past + HALF,
+                raised: acked + past + HALF,
             }
         } else {
             Offset {
-                raised: at + past - HALF,
+                raised: acked + past - HALF,
             }
         }
     }
 
     // The offset so many octets further.
     pub(crate) fn after(self, octets: u32) -> Offset
-        requires { self.raised < 2 ^ 63 + 2 ^ 32 }
+        requires { self.raised < 2 ^ 63 + 2 ^ 33 }
         ensures value { offset_in result ≡ offset_in self +ℤ pos octets }
         ensures near { result.raised ≡ self.raised + octets }
     {
@@ -77,7 +69,7 @@ impl Offset {
 
     // How many octets it is to a place that does not lie below.
     pub(crate) fn octets_to(self, place: u64) -> u64
-        requires near { place < 2 ^ 63 }
+        requires near { place < 2 ^ 63 + 2 ^ 33 }
         requires order { offset_in self ≤ℤ pos place }
         ensures { offset_in self +ℤ pos result ≡ pos place }
     {
@@ -86,7 +78,7 @@ impl Offset {
 
     // It lies below the place.
     pub(crate) fn is_below(self, place: u64) -> bool
-        requires { place < 2 ^ 63 }
+        requires { place < 2 ^ 63 + 2 ^ 33 }
         ensures { result ≡ int_lt (offset_in self) (pos place) }
     {
         self.raised < place + HALF
@@ -94,7 +86,7 @@ impl Offset {
 
     // It lies above the place.
     pub(crate) fn is_above(self, place: u64) -> bool
-        requires { place < 2 ^ 63 }
+        requires { place < 2 ^ 63 + 2 ^ 33 }
         ensures { result ≡ int_lt (pos place) (offset_in self) }
     {
         place + HALF < self.raised
@@ -102,7 +94,7 @@ impl Offset {
 
     // It is the place.
     pub(crate) fn is_at(self, place: u64) -> bool
-        requires { place < 2 ^ 63 }
+        requires { place < 2 ^ 63 + 2 ^ 33 }
         ensures { result ≡ int_eq (offset_in self) (pos place) }
     {
         self.raised == place + HALF

@@ -39,9 +39,9 @@ impl Seg {
 
     // The place of the stream that it acknowledges, sent outwards.
     pub(crate) fn acknowledged(&self, base: u32, acked: u64) -> Option<u64>
-        requires { acked < 2 ^ 31 }
+        requires { acked < 2 ^ 63 }
         ensures value { result ≡ ack_of base acked (sent self.now []) }
-        ensures near { (place : ℕ) → result ≡ Some place → place < 2 ^ 31 }
+        ensures near { (place : ℕ) → result ≡ Some place → place < acked + 2 ^ 31 }
     {
         if self.flags.ack() {
             Offset::of(base, acked, self.ack).place()
@@ -52,7 +52,7 @@ impl Seg {
 
     // The place behind what its window allows, where it acknowledges this place.
     pub(crate) fn allowed(&self, place: u64, shift: u8) -> u64
-        requires place { place < 2 ^ 63 }
+        requires place { place < 2 ^ 63 + 2 ^ 31 }
         requires shift { shift ≤ 14 }
         ensures value { result ≡ edge_place (Some place) shift (sent self.now []) }
         ensures above { place ≤ result }

@@ -32,19 +32,30 @@ fn segment(flags: u8, seq: u32, ack: u32, len: u32) -> Seg
     }
 }
 
+// Where an outbound segment takes an era whose stream is not too long.
+fn moved(era: Era, seg: &Seg) -> Result<Moved, Fail>
+    requires { tcp.are_legal seg.now.flags.0 ≡ true }
+{
+    if era.acknowledged() < 1 << 63 {
+        Ok(era.outbound(seg))
+    } else {
+        Err("too long")?
+    }
+}
+
 // An outbound segment goes on with the era.
 fn goes_out(era: Era, seg: &Seg) -> Result<Era, Fail>
     requires { tcp.are_legal seg.now.flags.0 ≡ true }
 {
-    match era.outbound(seg) {
+    match moved(era, seg)? {
         Moved::Next(era) => Ok(era),
         Moved::Reopen => Err("reopened")?,
         Moved::Reset => Err("reset")?,
     }
 }
 
-// An inbound segment is forwarded: what of it goes out, the number of its frame, and the era after it.
-fn comes_in(era: Era, seg: &Seg) -> Result<(Interval, u32, Era), Fail>
+// An inbound segment is forwarded, so many of whose places had an octet before: what of it goes out, the number of its frame, and the era after it.
+fn comes_again(era: Era, seg: &Seg, old: u32) -> Result<(Interval, u32, Era), Fail>
     requires legal { tcp.are_legal seg.now.flags.0 ≡ true }
     requires no_syn { tcp.has_syn seg.now.flags.0 ≡ false }
     requires no_rst { tcp.has_rst seg.now.flags.0 ≡ false }
@@ -52,7 +63,20 @@ fn comes_in(era: Era, seg: &Seg) -> Result<(Interval, u32, Era), Fail>
     let warm = warm_of(era)?;
     let kept = warm.interval(seg);
     let number = warm.frame_sequence(seg, &kept);
-    Ok((kept, number, Era::settled(warm.forwarded(&kept))))
+    let fresh = ((kept.hi - kept.lo) as u32).saturating_sub(old);
+    if warm.octets >= 1 << 63 {
+        return Err("too many")?;
+    }
+    Ok((kept, number, Era::settled(warm.forwarded(&kept, fresh))))
+}
+
+// The same of one none of whose places had an octet.
+fn comes_in(era: Era, seg: &Seg) -> Result<(Interval, u32, Era), Fail>
+    requires legal { tcp.are_legal seg.now.flags.0 ≡ true }
+    requires no_syn { tcp.has_syn seg.now.flags.0 ≡ false }
+    requires no_rst { tcp.has_rst seg.now.flags.0 ≡ false }
+{
+    comes_again(era, seg, 0)
 }
 
 fn warm_of(era: Era) -> Result<Warm, Fail> {
@@ -102,6 +126,7 @@ fn closes_and_reopens(rt: HostRuntime) -> Result<(), Fail> {
     let (last, _, era) = comes_in(era, &segment(FIN_ACK, 1018, 5021, 0))?;
     assert!(rt; last.fin && !last.end && last.hi == 18);
     assert!(rt; era.next_place() == Some(19));
+    assert!(rt; era.octets() == 18);
     assert!(rt; !era.is_reopened_by(&segment(SYN, 70000, 0, 0)));
     let era = goes_out(era, &segment(ACK, 5021, 1019, 0))?;
     assert!(rt; era.is_reopened_by(&segment(SYN, 70000, 0, 0)));
@@ -123,7 +148,7 @@ fn cuts_to_the_window(rt: HostRuntime) -> Result<(), Fail> {
     let warm = warm_of(era)?;
     let kept = warm.interval(&long);
     assert!(rt; kept.lo == 2 && kept.hi == 7, "cdefg");
-    assert!(rt; kept.below && kept.window && !kept.turn && !kept.end && !kept.fin);
+    assert!(rt; kept.below && kept.window && !kept.end && !kept.fin);
     assert!(rt; warm.frame_sequence(&long, &kept) == 1002);
     assert!(rt; warm.octets_before(&long, &kept) == 2);
     Ok(())
@@ -145,7 +170,7 @@ fn pins_one_end(rt: HostRuntime) -> Result<(), Fail> {
     Ok(())
 }
 
-// Numbers pass 2^32, and octets end at half a turn.
+// Numbers pass 2^32, and octets pass half a turn.
 #[test]
 fn wraps(rt: HostRuntime) -> Result<(), Fail> {
     let era = Era::Offered(Offered::offer(&segment(SYN, 4294967294, 0, 0)));
@@ -155,9 +180,32 @@ fn wraps(rt: HostRuntime) -> Result<(), Fail> {
     let era = goes_out(era, &segment(ACK, 5001, 3, 0))?;
     assert!(rt; warm_of(era)?.acked == 4);
     let era = goes_out(era, &segment(ACK, 5001, 2147483646, 0))?;
-    let (last, _, _) = comes_in(era, &segment(PSH_ACK, 2147483646, 5001, 2))?;
-    assert!(rt; last.lo == 2147483647 && last.hi == 2147483648);
-    assert!(rt; last.turn && !last.below && !last.window);
+    let (last, number, _) = comes_in(era, &segment(PSH_ACK, 2147483646, 5001, 2))?;
+    assert!(rt; last.lo == 2147483647 && last.hi == 2147483649 && number == 2147483646);
+    assert!(rt; !last.below && !last.window);
+    Ok(())
+}
+
+// A stream passes a whole turn: numbers are read from what is acknowledged, where octets and the window go on.
+#[test]
+fn passes_a_turn(rt: HostRuntime) -> Result<(), Fail> {
+    let era = goes_out(opened(8192)?, &segment(ACK, 5001, 2147484647, 0))?;
+    assert!(rt; warm_of(era)?.acked == 2147483647);
+    let era = goes_out(era, &segment(ACK, 5001, 998, 0))?;
+    assert!(rt; warm_of(era)?.acked == 4294967294);
+    let (first, number, era) = comes_in(era, &segment(PSH_ACK, 998, 5001, 4))?;
+    assert!(rt; first.lo == 4294967294 && first.hi == 4294967298 && number == 998);
+    assert!(rt; !first.below && !first.window && !first.end);
+    let era = goes_out(era, &segment(ACK, 5001, 1001, 0))?;
+    assert!(rt; warm_of(era)?.acked == 4294967297);
+    assert!(rt; era.octets() == 4, "also those that are acknowledged");
+    let (again, number, era) = comes_again(era, &segment(PSH_ACK, 1000, 5001, 4), 1)?;
+    assert!(rt;
+        again.lo == 4294967297 && again.hi == 4294967300 && number == 1001,
+        "bcd"
+    );
+    assert!(rt; again.below && !again.window && !again.end);
+    assert!(rt; era.octets() == 6, "b stands where z did");
     Ok(())
 }
 
@@ -188,7 +236,7 @@ fn refuses_strays(rt: HostRuntime) -> Result<(), Fail> {
     let (_, _, era) = comes_in(era, &segment(PSH_ACK, 1000, 5001, 4))?;
     let era = goes_out(era, &segment(ACK, 5001, 1004, 0))?;
     assert!(rt; era.is_stray_reset(&segment(RST, 1003, 0, 0)));
-    assert!(rt; matches!(era.outbound(&segment(RST, 5001, 0, 0)), Moved::Reset));
-    assert!(rt; matches!(era.outbound(&segment(SYN, 9000, 0, 0)), Moved::Reopen));
+    assert!(rt; matches!(moved(era, &segment(RST, 5001, 0, 0))?, Moved::Reset));
+    assert!(rt; matches!(moved(era, &segment(SYN, 9000, 0, 0))?, Moved::Reopen));
     Ok(())
 }

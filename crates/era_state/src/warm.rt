@@ -7,14 +7,14 @@ ghost use Rattle.era_state.specs.Marks.{edge_place};
 ghost use Rattle.era_state.specs.Read.{sent, received, came};
 
 use crate::interval::Interval;
-use crate::offset::{HALF, Offset, TURN};
+use crate::offset::{Offset, TURN};
 use crate::segment::Seg;
 use crate::syns::Syns;
 
 /// A place of the stream is acknowledged: the number of the stream's first octet, the number of the first outbound SYN where there is one, the
 /// number behind the last outbound segment, the SYNs' scales; the greatest acknowledged place, the greatest place behind what a window allows,
-/// the place behind all octets written inwards, the place of the inbound FIN where one was written, and whether an outbound one was.
-/// Places are octets from the stream's begin.
+/// the place behind all octets written inwards, the place of the inbound FIN where one was written, whether an outbound one was, and how many
+/// places have an octet. Places count octets from the stream's begin.
 #[derive(Clone, Copy)]
 pub struct Warm {
     pub base: u32,
@@ -26,13 +26,12 @@ pub struct Warm {
     pub top: u64,
     pub end: Option<u64>,
     pub out_fin: bool,
+    pub octets: u64,
     ghost called: { is_some iss ≡ syns.out_seen },
-    ghost in_turn: { acked < 2 ^ 31 },
+    ghost edge_small: { edge < 2 ^ 63 + 2 ^ 32 },
     ghost window_open: { acked ≤ edge },
     ghost window_small: { edge ≤ acked + 65535 * 2 ^ 14 },
-    ghost top_in_turn: { top ≤ 2 ^ 31 },
     ghost top_in_window: { top ≤ edge + 1 },
-    ghost end_in_turn: { (place : ℕ) → end ≡ Some place → place < 2 ^ 31 },
     ghost end_above: { (place : ℕ) → end ≡ Some place → top ≤ place },
     ghost end_in_window: { (place : ℕ) → end ≡ Some place → place ≤ edge },
 }
@@ -50,7 +49,7 @@ fn greater(acked: u64, place: Option<u64>) -> u64
 // The greater edge, with a segment that may acknowledge a place.
 fn greater_edge(acked: u64, edge: u64, place: Option<u64>, shift: u8, seg: &Seg) -> u64
     requires shift { shift ≤ 14 }
-    requires place { (n : ℕ) → place ≡ Some n → n < 2 ^ 31 }
+    requires place { (n : ℕ) → place ≡ Some n → n < 2 ^ 63 + 2 ^ 31 }
     requires above { acked ≤ edge }
     requires near { edge ≤ acked + 65535 * 2 ^ 14 }
     ensures value { (octets : List ℕ) → result ≡ max edge (edge_place place shift (sent seg.now octets)) }
@@ -65,8 +64,8 @@ fn greater_edge(acked: u64, edge: u64, place: Option<u64>, shift: u8, seg: &Seg)
 
 impl Warm {
     ghost use Rattle.std.specs.Prelude.{None, ◌||◌, ◌-◌, pos, ◌+ℤ◌};
-    ghost use Rattle.era_state.specs.Offsets.{off, seen_from};
-    ghost use Rattle.era_state.specs.Quantities.{behind_end};
+    ghost use Rattle.era_state.specs.Offsets.{off};
+    ghost use Rattle.era_state.specs.Quantities.{base_at, behind_end, fresh_places};
     ghost use Rattle.era_state.specs.Keeping.{reach, is_kept_fin, ends_below, frame_sequence_of};
     ghost use Rattle.era_state.specs.Raised.{offset_in};
     ghost use Rattle.era_state.specs.Standing.{WarmFor, is_over_in, bounds_in};
@@ -86,6 +85,8 @@ impl Warm {
         requires called { is_some iss ≡ syns.out_seen }
         requires near { place < 2 ^ 31 }
         ensures stands { (octets : List ℕ) → length octets ≡ seg.now.len → WarmOpens base iss syns out_fin place (sent seg.now octets) result }
+        ensures acked { result.acked ≡ place }
+        ensures octets { result.octets ≡ 0 }
     {
         Warm {
             base,
@@ -97,6 +98,7 @@ impl Warm {
             top: 0,
             end: None,
             out_fin: out_fin | seg.flags.fin(),
+            octets: 0,
         }
     }
 
@@ -112,8 +114,10 @@ impl Warm {
 
     // The era after an outbound segment.
     pub(crate) fn sent(mut self, seg: &Seg) -> Warm
+        requires { self.acked < 2 ^ 63 }
         ensures stands { (octets : List ℕ) → length octets ≡ seg.now.len → WarmAfter (sent seg.now octets) self result }
         ensures near { result.acked < self.acked + 2 ^ 31 }
+        ensures octets { result.octets ≡ self.octets }
     {
         let place = seg.acknowledged(self.base, self.acked);
         let shift = self.syns.shift();
@@ -159,7 +163,7 @@ impl Warm {
     fn reach(&self) -> u64
         ensures { result ≡ reach (bounds_in self.now) }
     {
-        let most = (self.edge + 1).min(HALF);
+        let most = self.edge + 1;
         match self.end {
             None => most,
             Some(end) => most.min(end),
@@ -171,11 +175,7 @@ impl Warm {
         ensures { result ≡ is_kept_fin (whole self.now.end) (bounds_in self.now) (offset_in place) }
     {
         match self.end {
-            None => {
-                !place.is_below(self.top.max(self.acked))
-                    && !place.is_above(self.edge)
-                    && place.is_below(HALF)
-            }
+            None => { !place.is_below(self.top.max(self.acked)) && !place.is_above(self.edge) }
             Some(end) => place.is_at(end),
         }
     }
@@ -195,10 +195,12 @@ impl Warm {
         requires legal { tcp.are_legal seg.now.flags.0 ≡ true }
         requires no_syn { tcp.has_syn seg.now.flags.0 ≡ false }
         requires no_rst { tcp.has_rst seg.now.flags.0 ≡ false }
-        ensures value { Keeps (bounds_in self.now) (off self.now.base (seen_from self.now.acked) seg.now.seq) seg.now.len (tcp.has_fin seg.now.flags.0) result }
+        ensures value { Keeps (bounds_in self.now) (off self.now.base self.now.acked seg.now.seq) seg.now.len (tcp.has_fin seg.now.flags.0) result }
         ensures list { (ws : List Written) (octets : List ℕ) → length octets ≡ seg.now.len → WarmFor self.now ws → KeptOf ws (received seg.now octets) result }
         ensures order { result.lo ≤ result.hi }
         ensures short { result.hi ≤ result.lo + seg.now.len }
+        ensures above { self.now.acked ≤ result.lo }
+        ensures near { result.lo < result.hi → result.hi ≤ self.now.acked + 2 ^ 30 + 1 }
     {
         let from = Offset::of(self.base, self.acked, seg.seq);
         let to = from.after(seg.len);
@@ -207,7 +209,6 @@ impl Warm {
         let kept = self.is_kept_fin(to);
         let below = from.is_below(self.acked);
         let past_window = to.is_above(self.edge + 1);
-        let past_turn = to.is_above(HALF);
         let past_end = self.ends_below(to);
         let lo = from.or_zero().max(self.acked);
         let hi = lo.max(to.or_zero().min(self.reach()));
@@ -217,7 +218,6 @@ impl Warm {
             fin: fin & kept,
             below: some & below,
             window: some & past_window,
-            turn: some & past_turn,
             end: (some & past_end) | (fin & !kept),
         }
     }
@@ -225,19 +225,19 @@ impl Warm {
     /// How many octets of an inbound segment stand before the first that goes out.
     pub fn octets_before(&self, seg: &Seg, kept: &Interval) -> u32
         requires legal { tcp.are_legal seg.now.flags.0 ≡ true }
-        requires kept { Keeps (bounds_in self.now) (off self.now.base (seen_from self.now.acked) seg.now.seq) seg.now.len (tcp.has_fin seg.now.flags.0) kept.now }
+        requires kept { Keeps (bounds_in self.now) (off self.now.base self.now.acked seg.now.seq) seg.now.len (tcp.has_fin seg.now.flags.0) kept.now }
         requires some { kept.now.lo < kept.now.hi }
-        ensures place { off self.now.base (seen_from self.now.acked) seg.now.seq +ℤ pos result ≡ pos kept.now.lo }
+        ensures place { off self.now.base self.now.acked seg.now.seq +ℤ pos result ≡ pos kept.now.lo }
         ensures inside { result + (kept.now.hi - kept.now.lo) ≤ seg.now.len }
     {
         Offset::of(self.base, self.acked, seg.seq).octets_to(kept.lo) as u32
     }
 
-    /// The sequence number of the frame of an inbound segment: that of its first octet; that of its FIN, where this goes out alone; else the
+    /// The sequence number of the frame of an inbound segment: that of its first octet; that of its FIN, where only this goes out; else the
     /// segment's own.
     pub fn frame_sequence(&self, seg: &Seg, kept: &Interval) -> u32
         requires legal { tcp.are_legal seg.now.flags.0 ≡ true }
-        requires kept { Keeps (bounds_in self.now) (off self.now.base (seen_from self.now.acked) seg.now.seq) seg.now.len (tcp.has_fin seg.now.flags.0) kept.now }
+        requires kept { Keeps (bounds_in self.now) (off self.now.base self.now.acked seg.now.seq) seg.now.len (tcp.has_fin seg.now.flags.0) kept.now }
         ensures { (ws : List Written) (octets : List ℕ) → length octets ≡ seg.now.len → WarmFor self.now ws → result ≡ frame_sequence_of ws (received seg.now octets) }
     {
         let place = if kept.lo < kept.hi {
@@ -252,14 +252,17 @@ impl Warm {
         ((u64::from(self.base) + place) % TURN) as u32
     }
 
-    /// The era after the frame with these octets and this FIN.
-    pub fn forwarded(mut self, kept: &Interval) -> Warm
-        requires { IsGiven self kept.now }
-        ensures value { WarmWith kept.now self result }
-        ensures list { (ws : List Written) (w frame : Written) → WarmFor self ws → KeptOf ws w kept.now → IsFrame ws w kept.now frame → WarmFor result (ws ++ frame ∷ []) }
+    /// The era after the frame with these octets and this FIN, so many of the octets being the first at their places.
+    pub fn forwarded(mut self, kept: &Interval, fresh: u32) -> Warm
+        requires given { IsGiven self kept.now }
+        requires fresh { kept.now.lo + fresh ≤ kept.now.hi }
+        requires few { self.octets + fresh < 2 ^ 64 }
+        ensures value { WarmWith kept.now fresh self result }
+        ensures list { (ws : List Written) (w frame : Written) → WarmFor self ws → KeptOf ws w kept.now → IsFrame ws w kept.now frame → fresh ≡ fresh_places (base_at ws) ws kept.now.lo kept.now.hi → WarmFor result (ws ++ frame ∷ []) }
     {
         self.top = kept.top_after(self.top);
         self.end = kept.end_after(self.end);
+        self.octets += u64::from(fresh);
         self
     }
 }

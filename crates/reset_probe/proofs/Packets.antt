@@ -1,5 +1,5 @@
 -- The packet of a probe, read again.
-use Rattle.std.proofs.Common.{◌≡◌, ℕ, ◌+◌, ◌*◌, ◌/◌, ◌%◌, ◌^◌, ◌<◌, ◌==◌, inl, inr, Bool, true, false, if◌then◌else◌, refl, ap, ◌∙◌, arith}
+use Rattle.std.proofs.Common.{◌≡◌, ℕ, ◌^◌, ◌<◌, inl, inr, refl, ap, ◌∙◌, arith}
 use Rattle.wire_base.specs.Sums.{pseudo_sum, sum_is_right}
 use Rattle.wire_base.specs.Plain.{IsPlainTcp, pseudo_of}
 use Rattle.ipv4_codec.specs.declared.header.Ipv4.{Ipv4}

@@ -20,7 +20,7 @@ abbrev pub probe_with : (number : ℕ) → (out : Option ℕ) → Written → Op
 probe_with number None w = None
 probe_with number (Some out) w = Some (probe_before number out w)
 
--- The era probe asks a host whether it still holds the connection: one that does answers a number which it has behind it with an ACK, one that
--- does not answers with a RST (RFC 9293 sections 3.10.7.4 and 3.10.7.1).
+-- The era probe asks a host whether it still holds the connection: one that does answers a number below the one that it awaits by an ACK, one that
+-- does not answers by a RST (RFC 9293 sections 3.10.7.4 and 3.10.7.1).
 abbrev pub era_probe : List Written → Written → Option Probe
 era_probe ws w = probe_with (awaited_number ws w) (out ws) w

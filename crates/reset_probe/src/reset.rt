@@ -52,7 +52,7 @@ pub fn probe_of(era: &Era, seg: &Seg) -> Option<Probe>
 fn warm_probe(era: &Warm, seg: &Seg) -> Probe
     ensures { result ≡ probe_before (era.now.base + era.now.acked) era.now.out (came seg.now) }
 {
-    let awaited = era.base.wrapping_add(era.acked as u32);
+    let awaited = era.base.wrapping_add((era.acked % (1 << 32)) as u32);
     before(awaited, era.out, seg)
 }
 

@@ -36,9 +36,11 @@ enum History {
     Acked,
     /// As open, with both FINs, and ACK of 1001 outwards.
     Closed,
+    /// As open, and ACKs of 2147484647, 998 and 1001 outwards: 2^32 + 1 octets are acknowledged.
+    Turned,
 }
 
-use History::{Acked, Answered, Closed, Open, Sent};
+use History::{Acked, Answered, Closed, Open, Sent, Turned};
 
 /// A reset of an era, without ACK or with ACK of a number, and what becomes of it.
 struct Row {
@@ -70,6 +72,9 @@ const RESETS: &[Row] = &[
     Row { history: Acked, seq: 1005, ack: None, says: "refuse" },
     Row { history: Closed, seq: 1000, ack: None, says: "refuse" },
     Row { history: Closed, seq: 1001, ack: None, says: "pass, probe 1000 5002 8192" },
+    Row { history: Turned, seq: 1000, ack: None, says: "refuse" },
+    Row { history: Turned, seq: 1001, ack: None, says: "pass, probe 1000 5001 8192" },
+    Row { history: Turned, seq: 1002, ack: None, says: "refuse" },
 ];
 
 // A segment with a window of 8192 and no window scale.
@@ -100,6 +105,9 @@ fn reset_of(row: &Row) -> Seg
 fn goes_out(era: Era, seg: &Seg) -> Result<Era, Fail>
     requires { tcp.are_legal seg.now.flags.0 ≡ true }
 {
+    if era.acknowledged() >= 1 << 63 {
+        return Err("too long")?;
+    }
     match era.outbound(seg) {
         Moved::Next(era) => Ok(era),
         Moved::Reopen => Err("reopened")?,
@@ -122,7 +130,11 @@ fn comes_in(era: Era, seg: &Seg) -> Result<Era, Fail>
 {
     let warm = warm_of(era)?;
     let kept = warm.interval(seg);
-    Ok(Era::settled(warm.forwarded(&kept)))
+    let fresh = (kept.hi - kept.lo) as u32;
+    if warm.octets >= 1 << 63 {
+        return Err("too many")?;
+    }
+    Ok(Era::settled(warm.forwarded(&kept, fresh)))
 }
 
 fn called() -> Era {
@@ -147,6 +159,12 @@ fn closed() -> Result<Era, Fail> {
     goes_out(era, &segment(ACK, 5002, 1001, 0))
 }
 
+fn turned() -> Result<Era, Fail> {
+    let era = goes_out(opened()?, &segment(ACK, 5001, 2147484647, 0))?;
+    let era = goes_out(era, &segment(ACK, 5001, 998, 0))?;
+    goes_out(era, &segment(ACK, 5001, 1001, 0))
+}
+
 fn era_of(history: History) -> Result<Era, Fail> {
     match history {
         History::Called => Ok(called()),
@@ -156,6 +174,7 @@ fn era_of(history: History) -> Result<Era, Fail> {
         History::Sent => sent(),
         History::Acked => goes_out(sent()?, &segment(ACK, 5001, 1004, 0)),
         History::Closed => closed(),
+        History::Turned => turned(),
     }
 }
 

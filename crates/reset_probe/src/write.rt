@@ -20,10 +20,9 @@ const ACK: Flags = Flags(16);
 /// Writes the packet of a probe between the addresses of `head` and these ports. Answers its length in octets.
 pub fn write_probe(head: &Ipv4, sport: u16, dport: u16, probe: &Probe, buf: &mut [u8]) -> usize
     requires room { 40 ≤ length buf.old }
-    requires protocol { head.now.protocol ≡ 6 }
     ensures exact { buf.new ≡ probe_octets head.now sport dport probe.now ++ drop 40 buf.old }
     ensures size { result ≡ 40 }
-    ensures plain { (hops : ℕ) → hops < head.now.ttl → Plain hops (probe_octets head.now sport dport probe.now) }
+    ensures plain { (hops : ℕ) → head.now.protocol ≡ 6 → hops < head.now.ttl → Plain hops (probe_octets head.now sport dport probe.now) }
 {
     let parts = probe_parts(head, sport, dport, probe);
     let (header, segment) = buf.split_at_mut(HEADER);

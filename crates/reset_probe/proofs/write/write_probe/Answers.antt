@@ -18,4 +18,4 @@ returns-clause-exact c =
     joined 20 20 header segment front back c.args.buf.now c.write_plain-size.new.buf c.write_segment.new.buf c.split_at_mut-header.ensures.front_len c.split_at_mut-header.ensures.back c.write_plain-size.ensures.exact written
 
 pub returns-clause-plain : goal.returns-clause-plain
-returns-clause-plain c = probes_are_plain c.args.head.now c.args.sport c.args.dport c.args.probe.now (search rules) (search rules) c.requires.protocol
+returns-clause-plain c hops protocol = probes_are_plain c.args.head.now c.args.sport c.args.dport c.args.probe.now (search rules) (search rules) protocol hops

@@ -1,6 +1,7 @@
-use Rattle.std.proofs.Common.{refl, sym, subst, ℕ, Option, ◌≡◌}
+use Rattle.std.proofs.Common.{refl, sym, ap, subst, ℕ, ◌+◌, Option, ◌≡◌}
 use Rattle.era_state.proofs.After.{Holds, holds_after}
 use Rattle.era_state.proofs.Forwards.{frame_in, warm_forwarded}
+use Rattle.era_state.proofs.Additions.{frame_adds}
 use Rattle.era_state.proofs.warm.Warm.forwarded.Goals as goal
 
 holds : (top top_is edge : ℕ) (end end_is : Option ℕ) → top_is ≡ top → end_is ≡ end → Holds top edge end → Holds top_is edge end_is
@@ -8,20 +9,19 @@ holds top top_is edge end end_is t e h = subst (λ (p : ℕ × Option ℕ). Hold
 
 pub invariant_of-self-2 : goal.invariant_of-self-2
 invariant_of-self-2 c =
-    let h = holds _ _ c.args.self.edge _ _ c.top_after.ensures c.end_after-self.ensures (holds_after c.args.self c.args.kept.now c.requires) in
+    let h = holds _ _ c.args.self.edge _ _ c.top_after.ensures c.end_after-self.ensures (holds_after c.args.self c.args.kept.now c.requires.given) in
     record {
       called = c.args.self.called;
-      in_turn = c.args.self.in_turn;
+      edge_small = c.args.self.edge_small;
       window_open = c.args.self.window_open;
       window_small = c.args.self.window_small;
-      top_in_turn = h.top_in_turn;
       top_in_window = h.top_in_window;
-      end_in_turn = h.end_in_turn;
       end_above = h.end_above;
       end_in_window = h.end_in_window;
     }
 
 pub returns-clause-list : goal.returns-clause-list
-returns-clause-list c ws w frame h k f =
-    warm_forwarded c.args.self c.args.kept.now _ ws frame h (frame_in c.args.self ws w c.args.kept.now frame h k f)
-    record { base_is = refl; iss_is = refl; out_is = refl; syns_are = refl; acked_is = refl; edge_is = refl; top_is = c.top_after.ensures; end_is = c.end_after-self.ensures; out_fin_is = refl }
+returns-clause-list c ws w frame h k f fresh =
+    let inside = frame_in c.args.self ws w c.args.kept.now frame h k f in
+    warm_forwarded c.args.self c.args.kept.now c.args.fresh _ ws frame h inside (frame_adds c.args.self c.args.kept.now c.args.fresh ws frame h inside fresh)
+    record { base_is = refl; iss_is = refl; out_is = refl; syns_are = refl; acked_is = refl; edge_is = refl; top_is = c.top_after.ensures; end_is = c.end_after-self.ensures; out_fin_is = refl; octets_are = ap (λ n. c.args.self.octets + n) c.from.ensures }

@@ -15,5 +15,8 @@ returns c = record {
     top_is = refl;
     end_is = refl;
     out_fin_is = ap (λ b. c.args.out_fin || b) c.fin.ensures;
+    octets_are = refl;
   };
+  acked = refl;
+  octets = refl;
 }

@@ -1,4 +1,4 @@
-use Rattle.std.proofs.Common.{refl, ◌∙◌, ap, ◌||◌, ◌<◌, ◌^◌, ◌≤◌, arith, [], lit<}
+use Rattle.std.proofs.Common.{refl, ◌∙◌, ap, ◌||◌, ◌<◌, ◌^◌, ◌≤◌, arith, [], ◌+◌}
 use Rattle.std.specs.Prelude.{max}
 use Rattle.era_state.specs.Offsets.{number_in}
 use Rattle.era_state.specs.Marks.{edge_place}
@@ -17,21 +17,20 @@ returns-clause-stands c octets long = record {
   top_is = refl;
   end_is = refl;
   out_fin_is = ap (λ b. c.args.self.out_fin || b) c.fin.ensures;
+  octets_are = refl;
 }
 
 pub invariant_of-self : goal.invariant_of-self
 invariant_of-self c =
     let place = c.greater.ensures in
-    let small : number_in c.acknowledged-place.result < 2 ^ 31 = number_small c.acknowledged-place.result (2 ^ 31) (lit< tt) c.acknowledged-place.ensures.near in
+    let small : number_in c.acknowledged-place.result < c.args.self.acked + 2 ^ 31 = number_small c.acknowledged-place.result (c.args.self.acked + 2 ^ 31) (omega arith) c.acknowledged-place.ensures.near in
     let more : c.args.self.edge ≤ c.greater_edge.result = let v = c.greater_edge.ensures.value [] in omega (arith, v) in
     record {
       called = c.args.self.called;
-      in_turn = omega (arith, small, place, c.args.self.in_turn);
+      edge_small = omega (arith, small, place, c.greater_edge.ensures.near, c.requires);
       window_open = omega (arith, place, c.greater_edge.ensures.above);
       window_small = omega (arith, place, c.greater_edge.ensures.near);
-      top_in_turn = c.args.self.top_in_turn;
       top_in_window = omega (arith, more, c.args.self.top_in_window);
-      end_in_turn = c.args.self.end_in_turn;
       end_above = c.args.self.end_above;
       end_in_window = λ p e. let h = c.args.self.end_in_window p e in omega (arith, h, more);
     }

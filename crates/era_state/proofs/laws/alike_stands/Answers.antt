@@ -1,0 +1,5 @@
+use Rattle.era_state.proofs.Alike.{alike_stands}
+use Rattle.era_state.proofs.laws.alike_stands.Goals as goal
+
+pub returns : goal.returns
+returns c = alike_stands

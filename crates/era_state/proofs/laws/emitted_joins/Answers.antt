@@ -1,0 +1,5 @@
+use Rattle.era_state.proofs.Emitting.{emitted_joins}
+use Rattle.era_state.proofs.laws.emitted_joins.Goals as goal
+
+pub returns : goal.returns
+returns c = emitted_joins

@@ -1,0 +1,5 @@
+use Rattle.era_state.proofs.Remaining.{acked_same}
+use Rattle.era_state.proofs.laws.inwards_acknowledge_nothing.Goals as goal
+
+pub returns : goal.returns
+returns c = acked_same

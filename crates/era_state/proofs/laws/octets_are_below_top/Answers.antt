@@ -1,0 +1,5 @@
+use Rattle.era_state.proofs.Counts.{octets_are_below_top}
+use Rattle.era_state.proofs.laws.octets_are_below_top.Goals as goal
+
+pub returns : goal.returns
+returns c = octets_are_below_top

@@ -1,0 +1,5 @@
+use Rattle.era_state.proofs.Emitting.{unbased_has_no_octet}
+use Rattle.era_state.proofs.laws.unbased_has_no_octet.Goals as goal
+
+pub returns : goal.returns
+returns c = unbased_has_no_octet
