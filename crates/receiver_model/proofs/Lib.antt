@@ -1,4 +1,5 @@
 pub mod Sound
+pub mod Near
 pub mod Members
 pub mod Places
 pub mod Waits

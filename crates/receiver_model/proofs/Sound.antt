@@ -45,21 +45,21 @@ no_more C F at [] is f r = refl
 no_more C F at (x ∷ xs) is f r = absurd (apart at (is.none_past (pos at) x (pos at) r.0 f))
 
 -- a step with octets and a FIN of the stream stays sound; one that has ended gets nothing more
-pub step_keeps : (C : ℤ → ℕ → Type 0) (F : ℤ → Type 0) (base start : ℕ) (s : Option Segment) (before after : Receiver) → IsStream C F → ((offset : ℤ) (x : ℕ) → Carries base s offset x → C offset x) → ((offset : ℤ) → Ends base s offset → F offset) → Sound C F start before → Step base start s before after → Sound C F start after
+pub step_keeps : (C : ℤ → ℕ → Type 0) (F : ℤ → Type 0) (base start : ℕ) (s : Option Segment) (before after : Receiver) → IsStream C F → ((offset : ℤ) (x : ℕ) → Carries base (start + length before.stream) s offset x → C offset x) → ((offset : ℤ) → Ends base (start + length before.stream) s offset → F offset) → Sound C F start before → Step base start s before after → Sound C F start after
 step_keeps C F base start s before after is octets ends h t = record { waits = waits; keeps = keeps; read = read; ends = at_end }
   where
     waits : (offset : ℤ) (x : ℕ) → after.waiting offset ≡ Some x → C offset x
     waits offset x e =
         ⊎_elim
         (λ (same : after.waiting offset ≡ before.waiting offset). h.waits offset x (sym same ∙ e))
-        (λ (new : (octet : ℕ) × Carries base s offset octet × (after.waiting offset ≡ Some octet)). let same : new.0 ≡ x = cc (new.2, e) in subst (C offset) same (octets offset new.0 new.1))
+        (λ (new : (octet : ℕ) × Carries base (start + length before.stream) s offset octet × (after.waiting offset ≡ Some octet)). let same : new.0 ≡ x = cc (new.2, e) in subst (C offset) same (octets offset new.0 new.1))
         (t.octets offset)
 
     keeps : (offset : ℤ) → after.fin ≡ Some offset → F offset
     keeps offset e =
         ⊎_elim
         (λ (same : after.fin ≡ before.fin). h.keeps offset (sym same ∙ e))
-        (λ (new : (place : ℤ) × Ends base s place × (after.fin ≡ Some place)). let same : new.0 ≡ offset = cc (new.2, e) in subst F same (ends new.0 new.1))
+        (λ (new : (place : ℤ) × Ends base (start + length before.stream) s place × (after.fin ≡ Some place)). let same : new.0 ≡ offset = cc (new.2, e) in subst F same (ends new.0 new.1))
         t.fin
 
     more : ReadFrom C (start + length before.stream) t.stream.more

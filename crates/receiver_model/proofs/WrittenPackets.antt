@@ -1,12 +1,11 @@
 -- A packet that was written, read again.
-use Rattle.std.proofs.Common.{◌≡◌, ℕ, ◌+◌, ◌*◌, ◌/◌, ◌%◌, ◌≤◌, ◌==◌, ◌||◌, not, inl, inr, Bool, true, false, List, ◌++◌, length, Ok, Some, None, if◌then◌else◌, refl, sym, ap, ◌∙◌, eq-eqb, arith}
+use Rattle.std.proofs.Common.{◌≡◌, ℕ, ◌+◌, ◌*◌, ◌/◌, ◌%◌, ◌≤◌, ◌==◌, ◌||◌, not, inl, inr, Bool, true, false, length, Ok, Some, None, if◌then◌else◌, refl, sym, ap, ◌∙◌, eq-eqb, arith}
 use Rattle.wire_base.specs.Ipv4 as ip
 use Rattle.wire_base.specs.Tcp as tcp
 use Rattle.wire_base.specs.Sums.{pseudo_sum}
 use Rattle.wire_base.specs.Options.{cleaned}
 use Rattle.wire_base.specs.Plain.{IsPlainTcp, pseudo_of}
 use Rattle.wire_base.specs.Segments.{Segment, fields_of}
-use Rattle.ipv4_codec.specs.declared.header.Ipv4.{Ipv4}
 use Rattle.ipv4_codec.proofs.PlainHeaders.{header-plain}
 use Rattle.tcp_codec.specs.declared.header.SumRule.TheVariants.{Must}
 use Rattle.tcp_codec.specs.declared.header.Tcp.{Tcp}

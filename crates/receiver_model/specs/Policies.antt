@@ -1,26 +1,36 @@
 -- Which octet waits where several segments brought one for the same offset (this project's profile).
-use Rattle.std.specs.Prelude.{ℕ, ◌+◌, ◌-◌, ◌%◌, ◌^◌, Bool, true, false, List, length, ℤ, pos, negsuc, Option, Some, None, option_map, slice_get, nat_lt, fold, if◌then◌else◌}
+use Rattle.std.specs.Prelude.{ℕ, suc, ◌+◌, ◌-◌, ◌%◌, ◌^◌, ◌&&◌, Bool, true, false, List, length, ℤ, pos, negsuc, Option, Some, None, option_map, slice_get, nat_lt, nat_le, fold, if◌then◌else◌}
 use Rattle.receiver_model.specs.declared.policy.Policy.{Policy}
 use Rattle.receiver_model.specs.declared.policy.Policy.TheVariants.{First, Newest, Left, Right}
 use Rattle.receiver_model.specs.declared.policy.Waiting.{Waiting}
-use Rattle.receiver_model.specs.Offsets.{offset_of}
+use Rattle.receiver_model.specs.Offsets.{raised_of}
 
--- a segment that a stream took: the sequence number of its first octet, and its octets
+-- a segment that a stream took: the offset at which the stream went on, the sequence number of its first octet, and its octets
 pub record Taken : Type 0 where
+  pub next : ℕ
   pub sequence : ℕ
   pub octets : List ℕ
 
+-- the offset lies within half a turn of the next one
+abbrev pub is_near : (next : ℕ) → ℤ → Bool
+is_near next (pos n) = nat_le next (n + 2 ^ 31) && nat_lt n (next + 2 ^ 31)
+is_near next (negsuc n) = nat_le (next + suc n) (2 ^ 31)
+
+-- which octet of a segment with this sequence number stands at such an offset
+abbrev pub index_of : (base sequence : ℕ) → ℤ → ℕ
+index_of base sequence (pos n) = (n + base + 2 ^ 32 - sequence) % 2 ^ 32
+index_of base sequence (negsuc n) = (base + 2 ^ 33 - sequence - suc n) % 2 ^ 32
+
 -- the segment's octet for this offset
 abbrev pub octet_for : (base : ℕ) → Taken → ℤ → Option ℕ
-octet_for base t (pos offset) =
-    if nat_lt offset (2 ^ 32) then slice_get t.octets ((offset + base + 2 ^ 32 - t.sequence) % 2 ^ 32) else None
-octet_for base t (negsuc n) = None
+octet_for base t offset = if is_near t.next offset then slice_get t.octets (index_of base t.sequence offset) else None
 
--- an octet of the segment as it waits: the segment begins at the offset of its first octet, and ends as many octets later,
--- past 2^32 too
+-- an octet of the segment as it waits: the segment begins at the offset of its first octet, and ends as many octets later; both are counted from
+-- half a turn below 0
 abbrev pub waiting_of : (base : ℕ) → Taken → ℕ → Waiting
 waiting_of base t octet =
-    record { octet = octet; begin = offset_of base t.sequence; end = offset_of base t.sequence + length t.octets }
+    let begin = raised_of base t.next t.sequence in
+    record { octet = octet; begin = begin; end = begin + length t.octets }
 
 -- what the segment brings for this offset
 abbrev pub brought : (base : ℕ) → Taken → ℤ → Option Waiting

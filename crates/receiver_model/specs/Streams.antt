@@ -1,15 +1,16 @@
 -- A stream as one receiver of the family.
-use Rattle.std.specs.Prelude.{◌≡◌, ℕ, ◌+◌, ◌++◌, Bool, true, false, List, [], ◌∷◌, length, ℤ, pos, Option, Some, None, option_map, ◌||◌, ◌==◌}
+use Rattle.std.specs.Prelude.{◌≡◌, ℕ, ◌+◌, ◌^◌, ◌++◌, Bool, true, false, List, [], ◌∷◌, length, ℤ, pos, Option, Some, None, option_map, ◌||◌, ◌==◌}
 use Rattle.std.specs.Bool.{then_some}
 use Rattle.std.specs.Option.{option_or}
 use Rattle.wire_base.specs.Segments.{Segment}
 use Rattle.receiver_model.specs.declared.policy.Policy.{Policy}
 use Rattle.receiver_model.specs.declared.policy.Waiting.{Waiting}
-use Rattle.receiver_model.specs.Offsets.{offset_of, Carries, Ends}
+use Rattle.receiver_model.specs.Offsets.{raised_of, offset_in, Carries, Ends}
 use Rattle.receiver_model.specs.Delivery.{Receiver, Extends, Step, Delivers}
 use Rattle.receiver_model.specs.Policies.{Taken, chosen, waiting_of, waiting_after, octet_after}
 
--- what a stream holds: the segments that it took, in their order, tell which octets wait
+-- what a stream holds: `taken` are the segments that it took, in order, and they tell which octets wait; the place of a FIN is counted from half a turn
+-- below 0
 pub record StreamState : Type 0 where
   pub policy : Policy
   pub base : ℕ
@@ -28,9 +29,13 @@ fresh policy base start =
 abbrev pub waiting_at : StreamState → ℤ → Option Waiting
 waiting_at stream offset = waiting_after stream.policy stream.base stream.taken offset
 
+-- the offset at which the stream goes on
+abbrev pub next_of : StreamState → ℕ
+next_of stream = stream.start + length stream.octets
+
 -- the place of a FIN as an offset, where one is kept
 abbrev pub place_of : Option ℕ → Option ℤ
-place_of fin = option_map (λ n. pos n) fin
+place_of fin = option_map offset_in fin
 
 -- the stream as a receiver
 abbrev pub receiver_of : StreamState → Receiver
@@ -42,9 +47,9 @@ receiver_of stream =
       ended = stream.ended;
     }
 
--- a segment as it is taken
-abbrev pub taken_of : Segment → Taken
-taken_of s = record { sequence = s.sequence; octets = s.octets }
+-- a segment as it is taken where this is the next offset
+abbrev pub taken_of : (next : ℕ) → Segment → Taken
+taken_of next s = record { next = next; sequence = s.sequence; octets = s.octets }
 
 -- the stream takes a step of the family with this segment, or with none
 abbrev pub StepsWith : Option Segment → (before after : StreamState) → Type 0
@@ -60,17 +65,17 @@ pub record Chooses (s : Segment) (before after : StreamState) : Type 0 where
   -- an octet that comes for an offset is set there, or the one that waits there stays
   pub carried :
       (offset : ℤ) (octet : ℕ) →
-      Carries before.base (Some s) offset octet →
-      waiting_at after offset ≡ chosen before.policy (waiting_at before offset) (Some (waiting_of before.base (taken_of s) octet))
+      Carries before.base (next_of before) (Some s) offset octet →
+      waiting_at after offset ≡ chosen before.policy (waiting_at before offset) (Some (waiting_of before.base (taken_of (next_of before) s) octet))
   -- what waits elsewhere stays
   pub others :
       (offset : ℤ) →
-      ((octet : ℕ) → ¬ Carries before.base (Some s) offset octet) →
+      ((octet : ℕ) → ¬ Carries before.base (next_of before) (Some s) offset octet) →
       waiting_at after offset ≡ waiting_at before offset
   -- the first FIN's place is kept
   pub fin :
       (offset : ℤ) →
-      Ends before.base (Some s) offset →
+      Ends before.base (next_of before) (Some s) offset →
       place_of after.fin ≡ Some (first_fin (place_of before.fin) offset)
   -- the stream goes on as far as octets wait
   pub far : waiting_at after (pos (before.start + length after.octets)) ≡ None
@@ -100,12 +105,12 @@ AddsFrame frame before after =
 
 -- the place of a FIN that is kept after a segment, which has one or not
 abbrev pub fin_after : (base : ℕ) → Taken → (has_fin : Bool) → Option ℕ → Option ℕ
-fin_after base t has_fin old = option_or old (then_some has_fin (offset_of base (t.sequence + length t.octets)))
+fin_after base t has_fin old = option_or old (then_some has_fin (raised_of base t.next (t.sequence + length t.octets)))
 
--- a place is kept, and it is this one
+-- a FIN's place is kept, and it is this offset
 abbrev pub is_at : Option ℕ → ℕ → Bool
-is_at None place = false
-is_at (Some fin) place = fin == place
+is_at None offset = false
+is_at (Some fin) offset = fin == offset + 2 ^ 31
 
 -- all that a stream holds once it took a segment, which has a FIN or not
 pub record Takes (t : Taken) (has_fin : Bool) (before after : StreamState) : Type 0 where

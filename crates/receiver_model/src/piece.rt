@@ -1,46 +1,67 @@
 //! Segments that a stream took.
-ghost use Rattle.std.specs.Prelude.{◌≡◌, ◌<◌, ◌^◌, pos};
-ghost use Rattle.receiver_model.specs.Offsets.{offset_of};
-ghost use Rattle.receiver_model.specs.Policies.{octet_for, brought};
+ghost use Rattle.std.specs.Prelude.{◌≡◌, ◌+◌, ◌<◌, ◌^◌, pos};
+ghost use Rattle.receiver_model.specs.Offsets.{raised_of};
+ghost use Rattle.receiver_model.specs.Policies.{is_near, octet_for, brought};
 
 use crate::policy::Waiting;
 use std::marker::Model;
 
-/// A segment's octets, and the sequence number of the first one.
+/// A segment's octets, the sequence number of the first one, and the offset at which the stream went on when it came.
 #[derive(Drop)]
 pub(crate) struct Piece {
+    pub next: u64,
     pub sequence: u32,
     pub octets: Vec<u8>,
 }
 
 impl Model for Piece {
-    ghost use Rattle.std.specs.Prelude.{◌<◌, ◌^◌, length};
+    ghost use Rattle.std.specs.Prelude.{◌<◌, ◌+◌, ◌^◌, length};
     ghost use Rattle.receiver_model.specs.Policies.{Taken};
 
     ghost Value = { Taken };
 
-    ghost view = { λ p. record { sequence = p.sequence; octets = p.octets.items } };
+    ghost view = { λ p. record { next = p.next; sequence = p.sequence; octets = p.octets.items } };
 
-    ghost invariant = { λ p. length p.octets.items < 2 ^ 32 };
+    ghost invariant = { λ p. (length p.octets.items < 2 ^ 32) × (p.next < 2 ^ 63 + 2 ^ 32) };
 }
 
-/// How far a sequence number lies past the base, in one turn of 2^32.
-pub(crate) fn offset_past(base: u32, number: u64) -> u64
-    requires { number < 2 ^ 33 }
-    ensures { result ≡ offset_of base number }
+/// One turn of sequence numbers.
+const TURN: u64 = 1 << 32;
+
+/// Half a turn of sequence numbers.
+pub(crate) const HALF: u64 = 1 << 31;
+
+/// The offset for which a sequence number stands, counted from half a turn below 0.
+pub(crate) fn raised_offset(base: u32, next: u64, number: u64) -> u64
+    requires next { next < 2 ^ 63 + 2 ^ 32 }
+    requires number { number < 2 ^ 33 }
+    ensures value { result ≡ raised_of base next number }
+    ensures near { result < next + 2 ^ 32 }
 {
-    (number + (1 << 32) - u64::from(base)) % (1 << 32)
+    let before = u64::from(base) + next % TURN;
+    next + (number + 2 * TURN + HALF - before) % TURN
+}
+
+// The offset lies within half a turn of the next one.
+fn is_near(next: u64, offset: u64) -> bool
+    ensures { result ≡ is_near next (pos offset) }
+{
+    if offset < next {
+        next - offset <= HALF
+    } else {
+        offset - next < HALF
+    }
 }
 
 impl Piece {
     fn octet_at(&self, base: u32, offset: u64) -> Option<u8>
         ensures { result ≡ octet_for base self.now (pos offset) }
     {
-        if offset >= 1 << 32 {
+        if !is_near(self.next, offset) {
             return None;
         }
         let sequence = self.sequence;
-        let at = (offset + u64::from(base) + (1 << 32) - u64::from(sequence)) % (1 << 32);
+        let at = (offset % TURN + u64::from(base) + TURN - u64::from(sequence)) % TURN;
         self.octets.get(at as usize).copied()
     }
 
@@ -49,7 +70,7 @@ impl Piece {
         ensures { result ≡ brought base self.now (pos offset) }
     {
         let octet = self.octet_at(base, offset)?;
-        let begin = offset_past(base, u64::from(self.sequence));
+        let begin = raised_offset(base, self.next, u64::from(self.sequence));
         let end = begin + self.octets.len() as u64;
         Some(Waiting { octet, begin, end })
     }

@@ -15,7 +15,7 @@ pub enum Policy {
     Right,
 }
 
-/// An octet that waits, and the offsets at which the segment that brought it begins and ends.
+/// An octet that waits, and the offsets at which the segment that brought it begins and ends, counted from half a turn below 0.
 #[derive(Clone, Copy)]
 pub(crate) struct Waiting {
     pub octet: u8,

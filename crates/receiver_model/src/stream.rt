@@ -5,9 +5,9 @@ ghost use Rattle.wire_base.specs.Plain.{Plain};
 ghost use Rattle.wire_base.specs.Segments.{segment_of, fields_of};
 ghost use Rattle.receiver_model.specs.Delivery.{Extends};
 ghost use Rattle.receiver_model.specs.Policies.{Taken, octet_after, waiting_after};
-ghost use Rattle.receiver_model.specs.Streams.{fresh, AddsFrame, Chooses, IsSameStream, StandsFor, StepsWith, Takes};
+ghost use Rattle.receiver_model.specs.Streams.{fresh, next_of, AddsFrame, Chooses, IsSameStream, StandsFor, StepsWith, Takes};
 
-use crate::piece::{Piece, offset_past};
+use crate::piece::{HALF, Piece, raised_offset};
 use crate::policy::{Policy, Waiting};
 use crate::segment::read_plain;
 use edge_io::NoMemory;
@@ -131,12 +131,17 @@ impl Stream {
 
     fn put(&mut self, sequence: u32, has_fin: bool, payload: &[u8]) -> Result<(), NoMemory>
         requires { length payload.now < 2 ^ 32 }
-        ensures taken { let taken : Taken = record { sequence = sequence; octets = payload.now } in
+        ensures taken { let taken : Taken = record { next = next_of self.old; sequence = sequence; octets = payload.now } in
             OnOk result (Takes taken has_fin self.old self.new) }
         ensures err { OnErr result (self.new ≡ self.old) }
     {
         let octets = Vec::from_slice(self.alloc, payload)?;
-        let piece = Piece { sequence, octets };
+        let next = u64::from(self.start) + self.octets.len() as u64;
+        let piece = Piece {
+            next,
+            sequence,
+            octets,
+        };
         self.pieces.reserve(1)?;
         extend(
             &mut self.octets,
@@ -148,9 +153,10 @@ impl Stream {
         )?;
         self.pieces.push_reserved(piece);
         let end = u64::from(sequence) + payload.len() as u64;
-        self.fin = self.fin.or(has_fin.then_some(offset_past(self.base, end)));
-        let next = u64::from(self.start) + self.octets.len() as u64;
-        self.ended = self.ended || self.fin == Some(next);
+        let place = raised_offset(self.base, next, end);
+        self.fin = self.fin.or(has_fin.then_some(place));
+        let behind = u64::from(self.start) + self.octets.len() as u64;
+        self.ended = self.ended || self.fin == Some(behind + HALF);
         Ok(())
     }
 

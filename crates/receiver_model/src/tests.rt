@@ -233,21 +233,43 @@ fn a_stream_takes_a_segment(rt: HostRuntime) -> Result<(), Fail> {
     Ok(())
 }
 
-/// What a stream of this policy delivers of two segments that come ahead of the first octet, `a`.
-fn delivered(alloc: Global, policy: Policy, one: &[u8], two: &[u8]) -> Result<Stream, NoMemory>
+// The base is the number 1003, so that `abcd` begins 3 below it: a stream that begins there reads it before the turn, one at 0 below its begin.
+#[test]
+fn numbers_are_read_where_the_stream_goes_on(rt: HostRuntime) -> Result<(), Fail> {
+    let alloc = rt.alloc();
+    let mut late = Stream::open(alloc, Policy::First, 1003, 4_294_967_293)?;
+    let mut early = Stream::open(alloc, Policy::First, 1003, 0)?;
+    assert!(rt; plain(0, &ABCD));
+    assert_eq!(rt; ABCD[9], 6);
+    late.take(&ABCD)?;
+    early.take(&ABCD)?;
+    assert_eq!(rt; late.octets(), b"abcd".as_slice());
+    assert_eq!(rt; early.octets(), b"d".as_slice());
+    Ok(())
+}
+
+/// What a stream of this policy, with this base and begin, delivers of two segments that come ahead of the first octet, `a`.
+fn delivered(
+    alloc: Global,
+    policy: Policy,
+    base: u32,
+    start: u32,
+    one: &[u8],
+    two: &[u8],
+) -> Result<Stream, NoMemory>
     requires one_plain { Plain 0 one.now }
     requires one_tcp { ip.protocol one.now ≡ 6 }
     requires two_plain { Plain 0 two.now }
     requires two_tcp { ip.protocol two.now ≡ 6 }
 {
-    let mut stream = Stream::open(alloc, policy, 1000, 0)?;
+    let mut stream = Stream::open(alloc, policy, base, start)?;
     stream.take(one)?;
     stream.take(two)?;
     stream.take(&A)?;
     Ok(stream)
 }
 
-/// The streams of the four policies, in their order, deliver these.
+/// The streams of the four policies, in their order, deliver these, from their base on, and where the octets pass offset 2^32.
 fn deliver(
     rt: &impl Abort,
     alloc: Global,
@@ -261,9 +283,11 @@ fn deliver(
     requires two_tcp { ip.protocol two.now ≡ 6 }
 {
     let policies = [Policy::First, Policy::Newest, Policy::Left, Policy::Right];
-    for i in 0..4 {
-        let stream = delivered(alloc, policies[i], one, two)?;
-        assert_eq!(rt; stream.octets(), want[i], "{:?}", policies[i]);
+    for (base, start) in [(1000, 0), (1003, 4_294_967_293)] {
+        for i in 0..4 {
+            let stream = delivered(alloc, policies[i], base, start, one, two)?;
+            assert_eq!(rt; stream.octets(), want[i], "{:?} from {start}", policies[i]);
+        }
     }
     Ok(())
 }

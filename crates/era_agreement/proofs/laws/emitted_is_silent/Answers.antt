@@ -1,0 +1,5 @@
+use Rattle.era_agreement.proofs.Agreeing.{is_silent}
+use Rattle.era_agreement.proofs.laws.emitted_is_silent.Goals as goal
+
+pub returns : goal.returns
+returns c = is_silent c.written_remains.ensures c.emitted_joins.ensures

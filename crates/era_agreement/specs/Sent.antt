@@ -1,0 +1,60 @@
+-- What was sent, and what of it belongs to an era (this project's profile). Lists of what was sent have the last at the head.
+use Rattle.std.specs.Prelude.{ℕ, ◌==◌, ◌&&◌, not, Bool, false, List, [], ◌∷◌, ◌++◌, map, ℤ, pos, Option, Some, None, if◌then◌else◌}
+use Rattle.std.specs.List.{flat_map}
+use Rattle.wire_base.specs.Segments.{Segment, Written, segment_of, written_of}
+use Rattle.era_state.specs.Offsets.{off}
+use Rattle.era_state.specs.Quantities.{acked}
+
+-- the packets that were sent for one record, in order: whether they went inwards, the era that they belong to, if they belong to one, and whether they
+-- are written segments of it; the probe that goes out for a dropped record is not one
+pub record Sent : Type 0 where
+  pub inward : Bool
+  pub era : Option ℕ
+  pub written : Bool
+  pub packets : List (List ℕ)
+
+-- the era that is named is this one
+abbrev pub is_era : (era : ℕ) → Option ℕ → Bool
+is_era era (Some named) = named == era
+is_era era None = false
+
+-- the packets that went inwards in an era, in order
+abbrev pub inward_packets : (era : ℕ) → List Sent → List (List ℕ)
+inward_packets era [] = []
+inward_packets era (s ∷ older) = inward_packets era older ++ (if is_era era s.era && s.inward then s.packets else [])
+
+-- those of them that are no written segments of it
+abbrev pub aside_packets : (era : ℕ) → List Sent → List (List ℕ)
+aside_packets era [] = []
+aside_packets era (s ∷ older) = aside_packets era older ++ (if is_era era s.era && s.inward && not s.written then s.packets else [])
+
+-- the segment as one that was written to this side, if there is one
+abbrev pub written_as : Bool → Option Segment → List Written
+written_as inward None = []
+written_as inward (Some s) = written_of inward s ∷ []
+
+-- the segments of packets that were sent to this side
+abbrev pub segments_in : Bool → List (List ℕ) → List Written
+segments_in inward packets = flat_map (λ p. written_as inward (segment_of p)) packets
+
+-- the segments written in an era, to both sides, in order
+abbrev pub written_in : (era : ℕ) → List Sent → List Written
+written_in era [] = []
+written_in era (s ∷ older) = written_in era older ++ (if is_era era s.era && s.written then segments_in s.inward s.packets else [])
+
+-- the place of a segment's first octet, where so much is acknowledged, and 0 where there is none
+abbrev pub placed_at : (base acked : ℕ) → Option Segment → ℤ
+placed_at base acked None = pos 0
+placed_at base acked (Some s) = off base acked s.sequence
+
+-- the place of a packet's first octet
+abbrev pub place_of : (base acked : ℕ) → List ℕ → ℤ
+place_of base acked p = placed_at base acked (segment_of p)
+
+-- The places of the packets that went inwards in an era, each read with what was acknowledged before its record. That is 0 for a packet that went before the
+-- base was fixed, since no ACK goes outwards before but that of a RST, which ends the era.
+abbrev pub inward_places : (era base : ℕ) → List Sent → List ℤ
+inward_places era base [] = []
+inward_places era base (s ∷ older) =
+    inward_places era base older
+    ++ (if is_era era s.era && s.inward then map (place_of base (acked base (written_in era older))) s.packets else [])
