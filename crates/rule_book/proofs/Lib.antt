@@ -1,5 +1,6 @@
 pub mod Cuts
 pub mod Decimals
+pub mod Ends
 pub mod Names
 pub mod Lasts
 pub mod Lines
@@ -11,4 +12,5 @@ pub mod Rising
 pub mod Solids
 pub mod Texts
 pub mod Unique
+pub mod Versions
 pub mod Whole

@@ -7,14 +7,14 @@ use Rattle.std.specs.Str.{all_ascii_digits}
 use Rattle.wire_base.specs.declared.address.Side.{Side}
 use Rattle.rule_book.proofs.Cuts.{has_no}
 use Rattle.rule_book.specs.Rules.{rule_name}
-use Rattle.rule_book.specs.Text.{reason_word, side_word, stop_word, verdict_word}
+use Rattle.rule_book.specs.Text.{octets_part, reason_word, side_word, stop_word, verdict_word}
 use Rattle.rule_book.specs.Words.{Mark, MarkFits, mark_word}
 use Rattle.rule_book.specs.Words.Mark.{named, belongs, began, over}
 use Rattle.rule_book.specs.declared.entry.Reason.{Reason}
 use Rattle.rule_book.specs.declared.entry.Verdict.{Verdict}
 use Rattle.rule_book.specs.declared.last.StopKind.{StopKind}
 use Rattle.rule_book.specs.declared.rule.Rule.{Rule}
-use Rattle.std.proofs.Common.{Option}
+use Rattle.std.proofs.Common.{Option, Some, None, IfSome}
 
 -- each octet is above the space
 abbrev pub is_solid : List ℕ → Bool
@@ -57,14 +57,23 @@ verdict-solid verdict = search rules
 pub reason-solid : (reason : Reason) → is_solid (reason_word reason) ≡ true
 reason-solid reason = search rules
 
+pub reason-no_colon : (reason : Reason) → has_no 58 (reason_word reason) ≡ true
+reason-no_colon reason = search rules
+
 pub stop-solid : (kind : StopKind) → is_solid (stop_word kind) ≡ true
 stop-solid kind = search rules
 
 pub name-solid : (rule : Rule) → is_solid (rule_name rule) ≡ true
 name-solid rule = search rules
 
+octets-solid : (octets : Option ℕ) → IfSome octets (λ n. n < 2 ^ 64) → is_solid (octets_part octets) ≡ true
+octets-solid None fits = refl
+octets-solid (Some n) fits = decimal-solid n fits
+
 pub mark-solid : (mark : Mark) → MarkFits mark → is_solid (mark_word mark) ≡ true
 mark-solid (named rule) fits = name-solid rule
 mark-solid (belongs era) fits = decimal-solid era (omega arith)
 mark-solid (began era) fits = decimal-solid era (omega arith)
-mark-solid (over ended) fits = solid-append (decimal ended.era) (58 ∷ reason_word ended.reason) (decimal-solid ended.era (omega arith)) (reason-solid ended.reason)
+mark-solid (over ended) fits =
+    solid-append (decimal ended.era) (58 ∷ (reason_word ended.reason ++ octets_part ended.octets)) (decimal-solid ended.era (let h = fits.era in omega arith))
+    (solid-append (reason_word ended.reason) (octets_part ended.octets) (reason-solid ended.reason) (octets-solid ended.octets fits.octets))

@@ -1,21 +1,21 @@
 -- A text is of one entry, of one last line, and of one report.
-use Rattle.std.proofs.Common.{◌≡◌, ℕ, ◌^◌, ◌<◌, true, false, nat_eq, nat_lt, List, [], ◌∷◌, ◌++◌, length, get_or, drop, map, codes, Option, None, decimal, refl, sym, ap, ◌∙◌, arith, rules, length-append}
+use Rattle.std.proofs.Common.{◌≡◌, ℕ, ◌^◌, ◌<◌, true, false, nat_eq, nat_lt, List, [], ◌∷◌, length, get_or, drop, map, codes, Option, Some, None, IfSome, decimal, refl, sym, ap, ◌∙◌, arith, rules, length-append}
 use Rattle.std.proofs.lemmas.Bool.{false≢true}
-use Rattle.std.proofs.lemmas.Fmt.{decimal_injective}
+use Rattle.std.proofs.lemmas.Fmt.{decimal_injective, decimal_nonempty}
 use Rattle.std.specs.List.{AllByRecursion, after_first, before_first, flat_map}
 use Rattle.std.specs.Str.{all_ascii_digits}
-use Rattle.rule_book.proofs.Cuts.{after_in, before_in}
+use Rattle.rule_book.proofs.Ends.{parts_at}
 use Rattle.rule_book.proofs.Lasts.{last_words_at}
 use Rattle.rule_book.proofs.Marks.{joined_after, joined_before, mark_some}
 use Rattle.rule_book.proofs.Names.{found_by_name}
 use Rattle.rule_book.proofs.Options.{same_some}
-use Rattle.rule_book.proofs.Solids.{decimal-no_colon, decimal_digits, mark-solid}
+use Rattle.rule_book.proofs.Solids.{decimal_digits, mark-solid}
 use Rattle.rule_book.proofs.Texts.{words_at}
 use Rattle.rule_book.specs.Entries.{PlainEntry}
-use Rattle.rule_book.specs.Reports.{EntryFits, LastFits}
+use Rattle.rule_book.specs.Reports.{EndedFits, EntryFits, LastFits}
 use Rattle.rule_book.specs.Rules.{rule_name, rule_named}
-use Rattle.rule_book.specs.Text.{entry_text, last_text, part, reason_word, side_word, stop_word, verdict_word}
-use Rattle.rule_book.specs.Words.{HasLastWords, HasWords, Mark, MarkFits, bare, joined, mark_word, with_marks}
+use Rattle.rule_book.specs.Text.{ended_word, entry_text, last_text, part, reason_word, side_word, stop_word, verdict_word}
+use Rattle.rule_book.specs.Words.{HasLastWords, HasWords, Mark, MarkFits, bare, joined, mark_word, octets_word, with_marks}
 use Rattle.rule_book.specs.Words.Mark.{named, belongs, began, over}
 use Rattle.rule_book.specs.declared.entry.Ended.{Ended}
 use Rattle.rule_book.specs.declared.entry.Reason.{Reason}
@@ -52,23 +52,34 @@ name_apart rule octet octets low is = false≢true (sym low ∙ ap (λ (l : List
 decimal_one : (m n : ℕ) → m < 2 ^ 32 → n < 2 ^ 32 → decimal m ≡ decimal n → m ≡ n
 decimal_one m n m_fits n_fits same = decimal_injective m n (omega arith) (omega arith) same
 
-over_one : (a b : Ended) → a.era < 2 ^ 32 → b.era < 2 ^ 32 → decimal a.era ++ 58 ∷ reason_word a.reason ≡ decimal b.era ++ 58 ∷ reason_word b.reason → a ≡ b
+octets_one : (a b : Option ℕ) → IfSome a (λ n. n < 2 ^ 64) → IfSome b (λ n. n < 2 ^ 64) → octets_word a ≡ octets_word b → a ≡ b
+octets_one None None a_fits b_fits same = refl
+octets_one None (Some n) a_fits b_fits same = absurd (omega (arith, decimal_nonempty n b_fits, ap length same))
+octets_one (Some m) None a_fits b_fits same = absurd (omega (arith, decimal_nonempty m a_fits, ap length same))
+octets_one (Some m) (Some n) a_fits b_fits same = ap Some (decimal_injective m n a_fits b_fits same)
+
+over_one : (a b : Ended) → EndedFits a → EndedFits b → ended_word a ≡ ended_word b → a ≡ b
 over_one a b a_fits b_fits same =
-    let text = decimal a.era ++ 58 ∷ reason_word a.reason in
-    let a_none = decimal-no_colon a.era (omega arith) in
-    let b_none = decimal-no_colon b.era (omega arith) in
-    let era : decimal a.era ≡ decimal b.era = sym (before_in 58 text (decimal a.era) (reason_word a.reason) a_none refl) ∙ before_in 58 text (decimal b.era) (reason_word b.reason) b_none same in
-    let reason : reason_word a.reason ≡ reason_word b.reason = sym (after_in 58 text (decimal a.era) (reason_word a.reason) a_none refl) ∙ after_in 58 text (decimal b.era) (reason_word b.reason) b_none same in
-    λ i. record { era = decimal_one a.era b.era a_fits b_fits era i; reason = reason_one a.reason b.reason reason i }
+    let word = ended_word a in
+    let behind = after_first (λ x. nat_eq x 58) word in
+    let reason = before_first (λ x. nat_eq x 58) behind in
+    let octets = after_first (λ x. nat_eq x 58) behind in
+    let one = parts_at a a_fits word (before_first (λ x. nat_eq x 58) word) behind reason octets refl refl refl refl refl in
+    let other = parts_at b b_fits word (before_first (λ x. nat_eq x 58) word) behind reason octets same refl refl refl refl in
+    λ i. record {
+      era = decimal_one a.era b.era a_fits.era b_fits.era (sym one.era_is ∙ other.era_is) i;
+      reason = reason_one a.reason b.reason (sym one.reason_is ∙ other.reason_is) i;
+      octets = octets_one a.octets b.octets a_fits.octets b_fits.octets (sym one.octets_is ∙ other.octets_is) i;
+    }
 
 mark_one : (a b : Mark) → MarkFits a → MarkFits b → mark_word a ≡ mark_word b → a ≡ b
 mark_one (named r) (named s) af bf same = ap named (name_one r s same)
 mark_one (named r) (belongs m) af bf same = absurd (name_apart r 64 (decimal m) refl same)
 mark_one (named r) (began m) af bf same = absurd (name_apart r 43 (decimal m) refl same)
-mark_one (named r) (over e) af bf same = absurd (name_apart r 45 (decimal e.era ++ 58 ∷ reason_word e.reason) refl same)
+mark_one (named r) (over e) af bf same = absurd (name_apart r 45 (ended_word e) refl same)
 mark_one (belongs m) (named r) af bf same = absurd (name_apart r 64 (decimal m) refl (sym same))
 mark_one (began m) (named r) af bf same = absurd (name_apart r 43 (decimal m) refl (sym same))
-mark_one (over e) (named r) af bf same = absurd (name_apart r 45 (decimal e.era ++ 58 ∷ reason_word e.reason) refl (sym same))
+mark_one (over e) (named r) af bf same = absurd (name_apart r 45 (ended_word e) refl (sym same))
 mark_one (belongs m) (belongs n) af bf same = ap belongs (decimal_one m n af bf (ap (drop 1) same))
 mark_one (began m) (began n) af bf same = ap began (decimal_one m n af bf (ap (drop 1) same))
 mark_one (over e) (over f) af bf same = ap over (over_one e f af bf (ap (drop 1) same))

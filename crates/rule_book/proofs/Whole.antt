@@ -1,13 +1,14 @@
 -- The text of a report and its lines.
-use Rattle.std.proofs.Common.{◌≡◌, ℕ, List, [], ◌∷◌, ◌++◌, map, reverse, codes, refl, sym, ap, ◌∙◌, append-nil, append_assoc}
+use Rattle.std.proofs.Common.{◌≡◌, ℕ, List, [], ◌∷◌, ◌++◌, map, reverse, refl, sym, ap, ◌∙◌, append-nil, append_assoc}
 use Rattle.std.proofs.lemmas.List.{reverse-append}
 use Rattle.std.proofs.lemmas.List.Folds.{concat-append}
 use Rattle.std.specs.List.{AllByRecursion, concat, flat_map}
 use Rattle.rule_book.proofs.Lasts.{last-line}
 use Rattle.rule_book.proofs.Lines.{IsLine, concat-lines, lines-concat}
 use Rattle.rule_book.proofs.Texts.{all-append, entry_text-joined, joined-no_feed, words-solid, words_of}
+use Rattle.rule_book.proofs.Versions.{first-line}
 use Rattle.rule_book.specs.Entries.{PlainEntry}
-use Rattle.rule_book.specs.Reports.{PlainReport, EntryFits, TextsAreInOrder, IsReport, lines, lines_of, text_of}
+use Rattle.rule_book.specs.Reports.{PlainReport, EntryFits, IsEntryOf, TextsAreInOrder, IsReport, lines, lines_of, text_of}
 use Rattle.rule_book.specs.Text.{entry_text, first_line, last_text, lines_text}
 use Rattle.rule_book.specs.Words.{joined}
 
@@ -26,21 +27,21 @@ text-concat : (report : PlainReport) → text_of report ≡ concat (lines_of rep
 text-concat report =
     let entries = map entry_text report.entries in
     let last = last_text report.last in
-    (λ i. (first_line ++ lines_text-reverse report.entries i) ++ sym (append-nil last) i)
-    ∙ append_assoc first_line (concat entries) (last ++ [])
-    ∙ ap (λ l. first_line ++ l) (sym (concat-append entries (last ∷ [])))
+    let first = first_line report.version in
+    (λ i. (first ++ lines_text-reverse report.entries i) ++ sym (append-nil last) i)
+    ∙ append_assoc first (concat entries) (last ++ [])
+    ∙ ap (λ l. first ++ l) (sym (concat-append entries (last ∷ [])))
 
 entry-line : (entry : PlainEntry) → EntryFits entry → IsLine (entry_text entry)
 entry-line entry fits = record { body = joined (words_of entry); no_feed = joined-no_feed (words_of entry) (words-solid entry fits); whole = entry_text-joined entry }
 
-entries-lines : (entries : List PlainEntry) → AllByRecursion EntryFits entries → AllByRecursion IsLine (map entry_text entries)
-entries-lines [] fit = tt
-entries-lines (entry ∷ entries) fit = (entry-line entry fit.0, entries-lines entries fit.1)
+entries-lines : (version : ℕ) (entries : List PlainEntry) → AllByRecursion (IsEntryOf version) entries → AllByRecursion IsLine (map entry_text entries)
+entries-lines version [] fit = tt
+entries-lines version (entry ∷ entries) fit = (entry-line entry fit.0.fits, entries-lines version entries fit.1)
 
 report-lines : (report : PlainReport) → IsReport report → AllByRecursion IsLine (lines_of report)
 report-lines report is =
-    let first : IsLine first_line = record { body = codes "norm 1"; no_feed = refl; whole = refl } in
-    (first, all-append IsLine (map entry_text report.entries) (last_text report.last ∷ []) (entries-lines report.entries is.fit) (last-line report.last is.last, tt))
+    (first-line report.version is.version, all-append IsLine (map entry_text report.entries) (last_text report.last ∷ []) (entries-lines report.version report.entries is.fit) (last-line report.last is.last, tt))
 
 -- what has a report's text has its lines
 pub lines-text : (octets : List ℕ) (report : PlainReport) → IsReport report → octets ≡ text_of report → lines octets ≡ lines_of report
@@ -56,4 +57,4 @@ concat-map (entry ∷ entries) = ap (λ l. entry_text entry ++ l) (concat-map en
 
 -- the lines of entries stand in their order
 pub text-in_order : TextsAreInOrder
-text-in_order report = λ i. (first_line ++ (lines_text-reverse report.entries ∙ concat-map report.entries) i) ++ last_text report.last
+text-in_order report = λ i. (first_line report.version ++ (lines_text-reverse report.entries ∙ concat-map report.entries) i) ++ last_text report.last

@@ -1,5 +1,7 @@
 -- Entries of the report as plain records of lists.
-use Rattle.std.specs.Prelude.{ℕ, List, Option}
+use Rattle.std.specs.Prelude.{◌≡◌, ℕ, ◌==◌, List, Option}
+use Rattle.std.specs.List.{AllByRecursion}
+use Rattle.std.specs.Option.{is_some}
 use Rattle.rule_book.specs.declared.entry.Ended.{Ended}
 use Rattle.rule_book.specs.declared.entry.Entry.{Entry}
 use Rattle.rule_book.specs.declared.entry.Verdict.{Verdict}
@@ -29,3 +31,11 @@ plain entry =
       begun = entry.begun;
       ended = entry.ended.items;
     }
+
+-- an era that ended has its octets in version 2 of the report, and has none in version 1 (this project's profile)
+abbrev pub HasOctets : (version : ℕ) → Ended → Type 0
+HasOctets version ended = is_some ended.octets ≡ (version == 2)
+
+-- each era that ended with an entry is told as the version tells it
+abbrev pub IsOfVersion : (version : ℕ) → PlainEntry → Type 0
+IsOfVersion version entry = AllByRecursion (HasOctets version) entry.ended

@@ -3,7 +3,7 @@ use Rattle.std.specs.Prelude.{◌≡◌, ℕ, ◌==◌, List, [], ◌∷◌, ◌
 use Rattle.std.specs.List.Sorted.{IsStrictlyIncreasing}
 use Rattle.std.specs.Str.{bytes_eq}
 use Rattle.rule_book.specs.declared.rule.Rule.{Rule}
-use Rattle.rule_book.specs.declared.rule.Rule.TheVariants.{LSnap, LShort, LType, IShort, IVersion, IHlen, ILen, ISum, ISrc, IDst, ISide, IOptBad, IRoute, PProto, FDf, FEmpty, FAlign, FBig, FEnd, FClash, FMany, FRoom, UShort, ULen, USum, MShort, MSum, MType, MQuote, TShort, THlen, TSum, TFlags, TOptBad, TCold, TState, TSyn, TRst, TFull, TRoom, ITrail, IOpt, IRes, ITtl, FHeld, FDone, USumOut, TSumOut, TRes, TUrg, TOpt, TStrip, CProbe, TOld, TWindow, TTurn, TEnd, TClash, XLater}
+use Rattle.rule_book.specs.declared.rule.Rule.TheVariants.{LSnap, LShort, LType, IShort, IVersion, IHlen, ILen, ISum, ISrc, IDst, ISide, IOptBad, IRoute, PProto, FDf, FEmpty, FAlign, FBig, FEnd, FClash, FMany, FRoom, UShort, ULen, USum, MShort, MSum, MType, MQuote, TShort, THlen, TSum, TFlags, TOptBad, TCold, TState, TSyn, TRst, TFull, TRoom, ITrail, IOpt, IRes, ITtl, FHeld, FDone, USumOut, TSumOut, TRes, TUrg, TOpt, TStrip, CProbe, TOld, TWindow, TTurn, TEnd, TClash, XLater, TQuota, ECut, EMtu}
 
 -- the number of a rule
 abbrev pub rule_number : Rule → ℕ
@@ -66,6 +66,9 @@ rule_number TTurn = 56
 rule_number TEnd = 57
 rule_number TClash = 58
 rule_number XLater = 59
+rule_number TQuota = 60
+rule_number ECut = 61
+rule_number EMtu = 62
 
 -- the name of a rule in the report
 abbrev pub rule_name : Rule → List ℕ
@@ -128,27 +131,64 @@ rule_name TTurn = codes "T_TURN"
 rule_name TEnd = codes "T_END"
 rule_name TClash = codes "T_CLASH"
 rule_name XLater = codes "X_LATER"
+rule_name TQuota = codes "T_QUOTA"
+rule_name ECut = codes "E_CUT"
+rule_name EMtu = codes "E_MTU"
 
--- the rules that drop a packet, in the order of testing; on an outbound packet T_FULL is a note, and drops nothing
+-- The rules that drop a packet stand in one list a layer, each in the order of testing.
+
+-- those on the link
+abbrev pub link_rows : List Rule
+link_rows = LSnap ∷ LShort ∷ LType ∷ []
+
+-- those on the IPv4 header
+abbrev pub header_rows : List Rule
+header_rows = IShort ∷ IVersion ∷ IHlen ∷ ILen ∷ ISum ∷ ISrc ∷ IDst ∷ ISide ∷ IOptBad ∷ IRoute ∷ []
+
+-- the one on the protocol
+abbrev pub protocol_rows : List Rule
+protocol_rows = PProto ∷ []
+
+-- those on fragments
+abbrev pub fragment_rows : List Rule
+fragment_rows = FDf ∷ FEmpty ∷ FAlign ∷ FBig ∷ FEnd ∷ FClash ∷ FMany ∷ FRoom ∷ []
+
+-- those on UDP and ICMP
+abbrev pub datagram_rows : List Rule
+datagram_rows = UShort ∷ ULen ∷ USum ∷ MShort ∷ MSum ∷ MType ∷ MQuote ∷ []
+
+-- those on the header of a TCP segment
+abbrev pub segment_rows : List Rule
+segment_rows = TShort ∷ THlen ∷ TSum ∷ TFlags ∷ TOptBad ∷ []
+
+-- those on eras; on an outbound packet T_FULL is a note, and drops nothing
+abbrev pub era_rows : List Rule
+era_rows = TCold ∷ TState ∷ TSyn ∷ TRst ∷ TFull ∷ TQuota ∷ TRoom ∷ []
+
+-- the rules that drop a packet, in the order of testing; the one on what is not built comes last
 abbrev pub drop_rows : List Rule
-drop_rows =
-    LSnap ∷ LShort ∷ LType ∷ IShort ∷ IVersion ∷ IHlen ∷ ILen ∷ ISum ∷ ISrc ∷ IDst ∷ ISide ∷ IOptBad ∷ IRoute ∷ PProto ∷ FDf ∷
-    FEmpty ∷ FAlign ∷ FBig ∷ FEnd ∷ FClash ∷ FMany ∷ FRoom ∷ UShort ∷ ULen ∷ USum ∷ MShort ∷ MSum ∷ MType ∷ MQuote ∷ TShort ∷
-    THlen ∷ TSum ∷ TFlags ∷ TOptBad ∷ TCold ∷ TState ∷ TSyn ∷ TRst ∷ TFull ∷ TRoom ∷ XLater ∷ []
+drop_rows = link_rows ++ header_rows ++ protocol_rows ++ fragment_rows ++ datagram_rows ++ segment_rows ++ era_rows ++ XLater ∷ []
+
+-- the rules that mend the IPv4 header of a packet, whole or a fragment
+abbrev pub header_fix_rows : List Rule
+header_fix_rows = ITrail ∷ IOpt ∷ IRes ∷ []
 
 -- the rules of a packet that is not dropped, before those of its TCP segment, in the order of the line
 abbrev pub fix_rows : List Rule
-fix_rows =
-    ITrail ∷ IOpt ∷ IRes ∷ ITtl ∷ FHeld ∷ FDone ∷ USumOut ∷ []
+fix_rows = header_fix_rows ++ ITtl ∷ FHeld ∷ FDone ∷ USumOut ∷ []
 
 -- the rules of a TCP segment that is not dropped, in the order of the line
 abbrev pub step_rows : List Rule
 step_rows =
     TSumOut ∷ TRes ∷ TUrg ∷ TOpt ∷ TStrip ∷ CProbe ∷ TOld ∷ TWindow ∷ TTurn ∷ TEnd ∷ TClash ∷ []
 
+-- the rules of a frame that is too long for the link, which are named behind all others
+abbrev pub cut_rows : List Rule
+cut_rows = ECut ∷ EMtu ∷ []
+
 -- all rules
 abbrev pub all_rules : List Rule
-all_rules = drop_rows ++ fix_rows ++ step_rows
+all_rules = drop_rows ++ fix_rows ++ step_rows ++ cut_rows
 
 -- the rule of this number, where there is one
 abbrev pub rule_numbered : ℕ → Option Rule
@@ -177,3 +217,10 @@ NamesDiffer = (one other : Rule) → rule_name one ≡ rule_name other → one �
 -- the numbers of the rules rise along the list
 abbrev pub Rises : List Rule → Type 0
 Rises rules = IsStrictlyIncreasing (map rule_number rules)
+
+-- the numbers rise along the drop rows, but for T_QUOTA, which is tested between T_FULL and T_ROOM
+pub record RisesButForQuota (rows : List Rule) : Type 0 where
+  pub before : List Rule
+  pub behind : List Rule
+  pub whole : rows ≡ before ++ TFull ∷ TQuota ∷ TRoom ∷ behind
+  pub rises : Rises (before ++ TFull ∷ TRoom ∷ behind)

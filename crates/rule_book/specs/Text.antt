@@ -1,5 +1,5 @@
 -- The text of the report (this project's profile): a line for each entry and a last line, each with a line feed (10) at its end.
-use Rattle.std.specs.Prelude.{ℕ, List, [], ◌∷◌, ◌++◌, Option, Some, None, codes, decimal}
+use Rattle.std.specs.Prelude.{ℕ, ◌+◌, List, [], ◌∷◌, ◌++◌, Option, Some, None, codes, decimal}
 use Rattle.std.specs.List.{flat_map}
 use Rattle.rule_book.specs.Entries.{PlainEntry}
 use Rattle.rule_book.specs.Rules.{rule_name}
@@ -49,11 +49,20 @@ abbrev pub era_part : ℕ → Option ℕ → List ℕ
 era_part mark None = []
 era_part mark (Some era) = part (mark ∷ decimal era)
 
--- an era that ended: `-` (45), its number, `:` (58) and the reason
-abbrev pub ended_part : Ended → List ℕ
-ended_part ended = part (45 ∷ decimal ended.era ++ 58 ∷ reason_word ended.reason)
+-- the octets of an era that ended, behind `:` (58), where they are told
+abbrev pub octets_part : Option ℕ → List ℕ
+octets_part None = []
+octets_part (Some octets) = 58 ∷ decimal octets
 
--- the line of an entry
+-- an era that ended: its number, `:` and the reason, and its octets
+abbrev pub ended_word : Ended → List ℕ
+ended_word ended = decimal ended.era ++ 58 ∷ (reason_word ended.reason ++ octets_part ended.octets)
+
+-- the same behind its mark, `-` (45)
+abbrev pub ended_part : Ended → List ℕ
+ended_part ended = part (45 ∷ ended_word ended)
+
+-- the line of an entry; it is the same function in each version, since an era that ended is written with the octets that it has
 abbrev pub entry_text : PlainEntry → List ℕ
 entry_text entry =
     decimal entry.number ++ part (side_word entry.side) ++ part (verdict_word entry.verdict) ++ part (decimal entry.packets)
@@ -76,15 +85,15 @@ abbrev pub last_text : Last → List ℕ
 last_text (End records packets) = codes "end" ++ part (decimal records) ++ part (decimal packets) ++ 10 ∷ []
 last_text (Stop kind offset) = codes "stop" ++ part (stop_word kind) ++ part (decimal offset) ++ 10 ∷ []
 
--- the first line
-abbrev pub first_line : List ℕ
-first_line = codes "norm 1" ++ 10 ∷ []
+-- the first line ends with the digit of the version; `0` is 48
+abbrev pub first_line : (version : ℕ) → List ℕ
+first_line version = codes "norm " ++ (48 + version) ∷ 10 ∷ []
 
 -- the lines of entries, the newest at the head of the list and at the end of the text
 abbrev pub lines_text : List PlainEntry → List ℕ
 lines_text [] = []
 lines_text (entry ∷ older) = lines_text older ++ entry_text entry
 
--- the text of a report
-abbrev pub report_text : List PlainEntry → Last → List ℕ
-report_text entries last = first_line ++ lines_text entries ++ last_text last
+-- the text of a report of a version
+abbrev pub report_text : (version : ℕ) → List PlainEntry → Last → List ℕ
+report_text version entries last = first_line version ++ lines_text entries ++ last_text last

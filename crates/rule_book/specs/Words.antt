@@ -1,10 +1,10 @@
 -- The words of a line (this project's profile).
-use Rattle.std.specs.Prelude.{◌≡◌, ℕ, ◌^◌, ◌<◌, List, [], ◌∷◌, ◌++◌, length, map, Some, None, codes, decimal}
+use Rattle.std.specs.Prelude.{◌≡◌, ℕ, ◌^◌, ◌<◌, List, [], ◌∷◌, ◌++◌, length, map, Option, Some, None, codes, decimal}
 use Rattle.std.specs.List.{AllByRecursion, flat_map}
 use Rattle.rule_book.specs.Entries.{PlainEntry}
 use Rattle.rule_book.specs.Reports.{EndedFits}
 use Rattle.rule_book.specs.Rules.{rule_name}
-use Rattle.rule_book.specs.Text.{part, reason_word, side_word, stop_word, verdict_word}
+use Rattle.rule_book.specs.Text.{ended_word, part, reason_word, side_word, stop_word, verdict_word}
 use Rattle.rule_book.specs.declared.entry.Ended.{Ended}
 use Rattle.rule_book.specs.declared.last.Last.{Last}
 use Rattle.rule_book.specs.declared.last.Last.TheVariants.{End, Stop}
@@ -22,14 +22,25 @@ pub data Mark : Type 0 where
   began : ℕ → Mark
   over : Ended → Mark
 
--- the word: eras are marked `@` (64), `+` (43) and `-` (45), the last with `:` (58) and the reason
+-- the word: eras are marked `@` (64), `+` (43) and `-` (45)
 abbrev pub mark_word : Mark → List ℕ
 mark_word (named rule) = rule_name rule
 mark_word (belongs era) = 64 ∷ decimal era
 mark_word (began era) = 43 ∷ decimal era
-mark_word (over ended) = 45 ∷ decimal ended.era ++ 58 ∷ reason_word ended.reason
+mark_word (over ended) = 45 ∷ ended_word ended
 
--- its number is one of 32 bits
+-- the third part of an ended era's word, which is empty where its octets are not told
+abbrev pub octets_word : Option ℕ → List ℕ
+octets_word None = []
+octets_word (Some octets) = decimal octets
+
+-- these are the three parts of an ended era's word
+pub record HasParts (ended : Ended) (era reason octets : List ℕ) : Type 0 where
+  pub era_is : era ≡ decimal ended.era
+  pub reason_is : reason ≡ reason_word ended.reason
+  pub octets_is : octets ≡ octets_word ended.octets
+
+-- its numbers are of their types
 abbrev pub MarkFits : Mark → Type 0
 MarkFits (named rule) = Unit {0}
 MarkFits (belongs era) = era < 2 ^ 32

@@ -1,7 +1,7 @@
 //! What the report says of one record, and its line.
 ghost use Rattle.std.specs.Prelude.{◌≡◌, ◌+◌, ◌*◌, ◌≤◌, length, take};
 ghost use Rattle.std.specs.List.{flat_map};
-ghost use Rattle.rule_book.specs.Entries.{plain};
+ghost use Rattle.rule_book.specs.Entries.{IsOfVersion, plain};
 ghost use Rattle.rule_book.specs.Lines.{Adds};
 ghost use Rattle.rule_book.specs.Text as text;
 ghost use Rattle.rule_book.specs.declared.entry.Reason.{Reason};
@@ -44,6 +44,8 @@ pub enum Reason {
 pub struct Ended {
     pub era: u32,
     pub reason: Reason,
+    /// At how many places of its stream an octet went inwards. A report of version 1 does not tell it.
+    pub octets: Option<u64>,
 }
 
 /// What the report says of one record.
@@ -122,8 +124,19 @@ impl Reason {
     }
 }
 
-/// Writes the line of an entry, and answers how many octets it has.
+/// Writes the line of an entry, and answers how many octets it has. It is one of version 2: each era that ended has its
+/// octets.
 pub fn entry_line(entry: &Entry, buf: &mut [u8]) -> usize
+    requires octets { IsOfVersion 2 (plain entry.now) }
+    requires room { 400 ≤ length buf.old }
+    ensures text { take result buf.new ≡ text.entry_text (plain entry.now) }
+    ensures bound { result ≤ 376 }
+{
+    line_of(entry, buf)
+}
+
+/// Writes the line of an entry of either version, and answers how many octets it has.
+pub(crate) fn line_of(entry: &Entry, buf: &mut [u8]) -> usize
     requires { 400 ≤ length buf.old }
     ensures text { take result buf.new ≡ text.entry_text (plain entry.now) }
     ensures bound { result ≤ 376 }
@@ -178,27 +191,41 @@ fn put_era(line: &mut Line<'_>, mark: u8, era: Option<u32>)
     }
 }
 
-/// Writes each era that ended, with the reason.
+/// Writes each era that ended.
 fn put_ended(line: &mut Line<'_>, eras: &[Ended])
-    requires { line.old.len + 21 * length eras.now ≤ length line.old.buf.now }
+    requires { line.old.len + 42 * length eras.now ≤ length line.old.buf.now }
     ensures same_buffer { line.new.buf.ghost_name ≡ line.old.buf.ghost_name }
     ensures adds { Adds line.old line.new (flat_map text.ended_part eras.now) }
-    ensures bound { line.new.len ≤ line.old.len + 21 * length eras.now }
+    ensures bound { line.new.len ≤ line.old.len + 42 * length eras.now }
 {
     for ended in eras {
         put_end(line, *ended);
     }
 }
 
-/// Writes an era that ended, with the reason.
+/// Writes an era that ended, with the reason and, where they are told, its octets.
 fn put_end(line: &mut Line<'_>, ended: Ended)
-    requires { line.old.len + 21 ≤ length line.old.buf.now }
+    requires { line.old.len + 42 ≤ length line.old.buf.now }
     ensures same_buffer { line.new.buf.ghost_name ≡ line.old.buf.ghost_name }
     ensures adds { Adds line.old line.new (text.ended_part ended) }
-    ensures bound { line.new.len ≤ line.old.len + 21 }
+    ensures bound { line.new.len ≤ line.old.len + 42 }
 {
     line.text(" -");
     line.number(ended.era);
     line.text(":");
     line.text(ended.reason.word());
+    put_octets(line, ended.octets);
+}
+
+/// Writes the octets of an era that ended, where they are told.
+fn put_octets(line: &mut Line<'_>, octets: Option<u64>)
+    requires { line.old.len + 21 ≤ length line.old.buf.now }
+    ensures same_buffer { line.new.buf.ghost_name ≡ line.old.buf.ghost_name }
+    ensures adds { Adds line.old line.new (text.octets_part octets) }
+    ensures bound { line.new.len ≤ line.old.len + 21 }
+{
+    if let Some(number) = octets {
+        line.text(":");
+        line.long_number(number);
+    }
 }

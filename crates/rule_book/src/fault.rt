@@ -8,7 +8,7 @@ use thiserror::Error;
 /// The first fault of a report that is read. Lines are counted from 1.
 #[derive(Clone, Copy, Debug, PartialEq, Eq, Error)]
 pub enum LineFault {
-    #[error("the first line is not `norm 1`")]
+    #[error("the first line is neither `norm 1` nor `norm 2`")]
     First,
     /// This line is missing, is none of the text, or stands behind the last one.
     #[error("line {0} is no line of a report")]

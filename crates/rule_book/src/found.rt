@@ -1,31 +1,42 @@
 //! What a line tells. An entry and a last line have one text each, so a line is read leniently, and is taken only where
 //! what was found in it is written as this very line.
-ghost use Rattle.std.specs.Prelude.{◌≡◌, ◌≢◌, ℕ, ◌∷◌, ◌++◌, decimal, Option, IfSome, IsSome, IsSomeAnd, MatchOption};
-ghost use Rattle.rule_book.specs.Entries.{PlainEntry, plain};
-ghost use Rattle.rule_book.specs.Reports.{EndedFits, EntryFits, LastFits};
-ghost use Rattle.rule_book.specs.Text.{entry_text, last_text, reason_word, side_word};
-ghost use Rattle.rule_book.specs.Words.{Awaits, HasLastWords, HasRoom, HasWords, Mark, MarkFits, mark_word, with_mark};
+ghost use Rattle.std.specs.Prelude.{◌≡◌, ◌≢◌, ◌↔◌, ℕ, ◌^◌, ◌<◌, [], decimal, Option, Some, None, IfSome, IsSome, IsSomeAnd, IsTrue, MatchOption};
+ghost use Rattle.rule_book.specs.Entries.{IsOfVersion, PlainEntry, plain};
+ghost use Rattle.rule_book.specs.Reports.{EndedFits, EntryFits, IsEntryOf, LastFits};
+ghost use Rattle.rule_book.specs.Text.{ended_word, entry_text, last_text, side_word};
+ghost use Rattle.rule_book.specs.Words.{Awaits, HasLastWords, HasParts, HasRoom, HasWords, Mark, MarkFits, mark_word, with_mark};
 ghost use Rattle.rule_book.specs.declared.entry.Ended.{Ended};
 ghost use Rattle.rule_book.specs.declared.last.Last.{Last};
 ghost use Rattle.wire_base.specs.declared.address.Side.{Side};
 
+use crate::entry::line_of;
 use crate::words::{cut, long_number_of, number_of, short_number_of};
-use crate::{Ended, Entry, Last, Reason, Rule, StopKind, Verdict, entry_line, last_line};
+use crate::{Ended, Entry, Last, Reason, Rule, StopKind, Verdict, last_line};
 use arrayvec::ArrayVec;
 use wire_base::Side;
 
-/// The entry whose line this is.
-pub fn read_entry(line: &[u8]) -> Option<Entry>
-    ensures { MatchOption result ((entry : PlainEntry) → EntryFits entry → line.now ≢ entry_text entry) (λ entry. EntryFits (plain entry) × (line.now ≡ entry_text (plain entry))) }
+/// The entry of a version whose line this is.
+pub fn read_entry(line: &[u8], version: u8) -> Option<Entry>
+    ensures { MatchOption result ((entry : PlainEntry) → IsEntryOf version entry → line.now ≢ entry_text entry) (λ entry. IsEntryOf version (plain entry) × (line.now ≡ entry_text (plain entry))) }
 {
     let entry = found_entry(line)?;
     let mut buf = [0; 400];
-    let len = entry_line(&entry, &mut buf);
-    if line == &buf[..len] {
+    let len = line_of(&entry, &mut buf);
+    if line == &buf[..len] && is_of_version(&entry, version) {
         Some(entry)
     } else {
         None
     }
+}
+
+/// Whether each era that ended has its octets, where the version is 2, or none has, where it is another.
+fn is_of_version(entry: &Entry, version: u8) -> bool
+    ensures { IsTrue result ↔ IsOfVersion version (plain entry.now) }
+{
+    entry
+        .ended
+        .iter()
+        .all(|ended| ended.octets.is_some() == (version == 2))
 }
 
 /// The last line of a report that this is.
@@ -130,16 +141,39 @@ fn add_mark(entry: &mut Entry, word: &[u8]) -> Option<()>
     Some(())
 }
 
-/// The era that ended, and why.
+/// The era that ended, why, and its octets, where a third part tells them.
 fn ended_of(word: &[u8]) -> Option<Ended>
-    ensures value { (ended : Ended) → EndedFits ended → word.now ≡ decimal ended.era ++ 58 ∷ reason_word ended.reason → result ≡ Some ended }
+    ensures value { (ended : Ended) → EndedFits ended → word.now ≡ ended_word ended → result ≡ Some ended }
     ensures fits { IfSome result EndedFits }
 {
-    let (era, reason) = cut(word, b':');
+    let (era, reason, octets) = parts_of(word);
     Some(Ended {
         era: number_of(era)?,
         reason: Reason::of_word(reason)?,
+        octets: octets_of(octets)?,
     })
+}
+
+/// Cuts the word of an era that ended into its three parts; the last is empty where it is not there.
+fn parts_of(word: &[u8]) -> (&[u8], &[u8], &[u8])
+    ensures { (ended : Ended) → EndedFits ended → word.now ≡ ended_word ended → HasParts ended result.0.now result.1.now result.2.now }
+{
+    let (era, behind) = cut(word, b':');
+    let (reason, octets) = cut(behind, b':');
+    (era, reason, octets)
+}
+
+/// The octets of a third part, which may be none.
+fn octets_of(word: &[u8]) -> Option<Option<u64>>
+    ensures none { word.now ≡ [] → result ≡ Some None }
+    ensures value { (octets : ℕ) → octets < 2 ^ 64 → word.now ≡ decimal octets → result ≡ Some (Some octets) }
+    ensures bound { IfSome result (λ found. IfSome found (λ octets. octets < 2 ^ 64)) }
+{
+    if word.is_empty() {
+        Some(None)
+    } else {
+        Some(Some(long_number_of(word)?))
+    }
 }
 
 /// The last line of a line that is one.

@@ -1,6 +1,7 @@
 //! Laws of the table of rules, and of the text of a report.
+ghost use Rattle.std.specs.Prelude.{◌++◌};
 ghost use Rattle.rule_book.specs.Reports.{EntriesDiffer, LastsDiffer, TextsAreInOrder, TextsDiffer};
-ghost use Rattle.rule_book.specs.Rules.{FoundByName, FoundByNumber, NamesDiffer, NumbersDiffer, Rises, drop_rows, fix_rows, step_rows};
+ghost use Rattle.rule_book.specs.Rules.{FoundByName, FoundByNumber, NamesDiffer, NumbersDiffer, Rises, RisesButForQuota, cut_rows, drop_rows, fix_rows, step_rows};
 
 /// A number names a rule.
 pub fn numbers_name_rules()
@@ -14,11 +15,10 @@ pub fn names_name_rules()
     ensures differ { NamesDiffer }
 {}
 
-/// Each list of rules is in the order of their numbers.
+/// Rules are named in the order of their numbers. They are tested in that order but for `TQuota`.
 pub fn numbers_rise()
-    ensures drops { Rises drop_rows }
-    ensures fixes { Rises fix_rows }
-    ensures steps { Rises step_rows }
+    ensures drops { RisesButForQuota drop_rows }
+    ensures named { Rises (fix_rows ++ step_rows ++ cut_rows) }
 {}
 
 /// No text is of two reports, no line of two entries, and no last line of two ends of a run.

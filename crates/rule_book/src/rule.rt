@@ -3,9 +3,9 @@ ghost use Rattle.std.specs.Prelude.{◌≡◌, ◌≤◌, ◌↔◌, length};
 ghost use Rattle.rule_book.specs.Rules.{rule_name, rule_number};
 ghost use Rattle.rule_book.specs.declared.rule.Rule.{Rule};
 
-/// A rule: why a packet is dropped (up to `TRoom`, and `XLater`), or what happens to one that is not.
+/// A rule: why a packet is dropped (those up to `TRoom`, and `XLater`, `TQuota`, `EMtu`), or what happens to one that is not.
 /// The first letter says what it is about: the link, the IPv4 header, the protocol, fragments, UDP, ICMP, TCP,
-/// the connection; X is for what is not built yet.
+/// the connection, frames that are too long for the link; X is for what is not built yet.
 #[derive(Clone, Copy, Debug, Default, PartialEq, Eq)]
 pub enum Rule {
     /// The capture holds only a part of the frame.
@@ -119,7 +119,7 @@ pub enum Rule {
     TOld,
     /// Octets past the window of the inside are cut off.
     TWindow,
-    /// Octets too far ahead to be told from older ones are cut off.
+    /// Octets too far ahead to be told from older ones are cut off. It holds nowhere, and is read in older reports.
     TTurn,
     /// Octets past the end of the stream are cut off, or a FIN is cleared.
     TEnd,
@@ -127,10 +127,16 @@ pub enum Rule {
     TClash,
     /// A packet whose rules are not built yet.
     XLater,
+    /// Inbound octets that would take their connection above its quota of cells. It is tested before `TRoom`.
+    TQuota,
+    /// A TCP frame that is too long goes out as several.
+    ECut,
+    /// Another frame that is too long does not go out.
+    EMtu,
 }
 
 /// All rules.
-const ALL: [Rule; 59] = [
+const ALL: [Rule; 62] = [
     Rule::LSnap,
     Rule::LShort,
     Rule::LType,
@@ -170,6 +176,7 @@ const ALL: [Rule; 59] = [
     Rule::TSyn,
     Rule::TRst,
     Rule::TFull,
+    Rule::TQuota,
     Rule::TRoom,
     Rule::XLater,
     Rule::ITrail,
@@ -190,10 +197,12 @@ const ALL: [Rule; 59] = [
     Rule::TTurn,
     Rule::TEnd,
     Rule::TClash,
+    Rule::ECut,
+    Rule::EMtu,
 ];
 
 impl Rule {
-    /// The number of the rule, from 1 to 59.
+    /// The number of the rule, from 1 to 62.
     pub fn number(self) -> u8
         ensures { result ≡ rule_number self }
     {
@@ -265,6 +274,9 @@ impl Rule {
             Rule::TEnd => "T_END",
             Rule::TClash => "T_CLASH",
             Rule::XLater => "X_LATER",
+            Rule::TQuota => "T_QUOTA",
+            Rule::ECut => "E_CUT",
+            Rule::EMtu => "E_MTU",
         }
     }
     /// The rule of this name, where there is one.

@@ -1,3 +1,4 @@
+use crate::entry::line_of;
 use crate::{
     Ended, Entry, Last, LineFault, Reason, Rule, StopKind, Verdict, entry_line, last_line,
     read_report,
@@ -34,9 +35,13 @@ fn with_eras(mut entry: Entry, era: u32, begun: Option<u32>, ended: &[Ended]) ->
     entry
 }
 
-/// An era that ended.
-fn end_of(era: u32, reason: Reason) -> Ended {
-    Ended { era, reason }
+/// An era that ended after so many octets.
+fn end_of(era: u32, reason: Reason, octets: u64) -> Ended {
+    Ended {
+        era,
+        reason,
+        octets: Some(octets),
+    }
 }
 
 #[test]
@@ -48,7 +53,10 @@ fn each_part_of_an_entry_has_its_place(rt: HostRuntime) {
         plain_entry(most, outward, Verdict::Drop, 255),
         &[Rule::TSumOut; 16],
     );
-    let reset = [end_of(10, Reason::Idle), end_of(9, Reason::Reset)];
+    let reset = [
+        end_of(10, Reason::Idle, 4294967296),
+        end_of(9, Reason::Reset, 18),
+    ];
     let table = [
         (
             with_eras(plain_entry(1, inward, Verdict::Pass, 1), 1, Some(1), &[]),
@@ -59,9 +67,9 @@ fn each_part_of_an_entry_has_its_place(rt: HostRuntime) {
                 plain_entry(2, inward, Verdict::Pass, 1),
                 2,
                 Some(2),
-                &[end_of(1, Reason::Evicted)],
+                &[end_of(1, Reason::Evicted, 0)],
             ),
-            "2 in pass 1 @2 +2 -1:evicted\n",
+            "2 in pass 1 @2 +2 -1:evicted:0\n",
         ),
         (
             with_rules(plain_entry(3, None, Verdict::Drop, 0), &[Rule::LSnap]),
@@ -90,27 +98,68 @@ fn each_part_of_an_entry_has_its_place(rt: HostRuntime) {
                 None,
                 &reset,
             ),
-            "100 out pass 10 @9 -10:idle -9:reset\n",
+            "100 out pass 10 @9 -10:idle:4294967296 -9:reset:18\n",
+        ),
+        (
+            with_eras(
+                plain_entry(4, outward, Verdict::Pass, 1),
+                1,
+                None,
+                &[Ended {
+                    era: 1,
+                    reason: Reason::Reset,
+                    octets: None,
+                }],
+            ),
+            "4 out pass 1 @1 -1:reset\n",
         ),
         (
             with_eras(
                 longest,
                 most,
                 Some(most),
-                &[end_of(most, Reason::Reopened); 4],
+                &[end_of(most, Reason::Reopened, u64::MAX); 4],
             ),
             "4294967295 out drop 255 \
              T_SUM_OUT T_SUM_OUT T_SUM_OUT T_SUM_OUT T_SUM_OUT T_SUM_OUT T_SUM_OUT T_SUM_OUT \
              T_SUM_OUT T_SUM_OUT T_SUM_OUT T_SUM_OUT T_SUM_OUT T_SUM_OUT T_SUM_OUT T_SUM_OUT \
-             @4294967295 +4294967295 -4294967295:reopened -4294967295:reopened \
-             -4294967295:reopened -4294967295:reopened\n",
+             @4294967295 +4294967295 -4294967295:reopened:18446744073709551615 \
+             -4294967295:reopened:18446744073709551615 -4294967295:reopened:18446744073709551615 \
+             -4294967295:reopened:18446744073709551615\n",
         ),
     ];
     for (entry, text) in &table {
         let mut buf = [b'#'; 400];
-        let len = entry_line(entry, &mut buf);
+        let len = line_of(entry, &mut buf);
         assert_eq!(rt; &buf[..len], text.as_bytes(), "{text}");
     }
+    assert_eq!(rt; table[7].1.len(), 376);
+}
+
+#[test]
+fn a_line_tells_the_octets_of_the_era_that_ended(rt: HostRuntime) {
+    let mut ended = ArrayVec::new();
+    ended.push(Ended {
+        era: 1,
+        reason: Reason::Reopened,
+        octets: Some(18),
+    });
+    let entry = Entry {
+        number: 11,
+        side: Some(Side::Inward),
+        verdict: Verdict::Pass,
+        packets: 1,
+        rules: ArrayVec::new(),
+        era: Some(2),
+        begun: Some(2),
+        ended,
+    };
+    let mut buf = [b'#'; 400];
+    let len = entry_line(&entry, &mut buf);
+    assert_eq!(rt;
+        &buf[..len],
+        b"11 in pass 1 @2 +2 -1:reopened:18\n".as_slice()
+    );
 }
 
 #[test]
@@ -154,11 +203,11 @@ fn stop(kind: StopKind, offset: u64) -> Last {
 
 #[test]
 fn a_report_of_a_connection_is_read(rt: HostRuntime) -> Result<(), Fail> {
-    let text = "norm 1\n1 in pass 1 @1 +1\n2 out pass 1 @1\n3 in pass 1 @1\n4 in pass 1 @1\n\
+    let text = "norm 2\n1 in pass 1 @1 +1\n2 out pass 1 @1\n3 in pass 1 @1\n4 in pass 1 @1\n\
                 5 out pass 1 @1\n6 out pass 1 @1\n7 in pass 1 @1\n8 out pass 1 @1\n9 in pass 1 @1\n\
                 10 out pass 1 @1\nend 10 10\n";
     let report = read_report(rt.alloc(), text.as_bytes())?;
-    assert_eq!(rt; report.last, end(10, 10));
+    assert_eq!(rt; (report.version, report.last), (2, end(10, 10)));
     assert_eq!(rt; report.entries.len(), 10);
     assert_eq!(rt; report.entries[0].begun, Some(1));
     for (entry, number) in report.entries.iter().zip(1u32..11) {
@@ -174,10 +223,12 @@ fn a_report_of_a_connection_is_read(rt: HostRuntime) -> Result<(), Fail> {
 #[test]
 fn texts_of_values_are_read(rt: HostRuntime) -> Result<(), Fail> {
     let table = [
-        ("norm 1\nend 0 0\n", 0, end(0, 0)),
-        ("norm 1\n1 in pass 1 @0\nend 7 0\n", 1, end(7, 0)),
+        ("norm 1\nend 0 0\n", 1, 0, end(0, 0)),
+        ("norm 2\nend 0 0\n", 2, 0, end(0, 0)),
+        ("norm 2\n1 in pass 1 @0\nend 7 0\n", 2, 1, end(7, 0)),
         (
-            "norm 1\n1 - drop 0 L_SNAP\n2 out hold 3 T_FULL\nstop magic 7\n",
+            "norm 2\n1 - drop 0 L_SNAP\n2 out hold 3 T_FULL\nstop magic 7\n",
+            2,
             2,
             stop(StopKind::Magic, 7),
         ),
@@ -185,13 +236,67 @@ fn texts_of_values_are_read(rt: HostRuntime) -> Result<(), Fail> {
             "norm 1\n1 in pass 255 X_LATER I_TRAIL @4294967295 +0 -0:idle -9:evicted -9:reset -1:reopened\n\
              stop read 18446744073709551615\n",
             1,
+            1,
             stop(StopKind::ReadFault, u64::MAX),
         ),
+        (
+            "norm 2\n1 in drop 0 T_QUOTA @1 -1:idle:0 -2:idle:18446744073709551615\n2 in fix 3 E_CUT @3\n\
+             3 in drop 0 E_MTU\nend 3 3\n",
+            2,
+            3,
+            end(3, 3),
+        ),
     ];
-    for (text, entries, last) in table {
+    for (text, version, entries, last) in table {
         let report = read_report(rt.alloc(), text.as_bytes())?;
+        assert_eq!(rt; report.version, version, "{text}");
         assert_eq!(rt; report.entries.len(), entries, "{text}");
         assert_eq!(rt; report.last, last, "{text}");
+    }
+    Ok(())
+}
+
+#[test]
+fn the_octets_of_an_ended_era_are_read_in_version_2(rt: HostRuntime) -> Result<(), Fail> {
+    let table = [
+        (
+            "norm 1\n1 in fix 1 T_TURN @1 -1:reset\nend 1 1\n",
+            Reason::Reset,
+            None,
+        ),
+        (
+            "norm 1\n1 in pass 1 -1:evicted\nend 1 1\n",
+            Reason::Evicted,
+            None,
+        ),
+        (
+            "norm 2\n1 in pass 1 -1:evicted:0\nend 1 1\n",
+            Reason::Evicted,
+            Some(0),
+        ),
+        (
+            "norm 2\n1 in pass 1 -1:reopened:18\nend 1 1\n",
+            Reason::Reopened,
+            Some(18),
+        ),
+        (
+            "norm 2\n1 in pass 1 -1:idle:18446744073709551615\nend 1 1\n",
+            Reason::Idle,
+            Some(u64::MAX),
+        ),
+    ];
+    for (text, reason, octets) in table {
+        let report = read_report(rt.alloc(), text.as_bytes())?;
+        let ended = Ended {
+            era: 1,
+            reason,
+            octets,
+        };
+        assert_eq!(rt;
+            report.entries[0].ended.as_slice(),
+            [ended].as_slice(),
+            "{text}"
+        );
     }
     Ok(())
 }
@@ -200,10 +305,15 @@ fn texts_of_values_are_read(rt: HostRuntime) -> Result<(), Fail> {
 fn each_fault_is_told_at_its_line(rt: HostRuntime) {
     let table = [
         ("", LineFault::First),
-        ("norm 0\n", LineFault::First),
+        ("norm 0\nend 0 0\n", LineFault::First),
+        ("norm 3\nend 0 0\n", LineFault::First),
+        ("norm 02\nend 0 0\n", LineFault::First),
+        ("norm 2 both\nend 0 0\n", LineFault::First),
         ("norm 1", LineFault::First),
+        ("norm 2", LineFault::First),
         ("end 0 0\n", LineFault::First),
         ("norm 1\n", LineFault::Shape(2)),
+        ("norm 2\n", LineFault::Shape(2)),
         ("norm 1\n\n", LineFault::Shape(2)),
         ("norm 1\n1 in pass 1\n", LineFault::Shape(3)),
         ("norm 1\n1 in pass 1", LineFault::Shape(2)),
@@ -257,6 +367,42 @@ fn each_fault_is_told_at_its_line(rt: HostRuntime) {
         (
             "norm 1\n1 in fix 1 T_OPT T_OPT T_OPT T_OPT T_OPT T_OPT T_OPT T_OPT T_OPT T_OPT \
              T_OPT T_OPT T_OPT T_OPT T_OPT T_OPT T_OPT\nend 1 1\n",
+            LineFault::Shape(2),
+        ),
+        (
+            "norm 2\n1 in pass 1 -1:reset\nend 1 1\n",
+            LineFault::Shape(2),
+        ),
+        (
+            "norm 2\n1 in pass 1 -1:idle:0 -2:reset\nend 1 1\n",
+            LineFault::Shape(2),
+        ),
+        (
+            "norm 1\n1 in pass 1 -1:reset:0\nend 1 1\n",
+            LineFault::Shape(2),
+        ),
+        (
+            "norm 2\n2 in pass 1 -1:reset\nend 1 1\n",
+            LineFault::Shape(2),
+        ),
+        (
+            "norm 2\n1 in pass 1 -1:reset:\nend 1 1\n",
+            LineFault::Shape(2),
+        ),
+        (
+            "norm 1\n1 in pass 1 -1:reset:\nend 1 1\n",
+            LineFault::Shape(2),
+        ),
+        (
+            "norm 2\n1 in pass 1 -1:reset:01\nend 1 1\n",
+            LineFault::Shape(2),
+        ),
+        (
+            "norm 2\n1 in pass 1 -1:reset:1:1\nend 1 1\n",
+            LineFault::Shape(2),
+        ),
+        (
+            "norm 2\n1 in pass 1 -1:reset:18446744073709551616\nend 1 1\n",
             LineFault::Shape(2),
         ),
         ("norm 1\nend 4294967296 0\n", LineFault::Shape(2)),

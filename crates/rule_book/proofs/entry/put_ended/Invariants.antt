@@ -9,5 +9,5 @@ abbrev pub invariant-loop-ended : goal.invariant-loop-ended
 invariant-loop-ended l = record {
   same_buffer : l.line.buf.ghost_name ≡ l.fn.line.buf.ghost_name;
   adds : Adds l.fn.line l.line (flat_map ended_part (take l.ended-index l.eras));
-  bound : l.line.len ≤ l.fn.line.len + 21 * l.ended-index;
+  bound : l.line.len ≤ l.fn.line.len + 42 * l.ended-index;
 }

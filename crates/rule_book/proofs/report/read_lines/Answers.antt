@@ -4,7 +4,7 @@ use Rattle.rule_book.proofs.Lines.{has_line}
 use Rattle.rule_book.proofs.Marks.{is_full}
 use Rattle.rule_book.proofs.Reading.{read_at, read_next}
 use Rattle.rule_book.specs.Entries.{plain}
-use Rattle.rule_book.specs.Reports.{EntryFits, LastFits, lines}
+use Rattle.rule_book.specs.Reports.{IsEntryOf, LastFits, lines}
 use Rattle.rule_book.specs.Text.{entry_text, first_line, last_text}
 use Rattle.rule_book.proofs.report.read_lines.Goals as goal
 
@@ -15,6 +15,7 @@ returns-else-is_empty-clause-err c =
     let fits : LastFits c.in-Some.last = search rules in
     let text : c.in_ok-text.text.now ≡ last_text c.in-Some.last = search rules in
     inr (inr (record {
+      version = c.args.version;
       entries = map plain c.loop-entries.entries.items;
       last = c.in-Some.last;
       fits = fits;
@@ -29,12 +30,12 @@ loop-entries-preserved c =
     let entries = c.loop-entries.entries.items in
     let entry = c.in_ok-entry.entry in
     let front : lines c.loop-entries.rest.now ≡ c.in_ok-text.text.now ∷ lines c.in_ok-text.behind.now = search rules in
-    let fits : EntryFits (plain entry) = search rules in
+    let fits : IsEntryOf c.args.version (plain entry) = search rules in
     let text : c.in_ok-text.text.now ≡ entry_text (plain entry) = search rules in
     let number : entry.number + 1 ≡ c.loop-entries.line = omega arith in
     let more : map plain c.push.new.self.items ≡ map plain entries ++ plain entry ∷ [] = ap (map plain) c.in_ok-push.ensures.items ∙ map-append plain entries (entry ∷ []) in
     record {
-      read = read_next (first_line ∷ lines c.args.text.now) (map plain entries) (plain entry) (map plain c.push.new.self.items) (lines c.loop-entries.rest.now) c.in_ok-text.text.now (lines c.in_ok-text.behind.now) c.loop-entries.line
+      read = read_next c.args.version (first_line c.args.version ∷ lines c.args.text.now) (map plain entries) (plain entry) (map plain c.push.new.self.items) (lines c.loop-entries.rest.now) c.in_ok-text.text.now (lines c.in_ok-text.behind.now) c.loop-entries.line
           c.loop-entries.invariant.read front fits text (omega (arith, length-map entries plain)) number more;
       place = omega (arith, length-append entries (entry ∷ []), ap length c.in_ok-push.ensures.items);
     }

@@ -7,7 +7,7 @@ use Rattle.rule_book.proofs.report.read_lines.Given as goal
 -- the entries so far are those of the lines before this one
 abbrev pub invariant-loop-entries : goal.invariant-loop-entries
 invariant-loop-entries l = record {
-  read : IsReadTo (first_line ∷ lines l.text) (map plain l.entries.items) (lines l.rest);
+  read : IsReadTo l.version (first_line l.version ∷ lines l.text) (map plain l.entries.items) (lines l.rest);
   place : l.line ≡ length l.entries.items + 2;
 }
 
