@@ -1,19 +1,25 @@
 -- What words ask for (this project's profile). A word is the list of its octets.
-use Rattle.std.specs.Prelude.{ℕ, ◌==◌, ◌&&◌, not, Bool, false, List, [], ◌∷◌, Result, Ok, Err, codes, string_bytes, if◌then◌else◌}
+use Rattle.std.specs.Prelude.{ℕ, ◌+◌, ◌&&◌, ◌||◌, not, nat_lt, nat_le, Bool, false, List, [], ◌∷◌, ◌++◌, length, Option, Some, None, is_some, Result, Ok, Err, codes, string_bytes, if◌then◌else◌}
+use Rattle.std.specs.List.{list_all}
 use Rattle.std.specs.Str.{bytes_eq}
+use Rattle.wire_base.specs.declared.prefix.Prefix as wire
 use Rattle.wire_base.specs.Prefixes.{prefix_of}
-use Rattle.norm_settings.specs.Settings.{PlainSettings, plain_settings, standard, AreInRange}
+use Rattle.command_line.specs.Options.{Text, is_name, number_within}
+use Rattle.command_line.specs.Line.{PlainUse, PlainLine, given, line_of}
+use Rattle.command_line.specs.declared.options.Choice.TheVariants.{Inside, Mtu, Both}
+use Rattle.norm_settings.specs.Settings.{PlainSettings, plain_settings, settings_of, AreInRange, AreBuilt}
 use Rattle.norm_settings.specs.declared.command.Names.{Names}
 use Rattle.norm_settings.specs.declared.command.Command.{Command}
 use Rattle.norm_settings.specs.declared.command.Command.TheVariants.{Run, Load}
 use Rattle.norm_settings.specs.declared.fault.WordFault.{WordFault}
-use Rattle.norm_settings.specs.declared.fault.WordFault.TheVariants.{Refused, Prefix, Same}
+use Rattle.norm_settings.specs.declared.fault.WordFault.TheVariants.{Refused, Prefix, TooMany, Same}
 
 -- the names of a run's files as lists of octets
 pub record PlainNames : Type 0 where
   pub input : List ℕ
   pub output : List ℕ
 
+-- names of the code, over plain values
 abbrev pub plain_names : Names → PlainNames
 plain_names n = record { input = string_bytes n.input; output = string_bytes n.output }
 
@@ -22,26 +28,68 @@ pub data PlainCommand : Type 0 where
   run : PlainNames → PlainSettings → PlainCommand
   load : (seed count : ℕ) → PlainCommand
 
+-- a command of the code, over plain values
 abbrev pub plain_command : Command → PlainCommand
 plain_command (Run names settings) = run (plain_names names) (plain_settings settings)
 plain_command (Load seed count) = load seed count
 
--- a word that is not empty and does not begin with `-` (45)
-abbrev pub is_name : List ℕ → Bool
-is_name [] = false
-is_name (first ∷ _) = not (first == 45)
+-- the prefixes that words continue after these, or the place of the first word that is none, counted from 1
+abbrev pub prefixes_from : List wire.Prefix → List Text → Result (List wire.Prefix) ℕ
+prefixes_from done [] = Ok done
+prefixes_from done (word ∷ words) =
+    elim (prefix_of word) [ Ok prefix ↦ prefixes_from (done ++ prefix ∷ []) words | Err _ ↦ Err (length done + 1) ]
 
--- the run that two names and a prefix ask for: refused where the names are one, and then where the word for the prefix is none, which is the first
-abbrev pub run_of : (input output prefix : List ℕ) → Result PlainCommand WordFault
-run_of input output prefix =
-    if bytes_eq input output then Err Same
-    else (elim (prefix_of prefix) [ Ok p ↦ Ok (run (record { input = input; output = output }) (standard (p ∷ []))) | Err _ ↦ Err (Prefix 1) ])
+-- `--both` goes neither with `--inside` nor with `--mtu`
+abbrev pub go_together : List PlainUse → Bool
+go_together uses = not (is_some (given Both uses) && (is_some (given Inside uses) || is_some (given Mtu uses)))
 
--- the words are four: `run`, and three that are not empty and do not begin with `-`
-abbrev pub asked : List (List ℕ) → Result PlainCommand WordFault
-asked (verb ∷ input ∷ output ∷ prefix ∷ []) =
-    if bytes_eq verb (codes "run") && is_name input && is_name output && is_name prefix then run_of input output prefix else Err Refused
-asked _ = Err Refused
+-- at least three names, none of them empty and none beginning with `-`, behind options that go together
+abbrev pub is_whole : PlainLine → Bool
+is_whole line = nat_le 3 (length line.names) && list_all is_name line.names && go_together line.uses
+
+-- the run, where each prefix was read, or the place of the first that is faulty
+abbrev pub run_by : PlainNames → List PlainUse → Result (List wire.Prefix) ℕ → Result PlainCommand WordFault
+run_by names uses (Ok prefixes) = Ok (run names (settings_of (λ choice. given choice uses) prefixes))
+run_by names uses (Err place) = Err (Prefix place)
+
+-- the run that a line asks for: refused where the names are one, then where there are over 16 prefixes, and then where one is faulty
+abbrev pub run_of : PlainLine → Result PlainCommand WordFault
+run_of line =
+    elim line.names [
+      | input ∷ output ∷ prefixes ↦ (
+          if bytes_eq input output then Err Same
+          else if nat_lt 16 (length prefixes) then Err TooMany
+          else run_by (record { input = input; output = output }) line.uses (prefixes_from [] prefixes)
+          )
+      | _ ↦ Err Refused
+    ]
+
+-- the run that a line asks for, where there is a line and it is whole
+abbrev pub asked_run : Option PlainLine → Result PlainCommand WordFault
+asked_run None = Err Refused
+asked_run (Some line) = if is_whole line then run_of line else Err Refused
+
+-- whether a load may be asked for
+abbrev pub is_load_built : Bool
+is_load_built = false
+
+-- the load that words ask for: a seed and a number of records
+abbrev pub load_by : Option ℕ → Option ℕ → Result PlainCommand WordFault
+load_by (Some seed) (Some count) = Ok (load seed count)
+load_by _ _ = Err Refused
+
+-- the load that the words behind `load` ask for
+abbrev pub asked_load : List Text → Result PlainCommand WordFault
+asked_load (seed ∷ count ∷ []) = load_by (number_within 0 18446744073709551615 seed) (number_within 1 1000000 count)
+asked_load _ = Err Refused
+
+-- the words are `run`, options, two names and prefixes; or `load` and two numbers
+abbrev pub asked : List Text → Result PlainCommand WordFault
+asked [] = Err Refused
+asked (verb ∷ words) =
+    if bytes_eq verb (codes "run") then asked_run (line_of words)
+    else if is_load_built && bytes_eq verb (codes "load") then asked_load words
+    else Err Refused
 
 -- a run
 abbrev pub IsRun : Command → Type 0
@@ -52,3 +100,8 @@ IsRun (Load seed count) = ⊥
 abbrev pub SettingsAreInRange : Command → Type 0
 SettingsAreInRange (Run names settings) = AreInRange (plain_settings settings)
 SettingsAreInRange (Load seed count) = Unit {0}
+
+-- the settings of a run ask for nothing that is not built
+abbrev pub SettingsAreBuilt : Command → Type 0
+SettingsAreBuilt (Run names settings) = AreBuilt (plain_settings settings)
+SettingsAreBuilt (Load seed count) = Unit {0}

@@ -3,6 +3,7 @@ use Rattle.std.specs.Prelude.{ℕ}
 use Rattle.norm_settings.specs.declared.fault.WordFault.{WordFault}
 use Rattle.norm_settings.specs.declared.fault.WordFault.TheVariants.{Refused, Prefix, TooMany, NoMemory, Same}
 
+-- the number in `stop words N`
 abbrev pub number_of : WordFault → ℕ
 number_of Refused = 1
 number_of (Prefix place) = 2

@@ -2,3 +2,4 @@ pub mod Settings
 pub mod Side
 pub mod Faults
 pub mod Asked
+pub mod Found

@@ -1,6 +1,11 @@
 -- The settings of a run as plain values (this project's profile).
-use Rattle.std.specs.Prelude.{ℕ, ◌≤◌, Bool, false, List, All}
+use Rattle.std.specs.Prelude.{ℕ, ◌≡◌, ◌≤◌, Bool, false, List, All, Option, Some, None, IfSome, option_map, option_and_then, unwrap_or, codes, if◌then◌else◌}
+use Rattle.std.specs.Str.{bytes_eq}
 use Rattle.wire_base.specs.declared.prefix.Prefix.{Prefix}
+use Rattle.command_line.specs.Options.{Text, kind_of, is_value, is_built, number_by, standard_of, IsWithin}
+use Rattle.command_line.specs.declared.options.Choice.{Choice}
+use Rattle.command_line.specs.declared.options.Choice.TheVariants.{Hops, Flows, Cells, Frags, FragCells, Idle, FragTime, Seed, Quota, Mtu, Inside, Offload, Both}
+use Rattle.command_line.specs.declared.options.Kind.TheVariants.{Name}
 use Rattle.norm_settings.specs.declared.settings.Settings.{Settings}
 
 -- settings with their prefixes as a list
@@ -15,7 +20,13 @@ pub record PlainSettings : Type 0 where
   pub frag_time : ℕ
   pub seed : ℕ
   pub offload : Bool
+  pub quota : Option ℕ
+  pub both : Bool
+  pub mirror : Bool
+  pub inside : Option (List ℕ)
+  pub mtu : Option ℕ
 
+-- settings of the code, over plain values
 abbrev pub plain_settings : Settings → PlainSettings
 plain_settings s =
     record {
@@ -29,27 +40,54 @@ plain_settings s =
       frag_time = s.frag_time;
       seed = s.seed;
       offload = s.offload;
+      quota = s.quota;
+      both = s.both;
+      mirror = s.mirror;
+      inside = option_map (λ octets. octets.items) s.inside;
+      mtu = s.mtu;
     }
 
--- the settings where only prefixes are asked for
-abbrev pub standard : List Prefix → PlainSettings
-standard prefixes =
+-- the bound that is told by an option of which this value, or none, is found
+abbrev pub limit_told : Choice → Option Text → Option ℕ
+limit_told choice found = option_and_then (number_by (kind_of choice)) found
+
+-- the number that is told, or else the standard one
+abbrev pub number_told : Choice → Option Text → ℕ
+number_told choice found = unwrap_or (limit_told choice found) (standard_of (kind_of choice))
+
+-- the name that is told, where it fits
+abbrev pub name_told : Option Text → Option Text
+name_told found = option_and_then (λ name. if is_value Name name then Some name else None) found
+
+-- whether an option that stands alone is told: its value is then `true`
+abbrev pub is_told : Option Text → Bool
+is_told None = false
+is_told (Some value) = bytes_eq value (codes "true")
+
+-- the settings that options and prefixes ask for
+abbrev pub settings_of : (Choice → Option Text) → List Prefix → PlainSettings
+settings_of found prefixes =
     record {
       prefixes = prefixes;
-      hops = 30;
-      flows = 4096;
-      cells = 65536;
-      frags = 256;
-      frag_cells = 4096;
-      idle = 3600;
-      frag_time = 30;
-      seed = 0;
-      offload = false;
+      hops = number_told Hops (found Hops);
+      flows = number_told Flows (found Flows);
+      cells = number_told Cells (found Cells);
+      frags = number_told Frags (found Frags);
+      frag_cells = number_told FragCells (found FragCells);
+      idle = number_told Idle (found Idle);
+      frag_time = number_told FragTime (found FragTime);
+      seed = number_told Seed (found Seed);
+      offload = is_told (found Offload);
+      quota = limit_told Quota (found Quota);
+      both = is_told (found Both);
+      mirror = false;
+      inside = name_told (found Inside);
+      mtu = limit_told Mtu (found Mtu);
     }
 
--- a number from one to another
-abbrev pub IsWithin : (low high n : ℕ) → Type 0
-IsWithin low high n = (low ≤ n) × (n ≤ high)
+-- the settings where only prefixes are asked for: of each option what its row of the table says
+abbrev pub standard : List Prefix → PlainSettings
+standard prefixes = settings_of (λ choice. None) prefixes
 
 -- each number is in the range that its option has, and each prefix has at most 32 bits; a seed may be any number
 pub record AreInRange (s : PlainSettings) : Type 0 where
@@ -61,3 +99,13 @@ pub record AreInRange (s : PlainSettings) : Type 0 where
   pub frag_cells : IsWithin 256 65536 s.frag_cells
   pub idle : IsWithin 1 1000000 s.idle
   pub frag_time : IsWithin 1 3600 s.frag_time
+  pub quota : IfSome s.quota (IsWithin 1 262144)
+  pub mtu : IfSome s.mtu (IsWithin 576 65535)
+
+-- nothing is asked for that is not built, and no word exchanges the sides
+pub record AreBuilt (s : PlainSettings) : Type 0 where
+  pub quota : is_built Quota ≡ false → s.quota ≡ None
+  pub both : is_built Both ≡ false → s.both ≡ false
+  pub mirror : s.mirror ≡ false
+  pub inside : is_built Inside ≡ false → s.inside ≡ None
+  pub mtu : is_built Mtu ≡ false → s.mtu ≡ None

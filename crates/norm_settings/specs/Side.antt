@@ -1,17 +1,27 @@
 -- Which way a packet goes (this project's profile).
-use Rattle.std.specs.Prelude.{ℕ, Bool, List, Option, Some, None, if◌then◌else◌}
+use Rattle.std.specs.Prelude.{ℕ, not, Bool, List, Option, Some, None, if◌then◌else◌}
 use Rattle.std.specs.List.{list_any}
 use Rattle.wire_base.specs.declared.prefix.Prefix.{Prefix}
 use Rattle.wire_base.specs.declared.address.Side.{Side}
 use Rattle.wire_base.specs.declared.address.Side.TheVariants.{Inward, Outward}
 use Rattle.wire_base.specs.Prefixes.{holds}
+use Rattle.norm_settings.specs.Settings.{PlainSettings}
 
--- the address is behind the bridge: some prefix holds it
-abbrev pub is_trusted : List Prefix → ℕ → Bool
-is_trusted prefixes address = list_any (λ prefix. holds prefix address) prefixes
+-- the address is in some prefix
+abbrev pub is_listed : List Prefix → ℕ → Bool
+is_listed prefixes address = list_any (λ prefix. holds prefix address) prefixes
+
+-- the address is behind the bridge: in some prefix, or, where trust is turned round, in none
+abbrev pub is_trusted : PlainSettings → ℕ → Bool
+is_trusted settings address = if settings.mirror then not (is_listed settings.prefixes address) else is_listed settings.prefixes address
 
 -- outward from a trusted address to one that is not, inward the other way, and otherwise none
-abbrev pub side : List Prefix → (source destination : ℕ) → Option Side
-side prefixes source destination =
-    if is_trusted prefixes source then (if is_trusted prefixes destination then None else Some Outward)
-    else (if is_trusted prefixes destination then Some Inward else None)
+abbrev pub side_by : (is_source_trusted is_destination_trusted : Bool) → Option Side
+side_by source destination =
+    if source then (if destination then None else Some Outward)
+    else (if destination then Some Inward else None)
+
+-- the side that a record has from its capture, and for a record without one the side by its addresses
+abbrev pub side : PlainSettings → (given : Option Side) → (source destination : ℕ) → Option Side
+side settings (Some given) source destination = Some given
+side settings None source destination = side_by (is_trusted settings source) (is_trusted settings destination)

@@ -9,8 +9,9 @@ use thiserror::Error;
 /// Why words are no command.
 #[derive(Clone, Copy, Debug, PartialEq, Eq, Error)]
 pub enum WordFault {
-    /// Another form than `run IN OUT PREFIX`, with no word empty and none of the last three beginning with `-`.
-    #[error("not the words `run IN OUT PREFIX`")]
+    /// Another form than `run OPTION* IN OUT PREFIX+`: an option that is unknown, stands twice, has no value or one that
+    /// does not fit, or does not go with another; or a name that is empty or begins with `-`.
+    #[error("not the words `run [OPTION..] IN OUT PREFIX..`")]
     Refused,
     /// The prefix at this place, counted from 1, is no prefix.
     #[error("prefix {0} is faulty")]

@@ -1,10 +1,10 @@
-//! The settings of a run, and the side that they give a packet.
-ghost use Rattle.std.specs.Prelude.{◌≡◌, ◌≤◌, All};
+//! The settings of a run.
+ghost use Rattle.std.specs.Prelude.{◌≡◌, option_map};
 ghost use Rattle.norm_settings.specs.Settings.{plain_settings, standard};
-ghost use Rattle.norm_settings.specs.Side.{is_trusted, side};
 
 use arrayvec::ArrayVec;
-use wire_base::{Addr, Prefix, Side};
+use command_line::Choice;
+use wire_base::Prefix;
 
 /// What a run is told beside its files.
 #[derive(Debug, Drop)]
@@ -29,24 +29,39 @@ pub struct Settings {
     pub seed: u64,
     /// Whether outbound checksums are mended.
     pub offload: bool,
+    /// Cells of 256 octets that one connection may hold, from 1 to 262,144; no bound where it is unset.
+    pub quota: Option<u32>,
+    /// Whether a second engine, its sides exchanged, reads what the first writes.
+    pub both: bool,
+    /// Whether the addresses in no prefix are those behind the bridge. No word asks for it.
+    pub mirror: bool,
+    /// The name of the interface behind the bridge, of 1 to 64 octets.
+    pub inside: Option<ArrayVec<u8, 64>>,
+    /// The octets of the longest packet that goes out, from 576 to 65,535; no bound where it is unset.
+    pub mtu: Option<u16>,
 }
 
 impl Settings {
-    /// The settings where nothing but prefixes is asked for.
+    /// The settings where nothing but prefixes is asked for: the standard values of the table of options.
     pub fn standard(prefixes: ArrayVec<Prefix, 16>) -> Settings
         ensures { plain_settings result ≡ standard prefixes.items }
     {
         Settings {
             prefixes,
-            hops: 30,
-            flows: 4096,
-            cells: 65536,
-            frags: 256,
-            frag_cells: 4096,
-            idle: 3600,
-            frag_time: 30,
-            seed: 0,
+            hops: Choice::Hops.standard() as u8,
+            flows: Choice::Flows.standard() as u32,
+            cells: Choice::Cells.standard() as u32,
+            frags: Choice::Frags.standard() as u32,
+            frag_cells: Choice::FragCells.standard() as u32,
+            idle: Choice::Idle.standard() as u32,
+            frag_time: Choice::FragTime.standard() as u32,
+            seed: Choice::Seed.standard(),
             offload: false,
+            quota: None,
+            both: false,
+            mirror: false,
+            inside: None,
+            mtu: None,
         }
     }
 
@@ -56,6 +71,7 @@ impl Settings {
     {
         let mut prefixes = ArrayVec::new();
         prefixes.try_extend_from_slice(&self.prefixes).unwrap();
+        let inside = copied_name(&self.inside);
         Settings {
             prefixes,
             hops: self.hops,
@@ -67,30 +83,23 @@ impl Settings {
             frag_time: self.frag_time,
             seed: self.seed,
             offload: self.offload,
+            quota: self.quota,
+            both: self.both,
+            mirror: self.mirror,
+            inside,
+            mtu: self.mtu,
         }
     }
 }
 
-/// The side of a packet from the one address to the other: outward where only the first is behind the bridge,
-/// inward where only the second is.
-pub fn side_of(settings: &Settings, src: Addr, dst: Addr) -> Option<Side>
-    requires { All (λ prefix. prefix.len ≤ 32) settings.now.prefixes.items }
-    ensures { result ≡ side settings.now.prefixes.items src.0 dst.0 }
+// The same name once more.
+fn copied_name(name: &Option<ArrayVec<u8, 64>>) -> Option<ArrayVec<u8, 64>>
+    ensures { option_map (λ octets. octets.items) result ≡ option_map (λ octets. octets.items) name.now }
 {
-    match (
-        is_behind(&settings.prefixes, src),
-        is_behind(&settings.prefixes, dst),
-    ) {
-        (true, false) => Some(Side::Outward),
-        (false, true) => Some(Side::Inward),
-        _ => None,
-    }
-}
-
-// Whether one of the prefixes holds the address.
-fn is_behind(prefixes: &[Prefix], address: Addr) -> bool
-    requires { All (λ prefix. prefix.len ≤ 32) prefixes.now }
-    ensures { result ≡ is_trusted prefixes.now address.0 }
-{
-    prefixes.iter().any(|prefix| prefix.holds(address))
+    let Some(name) = name else {
+        return None;
+    };
+    let mut copy = ArrayVec::new();
+    copy.try_extend_from_slice(name).unwrap();
+    Some(copy)
 }

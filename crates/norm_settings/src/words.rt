@@ -1,64 +1,179 @@
 //! The words of the command line.
-ghost use Rattle.std.specs.Prelude.{◌≡◌, ◌⊎◌, map, string_bytes, IfOk, IfErr};
-ghost use Rattle.norm_settings.specs.Asked.{asked, is_name, run_of, plain_command, IsRun, SettingsAreInRange};
+ghost use Rattle.std.specs.Prelude.{◌≡◌, ◌≤◌, ◌⊎◌, All, ℕ, [], map, length, string_bytes, None, Some, Ok, Err, IfOk, IfErr};
+ghost use Rattle.std.specs.List.{list_all};
+ghost use Rattle.clap.specs.Values.{kind_of};
+ghost use Rattle.command_line.specs.Line.{PlainLine, plain_use, plain_line};
+ghost use Rattle.command_line.specs.Line as spec;
+ghost use Rattle.norm_settings.specs.Asked.{asked, asked_run, asked_load, run_of, prefixes_from, plain_command, IsRun, SettingsAreInRange, SettingsAreBuilt};
+ghost use Rattle.norm_settings.specs.Asked.{is_whole as is_whole_line, go_together as do_go_together};
+ghost use Rattle.command_line.specs.Options.{is_name as is_name_of};
+ghost use Rattle.norm_settings.specs.Found.{ReadsAs};
 
-use crate::{Command, Names, Settings, WordFault};
+use crate::found::settings_found;
+use crate::parsed::run_matches;
+use crate::{Choice, Command, Names, WordFault};
 use arrayvec::ArrayVec;
+use clap::ArgMatches;
+use clap::error::ErrorKind;
+use command_line::laws::{lines_are_those_written, unbuilt_is_not_used};
+use command_line::{Line, Use, is_given, line_of, number_within};
 use std::alloc::Global;
-use wire_base::read_prefix;
+use wire_base::{Prefix, read_prefix};
 
-/// The command that the words are: `run IN OUT PREFIX`. No word is empty, and none of the last three begins with `-`.
+// Whether a load may be asked for.
+const LOAD_IS_BUILT: bool = false;
+
+/// The command that the words are: `run OPTION* IN OUT PREFIX+`, or, once it is built, `load SEED COUNT`.
 pub fn read_words(alloc: Global, words: &[String]) -> Result<Command, WordFault>
     ensures ok { IfOk result (λ command. asked (map string_bytes words.now) ≡ Ok (plain_command command)) }
     ensures in_range { IfOk result SettingsAreInRange }
+    ensures built { IfOk result SettingsAreBuilt }
     // A load is not asked for yet.
     ensures run { IfOk result IsRun }
     ensures err { IfErr result (λ fault. (fault ≡ WordFault.NoMemory) ⊎ (asked (map string_bytes words.now) ≡ Err fault)) }
 {
-    let [verb, input, output, prefix] = words else {
+    let [verb, words @ ..] = words else {
         return Err(WordFault::Refused);
     };
-    let (input, output, prefix) = (input.as_str(), output.as_str(), prefix.as_str());
-    if verb.as_str() != "run"
-        || !is_name_word(input)
-        || !is_name_word(output)
-        || !is_name_word(prefix)
-    {
-        return Err(WordFault::Refused);
+    if verb.as_str() == "run" {
+        return read_run(alloc, words);
     }
-    read_run(alloc, input, output, prefix)
+    if LOAD_IS_BUILT && verb.as_str() == "load" {
+        return read_load(words);
+    }
+    Err(WordFault::Refused)
 }
 
-// The run that two names and a prefix ask for.
-fn read_run(alloc: Global, input: &str, output: &str, prefix: &str) -> Result<Command, WordFault>
-    ensures ok { IfOk result (λ command. run_of input.now output.now prefix.now ≡ Ok (plain_command command)) }
+// The load that the words behind `load` ask for.
+fn read_load(words: &[String]) -> Result<Command, WordFault>
+    ensures ok { IfOk result (λ command. asked_load (map string_bytes words.now) ≡ Ok (plain_command command)) }
+    ensures in_range { IfOk result SettingsAreInRange }
+    ensures built { IfOk result SettingsAreBuilt }
+    ensures err { IfErr result (λ fault. asked_load (map string_bytes words.now) ≡ Err fault) }
+{
+    let [seed, count] = words else {
+        return Err(WordFault::Refused);
+    };
+    let Some(seed) = number_within(seed.as_bytes(), 0, u64::MAX) else {
+        return Err(WordFault::Refused);
+    };
+    let Some(count) = number_within(count.as_bytes(), 1, 1_000_000) else {
+        return Err(WordFault::Refused);
+    };
+    Ok(Command::Load {
+        seed,
+        count: count as u32,
+    })
+}
+
+// The run that the words behind `run` ask for.
+fn read_run(alloc: Global, words: &[String]) -> Result<Command, WordFault>
+    ensures ok { IfOk result (λ command. asked_run (spec.line_of (map string_bytes words.now)) ≡ Ok (plain_command command)) }
+    ensures in_range { IfOk result SettingsAreInRange }
+    ensures built { IfOk result SettingsAreBuilt }
+    ensures run { IfOk result IsRun }
+    ensures err { IfErr result (λ fault. (fault ≡ WordFault.NoMemory) ⊎ (asked_run (spec.line_of (map string_bytes words.now)) ≡ Err fault)) }
+{
+    lines_are_those_written();
+    unbuilt_is_not_used();
+    let Some(line) = line_of(alloc, words)? else {
+        return Err(WordFault::Refused);
+    };
+    if !is_whole(&line) {
+        return Err(WordFault::Refused);
+    }
+    match run_matches(alloc, words) {
+        Ok(matches) => run_found(alloc, &matches),
+        Err(error) => match error.kind() {
+            ErrorKind::OutOfMemory => Err(WordFault::NoMemory),
+            _ => Err(WordFault::Refused),
+        },
+    }
+}
+
+// The run that a whole line asks for, where this was found in its words.
+fn run_found(alloc: Global, matches: &ArgMatches<'_>) -> Result<Command, WordFault>
+    ensures ok { IfOk result (λ command. (line : PlainLine) → ReadsAs matches.now line → run_of line ≡ Ok (plain_command command)) }
     ensures in_range { IfOk result SettingsAreInRange }
     ensures run { IfOk result IsRun }
-    ensures err { IfErr result (λ fault. (fault ≡ WordFault.NoMemory) ⊎ (run_of input.now output.now prefix.now ≡ Err fault)) }
+    ensures err { IfErr result (λ fault. (line : PlainLine) → ReadsAs matches.now line → (fault ≡ WordFault.NoMemory) ⊎ (run_of line ≡ Err fault)) }
 {
+    let Some(input) = matches.get_str("in") else {
+        return Err(WordFault::Refused);
+    };
+    let Some(output) = matches.get_str("out") else {
+        return Err(WordFault::Refused);
+    };
+    let Some(prefixes) = matches.get_strs("prefix") else {
+        return Err(WordFault::Refused);
+    };
     if input == output {
         return Err(WordFault::Same);
     }
-    let Ok(prefix) = read_prefix(prefix) else {
-        return Err(WordFault::Prefix(1));
-    };
+    if prefixes.len() > 16 {
+        return Err(WordFault::TooMany);
+    }
+    let prefixes = read_prefixes(prefixes)?;
     let names = Names {
         input: String::from_str(alloc, input)?,
         output: String::from_str(alloc, output)?,
     };
-    let mut prefixes = ArrayVec::new();
-    prefixes.push(prefix);
     Ok(Command::Run {
         names,
-        settings: Settings::standard(prefixes),
+        settings: settings_found(matches, prefixes),
     })
 }
 
-// Whether the word is not empty and does not begin with `-`.
-fn is_name_word(word: &str) -> bool
-    ensures { result ≡ is_name word.now }
+// The prefixes that the words are.
+fn read_prefixes(words: &[&str]) -> Result<ArrayVec<Prefix, 16>, WordFault>
+    requires { length words.now ≤ 16 }
+    ensures ok { IfOk result (λ prefixes. prefixes_from [] (map (λ word. word.now) words.now) ≡ Ok prefixes.items) }
+    ensures in_range { IfOk result (λ prefixes. All (λ prefix. prefix.len ≤ 32) prefixes.items) }
+    ensures err { IfErr result (λ fault. (place : ℕ) × (fault ≡ WordFault.Prefix place) × (prefixes_from [] (map (λ word. word.now) words.now) ≡ Err place)) }
 {
-    match word.as_bytes() {
+    let mut prefixes = ArrayVec::new();
+    for (place, word) in words.iter().enumerate() {
+        match read_prefix(word) {
+            Ok(prefix) => prefixes.push(prefix),
+            Err(_) => return Err(WordFault::Prefix(place as u8 + 1)),
+        }
+    }
+    Ok(prefixes)
+}
+
+// Whether the names are at least three, none of them empty and none beginning with `-`, and the options go together.
+fn is_whole(line: &Line<'_>) -> bool
+    ensures { result ≡ is_whole_line (plain_line line.now) }
+{
+    line.names.len() >= 3 && all_names(line.names) && go_together(&line.uses)
+}
+
+fn all_names(words: &[String]) -> bool
+    ensures { result ≡ list_all is_name_of (map string_bytes words.now) }
+{
+    for word in words {
+        if !is_name(word.as_bytes()) {
+            return false;
+        }
+    }
+    true
+}
+
+// Whether `--both` stands neither with `--inside` nor with `--mtu`.
+fn go_together(uses: &[Use<'_>]) -> bool
+    ensures { result ≡ do_go_together (map plain_use uses.now) }
+{
+    let both = is_given(uses, Choice::Both);
+    let inside = is_given(uses, Choice::Inside);
+    let mtu = is_given(uses, Choice::Mtu);
+    !(both && (inside || mtu))
+}
+
+// Whether the word is not empty and does not begin with `-`.
+fn is_name(word: &[u8]) -> bool
+    ensures { result ≡ is_name_of word.now }
+{
+    match word {
         [] => false,
         [first, ..] => *first != b'-',
     }
@@ -67,9 +182,10 @@ fn is_name_word(word: &str) -> bool
 #[cfg(test)]
 mod tests {
     use super::*;
+    use crate::Settings;
     use std::alloc::AllocError;
     use std::test::Fail;
-    use wire_base::{Addr, Prefix};
+    use wire_base::Addr;
 
     fn line(alloc: Global, words: &[&str]) -> Result<Vec<String>, AllocError> {
         let mut line = Vec::new(alloc);
@@ -79,21 +195,59 @@ mod tests {
         Ok(line)
     }
 
+    // `run`, the options, and then two names and a prefix.
+    fn read_options(
+        alloc: Global,
+        options: &[&str],
+    ) -> Result<Result<Command, WordFault>, AllocError> {
+        let mut line = Vec::new(alloc);
+        line.push(String::from_str(alloc, "run")?)?;
+        for word in options {
+            line.push(String::from_str(alloc, word)?)?;
+        }
+        for word in ["a", "b", "10.0.0.0/8"] {
+            line.push(String::from_str(alloc, word)?)?;
+        }
+        Ok(read_words(alloc, line.as_slice()))
+    }
+
+    fn settings_asked(alloc: Global, options: &[&str]) -> Result<Settings, Fail> {
+        let command = read_options(alloc, options)??;
+        let Command::Run { names, settings } = command else {
+            return Err(Fail::new("a load"));
+        };
+        drop(names);
+        Ok(settings)
+    }
+
     #[test]
     fn words_are_refused_by_number(rt: HostRuntime) -> Result<(), Fail> {
-        let rows: [(&[&str], u8); 12] = [
+        let rows: [(&[&str], u8); 25] = [
             (&[], 1),
+            (&["run"], 1),
             (&["run", "a"], 1),
-            (&["run", "a", "b", "10.0.0.0/8", "11.0.0.0/8"], 1),
+            (&["run", "a", "b"], 1),
             (&["walk", "a", "b", "10.0.0.0/8"], 1),
             (&["run", "", "b", "10.0.0.0/8"], 1),
             (&["run", "a", "b", ""], 1),
+            (&["run", "a", "b", "10.0.0.0/8", ""], 1),
             (&["run", "-a", "b", "10.0.0.0/8"], 1),
             (&["run", "a", "-", "10.0.0.0/8"], 1),
             (&["run", "a", "b", "-10.0.0.0/8"], 1),
+            (&["run", "a", "b", "10.0.0.0/8", "--offload"], 1),
+            (&["run", "a", "--hops", "5", "b", "10.0.0.0/8"], 1),
+            (&["run", "a", "a", "--", "10.0.0.0/8"], 1),
+            (&["load", "1", "1"], 1),
             (&["run", "a", "a", "10.0.0.0/8"], 5),
             (&["run", "a", "a", "10.0.0/8"], 5),
+            (&["run", "a", "a", "-10.0.0.0/8"], 1),
+            (&["run", "a", "a", ""], 1),
             (&["run", "a", "b", "10.0.0/8"], 2),
+            (&["run", "a", "b", "256.0.0.0/8"], 2),
+            (&["run", "a", "b", "10.0.0.0/008"], 2),
+            (&["run", "a", "b", "10.0.0.0/33"], 2),
+            (&["run", "--offload", "a", "a", "10.0.0/8"], 5),
+            (&["run", "--offload", "a", "b", "10.0.0/8"], 2),
         ];
         for (words, number) in rows {
             let line = line(rt.alloc(), words)?;
@@ -104,6 +258,135 @@ mod tests {
                 "{words:?}"
             );
         }
+        Ok(())
+    }
+
+    #[test]
+    fn options_are_refused(rt: HostRuntime) -> Result<(), Fail> {
+        let rows: [&[&str]; 25] = [
+            &["--hops", "5", "--hops=6"],
+            &["--hops", "255"],
+            &["--hops=255"],
+            &["--hops"],
+            &["--hops="],
+            &["--hops", "-1"],
+            &["--hops=+1"],
+            &["--hops", "5x"],
+            &["--flows", "0"],
+            &["--flows", "65537"],
+            &["--frag-cells", "255"],
+            &["--seed", "18446744073709551616"],
+            &["--seed", "000000000000000000001"],
+            &["--offload=true"],
+            &["--offload", "--offload"],
+            &["--off"],
+            &["--hop", "5"],
+            &["-h"],
+            &["--help"],
+            &["--"],
+            &["--=5"],
+            &["--quota", "5"],
+            &["--mtu=1500"],
+            &["--inside", "eth0"],
+            &["--both"],
+        ];
+        for options in rows {
+            let fault = read_options(rt.alloc(), options)?.err();
+            assert_eq!(rt; fault, Some(WordFault::Refused), "{options:?}");
+        }
+        Ok(())
+    }
+
+    #[test]
+    fn options_are_read(rt: HostRuntime) -> Result<(), Fail> {
+        let settings = settings_asked(
+            rt.alloc(),
+            &[
+                "--hops=0",
+                "--flows",
+                "65536",
+                "--cells=1",
+                "--frags",
+                "00000000000000004096",
+                "--frag-cells=256",
+                "--idle",
+                "1000000",
+                "--frag-time=3600",
+                "--seed",
+                "18446744073709551615",
+                "--offload",
+            ],
+        )?;
+        assert_eq!(rt;
+            (settings.hops, settings.flows, settings.cells),
+            (0, 65536, 1)
+        );
+        assert_eq!(rt; (settings.frags, settings.frag_cells), (4096, 256));
+        assert_eq!(rt; (settings.idle, settings.frag_time), (1_000_000, 3600));
+        assert_eq!(rt; (settings.seed, settings.offload), (u64::MAX, true));
+        Ok(())
+    }
+
+    // `run a`, this name, and 16 prefixes.
+    fn full_line(alloc: Global, output: &str) -> Result<Vec<String>, AllocError> {
+        let mut line = line(alloc, &["run", "a", output])?;
+        for _ in 0..16 {
+            line.push(String::from_str(alloc, "10.0.0.0/8")?)?;
+        }
+        Ok(line)
+    }
+
+    #[test]
+    fn sixteen_prefixes_are_accepted(rt: HostRuntime) -> Result<(), Fail> {
+        let line = full_line(rt.alloc(), "b")?;
+        let command = read_words(rt.alloc(), line.as_slice())?;
+        let Command::Run { names, settings } = command else {
+            return Err(Fail::new("a load"));
+        };
+        drop(names);
+        assert_eq!(rt; settings.prefixes.len(), 16);
+        Ok(())
+    }
+
+    // The names are compared, then the prefixes are counted, and only then are they read.
+    #[test]
+    fn refusals_come_in_their_order(rt: HostRuntime) -> Result<(), Fail> {
+        for (output, fault) in [("a", WordFault::Same), ("b", WordFault::TooMany)] {
+            let mut line = full_line(rt.alloc(), output)?;
+            line.push(String::from_str(rt.alloc(), "10.0.0/8")?)?;
+            assert_eq!(rt; read_words(rt.alloc(), line.as_slice()).err(), Some(fault));
+        }
+        Ok(())
+    }
+
+    #[test]
+    fn leading_zeros_are_accepted(rt: HostRuntime) -> Result<(), Fail> {
+        let line = line(
+            rt.alloc(),
+            &["run", "--hops=007", "a", "b", "010.002.003.004/08"],
+        )?;
+        let command = read_words(rt.alloc(), line.as_slice())?;
+        let Command::Run { names, settings } = command else {
+            return Err(Fail::new("a load"));
+        };
+        drop(names);
+        let prefix = Prefix {
+            addr: Addr(0x0a02_0304),
+            len: 8,
+        };
+        assert_eq!(rt; settings.hops, 7);
+        assert_eq!(rt; settings.prefixes.as_slice(), [prefix].as_slice());
+        Ok(())
+    }
+
+    #[test]
+    fn the_first_bad_prefix_is_told(rt: HostRuntime) -> Result<(), Fail> {
+        let line = line(
+            rt.alloc(),
+            &["run", "a", "b", "10.0.0.0/8", "10.0.0/8", "x"],
+        )?;
+        let fault = read_words(rt.alloc(), line.as_slice()).err();
+        assert_eq!(rt; fault, Some(WordFault::Prefix(2)));
         Ok(())
     }
 
@@ -128,6 +411,8 @@ mod tests {
         assert_eq!(rt; (settings.flows, settings.cells), (4096, 65536));
         assert_eq!(rt; (settings.frags, settings.frag_cells), (256, 4096));
         assert_eq!(rt; (settings.seed, settings.offload), (0, false));
+        assert_eq!(rt; (settings.quota, settings.mtu), (None, None));
+        assert_eq!(rt; (settings.both, settings.mirror), (false, false));
         Ok(())
     }
 }

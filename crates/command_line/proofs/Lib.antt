@@ -1,0 +1,5 @@
+pub mod Fronts
+pub mod Spelling
+pub mod Reading
+pub mod Grammar
+pub mod Built

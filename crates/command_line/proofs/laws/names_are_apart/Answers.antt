@@ -1,0 +1,5 @@
+use Rattle.command_line.proofs.Built.{one_name}
+use Rattle.command_line.proofs.laws.names_are_apart.Goals as goal
+
+pub returns : goal.returns
+returns c = one_name

@@ -1,0 +1,60 @@
+-- What the reader of command lines finds (this project's profile).
+use Rattle.std.specs.Prelude.{◌≡◌, List, ◌∷◌, Option, Some, map, option_map, fold, codes, true}
+use Rattle.clap.specs.Walk.{Rule}
+use Rattle.clap.specs.Simple.{App, new_app, new_rule, with_rule, on_top}
+use Rattle.clap.specs.Matches.{found_of, first_value, matched_of, raw_values}
+use Rattle.clap.specs.declared.builder.action.ArgAction.TheVariants.{SetTrue, Append}
+use Rattle.clap.specs.declared.parser.matches.ArgMatches.{ArgMatches}
+use Rattle.wire_base.specs.declared.prefix.Prefix.{Prefix}
+use Rattle.command_line.specs.Options.{Text, name_of, kind_of, all_choices}
+use Rattle.command_line.specs.Line.{PlainUse, PlainLine, given}
+use Rattle.norm_settings.specs.Settings.{settings_of}
+use Rattle.command_line.specs.declared.options.Choice.{Choice}
+use Rattle.command_line.specs.declared.options.Kind.{Kind}
+use Rattle.command_line.specs.declared.options.Kind.TheVariants.{Alone}
+
+-- the value that was found for an option
+abbrev pub value_in : ArgMatches → Choice → Option Text
+value_in matches choice = first_value (found_of matches) (name_of choice)
+
+-- what was found asks for the settings that the uses ask for
+abbrev pub TellsAs : ArgMatches → List PlainUse → Type 0
+TellsAs matches uses = (prefixes : List Prefix) → settings_of (value_in matches) prefixes ≡ settings_of (λ choice. given choice uses) prefixes
+
+-- the words that were found as IN, OUT and PREFIX are these
+abbrev pub NamesAre : ArgMatches → List Text → Type 0
+NamesAre matches (input ∷ output ∷ prefixes) =
+    (first_value (found_of matches) (codes "in") ≡ Some input) × (first_value (found_of matches) (codes "out") ≡ Some output)
+    × (option_map raw_values (matched_of (found_of matches) (codes "prefix")) ≡ Some prefixes)
+NamesAre matches _ = ⊥
+
+-- what was found is what the line tells
+abbrev pub ReadsAs : ArgMatches → PlainLine → Type 0
+ReadsAs matches line = TellsAs matches line.uses × NamesAre matches line.names
+
+-- the argument of an option
+abbrev pub rule_by : Kind → Text → Rule
+rule_by Alone name = record (new_rule name) { long = Some name; action = Some SetTrue }
+rule_by _ name = record (new_rule name) { long = Some name }
+
+-- the argument of an option of the table
+abbrev pub rule_for : Choice → Rule
+rule_for choice = rule_by (kind_of choice) (name_of choice)
+
+-- the arguments of the names: IN, OUT, and PREFIX, of which there may be more than one
+abbrev pub input_rule : Rule
+input_rule = new_rule (codes "in")
+
+abbrev pub output_rule : Rule
+output_rule = new_rule (codes "out")
+
+abbrev pub prefix_rule : Rule
+prefix_rule = record (new_rule (codes "prefix")) { action = Some Append }
+
+-- the command without an argument: it has no name of a program before the words and no help of its own, and leaves repeats to who asks
+abbrev pub bare : App
+bare = on_top (λ s. record s { no_binary_name = true; disable_help_flag = true; args_override_self = true }) (new_app (codes "run"))
+
+-- the command that reads a run's words, before it is built: an argument for each option, and then the names
+abbrev pub run_command : App
+run_command = with_rule (with_rule (with_rule (fold with_rule bare (map rule_for all_choices)) input_rule) output_rule) prefix_rule

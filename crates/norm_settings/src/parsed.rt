@@ -1,0 +1,76 @@
+//! The command that reads the words of a run.
+ghost use Rattle.std.specs.Prelude.{◌≡◌, ◌++◌, ◌∷◌, [], IfOk, IfErr, map, fold, string_bytes, codes, None, Some, true, false};
+ghost use Rattle.clap.specs.Values.{kind_of};
+ghost use Rattle.clap.specs.Walk.{rule_of};
+ghost use Rattle.clap.specs.Simple.{app_of, with_rule};
+ghost use Rattle.command_line.specs.Line.{PlainLine, line_of};
+ghost use Rattle.norm_settings.specs.Asked.{is_whole};
+ghost use Rattle.command_line.specs.Options.{all_choices};
+ghost use Rattle.norm_settings.specs.Found as spec;
+
+use clap::error::ErrorKind;
+use clap::{Arg, ArgAction, ArgMatches, Command, Error};
+use command_line::laws::lines_are_those_written;
+use command_line::{Choice, Kind};
+use std::alloc::{AllocError, Global};
+
+/// What the reader of command lines finds in the words behind `run`.
+pub fn run_matches<'a>(alloc: Global, words: &'a [String]) -> Result<ArgMatches<'a>, Error>
+    // On a whole line, what is found is what the line tells.
+    ensures ok { IfOk result (λ matches. (line : PlainLine) → line_of (map string_bytes words.entry.now) ≡ Some line → is_whole line ≡ true → spec.ReadsAs matches line) }
+    // A whole line is refused only for want of memory.
+    ensures err { IfErr result (λ error. (line : PlainLine) → line_of (map string_bytes words.entry.now) ≡ Some line → is_whole line ≡ true → kind_of error ≡ ErrorKind.OutOfMemory) }
+{
+    lines_are_those_written();
+    match run_command(alloc) {
+        Ok(command) => command.try_get_matches_from(words),
+        Err(refused) => Err(Error::from(refused)),
+    }
+}
+
+// The command: an argument for each option, and then the names.
+fn run_command<'a>(alloc: Global) -> Result<Command<'a>, AllocError>
+    ensures { IfOk result (λ command. app_of command ≡ spec.run_command) }
+{
+    let input = Arg::new(alloc, "in");
+    let output = Arg::new(alloc, "out");
+    let prefix = Arg::new(alloc, "prefix").action(ArgAction::Append);
+    let options = option_command(alloc)?;
+    let first = options.arg(input)?;
+    let second = first.arg(output)?;
+    let third = second.arg(prefix)?;
+    Ok(third)
+}
+
+// The command with an argument for each option.
+fn option_command<'a>(alloc: Global) -> Result<Command<'a>, AllocError>
+    ensures { IfOk result (λ command. app_of command ≡ fold with_rule spec.bare (map spec.rule_for all_choices)) }
+{
+    let mut command = bare_command(alloc);
+    for choice in Choice::all() {
+        let row = choice.row();
+        command = command.arg(option_argument(alloc, row.name, row.kind))?;
+    }
+    Ok(command)
+}
+
+fn bare_command<'a>(alloc: Global) -> Command<'a>
+    ensures { app_of result ≡ spec.bare }
+{
+    Command::new(alloc, "run")
+        .no_binary_name(true)
+        .disable_help_flag(true)
+        .args_override_self(true)
+}
+
+// The argument of an option of this name and kind.
+fn option_argument<'a>(alloc: Global, name: &'a str, kind: Kind) -> Arg<'a>
+    ensures rule { rule_of result ≡ spec.rule_by kind name.entry.now }
+    ensures local { result.global ≡ false }
+{
+    let argument = Arg::new(alloc, name).long(name);
+    match kind {
+        Kind::Alone => argument.action(ArgAction::SetTrue),
+        _ => argument,
+    }
+}
