@@ -5,7 +5,8 @@ use Rattle.rule_book.specs.declared.rule.Rule.{Rule}
 use Rattle.rule_book.specs.declared.rule.Rule.TheVariants as rules
 use Rattle.norm_settings.specs.Settings.{PlainSettings}
 use Rattle.dgram_rules.specs.declared.judged.DgramJudged.TheVariants.{Pass, Mend, Drop}
-use Rattle.dgram_rules.specs.Rows.{Message, is_outward, has_wrong_sum, u_short, u_len, u_sum, u_sum_out, m_short, m_sum, m_type, m_quote, holds_dgram, dgram_drop_rows, dgram_dropped_by}
+use Rattle.rule_book.specs.Rules.{datagram_rows}
+use Rattle.dgram_rules.specs.Rows.{Message, is_outward, has_wrong_sum, u_short, u_len, u_sum, u_sum_out, m_short, m_sum, m_type, m_quote, holds_dgram, dgram_dropped_by}
 use Rattle.dgram_rules.specs.Judged.{udp_judged, icmp_judged}
 use Rattle.dgram_rules.specs.Laws.{Tells, UdpTellsTheRows, IcmpTellsTheRows, OthersHaveNoRow, OffloadKeepsWrongSums}
 
@@ -102,5 +103,5 @@ unfolding dgram_dropped_by
 offload_keeps settings live m offload side h =
     let spared : u_sum settings m ≡ false =
     (λ i. has_wrong_sum m && not (is_outward (side i) && offload i)) ∙ and_right (has_wrong_sum m) false refl in
-    let holds = and_parts (m.protocol == 17) (u_sum settings m) (found_passes (holds_dgram settings live m) dgram_drop_rows rules.USum h) in
+    let holds = and_parts (m.protocol == 17) (u_sum settings m) (found_passes (holds_dgram settings live m) datagram_rows rules.USum h) in
     both_ways (u_sum settings m) spared holds.1

@@ -1,6 +1,6 @@
 -- The rows of the rule table on UDP and ICMP, one definition each, in the order of their numbers (this project's profile).
 -- A row is read of one whole datagram under settings; of other packets it knows only whether the TCP connection that an ICMP error quotes is live.
-use Rattle.std.specs.Prelude.{ℕ, ◌==◌, ◌&&◌, ◌||◌, not, Bool, true, false, List, length, take, drop, Option, Some, None, find}
+use Rattle.std.specs.Prelude.{ℕ, ◌==◌, ◌&&◌, ◌||◌, not, Bool, true, false, List, length, Option, Some, None, find}
 use Rattle.wire_base.specs.declared.address.Side.{Side}
 use Rattle.wire_base.specs.declared.address.Side.TheVariants.{Inward, Outward}
 use Rattle.wire_base.specs.Sums.{pseudo_sum}
@@ -10,7 +10,7 @@ use Rattle.icmp_codec.specs.declared.quote.QuotedKey.{QuotedKey}
 use Rattle.icmp_codec.specs.Quote.{quoted_in}
 use Rattle.rule_book.specs.declared.rule.Rule.{Rule}
 use Rattle.rule_book.specs.declared.rule.Rule.TheVariants as rules
-use Rattle.rule_book.specs.Rules.{drop_rows}
+use Rattle.rule_book.specs.Rules.{datagram_rows}
 use Rattle.norm_settings.specs.Settings.{PlainSettings}
 use Rattle.norm_settings.specs.Side.{is_trusted}
 use Rattle.ip_rules.specs.declared.judged.IpPacket.{IpPacket}
@@ -90,7 +90,7 @@ m_type m = not (is_error (icmp.kind m.octets) || is_query (icmp.kind m.octets))
 abbrev pub is_stray : PlainSettings → (live : Bool) → Option QuotedKey → Bool
 is_stray settings live None = true
 is_stray settings live (Some quote) =
-    not (is_trusted settings.prefixes quote.src.0) || is_trusted settings.prefixes quote.dst.0 || ((quote.protocol == 6) && not live)
+    not (is_trusted settings quote.src.0) || is_trusted settings quote.dst.0 || ((quote.protocol == 6) && not live)
 
 -- M_QUOTE: an inbound error whose quote is no packet that went outward
 abbrev pub m_quote : PlainSettings → (live : Bool) → Message → Bool
@@ -112,10 +112,6 @@ holds_dgram settings live m rules.MQuote = (m.protocol == 1) && m_quote settings
 holds_dgram settings live m rules.USumOut = (m.protocol == 17) && u_sum_out settings m
 holds_dgram settings live m _ = false
 
--- the rows that drop, in the order of testing: seven, behind those on the link, the header, the protocol and fragments
-abbrev pub dgram_drop_rows : List Rule
-dgram_drop_rows = take 7 (drop 22 drop_rows)
-
--- the first row that drops the datagram, if there is one
+-- the first row that drops the datagram, in the order of testing, if there is one
 unfoldable pub dgram_dropped_by : PlainSettings → (live : Bool) → Message → Option Rule
-dgram_dropped_by settings live m = find (holds_dgram settings live m) dgram_drop_rows
+dgram_dropped_by settings live m = find (holds_dgram settings live m) datagram_rows

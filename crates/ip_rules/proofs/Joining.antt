@@ -1,5 +1,5 @@
 -- The rows of a record that carries IPv4 are those of its packet.
-use Rattle.std.proofs.Common.{◌≡◌, ℕ, Bool, true, false, ◌&&◌, List, Option, Some, None, refl, sym, ap, ◌∙◌, find, filter, drop, ◌==◌, eqb-true, if◌then◌else◌}
+use Rattle.std.proofs.Common.{◌≡◌, ℕ, Bool, true, false, ◌&&◌, List, Option, Some, None, refl, sym, ap, ◌∙◌, find, filter, ◌==◌, eqb-true, if◌then◌else◌}
 use Rattle.wire_base.specs.declared.address.Link.{Link}
 use Rattle.wire_base.specs.declared.address.Link.TheVariants.{Ethernet, Raw}
 use Rattle.wire_base.specs.Frames.{ethertype}
@@ -11,7 +11,7 @@ use Rattle.norm_settings.specs.Settings.{PlainSettings}
 use Rattle.ip_rules.specs.declared.judged.IpPacket.{IpPacket}
 use Rattle.ip_rules.specs.declared.judged.IpJudged.{IpJudged}
 use Rattle.ip_rules.specs.declared.judged.IpJudged.TheVariants.{Arp, Drop, Piece, Whole}
-use Rattle.ip_rules.specs.Rows.{l_snap, l_short, l_type, carries_ip, carries_arp, packet_in, side_in, tells_side, holds_in, ip_drop_rows, piece_fix_rows, whole_fix_rows, ip_dropped_by, ip_fixes}
+use Rattle.ip_rules.specs.Rows.{l_snap, l_short, l_type, carries_ip, carries_arp, packet_in, side_in, tells_side, holds_in, packet_drop_rows, piece_fix_rows, whole_fix_rows, ip_dropped_by, ip_fixes}
 use Rattle.ip_rules.specs.Judged.{IsRead, IsJudged, IsJudgedIn, link_row, packet_row, packet_fixes}
 
 -- the first row on the link, or else on the packet where there is one
@@ -28,7 +28,7 @@ next_by false false true rest = refl
 next_by false false false rest = refl
 
 abbrev rows_if : Bool → PlainSettings → List ℕ → Option Rule
-rows_if carried settings p = find (λ rule. carried && holds_in settings p rule) (drop 3 ip_drop_rows)
+rows_if carried settings p = find (λ rule. carried && holds_in settings p rule) packet_drop_rows
 
 by_link : (settings : PlainSettings) (link : Link) (r : Packet)
     → ip_dropped_by settings link r ≡ next (link_row link r) (rows_if (carries_ip link r.octets) settings (packet_in link r.octets))

@@ -1,5 +1,5 @@
 -- What an answer says of a record.
-use Rattle.std.specs.Prelude.{◌≡◌, ℕ, Bool, true, false, List, [], ◌∷◌, ◌++◌, drop, Option, Some, None, Result, Ok, Err, find, filter, if◌then◌else◌}
+use Rattle.std.specs.Prelude.{◌≡◌, ℕ, Bool, true, false, List, [], ◌∷◌, ◌++◌, Option, Some, None, Result, Ok, Err, find, filter, if◌then◌else◌}
 use Rattle.wire_base.specs.declared.address.Link.{Link}
 use Rattle.wire_base.specs.declared.address.Side.{Side}
 use Rattle.wire_base.specs.Ipv4 as ip
@@ -16,7 +16,7 @@ use Rattle.ip_rules.specs.declared.judged.IpJudged.{IpJudged}
 use Rattle.ip_rules.specs.declared.judged.IpJudged.TheVariants.{Arp, Drop, Piece, Whole}
 use Rattle.ip_rules.specs.declared.rows.Linked.{Linked}
 use Rattle.ip_rules.specs.declared.rows.Linked.TheVariants as linked
-use Rattle.ip_rules.specs.Rows.{carries_ip, carries_arp, packet_in, side_in, l_snap, l_short, l_type, i_opt_bad, i_route, p_proto, i_trail, i_opt, i_res, holds_in, ip_drop_rows, whole_fix_rows, piece_fix_rows, ip_dropped_by, ip_fixes, tells_side}
+use Rattle.ip_rules.specs.Rows.{carries_ip, carries_arp, packet_in, side_in, l_snap, l_short, l_type, i_opt_bad, i_route, p_proto, i_trail, i_opt, i_res, holds_in, packet_drop_rows, whole_fix_rows, piece_fix_rows, ip_dropped_by, ip_fixes, tells_side}
 
 -- the packet of a frame: its side, the fields of its header, the whole frame, the payload up to the total length, and these fix rows
 pub record IsRead (settings : PlainSettings) (octets p : List ℕ) (named : List Rule) (packet : IpPacket) : Type 0 where
@@ -68,7 +68,7 @@ abbrev pub side_or_row : PlainSettings → (source destination : ℕ) → Result
 side_or_row settings source destination =
     if ip.is_bad_source source destination then Err rules.ISrc
     else if ip.is_bad_destination destination then Err rules.IDst
-    else elim (side settings.prefixes source destination) [ Some side ↦ Ok side | None ↦ Err rules.ISide ]
+    else elim (side settings None source destination) [ Some side ↦ Ok side | None ↦ Err rules.ISide ]
 
 -- the first row on the options and the protocol that holds, if there is one
 abbrev pub content_row : (packet : List ℕ) → Option Rule
@@ -84,7 +84,7 @@ header_fixes p = where_holds (i_trail p) rules.ITrail ++ where_holds (i_opt p) r
 
 -- the first row on the packet that drops it, if there is one
 unfoldable pub packet_row : PlainSettings → (packet : List ℕ) → Option Rule
-packet_row settings p = find (holds_in settings p) (drop 3 ip_drop_rows)
+packet_row settings p = find (holds_in settings p) packet_drop_rows
 
 -- the fix rows that hold of a packet
 unfoldable pub packet_fixes : PlainSettings → (packet : List ℕ) → List Rule → List Rule

@@ -1,6 +1,6 @@
 -- The rows of the rule table on the link, the IPv4 header and the protocol, one definition each, in the order of their numbers (this project's profile).
 -- A row is read of one record, or of the packet in it, under settings and on a link; it knows nothing of other records.
-use Rattle.std.specs.Prelude.{ℕ, ◌==◌, ◌&&◌, ◌||◌, nat_lt, nat_le, not, Bool, true, false, List, length, take, drop, Option, Some, None, is_none, find, filter}
+use Rattle.std.specs.Prelude.{ℕ, ◌==◌, ◌&&◌, ◌||◌, nat_lt, nat_le, not, Bool, true, false, List, [], ◌∷◌, ◌++◌, length, drop, Option, Some, None, is_none, find, filter}
 use Rattle.wire_base.specs.declared.address.Link.{Link}
 use Rattle.wire_base.specs.declared.address.Link.TheVariants.{Ethernet, Raw}
 use Rattle.wire_base.specs.declared.address.Side.{Side}
@@ -11,7 +11,7 @@ use Rattle.wire_base.specs.Options.{are_well_formed, has_route}
 use Rattle.pcap_file.specs.Records.{Packet}
 use Rattle.rule_book.specs.declared.rule.Rule.{Rule}
 use Rattle.rule_book.specs.declared.rule.Rule.TheVariants as rules
-use Rattle.rule_book.specs.Rules.{drop_rows, fix_rows}
+use Rattle.rule_book.specs.Rules.{header_fix_rows, header_rows, link_rows, protocol_rows}
 use Rattle.norm_settings.specs.Settings.{PlainSettings}
 use Rattle.norm_settings.specs.Side.{side}
 
@@ -32,7 +32,7 @@ packet_in Raw frame = frame
 
 -- the side of a packet: outward from a trusted source to a destination that is not, inward the other way, and otherwise none
 abbrev pub side_in : PlainSettings → (packet : List ℕ) → Option Side
-side_in settings p = side settings.prefixes (ip.source p) (ip.destination p)
+side_in settings p = side settings None (ip.source p) (ip.destination p)
 
 abbrev pub is_inward : Option Side → Bool
 is_inward (Some Inward) = true
@@ -138,16 +138,20 @@ holds_ip settings link r rules.LShort = l_short link r.octets
 holds_ip settings link r rules.LType = l_type link r.octets
 holds_ip settings link r rule = carries_ip link r.octets && holds_in settings (packet_in link r.octets) rule
 
--- the rows that drop, in the order of testing: the first 14
+-- the rows on a packet that drop it, in the order of testing
+abbrev pub packet_drop_rows : List Rule
+packet_drop_rows = header_rows ++ protocol_rows
+
+-- the same with those on the link, which come first
 abbrev pub ip_drop_rows : List Rule
-ip_drop_rows = take 14 drop_rows
+ip_drop_rows = link_rows ++ packet_drop_rows
 
 -- the rows that mend a whole packet, and those that mend a fragment: its TTL is read of the whole datagram
 abbrev pub whole_fix_rows : List Rule
-whole_fix_rows = take 4 fix_rows
+whole_fix_rows = header_fix_rows ++ rules.ITtl ∷ []
 
 abbrev pub piece_fix_rows : List Rule
-piece_fix_rows = take 3 fix_rows
+piece_fix_rows = header_fix_rows
 
 -- the first row that drops the record, if there is one
 unfoldable pub ip_dropped_by : PlainSettings → Link → Packet → Option Rule

@@ -10,13 +10,13 @@ use Rattle.wire_base.specs.Ipv4 as ip
 use Rattle.pcap_file.specs.Records.{Packet}
 use Rattle.rule_book.specs.declared.rule.Rule.{Rule}
 use Rattle.rule_book.specs.declared.rule.Rule.TheVariants as rules
-use Rattle.rule_book.specs.Rules.{drop_rows, step_rows}
+use Rattle.rule_book.specs.Rules.{datagram_rows, drop_rows, era_rows, fragment_rows, segment_rows, step_rows}
 use Rattle.norm_settings.specs.Settings.{PlainSettings}
 use Rattle.ip_rules.specs.Rows.{carries_ip, packet_in, ip_drop_rows, whole_fix_rows, ip_dropped_by, ip_fixes}
 use Rattle.ip_rules.specs.Judged.{where_holds}
 use Rattle.dgram_rules.specs.declared.judged.DgramJudged.{DgramJudged}
 use Rattle.dgram_rules.specs.declared.judged.DgramJudged.TheVariants as dgram
-use Rattle.dgram_rules.specs.Rows.{Message, holds_dgram, dgram_drop_rows, dgram_dropped_by}
+use Rattle.dgram_rules.specs.Rows.{Message, holds_dgram, dgram_dropped_by}
 use Rattle.dgram_rules.specs.Judged.{udp_judged, icmp_judged}
 use Rattle.dgram_rules.specs.Laws.{UdpTellsTheRows, IcmpTellsTheRows, OthersHaveNoRow, Tells}
 use Rattle.norm_engine.specs.Rows.{datagram_in, holds_tcp, t_short, t_hlen, t_sum, t_flags, t_opt_bad}
@@ -24,17 +24,7 @@ use Rattle.norm_engine.specs.Trace.{Item, holds, of_dgram, dropped_by, named_row
 use Rattle.norm_engine.specs.Engine.{segment_row, datagram_judged}
 
 -- the drop rows, layer by layer
-
-abbrev pub fragment_rows : List Rule
-fragment_rows = rules.FDf ∷ rules.FEmpty ∷ rules.FAlign ∷ rules.FBig ∷ rules.FEnd ∷ rules.FClash ∷ rules.FMany ∷ rules.FRoom ∷ []
-
-abbrev pub tcp_rows : List Rule
-tcp_rows = rules.TShort ∷ rules.THlen ∷ rules.TSum ∷ rules.TFlags ∷ rules.TOptBad ∷ []
-
-abbrev pub era_rows : List Rule
-era_rows = rules.TCold ∷ rules.TState ∷ rules.TSyn ∷ rules.TRst ∷ rules.TFull ∷ rules.TRoom ∷ []
-
-pub drop_layers : drop_rows ≡ ip_drop_rows ++ fragment_rows ++ dgram_drop_rows ++ tcp_rows ++ era_rows ++ rules.XLater ∷ []
+pub drop_layers : drop_rows ≡ ip_drop_rows ++ fragment_rows ++ datagram_rows ++ segment_rows ++ era_rows ++ rules.XLater ∷ []
 drop_layers = refl
 
 pub no_row : (c : Bool) (rows : List Rule) → find (λ rule. c && false) rows ≡ None
@@ -45,8 +35,8 @@ no_row false (rule ∷ rows) = no_row false rows
 -- the first row behind those on the link, the header and the protocol
 unfoldable pub later_row : (carried piece : Bool) → PlainSettings → Message → Option Rule
 later_row carried piece settings m =
-    option_or (find (λ rule. (carried && not piece) && holds_dgram settings false m rule) dgram_drop_rows)
-    (option_or (find (λ rule. (carried && not piece) && holds_tcp settings m rule) tcp_rows)
+    option_or (find (λ rule. (carried && not piece) && holds_dgram settings false m rule) datagram_rows)
+    (option_or (find (λ rule. (carried && not piece) && holds_tcp settings m rule) segment_rows)
     (find (λ rule. carried && (piece || (m.protocol == 6))) (rules.XLater ∷ [])))
 
 pub ip_layer : (settings : PlainSettings) (link : Link) (r : Packet) (history : List Item) → find (holds settings link history r) ip_drop_rows ≡ ip_dropped_by settings link r
@@ -59,14 +49,14 @@ unfolding dropped_by later_row
 by_layers settings link r history =
     let F = holds settings link history r in
     let era = era_rows ++ rules.XLater ∷ [] in
-    let tcp = tcp_rows ++ era in
-    let dgram = dgram_drop_rows ++ tcp in
+    let tcp = segment_rows ++ era in
+    let dgram = datagram_rows ++ tcp in
     ap (find F) drop_layers
     ∙ find-append F ip_drop_rows (fragment_rows ++ dgram)
     ∙ ap₂ option_or (ip_layer settings link r history) (find-append F fragment_rows dgram
-    ∙ ap₂ option_or (no_row (carries_ip link r.octets) fragment_rows) (find-append F dgram_drop_rows tcp
-    ∙ ap (option_or (find F dgram_drop_rows)) (find-append F tcp_rows era
-    ∙ ap (option_or (find F tcp_rows)) (find-append F era_rows (rules.XLater ∷ [])
+    ∙ ap₂ option_or (no_row (carries_ip link r.octets) fragment_rows) (find-append F datagram_rows tcp
+    ∙ ap (option_or (find F datagram_rows)) (find-append F segment_rows era
+    ∙ ap (option_or (find F segment_rows)) (find-append F era_rows (rules.XLater ∷ [])
     ∙ ap (λ first. option_or first (find F (rules.XLater ∷ []))) (no_row (carries_ip link r.octets) era_rows)))))
 
 -- the fix rows

@@ -13,20 +13,21 @@ use Rattle.wire_base.specs.Ipv4 as ip
 use Rattle.pcap_file.specs.Records.{Packet}
 use Rattle.rule_book.specs.declared.rule.Rule.{Rule}
 use Rattle.rule_book.specs.declared.rule.Rule.TheVariants as rules
+use Rattle.rule_book.specs.Rules.{datagram_rows, segment_rows}
 use Rattle.norm_settings.specs.Settings.{PlainSettings}
 use Rattle.ip_rules.specs.declared.judged.IpPacket.{IpPacket}
-use Rattle.ip_rules.specs.Rows.{l_snap, l_short, carries_ip, carries_arp, packet_in, side_in, tells_side, holds_ip, holds_in, ip_drop_rows, whole_fix_rows, ip_dropped_by, ip_fixes, p_proto, i_hlen, l_type, i_trail}
+use Rattle.ip_rules.specs.Rows.{l_snap, l_short, carries_ip, carries_arp, packet_in, side_in, tells_side, holds_ip, holds_in, ip_drop_rows, packet_drop_rows, whole_fix_rows, ip_dropped_by, ip_fixes, p_proto, i_hlen, l_type, i_trail}
 use Rattle.ip_rules.specs.Judged.{IsKept, IsRead, where_holds}
 use Rattle.dgram_rules.specs.declared.judged.DgramJudged.{DgramJudged}
 use Rattle.dgram_rules.specs.declared.judged.DgramJudged.TheVariants as dgram
-use Rattle.dgram_rules.specs.Rows.{Message, message_of, holds_dgram, dgram_drop_rows, u_short, u_len, u_sum, u_sum_out, m_short, m_sum, m_type, m_quote}
+use Rattle.dgram_rules.specs.Rows.{Message, message_of, holds_dgram, u_short, u_len, u_sum, u_sum_out, m_short, m_sum, m_type, m_quote}
 use Rattle.dgram_rules.specs.Judged.{udp_judged, icmp_judged}
 use Rattle.dgram_rules.specs.Laws.{UdpTellsTheRows, IcmpTellsTheRows, OthersHaveNoRow}
 use Rattle.norm_engine.specs.Rows.{side_of_frame, datagram_of, datagram_in, holds_tcp}
 use Rattle.norm_engine.specs.Trace.{Item, of_dgram, dropped_by}
 use Rattle.norm_engine.specs.declared.judge.Judgment.TheVariants.{Drop}
 use Rattle.norm_engine.specs.Engine.{IsArp, Judges, joined, datagram_judged, segment_row}
-use Rattle.norm_engine.proofs.Joining.{tcp_rows, later_row, by_layers, named_by_layers, later_of_none, later_of_piece, datagram_follows, Follows}
+use Rattle.norm_engine.proofs.Joining.{later_row, by_layers, named_by_layers, later_of_none, later_of_piece, datagram_follows, Follows}
 
 -- rows that do not hold
 
@@ -118,7 +119,7 @@ arp_passes settings link r none arp =
 abbrev ip_row : (carried snap short other : Bool) → PlainSettings → List ℕ → Option Rule
 ip_row carried snap short other settings p =
     if snap then Some rules.LSnap else if short then Some rules.LShort else if other then Some rules.LType
-    else find (λ rule. carried && holds_in settings p rule) (drop 3 ip_drop_rows)
+    else find (λ rule. carried && holds_in settings p rule) packet_drop_rows
 
 ip_row_is : (settings : PlainSettings) (link : Link) (r : Packet)
     → ip_dropped_by settings link r ≡ ip_row (carries_ip link r.octets) (l_snap r) (l_short link r.octets) (l_type link r.octets) settings (packet_in link r.octets)
@@ -236,10 +237,10 @@ side_is_told settings m rule h =
     let tcp = λ (row : Rule). (true && not false) && holds_tcp settings m row in
     let later = λ (row : Rule). true && (false || (m.protocol == 6)) in
     let behind = rules.XLater ∷ [] in
-    either IsTold rule (find dgram dgram_drop_rows) (option_or (find tcp tcp_rows) (find later behind))
-    (found IsTold dgram rule dgram_drop_rows (refl, (refl, (refl, (refl, (refl, (refl, (refl, tt))))))))
-    (either IsTold rule (find tcp tcp_rows) (find later behind)
-    (found IsTold tcp rule tcp_rows (refl, (refl, (refl, (refl, (refl, tt))))))
+    either IsTold rule (find dgram datagram_rows) (option_or (find tcp segment_rows) (find later behind))
+    (found IsTold dgram rule datagram_rows (refl, (refl, (refl, (refl, (refl, (refl, (refl, tt))))))))
+    (either IsTold rule (find tcp segment_rows) (find later behind)
+    (found IsTold tcp rule segment_rows (refl, (refl, (refl, (refl, (refl, tt))))))
     (found IsTold later rule behind (refl, tt)))
     h
 

@@ -1,11 +1,11 @@
 -- Clean records keep their payload, also where a row mends their packet.
-use Rattle.std.proofs.Common.{◌≡◌, ℕ, ◌+◌, ◌*◌, ◌/◌, ◌%◌, ◌≤◌, ◌<◌, Bool, true, false, ◌&&◌, ◌==◌, not, nat_lt, List, [], ◌∷◌, ◌++◌, length, take, drop, slice_index, get_or, Option, Some, None, is_none, refl, sym, ap, ap₂, ◌∙◌, subst, arith, if◌then◌else◌}
+use Rattle.std.proofs.Common.{◌≡◌, ℕ, ◌+◌, ◌*◌, ◌≤◌, ◌<◌, Bool, true, false, ◌&&◌, ◌==◌, not, nat_lt, List, [], ◌∷◌, ◌++◌, length, take, drop, slice_index, get_or, Option, Some, None, is_none, refl, sym, ap, ap₂, ◌∙◌, subst, arith, if◌then◌else◌}
 use Rattle.std.specs.Option.{option_or}
 use Rattle.std.proofs.lemmas.Grind.{common_steps}
 use Rattle.std.proofs.lemmas.Bool.{eqb-true}
 use Rattle.std.proofs.lemmas.Bool.Decides.{nat_tests}
-use Rattle.std.proofs.lemmas.List.{length-append, length-take-le, get_or-take, get_or-drop, drop-take}
-use Rattle.std.proofs.Math.Seq.{take-length, drop-append_seam}
+use Rattle.std.proofs.lemmas.List.{length-append, length-take-le, get_or-take, get_or-drop}
+use Rattle.std.proofs.Math.Seq.{drop-append_seam}
 use Rattle.std.proofs.Math.ListN.{get_or-append}
 use Rattle.wire_base.specs.declared.address.Link.{Link}
 use Rattle.wire_base.specs.declared.address.Link.TheVariants.{Ethernet, Raw}
@@ -18,10 +18,11 @@ use Rattle.ipv4_codec.proofs.PlainHeaders.{header-plain}
 use Rattle.udp_codec.specs.Checksum.{mended}
 use Rattle.rule_book.specs.declared.rule.Rule.{Rule}
 use Rattle.rule_book.specs.declared.rule.Rule.TheVariants as rules
+use Rattle.rule_book.specs.Rules.{datagram_rows}
 use Rattle.norm_settings.specs.Settings.{PlainSettings}
 use Rattle.ip_rules.specs.Rows.{carries_ip, packet_in, ip_drop_rows, l_short}
 use Rattle.ip_rules.specs.Judged.{IsKept}
-use Rattle.dgram_rules.specs.Rows.{Message, pseudo_of, holds_dgram, dgram_drop_rows, u_short, u_sum_out}
+use Rattle.dgram_rules.specs.Rows.{Message, pseudo_of, holds_dgram, u_short, u_sum_out}
 use Rattle.receiver_model.proofs.Places.{payload_is}
 use Rattle.norm_engine.specs.Rows.{side_of_frame, datagram_of, datagram_in}
 use Rattle.norm_engine.specs.Frames.{link_octets, head_sent, octets_sent, packet_sent, mended_frame}
@@ -111,7 +112,7 @@ no_piece true settings m h = absurd (let dropped = later_of_piece settings m in 
 
 short_fails : (settings : PlainSettings) (m : Message) → later_row true false settings m ≡ None → holds_dgram settings false m rules.UShort ≡ false
 unfolding later_row
-short_fails settings m h = fails (λ (row : Rule). (true && not false) && holds_dgram settings false m row) [] (drop 1 dgram_drop_rows) rules.UShort (both_none _ _ h).0
+short_fails settings m h = fails (λ (row : Rule). (true && not false) && holds_dgram settings false m row) [] (drop 1 datagram_rows) rules.UShort (both_none _ _ h).0
 
 udp_row_fails : (udp short : Bool) → (udp && short) ≡ false → udp ≡ true → short ≡ false
 udp_row_fails true short h u = h
