@@ -5,8 +5,8 @@ use Rattle.std.proofs.lemmas.Bool.{eq-eqb, ne_eqb}
 use Rattle.std.proofs.lemmas.List.Elements.{filter-append}
 use Rattle.linked_table.specs.Rings.{In}
 use Rattle.linked_table.specs.Sound.{slot_of, pair_at, cons_entry, entries_of}
-use Rattle.linked_table.specs.Table.{Entry, without, only}
-use Rattle.linked_table.proofs.Lists.{Any-head, Any-tail, Any-cases, Pairwise}
+use Rattle.linked_table.specs.Table.{Entry, Pairwise, without, only}
+use Rattle.linked_table.proofs.Lists.{Any-head, Any-tail, Any-cases}
 
 -- no node stands twice in the list
 abbrev pub Apart : List ℕ → Type 0

@@ -3,6 +3,9 @@ pub mod Rings
 pub mod Writes
 pub mod Hubs
 pub mod Lists
+pub mod Filters
+pub mod Splits
+pub mod Parts
 pub mod Entries
 pub mod Tables
 pub mod Readings

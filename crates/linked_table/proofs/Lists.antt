@@ -1,7 +1,8 @@
 -- Facts of some, of each and of each two elements of a list, by recursion on it.
 use Rattle.std.proofs.Common.{zero, suc, inl, inr, ◌⊎◌, List, [], ◌∷◌, refl, sym, subst, arith}
-use Rattle.std.specs.List.{AllByRecursion, Any, AllPairs}
+use Rattle.std.specs.List.{Any, AllPairs}
 use Rattle.std.proofs.lemmas.List.Elements.{All-from_recursion}
+use Rattle.linked_table.specs.Table.{Pairwise}
 
 module _ {X : Type 0} (P : X → Type 0) where
   pub Any-head : (x : X) (xs : List X) → P x → Any P (x ∷ xs)
@@ -15,12 +16,7 @@ module _ {X : Type 0} (P : X → Type 0) where
   Any-cases x xs (suc k, y, below, at, there) = inr (k, y, omega arith, at, there)
 
 module _ {X : Type 0} (R : X → X → Type 0) where
-  -- R holds of each element and each later one
-  abbrev pub Pairwise : List X → Type 0
-  Pairwise [] = Unit {0}
-  Pairwise (x ∷ xs) = AllByRecursion (R x) xs × Pairwise xs
-
-  pub AllPairs-from_recursion : (xs : List X) → Pairwise xs → AllPairs R xs
+  pub AllPairs-from_recursion : (xs : List X) → Pairwise R xs → AllPairs R xs
   AllPairs-from_recursion [] pairs i j d before below = absurd (omega arith)
   AllPairs-from_recursion (x ∷ xs) pairs zero zero d before below = absurd (omega arith)
   AllPairs-from_recursion (x ∷ xs) pairs zero (suc j) d before below = All-from_recursion (R x) xs pairs.0 j d (omega arith)

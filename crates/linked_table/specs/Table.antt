@@ -1,6 +1,6 @@
 -- What contracts see of a table: its entries in order of recency (this project's profile).
 use Rattle.std.specs.Prelude.{◌≡◌, ◌≢◌, ◌==◌, not, ℕ, Bool, true, false, if◌then◌else◌, Option, Some, None, List, [], ◌∷◌, ◌++◌, filter, map, refl}
-use Rattle.std.specs.List.{All, Any}
+use Rattle.std.specs.List.{All, AllByRecursion, Any}
 use Rattle.std.specs.Fn.{Shared}
 use Rattle.std.specs.Borrow.{Bor}
 use Rattle.std.specs.Coded.{Coded, code_by, coded×, coded_ℕ, coded_list}
@@ -27,6 +27,11 @@ abbrev pub table_code : {K V : Type 0} → Coded K → Coded V → Coded (Table 
 table_code {K} {V} k v =
     code_by (List (Entry K V) × ℕ) (coded× (coded_list (entry_code k v)) coded_ℕ) (λ t. (t.entries, t.max)) (λ p. record { entries = p.0; max = p.1 }) (λ _. refl)
 
+-- R holds of each element and each later one.
+abbrev pub Pairwise : {X : Type 0} → (X → X → Type 0) → List X → Type 0
+Pairwise R [] = Unit {0}
+Pairwise R (x ∷ xs) = AllByRecursion (R x) xs × Pairwise R xs
+
 module _ {K V : Type 0} where
   -- The slot is an entry's.
   abbrev pub IsIn : List (Entry K V) → Slot → Type 0
@@ -43,6 +48,18 @@ module _ {K V : Type 0} where
   -- The fact holds of the entry of this slot.
   abbrev pub Wherever : List (Entry K V) → Slot → (Entry K V → Type 0) → Type 0
   Wherever entries slot P = All (λ e. e.slot ≡ slot → P e) entries
+
+  -- The entry of this slot, with those before it and those after it, none of which has its slot or its key.
+  pub record SplitAt (entries : List (Entry K V)) (slot : Slot) : Type 0 where
+    pub before : List (Entry K V)
+    pub here : Entry K V
+    pub after : List (Entry K V)
+    pub splits : entries ≡ before ++ here ∷ after
+    pub named : here.slot ≡ slot
+    pub slots_before : AllByRecursion (λ e. e.slot ≢ here.slot) before
+    pub slots_after : AllByRecursion (λ e. e.slot ≢ here.slot) after
+    pub keys_before : AllByRecursion (λ e. e.key ≢ here.key) before
+    pub keys_after : AllByRecursion (λ e. e.key ≢ here.key) after
 
   -- The entries of the other slots, in their order.
   abbrev pub without : List (Entry K V) → Slot → List (Entry K V)

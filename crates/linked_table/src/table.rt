@@ -1,7 +1,7 @@
 //! The table: its entries by recency, and its look-up by the hash of a key.
 ghost use Rattle.std.specs.Prelude.{◌≡◌, ◌+◌, ◌-◌, ◌<◌, ◌≤◌, ◌≢◌, ◌%◌, ◌↔◌, [], ◌∷◌, ◌++◌, length, replicate, false, Option, Some, IfOk, IfErr, OnErr, IsErr, IfSome, IfNone, IsNone};
 ghost use Rattle.std.specs.List.{All, AllPairs};
-ghost use Rattle.linked_table.specs.Table.{IsIn, IsNotIn, HasNone, Wherever, Answers, IsCallableAt, PassesFirst, without, only, with_value, first_slot};
+ghost use Rattle.linked_table.specs.Table.{IsIn, IsNotIn, HasNone, SplitAt, Wherever, Answers, IsCallableAt, PassesFirst, without, only, with_value, first_slot};
 ghost use Rattle.linked_table.specs.Sound.{IsAllFree};
 
 use crate::key::Key;
@@ -125,6 +125,7 @@ impl<K: Key, V> LinkedTable<K, V> {
     pub fn find(&self, key: &K) -> Option<Slot>
         ensures found { IfSome result (IsIn self.now.entries) }
         ensures same_key { IfSome result (λ slot. Wherever self.now.entries slot (λ e. e.key ≡ key.now)) }
+        ensures split { IfSome result (SplitAt self.now.entries) }
         ensures whichever { All (λ e. e.key ≡ key.now → result ≡ Some e.slot) self.now.entries }
         ensures absent { IsNone result ↔ HasNone self.now.entries key.now }
     {

@@ -3,10 +3,12 @@ pub mod Counts
 pub mod Fills
 pub mod Fronts
 pub mod Holdings
+pub mod Kept
 pub mod Missing
 pub mod Opens
 pub mod Pieces
 pub mod Segments
 pub mod Shown
+pub mod Sums
 pub mod Trims
 pub mod Walks

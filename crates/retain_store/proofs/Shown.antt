@@ -66,6 +66,13 @@ change_shown old new store c is inside changed =
       );
     }
 
+-- the chain that has changed is that of the pool
+pub shown_after : (old new : Lists) (store : Store) (c : ℕ) → store_of old ≡ store → c < length store.chains →
+    IsChanged old new c → blocks_in new c ≡ chain_of (store_of new) c
+shown_after old new store c is inside changed =
+    let number = (change_shown old new store c is inside changed).number in
+    chain_shown new (store_of new) c refl (omega (arith, number))
+
 pub none_shown : (n : ℕ) → map blocks_of (replicate n []) ≡ replicate n []
 none_shown zero = refl
 none_shown (suc n) = ap (λ l. [] ∷ l) (none_shown n)

@@ -1,5 +1,5 @@
 -- What contracts see of a store (this project's profile): per chain a finite map from offset to octet, in blocks of 256.
-use Rattle.std.specs.Prelude.{◌≡◌, ℕ, ◌+◌, ◌-◌, ◌/◌, ◌%◌, ◌<◌, ◌==◌, nat_lt, Bool, not, true, List, [], ◌∷◌, length, Option, None, is_some, IsSome, slice_get, slice_index, slice_index_or, slice_set, if◌then◌else◌}
+use Rattle.std.specs.Prelude.{◌≡◌, ℕ, ◌+◌, ◌-◌, ◌*◌, ◌/◌, ◌%◌, ◌<◌, ◌==◌, nat_lt, Bool, not, true, List, [], ◌∷◌, length, Option, None, is_none, is_some, IsSome, slice_get, slice_index, slice_index_or, slice_set, if◌then◌else◌}
 use Rattle.std.specs.List.{All, list_any, count_by, range_with_len}
 use Rattle.std.specs.Option.{option_or, unwrap_or}
 
@@ -35,6 +35,10 @@ octet_at blocks offset = slice_index_or (block_at blocks (offset / 256)) (offset
 abbrev pub holds : List Block → ℕ → Bool
 holds blocks number = list_any is_some (block_at blocks number)
 
+-- One of the 256 offsets of the block of this number has an octet, where these are the octets by offset.
+abbrev pub has_octet : (octets : ℕ → Option ℕ) → (number : ℕ) → Bool
+has_octet octets number = list_any (λ offset. is_some (octets offset)) (range_with_len (256 * number) 256)
+
 -- Each octet of the chain stands below this offset.
 abbrev pub IsWithin : List Block → ℕ → Type 0
 IsWithin blocks end = (offset : ℕ) → IsSome (octet_at blocks offset) → offset < end
@@ -47,6 +51,10 @@ touched from len =
 -- How many of the blocks touched have no octet.
 abbrev pub missing : List Block → ℕ → ℕ → ℕ
 missing blocks from len = count_by (λ number. not (holds blocks number)) (touched from len)
+
+-- How many of so many offsets from this one on have no octet.
+abbrev pub fresh : List Block → (from len : ℕ) → ℕ
+fresh blocks from len = count_by (λ offset. is_none (octet_at blocks offset)) (range_with_len from len)
 
 -- The octet that a segment which begins at `from` has at this offset, if it has one.
 abbrev pub octet_in : ℕ → List ℕ → ℕ → Option ℕ
@@ -81,6 +89,11 @@ pub record ChangesOnly (old new : Store) (chain : ℕ) : Type 0 where
 -- Each of these offsets has its octet.
 abbrev pub Covers : List Block → ℕ → ℕ → Type 0
 Covers blocks from len = (i : ℕ) → i < len → IsSome (octet_at blocks (from + i))
+
+-- None of these octets differs from the one at its offset.
+abbrev pub Agrees : List Block → ℕ → List ℕ → Type 0
+Agrees blocks from octets =
+    (i : ℕ) → i < length octets → unwrap_or (octet_at blocks (from + i)) (slice_index octets i) ≡ slice_index octets i
 
 -- An octet is added where there was none; what came first stays.
 abbrev pub Places : List Block → List Block → ℕ → List ℕ → Type 0

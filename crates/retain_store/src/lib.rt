@@ -8,6 +8,7 @@ mod store;
 mod writes;
 
 pub use cell_pool::ChainId;
+pub use reads::blocks_touched;
 pub use store::Retain;
 
 #[cfg(test)]

@@ -2,14 +2,14 @@
 ghost use Rattle.std.specs.Prelude.{◌≡◌, ℕ, ◌+◌, ◌-◌, ◌<◌, ◌≤◌, ◌/◌, ◌^◌, ◌↔◌, Some, false, length, slice_index, IsTrue};
 ghost use Rattle.std.specs.List.{range_with_len};
 ghost use Rattle.cell_pool.specs.Lists.{chain_at, IsRising};
-ghost use Rattle.retain_store.specs.Maps.{holds, octet_at, touched, missing, Covers, Settles};
+ghost use Rattle.retain_store.specs.Maps.{holds, octet_at, touched, missing, fresh, Agrees, Covers, Settles};
 ghost use Rattle.retain_store.specs.Seats.{blocks_in, IsKept, IsNear};
 
 use crate::seat::{Seat, look, seek};
 use cell_pool::{CellId, ChainId, Pool};
 
-// How many blocks are touched by so many offsets.
-fn blocks_touched(from: u64, len: u32) -> u32
+/// How many blocks of 256 offsets are touched by so many offsets from this one on: as many as a chain with no octet needs.
+pub fn blocks_touched(from: u64, len: u32) -> u32
     requires { from + len ≤ 2 ^ 64 - 1 }
     ensures { touched from len ≡ range_with_len (from / 256) result }
 {
@@ -61,6 +61,33 @@ pub(crate) fn count_missing(
     count
 }
 
+/// How many of the offsets have no octet.
+pub(crate) fn count_fresh(
+    pool: &Pool,
+    chain: ChainId,
+    near: Option<CellId>,
+    from: u64,
+    len: u32,
+) -> u32
+    requires chain_in_range { chain.0 < length pool.now.chains }
+    requires near_in_chain { IsNear (chain_at pool.now chain.0) near }
+    requires rising { IsRising (chain_at pool.now chain.0) }
+    requires offsets { from + len ≤ 2 ^ 64 - 1 }
+    ensures { result ≡ fresh (blocks_in pool.now chain.0) from len }
+{
+    let mut near = near;
+    let mut count = 0;
+    for index in 0..len {
+        let (octet, next) = look(pool, chain, near, from + u64::from(index));
+        let none = octet.is_none();
+        if none {
+            count += 1;
+        }
+        near = next;
+    }
+    count
+}
+
 /// Whether each of the offsets has its octet.
 pub(crate) fn covers_all(
     pool: &Pool,
@@ -79,6 +106,31 @@ pub(crate) fn covers_all(
     for index in 0..len {
         let (octet, next) = look(pool, chain, near, from + u64::from(index));
         if octet.is_none() {
+            return false;
+        }
+        near = next;
+    }
+    true
+}
+
+/// Whether none of the octets differs from the one kept at its offset.
+pub(crate) fn agrees_all(
+    pool: &Pool,
+    chain: ChainId,
+    near: Option<CellId>,
+    from: u64,
+    bytes: &[u8],
+) -> bool
+    requires chain_in_range { chain.0 < length pool.now.chains }
+    requires near_in_chain { IsNear (chain_at pool.now chain.0) near }
+    requires rising { IsRising (chain_at pool.now chain.0) }
+    requires offsets { from + length bytes.now ≤ 2 ^ 64 - 1 }
+    ensures { IsTrue result ↔ Agrees (blocks_in pool.now chain.0) from bytes.now }
+{
+    let mut near = near;
+    for (index, octet) in bytes.iter().enumerate() {
+        let (kept, next) = look(pool, chain, near, from + index as u64);
+        if kept.unwrap_or(*octet) != *octet {
             return false;
         }
         near = next;

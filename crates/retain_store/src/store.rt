@@ -1,10 +1,10 @@
 //! The store of octets by chain and offset.
 ghost use Rattle.std.specs.Prelude.{◌≡◌, ℕ, ◌+◌, ◌-◌, ◌*◌, ◌<◌, ◌≤◌, ◌^◌, ◌↔◌, [], Some, false, length, replicate, slice_index, IfOk, IsTrue};
 ghost use Rattle.std.specs.List.{count_by, range_with_len, sum_by};
-ghost use Rattle.retain_store.specs.Maps.{chain_of, holds, octet_at, missing, ChangesOnly, Covers, ForgetsBelow, IsMap, IsWithin, Places, Settles};
+ghost use Rattle.retain_store.specs.Maps.{chain_of, has_octet, holds, octet_at, missing, fresh, Agrees, ChangesOnly, Covers, ForgetsBelow, IsMap, IsWithin, Places, Settles};
 
 use crate::forgets::{forget_before, forget_chain};
-use crate::reads::{copy, count_missing, covers_all, settle_all};
+use crate::reads::{agrees_all, copy, count_fresh, count_missing, covers_all, settle_all};
 use crate::writes::place_all;
 use cell_pool::{CellId, ChainId, Pool};
 use edge_io::NoMemory;
@@ -57,6 +57,7 @@ impl Retain {
         ensures map { IsMap (chain_of self.now chain.0) }
         ensures held { (n : ℕ) → IsWithin (chain_of self.now chain.0) (256 * n) →
             result ≡ count_by (holds (chain_of self.now chain.0)) (range_with_len 0 n) }
+        ensures blocks { (n : ℕ) → holds (chain_of self.now chain.0) n ≡ has_octet (octet_at (chain_of self.now chain.0)) n }
     {
         self.pool.count(chain)
     }
@@ -70,6 +71,16 @@ impl Retain {
         count_missing(&self.pool, chain, self.hints[chain.0 as usize], from, len)
     }
 
+    /// How many of so many offsets have no octet: as many as `place` would add there.
+    pub fn fresh(&self, chain: ChainId, from: u64, len: u32) -> u32
+        requires chain_in_range { chain.0 < length self.now.chains }
+        requires offsets { from + len ≤ 2 ^ 64 - 1 }
+        ensures value { result ≡ fresh (chain_of self.now chain.0) from len }
+        ensures most { result ≤ len }
+    {
+        count_fresh(&self.pool, chain, self.hints[chain.0 as usize], from, len)
+    }
+
     /// Adds the octets at offsets that have none. It takes no memory.
     pub fn place(&mut self, chain: ChainId, from: u64, bytes: &[u8])
         requires chain_in_range { chain.0 < length self.old.chains }
@@ -78,10 +89,22 @@ impl Retain {
         ensures octets { Places (chain_of self.old chain.0) (chain_of self.new chain.0) from bytes.now }
         ensures free { self.new.free + missing (chain_of self.old chain.0) from (length bytes.now) ≡ self.old.free }
         ensures changed { ChangesOnly self.old self.new chain.0 }
+        ensures map { IsMap (chain_of self.new chain.0) }
+        ensures held { (n : ℕ) → IsWithin (chain_of self.new chain.0) (256 * n) →
+            length (chain_of self.new chain.0) ≡ count_by (holds (chain_of self.new chain.0)) (range_with_len 0 n) }
     {
         let near = self.hints[chain.0 as usize];
         let near = place_all(&mut self.pool, chain, near, from, bytes);
         self.hints[chain.0 as usize] = near;
+    }
+
+    /// Whether none of the octets differs from the one kept at its offset.
+    pub fn agrees(&self, chain: ChainId, from: u64, bytes: &[u8]) -> bool
+        requires chain_in_range { chain.0 < length self.now.chains }
+        requires offsets { from + length bytes.now ≤ 2 ^ 64 - 1 }
+        ensures { IsTrue result ↔ Agrees (chain_of self.now chain.0) from bytes.now }
+    {
+        agrees_all(&self.pool, chain, self.hints[chain.0 as usize], from, bytes)
     }
 
     /// Puts kept octets in place of those that differ, and answers whether one did.
@@ -99,6 +122,9 @@ impl Retain {
         requires { chain.0 < length self.old.chains }
         ensures octets { ForgetsBelow (chain_of self.old chain.0) (chain_of self.new chain.0) at }
         ensures changed { ChangesOnly self.old self.new chain.0 }
+        ensures map { IsMap (chain_of self.new chain.0) }
+        ensures held { (n : ℕ) → IsWithin (chain_of self.new chain.0) (256 * n) →
+            length (chain_of self.new chain.0) ≡ count_by (holds (chain_of self.new chain.0)) (range_with_len 0 n) }
     {
         let near = self.hints[chain.0 as usize];
         let near = forget_before(&mut self.pool, chain, near, at);

@@ -13,8 +13,10 @@ fn the_octet_that_came_first_stays(rt: HostRuntime) -> Result<(), Fail> {
     let from = (1 << 62) + 254;
     assert_eq!(rt; store.need(chain, from, 3), 2);
     assert_eq!(rt; store.free(), 3);
+    assert_eq!(rt; store.fresh(chain, from, 3), 3);
     store.place(chain, from, b"abc");
     assert_eq!(rt; store.need(chain, from + 1, 4), 0);
+    assert_eq!(rt; store.fresh(chain, from + 1, 4), 2);
     store.place(chain, from + 1, b"XYZW");
     let mut octets = [0; 5];
     assert!(rt; store.covers(chain, from, 5));

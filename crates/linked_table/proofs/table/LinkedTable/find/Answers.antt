@@ -1,4 +1,6 @@
 use Rattle.std.proofs.Common.{◌≡◌, ◌+◌, ◌-◌, ◌%◌, None, length, refl, sym, ap, ◌∙◌, arith}
+use Rattle.linked_table.proofs.Parts.{split_at}
+use Rattle.linked_table.proofs.Tables.{slots_apart, keys_apart}
 use Rattle.linked_table.proofs.Searches.{begins, next_of, none_left, none_at_end, none_has, none_whichever, has_key, differs}
 use Rattle.linked_table.proofs.table.LinkedTable.find.Goals as goal
 use Rattle.linked_table.proofs.table.LinkedTable.find.Goals.{in-Some+else-eq, in_default}
@@ -25,6 +27,11 @@ overflow_cast-result g c = omega (arith, (has_key _ _ _ _ _ c.self.invariant _ c
 
 pub returns-then-eq-clause-found : goal.returns-then-eq-clause-found
 returns-then-eq-clause-found g c = (has_key _ _ _ _ _ c.self.invariant _ c.self.view_is c.args.key.now _ _ _ (sym ((next_of _ _ _ _ _ _ c.loop.invariant c.if-node-hub.false).read _ c.index.ensures) ∙ c.in-Some.is) (g.met.K.Key.equal_is_same _ _ (sym c.eq.ensures ∙ c.if-eq.true))).listed
+
+pub returns-then-eq-clause-split : goal.returns-then-eq-clause-split
+returns-then-eq-clause-split g c =
+    split_at _ _ (has_key _ _ _ _ _ c.self.invariant _ c.self.view_is c.args.key.now _ _ _ (sym ((next_of _ _ _ _ _ _ c.loop.invariant c.if-node-hub.false).read _ c.index.ensures) ∙ c.in-Some.is) (g.met.K.Key.equal_is_same _ _ (sym c.eq.ensures ∙ c.if-eq.true))).listed
+    (slots_apart _ _ _ _ _ c.self.invariant _ c.self.view_is) (keys_apart _ _ _ _ _ c.self.invariant _ c.self.view_is)
 
 pub returns-then-eq-clause-same_key : goal.returns-then-eq-clause-same_key
 returns-then-eq-clause-same_key g c = (has_key _ _ _ _ _ c.self.invariant _ c.self.view_is c.args.key.now _ _ _ (sym ((next_of _ _ _ _ _ _ c.loop.invariant c.if-node-hub.false).read _ c.index.ensures) ∙ c.in-Some.is) (g.met.K.Key.equal_is_same _ _ (sym c.eq.ensures ∙ c.if-eq.true))).same

@@ -1,0 +1,65 @@
+-- A chain that has these octets, and no others, has their blocks.
+use Rattle.std.proofs.Common.{◌≡◌, ℕ, zero, suc, ◌+◌, ◌*◌, ◌/◌, ◌%◌, ◌==◌, ◌<◌, ◌≤◌, Bool, true, false, cond, not, List, [], ◌∷◌, length, get_or, Option, None, is_some, refl, sym, ap, ap₂, ◌∙◌, arith, add-one}
+use Rattle.std.specs.Prelude.{◌||◌}
+use Rattle.std.specs.List.{AllByRecursion, list_any, count_by, range_with_len}
+use Rattle.std.proofs.lemmas.List.Elements.{recursion_from_All}
+use Rattle.retain_store.specs.Maps.{Block, IsMap, IsFull, IsWithin, block_at, octet_at, holds, has_octet, missing, touched}
+use Rattle.retain_store.proofs.Sums.{sum_agree}
+
+any_agree : (f g : ℕ → Bool) (xs : List ℕ) → ((x : ℕ) → f x ≡ g x) → list_any f xs ≡ list_any g xs
+any_agree f g [] same = refl
+any_agree f g (x ∷ xs) same = rw (same x) (ap (λ b. g x || b) (any_agree f g xs same))
+
+-- over a range, an element each
+any_range : (l : List (Option ℕ)) (f : ℕ → Bool) (a len : ℕ) → length l ≤ len → ((i : ℕ) → i < len → f (a + i) ≡ is_some (get_or l i None))
+    → list_any f (range_with_len a len) ≡ list_any is_some l
+any_range [] f a zero short reads = refl
+any_range (x ∷ xs) f a zero short reads = absurd (omega arith)
+any_range [] f a (suc len) short reads =
+    let here : f a ≡ false = ap f (omega arith) ∙ reads 0 (omega arith) in
+    let rest = any_range [] f (a + 1) len (omega arith) (λ i lt. ap f (omega arith) ∙ reads (i + 1) (omega arith)) in
+    rw here rest
+any_range (x ∷ xs) f a (suc len) short reads =
+    let here : f a ≡ is_some x = ap f (omega arith) ∙ reads 0 (omega arith) in
+    let rest = any_range xs f (a + 1) len (omega arith) (λ i lt. ap f (omega arith) ∙ (reads (i + 1) (omega arith) ∙ rw (add-one i) refl)) in
+    rw here (ap (λ b. is_some x || b) rest)
+
+block_short : (blocks : List Block) (n : ℕ) → AllByRecursion (λ (b : Block). IsFull b.octets) blocks → length (block_at blocks n) ≤ 256
+block_short [] n full = omega arith
+block_short (b ∷ bs) n full =
+    let here : length b.octets ≤ 256 = omega (arith, full.0.places) in
+    let rest = block_short bs n full.1 in
+    elim (b.number == n) as (λ t. length (cond t b.octets (block_at bs n)) ≤ 256) [ true ↦ here | false ↦ rest ]
+
+-- a block is held exactly where one of its 256 offsets has an octet
+pub holds_are : (blocks : List Block) (octets : ℕ → Option ℕ) (n : ℕ) → IsMap blocks → ((offset : ℕ) → octet_at blocks offset ≡ octets offset)
+    → holds blocks n ≡ has_octet octets n
+holds_are blocks octets n map keeps =
+    let short = block_short blocks n (recursion_from_All (λ (b : Block). IsFull b.octets) blocks map.full) in
+    sym (any_agree (λ o. is_some (octets o)) (λ o. is_some (octet_at blocks o)) (range_with_len (256 * n) 256) (λ o. ap is_some (sym (keeps o)))
+    ∙ any_range (block_at blocks n) (λ o. is_some (octet_at blocks o)) (256 * n) 256 short (λ i lt. place i lt))
+  where
+    place : (i : ℕ) → i < 256 → is_some (octet_at blocks (256 * n + i)) ≡ is_some (get_or (block_at blocks n) i None)
+    place i lt =
+        let number : (256 * n + i) / 256 ≡ n = omega arith in
+        let rest : (256 * n + i) % 256 ≡ i = omega arith in
+        ap₂ (λ m k. is_some (get_or (block_at blocks m) k None)) number rest
+
+all_of : (P : ℕ → Type 0) (xs : List ℕ) → ((x : ℕ) → P x) → AllByRecursion P xs
+all_of P [] each = tt
+all_of P (x ∷ xs) each = (each x, all_of P xs each)
+
+pub missing_are : (blocks : List Block) (octets : ℕ → Option ℕ) (from len : ℕ) → IsMap blocks → ((offset : ℕ) → octet_at blocks offset ≡ octets offset)
+    → missing blocks from len ≡ count_by (λ n. not (has_octet octets n)) (touched from len)
+missing_are blocks octets from len map keeps =
+    sum_agree (λ n. cond (not (holds blocks n)) 1 0) (λ n. cond (not (has_octet octets n)) 1 0) (touched from len)
+    (all_of _ (touched from len) (λ n. ap (λ b. cond {A = ℕ} (not b) 1 0) (holds_are blocks octets n map keeps)))
+
+-- there are as many blocks as have one of these octets, where all of them stand in the first ones
+pub count_is : (blocks : List Block) (octets : ℕ → Option ℕ) (n : ℕ) → IsMap blocks → ((offset : ℕ) → octet_at blocks offset ≡ octets offset)
+    → ((offset : ℕ) → is_some (octets offset) ≡ true → offset < 256 * n)
+    → ((m : ℕ) → IsWithin blocks (256 * m) → length blocks ≡ count_by (holds blocks) (range_with_len 0 m)) → length blocks ≡ count_by (has_octet octets) (range_with_len 0 n)
+count_is blocks octets n map keeps below counted =
+    counted n (λ o some. below o (sym (ap is_some (keeps o)) ∙ some))
+    ∙ sum_agree (λ m. cond (holds blocks m) 1 0) (λ m. cond (has_octet octets m) 1 0) (range_with_len 0 n)
+    (all_of _ (range_with_len 0 n) (λ m. ap (λ b. cond {A = ℕ} b 1 0) (holds_are blocks octets m map keeps)))
