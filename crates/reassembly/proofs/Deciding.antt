@@ -1,0 +1,67 @@
+-- Which row decides.
+use Rattle.std.proofs.Common.{◌≡◌, ℕ, ◌<◌, ◌≤◌, Bool, true, false, cond, List, [], ◌∷◌, ◌++◌, Option, Some, None, refl, sym, ap, ◌∙◌, arith, ◌&&◌}
+use Rattle.std.specs.Prelude.{nat_lt}
+use Rattle.std.specs.Option.{option_or}
+use Rattle.std.proofs.lemmas.Bool.Decides.{nat_tests}
+use Rattle.rule_book.specs.declared.rule.Rule.{Rule}
+use Rattle.rule_book.specs.declared.rule.Rule.TheVariants.{FMany, FRoom}
+use Rattle.reassembly.specs.declared.piece.Offered.TheVariants as offers
+use Rattle.reassembly.specs.Pieces.{Fragment, is_whole, whole_of}
+use Rattle.reassembly.specs.Calls.{dropped}
+use Rattle.reassembly.specs.Rows.{View, Row, first_row, own_rows, odd_rows, f_many, f_room, is_none_held, answer_by, answer_at, offered, offered_at}
+
+join_step : (b : Bool) (rule : Rule) (joined left right : Option Rule) → joined ≡ option_or left right → cond b (Some rule) joined ≡ option_or (cond b (Some rule) left) right
+join_step true rule joined left right e = refl
+join_step false rule joined left right e = e
+
+first_join : (xs ys : List Row) → first_row (xs ++ ys) ≡ option_or (first_row xs) (first_row ys)
+first_join [] ys = refl
+first_join (x ∷ xs) ys = join_step x.holds x.rule (first_row (xs ++ ys)) (first_row xs) (first_row ys) (first_join xs ys)
+
+-- the last two rows
+abbrev pub last_rows : View → Fragment → List Row
+last_rows v p = record { rule = FMany; holds = f_many v } ∷ record { rule = FRoom; holds = f_room v p } ∷ []
+
+-- a row on the piece alone
+pub own_drops : (v : View) (p : Fragment) (rule : Rule) → first_row (own_rows p) ≡ Some rule → answer_at v p ≡ dropped rule
+own_drops v p rule own = ap (λ r. answer_by (option_or r (first_row (odd_rows v.pieces p ++ last_rows v p))) (is_whole (p ∷ v.pieces))) own
+
+by_rows : (v : View) (p : Fragment) → first_row (own_rows p) ≡ None → answer_at v p ≡ answer_by (option_or (first_row (odd_rows v.pieces p)) (first_row (last_rows v p))) (is_whole (p ∷ v.pieces))
+by_rows v p own =
+    ap (λ r. answer_by (option_or r (first_row (odd_rows v.pieces p ++ last_rows v p))) (is_whole (p ∷ v.pieces))) own
+    ∙ ap (λ r. answer_by r (is_whole (p ∷ v.pieces))) (first_join (odd_rows v.pieces p) (last_rows v p))
+
+-- a row under which the piece is at odds with its datagram
+pub odd_drops : (v : View) (p : Fragment) (rule : Rule) → first_row (own_rows p) ≡ None → first_row (odd_rows v.pieces p) ≡ Some rule → answer_at v p ≡ dropped rule
+odd_drops v p rule own odd = by_rows v p own ∙ ap (λ r. answer_by (option_or r (first_row (last_rows v p))) (is_whole (p ∷ v.pieces))) odd
+
+pub many_drops : (v : View) (p : Fragment) → first_row (own_rows p) ≡ None → first_row (odd_rows v.pieces p) ≡ None → f_many v ≡ true → answer_at v p ≡ dropped FMany
+many_drops v p own odd many =
+    by_rows v p own ∙ (ap (λ r. answer_by (option_or r (first_row (last_rows v p))) (is_whole (p ∷ v.pieces))) odd
+    ∙ ap (λ b. answer_by (cond b (Some FMany) (cond (f_room v p) (Some FRoom) None)) (is_whole (p ∷ v.pieces))) many)
+
+pub room_drops : (v : View) (p : Fragment) → first_row (own_rows p) ≡ None → first_row (odd_rows v.pieces p) ≡ None → f_many v ≡ false → f_room v p ≡ true → answer_at v p ≡ dropped FRoom
+room_drops v p own odd many room =
+    by_rows v p own ∙ (ap (λ r. answer_by (option_or r (first_row (last_rows v p))) (is_whole (p ∷ v.pieces))) odd
+    ∙ (ap (λ b. answer_by (cond b (Some FMany) (cond (f_room v p) (Some FRoom) None)) (is_whole (p ∷ v.pieces))) many
+    ∙ ap (λ b. answer_by (cond b (Some FRoom) None) (is_whole (p ∷ v.pieces))) room))
+
+pub none_drops : (v : View) (p : Fragment) → first_row (own_rows p) ≡ None → first_row (odd_rows v.pieces p) ≡ None → f_many v ≡ false → f_room v p ≡ false
+    → answer_at v p ≡ answer_by None (is_whole (p ∷ v.pieces))
+none_drops v p own odd many room =
+    by_rows v p own ∙ (ap (λ r. answer_by (option_or r (first_row (last_rows v p))) (is_whole (p ∷ v.pieces))) odd
+    ∙ (ap (λ b. answer_by (cond b (Some FMany) (cond (f_room v p) (Some FRoom) None)) (is_whole (p ∷ v.pieces))) many
+    ∙ ap (λ b. answer_by (cond b (Some FRoom) None) (is_whole (p ∷ v.pieces))) room))
+
+pub drop_answer : (v : View) (p : Fragment) (rule : Rule) → answer_at v p ≡ dropped rule → offers.Drop rule ≡ offered_at v p
+drop_answer v p rule e = sym (ap (λ a. offered a (whole_of (p ∷ v.pieces))) e)
+
+-- where pieces of the datagram are held, F_MANY does not hold
+pub not_many : (ps : List Fragment) (full : Bool) → is_none_held ps ≡ false → (is_none_held ps && full) ≡ false
+not_many ps full some = ap (λ b. b && full) some
+
+pub room_is : (room need wanted : ℕ) → need ≡ wanted → room < need → nat_lt room wanted ≡ true
+room_is room need wanted is lt = grind (arith, nat_tests, is)
+
+pub room_not : (room need wanted : ℕ) → need ≡ wanted → need ≤ room → nat_lt room wanted ≡ false
+room_not room need wanted is le = grind (arith, nat_tests, is)

@@ -1,0 +1,17 @@
+pub mod Worked
+pub mod Stands
+pub mod Holding
+pub mod Pieces
+pub mod Chains
+pub mod Clashes
+pub mod Changing
+pub mod Expiring
+pub mod Accepting
+pub mod Deciding
+pub mod Beginning
+pub mod Ordering
+pub mod Rooms
+pub mod Gathering
+pub mod Octets
+pub mod Apart
+pub mod Passing

@@ -1,0 +1,5 @@
+use Rattle.reassembly.proofs.Apart.{apart}
+use Rattle.reassembly.proofs.laws.datagrams_are_apart.Goals as goal
+
+pub returns : goal.returns
+returns c = apart

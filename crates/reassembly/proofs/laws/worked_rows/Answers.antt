@@ -1,0 +1,5 @@
+use Rattle.reassembly.proofs.Worked.{worked}
+use Rattle.reassembly.proofs.laws.worked_rows.Goals as goal
+
+pub returns : goal.returns
+returns c = worked

@@ -1,0 +1,18 @@
+//! Laws of calls.
+ghost use Rattle.reassembly.specs.Worked.{WorkedRows};
+ghost use Rattle.reassembly.specs.Laws.{DatagramsAreApart, WholeIsItsPieces};
+
+/// A whole datagram is made of its pieces: each stands at its place, each octet is of one, and one stands at offset 0.
+pub fn whole_is_its_pieces()
+    ensures { WholeIsItsPieces }
+{}
+
+/// Datagrams of two identifications have nothing to do with one another.
+pub fn datagrams_are_apart()
+    ensures { DatagramsAreApart }
+{}
+
+/// The worked rows, computed from the definitions.
+pub fn worked_rows()
+    ensures { WorkedRows }
+{}

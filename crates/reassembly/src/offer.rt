@@ -1,0 +1,167 @@
+//! A piece is offered.
+use crate::assembly::Assembly;
+use crate::odds::odds;
+use crate::piece::{Offered, Piece};
+use crate::progress::Progress;
+use crate::rows::own_row;
+use crate::take::take;
+use linked_table::Slot;
+use retain_store::{ChainId, blocks_touched};
+use rule_book::Rule;
+
+impl Assembly {
+    ghost use Rattle.std.specs.Prelude.{◌≡◌, ◌≤◌, ◌<◌, ℕ, Bool, List, [], ◌∷◌, length, nat_le, true, false, None};
+    ghost use Rattle.linked_table.specs.Table.{IsIn, HasNone, Wherever};
+    ghost use Rattle.norm_settings.specs.Settings.{PlainSettings};
+    ghost use Rattle.retain_store.specs.Maps.{chain_of, missing};
+    ghost use Rattle.reassembly.specs.Pieces.{fragment_of, IsPiece, is_whole, whole_of};
+    ghost use Rattle.reassembly.specs.Calls.{Call, Gathered, gathered, latest, pieces_in, after};
+    ghost use Rattle.reassembly.specs.Rows.{ends_otherwise, own_rows, first_row, answer_by, answer_at, offered, offered_at, view_in, view_of, is_none_held, call_of, Carries, JoinsPieces};
+    ghost use Rattle.reassembly.specs.Standing.{HoldsFor};
+    ghost use Rattle.reassembly.specs.Assemblies.{IsFor, KeepsFor, StandsFor, last_time};
+
+    // Takes a piece that no row drops, in the slot of its datagram.
+    fn accept(
+        &mut self,
+        slot: Slot,
+        progress: &Progress,
+        piece: &Piece<'_>,
+        buf: &mut [u8],
+    ) -> Offered
+        requires inside { IsIn self.old.table.entries slot }
+        requires keyed { Wherever self.old.table.entries slot (λ e. e.key ≡ (fragment_of piece.now).id) }
+        requires valued { Wherever self.old.table.entries slot (λ e. e.value ≡ progress.now) }
+        requires piece { IsPiece (fragment_of piece.now) }
+        requires own { first_row (own_rows (fragment_of piece.now)) ≡ None }
+        requires ends { ends_otherwise progress.now.total progress.now.reach (fragment_of piece.now) ≡ false }
+        requires room { let p = fragment_of piece.now in missing (chain_of self.old.store slot.0) p.offset (length p.octets) ≤ self.old.store.free }
+        requires buffer { 65515 ≤ length buf.old }
+        ensures answer { let p = fragment_of piece.now in (gs : List Gathered) → HoldsFor gs self.old.table.entries self.old.store →
+            let ps = p ∷ pieces_in gs p.id in result ≡ offered (answer_by None (is_whole ps)) (whole_of ps) }
+        ensures holds { let p = fragment_of piece.now in (now : ℕ) (gs : List Gathered) → HoldsFor gs self.old.table.entries self.old.store →
+            HoldsFor (after now p (answer_by None (is_whole (p ∷ pieces_in gs p.id))) gs) self.new.table.entries self.new.store }
+        ensures octets { let p = fragment_of piece.now in (gs : List Gathered) → HoldsFor gs self.old.table.entries self.old.store → Carries result buf.old buf.new (p ∷ pieces_in gs p.id) }
+        ensures opened { (settings : PlainSettings) → IsFor settings self.old → IsFor settings self.new }
+    {
+        let _count = self.table.len();
+        let chain = ChainId(slot.0);
+        let next = take(&mut self.store, chain, progress, piece);
+        match next.whole() {
+            Some(whole) => {
+                self.store.copy_out(chain, 0, &mut buf[..whole.len]);
+                self.store.forget_all(chain);
+                let _pair = self.table.remove(slot);
+                Offered::Done(whole)
+            }
+            None => {
+                let _before = self.table.put(slot, next);
+                Offered::Held
+            }
+        }
+    }
+
+    // Takes a piece of a datagram of which pieces are held.
+    fn join(&mut self, slot: Slot, piece: &Piece<'_>, buf: &mut [u8]) -> Offered
+        requires inside { IsIn self.old.table.entries slot }
+        requires keyed { Wherever self.old.table.entries slot (λ e. e.key ≡ (fragment_of piece.now).id) }
+        requires piece { IsPiece (fragment_of piece.now) }
+        requires own { first_row (own_rows (fragment_of piece.now)) ≡ None }
+        requires buffer { 65515 ≤ length buf.old }
+        ensures answer { let p = fragment_of piece.now in (gs : List Gathered) (full : Bool) → HoldsFor gs self.old.table.entries self.old.store →
+            is_none_held (pieces_in gs p.id) ≡ false → result ≡ offered_at (view_in gs full self.old.store.free p) p }
+        ensures holds { let p = fragment_of piece.now in (now : ℕ) (gs : List Gathered) (full : Bool) → HoldsFor gs self.old.table.entries self.old.store →
+            is_none_held (pieces_in gs p.id) ≡ false →
+            HoldsFor (after now p (answer_at (view_in gs full self.old.store.free p) p) gs) self.new.table.entries self.new.store }
+        ensures octets { let p = fragment_of piece.now in (gs : List Gathered) → HoldsFor gs self.old.table.entries self.old.store → Carries result buf.old buf.new (p ∷ pieces_in gs p.id) }
+        ensures opened { (settings : PlainSettings) → IsFor settings self.old → IsFor settings self.new }
+    {
+        let _count = self.table.len();
+        let progress = *self.table.at(slot);
+        let chain = ChainId(slot.0);
+        if let Some(rule) = odds(&self.store, chain, &progress, piece) {
+            self.forget(slot);
+            return Offered::Drop(rule);
+        }
+        let _held = self.store.held(chain);
+        let need = self.store.need(chain, u64::from(piece.offset), piece.len());
+        let free = self.store.free();
+        if need > free {
+            return Offered::Drop(Rule::FRoom);
+        }
+        self.accept(slot, &progress, piece, buf)
+    }
+
+    // Takes the first piece of a datagram.
+    fn begin(&mut self, now: u32, piece: &Piece<'_>, buf: &mut [u8]) -> Offered
+        requires absent { HasNone self.old.table.entries (fragment_of piece.now).id }
+        requires piece { IsPiece (fragment_of piece.now) }
+        requires own { first_row (own_rows (fragment_of piece.now)) ≡ None }
+        requires buffer { 65515 ≤ length buf.old }
+        ensures answer { let p = fragment_of piece.now in (gs : List Gathered) → HoldsFor gs self.old.table.entries self.old.store →
+            result ≡ offered_at (view_in gs (nat_le self.old.table.max (length gs)) self.old.store.free p) p }
+        ensures holds { let p = fragment_of piece.now in (gs : List Gathered) → HoldsFor gs self.old.table.entries self.old.store →
+            HoldsFor (after now p (answer_at (view_in gs (nat_le self.old.table.max (length gs)) self.old.store.free p) p) gs) self.new.table.entries self.new.store }
+        ensures octets { let p = fragment_of piece.now in (gs : List Gathered) → HoldsFor gs self.old.table.entries self.old.store → Carries result buf.old buf.new (p ∷ pieces_in gs p.id) }
+        ensures opened { (settings : PlainSettings) → IsFor settings self.old → IsFor settings self.new }
+    {
+        let count = self.table.len();
+        let max = self.table.max();
+        if count == max {
+            return Offered::Drop(Rule::FMany);
+        }
+        let need = blocks_touched(u64::from(piece.offset), piece.len());
+        let free = self.store.free();
+        if need > free {
+            return Offered::Drop(Rule::FRoom);
+        }
+        let progress = Progress::none(now);
+        let Ok(slot) = self.table.insert(piece.id(), progress) else {
+            unreachable!()
+        };
+        let _count = self.table.len();
+        self.accept(slot, &progress, piece, buf)
+    }
+
+    // Takes a piece, whatever was held of its datagram.
+    fn judge(&mut self, now: u32, piece: &Piece<'_>, buf: &mut [u8]) -> Offered
+        requires piece { IsPiece (fragment_of piece.now) }
+        requires buffer { 65515 ≤ length buf.old }
+        ensures answer { let p = fragment_of piece.now in (settings : PlainSettings) (calls : List Call) → KeepsFor settings self.old calls →
+            result ≡ offered_at (view_of settings calls p) p }
+        ensures octets { let p = fragment_of piece.now in (settings : PlainSettings) (calls : List Call) → KeepsFor settings self.old calls →
+            Carries result buf.old buf.new (p ∷ (view_of settings calls p).pieces) }
+        ensures keeps { let p = fragment_of piece.now in (settings : PlainSettings) (calls : List Call) → KeepsFor settings self.old calls → latest calls ≤ now →
+            KeepsFor settings self.new (call_of settings calls now p ∷ calls) }
+    {
+        if let Some(rule) = own_row(piece) {
+            return Offered::Drop(rule);
+        }
+        let _count = self.table.len();
+        let _free = self.store.free();
+        match self.table.find(&piece.id()) {
+            Some(slot) => self.join(slot, piece, buf),
+            None => self.begin(now, piece, buf),
+        }
+    }
+
+    /// Takes a piece: it is held, or it makes its datagram whole, whose octets then stand at the front of the buffer, or a
+    /// row drops it.
+    pub fn offer(&mut self, now: u32, piece: &Piece<'_>, buf: &mut [u8]) -> Offered
+        requires piece { IsPiece (fragment_of piece.now) }
+        requires buffer { 65515 ≤ length buf.old }
+        requires late { last_time self.old ≤ now }
+        ensures answer { let p = fragment_of piece.now in (settings : PlainSettings) (calls : List Call) → StandsFor settings self.old calls →
+            result ≡ offered_at (view_of settings calls p) p }
+        ensures octets { let p = fragment_of piece.now in (settings : PlainSettings) (calls : List Call) → StandsFor settings self.old calls →
+            Carries result buf.old buf.new (p ∷ (view_of settings calls p).pieces) }
+        ensures pieces { let p = fragment_of piece.now in (settings : PlainSettings) (calls : List Call) → StandsFor settings self.old calls →
+            JoinsPieces result buf.new (p ∷ (view_of settings calls p).pieces) }
+        ensures stands { let p = fragment_of piece.now in (settings : PlainSettings) (calls : List Call) → StandsFor settings self.old calls →
+            StandsFor settings self.new (call_of settings calls now p ∷ calls) }
+        ensures last { last_time self.new ≡ now }
+    {
+        let answer = self.judge(now, piece, buf);
+        self.last = now;
+        answer
+    }
+}

@@ -1,0 +1,34 @@
+//! The octets of a piece join those of its datagram.
+ghost use Rattle.std.specs.Prelude.{◌≡◌, ◌<◌, ◌≤◌, List, ◌∷◌, length, None, false};
+ghost use Rattle.retain_store.specs.Maps.{chain_of, missing, ChangesOnly};
+ghost use Rattle.reassembly.specs.Pieces.{Fragment, fragment_of, cells_of, IsPiece};
+ghost use Rattle.reassembly.specs.Rows.{f_end, first_row, own_rows};
+ghost use Rattle.reassembly.specs.Standing.{Keeps, ProgressOf};
+
+use crate::piece::Piece;
+use crate::progress::Progress;
+use retain_store::{ChainId, Retain};
+
+/// Adds the octets of a piece to those of its datagram, and answers how far that has come.
+pub(crate) fn take(
+    store: &mut Retain,
+    chain: ChainId,
+    progress: &Progress,
+    piece: &Piece<'_>,
+) -> Progress
+    requires chain_in_range { chain.0 < length store.old.chains }
+    requires piece { IsPiece (fragment_of piece.now) }
+    requires short { progress.now.filled ≤ 65515 }
+    requires room { let p = fragment_of piece.now in missing (chain_of store.old chain.0) p.offset (length p.octets) ≤ store.old.free }
+    ensures changed { ChangesOnly store.old store.new chain.0 }
+    ensures since { result.since ≡ progress.now.since }
+    ensures progress { let p = fragment_of piece.now in (ps : List Fragment) → Keeps (chain_of store.old chain.0) ps → ProgressOf progress.now ps →
+        first_row (own_rows p) ≡ None → f_end ps p ≡ false → ProgressOf result (p ∷ ps) }
+    ensures octets { let p = fragment_of piece.now in (ps : List Fragment) → Keeps (chain_of store.old chain.0) ps → Keeps (chain_of store.new chain.0) (p ∷ ps) }
+    ensures count { let p = fragment_of piece.now in (ps : List Fragment) → Keeps (chain_of store.old chain.0) ps → length (chain_of store.new chain.0) ≡ cells_of (p ∷ ps) }
+{
+    let from = u64::from(piece.offset);
+    let fresh = store.fresh(chain, from, piece.len());
+    store.place(chain, from, piece.bytes);
+    progress.with(piece, fresh)
+}
