@@ -1,0 +1,141 @@
+-- What goes inwards of a datagram that brings no octet of the stream.
+use Rattle.std.proofs.Common.{◌≡◌, ℕ, ◌+◌, ◌-◌, ◌/◌, ◌%◌, ◌==◌, ◌&&◌, ◌||◌, not, Bool, true, false, cond, List, [], ◌∷◌, ◌++◌, length, refl, sym, ap, ap₂, ◌∙◌, arith}
+use Rattle.std.specs.Prelude.{nat_lt}
+use Rattle.std.proofs.lemmas.Bool.Decides.{nat_tests}
+use Rattle.wire_base.specs.Tcp as tcp
+use Rattle.wire_base.specs.Options.{scale_of}
+use Rattle.std.proofs.lemmas.List.{length-append}
+use Rattle.wire_base.specs.Segments.{Written, Segment}
+use Rattle.wire_base.specs.declared.address.FlowKey.{FlowKey}
+use Rattle.rule_book.specs.declared.rule.Rule.{Rule}
+use Rattle.rule_book.specs.declared.rule.Rule.TheVariants as rules
+use Rattle.norm_settings.specs.Settings.{PlainSettings}
+use Rattle.tcp_codec.specs.Write.{Fits, AreReadBack, segment_octets, header_octets, checksum_of}
+use Rattle.era_state.specs.declared.segment.Seg.{Seg}
+use Rattle.era_state.specs.Read.{came}
+use Rattle.tcp_norm.specs.Calls.{Datagram, read, goes_in, segment_in, key_of}
+use Rattle.tcp_norm.specs.Rows.{t_res, t_urg, t_opt, t_strip, options_sent}
+use Rattle.tcp_norm.specs.Emits.{without_flag, packet_by, segment_sent, segment_anew, bare_segment, sum_mended}
+use Rattle.tcp_norm.specs.Streams.{bare_rows}
+use Rattle.ip_rules.specs.Judged.{where_holds}
+use Rattle.tcp_norm.specs.Colds.{Comes}
+use Rattle.tcp_norm.specs.Inwards.{bare_read}
+use Rattle.tcp_norm.proofs.Differing.{differ_not}
+use Rattle.tcp_norm.proofs.Rewritten.{syn_without_32, fin_without_32, is_one}
+use Rattle.tcp_norm.proofs.Verbatim.{or_false}
+use Rattle.tcp_norm.proofs.Written.{empty_left, holds_not}
+
+-- without the urgent flag the others stand
+bits_rst_32 : (x : ℕ) → x / 32 % 2 ≡ 1 → (x - 32) / 4 % 2 ≡ x / 4 % 2
+bits_rst_32 x h = omega arith
+
+bits_ack_32 : (x : ℕ) → x / 32 % 2 ≡ 1 → (x - 32) / 16 % 2 ≡ x / 16 % 2
+bits_ack_32 x h = omega arith
+
+pub rst_without_32 : (x : ℕ) → tcp.has_rst (without_flag 32 x) ≡ tcp.has_rst x
+rst_without_32 x = cases (tcp.has_flag 32 x) refl
+  where
+    cases : (b : Bool) → tcp.has_flag 32 x ≡ b → tcp.has_rst (cond b (x - 32) x) ≡ tcp.has_rst x
+    cases false e = refl
+    cases true e = ap (λ n. n == 1) (bits_rst_32 x (is_one (x / 32 % 2) e))
+
+pub ack_without_32 : (x : ℕ) → tcp.has_ack (without_flag 32 x) ≡ tcp.has_ack x
+ack_without_32 x = cases (tcp.has_flag 32 x) refl
+  where
+    cases : (b : Bool) → tcp.has_flag 32 x ≡ b → tcp.has_ack (cond b (x - 32) x) ≡ tcp.has_ack x
+    cases false e = refl
+    cases true e = ap (λ n. n == 1) (bits_ack_32 x (is_one (x / 32 % 2) e))
+
+pub legal_without_32 : (x : ℕ) → tcp.are_legal (without_flag 32 x) ≡ tcp.are_legal x
+legal_without_32 x = λ k. tcp.go_together (syn_without_32 x k) (fin_without_32 x k) (rst_without_32 x k) (ack_without_32 x k)
+
+-- the datagram is what comes
+pub comes_bare : (d : Datagram) (key : FlowKey) (s : Seg) → goes_in d.side ≡ true → key_of d ≡ key → came s ≡ bare_read d.octets → Comes d key s
+comes_bare d key s side keyed is =
+    let flags : s.flags.0 ≡ without_flag 32 (tcp.flags d.octets) = ap (λ (w : Written). w.flags) is in
+    record {
+      side = side;
+      key_is = keyed;
+      seq = ap (λ (w : Written). w.seq) is;
+      ack = ap (λ (w : Written). w.ack) is;
+      window = ap (λ (w : Written). w.window) is;
+      syn = ap tcp.has_syn flags ∙ syn_without_32 (tcp.flags d.octets);
+      rst = ap tcp.has_rst flags ∙ rst_without_32 (tcp.flags d.octets);
+      ack_flag = ap tcp.has_ack flags ∙ ack_without_32 (tcp.flags d.octets);
+    }
+
+-- where none of the rows is named, none holds
+record None_holds (b c e : Bool) : Type 0 where
+  urgent : b ≡ false
+  options : c ≡ false
+  loaded : e ≡ false
+
+none_holds : (a b c e p : Bool) → bare_rows a b c e p ≡ [] → None_holds b c e
+none_holds a b c e p none =
+    let l5 = empty_left _ (where_holds p rules.CProbe) none in
+    let l4 = empty_left _ (where_holds e rules.TStrip) l5.0 in
+    let l3 = empty_left _ (where_holds c rules.TOpt) l4.0 in
+    let l2 = empty_left _ (where_holds b rules.TUrg) l3.0 in
+    record { urgent = holds_not b rules.TUrg l2.1; options = holds_not c rules.TOpt l3.1; loaded = holds_not e rules.TStrip l4.1 }
+
+empty : (xs : List ℕ) → nat_lt 0 (length xs) ≡ false → xs ≡ []
+empty [] e = refl
+empty (x ∷ xs) e = absurd (grind (arith, nat_tests, e))
+
+behind : (a b : Bool) → a ≡ true → (a && b) ≡ false → b ≡ false
+behind true b is e = e
+behind false b is e = cc
+
+-- what is read of the packet, where the segment anew is a bare one
+pub bare_is_read : AreReadBack → (settings : PlainSettings) (ws : List Written) (d : Datagram) (probe : Bool) (named : List Rule) → goes_in d.side ≡ true → Fits (bare_segment d)
+    → segment_anew ws d ≡ bare_segment d → (tcp.has_syn (segment_in d).flags || tcp.has_rst (segment_in d).flags) ≡ true
+    → bare_rows (t_res d) (t_urg d) (t_opt d) (t_strip (segment_in d)) probe ≡ named → read true (packet_by settings ws d d.fixes named).segment ≡ bare_read d.octets
+bare_is_read back settings ws d probe [] side fits bare marked none =
+    let rows = none_holds (t_res d) (t_urg d) (t_opt d) (t_strip (segment_in d)) probe none in
+    let urgent : tcp.has_urg (tcp.flags d.octets) ≡ false = (or_false (tcp.has_urg (tcp.flags d.octets)) (not (tcp.urgent_pointer d.octets == 0)) (behind (goes_in d.side) _ side rows.urgent)).0 in
+    let flags : tcp.flags d.octets ≡ without_flag 32 (tcp.flags d.octets) = sym (ap (λ b. cond b (tcp.flags d.octets - 32) (tcp.flags d.octets)) urgent) in
+    let options : tcp.options d.octets ≡ options_sent d = sym (differ_not (options_sent d) (tcp.options d.octets) (behind (goes_in d.side) _ side rows.options)) in
+    let strip : nat_lt 0 (length (tcp.payload d.octets)) ≡ false = behind (goes_in d.side && (tcp.has_syn (segment_in d).flags || tcp.has_rst (segment_in d).flags)) _ (ap₂ (λ a b. a && b) side marked) rows.loaded in
+    let payload : tcp.payload d.octets ≡ [] = empty (tcp.payload d.octets) strip in
+    ap (read true) (as_read d.fixes)
+    ∙ (λ k. record {
+      inward = true;
+      seq = tcp.sequence d.octets;
+      ack = tcp.acknowledgment d.octets;
+      flags = flags k;
+      window = tcp.window d.octets;
+      scale = scale_of (options k);
+      octets = payload k;
+    })
+  where
+    as_read : (fixes : List Rule) → (packet_by settings ws d fixes []).segment ≡ d.octets
+    as_read [] = refl
+    as_read (x ∷ xs) = refl
+bare_is_read back settings ws d probe (rule ∷ more) side fits bare marked some =
+    let it = back (bare_segment d) fits in
+    let header = it.header in
+    ap (read true) (mended d.fixes ∙ (ap (λ b. cond b (segment_octets (segment_anew ws d)) (sum_mended d)) side ∙ ap segment_octets bare))
+    ∙ (λ k. record {
+      inward = true;
+      seq = (header k).seq;
+      ack = (header k).ack;
+      flags = (header k).flags.0;
+      window = (header k).window;
+      scale = scale_of (it.options k);
+      octets = it.octets k;
+    })
+  where
+    mended : (fixes : List Rule) → (packet_by settings ws d fixes (rule ∷ more)).segment ≡ segment_sent ws d (rule ∷ more)
+    mended [] = refl
+    mended (x ∷ xs) = refl
+
+-- a SYN or a RST is written bare
+pub bare_anew : (ws : List Written) (d : Datagram) → (tcp.has_syn (segment_in d).flags || tcp.has_rst (segment_in d).flags) ≡ true → segment_anew ws d ≡ bare_segment d
+bare_anew ws d marked = rw marked refl
+
+pub written_long : (s : Segment) → length (segment_octets s) ≡ 20 + length s.options + length s.octets
+written_long s =
+    let joined = length-append s.options s.octets in
+    let whole = length-append (header_octets s (checksum_of s)) (s.options ++ s.octets) in
+    let header : length (header_octets s (checksum_of s)) ≡ 20 = refl in
+    omega (arith, joined, whole, header)

@@ -1,0 +1,106 @@
+-- The least recently touched era that holds nothing, as the table finds it.
+use Rattle.std.proofs.Common.{◌≡◌, ◌≢◌, ℕ, ◌==◌, Bool, true, false, cond, List, [], ◌∷◌, ◌++◌, length, map, filter, Option, Some, None, refl, sym, ap, subst, ◌∙◌}
+use Rattle.std.specs.Prelude.{IfSome, IfNone}
+use Rattle.std.specs.Fn.{Shared}
+use Rattle.std.specs.Borrow.{Bor}
+use Rattle.std.specs.List.{AllByRecursion, All, AllPairs}
+use Rattle.std.proofs.lemmas.List.Elements.{recursion_from_All, All-from_recursion}
+use Rattle.linked_table.specs.declared.table.Slot.{Slot}
+use Rattle.wire_base.specs.Segments.{Written}
+use Rattle.rule_book.specs.declared.entry.Ended.{Ended}
+use Rattle.rule_book.specs.declared.entry.Reason.TheVariants as reasons
+use Rattle.era_state.specs.Quantities.{octets_of}
+use Rattle.linked_table.specs.Table.{Entry, Wherever, Answers, PassesFirst}
+use Rattle.retain_store.specs.Maps.{Store, chain_of}
+use Rattle.tcp_norm.specs.declared.flow.Flow.{Flow}
+use Rattle.tcp_norm.specs.declared.key.EraKey.{EraKey}
+use Rattle.tcp_norm.specs.Calls.{Alive}
+use Rattle.tcp_norm.specs.Held.{held_of}
+use Rattle.tcp_norm.specs.Views.{head_of}
+use Rattle.tcp_norm.specs.Steps.{evicted_of, first_empty}
+use Rattle.tcp_norm.specs.Standing.{HoldsFor, EntryStands, Pairwise, alive_in}
+use Rattle.tcp_norm.proofs.Splits.{all_weaker, all_join, pairwise, pairs_before, pairs_after}
+
+-- an era that ends since its place is needed
+abbrev pub ended_at : (ℕ → List Written) → ℕ → Ended
+ended_at segments number = record { era = number; reason = reasons.Evicted; octets = Some (octets_of (segments number)) }
+
+-- the chain of an entry has no block
+abbrev pub IsEmpty : Store → Entry EraKey Flow → Bool
+IsEmpty store e = length (chain_of store e.slot.0) == 0
+
+skip_one : (p : Alive → Bool) (a : Alive) (xs : List Alive) → p a ≡ false → filter p (a ∷ xs) ≡ filter p xs
+skip_one p a xs none = ap (λ b. cond b (a ∷ filter p xs) (filter p xs)) none
+
+take_one : (p : Alive → Bool) (a : Alive) (xs : List Alive) → p a ≡ true → filter p (a ∷ xs) ≡ a ∷ filter p xs
+take_one p a xs some = ap (λ b. cond b (a ∷ filter p xs) (filter p xs)) some
+
+-- its Held by its chain
+holds_by : (segments : ℕ → List Written) (store : Store) (e : Entry EraKey Flow) (b : Bool) → EntryStands segments store e → IsEmpty store e ≡ b → (held_of (segments (alive_in e).number) == 0) ≡ b
+holds_by segments store e b stands is = ap (λ n. n == 0) (sym stands.count) ∙ is
+
+first_found : (segments : ℕ → List Written) (store : Store) (before : List (Entry EraKey Flow)) (here : Entry EraKey Flow) (after : List (Entry EraKey Flow))
+    → AllByRecursion (EntryStands segments store) (before ++ here ∷ after) → AllByRecursion (λ (e : Entry EraKey Flow). IsEmpty store e ≡ false) before → IsEmpty store here ≡ true
+    → evicted_of segments (head_of (filter (λ (a : Alive). held_of (segments a.number) == 0) (map alive_in (before ++ here ∷ after)))) ≡ Some (ended_at segments here.value.number)
+first_found segments store [] here after stands none some =
+    ap (λ l. evicted_of segments (head_of l)) (take_one (λ (a : Alive). held_of (segments a.number) == 0) (alive_in here) (map alive_in after) (holds_by segments store here true stands.0 some))
+first_found segments store (e ∷ before) here after stands none some =
+    ap (λ l. evicted_of segments (head_of l)) (skip_one (λ (a : Alive). held_of (segments a.number) == 0) (alive_in e) (map alive_in (before ++ here ∷ after)) (holds_by segments store e false stands.0 none.0))
+    ∙ first_found segments store before here after stands.1 none.1 some
+
+none_found : (segments : ℕ → List Written) (store : Store) (entries : List (Entry EraKey Flow))
+    → AllByRecursion (EntryStands segments store) entries → AllByRecursion (λ (e : Entry EraKey Flow). IsEmpty store e ≡ false) entries
+    → filter (λ (a : Alive). held_of (segments a.number) == 0) (map alive_in entries) ≡ []
+none_found segments store [] stands none = refl
+none_found segments store (e ∷ es) stands none =
+    skip_one (λ (a : Alive). held_of (segments a.number) == 0) (alive_in e) (map alive_in es) (holds_by segments store e false stands.0 none.0) ∙ none_found segments store es stands.1 none.1
+
+pub first_is : (lives : List Alive) (segments : ℕ → List Written) (begun : ℕ) (entries : List (Entry EraKey Flow)) (store : Store) (before : List (Entry EraKey Flow)) (here : Entry EraKey Flow) (after : List (Entry EraKey Flow))
+    → HoldsFor lives segments begun entries store → entries ≡ before ++ here ∷ after → AllByRecursion (λ (e : Entry EraKey Flow). IsEmpty store e ≡ false) before → IsEmpty store here ≡ true
+    → first_empty lives segments ≡ Some (ended_at segments here.value.number)
+first_is lives segments begun entries store before here after h splits none some =
+    ap (λ l. evicted_of segments (head_of (filter (λ (a : Alive). held_of (segments a.number) == 0) l))) (sym h.eras_are ∙ ap (map alive_in) splits)
+    ∙ first_found segments store before here after (subst (AllByRecursion (EntryStands segments store)) splits h.each) none some
+
+pub first_none : (lives : List Alive) (segments : ℕ → List Written) (begun : ℕ) (entries : List (Entry EraKey Flow)) (store : Store)
+    → HoldsFor lives segments begun entries store → AllByRecursion (λ (e : Entry EraKey Flow). IsEmpty store e ≡ false) entries → first_empty lives segments ≡ None
+first_none lives segments begun entries store h none =
+    ap (λ l. evicted_of segments (head_of l)) (ap (filter (λ (a : Alive). held_of (segments a.number) == 0)) (sym h.eras_are) ∙ none_found segments store entries h.each none)
+
+-- the test answers whether the chain is empty
+abbrev pub Tests : {F : Type 0} (calls : Shared F (Slot × (Bor Flow × Unit {0})) Bool) (test : F) → Store → Type 0
+Tests calls test store = (e : Entry EraKey Flow) (b : Bool) → Answers calls test e b → b ≡ IsEmpty store e
+
+pub empty_some : {F : Type 0} (calls : Shared F (Slot × (Bor Flow × Unit {0})) Bool) (test : F) (store : Store) (entries : List (Entry EraKey Flow)) (r : Option Slot)
+    → AllPairs (λ e f. e.slot ≢ f.slot) entries → IfSome r (PassesFirst calls test entries) → Tests calls test store
+    → IfSome r (λ slot. (lives : List Alive) (segments : ℕ → List Written) (begun : ℕ) → HoldsFor lives segments begun entries store
+    → Wherever entries slot (λ e. first_empty lives segments ≡ Some (ended_at segments e.value.number)))
+empty_some calls test store entries None slots first answers = tt
+empty_some calls test store entries (Some slot) slots first answers = λ lives segments begun h.
+    let P : Entry EraKey Flow → Type 0 = λ e. e.slot ≡ slot → first_empty lives segments ≡ Some (ended_at segments e.value.number) in
+    let none = all_weaker (λ (e : Entry EraKey Flow). Answers calls test e false) (λ (e : Entry EraKey Flow). IsEmpty store e ≡ false) (λ e a. sym (answers e false a)) first.before
+    (recursion_from_All (λ (e : Entry EraKey Flow). Answers calls test e false) first.before first.earlier) in
+    let is = first_is lives segments begun entries store first.before first.entry first.after h first.splits none (sym (answers first.entry true first.passes)) in
+    let apart = subst (λ l. Pairwise (λ (e f : Entry EraKey Flow). e.slot ≢ f.slot) l) first.splits (pairwise (λ (e f : Entry EraKey Flow). e.slot ≢ f.slot) entries slots) in
+    All-from_recursion P entries (subst (AllByRecursion P) (sym first.splits)
+    (all_join P first.before (first.entry ∷ first.after)
+    (all_weaker (λ (e : Entry EraKey Flow). e.slot ≢ first.entry.slot) P (λ e ne same. absurd (ne (same ∙ sym first.named))) first.before
+    (pairs_before (λ (e f : Entry EraKey Flow). e.slot ≢ f.slot) first.before first.entry first.after apart)) (
+      (λ same. is),
+      all_weaker (λ (e : Entry EraKey Flow). first.entry.slot ≢ e.slot) P (λ e ne same. absurd (ne (first.named ∙ sym same))) first.after
+          (pairs_after (λ (e f : Entry EraKey Flow). e.slot ≢ f.slot) first.before first.entry first.after apart),
+    )))
+
+pub empty_none : {F : Type 0} (calls : Shared F (Slot × (Bor Flow × Unit {0})) Bool) (test : F) (store : Store) (entries : List (Entry EraKey Flow)) (r : Option Slot)
+    → IfSome r (PassesFirst calls test entries) → IfNone r (All (λ e. Answers calls test e false) entries) → Tests calls test store
+    → IfNone r ((lives : List Alive) (segments : ℕ → List Written) (begun : ℕ) → HoldsFor lives segments begun entries store → first_empty lives segments ≡ None)
+empty_none calls test store entries (Some slot) first none answers = tt
+empty_none calls test store entries None first none answers = λ lives segments begun h.
+    first_none lives segments begun entries store h
+    (all_weaker (λ (e : Entry EraKey Flow). Answers calls test e false) (λ (e : Entry EraKey Flow). IsEmpty store e ≡ false) (λ e a. sym (answers e false a)) entries
+    (recursion_from_All (λ (e : Entry EraKey Flow). Answers calls test e false) entries none))
+
+-- a fact where nothing is
+pub if_none : {X : Type 0} (r : Option X) (P : Type 0) → P → IfNone r P
+if_none None P p = p
+if_none (Some x) P p = tt

@@ -1,0 +1,62 @@
+-- The numbers kept of each era stay in their bounds.
+use Rattle.std.proofs.Common.{not, ◌≡◌, ℕ, ◌==◌, ◌≤◌, Bool, true, false, cond, List, [], ◌∷◌, ◌++◌, filter, subst, arith}
+use Rattle.std.specs.List.{AllByRecursion}
+use Rattle.linked_table.specs.declared.table.Slot.{Slot}
+use Rattle.linked_table.specs.Table.{Entry, IsIn, Wherever, with_value, revalued}
+use Rattle.linked_table.specs.Table as table
+use Rattle.era_state.specs.declared.era.Era.{Era}
+use Rattle.tcp_norm.specs.declared.flow.Flow.{Flow}
+use Rattle.tcp_norm.specs.declared.key.EraKey.{EraKey}
+use Rattle.tcp_norm.specs.Near.{IsNear, AreNear}
+use Rattle.tcp_norm.proofs.Splits.{all_weaker, all_join, split_any, all_after}
+use Rattle.std.proofs.lemmas.List.Elements.{recursion_from_All, All-from_recursion}
+
+pub near_weaker : (a b : ℕ) (e : Era) → a ≤ b → IsNear a e → IsNear b e
+near_weaker a b e le n = (omega (arith, n.0, le), omega (arith, n.1, le))
+
+-- of an entry
+abbrev Near : ℕ → Entry EraKey Flow → Type 0
+Near calls e = IsNear calls e.value.era
+
+pub nears_weaker : (a b : ℕ) (entries : List (Entry EraKey Flow)) → a ≤ b → AreNear a entries → AreNear b entries
+nears_weaker a b entries le near =
+    All-from_recursion (Near b) entries (all_weaker (Near a) (Near b) (λ e n. near_weaker a b e.value.era le n) entries (recursion_from_All (Near a) entries near))
+
+pub all_filter : {X : Type 0} (P : X → Type 0) (p : X → Bool) (xs : List X) → AllByRecursion P xs → AllByRecursion P (filter p xs)
+all_filter P p [] all = tt
+all_filter P p (x ∷ xs) all = elim (p x) as (λ b. AllByRecursion P (cond b (x ∷ filter p xs) (filter p xs))) [ true ↦ (all.0, all_filter P p xs all.1) | false ↦ all_filter P p xs all.1 ]
+
+valued_one : (calls : ℕ) (slot : Slot) (value : Flow) (e : Entry EraKey Flow) → IsNear calls value.era → Near calls e → Near calls (revalued slot value e)
+valued_one calls slot value e is near = elim (e.slot.0 == slot.0) as (λ b. Near calls (cond b (record e { value = value }) e)) [ true ↦ is | false ↦ near ]
+
+near_valued : (calls : ℕ) (slot : Slot) (value : Flow) (entries : List (Entry EraKey Flow)) → IsNear calls value.era → AllByRecursion (Near calls) entries → AllByRecursion (Near calls) (with_value entries slot value)
+near_valued calls slot value [] is near = tt
+near_valued calls slot value (e ∷ es) is near = (valued_one calls slot value e is near.0, near_valued calls slot value es is near.1)
+
+-- a filter keeps them near
+pub near_left : (calls : ℕ) (p : Entry EraKey Flow → Bool) (entries : List (Entry EraKey Flow)) → AreNear calls entries → AreNear calls (filter p entries)
+near_left calls p entries near = All-from_recursion (Near calls) (filter p entries) (all_filter (Near calls) p entries (recursion_from_All (Near calls) entries near))
+
+pub near_put : (calls : ℕ) (slot : Slot) (value : Flow) (entries : List (Entry EraKey Flow)) → IsNear calls value.era → AreNear calls entries → AreNear calls (with_value entries slot value)
+near_put calls slot value entries is near = All-from_recursion (Near calls) (with_value entries slot value) (near_valued calls slot value entries is (recursion_from_All (Near calls) entries near))
+
+pub near_touched : (calls : ℕ) (slot : Slot) (value : Flow) (entries : List (Entry EraKey Flow)) → IsNear calls value.era → AreNear calls entries
+    → AreNear calls (table.without (with_value entries slot value) slot ++ table.only (with_value entries slot value) slot)
+near_touched calls slot value entries is near =
+    let valued = near_valued calls slot value entries is (recursion_from_All (Near calls) entries near) in
+    All-from_recursion (Near calls) (table.without (with_value entries slot value) slot ++ table.only (with_value entries slot value) slot)
+    (all_join (Near calls) (table.without (with_value entries slot value) slot) (table.only (with_value entries slot value) slot)
+    (all_filter (Near calls) (λ (e : Entry EraKey Flow). not (e.slot.0 == slot.0)) (with_value entries slot value) valued)
+    (all_filter (Near calls) (λ (e : Entry EraKey Flow). e.slot.0 == slot.0) (with_value entries slot value) valued))
+
+pub near_added : (calls : ℕ) (e : Entry EraKey Flow) (entries : List (Entry EraKey Flow)) → IsNear calls e.value.era → AreNear calls entries → AreNear calls (entries ++ e ∷ [])
+near_added calls e entries is near =
+    All-from_recursion (Near calls) (entries ++ e ∷ []) (all_join (Near calls) entries (e ∷ []) (recursion_from_All (Near calls) entries near) (is, tt))
+
+pub near_at : (calls : ℕ) (entries : List (Entry EraKey Flow)) (slot : Slot) (flow : Flow) → AreNear calls entries → IsIn entries slot → Wherever entries slot (λ e. e.value ≡ flow) → IsNear calls flow.era
+near_at calls entries slot flow near inside valued =
+    let s = split_any (λ (e : Entry EraKey Flow). e.slot ≡ slot) entries inside in
+    let Q : Entry EraKey Flow → Type 0 = λ e. e.slot ≡ slot → e.value ≡ flow in
+    let here = (all_after (Near calls) s.before (s.here ∷ s.after) (subst (AllByRecursion (Near calls)) s.splits (recursion_from_All (Near calls) entries near))).0 in
+    let is = (all_after Q s.before (s.here ∷ s.after) (subst (AllByRecursion Q) s.splits (recursion_from_All Q entries valued))).0 s.holds in
+    subst (λ (f : Flow). IsNear calls f.era) is here

@@ -1,0 +1,206 @@
+-- How what the table and the store stand for changes: an entry is taken out, the rest goes on, and an entry is added. Every call is made of these.
+use Rattle.std.proofs.Common.{◌≡◌, ◌≢◌, ℕ, ◌==◌, ◌<◌, ◌≤◌, not, Bool, true, false, List, [], ◌∷◌, ◌++◌, length, map, refl, sym, ap, subst, ◌∙◌, arith, inl, inr, ap₂, cond}
+use Rattle.std.proofs.lemmas.Bool.{cases_eq}
+use Rattle.std.proofs.lemmas.List.{get_or-map, length-map}
+use Rattle.std.proofs.lemmas.List.Elements.{recursion_from_All, filter_passes}
+use Rattle.std.specs.List.{AllByRecursion, filter}
+use Rattle.wire_base.specs.Segments.{Written}
+use Rattle.linked_table.specs.declared.table.Slot.{Slot}
+use Rattle.linked_table.specs.Table.{Entry, with_value, revalued}
+use Rattle.linked_table.specs.Table as table
+use Rattle.retain_store.specs.Maps.{Store, chain_of}
+use Rattle.era_state.specs.Eras as era
+use Rattle.tcp_norm.specs.declared.flow.Flow.{Flow}
+use Rattle.tcp_norm.specs.declared.key.EraKey.{EraKey}
+use Rattle.tcp_norm.specs.Calls.{Alive, without, is_among}
+use Rattle.tcp_norm.specs.Held.{held_of}
+use Rattle.tcp_norm.specs.Standing.{Pairwise, IsFree, HoldsFor, EntryStands, AreGiven, alive_in}
+use Rattle.tcp_norm.specs.Chains.{Keeps}
+use Rattle.tcp_norm.proofs.Splits.{all_before, all_after, all_join, all_weaker, all_unmap, map_join, pairs_before, pairs_after, pairs_rest, pairs_push, filter_rest, filter_only, map_same}
+use Rattle.tcp_norm.proofs.Finds.{At}
+
+pub number_other : (m n : ℕ) → m ≢ n → (m == n) ≡ false
+number_other m n ne = grind arith
+
+pub number_same : (n : ℕ) → (n == n) ≡ true
+number_same n = grind arith
+
+-- the entries of other slots, and the live eras of them, where the chain of one slot may hold anything
+pub record RestFor (hole : ℕ) (eras : List Alive) (segments : ℕ → List Written) (begun : ℕ) (entries : List (Entry EraKey Flow)) (store : Store) : Type 0 where
+  pub eras_are : map alive_in entries ≡ eras
+  pub each : AllByRecursion (EntryStands segments store) entries
+  pub apart : IsFree entries hole
+  pub free : (chain : ℕ) → chain ≢ hole → IsFree entries chain → chain_of store chain ≡ []
+  pub given : AreGiven begun segments eras
+
+-- of one of these the number is another
+abbrev pub Other : ℕ → List Alive → Type 0
+Other n lives = AllByRecursion (λ a. a.number ≢ n) lives
+
+without_rest : (n : ℕ) (before : List Alive) (here : Alive) (after : List Alive) → here.number ≡ n → Other n before → Other n after
+    → without (n ∷ []) (before ++ here ∷ after) ≡ before ++ after
+without_rest n before here after is left right =
+    filter_rest (λ (a : Alive). not (is_among (n ∷ []) a.number)) before here after
+    (all_weaker (λ (a : Alive). a.number ≢ n) (λ (a : Alive). not (is_among (n ∷ []) a.number) ≡ true) (λ a ne. rw (number_other n a.number (λ h. ne (sym h))) refl) before left)
+    (rw is (rw (number_same n) refl))
+    (all_weaker (λ (a : Alive). a.number ≢ n) (λ (a : Alive). not (is_among (n ∷ []) a.number) ≡ true) (λ a ne. rw (number_other n a.number (λ h. ne (sym h))) refl) after right)
+
+-- an entry is taken out
+pub take : {eras : List Alive} {segments : ℕ → List Written} {begun : ℕ} {entries : List (Entry EraKey Flow)} {store : Store} (slot : Slot) (a : At entries slot)
+    → HoldsFor eras segments begun entries store
+    → RestFor slot.0 (without (a.here.value.number ∷ []) eras) segments begun (a.before ++ a.after) store
+take {eras} {segments} {begun} {entries} {store} slot a h =
+    let mk : ℕ → Slot = λ n. record { 0 = n } in
+    let n = a.here.value.number in
+    let shown : eras ≡ map alive_in a.before ++ alive_in a.here ∷ map alive_in a.after =
+    sym h.eras_are ∙ (ap (map alive_in) a.splits ∙ map_join alive_in a.before (a.here ∷ a.after)) in
+    let pairs = subst (Pairwise (λ (x y : Alive). x.number ≢ y.number)) shown h.given.apart in
+    let left : Other n (map alive_in a.before) = pairs_before (λ (x y : Alive). x.number ≢ y.number) (map alive_in a.before) (alive_in a.here) (map alive_in a.after) pairs in
+    let right : Other n (map alive_in a.after) = all_weaker (λ (y : Alive). n ≢ y.number) (λ (y : Alive). y.number ≢ n) (λ y ne e. ne (sym e)) (map alive_in a.after)
+    (pairs_after (λ (x y : Alive). x.number ≢ y.number) (map alive_in a.before) (alive_in a.here) (map alive_in a.after) pairs) in
+    let rest : without (n ∷ []) eras ≡ map alive_in a.before ++ map alive_in a.after =
+    ap (without (n ∷ [])) shown ∙ without_rest n (map alive_in a.before) (alive_in a.here) (map alive_in a.after) refl left right in
+    let each = subst (AllByRecursion (EntryStands segments store)) a.splits h.each in
+    let below = subst (AllByRecursion (λ (x : Alive). x.number ≤ begun)) shown h.given.below in
+    let named : a.here.slot.0 ≡ slot.0 = ap (λ (s : Slot). s.0) a.named in
+    record {
+      eras_are = map_join alive_in a.before a.after ∙ sym rest;
+      each = all_join (EntryStands segments store) a.before a.after (all_before (EntryStands segments store) a.before (a.here ∷ a.after) each)
+          (all_after (EntryStands segments store) a.before (a.here ∷ a.after) each).1;
+      apart = all_join (λ (e : Entry EraKey Flow). e.slot.0 ≢ slot.0) a.before a.after
+          (all_weaker (λ (e : Entry EraKey Flow). e.slot ≢ a.here.slot) _ (λ e ne same. ne (ap mk (same ∙ sym named))) a.before a.slots_before)
+          (all_weaker (λ (e : Entry EraKey Flow). e.slot ≢ a.here.slot) _ (λ e ne same. ne (ap mk (same ∙ sym named))) a.after a.slots_after);
+      free = λ chain ne is. h.free chain (subst (λ l. IsFree l chain) (sym a.splits)
+          (all_join (λ (e : Entry EraKey Flow). e.slot.0 ≢ chain) a.before (a.here ∷ a.after) (all_before (λ (e : Entry EraKey Flow). e.slot.0 ≢ chain) a.before a.after is)
+          ((λ same. ne (sym same ∙ named)), all_after (λ (e : Entry EraKey Flow). e.slot.0 ≢ chain) a.before a.after is)));
+      given = record {
+        below = subst (AllByRecursion (λ (x : Alive). x.number ≤ begun)) (sym rest)
+            (all_join (λ (x : Alive). x.number ≤ begun) (map alive_in a.before) (map alive_in a.after)
+            (all_before (λ (x : Alive). x.number ≤ begun) (map alive_in a.before) (alive_in a.here ∷ map alive_in a.after) below)
+            (all_after (λ (x : Alive). x.number ≤ begun) (map alive_in a.before) (alive_in a.here ∷ map alive_in a.after) below).1);
+        apart = subst (Pairwise (λ (x y : Alive). x.number ≢ y.number)) (sym rest)
+            (pairs_rest (λ (x y : Alive). x.number ≢ y.number) (map alive_in a.before) (alive_in a.here) (map alive_in a.after) pairs);
+        fresh = h.given.fresh;
+      };
+    }
+
+-- of the eras without one number none has it
+pub none_left : (n : ℕ) (lives : List Alive) → Other n (without (n ∷ []) lives)
+none_left n lives =
+    let passes : Alive → Bool = λ a. not (is_among (n ∷ []) a.number) in
+    all_weaker (λ (a : Alive). passes a ≡ true) (λ (a : Alive). a.number ≢ n) (λ a passed same. other a.number passed same) (filter passes lives)
+    (recursion_from_All (λ (a : Alive). passes a ≡ true) (filter passes lives) (filter_passes passes lives))
+  where
+    other : (m : ℕ) → not (is_among (n ∷ []) m) ≡ true → m ≢ n
+    other m passed same =
+        let fails : not (is_among (n ∷ []) m) ≡ false = rw same (rw (number_same n) refl) in
+        cc
+
+-- an entry of another slot, whose era has the same segments, stands still
+still : (hole : ℕ) (segments later : ℕ → List Written) (store new : Store) (e : Entry EraKey Flow)
+    → ((chain : ℕ) → chain ≢ hole → chain_of new chain ≡ chain_of store chain)
+    → EntryStands segments store e → e.slot.0 ≢ hole → later e.value.number ≡ segments e.value.number → EntryStands later new e
+still hole segments later store new e chains s apart same =
+    let chain = chains e.slot.0 apart in
+    record {
+      era = subst (era.StandsFor e.value.era) (sym same) s.era;
+      octets = subst (Keeps (chain_of new e.slot.0)) (sym same) (subst (λ b. Keeps b (segments e.value.number)) (sym chain) s.octets);
+      count = ap length chain ∙ (s.count ∙ ap held_of (sym same));
+    }
+
+all_still : (hole : ℕ) (segments later : ℕ → List Written) (store new : Store) (es : List (Entry EraKey Flow))
+    → ((chain : ℕ) → chain ≢ hole → chain_of new chain ≡ chain_of store chain)
+    → AllByRecursion (EntryStands segments store) es → IsFree es hole → AllByRecursion (λ (e : Entry EraKey Flow). later e.value.number ≡ segments e.value.number) es
+    → AllByRecursion (EntryStands later new) es
+all_still hole segments later store new [] chains each apart same = tt
+all_still hole segments later store new (e ∷ es) chains each apart same =
+    (still hole segments later store new e chains each.0 apart.0 same.0, all_still hole segments later store new es chains each.1 apart.1 same.1)
+
+-- the other eras go on as they were, whatever becomes of the chain of the hole
+pub change : {hole : ℕ} {eras : List Alive} {segments : ℕ → List Written} {begun : ℕ} {entries : List (Entry EraKey Flow)} {store : Store}
+    (later : ℕ → List Written) (more : ℕ) (new : Store)
+    → ((chain : ℕ) → chain ≢ hole → chain_of new chain ≡ chain_of store chain)
+    → AllByRecursion (λ (a : Alive). later a.number ≡ segments a.number) eras
+    → begun ≤ more → ((number : ℕ) → more < number → later number ≡ [])
+    → RestFor hole eras segments begun entries store → RestFor hole eras later more entries new
+change {hole} {eras} {segments} {begun} {entries} {store} later more new chains same grows fresh r = record {
+  eras_are = r.eras_are;
+  each = all_still hole segments later store new entries chains r.each r.apart
+      (all_unmap (λ (a : Alive). later a.number ≡ segments a.number) alive_in entries
+      (subst (AllByRecursion (λ (a : Alive). later a.number ≡ segments a.number)) (sym r.eras_are) same));
+  apart = r.apart;
+  free = λ chain ne is. chains chain ne ∙ r.free chain ne is;
+  given = record {
+    below = all_weaker (λ (a : Alive). a.number ≤ begun) (λ (a : Alive). a.number ≤ more) (λ a le. omega arith) eras r.given.below;
+    apart = r.given.apart;
+    fresh = fresh;
+  };
+}
+
+-- an entry is added in the hole
+pub add : {hole : ℕ} {eras : List Alive} {segments : ℕ → List Written} {begun : ℕ} {entries : List (Entry EraKey Flow)} {store : Store} (e : Entry EraKey Flow)
+    → e.slot.0 ≡ hole → Other e.value.number eras → e.value.number ≤ begun → EntryStands segments store e
+    → RestFor hole eras segments begun entries store → HoldsFor (eras ++ alive_in e ∷ []) segments begun (entries ++ e ∷ []) store
+add {hole} {eras} {segments} {begun} {entries} {store} e slot other below stands r = record {
+  eras_are = map_join alive_in entries (e ∷ []) ∙ ap (λ l. l ++ alive_in e ∷ []) r.eras_are;
+  each = all_join (EntryStands segments store) entries (e ∷ []) r.each (stands, tt);
+  free = λ chain is.
+      let last = all_after (λ (f : Entry EraKey Flow). f.slot.0 ≢ chain) entries (e ∷ []) is in
+      r.free chain (λ same. last.0 (slot ∙ sym same)) (all_before (λ (f : Entry EraKey Flow). f.slot.0 ≢ chain) entries (e ∷ []) is);
+  given = record {
+    below = all_join (λ (a : Alive). a.number ≤ begun) eras (alive_in e ∷ []) r.given.below (below, tt);
+    apart = pairs_push (λ (x y : Alive). x.number ≢ y.number) eras (alive_in e) r.given.apart other;
+    fresh = r.given.fresh;
+  };
+}
+
+-- the hole is left empty
+pub close : {hole : ℕ} {eras : List Alive} {segments : ℕ → List Written} {begun : ℕ} {entries : List (Entry EraKey Flow)} {store : Store}
+    → chain_of store hole ≡ [] → RestFor hole eras segments begun entries store → HoldsFor eras segments begun entries store
+close {hole} {store = store} empty r = record {
+  eras_are = r.eras_are;
+  each = r.each;
+  free = λ chain is. elim (cases_eq chain hole) [ inl same ↦ ap (chain_of store) same ∙ empty | inr ne ↦ r.free chain ne is ];
+  given = r.given;
+}
+
+-- a slot of no entry is a hole
+pub leave : {eras : List Alive} {segments : ℕ → List Written} {begun : ℕ} {entries : List (Entry EraKey Flow)} {store : Store} (hole : ℕ)
+    → IsFree entries hole → HoldsFor eras segments begun entries store → RestFor hole eras segments begun entries store
+leave hole apart h = record { eras_are = h.eras_are; each = h.each; apart = apart; free = λ chain ne is. h.free chain is; given = h.given }
+
+-- the table where an entry has another value and was touched
+pub put_touch : (entries : List (Entry EraKey Flow)) (slot : Slot) (a : At entries slot) (value : Flow)
+    → table.without (with_value entries slot value) slot ++ table.only (with_value entries slot value) slot ≡ (a.before ++ a.after) ++ record a.here { value = value } ∷ []
+put_touch entries slot a value =
+    let mk : ℕ → Slot = λ n. record { 0 = n } in
+    let named : a.here.slot.0 ≡ slot.0 = ap (λ (s : Slot). s.0) a.named in
+    let apart : (e : Entry EraKey Flow) → e.slot ≢ a.here.slot → (e.slot.0 == slot.0) ≡ false =
+    λ e ne. number_other e.slot.0 slot.0 (λ same. ne (ap mk (same ∙ sym named))) in
+    let here : (a.here.slot.0 == slot.0) ≡ true = ap (λ n. n == slot.0) named ∙ number_same slot.0 in
+    let left = map_same (revalued slot value) a.before (all_weaker (λ (e : Entry EraKey Flow). e.slot ≢ a.here.slot) _ (λ e ne. rw (apart e ne) refl) a.before a.slots_before) in
+    let right = map_same (revalued slot value) a.after (all_weaker (λ (e : Entry EraKey Flow). e.slot ≢ a.here.slot) _ (λ e ne. rw (apart e ne) refl) a.after a.slots_after) in
+    let same : revalued slot value a.here ≡ record a.here { value = value } = rw here refl in
+    let valued : with_value entries slot value ≡ a.before ++ record a.here { value = value } ∷ a.after =
+    ap (map (revalued slot value)) a.splits ∙ (map_join (revalued slot value) a.before (a.here ∷ a.after)
+    ∙ (ap (λ l. l ++ revalued slot value a.here ∷ map (revalued slot value) a.after) left
+    ∙ (ap (λ l. a.before ++ revalued slot value a.here ∷ l) right ∙ ap (λ x. a.before ++ x ∷ a.after) same))) in
+    let out : table.without (a.before ++ record a.here { value = value } ∷ a.after) slot ≡ a.before ++ a.after =
+    filter_rest (λ (e : Entry EraKey Flow). not (e.slot.0 == slot.0)) a.before (record a.here { value = value }) a.after
+    (all_weaker (λ (e : Entry EraKey Flow). e.slot ≢ a.here.slot) _ (λ e ne. rw (apart e ne) refl) a.before a.slots_before) (rw here refl)
+    (all_weaker (λ (e : Entry EraKey Flow). e.slot ≢ a.here.slot) _ (λ e ne. rw (apart e ne) refl) a.after a.slots_after) in
+    let alone : table.only (a.before ++ record a.here { value = value } ∷ a.after) slot ≡ record a.here { value = value } ∷ [] =
+    filter_only (λ (e : Entry EraKey Flow). e.slot.0 == slot.0) a.before (record a.here { value = value }) a.after
+    (all_weaker (λ (e : Entry EraKey Flow). e.slot ≢ a.here.slot) _ apart a.before a.slots_before) here
+    (all_weaker (λ (e : Entry EraKey Flow). e.slot ≢ a.here.slot) _ apart a.after a.slots_after) in
+    ap (λ l. table.without l slot ++ table.only l slot) valued ∙ ap₂ (λ l m. l ++ m) out alone
+
+-- an entry stays where it is when it gets another value
+pub in_valued : (entries : List (Entry EraKey Flow)) (slot : Slot) (value : Flow) → table.IsIn entries slot → table.IsIn (with_value entries slot value) slot
+in_valued entries slot value (k, x, below, reads, named) =
+    let f : Entry EraKey Flow → Entry EraKey Flow = revalued slot value in
+    (k, f x, omega (arith, length-map entries f), get_or-map f entries k x (f x) below ∙ ap f reads, slot_stays (x.slot.0 == slot.0) ∙ named)
+  where
+    slot_stays : (b : Bool) → (cond b (record x { value = value }) x).slot ≡ x.slot
+    slot_stays true = refl
+    slot_stays false = refl

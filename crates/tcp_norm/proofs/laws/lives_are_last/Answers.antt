@@ -1,0 +1,5 @@
+use Rattle.tcp_norm.proofs.LivesLaws.{lives_are_last}
+use Rattle.tcp_norm.proofs.laws.lives_are_last.Goals as goal
+
+pub returns : goal.returns
+returns c = lives_are_last

@@ -1,0 +1,27 @@
+use Rattle.std.proofs.Common.{◌+◌, ◌∙◌, List, [], ◌∷◌, ◌++◌, sym, ap, subst, refl}
+use Rattle.linked_table.specs.Table as table
+use Rattle.tcp_norm.specs.declared.flow.Flow.{Flow}
+use Rattle.tcp_norm.specs.declared.key.EraKey.{EraKey}
+use Rattle.tcp_norm.specs.Standing.{HoldsFor}
+use Rattle.tcp_norm.proofs.Beginning.{begin_holds}
+use Rattle.tcp_norm.proofs.state.TcpNorm.begin.Goals as goal
+
+pub returns-clause-holds : goal.returns-clause-holds
+returns-clause-holds c lives segments later h stands none others =
+    subst (λ (l : List (table.Entry EraKey Flow)). HoldsFor (lives ++ record { number = c.args.self.now.begun + 1; key = c.args.key; touched = c.args.now } ∷ []) later (c.args.self.now.begun + 1) l c.args.self.now.store)
+    (sym (ap (λ (t : table.Table EraKey Flow). t.entries) c.in-Ok.ensures.added))
+    (begin_holds lives segments later c.args.self.now.begun c.args.self.now.table.entries c.args.self.now.store c.in-Ok.field-0 c.args.key _ c.args.now h
+    c.in-Ok.ensures.fresh stands none refl refl others)
+
+pub returns-clause-opened : goal.returns-clause-opened
+returns-clause-opened c settings is =
+    record {
+      flows = ap (λ (t : table.Table EraKey Flow). t.max) c.in-Ok.ensures.added ∙ is.flows;
+      chains = is.chains;
+      cells = is.cells;
+      store = is.store;
+      hops = is.hops;
+      idle = is.idle;
+      offload = is.offload;
+      quota = is.quota;
+    }

@@ -1,0 +1,46 @@
+-- What becomes of an inbound datagram of a connection that has no live era.
+use Rattle.std.specs.Prelude.{◌≡◌, true, false, [], Some, None}
+use Rattle.wire_base.specs.Tcp as tcp
+use Rattle.wire_base.specs.declared.address.FlowKey.{FlowKey}
+use Rattle.rule_book.specs.declared.rule.Rule.TheVariants as rules
+use Rattle.norm_settings.specs.Settings.{PlainSettings}
+use Rattle.era_state.specs.declared.segment.Seg.{Seg}
+use Rattle.era_state.specs.Read.{came}
+use Rattle.cold_start.specs.Rules.{is_asked, cold_probe_of}
+use Rattle.tcp_norm.specs.declared.come_cold.Cold.{Cold}
+use Rattle.tcp_norm.specs.declared.come_cold.Cold.TheVariants.{Refused, Full, Asked, Begun}
+use Rattle.tcp_norm.specs.Calls.{Datagram, Outcome, goes_in, segment_in, key_of, is_written}
+use Rattle.tcp_norm.specs.Views.{View}
+use Rattle.tcp_norm.specs.Rows.{dropped_by}
+use Rattle.tcp_norm.specs.Steps.{IsStep, Does, began}
+
+-- The datagram comes inwards between these ends, and what goes inwards of it has its numbers, its window and its flags but for urgent ones.
+pub record Comes (d : Datagram) (key : FlowKey) (s : Seg) : Type 0 where
+  pub side : goes_in d.side ≡ true
+  pub key_is : key_of d ≡ key
+  pub seq : s.seq ≡ (segment_in d).seq
+  pub ack : s.ack ≡ (segment_in d).ack
+  pub window : s.window ≡ (segment_in d).window
+  pub syn : tcp.has_syn s.flags.0 ≡ tcp.has_syn (segment_in d).flags
+  pub rst : tcp.has_rst s.flags.0 ≡ tcp.has_rst (segment_in d).flags
+  pub ack_flag : tcp.has_ack s.flags.0 ≡ tcp.has_ack (segment_in d).flags
+
+-- which row drops it, or what it does
+abbrev pub IsCold : PlainSettings → View → Datagram → Cold → Type 0
+IsCold settings v d Refused = dropped_by settings v d ≡ Some rules.TCold
+IsCold settings v d Full = dropped_by settings v d ≡ Some rules.TFull
+IsCold settings v d (Asked probe) = (dropped_by settings v d ≡ None) × (is_asked (segment_in d) ≡ true) × (probe ≡ cold_probe_of (segment_in d))
+IsCold settings v d (Begun place) = (dropped_by settings v d ≡ None) × (is_asked (segment_in d) ≡ false) × IsStep v (segment_in d) (began place)
+
+-- an outcome of which no era hears
+pub record IsUnheard (o : Outcome) : Type 0 where
+  pub era : is_written o.verdict ≡ true → o.era ≡ None
+  pub begun : o.begun ≡ None
+  pub ended : o.ended ≡ []
+
+-- an outcome does this: where an era begins, what goes inwards is written in it
+abbrev pub DoesCold : Datagram → Seg → Cold → Outcome → Type 0
+DoesCold d s Refused o = IsUnheard o
+DoesCold d s Full o = IsUnheard o
+DoesCold d s (Asked probe) o = IsUnheard o
+DoesCold d s (Begun place) o = Does d (came s) (began place) o

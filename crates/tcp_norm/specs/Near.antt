@@ -1,0 +1,25 @@
+-- Numbers that are kept of each era, by how many calls there were, and by the quota.
+use Rattle.std.specs.Prelude.{◌≡◌, ℕ, ◌*◌, ◌^◌, ◌≤◌, List, length, Option, Some}
+use Rattle.std.specs.List.{All}
+use Rattle.linked_table.specs.Table.{Entry}
+use Rattle.retain_store.specs.Maps.{Store, chain_of}
+use Rattle.era_state.specs.declared.era.Era.{Era}
+use Rattle.era_state.specs.Eras.{acked_in, octets_in}
+use Rattle.tcp_norm.specs.declared.flow.Flow.{Flow}
+use Rattle.tcp_norm.specs.declared.key.EraKey.{EraKey}
+
+-- a call acknowledges less than half a turn, and brings fewer than 65,536 octets
+abbrev pub IsNear : (calls : ℕ) → Era → Type 0
+IsNear calls e = (acked_in e ≤ calls * 2 ^ 31) × (octets_in e ≤ calls * 2 ^ 16)
+
+-- this holds of each entry
+abbrev pub AreNear : (calls : ℕ) → List (Entry EraKey Flow) → Type 0
+AreNear calls entries = All (λ e. IsNear calls e.value.era) entries
+
+-- the number is at most the quota, where one is set
+abbrev pub IsAtMost : (quota : Option ℕ) → (number : ℕ) → Type 0
+IsAtMost quota number = (most : ℕ) → quota ≡ Some most → number ≤ most
+
+-- no chain has more blocks than the quota
+abbrev pub AreBounded : (quota : Option ℕ) → Store → Type 0
+AreBounded quota store = (chain : ℕ) → IsAtMost quota (length (chain_of store chain))

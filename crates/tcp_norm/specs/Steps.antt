@@ -1,0 +1,92 @@
+-- What a datagram that no row drops does to the eras.
+use Rattle.std.specs.Prelude.{◌≡◌, ℕ, ◌+◌, ◌==◌, nat_lt, if◌then◌else◌, Bool, true, false, List, [], ◌∷◌, map, filter, Option, Some, None}
+use Rattle.std.specs.Option.{option_or}
+use Rattle.wire_base.specs.Segments.{Written}
+use Rattle.rule_book.specs.declared.entry.Ended.{Ended}
+use Rattle.rule_book.specs.declared.entry.Reason.TheVariants as reasons
+use Rattle.era_state.specs.declared.segment.Seg.{Seg}
+use Rattle.era_state.specs.Quantities.{octets_of}
+use Rattle.era_state.specs.Read.{sent}
+use Rattle.wire_base.specs.declared.address.FlowKey.{FlowKey}
+use Rattle.tcp_norm.specs.declared.step.Step.{Step}
+use Rattle.tcp_norm.specs.declared.step.Place.{Place}
+use Rattle.tcp_norm.specs.Calls.{Alive, Datagram, Outcome, read, goes_in, is_written, segment_in, key_of}
+use Rattle.tcp_norm.specs.Held.{held_of}
+use Rattle.tcp_norm.specs.Views.{View, number_of, segments_of, head_of}
+use Rattle.tcp_norm.specs.Rows.{t_full}
+use Rattle.tcp_norm.specs.Outcomes.{begun_with, ended_with}
+
+-- the era that ended, if one did
+abbrev pub listed : Option Ended → List Ended
+listed None = []
+listed (Some e) = e ∷ []
+
+-- its number
+abbrev pub number_ended : Option Ended → Option ℕ
+number_ended None = None
+number_ended (Some e) = Some e.era
+
+-- the number, if there is one
+abbrev pub one : Option ℕ → List ℕ
+one None = []
+one (Some n) = n ∷ []
+
+-- the step says what becomes of the eras
+pub record IsStep (v : View) (w : Written) (s : Step) : Type 0 where
+  pub era_is : s.era ≡ option_or (begun_with v w) v.era
+  pub begun_is : s.begun ≡ begun_with v w
+  pub ended_is : listed s.ended ≡ ended_with v w
+  pub full_is : s.full ≡ t_full v w
+
+-- an outcome that writes this segment alone, and does this to the eras
+pub record Does (d : Datagram) (w : Written) (s : Step) (o : Outcome) : Type 0 where
+  pub written : is_written o.verdict ≡ true
+  pub era_is : o.era ≡ s.era
+  pub begun_is : o.begun ≡ s.begun
+  pub ended_are : o.ended ≡ listed s.ended
+  pub packets_are : map (λ p. read (goes_in d.side) p.segment) o.packets ≡ w ∷ []
+
+-- the least recently touched era, where nothing was written in it for more than `idle` seconds
+abbrev pub first_old : (idle now : ℕ) → List Alive → Option ℕ
+first_old idle now [] = None
+first_old idle now (a ∷ more) = if nat_lt (a.touched + idle) now then Some a.number else None
+
+-- an era that ends for being idle, with the octets of its segments
+abbrev pub idle_end : (ℕ → List Written) → (number : ℕ) → Ended
+idle_end segments number = record { era = number; reason = reasons.Idle; octets = Some (octets_of (segments number)) }
+
+-- eras that end for being idle
+abbrev pub idled : (ℕ → List Written) → List ℕ → List Ended
+idled segments numbers = map (idle_end segments) numbers
+
+-- an era of so many octets, if there is one, ends since its place is needed
+abbrev pub evicted : Option ℕ → (octets : ℕ) → Option Ended
+evicted None octets = None
+evicted (Some number) octets = Some (record { era = number; reason = reasons.Evicted; octets = Some octets })
+
+-- the same of one of the live eras, by its segments
+abbrev pub evicted_of : (ℕ → List Written) → Option Alive → Option Ended
+evicted_of segments a = evicted (number_of a) (octets_of (segments_of segments a))
+
+-- the least recently touched of the eras that hold nothing, as it ends
+abbrev pub first_empty : List Alive → (ℕ → List Written) → Option Ended
+first_empty lives segments = evicted_of segments (head_of (filter (λ a. held_of (segments a.number) == 0) lives))
+
+-- Where a new era finds its place: beside the others, or in that of one that ends; and none where as many are live as may be and each holds octets
+abbrev pub place_by : Option Ended → (next : ℕ) → Option Place
+place_by None next = None
+place_by (Some e) next = Some (record { begun = next; evicted = Some e })
+
+-- an era begins at this place
+abbrev pub began : Place → Step
+began p = record { era = Some p.begun; begun = Some p.begun; ended = p.evicted; full = false }
+
+-- the datagram goes outwards between these ends, and carries this segment
+pub record Sends (d : Datagram) (key : FlowKey) (s : Seg) (octets : List ℕ) : Type 0 where
+  pub side : goes_in d.side ≡ false
+  pub key_is : key_of d ≡ key
+  pub segment_is : segment_in d ≡ sent s octets
+
+abbrev pub place_of : (is_full : Bool) → Option Ended → (next : ℕ) → Option Place
+place_of false empty next = Some (record { begun = next; evicted = None })
+place_of true empty next = place_by empty next

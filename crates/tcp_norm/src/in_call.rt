@@ -1,0 +1,91 @@
+//! An inbound SYN of a connection that has a live era.
+use crate::come_call::Called;
+use crate::entry::{tell_dropped, tell_in};
+use crate::flow::Flow;
+use crate::reading::{are_bits, bare_seg, inward_key, options_of};
+use crate::rows::rows_beside;
+use crate::state::TcpNorm;
+use crate::write::{put_probe, raised};
+use cold_start::cold_probe;
+use edge_io::Outbox;
+use ip_rules::IpPacket;
+use linked_table::Slot;
+use reset_probe::probe_of;
+use rule_book::{Entry, Rule};
+use tcp_codec::Tcp;
+use tcp_codec::laws::segments_are_read_back;
+
+impl TcpNorm {
+    ghost use Rattle.std.specs.Prelude.{◌≡◌, ◌+◌, ◌-◌, ◌<◌, ◌≤◌, ◌^◌, List, [], ◌∷◌, length, true, false};
+    ghost use Rattle.wire_base.specs.Tcp as tcp;
+    ghost use Rattle.wire_base.specs.declared.address.Side.TheVariants.{Inward};
+    ghost use Rattle.linked_table.specs.Table.{IsIn, Wherever};
+    ghost use Rattle.norm_settings.specs.Settings.{PlainSettings};
+    ghost use Rattle.tcp_norm.specs.Calls.{Call, Datagram, key_at};
+    ghost use Rattle.tcp_norm.specs.Views.{view_of};
+    ghost use Rattle.tcp_norm.specs.Heads.{IsHead};
+    ghost use Rattle.tcp_norm.specs.Outcomes.{call_of, outcome_at};
+    ghost use Rattle.tcp_norm.specs.Passing.{IsDatagram, Reports, frames_of};
+    ghost use Rattle.tcp_norm.specs.Standing.{StandsFor};
+
+    // It goes in, begins an era anew, or a row drops it and a probe goes in.
+    pub(crate) fn in_call(
+        &mut self,
+        slot: Slot,
+        flow: Flow,
+        now: u32,
+        packet: &IpPacket<'_>,
+        link: &[u8],
+        head: &Tcp,
+        out: &mut Outbox,
+        entry: &mut Entry,
+    )
+        requires inside { IsIn self.old.table.entries slot }
+        requires key { Wherever self.old.table.entries slot (λ e. e.key.0 ≡ key_at Inward packet.now.head packet.now.payload.now) }
+        requires entry { Wherever self.old.table.entries slot (λ e. e.value ≡ flow) }
+        requires syn { tcp.has_syn head.now.flags.0 ≡ true }
+        requires side { packet.now.side ≡ Inward }
+        requires short { length packet.now.payload.now ≤ 65515 }
+        requires head { IsHead packet.now.payload.now head.now }
+        requires link { length link.now ≤ 14 }
+        requires frame { packet.now.fixes.items ≡ [] → length packet.now.frame.now ≤ 65549 }
+        requires fixes { length packet.now.fixes.items ≤ 6 }
+        requires empty { out.old ≡ [] }
+        requires ended { length entry.old.ended.items ≤ 2 }
+        requires few { self.old.calls < 2 ^ 32 - 1 }
+        requires later { self.old.latest ≤ now }
+        ensures stands { (settings : PlainSettings) (calls : List Call) (d : Datagram) → StandsFor settings self.old calls → IsDatagram packet.now link.now d →
+            StandsFor settings self.new (call_of settings calls now d ∷ calls) }
+        ensures entry { (settings : PlainSettings) (calls : List Call) (d : Datagram) → StandsFor settings self.old calls → IsDatagram packet.now link.now d →
+            Reports entry.old entry.new (outcome_at settings (view_of settings calls d) d) }
+        ensures frames { (settings : PlainSettings) (calls : List Call) (d : Datagram) → StandsFor settings self.old calls → IsDatagram packet.now link.now d →
+            out.new ≡ frames_of link.now (outcome_at settings (view_of settings calls d) d).packets }
+    {
+        segments_are_read_back();
+        are_bits(&packet.head, packet.payload);
+        let key = inward_key(&packet.head, packet.payload, head);
+        let seg = bare_seg(packet.payload, head);
+        let (_options, changed) = options_of(packet.payload, head);
+        let _count = self.table.len();
+        let era = flow.number;
+        let ip = raised(&packet.head, self.hops);
+        match self.come_call(slot, key, &seg, now) {
+            Called::Early => {
+                tell_dropped(Rule::TState, Some(era), 1, entry);
+                put_probe(link, &ip, head, &cold_probe(&seg), out);
+            }
+            Called::Stray => match probe_of(&flow.era, &seg) {
+                None => tell_dropped(Rule::TSyn, Some(era), 0, entry),
+                Some(probe) => {
+                    tell_dropped(Rule::TSyn, Some(era), 1, entry);
+                    put_probe(link, &ip, head, &probe, out);
+                }
+            },
+            Called::Goes(step) => {
+                let rows = rows_beside(packet.payload, head, changed, false);
+                tell_in(&step, &packet.fixes, &rows, 1, entry);
+                self.send_bare(packet, link, head, &rows, out);
+            }
+        }
+    }
+}

@@ -1,0 +1,83 @@
+//! An inbound RST of a connection that has a live era.
+use crate::come_reset::Knock;
+use crate::entry::{packets_with, tell_dropped, tell_in};
+use crate::flow::Flow;
+use crate::reading::{are_bits, bare_seg, options_of};
+use crate::rows::rows_beside;
+use crate::state::TcpNorm;
+use crate::step::Step;
+use crate::write::{put_probe, raised};
+use edge_io::Outbox;
+use ip_rules::IpPacket;
+use linked_table::Slot;
+use rule_book::{Entry, Rule};
+use tcp_codec::Tcp;
+use tcp_codec::laws::segments_are_read_back;
+
+impl TcpNorm {
+    ghost use Rattle.std.specs.Prelude.{◌≡◌, ◌+◌, ◌-◌, ◌<◌, ◌≤◌, ◌^◌, List, [], ◌∷◌, length, true, false};
+    ghost use Rattle.wire_base.specs.Tcp as tcp;
+    ghost use Rattle.wire_base.specs.declared.address.Side.TheVariants.{Inward};
+    ghost use Rattle.linked_table.specs.Table.{IsIn, Wherever};
+    ghost use Rattle.norm_settings.specs.Settings.{PlainSettings};
+    ghost use Rattle.tcp_norm.specs.Calls.{Call, Datagram, key_at};
+    ghost use Rattle.tcp_norm.specs.Views.{view_of};
+    ghost use Rattle.tcp_norm.specs.Heads.{IsHead};
+    ghost use Rattle.tcp_norm.specs.Outcomes.{call_of, outcome_at};
+    ghost use Rattle.tcp_norm.specs.Passing.{IsDatagram, Reports, frames_of};
+    ghost use Rattle.tcp_norm.specs.Standing.{StandsFor};
+
+    // It goes in and behind it the probe of the era, or a row drops it.
+    pub(crate) fn in_reset(
+        &mut self,
+        slot: Slot,
+        flow: Flow,
+        now: u32,
+        packet: &IpPacket<'_>,
+        link: &[u8],
+        head: &Tcp,
+        out: &mut Outbox,
+        entry: &mut Entry,
+    )
+        requires inside { IsIn self.old.table.entries slot }
+        requires key { Wherever self.old.table.entries slot (λ e. e.key.0 ≡ key_at Inward packet.now.head packet.now.payload.now) }
+        requires entry { Wherever self.old.table.entries slot (λ e. e.value ≡ flow) }
+        requires rst { tcp.has_rst head.now.flags.0 ≡ true }
+        requires side { packet.now.side ≡ Inward }
+        requires short { length packet.now.payload.now ≤ 65515 }
+        requires head { IsHead packet.now.payload.now head.now }
+        requires link { length link.now ≤ 14 }
+        requires frame { packet.now.fixes.items ≡ [] → length packet.now.frame.now ≤ 65549 }
+        requires fixes { length packet.now.fixes.items ≤ 6 }
+        requires empty { out.old ≡ [] }
+        requires ended { length entry.old.ended.items ≤ 2 }
+        requires few { self.old.calls < 2 ^ 32 - 1 }
+        requires later { self.old.latest ≤ now }
+        ensures stands { (settings : PlainSettings) (calls : List Call) (d : Datagram) → StandsFor settings self.old calls → IsDatagram packet.now link.now d →
+            StandsFor settings self.new (call_of settings calls now d ∷ calls) }
+        ensures entry { (settings : PlainSettings) (calls : List Call) (d : Datagram) → StandsFor settings self.old calls → IsDatagram packet.now link.now d →
+            Reports entry.old entry.new (outcome_at settings (view_of settings calls d) d) }
+        ensures frames { (settings : PlainSettings) (calls : List Call) (d : Datagram) → StandsFor settings self.old calls → IsDatagram packet.now link.now d →
+            out.new ≡ frames_of link.now (outcome_at settings (view_of settings calls d) d).packets }
+    {
+        segments_are_read_back();
+        are_bits(&packet.head, packet.payload);
+        let _count = self.table.len();
+        let seg = bare_seg(packet.payload, head);
+        let (_options, changed) = options_of(packet.payload, head);
+        match self.come_reset(slot, &seg, now) {
+            Knock::Repelled => tell_dropped(Rule::TRst, Some(flow.number), 0, entry),
+            Knock::Enters(number, probe) => {
+                let rows = rows_beside(packet.payload, head, changed, probe.is_some());
+                let count = packets_with(probe);
+                tell_in(&Step::within(number), &packet.fixes, &rows, count, entry);
+                let ip = raised(&packet.head, self.hops);
+                self.send_bare(packet, link, head, &rows, out);
+                match probe {
+                    None => {}
+                    Some(probe) => put_probe(link, &ip, head, &probe, out),
+                }
+            }
+        }
+    }
+}

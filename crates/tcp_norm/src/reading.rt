@@ -1,0 +1,121 @@
+//! What an era is asked about a segment, and its options as they go out.
+ghost use Rattle.std.specs.Prelude.{◌≡◌, ◌<◌, ◌^◌, ◌+◌, ◌≤◌, ◌%◌, length, false, true, if◌then◌else◌};
+ghost use Rattle.wire_base.specs.Tcp as tcp;
+ghost use Rattle.wire_base.specs.Options.{cleaned};
+ghost use Rattle.era_state.specs.Read.{received, sent, came};
+ghost use Rattle.wire_base.specs.declared.address.Side.TheVariants.{Inward, Outward};
+ghost use Rattle.tcp_norm.specs.Calls.{key_at, read};
+ghost use Rattle.tcp_norm.specs.Heads.{IsHead, AreBits};
+ghost use Rattle.tcp_norm.specs.Rows.{differ};
+ghost use Rattle.tcp_norm.specs.Inwards.{bare_read};
+
+use crate::anew::flags_sent;
+use arrayvec::ArrayVec;
+use era_state::Seg;
+use ipv4_codec::Ipv4;
+use tcp_codec::laws::options_are_cleaned;
+use tcp_codec::{Tcp, clean_options, scale_of};
+use wire_base::FlowKey;
+
+/// The segment of these octets, of which the header was read.
+pub(crate) fn seg_of(octets: &[u8], head: &Tcp) -> Seg
+    requires head { IsHead octets.now head.now }
+    requires short { length octets.now ≤ 65515 }
+    ensures inward { received result (tcp.payload octets.now) ≡ read true octets.now }
+    ensures outward { sent result (tcp.payload octets.now) ≡ read false octets.now }
+    ensures len { result.len ≡ length (tcp.payload octets.now) }
+    ensures flags { result.flags ≡ head.now.flags }
+{
+    Seg {
+        seq: head.seq,
+        ack: head.ack,
+        len: (octets.len() - head.header) as u32,
+        window: head.window,
+        flags: head.flags,
+        scale: scale_of(&octets[20..head.header]),
+    }
+}
+
+/// The four-tuple of an outbound segment.
+pub(crate) fn outward_key(ip: &Ipv4, octets: &[u8], head: &Tcp) -> FlowKey
+    requires { IsHead octets.now head.now }
+    ensures { result ≡ key_at Outward ip.now octets.now }
+{
+    FlowKey {
+        outside: ip.dst,
+        outside_port: head.dport,
+        inside: ip.src,
+        inside_port: head.sport,
+    }
+}
+
+/// The four-tuple of an inbound segment.
+pub(crate) fn inward_key(ip: &Ipv4, octets: &[u8], head: &Tcp) -> FlowKey
+    requires { IsHead octets.now head.now }
+    ensures { result ≡ key_at Inward ip.now octets.now }
+{
+    FlowKey {
+        outside: ip.src,
+        outside_port: head.sport,
+        inside: ip.dst,
+        inside_port: head.dport,
+    }
+}
+
+/// The addresses of a datagram have 32 bits, and its octets 8.
+pub(crate) fn are_bits(ip: &Ipv4, octets: &[u8])
+    ensures { AreBits ip.now octets.now }
+{
+    has_bits(ip.src.0);
+    has_bits(ip.dst.0);
+    let _count = octets.len();
+}
+
+// A number of 32 bits.
+fn has_bits(number: u32)
+    ensures { number < 2 ^ 32 }
+{}
+
+/// What goes inwards of a SYN or a RST: without octets and urgent marks, with cleaned options.
+pub(crate) fn bare_seg(octets: &[u8], head: &Tcp) -> Seg
+    requires head { IsHead octets.now head.now }
+    ensures read { came result ≡ bare_read octets.now }
+    ensures flags { tcp.are_legal result.flags.0 ≡ true }
+{
+    options_are_cleaned();
+    let (options, _changed) = options_of(octets, head);
+    Seg {
+        seq: head.seq,
+        ack: head.ack,
+        len: 0,
+        window: head.window,
+        flags: flags_sent(head.flags, true),
+        scale: scale_of(options.as_slice()),
+    }
+}
+
+/// What a segment carries.
+pub(crate) fn payload_of<'a>(octets: &'a [u8], head: &Tcp) -> &'a [u8]
+    requires { IsHead octets.now head.now }
+    ensures { result.now ≡ tcp.payload octets.now }
+{
+    &octets[head.header..]
+}
+
+/// The options of a segment as they go out, and whether that changes them.
+pub(crate) fn options_of(octets: &[u8], head: &Tcp) -> (ArrayVec<u8, 40>, bool)
+    requires { IsHead octets.now head.now }
+    ensures exact { result.0.items ≡ cleaned (tcp.has_syn head.now.flags.0) (tcp.options octets.now) }
+    ensures changed { result.1 ≡ differ (cleaned (tcp.has_syn head.now.flags.0) (tcp.options octets.now)) (tcp.options octets.now) }
+    ensures words { length result.0.items % 4 ≡ 0 }
+    ensures size { 20 + length result.0.items ≡ head.now.header }
+{
+    options_are_cleaned();
+    let mut options = ArrayVec::new();
+    let area = &octets[20..head.header];
+    if options.try_extend_from_slice(area).is_err() {
+        unreachable!()
+    }
+    let changed = clean_options(options.as_mut_slice(), head.flags.syn());
+    (options, changed)
+}

@@ -1,0 +1,84 @@
+//! The rows that mend an inbound segment.
+ghost use Rattle.std.specs.Prelude.{◌≡◌, ◌+◌, ◌<◌, ◌≤◌, ◌++◌, ◌==◌, ◌&&◌, ◌||◌, nat_lt, ◌-◌, not, length};
+ghost use Rattle.wire_base.specs.Tcp as tcp;
+ghost use Rattle.tcp_norm.specs.Streams.{stream_rows, bare_rows};
+ghost use Rattle.ip_rules.specs.Judged.{where_holds};
+
+use crate::stream::Stream;
+use arrayvec::ArrayVec;
+use rule_book::Rule;
+use tcp_codec::Tcp;
+
+// Appends the rule where it holds.
+pub(crate) fn note(rules: &mut ArrayVec<Rule, 16>, rule: Rule, holds: bool)
+    requires { length rules.old.items < 16 }
+    ensures adds { rules.new.items ≡ rules.old.items ++ where_holds holds rule }
+    ensures few { length rules.new.items ≤ length rules.old.items + 1 }
+{
+    if holds {
+        rules.push(rule);
+    }
+}
+
+// Whether urgent marks stand in the header.
+fn is_urgent(head: &Tcp) -> bool
+    ensures { result ≡ (tcp.has_urg head.now.flags.0 || not (head.now.urgent == 0)) }
+{
+    let flag = head.flags.urg();
+    let pointer = head.urgent != 0;
+    flag || pointer
+}
+
+/// The rows that hold; `options` says whether options are not kept.
+pub(crate) fn rows_of(head: &Tcp, options: bool, stream: &Stream) -> ArrayVec<Rule, 16>
+    ensures few { length result.items ≤ 7 }
+    ensures rows { result.items ≡ stream_rows (not (head.now.reserved == 0)) (tcp.has_urg head.now.flags.0 || not (head.now.urgent == 0)) options
+        stream.now.kept.below stream.now.kept.window stream.now.kept.end stream.now.clash }
+{
+    let mut rules = ArrayVec::new();
+    let reserved = head.reserved != 0;
+    let urgent = is_urgent(head);
+    note(&mut rules, Rule::TRes, reserved);
+    note(&mut rules, Rule::TUrg, urgent);
+    note(&mut rules, Rule::TOpt, options);
+    note(&mut rules, Rule::TOld, stream.kept.below);
+    note(&mut rules, Rule::TWindow, stream.kept.window);
+    note(&mut rules, Rule::TEnd, stream.kept.end);
+    note(&mut rules, Rule::TClash, stream.clash);
+    rules
+}
+
+// Octets stand on a SYN or a RST.
+fn is_loaded(octets: &[u8], head: &Tcp) -> bool
+    requires { head.now.header ≤ length octets.now }
+    ensures { result ≡ ((tcp.has_syn head.now.flags.0 || tcp.has_rst head.now.flags.0) && nat_lt 0 (length octets.now - head.now.header)) }
+{
+    let syn = head.flags.syn();
+    let rst = head.flags.rst();
+    let some = octets.len() > head.header;
+    (syn || rst) && some
+}
+
+/// The rows that hold of one that brings no octet of the stream; `options` says whether options are not kept, `probe` whether a probe goes out.
+pub(crate) fn rows_beside(
+    octets: &[u8],
+    head: &Tcp,
+    options: bool,
+    probe: bool,
+) -> ArrayVec<Rule, 16>
+    requires { head.now.header ≤ length octets.now }
+    ensures few { length result.items ≤ 5 }
+    ensures rows { result.items ≡ bare_rows (not (head.now.reserved == 0)) (tcp.has_urg head.now.flags.0 || not (head.now.urgent == 0)) options
+        ((tcp.has_syn head.now.flags.0 || tcp.has_rst head.now.flags.0) && nat_lt 0 (length octets.now - head.now.header)) probe }
+{
+    let mut rules = ArrayVec::new();
+    let reserved = head.reserved != 0;
+    let urgent = is_urgent(head);
+    let loaded = is_loaded(octets, head);
+    note(&mut rules, Rule::TRes, reserved);
+    note(&mut rules, Rule::TUrg, urgent);
+    note(&mut rules, Rule::TOpt, options);
+    note(&mut rules, Rule::TStrip, loaded);
+    note(&mut rules, Rule::CProbe, probe);
+    rules
+}

@@ -1,0 +1,113 @@
+//! The live eras of all connections, and the octets that are kept of them.
+ghost use Rattle.std.specs.Prelude.{◌≡◌, ◌≤◌, length, vec_len};
+ghost use Rattle.tcp_norm.specs.Near.{AreBounded, AreNear};
+
+use crate::flow::Flow;
+use crate::key::EraKey;
+use edge_io::NoMemory;
+use linked_table::LinkedTable;
+use norm_settings::Settings;
+use retain_store::Retain;
+use std::alloc::Global;
+use wire_base::FlowKey;
+
+/// The octets of the longest segment: those of the longest packet without its header of 20 (RFC 791 section 3.1).
+const LONGEST: usize = 65_515;
+
+/// Judges the segments of TCP connections, one after another. It takes all its memory when it is opened.
+#[derive(Drop)]
+pub struct TcpNorm {
+    pub(crate) table: LinkedTable<EraKey, Flow>,
+    /// The octets of the era in each slot of the table, by the slot's number.
+    pub(crate) store: Retain,
+    pub(crate) cells: u32,
+    /// Routers behind the bridge.
+    pub(crate) hops: u8,
+    pub(crate) idle: u32,
+    pub(crate) offload: bool,
+    /// How many cells the octets of one era may take, if that is bounded.
+    pub(crate) quota: Option<u32>,
+    /// How many eras began.
+    pub(crate) begun: u32,
+    /// How many datagrams came.
+    pub(crate) calls: u32,
+    /// The greatest time of a call, in seconds.
+    pub(crate) latest: u32,
+    /// Room for the octets of a segment that go inwards, and for a segment whose checksum is mended.
+    pub(crate) scratch: Vec<u8>,
+    /// Room for a segment that is written anew.
+    pub(crate) page: Vec<u8>,
+    ghost sized: { length store.chains ≡ table.max },
+    ghost room: { vec_len scratch ≡ 65515 },
+    ghost page_room: { vec_len page ≡ 65515 },
+    ghost passes: { hops ≤ 254 },
+    ghost few: { begun ≤ calls },
+    ghost near: { AreNear calls table.entries },
+    ghost bounded: { AreBounded quota store },
+}
+
+impl TcpNorm {
+    ghost use Rattle.std.specs.Prelude.{ℕ, ◌≢◌, ◌*◌, ◌<◌, List, [], ◌∷◌, Some, is_some, IfOk};
+    ghost use Rattle.std.specs.List.{AllByRecursion};
+    ghost use Rattle.rule_book.specs.declared.rule.Rule.TheVariants as rules;
+    ghost use Rattle.norm_settings.specs.Settings.{PlainSettings, plain_settings, AreInRange};
+    ghost use Rattle.tcp_norm.specs.Calls.{Call, Datagram, eras, live};
+    ghost use Rattle.tcp_norm.specs.Held.{held_all, held_in};
+    ghost use Rattle.tcp_norm.specs.Near.{IsAtMost};
+    ghost use Rattle.tcp_norm.specs.Rows.{dropped_by};
+    ghost use Rattle.tcp_norm.specs.Views.{view_of};
+    ghost use Rattle.tcp_norm.specs.Standing.{StandsFor};
+
+    /// No era is live, and none began.
+    pub fn open(alloc: Global, settings: &Settings) -> Result<TcpNorm, NoMemory>
+        requires { AreInRange (plain_settings settings.now) }
+        ensures { IfOk result (λ norm. StandsFor (plain_settings settings.now) norm []) }
+    {
+        let table = LinkedTable::open(alloc, settings.flows, settings.seed)?;
+        let store = Retain::open(alloc, settings.cells, settings.flows)?;
+        let scratch = vec![in alloc; 0u8; LONGEST]?;
+        let page = vec![in alloc; 0u8; LONGEST]?;
+        Ok(TcpNorm {
+            table,
+            store,
+            cells: settings.cells,
+            hops: settings.hops,
+            idle: settings.idle,
+            offload: settings.offload,
+            quota: settings.quota,
+            begun: 0,
+            calls: 0,
+            latest: 0,
+            scratch,
+            page,
+        })
+    }
+
+    /// Whether an era of this connection is live.
+    pub fn live(&self, key: &FlowKey) -> bool
+        ensures { (settings : PlainSettings) (calls : List Call) → StandsFor settings self.now calls → result ≡ is_some (live calls key.now) }
+    {
+        let _count = self.table.len();
+        self.table.find(&EraKey(*key)).is_some()
+    }
+
+    /// How many eras are live.
+    pub fn flows(&self) -> u32
+        ensures number { (settings : PlainSettings) (calls : List Call) → StandsFor settings self.now calls → result ≡ length (eras calls) }
+        ensures bounded { (settings : PlainSettings) (calls : List Call) → StandsFor settings self.now calls → result ≤ settings.flows }
+    {
+        self.table.len()
+    }
+
+    /// How many cells hold octets: where a quota is set, of each era at most so many; and where all eras together have so many, T_ROOM never holds.
+    pub fn held(&self) -> u32
+        ensures number { (settings : PlainSettings) (calls : List Call) → StandsFor settings self.now calls → result ≡ held_all calls }
+        ensures bounded { (settings : PlainSettings) (calls : List Call) → StandsFor settings self.now calls → result ≤ settings.cells }
+        ensures quota { (settings : PlainSettings) (calls : List Call) → StandsFor settings self.now calls → AllByRecursion (λ a. IsAtMost settings.quota (held_in calls a)) (eras calls) }
+        ensures room { (settings : PlainSettings) (calls : List Call) (d : Datagram) (most : ℕ) → StandsFor settings self.now calls → settings.quota ≡ Some most →
+            settings.flows * most ≤ settings.cells → dropped_by settings (view_of settings calls d) d ≢ Some rules.TRoom }
+    {
+        let _count = self.table.len();
+        self.cells.saturating_sub(self.store.free())
+    }
+}

@@ -1,0 +1,121 @@
+//! Packets put into the outbox.
+ghost use Rattle.std.specs.Prelude.{◌≡◌, ◌+◌, ◌≤◌, ◌<◌, [], ◌∷◌, ◌++◌, length};
+ghost use Rattle.wire_base.specs.Sums as sums;
+ghost use Rattle.wire_base.specs.Tcp as tcp;
+ghost use Rattle.ipv4_codec.specs.Write.{plain_header};
+ghost use Rattle.tcp_codec.specs.Mending.{mended};
+ghost use Rattle.tcp_codec.specs.Write.{segment_octets};
+ghost use Rattle.reset_probe.specs.Write.{probe_octets};
+ghost use Rattle.tcp_norm.specs.Anews.{anew_segment};
+ghost use Rattle.tcp_norm.specs.Inwards.{raised};
+
+use crate::anew::write_anew;
+use crate::parts::Anew;
+use edge_io::Outbox;
+use era_state::Probe;
+use ipv4_codec::{Ipv4, write_plain};
+use reset_probe::write_probe;
+use tcp_codec::laws::mended_say_the_same;
+use tcp_codec::{Tcp, mend};
+use wire_base::pseudo_sum;
+
+// The protocol's number (RFC 9293 section 3.1).
+const TCP: u8 = 6;
+
+/// Puts a frame as it was read into the empty outbox.
+pub(crate) fn put_read(frame: &[u8], out: &mut Outbox)
+    requires empty { out.old ≡ [] }
+    requires short { length frame.now ≤ 65549 }
+    ensures { out.new ≡ frame.now ∷ [] }
+{
+    out.begin();
+    out.append(frame);
+}
+
+/// Puts a packet with its header anew into the empty outbox, behind these link octets.
+pub(crate) fn put_anew(link: &[u8], head: &Ipv4, segment: &[u8], out: &mut Outbox)
+    requires empty { out.old ≡ [] }
+    requires link { length link.now ≤ 14 }
+    requires short { length segment.now ≤ 65515 }
+    ensures { out.new ≡ (link.now ++ plain_header head.now (length segment.now) ++ segment.now) ∷ [] }
+{
+    let mut header = [0u8; 20];
+    write_plain(head, segment.len() as u16, &mut header);
+    out.begin();
+    out.append(link);
+    out.append(&header);
+    out.append(segment);
+}
+
+/// Puts a packet with its header anew and with its segment's checksum mended into the empty outbox.
+pub(crate) fn put_mended(
+    link: &[u8],
+    head: &Ipv4,
+    segment: &[u8],
+    scratch: &mut [u8],
+    out: &mut Outbox,
+)
+    requires empty { out.old ≡ [] }
+    requires link { length link.now ≤ 14 }
+    requires short { length segment.now ≤ 65515 }
+    requires long { 20 ≤ length segment.now }
+    requires words { 20 ≤ tcp.header_length segment.now }
+    requires room { 65515 ≤ length scratch.old }
+    ensures { let m = mended (sums.pseudo_sum head.now.src.0 head.now.dst.0 6 (length segment.now)) segment.now in
+        out.new ≡ (link.now ++ plain_header head.now (length m) ++ m) ∷ [] }
+{
+    mended_say_the_same();
+    let copy = &mut scratch[..segment.len()];
+    copy.copy_from_slice(segment);
+    mend(
+        copy,
+        pseudo_sum(head.src, head.dst, TCP, segment.len() as u16),
+    );
+    put_anew(link, head, copy, out);
+}
+
+/// The header of an inbound datagram with a TTL that passes so many routers behind the bridge.
+pub(crate) fn raised(ip: &Ipv4, hops: u8) -> Ipv4
+    requires { hops ≤ 254 }
+    ensures { result ≡ raised hops ip.now }
+{
+    let mut head = *ip;
+    if head.ttl <= hops {
+        head.ttl = hops + 1;
+    }
+    head
+}
+
+/// Puts a packet with its header anew and its segment written anew into the empty outbox.
+pub(crate) fn put_rewritten(
+    link: &[u8],
+    ip: &Ipv4,
+    head: &Tcp,
+    anew: Anew,
+    octets: &[u8],
+    page: &mut [u8],
+    out: &mut Outbox,
+)
+    requires empty { out.old ≡ [] }
+    requires link { length link.now ≤ 14 }
+    requires size { 20 + length anew.options.items + length octets.now ≤ 65515 }
+    requires room { 65515 ≤ length page.old }
+    ensures { let m = segment_octets (anew_segment ip.now head.now anew octets.now) in
+        out.new ≡ (link.now ++ plain_header ip.now (length m) ++ m) ∷ [] }
+{
+    let size = write_anew(ip, head, anew, octets, page);
+    put_anew(link, ip, &page[..size], out);
+}
+
+/// Puts the packet of a probe between the addresses of `ip` and the ports of `head` into the outbox, behind a packet that may stand there.
+pub(crate) fn put_probe(link: &[u8], ip: &Ipv4, head: &Tcp, probe: &Probe, out: &mut Outbox)
+    requires room { length out.old < 2 }
+    requires link { length link.now ≤ 14 }
+    ensures { out.new ≡ out.old ++ (link.now ++ probe_octets ip.now head.now.sport head.now.dport probe.now) ∷ [] }
+{
+    let mut packet = [0u8; 40];
+    let _size = write_probe(ip, head.sport, head.dport, probe, &mut packet);
+    out.begin();
+    out.append(link);
+    out.append(&packet);
+}
