@@ -1,28 +1,30 @@
 -- How a run goes on from record to record, and how it ends.
-use Rattle.std.proofs.Common.{◌≡◌, ℕ, ◌+◌, ◌≤◌, true, List, [], ◌∷◌, ◌++◌, length, drop, Option, Some, None, Ok, Err, Result, OnOk, refl, sym, ap, ap₂, subst, ◌∙◌, arith, suc}
-use Rattle.std.proofs.KnownBytes.{Appends-trans}
+use Rattle.std.proofs.Common.{◌≡◌, ℕ, ◌+◌, ◌≤◌, List, [], ◌∷◌, ◌++◌, length, drop, Option, Some, None, Ok, Err, Result, IfErr, refl, sym, ap, ap₂, subst, ◌∙◌, arith, suc, append_assoc, append-nil}
 use Rattle.std.specs.Io.KnownBytes.{Appends}
 use Rattle.wire_base.specs.declared.address.Link.{Link}
 use Rattle.wire_base.specs.declared.address.Side.{Side}
 use Rattle.pcap_file.specs.declared.head.Head.{Head}
 use Rattle.pcap_file.specs.declared.order.Order.{Order}
-use Rattle.pcap_file.specs.Heads.{head_octets}
 use Rattle.pcap_file.specs.Records.{Packet, front_of}
-use Rattle.pcap_file.specs.Capture.{ReadsTo}
+use Rattle.pcap_file.specs.Capture.{ReadsTo, offset_of}
 use Rattle.pcap_file.specs.Reads.{Leaves, HasEnd, Advances}
 use Rattle.pcap_file.specs.Reading.{Reading}
 use Rattle.rule_book.specs.declared.last.Last.TheVariants.{End}
 use Rattle.rule_book.specs.declared.rule.Rule.{Rule}
-use Rattle.rule_book.specs.Text.{last_text}
+use Rattle.rule_book.specs.Text.{lines_text, last_text}
 use Rattle.norm_settings.specs.Settings.{PlainSettings}
 use Rattle.norm_engine.specs.Frames.{mended_frame}
-use Rattle.norm_engine.specs.Trace.{Item, item_of, packets, dropped_by, named_rows, frames_by, entry_by}
+use Rattle.norm_engine.specs.Trace.{Item, item_of, packets, entries, dropped_by, named_rows, frames_by, entry_by}
 use Rattle.norm_engine.specs.Clean.{HasOctets}
 use Rattle.norm_engine.specs.Laws.{LawfulKeepsClean, LawfulAgrees}
 use Rattle.norm_engine.specs.Engine.{Engaged, StandsFor}
-use Rattle.bridge_run.specs.Frames.{frame_count, frames_octets}
-use Rattle.bridge_run.specs.Run.{Took, TookAll, TakenWhole, Going, Relayed, Normalized}
-use Rattle.bridge_run.proofs.Traces.{capture_is, report_is}
+use Rattle.bridge_run.specs.declared.stop.Stop.{Stop}
+use Rattle.bridge_run.specs.Frames.{frame_count}
+use Rattle.bridge_run.specs.Moments.{Moment, NoneRose}
+use Rattle.bridge_run.specs.Outputs.{Given, BreaksOff, heading, outputs_of, item_outputs, end_outputs}
+use Rattle.bridge_run.specs.Run.{Took, TookAll, TakenWhole, Going, Relayed, Ended, Normalized}
+use Rattle.bridge_run.specs.Stopped.{StopsAtEnd, StopsAtItem, StopsAtRecord}
+use Rattle.bridge_run.proofs.Outputs.{capture_part-append, report_part-append, given_after, broke_behind, capture_is, report_is}
 
 pub length-packets : (trace : List Item) → length (packets trace) ≡ length trace
 length-packets [] = refl
@@ -67,29 +69,36 @@ packets_are settings link history r = (
   few_frames (dropped_by settings link history r) (named_rows settings link history r) r.octets (mended_frame settings link r.octets),
 )
 
+pub none_rose_after : (a b c : Moment) → NoneRose a b → NoneRose b c → NoneRose a c
+none_rose_after a b c p q = record {
+  source = q.source ∙ p.source;
+  sinks = record { capture = q.sinks.capture ∙ p.sinks.capture; report = q.sinks.report ∙ p.sinks.report };
+}
+
 -- The item of one more record was written, and the run goes on.
-pub goes_on : (settings : PlainSettings) (head : Head) (s s' s'' c c' c'' r r' r'' : Option (List ℕ)) (engine engine' : Engaged) (reader reader' : Reading) (frames n : ℕ) (p : Packet)
-    → Going settings head s s' c c' r r' engine reader frames
-    → Leaves reader.head.order reader.given s' s'' p → Advances reader reader' (length p.octets) → reader'.head ≡ reader.head
-    → ((history : List Item) → StandsFor engine history → Relayed head.order (item_of engine.settings engine.link history p) c' c'' r' r'' n)
+pub goes_on : (settings : PlainSettings) (head : Head) (a b c : Moment) (engine engine' : Engaged) (reader reader' : Reading) (frames n : ℕ) (p : Packet)
+    → Going settings head a b engine reader frames
+    → Leaves reader.head.order reader.given b.source.octets c.source.octets p → Advances reader reader' (length p.octets) → reader'.head ≡ reader.head
+    → c.source.faults ≡ b.source.faults
+    → ((history : List Item) → StandsFor engine history → Relayed head.order (item_of engine.settings engine.link history p) b.sinks c.sinks n)
     → ((history : List Item) → StandsFor engine history → StandsFor engine' (item_of engine.settings engine.link history p ∷ history))
     → HasOctets p
     → engine'.settings ≡ engine.settings → engine'.link ≡ engine.link
-    → Going settings head s s'' c c'' r r'' engine' reader' (frames + n)
-goes_on settings head s s' s'' c c' c'' r r' r'' engine engine' reader reader' frames n p going left ahead same written stands octets settled linked =
+    → Going settings head a c engine' reader' (frames + n)
+goes_on settings head a b c engine engine' reader reader' frames n p going left ahead same counted_so written stands octets settled linked =
     let trace = going.trace in
     let item = item_of settings head.link trace p in
     let is : item_of engine.settings engine.link trace p ≡ item = ap₂ (λ x y. item_of x y trace p) going.engine_settings going.engine_link in
-    let put : Relayed head.order item c' c'' r' r'' n = subst (λ (i : Item). Relayed head.order i c' c'' r' r'' n) is (written trace going.stands) in
+    let put : Relayed head.order item b.sinks c.sinks n = subst (λ (i : Item). Relayed head.order i b.sinks c.sinks n) is (written trace going.stands) in
     let counted = packets_are settings head.link trace p in
     record {
       trace = item ∷ trace;
       so_far = record {
         lawful = (going.so_far.lawful, refl);
         octets = (going.so_far.octets, octets);
-        took = took_more s s' s'' head trace item reader.head.order reader.given (ap (λ (h : Head). h.order) going.reader_head) going.given_is going.so_far.took left;
-        frames_written = Appends-trans c c' c'' _ _ going.so_far.frames_written put.frames_written;
-        report_written = Appends-trans r r' r'' _ _ going.so_far.report_written put.report_written;
+        took = took_more a.source.octets b.source.octets c.source.octets head trace item reader.head.order reader.given (ap (λ (h : Head). h.order) going.reader_head) going.given_is going.so_far.took left;
+        given = given_after (outputs_of head trace) (item_outputs head.order item) a.sinks b.sinks c.sinks going.so_far.given put.given;
+        none_rose = none_rose_after a b c going.so_far.none_rose (record { source = counted_so; sinks = put.none_rose });
       };
       stands = subst (λ (i : Item). StandsFor engine' (i ∷ trace)) is (stands trace going.stands);
       engine_settings = settled ∙ going.engine_settings;
@@ -102,26 +111,93 @@ goes_on settings head s s' s'' c c' c'' r r' r'' engine engine' reader reader' f
     }
 
 -- the run is over: all was read, and the last line is written
-pub normalized : (settings : PlainSettings) (head : Head) (s s' s'' c c' c'' r r' r'' : Option (List ℕ)) (engine : Engaged) (reader : Reading) (frames count : ℕ)
+pub normalized : (settings : PlainSettings) (head : Head) (a b c : Moment) (engine : Engaged) (reader : Reading) (frames count : ℕ)
     → LawfulKeepsClean → LawfulAgrees
-    → Going settings head s s' c c' r r' engine reader frames → HasEnd s' s'' → count ≡ engine.records → c'' ≡ c' → Appends r' r'' (last_text (End count frames))
-    → Normalized settings s s'' c c'' r r''
-normalized settings head s s' s'' c c' c'' r r' r'' engine reader frames count keeps agrees going end counted kept last =
+    → Going settings head a b engine reader frames → HasEnd b.source.octets c.source.octets → count ≡ engine.records → Ended count frames b.sinks c.sinks
+    → Normalized settings a.source.octets c.source.octets a.sinks.capture.octets c.sinks.capture.octets a.sinks.report.octets c.sinks.report.octets
+normalized settings head a b c engine reader frames count keeps agrees going end counted ended =
     let trace = going.trace in
-    let line : last_text (End count frames) ≡ last_text (End (length trace) (frame_count trace)) = ap₂ (λ x y. last_text (End x y)) (counted ∙ going.stands.counted) going.frames_are in
+    let all : Given (outputs_of head trace ++ end_outputs count frames) a.sinks c.sinks = given_after _ _ a.sinks b.sinks c.sinks going.so_far.given ended.given in
+    let line : last_text (End count frames) ++ [] ≡ last_text (End (length trace) (frame_count trace)) =
+    append-nil _ ∙ ap₂ (λ x y. last_text (End x y)) (counted ∙ going.stands.counted) going.frames_are in
     record {
       head = head;
       trace = trace;
       lawful = going.so_far.lawful;
-      whole = took_all s s' s'' head trace going.so_far.took end;
-      taken = taken_whole s s' s'' head trace going.so_far.took end;
-      frames_written = subst (λ x. Appends c x (head_octets head ++ frames_octets head.order trace)) (sym kept) (subst (Appends c c') (capture_is head trace) going.so_far.frames_written);
-      report_written = subst (Appends r r'') (ap₂ (λ x y. x ++ y) (report_is trace) line) (Appends-trans r r' r'' _ _ going.so_far.report_written last);
+      whole = took_all a.source.octets b.source.octets c.source.octets head trace going.so_far.took end;
+      taken = taken_whole a.source.octets b.source.octets c.source.octets head trace going.so_far.took end;
+      frames_written = subst (Appends a.sinks.capture.octets c.sinks.capture.octets)
+          (capture_part-append (outputs_of head trace) _ ∙ append-nil _ ∙ capture_is head trace) all.capture;
+      report_written = subst (Appends a.sinks.report.octets c.sinks.report.octets)
+          (report_part-append (outputs_of head trace) _ ∙ ap₂ (λ x y. x ++ y) (report_is head trace) line ∙ append_assoc heading (lines_text (entries trace)) (last_text (End (length trace) (frame_count trace)))) all.report;
       clean_kept = keeps settings head.link trace going.so_far.octets going.so_far.lawful;
       agree = agrees settings head.link trace going.so_far.lawful;
     }
 
--- two facts of what went well give a third
-pub on_both : {T E P Q R : Type 0} (r : Result T E) → (P → Q → R) → OnOk r P → OnOk r Q → OnOk r R
-on_both (Ok x) f p q = f p q
-on_both (Err e) f p q = tt
+-- the end could not be told
+pub stops_at_end : (settings : PlainSettings) (head : Head) (a b c : Moment) (engine : Engaged) (reader : Reading) (frames count offset : ℕ) (stop : Stop)
+    → Going settings head a b engine reader frames → HasEnd b.source.octets c.source.octets → count ≡ engine.records → offset ≡ reader.place
+    → BreaksOff [] (end_outputs count frames) offset stop b.sinks c.sinks
+    → StopsAtEnd settings stop a c
+stops_at_end settings head a b c engine reader frames count offset stop going end counted place broke =
+    let trace = going.trace in
+    let outputs : end_outputs count frames ≡ end_outputs (length trace) (frame_count trace) = ap₂ end_outputs (counted ∙ going.stands.counted) going.frames_are in
+    let stood : offset ≡ offset_of (packets trace) = place ∙ going.place_is in
+    record {
+      head = head;
+      trace = trace;
+      lawful = going.so_far.lawful;
+      whole = took_all a.source.octets b.source.octets c.source.octets head trace going.so_far.took end;
+      taken = taken_whole a.source.octets b.source.octets c.source.octets head trace going.so_far.took end;
+      broke = broke_behind (outputs_of head trace) _ _ stop a.sinks b.sinks c.sinks going.so_far.given
+          (subst (λ o. BreaksOff [] (end_outputs (length trace) (frame_count trace)) o stop b.sinks c.sinks) stood
+          (subst (λ next. BreaksOff [] next offset stop b.sinks c.sinks) outputs broke));
+    }
+
+-- something of what a record puts out failed
+pub stops_at_item : (settings : PlainSettings) (head : Head) (a b c : Moment) (engine : Engaged) (reader : Reading) (frames offset : ℕ) (p : Packet) (stop : Stop)
+    → Going settings head a b engine reader frames
+    → Leaves reader.head.order reader.given b.source.octets c.source.octets p
+    → offset ≡ reader.place
+    → ((history : List Item) → StandsFor engine history → BreaksOff [] (item_outputs head.order (item_of engine.settings engine.link history p)) offset stop b.sinks c.sinks)
+    → StopsAtItem settings stop a c
+stops_at_item settings head a b c engine reader frames offset p stop going left place written =
+    let trace = going.trace in
+    let item = item_of settings head.link trace p in
+    let is : item_of engine.settings engine.link trace p ≡ item = ap₂ (λ x y. item_of x y trace p) going.engine_settings going.engine_link in
+    let broke : BreaksOff [] (item_outputs head.order item) offset stop b.sinks c.sinks =
+    subst (λ (i : Item). BreaksOff [] (item_outputs head.order i) offset stop b.sinks c.sinks) is (written trace going.stands) in
+    let stood : offset ≡ offset_of (packets trace) = place ∙ going.place_is in
+    record {
+      head = head;
+      item = item;
+      older = trace;
+      lawful = (going.so_far.lawful, refl);
+      took = took_more a.source.octets b.source.octets c.source.octets head trace item reader.head.order reader.given (ap (λ (h : Head). h.order) going.reader_head) going.given_is going.so_far.took left;
+      broke = broke_behind (outputs_of head trace) _ _ stop a.sinks b.sinks c.sinks going.so_far.given
+          (subst (λ o. BreaksOff [] (item_outputs head.order item) o stop b.sinks c.sinks) stood broke);
+    }
+
+-- a record could not be read
+pub stops_at_record : (settings : PlainSettings) (head : Head) (a b c : Moment) (engine : Engaged) (reader reader' : Reading) (frames : ℕ)
+    (InRecord : Order → ℕ → Option (List ℕ) → Option (List ℕ) → Type 0)
+    → Going settings head a b engine reader frames → reader'.asked ≡ reader.place
+    → InRecord reader.head.order reader.given b.source.octets c.source.octets
+    → c.sinks ≡ b.sinks
+    → StopsAtRecord settings InRecord reader'.asked a c
+stops_at_record settings head a b c engine reader reader' frames InRecord going place found same = record {
+  head = head;
+  trace = going.trace;
+  lawful = going.so_far.lawful;
+  left = b.source.octets;
+  took = going.so_far.took;
+  found = subst (λ k. InRecord head.order k b.source.octets c.source.octets) going.given_is
+      (subst (λ (h : Head). InRecord h.order reader.given b.source.octets c.source.octets) going.reader_head found);
+  place = place ∙ going.place_is;
+  given = subst (Given (outputs_of head going.trace) a.sinks) (sym same) going.so_far.given;
+}
+
+-- what an error says, where it says something else
+pub if_err_weaker : {T E : Type 0} {P Q : E → Type 0} (r : Result T E) → ((e : E) → P e → Q e) → IfErr r P → IfErr r Q
+if_err_weaker (Ok x) f p = tt
+if_err_weaker (Err e) f p = f e p

@@ -1,131 +1,146 @@
 -- Which status a stop is answered by, and what that says.
-use Rattle.std.proofs.Common.{◌≡◌, ℕ, ◌≤◌, true, false, List, Option, Some, Ok, refl, ap, ◌∙◌, arith, ◌⊎◌, inl, inr}
+use Rattle.std.proofs.Common.{◌≡◌, ◌==◌, ℕ, ◌≤◌, Bool, true, false, List, length, Option, Some, None, Err, refl, sym, ap, subst, ◌∙◌, arith, ◌⊎◌, inl, inr}
 use Rattle.edge_io.specs.Faults.{Rose}
 use Rattle.pcap_file.specs.Flaws.{Flaw, cut_short, bad_magic, bad_version, bad_link, too_long, too_many}
+use Rattle.pcap_file.specs.Records.{front_of}
 use Rattle.pcap_file.specs.Capture.{FailsAt}
+use Rattle.pcap_file.specs.ReadsHead.{Begins}
+use Rattle.pcap_file.specs.Reads.{StopsAt, HasFlaw}
 use Rattle.pcap_file.specs.Laws.{FlawIsOne, FlawExcludesEnd}
+use Rattle.rule_book.specs.declared.last.StopKind.TheVariants as kinds
 use Rattle.norm_settings.specs.Settings.{PlainSettings}
+use Rattle.norm_engine.specs.Trace.{packets}
 use Rattle.bridge_run.specs.declared.stop.Stop.{Stop}
 use Rattle.bridge_run.specs.declared.stop.Stop.TheVariants as stops
-use Rattle.bridge_run.specs.Stops.{Counts, Explains, status_of, is_cut, IsFaulty, IsCutShort, IsWhole, WasFaulty, WasCut}
-use Rattle.bridge_run.specs.Run.{Normalized, TookAll}
+use Rattle.bridge_run.specs.Moments.{Moment}
+use Rattle.bridge_run.specs.Stops.{Faulted, FirstFault, status_of, is_cut, HasFlawAt, IsFaulty, IsCutShort, IsWhole, WasFaulty, WasCut}
+use Rattle.bridge_run.specs.Run.{Took, Normalized, TookAll}
+use Rattle.bridge_run.specs.Stopped.{Flawed, StopsAtRecord, Stands}
+use Rattle.bridge_run.proofs.Running.{length-packets}
 
--- what the status says
+-- what a stop says of the octets that the source had left
 
-pub faulty_of : (stop : Stop) (source : Option (List ℕ)) (a b : Counts) → Explains stop source a b → status_of stop ≡ 3 → WasFaulty source
-faulty_of stops.Magic source a b e s = (bad_magic, 0, refl, e)
-faulty_of stops.Version source a b e s = (bad_version, 0, refl, e)
-faulty_of stops.Link source a b e s = (bad_link, 0, refl, e)
-faulty_of (stops.Long offset) source a b e s = (too_long, offset, refl, e)
-faulty_of (stops.Many offset) source a b e s = (too_many, offset, refl, e)
-faulty_of (stops.Cut offset) source a b e s = absurd (omega arith)
-faulty_of (stops.Read offset) source a b e s = absurd (omega arith)
-faulty_of (stops.Capture offset) source a b e s = absurd (omega arith)
-faulty_of stops.Report source a b e s = absurd (omega arith)
+at_head : (flaw : Flaw) (offset : ℕ) (old new : Option (List ℕ)) → Begins old new (Err flaw) → offset ≡ 0 → HasFlawAt old flaw offset
+at_head flaw offset None new found place = tt
+at_head flaw offset (Some x) None found place = absurd found
+at_head flaw offset (Some x) (Some y) found place = inl (found.0, place)
 
-pub cut_of : (stop : Stop) (source : Option (List ℕ)) (a b : Counts) → Explains stop source a b → status_of stop ≡ 4 → WasCut source
-cut_of (stops.Cut offset) source a b e s = (offset, e)
-cut_of stops.Magic source a b e s = absurd (omega arith)
-cut_of stops.Version source a b e s = absurd (omega arith)
-cut_of stops.Link source a b e s = absurd (omega arith)
-cut_of (stops.Long offset) source a b e s = absurd (omega arith)
-cut_of (stops.Many offset) source a b e s = absurd (omega arith)
-cut_of (stops.Read offset) source a b e s = absurd (omega arith)
-cut_of (stops.Capture offset) source a b e s = absurd (omega arith)
-cut_of stops.Report source a b e s = absurd (omega arith)
+at_record : (settings : PlainSettings) (flaw : Flaw) (offset : ℕ) (old left : Option (List ℕ)) (a b : Moment) → (p : StopsAtRecord settings (λ order count old new. StopsAt order count old new flaw) offset a b)
+    → a.source.octets ≡ old → p.left ≡ left → HasFlawAt old flaw offset
+at_record settings flaw offset None left a b p told is = tt
+at_record settings flaw offset (Some x) None a b p told is = absurd (subst (λ l. Took l None p.head p.trace) told (subst (λ l. Took a.source.octets l p.head p.trace) is p.took))
+at_record settings flaw offset (Some x) (Some y) a b p told is =
+    let took : Took (Some x) (Some y) p.head p.trace = subst (λ l. Took l (Some y) p.head p.trace) told (subst (λ l. Took a.source.octets l p.head p.trace) is p.took) in
+    let found : HasFlaw p.head.order (length p.trace) (Some y) flaw = subst (λ l. HasFlaw p.head.order (length p.trace) l flaw) is p.found.flawed in
+    inr (record {
+      head = p.head;
+      packets = packets p.trace;
+      rest = y;
+      accepted = took.0;
+      reads = took.1;
+      flawed = subst (λ k. front_of p.head.order k y ≡ Err flaw) (sym (length-packets p.trace)) found;
+      place = p.place;
+    })
 
-pub read_of : (stop : Stop) (source : Option (List ℕ)) (a b : Counts) → Explains stop source a b → status_of stop ≡ 5 → Rose a.source b.source
-read_of (stops.Read offset) source a b e s = e
-read_of stops.Magic source a b e s = absurd (omega arith)
-read_of stops.Version source a b e s = absurd (omega arith)
-read_of stops.Link source a b e s = absurd (omega arith)
-read_of (stops.Long offset) source a b e s = absurd (omega arith)
-read_of (stops.Many offset) source a b e s = absurd (omega arith)
-read_of (stops.Cut offset) source a b e s = absurd (omega arith)
-read_of (stops.Capture offset) source a b e s = absurd (omega arith)
-read_of stops.Report source a b e s = absurd (omega arith)
+flawed_at : (settings : PlainSettings) (flaw : Flaw) (offset : ℕ) (a b : Moment) → Flawed settings flaw offset a b → HasFlawAt a.source.octets flaw offset
+flawed_at settings flaw offset a b (inl p) = at_head flaw offset a.source.octets b.source.octets p.found p.place
+flawed_at settings flaw offset a b (inr p) = at_record settings flaw offset a.source.octets p.left a b p refl refl
 
-pub capture_of : (stop : Stop) (source : Option (List ℕ)) (a b : Counts) → Explains stop source a b → status_of stop ≡ 6 → Rose a.capture b.capture
-capture_of (stops.Capture offset) source a b e s = e
-capture_of stops.Magic source a b e s = absurd (omega arith)
-capture_of stops.Version source a b e s = absurd (omega arith)
-capture_of stops.Link source a b e s = absurd (omega arith)
-capture_of (stops.Long offset) source a b e s = absurd (omega arith)
-capture_of (stops.Many offset) source a b e s = absurd (omega arith)
-capture_of (stops.Cut offset) source a b e s = absurd (omega arith)
-capture_of (stops.Read offset) source a b e s = absurd (omega arith)
-capture_of stops.Report source a b e s = absurd (omega arith)
+-- this flaw is the first, and answered by this status
+record HasFlawOf (source : Option (List ℕ)) (status : ℕ) : Type 0 where
+  flaw : Flaw
+  offset : ℕ
+  first : HasFlawAt source flaw offset
+  answered : status ≡ (elim (is_cut flaw) [ true ↦ 4 | false ↦ 3 ])
 
-pub report_of : (stop : Stop) (source : Option (List ℕ)) (a b : Counts) → Explains stop source a b → status_of stop ≡ 7 → Rose a.report b.report
-report_of stops.Report source a b e s = e
-report_of stops.Magic source a b e s = absurd (omega arith)
-report_of stops.Version source a b e s = absurd (omega arith)
-report_of stops.Link source a b e s = absurd (omega arith)
-report_of (stops.Long offset) source a b e s = absurd (omega arith)
-report_of (stops.Many offset) source a b e s = absurd (omega arith)
-report_of (stops.Cut offset) source a b e s = absurd (omega arith)
-report_of (stops.Read offset) source a b e s = absurd (omega arith)
-report_of (stops.Capture offset) source a b e s = absurd (omega arith)
+-- a stop is one at a flaw, or a fault, and none is at opening
+sorts : (settings : PlainSettings) (stop : Stop) (a b : Moment) → Stands settings stop a b → HasFlawOf a.source.octets (status_of stop) ⊎ ((5 ≤ status_of stop) × (status_of stop ≤ 7))
+sorts settings (stops.At kinds.Magic offset) a b p = inl (record { flaw = bad_magic; offset = offset; first = flawed_at settings bad_magic offset a b p; answered = refl })
+sorts settings (stops.At kinds.Version offset) a b p = inl (record { flaw = bad_version; offset = offset; first = flawed_at settings bad_version offset a b p; answered = refl })
+sorts settings (stops.At kinds.Link offset) a b p = inl (record { flaw = bad_link; offset = offset; first = flawed_at settings bad_link offset a b p; answered = refl })
+sorts settings (stops.At kinds.Long offset) a b p = inl (record { flaw = too_long; offset = offset; first = flawed_at settings too_long offset a b p; answered = refl })
+sorts settings (stops.At kinds.Many offset) a b p = inl (record { flaw = too_many; offset = offset; first = flawed_at settings too_many offset a b p; answered = refl })
+sorts settings (stops.At kinds.Cut offset) a b p = inl (record { flaw = cut_short; offset = offset; first = flawed_at settings cut_short offset a b p; answered = refl })
+sorts settings (stops.At kinds.ReadFault offset) a b p = inr (omega arith, omega arith)
+sorts settings (stops.At kinds.Capture offset) a b p = inr (omega arith, omega arith)
+sorts settings (stops.At kinds.Memory offset) a b p = absurd p
+sorts settings stops.Report a b p = inr (omega arith, omega arith)
 
-pub known_of : (stop : Stop) → (3 ≤ status_of stop) × (status_of stop ≤ 7)
-known_of stops.Magic = (omega arith, omega arith)
-known_of stops.Version = (omega arith, omega arith)
-known_of stops.Link = (omega arith, omega arith)
-known_of (stops.Long offset) = (omega arith, omega arith)
-known_of (stops.Many offset) = (omega arith, omega arith)
-known_of (stops.Cut offset) = (omega arith, omega arith)
-known_of (stops.Read offset) = (omega arith, omega arith)
-known_of (stops.Capture offset) = (omega arith, omega arith)
-known_of stops.Report = (omega arith, omega arith)
+is_3 : (c : Bool) (status : ℕ) → status ≡ (elim c [ true ↦ 4 | false ↦ 3 ]) → status ≡ 3 → c ≡ false
+is_3 true status e f = absurd (omega arith)
+is_3 false status e f = refl
 
--- what a stop says of octets that the source tells
+is_4 : (flaw : Flaw) (status : ℕ) → status ≡ (elim (is_cut flaw) [ true ↦ 4 | false ↦ 3 ]) → status ≡ 4 → flaw ≡ cut_short
+is_4 cut_short status e f = refl
+is_4 bad_magic status e f = absurd (omega arith)
+is_4 bad_version status e f = absurd (omega arith)
+is_4 bad_link status e f = absurd (omega arith)
+is_4 too_long status e f = absurd (omega arith)
+is_4 too_many status e f = absurd (omega arith)
 
--- a stop that is the first flaw of the octets, answered by this status
-pub record Flawed (octets : List ℕ) (status : ℕ) : Type 0 where
-  pub flaw : Flaw
-  pub offset : ℕ
-  pub first : FailsAt octets flaw offset
-  pub answered : status ≡ (elim (is_cut flaw) [ true ↦ 4 | false ↦ 3 ])
+between : (c : Bool) (status : ℕ) → status ≡ (elim c [ true ↦ 4 | false ↦ 3 ]) → (3 ≤ status) × (status ≤ 4)
+between true status e = (omega arith, omega arith)
+between false status e = (omega arith, omega arith)
 
-pub sorts : (stop : Stop) (octets : List ℕ) (a b : Counts) → Explains stop (Some octets) a b
-    → Flawed octets (status_of stop) ⊎ (5 ≤ status_of stop)
-sorts stops.Magic octets a b e = inl (record { flaw = bad_magic; offset = 0; first = e; answered = refl })
-sorts stops.Version octets a b e = inl (record { flaw = bad_version; offset = 0; first = e; answered = refl })
-sorts stops.Link octets a b e = inl (record { flaw = bad_link; offset = 0; first = e; answered = refl })
-sorts (stops.Long offset) octets a b e = inl (record { flaw = too_long; offset = offset; first = e; answered = refl })
-sorts (stops.Many offset) octets a b e = inl (record { flaw = too_many; offset = offset; first = e; answered = refl })
-sorts (stops.Cut offset) octets a b e = inl (record { flaw = cut_short; offset = offset; first = e; answered = refl })
-sorts (stops.Read offset) octets a b e = inr (omega arith)
-sorts (stops.Capture offset) octets a b e = inr (omega arith)
-sorts stops.Report octets a b e = inr (omega arith)
+pub faulty_of : (settings : PlainSettings) (stop : Stop) (a b : Moment) → Stands settings stop a b → status_of stop ≡ 3 → WasFaulty a.source.octets
+faulty_of settings stop a b p s =
+    elim (sorts settings stop a b p) [
+      | inl q ↦ (q.flaw, q.offset, is_3 (is_cut q.flaw) (status_of stop) q.answered s, q.first)
+      | inr q ↦ absurd (let least = q.0 in omega (arith, least, s))
+    ]
+
+pub cut_of : (settings : PlainSettings) (stop : Stop) (a b : Moment) → Stands settings stop a b → status_of stop ≡ 4 → WasCut a.source.octets
+cut_of settings stop a b p s =
+    elim (sorts settings stop a b p) [
+      | inl q ↦ (q.offset, subst (λ (f : Flaw). HasFlawAt a.source.octets f q.offset) (is_4 q.flaw (status_of stop) q.answered s) q.first)
+      | inr q ↦ absurd (let least = q.0 in omega (arith, least, s))
+    ]
+
+-- the count that a status names rose
+
+pub read_of : (stop : Stop) (a b : Moment) → FirstFault stop a b → status_of stop ≡ 5 → Rose a.source.faults b.source.faults
+read_of stop a b p s = subst (λ n. Faulted (n == 5) a.source b.source) s p.source
+
+pub capture_of : (stop : Stop) (a b : Moment) → FirstFault stop a b → status_of stop ≡ 6 → Rose a.sinks.capture.faults b.sinks.capture.faults
+capture_of stop a b p s = subst (λ n. Faulted (n == 6) a.sinks.capture b.sinks.capture) s p.sinks.capture
+
+pub report_of : (stop : Stop) (a b : Moment) → FirstFault stop a b → status_of stop ≡ 7 → Rose a.sinks.report.faults b.sinks.report.faults
+report_of stop a b p s = subst (λ n. Faulted (n == 7) a.sinks.report b.sinks.report) s p.sinks.report
+
+pub known_of : (settings : PlainSettings) (stop : Stop) (a b : Moment) → Stands settings stop a b → (3 ≤ status_of stop) × (status_of stop ≤ 7)
+known_of settings stop a b p =
+    elim (sorts settings stop a b p) [
+      | inl q ↦ let here = between (is_cut q.flaw) (status_of stop) q.answered in (here.0, (let most = here.1 in omega (arith, most)))
+      | inr q ↦ ((let least = q.0 in omega (arith, least)), q.1)
+    ]
 
 -- the source told these octets
-here : (source : Option (List ℕ)) (octets : List ℕ) (stop : Stop) (a b : Counts) → source ≡ Some octets → Explains stop source a b → Explains stop (Some octets) a b
-here source octets stop a b told e = rw told at e
+here : (source : Option (List ℕ)) (octets : List ℕ) (flaw : Flaw) (offset : ℕ) → source ≡ Some octets → HasFlawAt source flaw offset → FailsAt octets flaw offset
+here source octets flaw offset told first = subst (λ s. HasFlawAt s flaw offset) told first
 
-pub faulty_is_3 : FlawIsOne → (stop : Stop) (source : Option (List ℕ)) (a b : Counts) → Explains stop source a b → IsFaulty source → (status_of stop ≡ 3) ⊎ (5 ≤ status_of stop)
-faulty_is_3 one stop source a b e f =
-    elim (sorts stop f.octets a b (here source f.octets stop a b f.told e)) [
-      | inl flawed ↦
-          let same : flawed.flaw ≡ f.flaw = (one f.octets flawed.flaw f.flaw flawed.offset f.offset flawed.first f.flawed).0 in
-          inl (flawed.answered ∙ ap (λ c. elim c [ true ↦ 4 | false ↦ 3 ]) (ap is_cut same ∙ f.other))
-      | inr outside ↦ inr outside
+pub faulty_is_3 : FlawIsOne → (settings : PlainSettings) (stop : Stop) (a b : Moment) → Stands settings stop a b → IsFaulty a.source.octets → (status_of stop ≡ 3) ⊎ (5 ≤ status_of stop)
+faulty_is_3 one settings stop a b p f =
+    elim (sorts settings stop a b p) [
+      | inl q ↦
+          let same : q.flaw ≡ f.flaw = (one f.octets q.flaw f.flaw q.offset f.offset (here _ f.octets q.flaw q.offset f.told q.first) f.flawed).0 in
+          inl (q.answered ∙ ap (λ c. elim c [ true ↦ 4 | false ↦ 3 ]) (ap is_cut same ∙ f.other))
+      | inr outside ↦ inr outside.0
     ]
 
-pub cut_is_4 : FlawIsOne → (stop : Stop) (source : Option (List ℕ)) (a b : Counts) → Explains stop source a b → IsCutShort source → (status_of stop ≡ 4) ⊎ (5 ≤ status_of stop)
-cut_is_4 one stop source a b e f =
-    elim (sorts stop f.octets a b (here source f.octets stop a b f.told e)) [
-      | inl flawed ↦
-          let same : flawed.flaw ≡ cut_short = (one f.octets flawed.flaw cut_short flawed.offset f.offset flawed.first f.flawed).0 in
-          inl (flawed.answered ∙ ap (λ c. elim c [ true ↦ 4 | false ↦ 3 ]) (ap is_cut same))
-      | inr outside ↦ inr outside
+pub cut_is_4 : FlawIsOne → (settings : PlainSettings) (stop : Stop) (a b : Moment) → Stands settings stop a b → IsCutShort a.source.octets → (status_of stop ≡ 4) ⊎ (5 ≤ status_of stop)
+cut_is_4 one settings stop a b p f =
+    elim (sorts settings stop a b p) [
+      | inl q ↦
+          let same : q.flaw ≡ cut_short = (one f.octets q.flaw cut_short q.offset f.offset (here _ f.octets q.flaw q.offset f.told q.first) f.flawed).0 in
+          inl (q.answered ∙ ap (λ c. elim c [ true ↦ 4 | false ↦ 3 ]) (ap is_cut same))
+      | inr outside ↦ inr outside.0
     ]
 
-pub whole_goes_on : FlawExcludesEnd → (stop : Stop) (source : Option (List ℕ)) (a b : Counts) → Explains stop source a b → IsWhole source → 5 ≤ status_of stop
-whole_goes_on none stop source a b e f =
-    elim (sorts stop f.octets a b (here source f.octets stop a b f.told e)) [
-      | inl flawed ↦ absurd (none f.octets f.head f.packets flawed.flaw flawed.offset f.capture flawed.first)
-      | inr outside ↦ outside
+pub whole_goes_on : FlawExcludesEnd → (settings : PlainSettings) (stop : Stop) (a b : Moment) → Stands settings stop a b → IsWhole a.source.octets → 5 ≤ status_of stop
+whole_goes_on none settings stop a b p f =
+    elim (sorts settings stop a b p) [
+      | inl q ↦ absurd (none f.octets f.head f.packets q.flaw q.offset f.capture (here _ f.octets q.flaw q.offset f.told q.first))
+      | inr outside ↦ outside.0
     ]
 
 -- a finished run excludes flaws

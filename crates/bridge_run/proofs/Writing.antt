@@ -1,11 +1,19 @@
 -- Frames that are written one after another.
-use Rattle.std.proofs.Common.{◌≡◌, ◌+◌, ℕ, suc, List, [], ◌∷◌, ◌++◌, take, slice_get, Some, ap, ◌∙◌, add-one, append-nil}
-use Rattle.std.specs.List.{flat_map}
+use Rattle.std.proofs.Common.{◌≡◌, ◌+◌, ℕ, ◌<◌, Bool, true, List, [], ◌∷◌, ◌++◌, length, take, drop, take-append-drop, slice_get, Option, Some, Result, Ok, Err, OnErr, refl, sym, ap, subst, ◌∙◌, arith, add-one, append-nil}
 use Rattle.std.proofs.Math.Seq.{take-suc}
 use Rattle.std.proofs.lemmas.Grind.{flat_map-append}
 use Rattle.std.proofs.lemmas.Option.{slice_get_within, get_or_from_slice_get}
+use Rattle.std.proofs.lemmas.List.{length-append}
+use Rattle.std.specs.Result.{is_err}
+use Rattle.std.specs.Io.KnownBytes.{Appends}
+use Rattle.edge_io.specs.Octets.{AppendsPart}
+use Rattle.edge_io.proofs.Parts.{part_of_first, part_behind}
+use Rattle.wire_base.specs.declared.address.Link.{Link}
+use Rattle.pcap_file.specs.declared.head.Head.{Head}
 use Rattle.pcap_file.specs.declared.order.Order.{Order}
-use Rattle.pcap_file.specs.Records.{Packet, record_octets}
+use Rattle.pcap_file.specs.declared.order.Order.TheVariants.{Little, Big}
+use Rattle.pcap_file.specs.Heads.{head_octets}
+use Rattle.pcap_file.specs.Records.{Packet, record_head, record_octets}
 use Rattle.bridge_run.specs.Frames.{frame_octets}
 
 -- the records of one frame more
@@ -17,3 +25,47 @@ one_more order r frames i frame here =
     ∙ ap (frame_octets order r) (take-suc frames i [] (slice_get_within frames i frame here) ∙ ap (λ f. take i frames ++ f ∷ []) (get_or_from_slice_get frames i frame [] here))
     ∙ flat_map-append octets (take i frames) (frame ∷ [])
     ∙ ap (λ xs. frame_octets order r (take i frames) ++ xs) (append-nil (octets frame))
+
+-- the frames before one, and a prefix of its record
+pub part_of_frames : (order : Order) (r : Packet) (frames : List (List ℕ)) (i : ℕ) (frame : List ℕ) (a b c : Option (List ℕ)) → slice_get frames i ≡ Some frame
+    → Appends a b (frame_octets order r (take i frames)) → AppendsPart b c (record_octets order r.seconds r.fraction frame) → AppendsPart a c (frame_octets order r frames)
+part_of_frames order r frames i frame a b c here before part =
+    let octets = λ (frame : List ℕ). record_octets order r.seconds r.fraction frame in
+    let rest = frame_octets order r (drop (i + 1) frames) in
+    let whole : frame_octets order r frames ≡ (frame_octets order r (take i frames) ++ record_octets order r.seconds r.fraction frame) ++ rest =
+    ap (frame_octets order r) (sym (take-append-drop (i + 1) frames))
+    ∙ flat_map-append octets (take (i + 1) frames) (drop (i + 1) frames)
+    ∙ ap (λ l. l ++ rest) (one_more order r frames i frame here) in
+    subst (AppendsPart a c) (sym whole)
+    (part_of_first a c (frame_octets order r (take i frames) ++ record_octets order r.seconds r.fraction frame) rest
+    (part_behind a b c (frame_octets order r (take i frames)) (record_octets order r.seconds r.fraction frame) before part))
+
+-- some octets are written for a head
+head_size : (order : Order) (nano : Bool) (link : Link) → length (head_octets (record { order = order; nano = nano; link = link })) ≡ 24
+unfolding head_octets
+head_size Little nano link = refl
+head_size Big nano link = refl
+
+pub head_some : (head : Head) → 0 < length (head_octets head)
+head_some head = omega (arith, head_size head.order head.nano head.link)
+
+-- some octets are written for a frame
+front_size : (order : Order) (seconds fraction size : ℕ) → length (record_head order seconds fraction size) ≡ 16
+unfolding record_head
+front_size Little seconds fraction size = refl
+front_size Big seconds fraction size = refl
+
+record_some : (order : Order) (seconds fraction : ℕ) (frame : List ℕ) → 0 < length (record_octets order seconds fraction frame)
+record_some order seconds fraction frame =
+    omega (arith, front_size order seconds fraction (length frame), length-append (record_head order seconds fraction (length frame)) frame)
+
+-- some octets are written where there are frames
+pub frames_some : (order : Order) (r : Packet) (frames : List (List ℕ)) → 0 < length frames → 0 < length (frame_octets order r frames)
+frames_some order r [] some = absurd (omega (arith, some))
+frames_some order r (frame ∷ frames) some =
+    omega (arith, record_some order r.seconds r.fraction frame, length-append (record_octets order r.seconds r.fraction frame) (frame_octets order r frames))
+
+-- what a fault says
+pub if_failed : {T E : Type 0} (result : Result T E) (P : Type 0) → true ≡ is_err result → OnErr result P → P
+if_failed (Ok v) P failed p = absurd cc
+if_failed (Err e) P failed p = p

@@ -1,5 +1,5 @@
 -- What stands in the course of a run, and at its end. Where an object does not tell its octets nothing is claimed of them.
-use Rattle.std.specs.Prelude.{◌≡◌, ℕ, ◌≤◌, List, [], ◌∷◌, ◌++◌, length, drop, Option, Some, None, Ok, Err}
+use Rattle.std.specs.Prelude.{◌≡◌, ℕ, ◌≤◌, List, [], ◌++◌, length, drop, Option, Some, None, Ok, Err}
 use Rattle.std.specs.Io.KnownBytes.{Appends}
 use Rattle.pcap_file.specs.declared.head.Head.{Head}
 use Rattle.pcap_file.specs.declared.order.Order.{Order}
@@ -7,7 +7,7 @@ use Rattle.pcap_file.specs.Heads.{head_of, head_octets}
 use Rattle.pcap_file.specs.Reading.{Reading}
 use Rattle.pcap_file.specs.Capture.{IsCapture, ReadsTo, offset_of}
 use Rattle.rule_book.specs.declared.last.Last.TheVariants.{End}
-use Rattle.rule_book.specs.Text.{first_line, entry_text, report_text}
+use Rattle.rule_book.specs.Text.{report_text}
 use Rattle.norm_settings.specs.declared.fault.WordFault.{WordFault}
 use Rattle.norm_settings.specs.Settings.{PlainSettings}
 use Rattle.norm_settings.specs.Faults.{number_of}
@@ -16,7 +16,9 @@ use Rattle.norm_engine.specs.Trace.{Item, Lawful, packets, entries}
 use Rattle.norm_engine.specs.Clean.{CleanIsKept, HaveOctets}
 use Rattle.norm_engine.specs.Agreement.{Agree}
 use Rattle.norm_engine.specs.Engine.{Engaged, StandsFor}
-use Rattle.bridge_run.specs.Frames.{frames_octets, item_octets, frame_count}
+use Rattle.bridge_run.specs.Frames.{frames_octets, frame_count}
+use Rattle.bridge_run.specs.Moments.{Moment, Sinks, NoneRose, NoSinkRose}
+use Rattle.bridge_run.specs.Outputs.{Given, outputs_of, item_outputs, end_outputs}
 use Rattle.bridge_run.specs.Stops.{Told, words_line}
 
 -- Where the source tells its octets, those that it had left are a capture with this head, read to its end as the trace's records.
@@ -43,7 +45,7 @@ pub record Normalized (settings : PlainSettings) (source source' capture capture
   pub whole : TookAll source head trace
   pub taken : TakenWhole source source'
   pub frames_written : Appends capture capture' (head_octets head ++ frames_octets head.order trace)
-  pub report_written : Appends report report' (report_text (entries trace) (End (length trace) (frame_count trace)))
+  pub report_written : Appends report report' (report_text 2 (entries trace) (End (length trace) (frame_count trace)))
   pub clean_kept : CleanIsKept settings head.link trace
   pub agree : Agree settings.hops head.link trace
 
@@ -61,34 +63,24 @@ IsAccepted words = (settings : PlainSettings) × AsksRun words settings
 abbrev pub IsRefused : List (List ℕ) → Type 0
 IsRefused words = (fault : WordFault) × (asked words ≡ Err fault)
 
--- the octets of the written capture so far: the head, and the records of the frames
-abbrev pub capture_of : Head → List Item → List ℕ
-capture_of head [] = head_octets head
-capture_of head (item ∷ older) = capture_of head older ++ item_octets head.order item
-
--- the octets of the report so far: the first line, and a line for each item
-abbrev pub report_of : List Item → List ℕ
-report_of [] = first_line
-report_of (item ∷ older) = report_of older ++ entry_text item.entry
-
 -- Where the source tells its octets, they begin with this head and the trace's records, and the rest is left.
 abbrev pub Took : Option (List ℕ) → Option (List ℕ) → Head → List Item → Type 0
 Took None source' head trace = Unit {0}
 Took (Some octets) None head trace = ⊥
 Took (Some octets) (Some rest) head trace = (head_of octets ≡ Ok head) × ReadsTo head.order (drop 24 octets) (packets trace) rest
 
--- so far: a lawful trace of the records that were taken, whose frames and lines were written
-pub record SoFar (settings : PlainSettings) (head : Head) (source source' capture capture' report report' : Option (List ℕ)) (trace : List Item) : Type 0 where
+-- so far: a lawful trace of the records that were taken, whose frames and lines were written, and nothing failed
+pub record SoFar (settings : PlainSettings) (head : Head) (before now : Moment) (trace : List Item) : Type 0 where
   pub lawful : Lawful settings head.link trace
   pub octets : HaveOctets trace
-  pub took : Took source source' head trace
-  pub frames_written : Appends capture capture' (capture_of head trace)
-  pub report_written : Appends report report' (report_of trace)
+  pub took : Took before.source.octets now.source.octets head trace
+  pub given : Given (outputs_of head trace) before.sinks now.sinks
+  pub none_rose : NoneRose before now
 
 -- the same of some trace, which the engine stands for, with the reader behind its records and so many frames written
-pub record Going (settings : PlainSettings) (head : Head) (source source' capture capture' report report' : Option (List ℕ)) (engine : Engaged) (reader : Reading) (frames : ℕ) : Type 0 where
+pub record Going (settings : PlainSettings) (head : Head) (before now : Moment) (engine : Engaged) (reader : Reading) (frames : ℕ) : Type 0 where
   pub trace : List Item
-  pub so_far : SoFar settings head source source' capture capture' report report' trace
+  pub so_far : SoFar settings head before now trace
   pub stands : StandsFor engine trace
   pub engine_settings : engine.settings ≡ settings
   pub engine_link : engine.link ≡ head.link
@@ -99,16 +91,21 @@ pub record Going (settings : PlainSettings) (head : Head) (source source' captur
   pub few : frames ≤ reader.given
 
 -- The first line and the head were written, and the head was read.
-pub record Begun (head : Head) (source source' capture capture' report report' : Option (List ℕ)) : Type 0 where
-  pub took : Took source source' head []
-  pub frames_written : Appends capture capture' (head_octets head)
-  pub report_written : Appends report report' first_line
+pub record Begun (head : Head) (before now : Moment) : Type 0 where
+  pub took : Took before.source.octets now.source.octets head []
+  pub given : Given (outputs_of head []) before.sinks now.sinks
+  pub none_rose : NoneRose before now
 
 -- an item's frames and line were written, and there are so many frames
-pub record Relayed (order : Order) (item : Item) (capture capture' report report' : Option (List ℕ)) (frames : ℕ) : Type 0 where
+pub record Relayed (order : Order) (item : Item) (before now : Sinks) (frames : ℕ) : Type 0 where
   pub frames_are : frames ≡ item.entry.packets
-  pub frames_written : Appends capture capture' (item_octets order item)
-  pub report_written : Appends report report' (entry_text item.entry)
+  pub given : Given (item_outputs order item) before now
+  pub none_rose : NoSinkRose before now
+
+-- the last line was written
+pub record Ended (records frames : ℕ) (before now : Sinks) : Type 0 where
+  pub given : Given (end_outputs records frames) before now
+  pub none_rose : NoSinkRose before now
 
 -- what the run answers where the words are refused: their fault, in one line of the report
 pub record Refused (words : List (List ℕ)) (report report' : Option (List ℕ)) (before now : ℕ) : Type 0 where

@@ -1,5 +1,5 @@
 -- Why a run stops before it has finished, what its status then says, and the lines that say so (this project's profile).
-use Rattle.std.specs.Prelude.{◌≡◌, ℕ, ◌+◌, ◌≤◌, ◌⊎◌, Bool, true, false, List, ◌∷◌, [], ◌++◌, codes, Option, Some, None, Ok}
+use Rattle.std.specs.Prelude.{◌≡◌, ℕ, ◌+◌, ◌==◌, ◌⊎◌, Bool, true, false, List, ◌∷◌, [], ◌++◌, codes, Option, Some, None}
 use Rattle.std.specs.Io.KnownBytes.{Appends}
 use Rattle.edge_io.specs.Faults.{Rose}
 use Rattle.edge_io.specs.Octets.{AppendsPart}
@@ -12,75 +12,63 @@ use Rattle.pcap_file.specs.Flaws.{Flaw, cut_short, bad_magic, bad_version, bad_l
 use Rattle.pcap_file.specs.Records.{Packet}
 use Rattle.pcap_file.specs.Capture.{FailsAt, IsCapture}
 use Rattle.rule_book.specs.declared.last.Last.TheVariants as last
+use Rattle.rule_book.specs.declared.last.StopKind.{StopKind}
 use Rattle.rule_book.specs.declared.last.StopKind.TheVariants as kinds
 use Rattle.rule_book.specs.Text.{last_text}
 use Rattle.bridge_run.specs.declared.stop.Stop.{Stop}
 use Rattle.bridge_run.specs.declared.stop.Stop.TheVariants as stops
+use Rattle.bridge_run.specs.Moments.{Seen, Sinks, Moment}
 
--- the counts of faults of the source, the capture sink and the report sink
-pub record Counts : Type 0 where
-  pub source : ℕ
-  pub capture : ℕ
-  pub report : ℕ
+-- the status that a stop is answered by
+abbrev pub kind_status : StopKind → ℕ
+kind_status kinds.Magic = 3
+kind_status kinds.Version = 3
+kind_status kinds.Link = 3
+kind_status kinds.Long = 3
+kind_status kinds.Many = 3
+kind_status kinds.Cut = 4
+kind_status kinds.ReadFault = 5
+kind_status kinds.Capture = 6
+kind_status kinds.Memory = 8
 
-abbrev pub counts : (source capture report : ℕ) → Counts
-counts source capture report = record { source = source; capture = capture; report = report }
+abbrev pub status_of : Stop → ℕ
+status_of (stops.At kind offset) = kind_status kind
+status_of stops.Report = 7
+
+-- the stop at a head with this fault
+abbrev pub stop_at_head : HeadFault → Stop
+stop_at_head heads.Cut = stops.At kinds.Cut 0
+stop_at_head heads.Magic = stops.At kinds.Magic 0
+stop_at_head heads.Version = stops.At kinds.Version 0
+stop_at_head heads.Link = stops.At kinds.Link 0
+stop_at_head heads.ReadFault = stops.At kinds.ReadFault 0
+
+-- the stop at a record with this fault, which begins at this offset
+abbrev pub stop_at_record : RecordFault → (offset : ℕ) → Stop
+stop_at_record records.Cut offset = stops.At kinds.Cut offset
+stop_at_record records.Long offset = stops.At kinds.Long offset
+stop_at_record records.TooMany offset = stops.At kinds.Many offset
+stop_at_record records.ReadFault offset = stops.At kinds.ReadFault offset
+
+-- an object's count of faults rose, or it is as it was
+abbrev pub Faulted : Bool → (before now : Seen) → Type 0
+Faulted true before now = Rose before.faults now.faults
+Faulted false before now = now.faults ≡ before.faults
+
+-- the first fault of the sinks is the one that the stop is answered by: 6 the capture's, 7 the report's, and otherwise none
+pub record FirstSinkFault (stop : Stop) (before now : Sinks) : Type 0 where
+  pub capture : Faulted (status_of stop == 6) before.capture now.capture
+  pub report : Faulted (status_of stop == 7) before.report now.report
+
+-- the first fault of all is the one that the stop is answered by: 5 the source's
+pub record FirstFault (stop : Stop) (before now : Moment) : Type 0 where
+  pub source : Faulted (status_of stop == 5) before.source now.source
+  pub sinks : FirstSinkFault stop before.sinks now.sinks
 
 -- Where the source tells its octets, this is their first flaw, and its offset.
 abbrev pub HasFlawAt : Option (List ℕ) → Flaw → (offset : ℕ) → Type 0
 HasFlawAt None flaw offset = Unit {0}
 HasFlawAt (Some octets) flaw offset = FailsAt octets flaw offset
-
--- What a stop says: of the octets that the source had left, or of the counts of faults before the run and now.
-abbrev pub Explains : Stop → Option (List ℕ) → (before now : Counts) → Type 0
-Explains stops.Magic source before now = HasFlawAt source bad_magic 0
-Explains stops.Version source before now = HasFlawAt source bad_version 0
-Explains stops.Link source before now = HasFlawAt source bad_link 0
-Explains (stops.Long offset) source before now = HasFlawAt source too_long offset
-Explains (stops.Many offset) source before now = HasFlawAt source too_many offset
-Explains (stops.Cut offset) source before now = HasFlawAt source cut_short offset
-Explains (stops.Read offset) source before now = Rose before.source now.source
-Explains (stops.Capture offset) source before now = Rose before.capture now.capture
-Explains stops.Report source before now = Rose before.report now.report
-
--- no count fell
-pub record NoneFell (before now : Counts) : Type 0 where
-  pub source : before.source ≤ now.source
-  pub capture : before.capture ≤ now.capture
-  pub report : before.report ≤ now.report
-
--- the stop at a head with this fault
-abbrev pub stop_at_head : HeadFault → Stop
-stop_at_head heads.Cut = stops.Cut 0
-stop_at_head heads.Magic = stops.Magic
-stop_at_head heads.Version = stops.Version
-stop_at_head heads.Link = stops.Link
-stop_at_head heads.ReadFault = stops.Read 0
-
--- the stop at a record with this fault, which begins at this offset
-abbrev pub stop_at_record : RecordFault → (offset : ℕ) → Stop
-stop_at_record records.Cut offset = stops.Cut offset
-stop_at_record records.Long offset = stops.Long offset
-stop_at_record records.TooMany offset = stops.Many offset
-stop_at_record records.ReadFault offset = stops.Read offset
-
--- the status that a stop is answered by
-abbrev pub status_of : Stop → ℕ
-status_of stops.Magic = 3
-status_of stops.Version = 3
-status_of stops.Link = 3
-status_of (stops.Long offset) = 3
-status_of (stops.Many offset) = 3
-status_of (stops.Cut offset) = 4
-status_of (stops.Read offset) = 5
-status_of (stops.Capture offset) = 6
-status_of stops.Report = 7
-
--- Only a fault of a sink stops the run here, and its count rose.
-abbrev pub ExplainsSinks : Stop → (capture capture' report report' : ℕ) → Type 0
-ExplainsSinks (stops.Capture offset) capture capture' report report' = Rose capture capture'
-ExplainsSinks stops.Report capture capture' report report' = Rose report report'
-ExplainsSinks _ capture capture' report report' = ⊥
 
 -- whether a flaw is that of octets which end inside the head or a record
 abbrev pub is_cut : Flaw → Bool
@@ -123,6 +111,11 @@ WasCut source = (offset : ℕ) × HasFlawAt source cut_short offset
 abbrev pub WasFaulty : Option (List ℕ) → Type 0
 WasFaulty source = (flaw : Flaw) × (offset : ℕ) × (is_cut flaw ≡ false) × HasFlawAt source flaw offset
 
+-- A sink was at most told to hand on what it keeps back: its octets are as they were, and so is its count where it tells them.
+pub record Kept (before now : Seen) : Type 0 where
+  pub octets : now.octets ≡ before.octets
+  pub faults : (octets : List ℕ) → before.octets ≡ Some octets → now.faults ≡ before.faults
+
 -- A line was given to the report whole, unless the report failed: then a prefix of it was.
 abbrev pub Told : (old new : Option (List ℕ)) → (before now : ℕ) → List ℕ → Type 0
 Told old new before now line = Appends old new line ⊎ (Rose before now × AppendsPart old new line)
@@ -137,12 +130,5 @@ memory_line = last_text (last.Stop kinds.Memory 0)
 
 -- the line that tells why a run stopped; there is none where the report itself failed
 abbrev pub stop_line : Stop → List ℕ
-stop_line stops.Magic = last_text (last.Stop kinds.Magic 0)
-stop_line stops.Version = last_text (last.Stop kinds.Version 0)
-stop_line stops.Link = last_text (last.Stop kinds.Link 0)
-stop_line (stops.Long offset) = last_text (last.Stop kinds.Long offset)
-stop_line (stops.Many offset) = last_text (last.Stop kinds.Many offset)
-stop_line (stops.Cut offset) = last_text (last.Stop kinds.Cut offset)
-stop_line (stops.Read offset) = last_text (last.Stop kinds.ReadFault offset)
-stop_line (stops.Capture offset) = last_text (last.Stop kinds.Capture offset)
+stop_line (stops.At kind offset) = last_text (last.Stop kind offset)
 stop_line stops.Report = []

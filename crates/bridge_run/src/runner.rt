@@ -1,23 +1,28 @@
 //! The run over a whole capture.
-ghost use Rattle.std.specs.Prelude.{◌≡◌, ◌⊎◌, ◌≤◌, ◌<◌, ◌-◌, ◌^◌, List, ℕ, [], ◌∷◌, ◌++◌, length, map, slice_index, string_bytes, vec_len, IfOk, IfErr, OnOk};
+ghost use Rattle.std.specs.Prelude.{◌≡◌, ◌⊎◌, ◌≤◌, ◌<◌, ◌-◌, ◌^◌, List, ℕ, [], ◌∷◌, ◌++◌, length, map, slice_index, string_bytes, vec_len, IfOk, IfErr, OnOk, OnErr};
 ghost use Rattle.std.specs.Io.KnownBytes.{Appends};
 ghost use Rattle.edge_io.specs.Faults.{Rose, HasCause};
 ghost use Rattle.edge_io.specs.Octets.{Puts};
 ghost use Rattle.pcap_file.specs.Reads.{shown};
-ghost use Rattle.rule_book.specs.Entries.{plain};
+ghost use Rattle.rule_book.specs.Entries.{plain, IsOfVersion};
 ghost use Rattle.rule_book.specs.Text.{entry_text, last_text};
 ghost use Rattle.rule_book.specs.declared.last.Last.TheVariants.{End};
 ghost use Rattle.norm_settings.specs.Asked.{asked};
-ghost use Rattle.norm_settings.specs.Settings.{plain_settings, AreInRange};
+ghost use Rattle.norm_settings.specs.Settings.{PlainSettings, plain_settings, AreInRange, AreBuilt};
 ghost use Rattle.norm_engine.specs.Trace.{Item, item_of};
 ghost use Rattle.norm_engine.specs.Clean.{HasOctets};
 ghost use Rattle.norm_engine.specs.Engine.{StandsFor};
 ghost use Rattle.bridge_run.specs.Frames.{frame_octets};
-ghost use Rattle.bridge_run.specs.Stops.{counts};
+ghost use Rattle.bridge_run.specs.Moments.{moment_of, sinks_of};
+ghost use Rattle.bridge_run.specs.Moments as moments;
+ghost use Rattle.bridge_run.specs.Outputs as outputs;
+ghost use Rattle.bridge_run.specs.Stopped as stopped;
 ghost use Rattle.bridge_run.specs.Stops as stops;
 ghost use Rattle.bridge_run.specs.Run as spec;
 
-use crate::stop::{Stop, stop_at_head, stop_at_record, tell_memory, tell_stop, tell_words};
+use crate::stop::{
+    Stop, stop_at_capture, stop_at_head, stop_at_record, tell_memory, tell_stop, tell_words,
+};
 use edge_io::{Failed, NoMemory, Outbox, Sink, Source};
 use norm_engine::Engine;
 use norm_engine::laws::{lawful_agrees, lawful_keeps_clean};
@@ -48,6 +53,18 @@ pub fn run<S: Source, K: Sink, R: Sink>(
     ensures finished { result ≡ 0 → spec.Finished (map string_bytes words.now)
         (S.left source.old) (S.left source.new) (K.held capture.old) (K.held capture.new)
         (R.held report.old) (R.held report.new) }
+
+    // What stands then: what was taken from the source and given to the sinks, by the lawful trace of the finished records.
+    ensures stopped { stopped.Stopped (map string_bytes words.now) result
+        (moment_of (S.left source.old) (S.fault_count source.old) (K.held capture.old) (K.fault_count capture.old)
+        (R.held report.old) (R.fault_count report.old))
+        (moment_of (S.left source.new) (S.fault_count source.new) (K.held capture.new) (K.fault_count capture.new)
+        (R.held report.new) (R.fault_count report.new)) }
+    ensures no_fault { result ≡ 0 → moments.NoneRose
+        (moment_of (S.left source.old) (S.fault_count source.old) (K.held capture.old) (K.fault_count capture.old)
+        (R.held report.old) (R.fault_count report.old))
+        (moment_of (S.left source.new) (S.fault_count source.new) (K.held capture.new) (K.fault_count capture.new)
+        (R.held report.new) (R.fault_count report.new)) }
 
     // Words that are refused are answered by 2, want of memory by 8; then nothing but the report is touched, by one line.
     ensures refused { result ≡ 2 → spec.Refused (map string_bytes words.now)
@@ -97,6 +114,7 @@ pub fn run<S: Source, K: Sink, R: Sink>(
 fn settings_of(alloc: Global, words: &[String]) -> Result<Settings, WordFault>
     ensures asked { IfOk result (λ settings. spec.AsksRun (map string_bytes words.now) (plain_settings settings)) }
     ensures range { IfOk result (λ settings. AreInRange (plain_settings settings)) }
+    ensures built { IfOk result (λ settings. AreBuilt (plain_settings settings)) }
     ensures refused { IfErr result (λ fault.
         (fault ≡ WordFault.NoMemory) ⊎ (asked (map string_bytes words.now) ≡ Err fault)) }
 {
@@ -110,7 +128,7 @@ fn settings_of(alloc: Global, words: &[String]) -> Result<Settings, WordFault>
 }
 
 /// Normalizes a capture under these settings, writes the report, and answers the status as `run` does; 2 is none of them.
-/// Its memory is taken first: the buffer of one record, the outbox and the engine.
+/// They ask for nothing that is not built. The memory of the run is taken first: the buffer of one record, the outbox and the engine.
 pub fn run_capture<S: Source, K: Sink, R: Sink>(
     alloc: Global,
     settings: &Settings,
@@ -118,7 +136,18 @@ pub fn run_capture<S: Source, K: Sink, R: Sink>(
     capture: &mut K,
     report: &mut R,
 ) -> u8
-    requires { AreInRange (plain_settings settings.now) }
+    requires range { AreInRange (plain_settings settings.now) }
+    requires built { AreBuilt (plain_settings settings.now) }
+    ensures stopped { stopped.StoppedUnder (plain_settings settings.now) result
+        (moment_of (S.left source.old) (S.fault_count source.old) (K.held capture.old) (K.fault_count capture.old)
+        (R.held report.old) (R.fault_count report.old))
+        (moment_of (S.left source.new) (S.fault_count source.new) (K.held capture.new) (K.fault_count capture.new)
+        (R.held report.new) (R.fault_count report.new)) }
+    ensures no_fault { result ≡ 0 → moments.NoneRose
+        (moment_of (S.left source.old) (S.fault_count source.old) (K.held capture.old) (K.fault_count capture.old)
+        (R.held report.old) (R.fault_count report.old))
+        (moment_of (S.left source.new) (S.fault_count source.new) (K.held capture.new) (K.fault_count capture.new)
+        (R.held report.new) (R.fault_count report.new)) }
     ensures memory { result ≡ 8 → stops.Told (R.held report.old) (R.held report.new)
         (R.fault_count report.old) (R.fault_count report.new) stops.memory_line }
     ensures source_untouched { result ≡ 8 → source.new ≡ source.old }
@@ -200,9 +229,21 @@ fn normalize<S: Source, K: Sink, R: Sink>(
     ensures finished { OnOk result (spec.Normalized engine.old.settings
         (S.left source.old) (S.left source.new) (K.held capture.old) (K.held capture.new)
         (R.held report.old) (R.held report.new)) }
-    ensures explained { IfErr result (λ stop. stops.Explains stop (S.left source.old)
-        (counts (S.fault_count source.old) (K.fault_count capture.old) (R.fault_count report.old))
-        (counts (S.fault_count source.new) (K.fault_count capture.new) (R.fault_count report.new))) }
+    ensures no_fault { OnOk result (moments.NoneRose
+        (moment_of (S.left source.old) (S.fault_count source.old) (K.held capture.old) (K.fault_count capture.old)
+        (R.held report.old) (R.fault_count report.old))
+        (moment_of (S.left source.new) (S.fault_count source.new) (K.held capture.new) (K.fault_count capture.new)
+        (R.held report.new) (R.fault_count report.new))) }
+    ensures stands { IfErr result (λ stop. stopped.Stands engine.old.settings stop
+        (moment_of (S.left source.old) (S.fault_count source.old) (K.held capture.old) (K.fault_count capture.old)
+        (R.held report.old) (R.fault_count report.old))
+        (moment_of (S.left source.new) (S.fault_count source.new) (K.held capture.new) (K.fault_count capture.new)
+        (R.held report.new) (R.fault_count report.new))) }
+    ensures first { IfErr result (λ stop. stops.FirstFault stop
+        (moment_of (S.left source.old) (S.fault_count source.old) (K.held capture.old) (K.fault_count capture.old)
+        (R.held report.old) (R.fault_count report.old))
+        (moment_of (S.left source.new) (S.fault_count source.new) (K.held capture.new) (K.fault_count capture.new)
+        (R.held report.new) (R.fault_count report.new))) }
     ensures source_later { S.fault_count source.old ≤ S.fault_count source.new }
     ensures capture_later { K.fault_count capture.old ≤ K.fault_count capture.new }
     ensures report_later { R.fault_count report.old ≤ R.fault_count report.new }
@@ -231,16 +272,25 @@ fn begin<S: Source, K: Sink, R: Sink>(
     report: &mut R,
 ) -> Result<Head, Stop>
     ensures begun { IfOk result (λ head. spec.Begun head
-        (S.left source.old) (S.left source.new) (K.held capture.old) (K.held capture.new)
-        (R.held report.old) (R.held report.new)) }
-    ensures explained { IfErr result (λ stop. stops.Explains stop (S.left source.old)
-        (counts (S.fault_count source.old) (K.fault_count capture.old) (R.fault_count report.old))
-        (counts (S.fault_count source.new) (K.fault_count capture.new) (R.fault_count report.new))) }
+        (moment_of (S.left source.old) (S.fault_count source.old) (K.held capture.old) (K.fault_count capture.old)
+        (R.held report.old) (R.fault_count report.old))
+        (moment_of (S.left source.new) (S.fault_count source.new) (K.held capture.new) (K.fault_count capture.new)
+        (R.held report.new) (R.fault_count report.new))) }
+    ensures stands { (settings : PlainSettings) → IfErr result (λ stop. stopped.Stands settings stop
+        (moment_of (S.left source.old) (S.fault_count source.old) (K.held capture.old) (K.fault_count capture.old)
+        (R.held report.old) (R.fault_count report.old))
+        (moment_of (S.left source.new) (S.fault_count source.new) (K.held capture.new) (K.fault_count capture.new)
+        (R.held report.new) (R.fault_count report.new))) }
+    ensures first { IfErr result (λ stop. stops.FirstFault stop
+        (moment_of (S.left source.old) (S.fault_count source.old) (K.held capture.old) (K.fault_count capture.old)
+        (R.held report.old) (R.fault_count report.old))
+        (moment_of (S.left source.new) (S.fault_count source.new) (K.held capture.new) (K.fault_count capture.new)
+        (R.held report.new) (R.fault_count report.new))) }
     ensures source_later { S.fault_count source.old ≤ S.fault_count source.new }
     ensures capture_later { K.fault_count capture.old ≤ K.fault_count capture.new }
     ensures report_later { R.fault_count report.old ≤ R.fault_count report.new }
 {
-    if report.put(b"norm 1\n").is_err() {
+    if report.put(b"norm 2\n").is_err() {
         return Err(Stop::Report);
     }
     let head = match read_head(source) {
@@ -248,7 +298,7 @@ fn begin<S: Source, K: Sink, R: Sink>(
         Err(fault) => return Err(stop_at_head(fault)),
     };
     if write_head(capture, &head).is_err() {
-        return Err(Stop::Capture(0));
+        return Err(stop_at_capture(0));
     }
     Ok(head)
 }
@@ -263,26 +313,34 @@ fn relay<K: Sink, R: Sink>(
     report: &mut R,
 ) -> Result<u64, Stop>
     requires few { engine.old.records < 2 ^ 32 - 1 }
+    requires stood { (history : List Item) × StandsFor engine.old history }
     ensures relayed { (history : List Item) → StandsFor engine.old history →
         IfOk result (λ frames. spec.Relayed head.now.order
         (item_of engine.old.settings engine.old.link history (shown input.now))
-        (K.held capture.old) (K.held capture.new) (R.held report.old) (R.held report.new) frames) }
+        (sinks_of (K.held capture.old) (K.fault_count capture.old) (R.held report.old) (R.fault_count report.old))
+        (sinks_of (K.held capture.new) (K.fault_count capture.new) (R.held report.new) (R.fault_count report.new)) frames) }
+    ensures broke { (history : List Item) → StandsFor engine.old history →
+        IfErr result (λ stop. outputs.BreaksOff []
+        (outputs.item_outputs head.now.order (item_of engine.old.settings engine.old.link history (shown input.now)))
+        input.now.offset stop
+        (sinks_of (K.held capture.old) (K.fault_count capture.old) (R.held report.old) (R.fault_count report.old))
+        (sinks_of (K.held capture.new) (K.fault_count capture.new) (R.held report.new) (R.fault_count report.new))) }
+    ensures first { IfErr result (λ stop. stops.FirstSinkFault stop
+        (sinks_of (K.held capture.old) (K.fault_count capture.old) (R.held report.old) (R.fault_count report.old))
+        (sinks_of (K.held capture.new) (K.fault_count capture.new) (R.held report.new) (R.fault_count report.new))) }
     ensures stands { (history : List Item) → StandsFor engine.old history →
         StandsFor engine.new (item_of engine.old.settings engine.old.link history (shown input.now) ∷ history) }
     ensures octets { HasOctets (shown input.now) }
     ensures settings { engine.new.settings ≡ engine.old.settings }
     ensures link { engine.new.link ≡ engine.old.link }
     ensures short { IfOk result (λ frames. frames < 256) }
-    ensures explained { IfErr result (λ stop. stops.ExplainsSinks stop
-        (K.fault_count capture.old) (K.fault_count capture.new)
-        (R.fault_count report.old) (R.fault_count report.new)) }
     ensures capture_later { K.fault_count capture.old ≤ K.fault_count capture.new }
     ensures report_later { R.fault_count report.old ≤ R.fault_count report.new }
 {
     have_octets(input.bytes);
     let entry = engine.step(input, out);
     if write_frames(out, head, input, capture).is_err() {
-        return Err(Stop::Capture(input.offset));
+        return Err(stop_at_capture(input.offset));
     }
     if write_line(&entry, report).is_err() {
         return Err(Stop::Report);
@@ -304,9 +362,10 @@ fn write_frames<K: Sink>(
     input: &Record<'_>,
     capture: &mut K,
 ) -> Result<(), Failed>
-    ensures written { OnOk result (Appends (K.held capture.old) (K.held capture.new)
-        (frame_octets head.now.order (shown input.now) out.now)) }
+    ensures octets { Puts (K.held capture.old) (K.held capture.new) result
+        (frame_octets head.now.order (shown input.now) out.now) }
     ensures cause { HasCause (K.fault_count capture.old) (K.fault_count capture.new) result }
+    ensures some { OnErr result (0 < length out.now) }
 {
     for index in 0..out.frames() {
         let frame = out.frame(index);
@@ -319,7 +378,8 @@ fn write_frames<K: Sink>(
 
 // Writes the line of an entry.
 fn write_line<R: Sink>(entry: &Entry, report: &mut R) -> Result<(), Failed>
-    ensures written { OnOk result (Appends (R.held report.old) (R.held report.new) (entry_text (plain entry.now))) }
+    requires { IsOfVersion 2 (plain entry.now) }
+    ensures octets { Puts (R.held report.old) (R.held report.new) result (entry_text (plain entry.now)) }
     ensures cause { HasCause (R.fault_count report.old) (R.fault_count report.new) result }
 {
     let mut line = [0u8; 400];
@@ -335,16 +395,20 @@ fn finish<K: Sink, R: Sink>(
     capture: &mut K,
     report: &mut R,
 ) -> Result<(), Stop>
-    ensures kept { OnOk result (K.held capture.new ≡ K.held capture.old) }
-    ensures written { OnOk result (Appends (R.held report.old) (R.held report.new) (last_text (End records frames))) }
-    ensures explained { IfErr result (λ stop. stops.ExplainsSinks stop
-        (K.fault_count capture.old) (K.fault_count capture.new)
-        (R.fault_count report.old) (R.fault_count report.new)) }
+    ensures ended { OnOk result (spec.Ended records frames
+        (sinks_of (K.held capture.old) (K.fault_count capture.old) (R.held report.old) (R.fault_count report.old))
+        (sinks_of (K.held capture.new) (K.fault_count capture.new) (R.held report.new) (R.fault_count report.new))) }
+    ensures broke { IfErr result (λ stop. outputs.BreaksOff [] (outputs.end_outputs records frames) place stop
+        (sinks_of (K.held capture.old) (K.fault_count capture.old) (R.held report.old) (R.fault_count report.old))
+        (sinks_of (K.held capture.new) (K.fault_count capture.new) (R.held report.new) (R.fault_count report.new))) }
+    ensures first { IfErr result (λ stop. stops.FirstSinkFault stop
+        (sinks_of (K.held capture.old) (K.fault_count capture.old) (R.held report.old) (R.fault_count report.old))
+        (sinks_of (K.held capture.new) (K.fault_count capture.new) (R.held report.new) (R.fault_count report.new))) }
     ensures capture_later { K.fault_count capture.old ≤ K.fault_count capture.new }
     ensures report_later { R.fault_count report.old ≤ R.fault_count report.new }
 {
     if capture.flush().is_err() {
-        return Err(Stop::Capture(place));
+        return Err(stop_at_capture(place));
     }
     let end = Last::End {
         records,

@@ -3,6 +3,7 @@ ghost use Rattle.std.specs.Prelude.{◌≡◌, ◌≤◌, ◌<◌, codes};
 ghost use Rattle.edge_io.specs.Faults.{Rose};
 ghost use Rattle.rule_book.specs.Text.{last_text};
 ghost use Rattle.norm_settings.specs.Faults.{number_of};
+ghost use Rattle.rule_book.specs.declared.last.StopKind.TheVariants as kinds;
 ghost use Rattle.bridge_run.specs.Stops as spec;
 
 use edge_io::Sink;
@@ -10,17 +11,12 @@ use norm_settings::WordFault;
 use pcap_file::{HeadFault, RecordFault};
 use rule_book::{Last, StopKind, last_line};
 
-/// Why a run stops, with the offset of the first octet of the head or record at which it stood; the head's is 0.
+/// Why a run stops before it has finished.
 #[derive(Clone, Copy, Debug, PartialEq, Eq)]
 pub enum Stop {
-    Magic,
-    Version,
-    Link,
-    Long(u64),
-    Many(u64),
-    Cut(u64),
-    Read(u64),
-    Capture(u64),
+    /// For this reason, at the head or record whose first octet has this offset; the head's is 0.
+    At { kind: StopKind, offset: u64 },
+    /// The report failed, so that it cannot say more.
     Report,
 }
 
@@ -30,13 +26,23 @@ impl Stop {
         ensures { result ≡ spec.status_of self }
     {
         match self {
-            Stop::Magic | Stop::Version | Stop::Link => 3,
-            Stop::Long(_) | Stop::Many(_) => 3,
-            Stop::Cut(_) => 4,
-            Stop::Read(_) => 5,
-            Stop::Capture(_) => 6,
+            Stop::At { kind, .. } => kind_status(kind),
             Stop::Report => 7,
         }
+    }
+}
+
+// The status of a stop that the report tells.
+fn kind_status(kind: StopKind) -> u8
+    ensures { result ≡ spec.kind_status kind }
+{
+    match kind {
+        StopKind::Magic | StopKind::Version | StopKind::Link => 3,
+        StopKind::Long | StopKind::Many => 3,
+        StopKind::Cut => 4,
+        StopKind::ReadFault => 5,
+        StopKind::Capture => 6,
+        StopKind::Memory => 8,
     }
 }
 
@@ -44,24 +50,36 @@ impl Stop {
 pub fn stop_at_head(fault: HeadFault) -> Stop
     ensures { result ≡ spec.stop_at_head fault }
 {
-    match fault {
-        HeadFault::Cut => Stop::Cut(0),
-        HeadFault::Magic => Stop::Magic,
-        HeadFault::Version => Stop::Version,
-        HeadFault::Link => Stop::Link,
-        HeadFault::ReadFault => Stop::Read(0),
-    }
+    let kind = match fault {
+        HeadFault::Cut => StopKind::Cut,
+        HeadFault::Magic => StopKind::Magic,
+        HeadFault::Version => StopKind::Version,
+        HeadFault::Link => StopKind::Link,
+        HeadFault::ReadFault => StopKind::ReadFault,
+    };
+    Stop::At { kind, offset: 0 }
 }
 
 /// The stop at a record with this fault, which begins at this offset.
 pub fn stop_at_record(fault: RecordFault, offset: u64) -> Stop
     ensures { result ≡ spec.stop_at_record fault offset }
 {
-    match fault {
-        RecordFault::Cut => Stop::Cut(offset),
-        RecordFault::Long => Stop::Long(offset),
-        RecordFault::TooMany => Stop::Many(offset),
-        RecordFault::ReadFault => Stop::Read(offset),
+    let kind = match fault {
+        RecordFault::Cut => StopKind::Cut,
+        RecordFault::Long => StopKind::Long,
+        RecordFault::TooMany => StopKind::Many,
+        RecordFault::ReadFault => StopKind::ReadFault,
+    };
+    Stop::At { kind, offset }
+}
+
+/// The stop at a fault of the capture, which stood at the record with this offset.
+pub fn stop_at_capture(offset: u64) -> Stop
+    ensures { result ≡ Stop.At kinds.Capture offset }
+{
+    Stop::At {
+        kind: StopKind::Capture,
+        offset,
     }
 }
 
@@ -69,29 +87,15 @@ pub fn stop_at_record(fault: RecordFault, offset: u64) -> Stop
 pub fn tell_stop<K: Sink, R: Sink>(stop: Stop, capture: &mut K, report: &mut R)
     ensures told { spec.Told (R.held report.old) (R.held report.new)
         (R.fault_count report.old) (R.fault_count report.new) (spec.stop_line stop) }
+    ensures kept { spec.Kept (record { octets = K.held capture.old; faults = K.fault_count capture.old })
+        (record { octets = K.held capture.new; faults = K.fault_count capture.new }) }
     ensures capture_later { K.fault_count capture.old ≤ K.fault_count capture.new }
     ensures report_later { R.fault_count report.old ≤ R.fault_count report.new }
 {
     let _ = capture.flush();
     let _ = report.flush();
-    tell_reason(stop, report);
-}
-
-// Says why the run stops; nothing is said of a report that failed.
-fn tell_reason<R: Sink>(stop: Stop, report: &mut R)
-    ensures told { spec.Told (R.held report.old) (R.held report.new)
-        (R.fault_count report.old) (R.fault_count report.new) (spec.stop_line stop) }
-    ensures later { R.fault_count report.old ≤ R.fault_count report.new }
-{
     match stop {
-        Stop::Magic => tell_kind(StopKind::Magic, 0, report),
-        Stop::Version => tell_kind(StopKind::Version, 0, report),
-        Stop::Link => tell_kind(StopKind::Link, 0, report),
-        Stop::Long(offset) => tell_kind(StopKind::Long, offset, report),
-        Stop::Many(offset) => tell_kind(StopKind::Many, offset, report),
-        Stop::Cut(offset) => tell_kind(StopKind::Cut, offset, report),
-        Stop::Read(offset) => tell_kind(StopKind::ReadFault, offset, report),
-        Stop::Capture(offset) => tell_kind(StopKind::Capture, offset, report),
+        Stop::At { kind, offset } => tell_kind(kind, offset, report),
         Stop::Report => {}
     }
 }

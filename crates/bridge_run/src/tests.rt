@@ -1,16 +1,13 @@
 //! Whole runs, with expected octets from the formats' standards and the worked captures.
-ghost use Rattle.std.specs.Prelude.{◌<◌, ◌≤◌};
-ghost use Rattle.norm_settings.specs.Settings.{plain_settings, AreInRange};
+ghost use Rattle.std.specs.Prelude.{◌<◌};
 
-use crate::{run, run_capture};
-use arrayvec::ArrayVec;
+use crate::run;
 use edge_io::{Failed, MemSink, MemSource, Sink};
-use norm_settings::Settings;
 use std::alloc::{AllocError, Global};
 use std::test::Fail;
-use wire_base::{Addr, Prefix};
 
 mod forms;
+mod stopped;
 
 /// Little-endian, microseconds, raw IP.
 const HEAD: [u8; 24] = [
@@ -126,20 +123,20 @@ const NONE: (u32, u32, u32) = (0, 0, 0);
 
 #[rattlefmt::skip]
 const WHOLES: [Whole; 15] = [
-    Whole { head: &[], records: 1, last: &[], size: 70, failing: NONE, status: 0, report: "norm 1\n1 in pass 1\nend 1 1\n", written: 70 },
-    Whole { head: &[], records: 0, last: &[], size: 24, failing: NONE, status: 0, report: "norm 1\nend 0 0\n", written: 24 },
-    Whole { head: &[], records: 0, last: &[], size: 0, failing: NONE, status: 4, report: "norm 1\nstop cut 0\n", written: 0 },
-    Whole { head: &[], records: 0, last: &[], size: 23, failing: NONE, status: 4, report: "norm 1\nstop cut 0\n", written: 0 },
-    Whole { head: &[], records: 2, last: &[], size: 115, failing: NONE, status: 4, report: "norm 1\n1 in pass 1\nstop cut 70\n", written: 70 },
-    Whole { head: &[], records: 1, last: &[], size: 39, failing: NONE, status: 4, report: "norm 1\nstop cut 24\n", written: 24 },
-    Whole { head: &[(0, 0), (1, 0), (2, 0), (3, 0)], records: 1, last: &[], size: 70, failing: NONE, status: 3, report: "norm 1\nstop magic 0\n", written: 0 },
-    Whole { head: &[(6, 3)], records: 1, last: &[], size: 70, failing: NONE, status: 3, report: "norm 1\nstop version 0\n", written: 0 },
-    Whole { head: &[(20, 113)], records: 1, last: &[], size: 70, failing: NONE, status: 3, report: "norm 1\nstop link 0\n", written: 0 },
-    Whole { head: &[], records: 1, last: &[(8, 1), (10, 4)], size: 70, failing: NONE, status: 3, report: "norm 1\nstop long 24\n", written: 24 },
-    Whole { head: &[], records: 2, last: &[(8, 1), (10, 4)], size: 116, failing: NONE, status: 3, report: "norm 1\n1 in pass 1\nstop long 70\n", written: 70 },
-    Whole { head: &[], records: 1, last: &[], size: 70, failing: (1, 0, 0), status: 5, report: "norm 1\nstop read 0\n", written: 0 },
-    Whole { head: &[], records: 1, last: &[], size: 70, failing: (0, 1, 0), status: 6, report: "norm 1\nstop capture 0\n", written: 0 },
-    Whole { head: &[], records: 1, last: &[], size: 70, failing: (0, 2, 0), status: 6, report: "norm 1\nstop capture 24\n", written: 24 },
+    Whole { head: &[], records: 1, last: &[], size: 70, failing: NONE, status: 0, report: "norm 2\n1 in pass 1\nend 1 1\n", written: 70 },
+    Whole { head: &[], records: 0, last: &[], size: 24, failing: NONE, status: 0, report: "norm 2\nend 0 0\n", written: 24 },
+    Whole { head: &[], records: 0, last: &[], size: 0, failing: NONE, status: 4, report: "norm 2\nstop cut 0\n", written: 0 },
+    Whole { head: &[], records: 0, last: &[], size: 23, failing: NONE, status: 4, report: "norm 2\nstop cut 0\n", written: 0 },
+    Whole { head: &[], records: 2, last: &[], size: 115, failing: NONE, status: 4, report: "norm 2\n1 in pass 1\nstop cut 70\n", written: 70 },
+    Whole { head: &[], records: 1, last: &[], size: 39, failing: NONE, status: 4, report: "norm 2\nstop cut 24\n", written: 24 },
+    Whole { head: &[(0, 0), (1, 0), (2, 0), (3, 0)], records: 1, last: &[], size: 70, failing: NONE, status: 3, report: "norm 2\nstop magic 0\n", written: 0 },
+    Whole { head: &[(6, 3)], records: 1, last: &[], size: 70, failing: NONE, status: 3, report: "norm 2\nstop version 0\n", written: 0 },
+    Whole { head: &[(20, 113)], records: 1, last: &[], size: 70, failing: NONE, status: 3, report: "norm 2\nstop link 0\n", written: 0 },
+    Whole { head: &[], records: 1, last: &[(8, 1), (10, 4)], size: 70, failing: NONE, status: 3, report: "norm 2\nstop long 24\n", written: 24 },
+    Whole { head: &[], records: 2, last: &[(8, 1), (10, 4)], size: 116, failing: NONE, status: 3, report: "norm 2\n1 in pass 1\nstop long 70\n", written: 70 },
+    Whole { head: &[], records: 1, last: &[], size: 70, failing: (1, 0, 0), status: 5, report: "norm 2\nstop read 0\n", written: 0 },
+    Whole { head: &[], records: 1, last: &[], size: 70, failing: (0, 1, 0), status: 6, report: "norm 2\nstop capture 0\n", written: 0 },
+    Whole { head: &[], records: 1, last: &[], size: 70, failing: (0, 2, 0), status: 6, report: "norm 2\nstop capture 24\n", written: 24 },
     Whole { head: &[], records: 1, last: &[], size: 70, failing: (0, 0, 1), status: 7, report: "", written: 0 },
 ];
 
@@ -164,14 +161,25 @@ fn runs_tell_how_they_end(rt: HostRuntime) -> Result<(), Fail> {
     Ok(())
 }
 
+#[rattlefmt::skip]
+const REFUSED: [(&[&str], &str); 10] = [
+    (&["run", "a"], "stop words 1\n"),
+    (&["run", "a", "a", "10.0.0.0/8"], "stop words 5\n"),
+    (&["run", "a", "b", "0.0.0.0/8", "1.0.0.0/8", "2.0.0.0/8", "3.0.0.0/8", "4.0.0.0/8", "5.0.0.0/8", "6.0.0.0/8", "7.0.0.0/8", "8.0.0.0/8",
+       "9.0.0.0/8", "10.0.0.0/8", "11.0.0.0/8", "12.0.0.0/8", "13.0.0.0/8", "14.0.0.0/8", "15.0.0.0/8", "16.0.0.0/8"], "stop words 3\n"),
+    (&["run", "a", "b", "10.0.0/8"], "stop words 2\n"),
+    (&["run", "--hops", "255", "a", "b", "10.0.0.0/8"], "stop words 1\n"),
+    // What is not built is not asked for.
+    (&["run", "--quota", "5", "a", "b", "10.0.0.0/8"], "stop words 1\n"),
+    (&["run", "--both", "a", "b", "10.0.0.0/8"], "stop words 1\n"),
+    (&["run", "--inside", "eth0", "a", "b", "10.0.0.0/8"], "stop words 1\n"),
+    (&["run", "--mtu", "1500", "a", "b", "10.0.0.0/8"], "stop words 1\n"),
+    (&["load", "1", "1"], "stop words 1\n"),
+];
+
 #[test]
 fn refused_words_leave_one_line(rt: HostRuntime) -> Result<(), Fail> {
-    let rows: [(&[&str], &str); 3] = [
-        (&["run", "a"], "stop words 1\n"),
-        (&["run", "a", "a", "10.0.0.0/8"], "stop words 5\n"),
-        (&["run", "a", "b", "10.0.0/8"], "stop words 2\n"),
-    ];
-    for (words, report) in rows {
+    for (words, report) in REFUSED {
         let ended = ended_run(rt.alloc(), words, &HEAD, 7, (1, 1, 0))?;
         assert_eq!(rt; ended.status, 2, "{report}");
         assert_eq!(rt; ended.report.held(), report.as_bytes(), "{report}");
@@ -311,7 +319,7 @@ fn report_of(alloc: Global, line: &str, written: Written) -> Result<String, Allo
         Nothing => 0,
         AsRead | Anew(_) => 1,
     };
-    format!(in alloc; "norm 1\n1 {line}\nend 1 {frames}\n")
+    format!(in alloc; "norm 2\n1 {line}\nend 1 {frames}\n")
 }
 
 #[test]
@@ -334,39 +342,37 @@ fn each_row_judges_its_packet(rt: HostRuntime) -> Result<(), Fail> {
     Ok(())
 }
 
-fn settings_of(hops: u8, offload: bool) -> Settings
-    requires { hops ≤ 254 }
-    ensures { AreInRange (plain_settings result) }
-{
-    let mut prefixes = ArrayVec::new();
-    prefixes.push(Prefix {
-        addr: Addr(0x0a00_0000),
-        len: 8,
-    });
-    let mut settings = Settings::standard(prefixes);
-    settings.hops = hops;
-    settings.offload = offload;
-    settings
-}
-
-/// Routers behind the bridge, and whether checksums are left to the interface; the changes of the datagram, and what becomes of it.
+/// Words, the changes of the datagram, and what becomes of it.
 struct Set {
-    hops: u8,
-    offload: bool,
+    words: &'static [&'static str],
     changes: Changes,
     line: &'static str,
     written: Written,
 }
 
+/// As many prefixes as there may be; the last of them holds the datagram's address.
 #[rattlefmt::skip]
-const SETS: [Set; 7] = [
-    Set { hops: 0, offload: false, changes: &[(8, 0), (10, 0x86)], line: "in fix 1 I_TTL", written: Anew(&[(8, 1), (10, 0x85)]) },
-    Set { hops: 0, offload: false, changes: &[(8, 1), (10, 0x85)], line: "in pass 1", written: AsRead },
-    Set { hops: 254, offload: false, changes: &[], line: "in fix 1 I_TTL", written: Anew(&[(8, 255), (10, 0x87), (11, 0x92)]) },
-    Set { hops: 254, offload: false, changes: OUTWARD, line: "out pass 1", written: AsRead },
-    Set { hops: 30, offload: false, changes: WRONG_OUTWARD, line: "out drop 0 U_SUM", written: Nothing },
-    Set { hops: 30, offload: true, changes: WRONG_OUTWARD, line: "out fix 1 U_SUM_OUT", written: Anew(OUTWARD) },
-    Set { hops: 30, offload: true, changes: &[(27, 0xbe)], line: "in drop 0 U_SUM", written: Nothing },
+const SIXTEEN: &[&str] = &[
+    "run", "a", "b", "192.0.2.0/32", "192.0.2.1/32", "192.0.2.2/32", "192.0.2.3/32", "192.0.2.4/32", "192.0.2.5/32", "192.0.2.6/32",
+    "192.0.2.7/32", "192.0.2.8/32", "192.0.2.9/32", "192.0.2.10/32", "192.0.2.11/32", "192.0.2.12/32", "192.0.2.13/32", "192.0.2.14/32",
+    "10.0.0.0/8",
+];
+
+#[rattlefmt::skip]
+const SETS: [Set; 13] = [
+    Set { words: &["run", "--hops", "0", "a", "b", "10.0.0.0/8"], changes: &[(8, 0), (10, 0x86)], line: "in fix 1 I_TTL", written: Anew(&[(8, 1), (10, 0x85)]) },
+    Set { words: &["run", "--hops=0", "a", "b", "10.0.0.0/8"], changes: &[(8, 1), (10, 0x85)], line: "in pass 1", written: AsRead },
+    Set { words: &["run", "--hops", "5", "a", "b", "10.0.0.0/8"], changes: &[(8, 5), (10, 0x81)], line: "in fix 1 I_TTL", written: Anew(&[(8, 6), (10, 0x80)]) },
+    Set { words: &["run", "--hops", "5", "a", "b", "10.0.0.0/8"], changes: &[(8, 6), (10, 0x80)], line: "in pass 1", written: AsRead },
+    Set { words: &["run", "--hops=254", "a", "b", "10.0.0.0/8"], changes: &[], line: "in fix 1 I_TTL", written: Anew(&[(8, 255), (10, 0x87), (11, 0x92)]) },
+    Set { words: &["run", "--hops=254", "a", "b", "10.0.0.0/8"], changes: OUTWARD, line: "out pass 1", written: AsRead },
+    Set { words: &["run", "a", "b", "10.0.0.0/8"], changes: WRONG_OUTWARD, line: "out drop 0 U_SUM", written: Nothing },
+    Set { words: &["run", "--offload", "a", "b", "10.0.0.0/8"], changes: WRONG_OUTWARD, line: "out fix 1 U_SUM_OUT", written: Anew(OUTWARD) },
+    Set { words: &["run", "--offload", "a", "b", "10.0.0.0/8"], changes: &[(27, 0xbe)], line: "in drop 0 U_SUM", written: Nothing },
+    Set { words: &["run", "a", "b", "192.0.2.0/24", "10.0.0.0/8"], changes: &[], line: "in pass 1", written: AsRead },
+    Set { words: &["run", "a", "b", "10.0.0.0/8", "192.0.2.0/24"], changes: OUTSIDE, line: "in pass 1", written: AsRead },
+    Set { words: &["run", "a", "b", "10.0.0.0/8", "198.51.100.0/24"], changes: &[], line: "- drop 0 I_SIDE", written: Nothing },
+    Set { words: SIXTEEN, changes: &[], line: "in pass 1", written: AsRead },
 ];
 
 const WRONG_OUTWARD: Changes = &[
@@ -382,28 +388,17 @@ const WRONG_OUTWARD: Changes = &[
 ];
 
 #[test]
-fn settings_other_than_the_standard_ones_count(rt: HostRuntime) -> Result<(), Fail> {
-    for row in &SETS {
+fn what_words_ask_for_counts(rt: HostRuntime) -> Result<(), Fail> {
+    for (number, row) in SETS.iter().enumerate() {
         let packet = datagram_with(row.changes);
         let octets = datagram_in(&packet);
         let file = one_record(rt.alloc(), octets, 30)?;
-        let mut source = MemSource::new(file, 65536, only(rt.alloc(), 0)?);
-        let mut capture = MemSink::new(rt.alloc(), 4096, only(rt.alloc(), 0)?)?;
-        let mut report = MemSink::new(rt.alloc(), 4096, only(rt.alloc(), 0)?)?;
-        let settings = settings_of(row.hops.min(254), row.offload);
-        let status = run_capture(
-            rt.alloc(),
-            &settings,
-            &mut source,
-            &mut capture,
-            &mut report,
-        );
-        let line = row.line;
-        assert_eq!(rt; status, 0, "{line}");
-        let told = report_of(rt.alloc(), line, row.written)?;
-        assert_eq!(rt; report.held(), told.as_bytes(), "{line}");
+        let ended = ended_run(rt.alloc(), row.words, &file, 65536, NONE)?;
+        assert_eq!(rt; ended.status, 0, "row {number}");
+        let report = report_of(rt.alloc(), row.line, row.written)?;
+        assert_eq!(rt; ended.report.held(), report.as_bytes(), "row {number}");
         let written = written_file(rt.alloc(), octets, row.written)?;
-        assert_eq!(rt; capture.held(), written.as_slice(), "{line}");
+        assert_eq!(rt; ended.capture.held(), written.as_slice(), "row {number}");
     }
     Ok(())
 }
@@ -446,7 +441,7 @@ fn nothing_is_said_of_the_end_before_the_frames_are_handed_on(rt: HostRuntime) -
     assert_eq!(rt; status, 6);
     assert_eq!(rt;
         report.held(),
-        b"norm 1\n1 in pass 1\nstop capture 70\n".as_slice()
+        b"norm 2\n1 in pass 1\nstop capture 70\n".as_slice()
     );
     let file = capture_file(rt.alloc(), &[], 1, &[])?;
     let mut source = MemSource::new(file, 65536, only(rt.alloc(), 0)?);

@@ -1,13 +1,13 @@
 //! The program `norm`: it opens the files that its words name, normalizes the capture, and ends with the status.
 #![tactic(auto)]
 
+mod files;
 mod texts;
 
 use bridge_run::run;
 use edge_io::{FileSink, FileSource, LineOut};
 use norm_settings::{Command, Names, WordFault, read_words};
 use std::alloc::AllocError;
-use std::fs::File;
 use std::process::ExitCode;
 use std::{env, io};
 
@@ -23,7 +23,7 @@ fn main(rt: HostRuntime) -> ExitCode {
         return ExitCode::SUCCESS;
     }
     let (input, output) = match read_words(rt.alloc(), &words) {
-        Ok(Command::Run { names, settings: _ }) => opened(&rt, &names),
+        Ok(Command::Run { names, settings: _ }) => files::opened(&rt, &names),
         Ok(Command::Load { seed: _, count: _ }) => (None, None),
         Err(WordFault::NoMemory) => return without_memory(&rt),
         Err(_) => (None, None),
@@ -54,14 +54,6 @@ fn asked_text(words: &[String]) -> Option<&'static str> {
         "--version" => Some(texts::VERSION),
         _ => None,
     }
-}
-
-// The file to read, and where that was opened the file to write. One that is missing is a source or a sink whose every call fails.
-fn opened(rt: &HostRuntime, names: &Names) -> (Option<File>, Option<File>) {
-    let Ok(input) = File::open(rt, names.input.as_str()) else {
-        return (None, None);
-    };
-    (Some(input), File::create(rt, names.output.as_str()).ok())
 }
 
 fn without_memory(rt: &HostRuntime) -> ExitCode {

@@ -68,7 +68,7 @@ fn captures_of_every_form_are_read_and_written_alike(rt: HostRuntime) -> Result<
         assert_eq!(rt; ended.status, 0, "{big} {nano} {network}");
         assert_eq!(rt;
             ended.report.held(),
-            b"norm 1\n1 in pass 1\nend 1 1\n".as_slice(),
+            b"norm 2\n1 in pass 1\nend 1 1\n".as_slice(),
             "{big} {nano} {network}"
         );
         assert_eq!(rt;
@@ -105,7 +105,7 @@ fn an_ethernet_capture_keeps_its_arp(rt: HostRuntime) -> Result<(), Fail> {
     assert_eq!(rt; ended.status, 0);
     assert_eq!(rt;
         ended.report.held(),
-        b"norm 1\n1 - pass 1\n2 in drop 0 X_LATER\n3 - drop 0 L_SNAP\nend 3 1\n".as_slice()
+        b"norm 2\n1 - pass 1\n2 in drop 0 X_LATER\n3 - drop 0 L_SNAP\nend 3 1\n".as_slice()
     );
     assert_eq!(rt; ended.capture.held(), written.as_slice());
     Ok(())

@@ -1,4 +1,5 @@
 use Rattle.std.proofs.Common.{◌≡◌, ◌≤◌, ◌-◌, ◌^◌, true, length}
+use Rattle.bridge_run.specs.Moments.{moment_of}
 use Rattle.bridge_run.specs.Run.{Going}
 use Rattle.bridge_run.proofs.runner.normalize.Given as goal
 
@@ -6,10 +7,10 @@ abbrev pub invariant-records : goal.invariant-records
 invariant-records g l = record {
   may_ask : l.reader.is_open ≡ true;
   room : 262144 ≤ length l.buffer;
-  going : Going l.fn.engine.settings l.head (g.S.Source.left l.fn.source) (g.S.Source.left l.source) (g.K.Sink.held l.fn.capture) (g.K.Sink.held l.capture) (g.R.Sink.held l.fn.report) (g.R.Sink.held l.report) l.engine l.reader l.frames;
-  source_later : g.S.Source.fault_count l.fn.source ≤ g.S.Source.fault_count l.source;
-  capture_later : g.K.Sink.fault_count l.fn.capture ≤ g.K.Sink.fault_count l.capture;
-  report_later : g.R.Sink.fault_count l.fn.report ≤ g.R.Sink.fault_count l.report;
+  going : Going l.fn.engine.settings l.head
+      (moment_of (g.S.Source.left l.fn.source) (g.S.Source.fault_count l.fn.source) (g.K.Sink.held l.fn.capture) (g.K.Sink.fault_count l.fn.capture) (g.R.Sink.held l.fn.report) (g.R.Sink.fault_count l.fn.report))
+      (moment_of (g.S.Source.left l.source) (g.S.Source.fault_count l.source) (g.K.Sink.held l.capture) (g.K.Sink.fault_count l.capture) (g.R.Sink.held l.report) (g.R.Sink.fault_count l.report))
+      l.engine l.reader l.frames;
 }
 
 abbrev pub decreases-records : goal.decreases-records

@@ -1,3 +1,4 @@
+use Rattle.std.proofs.Common.{inr}
 use Rattle.norm_settings.specs.Settings.{plain_settings}
 use Rattle.bridge_run.proofs.runner.run.Goals as goal
 
@@ -7,3 +8,6 @@ returns-clause-finished g c = λ e. record {
   accepted = c.in-Ok.ensures.asked;
   normalized = c.run_capture.ensures.finished e;
 }
+
+pub returns-clause-stopped : goal.returns-clause-stopped
+returns-clause-stopped g c = inr (inr (plain_settings c.in-Ok.settings, c.in-Ok.ensures.asked, c.run_capture.ensures.stopped))

@@ -1,0 +1,259 @@
+-- What stands when a run has stopped, read row by row.
+use Rattle.std.proofs.Common.{◌≡◌, ℕ, ◌<◌, ◌==◌, List, [], ◌∷◌, ◌++◌, length, take, Option, None, Some, refl, sym, ap, ◌∙◌, subst, append-nil, append_assoc, arith, inl, inr, false, true}
+use Rattle.std.proofs.Math.Seq.{take-nil}
+use Rattle.std.proofs.KnownBytes.{Appends-trans}
+use Rattle.std.specs.Io.KnownBytes.{Appends}
+use Rattle.edge_io.specs.Faults.{Rose}
+use Rattle.edge_io.specs.Octets.{AppendsPart, TakesFewer}
+use Rattle.pcap_file.specs.declared.head.Head.{Head}
+use Rattle.pcap_file.specs.declared.order.Order.{Order}
+use Rattle.pcap_file.specs.Flaws.{Flaw, cut_short, bad_magic, bad_version, bad_link, too_long, too_many}
+use Rattle.pcap_file.specs.Heads.{head_octets}
+use Rattle.pcap_file.specs.Capture.{offset_of}
+use Rattle.pcap_file.specs.Reads.{TakesPart}
+use Rattle.rule_book.specs.declared.last.Last.TheVariants as last
+use Rattle.rule_book.specs.declared.last.StopKind.{StopKind}
+use Rattle.rule_book.specs.declared.last.StopKind.TheVariants as kinds
+use Rattle.rule_book.specs.Text.{entry_text, last_text}
+use Rattle.norm_settings.specs.Settings.{PlainSettings}
+use Rattle.norm_engine.specs.Trace.{Item, packets}
+use Rattle.bridge_run.specs.declared.stop.Stop.{Stop}
+use Rattle.bridge_run.specs.declared.stop.Stop.TheVariants as stops
+use Rattle.bridge_run.specs.Frames.{frame_octets, frames_octets, item_octets, frame_count}
+use Rattle.bridge_run.specs.Moments.{Seen, Moment}
+use Rattle.bridge_run.specs.Outputs.{to_capture, to_report, capture_hands_on, report_hands_on, heading, first_outputs, outputs_of, capture_part, report_part}
+use Rattle.bridge_run.specs.Run.{Took, TakenWhole}
+use Rattle.bridge_run.specs.Stops.{FirstFault, Told, status_of, stop_line, memory_line}
+use Rattle.bridge_run.specs.Stopped.{Stands, Flawed, Unread, Unwritten, StopsAtHead, StopsAtRecord, Stopped, Finishes, SaysOnly}
+use Rattle.bridge_run.specs.Rows.{Says, GivenUpTo, stop_of, flaw_kind, capture_octets, report_octets, EndsAtHead, EndsAtRecord, EndsAtFlaw, EndsFaulty, EndsCut, EndsUnread, EndsUnwritten, EndsUntold, EndsRefused, UnderWords}
+use Rattle.bridge_run.proofs.Outputs.{capture_is, report_is}
+use Rattle.bridge_run.proofs.Broken.{no_capture, capture_fails, first_fails, handing_fails, no_report, line_fails, nothing, handing}
+use Rattle.bridge_run.proofs.Statuses.{known_of}
+
+-- a line that was told behind octets
+says : (first line : List ℕ) (b a n : Seen) → Appends b.octets a.octets first → a.faults ≡ b.faults → Told a.octets n.octets a.faults n.faults line → Says first line b n
+says first line b a n given same (inl whole) = inl (Appends-trans _ _ _ _ _ given whole)
+says first line b a n given same (inr part) = inr (
+  subst (λ k. Rose k n.faults) same part.0,
+  record { count = part.1.count; given = Appends-trans _ _ _ _ _ given part.1.part },
+)
+
+-- an object that tells nothing told nothing
+told_none : (old new : Option (List ℕ)) (octets : List ℕ) → Appends old new octets → new ≡ None → old ≡ None
+told_none None new octets p e = refl
+told_none (Some x) new octets p e = absurd (subst (λ s. Appends (Some x) s octets) e p)
+
+-- a record of which octets are written has a frame
+framed : (order : Order) (item : Item) → 0 < length (item_octets order item) → 0 < length item.frames
+framed order item some = by item.frames some where
+  by : (frames : List (List ℕ)) → 0 < length (frame_octets order item.packet frames) → 0 < length frames
+  by [] some = some
+  by (frame ∷ frames) some = omega arith
+
+-- no line was told
+quiet : (first next : List ℕ) (b a n : Seen) → GivenUpTo first next b.octets a.octets → Told a.octets n.octets a.faults n.faults [] → GivenUpTo first next b.octets n.octets
+quiet first next b a n up told = record {
+  count = up.count;
+  given = subst (Appends b.octets n.octets) (append-nil (first ++ take up.count next)) (Appends-trans _ _ _ _ _ up.given nothing);
+} where
+  nothing : Appends a.octets n.octets []
+  nothing =
+      elim told [
+        | inl whole ↦ whole
+        | inr part ↦ subst (Appends a.octets n.octets) (take-nil part.1.count) part.1.part
+      ]
+
+module _ (settings : PlainSettings) (b a n : Moment) where
+  -- at the moment of the stop and behind it the source and the capture are alike
+  pub record Behind : Type 0 where
+    pub source : n.source ≡ a.source
+    pub capture : n.sinks.capture.octets ≡ a.sinks.capture.octets
+
+  ends_at_head : (InHead : Option (List ℕ) → Option (List ℕ) → Type 0) (kind : StopKind) (offset : ℕ) → Behind → StopsAtHead InHead offset b a → a.sinks.report.faults ≡ b.sinks.report.faults
+      → Told a.sinks.report.octets n.sinks.report.octets a.sinks.report.faults n.sinks.report.faults (stop_of kind offset) → EndsAtHead InHead kind b n
+  ends_at_head InHead kind offset behind p same told = record {
+    taken = subst (λ (s : Seen). InHead b.source.octets s.octets) (sym behind.source) p.found;
+    capture = subst (λ s. Appends b.sinks.capture.octets s []) (sym behind.capture) p.given.capture;
+    report = says heading (stop_of kind 0) b.sinks.report a.sinks.report n.sinks.report (subst (Appends b.sinks.report.octets a.sinks.report.octets) (append-nil heading) p.given.report) same
+        (subst (λ o. Told a.sinks.report.octets n.sinks.report.octets a.sinks.report.faults n.sinks.report.faults (stop_of kind o)) p.place told);
+  }
+
+  -- what was given of a trace
+  capture_given : (head : Head) (trace : List Item) → Appends b.sinks.capture.octets a.sinks.capture.octets (capture_part (outputs_of head trace)) → Behind
+      → Appends b.sinks.capture.octets n.sinks.capture.octets (capture_octets head trace)
+  capture_given head trace given behind =
+      subst (λ s. Appends b.sinks.capture.octets s (capture_octets head trace)) (sym behind.capture) (subst (Appends b.sinks.capture.octets a.sinks.capture.octets) (capture_is head trace) given)
+
+  report_given : (head : Head) (trace : List Item) → Appends b.sinks.report.octets a.sinks.report.octets (report_part (outputs_of head trace)) → Appends b.sinks.report.octets a.sinks.report.octets (report_octets trace)
+  report_given head trace given = subst (Appends b.sinks.report.octets a.sinks.report.octets) (report_is head trace) given
+
+  ends_at_record : (InRecord : Order → ℕ → Option (List ℕ) → Option (List ℕ) → Type 0) (kind : StopKind) (offset : ℕ) → Behind → StopsAtRecord settings InRecord offset b a → a.sinks.report.faults ≡ b.sinks.report.faults
+      → Told a.sinks.report.octets n.sinks.report.octets a.sinks.report.faults n.sinks.report.faults (stop_of kind offset) → EndsAtRecord settings InRecord kind b n
+  ends_at_record InRecord kind offset behind p same told = record {
+    head = p.head;
+    trace = p.trace;
+    lawful = p.lawful;
+    left = p.left;
+    took = p.took;
+    taken = subst (λ (s : Seen). InRecord p.head.order (length p.trace) p.left s.octets) (sym behind.source) p.found;
+    capture = capture_given p.head p.trace p.given.capture behind;
+    report = says (report_octets p.trace) (stop_of kind (offset_of (packets p.trace))) b.sinks.report a.sinks.report n.sinks.report (report_given p.head p.trace p.given.report) same
+        (subst (λ o. Told a.sinks.report.octets n.sinks.report.octets a.sinks.report.faults n.sinks.report.faults (stop_of kind o)) p.place told);
+  }
+
+  -- the capture has a flaw, or could not be read
+
+  flawed_row : (flaw : Flaw) (offset : ℕ) → Behind → Flawed settings flaw offset b a → a.sinks.report.faults ≡ b.sinks.report.faults
+      → Told a.sinks.report.octets n.sinks.report.octets a.sinks.report.faults n.sinks.report.faults (stop_of (flaw_kind flaw) offset) → EndsAtFlaw settings flaw b n
+  flawed_row flaw offset behind (inl p) same told = inl (ends_at_head _ (flaw_kind flaw) offset behind p same told)
+  flawed_row flaw offset behind (inr p) same told = inr (ends_at_record _ (flaw_kind flaw) offset behind p same told)
+
+  unread_row : (offset : ℕ) → Behind → Unread settings offset b a → a.sinks.report.faults ≡ b.sinks.report.faults
+      → Told a.sinks.report.octets n.sinks.report.octets a.sinks.report.faults n.sinks.report.faults (stop_of kinds.ReadFault offset) → EndsUnread settings b n
+  unread_row offset behind (inl p) same told = inl (ends_at_head (λ old new. TakesFewer old new 24) kinds.ReadFault offset behind p same told)
+  unread_row offset behind (inr p) same told = inr (ends_at_record (λ order count old new. TakesPart order old new) kinds.ReadFault offset behind p same told)
+
+  -- the capture failed
+
+  unwritten_row : (offset : ℕ) → Behind → Unwritten settings (stops.At kinds.Capture offset) b a → a.sinks.report.faults ≡ b.sinks.report.faults
+      → Told a.sinks.report.octets n.sinks.report.octets a.sinks.report.faults n.sinks.report.faults (stop_of kinds.Capture offset) → EndsUnwritten settings b n
+  unwritten_row offset behind (inl p) same told = absurd (no_capture [] first_outputs tt 0 offset b.sinks a.sinks p.broke)
+  unwritten_row offset behind (inr (inl p)) same told =
+      let f = capture_fails first_outputs (head_octets p.head) [] tt 0 offset b.sinks a.sinks p.broke in
+      inl (record {
+        head = p.head;
+        took = subst (λ (s : Seen). Took b.source.octets s.octets p.head []) (sym behind.source) p.took;
+        capture = subst (λ s. GivenUpTo [] (head_octets p.head) b.sinks.capture.octets s) (sym behind.capture) f.capture;
+        report = says heading (stop_of kinds.Capture 0) b.sinks.report a.sinks.report n.sinks.report (subst (Appends b.sinks.report.octets a.sinks.report.octets) (append-nil heading) f.report) same
+            (subst (λ o. Told a.sinks.report.octets n.sinks.report.octets a.sinks.report.faults n.sinks.report.faults (stop_of kinds.Capture o)) f.here told);
+      })
+  unwritten_row offset behind (inr (inr (inl p))) same told =
+      let f = capture_fails (outputs_of p.head p.older) (item_octets p.head.order p.item) (to_report (entry_text p.item.entry) ∷ []) tt (offset_of (packets p.older)) offset b.sinks a.sinks p.broke in
+      inr (inl (record {
+        head = p.head;
+        item = p.item;
+        older = p.older;
+        lawful = p.lawful;
+        took = subst (λ (s : Seen). Took b.source.octets s.octets p.head (p.item ∷ p.older)) (sym behind.source) p.took;
+        has_frame = framed p.head.order p.item f.some;
+        capture = subst (λ l. GivenUpTo l (item_octets p.head.order p.item) b.sinks.capture.octets n.sinks.capture.octets) (capture_is p.head p.older)
+            (subst (λ s. GivenUpTo (capture_part (outputs_of p.head p.older)) (item_octets p.head.order p.item) b.sinks.capture.octets s) (sym behind.capture) f.capture);
+        report = says (report_octets p.older) (stop_of kinds.Capture (offset_of (packets p.older))) b.sinks.report a.sinks.report n.sinks.report (report_given p.head p.older f.report) same
+            (subst (λ o. Told a.sinks.report.octets n.sinks.report.octets a.sinks.report.faults n.sinks.report.faults (stop_of kinds.Capture o)) f.here told);
+      }))
+  unwritten_row offset behind (inr (inr (inr p))) same told =
+      let line = last_text (last.End (length p.trace) (frame_count p.trace)) in
+      let f = handing_fails (outputs_of p.head p.trace) (to_report line ∷ report_hands_on ∷ []) tt (offset_of (packets p.trace)) offset b.sinks a.sinks p.broke in
+      inr (inr (record {
+        head = p.head;
+        trace = p.trace;
+        lawful = p.lawful;
+        whole = p.whole;
+        taken = subst (λ (s : Seen). TakenWhole b.source.octets s.octets) (sym behind.source) p.taken;
+        untold = told_none b.sinks.capture.octets a.sinks.capture.octets _ p.broke.given.capture f.untold;
+        report = says (report_octets p.trace) (stop_of kinds.Capture (offset_of (packets p.trace))) b.sinks.report a.sinks.report n.sinks.report (report_given p.head p.trace f.report) same
+            (subst (λ o. Told a.sinks.report.octets n.sinks.report.octets a.sinks.report.faults n.sinks.report.faults (stop_of kinds.Capture o)) f.here told);
+      }))
+
+  -- the report failed
+
+  untold_row : Behind → Unwritten settings stops.Report b a → Told a.sinks.report.octets n.sinks.report.octets a.sinks.report.faults n.sinks.report.faults [] → EndsUntold settings b n
+  untold_row behind (inl p) told =
+      let f = first_fails [] heading 0 b.sinks a.sinks p.broke in
+      inl (record {
+        untaken = ap (λ (s : Seen). s.octets) behind.source ∙ p.untaken;
+        capture = subst (λ s. Appends b.sinks.capture.octets s []) (sym behind.capture) f.0;
+        report = quiet [] heading b.sinks.report a.sinks.report n.sinks.report f.1 told;
+      })
+  untold_row behind (inr (inl p)) told = absurd (no_report first_outputs (head_octets p.head) 0 b.sinks a.sinks p.broke)
+  untold_row behind (inr (inr (inl p))) told =
+      let octets = item_octets p.head.order p.item in
+      let line = entry_text p.item.entry in
+      let f = line_fails (outputs_of p.head p.older) [] (to_capture octets) octets line (offset_of (packets p.older)) b.sinks a.sinks (λ more. refl) (λ more. refl) refl nothing p.broke in
+      let all : capture_part (outputs_of p.head p.older) ++ octets ≡ capture_octets p.head (p.item ∷ p.older) =
+      ap (λ l. l ++ octets) (capture_is p.head p.older) ∙ append_assoc (head_octets p.head) (frames_octets p.head.order p.older) octets in
+      inr (inl (record {
+        head = p.head;
+        item = p.item;
+        older = p.older;
+        lawful = p.lawful;
+        took = subst (λ (s : Seen). Took b.source.octets s.octets p.head (p.item ∷ p.older)) (sym behind.source) p.took;
+        capture = subst (λ s. Appends b.sinks.capture.octets s (capture_octets p.head (p.item ∷ p.older))) (sym behind.capture) (subst (Appends b.sinks.capture.octets a.sinks.capture.octets) all f.0);
+        report = quiet (report_octets p.older) line b.sinks.report a.sinks.report n.sinks.report (subst (λ l. GivenUpTo l line b.sinks.report.octets a.sinks.report.octets) (report_is p.head p.older) f.1) told;
+      }))
+  untold_row behind (inr (inr (inr p))) told =
+      let line = last_text (last.End (length p.trace) (frame_count p.trace)) in
+      let f = line_fails (outputs_of p.head p.trace) (report_hands_on ∷ []) capture_hands_on [] line (offset_of (packets p.trace)) b.sinks a.sinks (λ more. refl) (λ more. refl) refl handing p.broke in
+      inr (inr (record {
+        head = p.head;
+        trace = p.trace;
+        lawful = p.lawful;
+        whole = p.whole;
+        taken = subst (λ (s : Seen). TakenWhole b.source.octets s.octets) (sym behind.source) p.taken;
+        capture = capture_given p.head p.trace (subst (Appends b.sinks.capture.octets a.sinks.capture.octets) (append-nil (capture_part (outputs_of p.head p.trace))) f.0) behind;
+        report = quiet (report_octets p.trace) line b.sinks.report a.sinks.report n.sinks.report (subst (λ l. GivenUpTo l line b.sinks.report.octets a.sinks.report.octets) (report_is p.head p.trace) f.1) told;
+      }))
+
+  -- the row of a status between the ends
+  abbrev pub RowAt : (status : ℕ) → Type 0
+  RowAt status =
+      elim (status == 3) [
+        | true ↦ EndsFaulty settings b n
+        | false ↦ elim (status == 4) [
+          | true ↦ EndsCut settings b n
+          | false ↦ elim (status == 5) [
+            | true ↦ EndsUnread settings b n
+            | false ↦ elim (status == 6) [ true ↦ EndsUnwritten settings b n | false ↦ EndsUntold settings b n ]
+          ]
+        ]
+      ]
+
+  row_of : (stop : Stop) → Stands settings stop b a → FirstFault stop b a → Behind
+      → Told a.sinks.report.octets n.sinks.report.octets a.sinks.report.faults n.sinks.report.faults (stop_line stop) → RowAt (status_of stop)
+  row_of (stops.At kinds.Magic offset) p first behind told = record { flaw = bad_magic; other = refl; ends = flawed_row bad_magic offset behind p first.sinks.report told }
+  row_of (stops.At kinds.Version offset) p first behind told = record { flaw = bad_version; other = refl; ends = flawed_row bad_version offset behind p first.sinks.report told }
+  row_of (stops.At kinds.Link offset) p first behind told = record { flaw = bad_link; other = refl; ends = flawed_row bad_link offset behind p first.sinks.report told }
+  row_of (stops.At kinds.Long offset) p first behind told = record { flaw = too_long; other = refl; ends = flawed_row too_long offset behind p first.sinks.report told }
+  row_of (stops.At kinds.Many offset) p first behind told = record { flaw = too_many; other = refl; ends = flawed_row too_many offset behind p first.sinks.report told }
+  row_of (stops.At kinds.Cut offset) p first behind told = flawed_row cut_short offset behind p first.sinks.report told
+  row_of (stops.At kinds.ReadFault offset) p first behind told = unread_row offset behind p first.sinks.report told
+  row_of (stops.At kinds.Capture offset) p first behind told = unwritten_row offset behind p first.sinks.report told
+  row_of (stops.At kinds.Memory offset) p first behind told = absurd p
+  row_of stops.Report p first behind told = untold_row behind p told
+
+  pub row_at : (status : ℕ) (stop : Stop) → status ≡ status_of stop → Stands settings stop b a → FirstFault stop b a → Behind
+      → Told a.sinks.report.octets n.sinks.report.octets a.sinks.report.faults n.sinks.report.faults (stop_line stop) → RowAt status
+  row_at status stop answered p first behind told = subst RowAt (sym answered) (row_of stop p first behind told)
+
+-- a run that was not refused, and had its memory, and did not finish
+pub stopped_row : (status : ℕ) → (status ≡ 0 → ⊥) → (status ≡ 2 → ⊥) → (status ≡ 8 → ⊥) → (words : List (List ℕ)) (b n : Moment) → Stopped words status b n → UnderWords words (λ settings. RowAt settings b n n status)
+stopped_row status not_0 not_2 not_8 words b n (inl refused) = absurd (not_2 refused.1)
+stopped_row status not_0 not_2 not_8 words b n (inr (inl wanting)) = absurd (not_8 wanting.0)
+stopped_row status not_0 not_2 not_8 words b n (inr (inr (settings, asks, inl finished))) = absurd (not_0 finished.0)
+stopped_row status not_0 not_2 not_8 words b n (inr (inr (settings, asks, inr (inl wanting)))) = absurd (not_8 wanting.0)
+stopped_row status not_0 not_2 not_8 words b n (inr (inr (settings, asks, inr (inr p)))) =
+    (settings, asks, row_at settings b p.at n status p.stop p.answered p.stands p.first (record { source = p.source_stays; capture = p.capture_stays.octets }) p.told)
+
+-- a run that finished
+pub finished_row : (words : List (List ℕ)) (b n : Moment) → Stopped words 0 b n → UnderWords words (λ settings. Finishes settings b n)
+finished_row words b n (inl refused) = absurd (let e = refused.1 in omega (arith, e))
+finished_row words b n (inr (inl wanting)) = absurd (let e = wanting.0 in omega (arith, e))
+finished_row words b n (inr (inr (settings, asks, inl finished))) = (settings, asks, finished.1)
+finished_row words b n (inr (inr (settings, asks, inr (inl wanting)))) = absurd (let e = wanting.0 in omega (arith, e))
+finished_row words b n (inr (inr (settings, asks, inr (inr p)))) = absurd (let least = (known_of settings p.stop b p.at p.stands).0 in let e = p.answered in omega (arith, least, e))
+
+-- words that were refused
+pub refused_row : (words : List (List ℕ)) (b n : Moment) → Stopped words 2 b n → EndsRefused words b n
+refused_row words b n (inl refused) = record { fault = refused.0; refused = refused.2; says = refused.3 }
+refused_row words b n (inr (inl wanting)) = absurd (let e = wanting.0 in omega (arith, e))
+refused_row words b n (inr (inr (settings, asks, inl finished))) = absurd (let e = finished.0 in omega (arith, e))
+refused_row words b n (inr (inr (settings, asks, inr (inl wanting)))) = absurd (let e = wanting.0 in omega (arith, e))
+refused_row words b n (inr (inr (settings, asks, inr (inr p)))) = absurd (let least = (known_of settings p.stop b p.at p.stands).0 in let e = p.answered in omega (arith, least, e))
+
+-- memory was wanting
+pub wanting_row : (words : List (List ℕ)) (b n : Moment) → Stopped words 8 b n → SaysOnly memory_line b n
+wanting_row words b n (inl refused) = absurd (let e = refused.1 in omega (arith, e))
+wanting_row words b n (inr (inl wanting)) = wanting.1
+wanting_row words b n (inr (inr (settings, asks, inl finished))) = absurd (let e = finished.0 in omega (arith, e))
+wanting_row words b n (inr (inr (settings, asks, inr (inl wanting)))) = wanting.1
+wanting_row words b n (inr (inr (settings, asks, inr (inr p)))) = absurd (let most = (known_of settings p.stop b p.at p.stands).1 in let e = p.answered in omega (arith, most, e))

@@ -1,0 +1,175 @@
+-- What each status says, row by row (this project's profile): what the two sinks were given, and what was taken from the source. Each row follows from
+-- what stands when a run has stopped, by a law. Where an object does not tell its octets nothing is claimed of them.
+use Rattle.std.specs.Prelude.{◌≡◌, ℕ, ◌<◌, ◌⊎◌, List, [], ◌∷◌, ◌++◌, length, take, Option, None, Err, false}
+use Rattle.std.specs.Io.KnownBytes.{Appends}
+use Rattle.edge_io.specs.Faults.{Rose}
+use Rattle.edge_io.specs.Octets.{TakesFewer}
+use Rattle.pcap_file.specs.declared.head.Head.{Head}
+use Rattle.pcap_file.specs.declared.order.Order.{Order}
+use Rattle.pcap_file.specs.Flaws.{Flaw, cut_short, bad_magic, bad_version, bad_link, too_long, too_many}
+use Rattle.pcap_file.specs.Heads.{head_octets}
+use Rattle.pcap_file.specs.Capture.{offset_of}
+use Rattle.pcap_file.specs.ReadsHead.{Begins}
+use Rattle.pcap_file.specs.Reads.{StopsAt, TakesPart}
+use Rattle.rule_book.specs.declared.last.Last.TheVariants as last
+use Rattle.rule_book.specs.declared.last.StopKind.{StopKind}
+use Rattle.rule_book.specs.declared.last.StopKind.TheVariants as kinds
+use Rattle.rule_book.specs.Text.{entry_text, last_text, lines_text}
+use Rattle.norm_settings.specs.declared.fault.WordFault.{WordFault}
+use Rattle.norm_settings.specs.Settings.{PlainSettings}
+use Rattle.norm_settings.specs.Faults.{number_of}
+use Rattle.norm_settings.specs.Asked.{asked}
+use Rattle.norm_engine.specs.Trace.{Item, Lawful, packets, entries}
+use Rattle.bridge_run.specs.Frames.{frames_octets, item_octets, frame_count}
+use Rattle.bridge_run.specs.Moments.{Seen, Moment}
+use Rattle.bridge_run.specs.Outputs.{heading}
+use Rattle.bridge_run.specs.Run.{Took, TookAll, TakenWhole, AsksRun}
+use Rattle.bridge_run.specs.Stops.{is_cut, words_line, memory_line}
+use Rattle.bridge_run.specs.Stopped.{Stopped, SaysOnly, Finishes}
+
+-- what the capture is given for a head and the items of a trace
+abbrev pub capture_octets : Head → List Item → List ℕ
+capture_octets head trace = head_octets head ++ frames_octets head.order trace
+
+-- what the report is given for the items of a trace: the first line, and a line each
+abbrev pub report_octets : List Item → List ℕ
+report_octets trace = heading ++ lines_text (entries trace)
+
+-- The first octets were given whole, and then a prefix of the next ones, which may be all of them.
+pub record GivenUpTo (first next : List ℕ) (old new : Option (List ℕ)) : Type 0 where
+  pub count : ℕ
+  pub given : Appends old new (first ++ take count next)
+
+-- The first octets were given, and then this line: whole, unless the count of faults rose in this call.
+abbrev pub Says : (first line : List ℕ) → (before now : Seen) → Type 0
+Says first line before now =
+    Appends before.octets now.octets (first ++ line) ⊎ (Rose before.faults now.faults × GivenUpTo first line before.octets now.octets)
+
+abbrev pub stop_of : StopKind → (offset : ℕ) → List ℕ
+stop_of kind offset = last_text (last.Stop kind offset)
+
+-- the kind that a flaw of the capture is told as
+abbrev pub flaw_kind : Flaw → StopKind
+flaw_kind cut_short = kinds.Cut
+flaw_kind bad_magic = kinds.Magic
+flaw_kind bad_version = kinds.Version
+flaw_kind bad_link = kinds.Link
+flaw_kind too_long = kinds.Long
+flaw_kind too_many = kinds.Many
+
+-- Statuses 3 to 5, at the head: the capture was given nothing, and the report its first line and the stop.
+pub record EndsAtHead (InHead : (old new : Option (List ℕ)) → Type 0) (kind : StopKind) (before now : Moment) : Type 0 where
+  pub taken : InHead before.source.octets now.source.octets
+  pub capture : Appends before.sinks.capture.octets now.sinks.capture.octets []
+  pub report : Says heading (stop_of kind 0) before.sinks.report now.sinks.report
+
+-- Statuses 3 to 5, at the record behind those of a lawful trace: these were taken, and what is left begins with the record at which the run stopped. The
+-- capture was given the head and the frames of these records, the report their lines and the stop, at the offset behind them.
+pub record EndsAtRecord (settings : PlainSettings) (InRecord : Order → (count : ℕ) → (old new : Option (List ℕ)) → Type 0) (kind : StopKind) (before now : Moment) : Type 0 where
+  pub head : Head
+  pub trace : List Item
+  pub lawful : Lawful settings head.link trace
+  pub left : Option (List ℕ)
+  pub took : Took before.source.octets left head trace
+  pub taken : InRecord head.order (length trace) left now.source.octets
+  pub capture : Appends before.sinks.capture.octets now.sinks.capture.octets (capture_octets head trace)
+  pub report : Says (report_octets trace) (stop_of kind (offset_of (packets trace))) before.sinks.report now.sinks.report
+
+-- A flaw of the capture: at most the octets of the head or record that has it were taken.
+abbrev pub EndsAtFlaw : PlainSettings → Flaw → (before now : Moment) → Type 0
+EndsAtFlaw settings flaw before now =
+    EndsAtHead (λ old new. Begins old new (Err flaw)) (flaw_kind flaw) before now
+    ⊎ EndsAtRecord settings (λ order count old new. StopsAt order count old new flaw) (flaw_kind flaw) before now
+
+-- Status 3: a flaw that is no cut.
+pub record EndsFaulty (settings : PlainSettings) (before now : Moment) : Type 0 where
+  pub flaw : Flaw
+  pub other : is_cut flaw ≡ false
+  pub ends : EndsAtFlaw settings flaw before now
+
+-- Status 4: a cut.
+abbrev pub EndsCut : PlainSettings → (before now : Moment) → Type 0
+EndsCut settings before now = EndsAtFlaw settings cut_short before now
+
+-- Status 5: the source failed after fewer octets than the head or the record has.
+abbrev pub EndsUnread : PlainSettings → (before now : Moment) → Type 0
+EndsUnread settings before now =
+    EndsAtHead (λ old new. TakesFewer old new 24) kinds.ReadFault before now
+    ⊎ EndsAtRecord settings (λ order count old new. TakesPart order old new) kinds.ReadFault before now
+
+-- Status 6, at the head: it was taken, and the capture was given a prefix of the written one.
+pub record CaptureEndsInHead (before now : Moment) : Type 0 where
+  pub head : Head
+  pub took : Took before.source.octets now.source.octets head []
+  pub capture : GivenUpTo [] (head_octets head) before.sinks.capture.octets now.sinks.capture.octets
+  pub report : Says heading (stop_of kinds.Capture 0) before.sinks.report now.sinks.report
+
+-- Status 6, at the newest record: exactly the head and the records up to that one were taken. The capture was given all but that one's frames, and a prefix
+-- of these; the report the lines of the older records, and the stop at the offset behind them.
+pub record CaptureEndsInItem (settings : PlainSettings) (before now : Moment) : Type 0 where
+  pub head : Head
+  pub item : Item
+  pub older : List Item
+  pub lawful : Lawful settings head.link (item ∷ older)
+  pub took : Took before.source.octets now.source.octets head (item ∷ older)
+  pub has_frame : 0 < length item.frames
+  pub capture : GivenUpTo (capture_octets head older) (item_octets head.order item) before.sinks.capture.octets now.sinks.capture.octets
+  pub report : Says (report_octets older) (stop_of kinds.Capture (offset_of (packets older))) before.sinks.report now.sinks.report
+
+-- Status 6, at the end: a capture that keeps octets back, and so tells none, could not hand them on. All was taken, and the report was given all lines of
+-- records, and the stop at the offset of the end.
+pub record CaptureEndsBehind (settings : PlainSettings) (before now : Moment) : Type 0 where
+  pub head : Head
+  pub trace : List Item
+  pub lawful : Lawful settings head.link trace
+  pub whole : TookAll before.source.octets head trace
+  pub taken : TakenWhole before.source.octets now.source.octets
+  pub untold : before.sinks.capture.octets ≡ None
+  pub report : Says (report_octets trace) (stop_of kinds.Capture (offset_of (packets trace))) before.sinks.report now.sinks.report
+
+abbrev pub EndsUnwritten : PlainSettings → (before now : Moment) → Type 0
+EndsUnwritten settings before now = CaptureEndsInHead before now ⊎ (CaptureEndsInItem settings before now ⊎ CaptureEndsBehind settings before now)
+
+-- Status 7, at the first line: nothing was taken, the capture was given nothing, and the report a prefix of that line.
+pub record ReportEndsInFirst (before now : Moment) : Type 0 where
+  pub untaken : now.source.octets ≡ before.source.octets
+  pub capture : Appends before.sinks.capture.octets now.sinks.capture.octets []
+  pub report : GivenUpTo [] heading before.sinks.report.octets now.sinks.report.octets
+
+-- Status 7, at the line of the newest record: exactly the head and the records up to that one were taken. The capture was given the frames of all of them,
+-- the report the lines of the older ones and a prefix of that line.
+pub record ReportEndsInLine (settings : PlainSettings) (before now : Moment) : Type 0 where
+  pub head : Head
+  pub item : Item
+  pub older : List Item
+  pub lawful : Lawful settings head.link (item ∷ older)
+  pub took : Took before.source.octets now.source.octets head (item ∷ older)
+  pub capture : Appends before.sinks.capture.octets now.sinks.capture.octets (capture_octets head (item ∷ older))
+  pub report : GivenUpTo (report_octets older) (entry_text item.entry) before.sinks.report.octets now.sinks.report.octets
+
+-- Status 7, at the last line: all was taken, the capture was given all, the report all lines of records and a prefix of the last line.
+pub record ReportEndsInLast (settings : PlainSettings) (before now : Moment) : Type 0 where
+  pub head : Head
+  pub trace : List Item
+  pub lawful : Lawful settings head.link trace
+  pub whole : TookAll before.source.octets head trace
+  pub taken : TakenWhole before.source.octets now.source.octets
+  pub capture : Appends before.sinks.capture.octets now.sinks.capture.octets (capture_octets head trace)
+  pub report : GivenUpTo (report_octets trace) (last_text (last.End (length trace) (frame_count trace))) before.sinks.report.octets now.sinks.report.octets
+
+abbrev pub EndsUntold : PlainSettings → (before now : Moment) → Type 0
+EndsUntold settings before now = ReportEndsInFirst before now ⊎ (ReportEndsInLine settings before now ⊎ ReportEndsInLast settings before now)
+
+-- The words ask for a run, and this holds under its settings.
+abbrev pub UnderWords : List (List ℕ) → (PlainSettings → Type 0) → Type 0
+UnderWords words Row = (settings : PlainSettings) × AsksRun words settings × Row settings
+
+-- Status 2: the report was given the line that refuses the words, and nothing else happened.
+pub record EndsRefused (words : List (List ℕ)) (before now : Moment) : Type 0 where
+  pub fault : WordFault
+  pub refused : asked words ≡ Err fault
+  pub says : SaysOnly (words_line (number_of fault)) before now
+
+-- A run over these words that answers this status leaves this row.
+abbrev pub Leaves : (status : ℕ) → (Row : List (List ℕ) → (before now : Moment) → Type 0) → Type 0
+Leaves status Row = (words : List (List ℕ)) (before now : Moment) → Stopped words status before now → Row words before now
