@@ -1,0 +1,128 @@
+"""Further rows, worked by hand from the rules: scaling, reopening, states, resets, idleness, fragments."""
+
+from norm_model import packets as p
+from norm_model.formats import ICMP, TCP, UDP
+from norm_model.packets import INSIDE, OUTSIDE, opening, segment
+from worked_rows import OPENED, evasion, piece, row
+
+
+def scaled(shift):
+    return bytes([1, 3, 3, shift])
+
+
+def opened_with(ours, theirs):
+    """The opening with the outside's and the inside's scale, and a window of 4."""
+    return [segment("> S 999", options=ours), segment("< SA 5000,1000", options=theirs, window=4), segment("> A 1000,5001")]
+
+
+TWENTY = segment("> PA 1000,5001 abcdefghijklmnopqrst")
+
+row("a window that is scaled after the SYN",
+    opened_with(scaled(1), scaled(2)) + [TWENTY, segment("< A 5001,1000", window=4), TWENTY],
+    OPENED + ["4 in fix 1 T_WINDOW @1", "5 out pass 1 @1", "6 in fix 1 T_WINDOW @1"],
+    {4: [segment("> PA 1000,5001 abcde")], 6: [segment("> PA 1000,5001 abcdefghijklmnopq")]})
+
+row("a scale that one side alone carried",
+    opened_with(b"", scaled(2)) + [segment("< A 5001,1000", window=4), TWENTY],
+    OPENED + ["4 out pass 1 @1", "5 in fix 1 T_WINDOW @1"], {5: [segment("> PA 1000,5001 abcde")]})
+
+row("a connection whose SYNs nobody saw has the largest scale",
+    [segment("< A 5001,1000", window=1), segment("> PA 17385,5001", payload=b"abc")],
+    ["1 out pass 1 @1 +1", "2 in fix 1 T_WINDOW @1"], {2: [segment("> PA 17385,5001")]})
+
+row("the octet just past the window goes in",
+    [segment("< A 5001,1000", window=1), segment("> PA 17384,5001", payload=b"abc")],
+    ["1 out pass 1 @1 +1", "2 in fix 1 T_WINDOW @1"], {2: [segment("> PA 17384,5001 a")]})
+
+row("another SYN from the inside reopens", opening() + [segment("< S 6000")],
+    OPENED + ["4 out pass 1 @2 +2 -1:reopened:0"])
+
+row("the same SYN from the inside does not", opening() + [segment("< SA 5000,1000")], OPENED + ["4 out pass 1 @1"])
+
+row("a SYN from the inside reopens what began without one", [segment("< A 5001,1000"), segment("< S 5000")],
+    ["1 out pass 1 @1 +1", "2 out pass 1 @2 +2 -1:reopened:0"])
+
+row("a segment before the answer", [segment("> S 999"), segment("> A 1000,5001 ab")],
+    ["1 in pass 1 @1 +1", "2 in drop 1 T_STATE @1"], {2: [segment("> A 999,5001")]})
+
+row("another SYN before the answer has no probe", [segment("> S 999"), segment("> S 7000")],
+    ["1 in pass 1 @1 +1", "2 in drop 0 T_SYN @1"])
+
+row("a reset before the answer has no probe", [segment("> S 999"), segment("> R 1000")],
+    ["1 in pass 1 @1 +1", "2 in pass 1 @1"])
+
+row("both sides call at once",
+    [segment("< S 5000"), segment("> S 999"), segment("< SA 5000,1000"), segment("> SA 999,5001"),
+     segment("> PA 1000,5001 ab")],
+    ["1 out pass 1 @1 +1", "2 in pass 1 @1", "3 out pass 1 @1", "4 in pass 1 @1", "5 in pass 1 @1"])
+
+evasion("resets at the first and the last place that counts, and one past it",
+        [segment("> PA 1000,5001 abcd"), segment("< A 5001,1002"), segment("> R 1001"), segment("> R 1002"),
+         segment("> R 1004"), segment("> R 1005")],
+        ["4 in pass 1 @1", "5 out pass 1 @1", "6 in drop 0 T_RST @1", "7 in fix 2 C_PROBE @1", "8 in fix 2 C_PROBE @1",
+         "9 in drop 0 T_RST @1"], [],
+        {7: [segment("> R 1002"), segment("> A 1001,5001")], 8: [segment("> R 1004"), segment("> A 1001,5001")]})
+
+row("of four idle eras two end with each record",
+    [segment("> S 999", 40001 + i) for i in range(4)] + [(segment("> S 999", 40009), 3601), (segment("> S 998", 40001), 3601)],
+    ["%d in pass 1 @%d +%d" % (n, n, n) for n in (1, 2, 3, 4)]
+    + ["5 in pass 1 @5 +5 -1:idle:0 -2:idle:0", "6 in pass 1 @6 +6 -3:idle:0 -4:idle:0"])
+
+row("a record that is dropped for its link lets time pass",
+    [segment("> S 999"), (b"", 3601), (p.inward(47, b""), 3700)],
+    ["1 in pass 1 @1 +1", "2 - drop 0 I_SHORT -1:idle:0", "3 in drop 0 P_PROTO"])
+
+MESSAGE = p.udp(OUTSIDE, INSIDE, 40000, 53, b"a" * 16)
+
+row("pieces that come just in time, and one second too late",
+    [piece(MESSAGE[:16], 0, True, 7), piece(MESSAGE[:16], 0, True, 8), (piece(MESSAGE[16:], 16, False, 7), 30),
+     (piece(MESSAGE[16:], 16, False, 8), 31)],
+    ["1 in hold 0 F_HELD", "2 in hold 0 F_HELD", "3 in fix 1 F_DONE", "4 in hold 0 F_HELD"],
+    {3: [p.inward(UDP, MESSAGE, ident=7)]})
+
+row("a piece past the end makes the datagram forgotten",
+    [piece(MESSAGE[16:], 16, False, 7), piece(b"a" * 8, 24, True, 7), piece(MESSAGE[:16], 0, True, 7)],
+    ["1 in hold 0 F_HELD", "2 in drop 0 F_END", "3 in hold 0 F_HELD"])
+
+row("a last piece that ends before octets that are held",
+    [piece(b"a" * 16, 16, True, 7), piece(b"a" * 8, 16, False, 7)], ["1 in hold 0 F_HELD", "2 in drop 0 F_END"])
+
+row("what is put together has the marks of the first piece at the front",
+    [p.inward(UDP, MESSAGE[16:], offset=16, ttl=200, tos=3, ident=7),
+     p.inward(UDP, MESSAGE[:16], mf=True, df=True, ttl=30, tos=9, ident=7)],
+    ["1 in hold 0 F_HELD", "2 in fix 1 I_TTL F_DONE"], {2: [p.inward(UDP, MESSAGE, df=True, ttl=31, tos=9, ident=7)]})
+
+row("a segment in two pieces is judged as a whole",
+    opening() + [p.inward(TCP, segment("> PA 1000,5001 abcd", reserved=1)[20:36], mf=True, ident=9),
+                 p.inward(TCP, segment("> PA 1000,5001 abcd", reserved=1)[36:], offset=16, ident=9)],
+    OPENED + ["4 in hold 0 F_HELD", "5 in fix 1 F_DONE T_RES @1"], {5: [segment("> PA 1000,5001 abcd", ident=9)]})
+
+row("the cells of fragments",
+    [p.inward(UDP, b"a" * 65024, mf=True, ident=1), p.inward(UDP, b"a" * 256, mf=True, ident=2),
+     p.inward(UDP, b"a" * 264, offset=256, mf=True, ident=2), p.inward(UDP, b"a" * 256, offset=256, mf=True, ident=2)],
+    ["1 in hold 0 F_HELD", "2 in hold 0 F_HELD", "3 in drop 0 F_ROOM", "4 in hold 0 F_HELD"], words="--frag-cells 256")
+
+row("as many eras as may be live without an option, and one more",
+    [segment("> S 999", 20000 + i) for i in range(4097)],
+    ["%d in pass 1 @%d +%d" % (n, n, n) for n in range(1, 4097)] + ["4097 in pass 1 @4097 +4097 -1:evicted:0"])
+
+row("as many datagrams as may be held without an option, and one more",
+    [piece(b"a" * 8, 0, True, i) for i in range(257)],
+    ["%d in hold 0 F_HELD" % n for n in range(1, 257)] + ["257 in drop 0 F_MANY"])
+
+row("as many cells of fragments as there are without an option, and one more",
+    [piece(b"a" * 65280, 0, True, i) for i in range(16)] + [piece(b"a" * 4096, 0, True, 16), piece(b"a" * 8, 0, True, 17)],
+    ["%d in hold 0 F_HELD" % n for n in range(1, 18)] + ["18 in drop 0 F_ROOM"])
+
+row("a probe beside a dropped packet has a raised TTL", opening() + [segment("> S 7000", ttl=1)],
+    OPENED + ["4 in drop 1 T_SYN @1"], {4: [segment("> A 999,5001", ttl=31)]})
+
+row("an error about a connection in the other direction",
+    opening() + [p.inward(ICMP, p.icmp_error(3, OUTSIDE, INSIDE, TCP, 40000, 80))], OPENED + ["4 in drop 0 M_QUOTE"])
+
+row("a connection closed from both sides stays closed to data",
+    opening() + [segment("< FA 5001,1000"), segment("> FA 1000,5002"), segment("< A 5002,1001"),
+                 segment("> PA 1000,5002 zz"), segment("> SA 7000,5002"), segment("> S 7000")],
+    OPENED + ["4 out pass 1 @1", "5 in pass 1 @1", "6 out pass 1 @1", "7 in fix 1 T_OLD T_END @1",
+              "8 in drop 1 T_SYN @1", "9 in pass 1 @2 +2 -1:reopened:0"],
+    {7: [segment("> PA 1000,5002")], 8: [segment("> A 1000,5002")]})

@@ -1,0 +1,33 @@
+"""What a program has: the layers, the words and the version of its report.
+
+The model knows all rules. A program that has only a part of it is compared with that part: a
+packet that a missing layer would judge is dropped as X_LATER, and a missing word is refused.
+"""
+
+from types import SimpleNamespace
+
+# The option that a program takes, with the least and the greatest number; `offload` takes no number.
+RANGES = {
+    "hops": (0, 254),
+    "flows": (1, 65536),
+    "cells": (1, 262144),
+    "frags": (1, 4096),
+    "frag-cells": (256, 65536),
+    "idle": (1, 1000000),
+    "frag-time": (1, 3600),
+    "seed": (0, 2**64 - 1),
+    "quota": (1, 262144),
+    "offload": None,
+}
+
+
+def built(fragments, connections, options, prefixes, load, report_version):
+    return SimpleNamespace(fragments=fragments, connections=connections, options=list(options),
+                           prefixes=prefixes, load=load, report_version=report_version)
+
+
+# Everything.
+WHOLE = built(True, True, RANGES, 16, True, 2)
+
+# What the program of this repository has today.
+BUILT = built(False, False, [name for name in RANGES if name != "quota"], 16, False, 2)

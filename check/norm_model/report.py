@@ -1,0 +1,103 @@
+"""The text of a report, and a report read back.
+
+Version 1 writes an ended era as `-E:reason`, version 2 as `-E:reason:N` with the number of its octets.
+"""
+
+import re
+from types import SimpleNamespace
+
+from norm_model.rule_names import RULES
+
+
+def first_line(version):
+    return "norm %d\n" % version
+
+
+def entry_line(entry, version):
+    parts = [str(entry.number), entry.side, entry.verdict, str(entry.packets)] + entry.rules
+    if entry.era is not None:
+        parts.append("@%d" % entry.era)
+    if entry.begun is not None:
+        parts.append("+%d" % entry.begun)
+    for ended in entry.ended:
+        text = "-%d:%s" % (ended.era, ended.reason)
+        parts.append(text + (":%d" % ended.octets if version == 2 else ""))
+    return " ".join(parts) + "\n"
+
+
+def end_line(records, packets):
+    return "end %d %d\n" % (records, packets)
+
+
+def stop_line(kind, number):
+    return "stop %s %d\n" % (kind, number)
+
+
+# A report read back
+
+REASONS = ("reset", "evicted", "idle", "reopened")
+
+STOPS = ("magic", "version", "link", "long", "many", "cut", "read", "capture", "memory")
+
+NUMBER = "(0|[1-9][0-9]*)"
+
+ENTRY = re.compile("%s (in|out|-) (pass|fix|hold|drop) %s((?: [A-Z_]+)*)(?: @%s)?(?: \\+%s)?((?: -[0-9a-z:]+)*)"
+                   % (NUMBER, NUMBER, NUMBER, NUMBER))
+
+ENDED = {1: re.compile("-%s:(%s)" % (NUMBER, "|".join(REASONS))),
+         2: re.compile("-%s:(%s):%s" % (NUMBER, "|".join(REASONS), NUMBER))}
+
+LAST = re.compile("end %s %s|stop (%s) %s" % (NUMBER, NUMBER, "|".join(STOPS), NUMBER))
+
+
+def below(bits, *texts):
+    return all(text is None or int(text) < 2**bits for text in texts)
+
+
+def read_ended(text, version):
+    found = ENDED[version].fullmatch(text)
+    if found is None or not below(32, found[1]) or (version == 2 and not below(64, found[3])):
+        return None
+    return SimpleNamespace(era=int(found[1]), reason=found[2], octets=int(found[3]) if version == 2 else None)
+
+
+def read_entry(text, version):
+    """The entry that this line is the text of, or None."""
+    found = ENTRY.fullmatch(text)
+    if found is None or not below(32, found[1], found[6], found[7]) or not below(8, found[4]):
+        return None
+    rules = found[5].split()
+    ended = [read_ended(part, version) for part in found[8].split()]
+    if len(rules) > 16 or any(rule not in RULES for rule in rules) or len(ended) > 4 or None in ended:
+        return None
+    era, begun = (None if found[i] is None else int(found[i]) for i in (6, 7))
+    return SimpleNamespace(number=int(found[1]), side=found[2], verdict=found[3], packets=int(found[4]), rules=rules,
+                           era=era, begun=begun, ended=ended)
+
+
+def is_last(text):
+    found = LAST.fullmatch(text)
+    if found is None:
+        return False
+    return below(32, found[1]) and below(64, found[2], found[4])
+
+
+def read_report(text):
+    """The version, the entries and the last line; or the name of the first fault and the number of its line."""
+    lines = text.split("\n")
+    versions = [version for version in (1, 2) if lines[0] + "\n" == first_line(version)]
+    if not versions or len(lines) == 1:
+        return ("First", 1)
+    entries, whole = [], lines[:-1]
+    for n, line in enumerate(whole[1:], 2):
+        if is_last(line):
+            if n == len(whole) and lines[-1] == "":
+                return SimpleNamespace(version=versions[0], entries=entries, last=line, lines=n)
+            return ("Shape", n + 1)
+        entry = read_entry(line, versions[0])
+        if entry is None:
+            return ("Shape", n)
+        if entry.number != len(entries) + 1:
+            return ("Number", n)
+        entries.append(entry)
+    return ("Shape", len(whole) + 1)

@@ -1,0 +1,38 @@
+"""A whole run: from the words and the octets of a capture to the status, the capture written and the report."""
+
+from norm_model import capture, report
+from norm_model.engine import open_engine, step
+from norm_model.load import run_load
+from norm_model.words import read_words
+
+STATUS = {"end": 0, "magic": 3, "version": 3, "link": 3, "long": 3, "many": 3, "cut": 4}
+
+
+def run(words, octets, built):
+    """The status, the octets of the written capture, and the report."""
+    command = read_words(words, built)
+    if isinstance(command, int):
+        return 2, b"", report.stop_line("words", command)
+    if command.kind == "load":
+        return 0, b"", run_load(command.seed, command.count, built)
+    status, written, lines, _ = run_capture(command.settings, octets, built)
+    return status, written, lines
+
+
+def run_capture(settings, octets, built):
+    """Besides, each entry with its frames."""
+    lines = report.first_line(built.report_version)
+    head = capture.read_head(octets)
+    if isinstance(head, str):
+        return STATUS[head], b"", lines + report.stop_line(head, 0), []
+    parts, texts, steps = [capture.write_head(head)], [lines], []
+    engine = open_engine(settings, head.link, built)
+    records, fault, at = capture.read_records(octets, head)
+    for record in records:
+        entry, written = step(engine, record)
+        parts += [capture.write_record(head, record.seconds, record.fraction, frame) for frame in written]
+        texts.append(report.entry_line(entry, built.report_version))
+        steps.append((entry, written))
+    packets = sum(len(written) for _, written in steps)
+    last = report.end_line(len(records), packets) if fault == "end" else report.stop_line(fault, at)
+    return STATUS[fault], b"".join(parts), "".join(texts) + last, steps

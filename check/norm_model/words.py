@@ -1,0 +1,114 @@
+"""The words of the command line: a command with its settings, or the number of a refusal."""
+
+from types import SimpleNamespace
+
+from norm_model.built import RANGES
+
+REFUSED, PREFIX, TOO_MANY, SAME = 1, 2, 3, 5
+
+DIGITS = "0123456789"
+
+
+def default_settings():
+    return SimpleNamespace(prefixes=[], hops=30, flows=4096, cells=65536, frags=256, frag_cells=4096,
+                           idle=3600, frag_time=30, seed=0, quota=None, offload=False)
+
+
+def is_digits(text, least, most):
+    return least <= len(text) <= most and all(letter in DIGITS for letter in text)
+
+
+def read_number(text, low, high):
+    """A number of 1 to 20 decimal digits in its range, or None."""
+    if not is_digits(text, 1, 20) or not low <= int(text) <= high:
+        return None
+    return int(text)
+
+
+def read_prefix(text):
+    """An address and a length, or the name of the fault."""
+    address, slash, length = text.partition("/")
+    parts = address.split(".")
+    if slash == "" or len(parts) != 4 or not is_digits(length, 1, 2):
+        return "Shape"
+    if not all(is_digits(part, 1, 3) for part in parts):
+        return "Shape"
+    if any(int(part) > 255 for part in parts):
+        return "Part"
+    if int(length) > 32:
+        return "Length"
+    number = 0
+    for part in parts:
+        number = number * 256 + int(part)
+    return (number, int(length))
+
+
+def prefix_holds(prefix, address):
+    number, length = prefix
+    return number >> (32 - length) == address >> (32 - length)
+
+
+def is_trusted(settings, address):
+    return any(prefix_holds(prefix, address) for prefix in settings.prefixes)
+
+
+def take_option(words, settings, seen, built):
+    """Reads the option at the front of the words: the words after it, or None where it is refused."""
+    name, equals, value = words[0][2:].partition("=")
+    rest = words[1:]
+    if not words[0].startswith("--") or name not in built.options or name in seen:
+        return None
+    seen.append(name)
+    if RANGES[name] is None:
+        settings.offload = True
+        return rest if equals == "" else None
+    if equals == "":
+        if not rest:
+            return None
+        value, rest = rest[0], rest[1:]
+    number = read_number(value, *RANGES[name])
+    if number is None:
+        return None
+    setattr(settings, name.replace("-", "_"), number)
+    return rest
+
+
+def read_run(words, built):
+    settings = default_settings()
+    seen = []
+    while words and words[0].startswith("-"):
+        words = take_option(words, settings, seen, built)
+        if words is None:
+            return REFUSED
+    if len(words) < 3 or any(word == "" or word.startswith("-") for word in words):
+        return REFUSED
+    names, prefixes = words[:2], words[2:]
+    if built.prefixes == 1 and len(prefixes) != 1:
+        return REFUSED
+    if names[0] == names[1]:
+        return SAME
+    if len(prefixes) > built.prefixes:
+        return TOO_MANY
+    read = [read_prefix(prefix) for prefix in prefixes]
+    if any(isinstance(prefix, str) for prefix in read):
+        return PREFIX
+    settings.prefixes = read
+    return SimpleNamespace(kind="run", input=names[0], output=names[1], settings=settings)
+
+
+def read_load(words, built):
+    if not built.load or len(words) != 2:
+        return REFUSED
+    seed, count = read_number(words[0], 0, 2**64 - 1), read_number(words[1], 1, 1000000)
+    if seed is None or count is None:
+        return REFUSED
+    return SimpleNamespace(kind="load", seed=seed, count=count)
+
+
+def read_words(words, built):
+    """A command, or the number of the refusal: another form, then one name twice, then prefixes."""
+    if words[:1] == ["run"]:
+        return read_run(words[1:], built)
+    if words[:1] == ["load"]:
+        return read_load(words[1:], built)
+    return REFUSED
