@@ -1,5 +1,5 @@
 -- What a quota bounds: the cells of each live era, and where all eras together have theirs, T_ROOM.
-use Rattle.std.proofs.Common.{◌≡◌, ◌≢◌, ℕ, suc, ◌+◌, ◌-◌, ◌*◌, ◌<◌, ◌≤◌, ◌&&◌, Bool, true, false, cond, List, [], ◌∷◌, length, find, Option, Some, None, is_some, refl, sym, ap, ap₂, subst, ◌∙◌, arith}
+use Rattle.std.proofs.Common.{◌≡◌, ◌≢◌, ℕ, ◌+◌, ◌-◌, ◌*◌, ◌<◌, ◌≤◌, ◌&&◌, Bool, true, false, cond, List, [], ◌∷◌, length, find, Option, Some, None, is_some, refl, sym, ap, ap₂, subst, ◌∙◌, arith}
 use Rattle.std.specs.Prelude.{nat_lt}
 use Rattle.std.specs.List.{AllByRecursion, sum_by}
 use Rattle.std.proofs.Math.Nat.{suc-mul, mul-le-mul_right}
@@ -15,7 +15,7 @@ use Rattle.tcp_norm.specs.declared.key.EraKey.{EraKey}
 use Rattle.tcp_norm.specs.Calls.{Call, Datagram, Alive, eras, segments, live, is_key, key_of, goes_in, segment_in}
 use Rattle.tcp_norm.specs.Held.{held_all, held_in, held_of}
 use Rattle.tcp_norm.specs.Near.{AreBounded, IsAtMost}
-use Rattle.tcp_norm.specs.Views.{View, view_of, number_of, segments_of}
+use Rattle.tcp_norm.specs.Views.{view_of, number_of, segments_of}
 use Rattle.tcp_norm.specs.Rows.{is_live, holds_era, dropped_by, exceeds, wanted_of}
 use Rattle.tcp_norm.specs.Standing.{HoldsFor, EntryStands, alive_in}
 use Rattle.tcp_norm.proofs.Splits.{all_map, all_weaker}

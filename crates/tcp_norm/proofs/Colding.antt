@@ -19,7 +19,7 @@ use Rattle.tcp_norm.specs.Calls.{Datagram, goes_in, segment_in}
 use Rattle.tcp_norm.specs.Views.{View}
 use Rattle.tcp_norm.specs.Rows.{dropped_by, t_full}
 use Rattle.tcp_norm.specs.Colds.{Comes}
-use Rattle.tcp_norm.specs.Steps.{IsStep, began, evicted, place_of}
+use Rattle.tcp_norm.specs.Steps.{IsStep, began, evicted}
 use Rattle.tcp_norm.proofs.Outwards.{got, place_in, placed}
 
 pub cold_dropped : (settings : PlainSettings) (v : View) (d : Datagram) → goes_in d.side ≡ true → v.era ≡ None

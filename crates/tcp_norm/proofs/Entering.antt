@@ -1,6 +1,5 @@
 -- What becomes of an inbound datagram, by the row that drops it, or by what it does to the eras.
-use Rattle.std.proofs.Common.{◌≡◌, ◌==◌, length, ℕ, ◌&&◌, ◌||◌, not, Bool, true, false, cond, List, [], ◌∷◌, ◌++◌, map, Option, Some, None, is_some, refl, sym, ap, ap₂, subst, ◌∙◌}
-use Rattle.std.specs.Option.{option_or}
+use Rattle.std.proofs.Common.{◌≡◌, ◌==◌, length, ℕ, ◌&&◌, not, Bool, true, false, cond, List, [], ◌∷◌, ◌++◌, map, Option, Some, None, is_some, refl, sym, ap, ap₂, subst, ◌∙◌}
 use Rattle.wire_base.specs.Tcp as tcp
 use Rattle.wire_base.specs.Segments.{Written}
 use Rattle.wire_base.specs.declared.address.Side.TheVariants.{Inward}
@@ -16,15 +15,15 @@ use Rattle.era_state.specs.Rules.{t_state, is_early_at}
 use Rattle.cold_start.specs.Rules.{is_asked, cold_probe_of}
 use Rattle.reset_probe.specs.Rules.{era_probe}
 use Rattle.tcp_norm.specs.declared.step.Step.{Step}
-use Rattle.tcp_norm.specs.Calls.{Datagram, Outcome, Packet, read, goes_in, segment_in, key_of, key_at}
+use Rattle.tcp_norm.specs.Calls.{Datagram, Packet, read, goes_in, segment_in, key_of, key_at}
 use Rattle.tcp_norm.specs.Views.{View}
-use Rattle.tcp_norm.specs.Rows.{is_live, holds_era, dropped_by, mended_by, t_full}
+use Rattle.tcp_norm.specs.Rows.{is_live, holds_era, dropped_by, mended_by}
 use Rattle.tcp_norm.specs.Emits.{packet_by, packets_passed, probe_packet, probe_packets, probe_dropped}
 use Rattle.tcp_norm.specs.Outcomes.{outcome_at, outcome_by, outcome_dropped, verdict_of}
 use Rattle.tcp_norm.specs.Inwards.{passed}
 use Rattle.tcp_norm.specs.Colds.{IsUnheard}
 use Rattle.tcp_norm.specs.Passing.{IsDatagram}
-use Rattle.tcp_norm.specs.Steps.{IsStep, Does, listed}
+use Rattle.tcp_norm.specs.Steps.{IsStep, Does}
 use Rattle.tcp_norm.proofs.Judging.{both_true, not_true, dropped_is}
 use Rattle.tcp_norm.proofs.Passing.{fixed_or_passed, no_note}
 

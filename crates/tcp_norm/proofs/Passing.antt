@@ -3,14 +3,13 @@ use Rattle.std.proofs.Common.{◌≡◌, ℕ, ◌&&◌, not, Bool, true, false, 
 use Rattle.std.specs.Option.{option_or}
 use Rattle.rule_book.specs.declared.rule.Rule.{Rule}
 use Rattle.rule_book.specs.declared.rule.Rule.TheVariants as rules
-use Rattle.rule_book.specs.declared.entry.Verdict.TheVariants as verdicts
 use Rattle.norm_settings.specs.Settings.{PlainSettings}
 use Rattle.era_state.specs.declared.interval.Interval.{Interval}
 use Rattle.era_state.specs.Intervals.{KeptOf}
 use Rattle.tcp_norm.specs.Calls.{datagram, Datagram, Outcome, Packet, read, goes_in, segment_in, key_of, is_written, alive_at}
 use Rattle.tcp_norm.specs.Views.{View}
 use Rattle.tcp_norm.specs.Writes.{WritesIn}
-use Rattle.tcp_norm.specs.Rows.{is_live, t_quota, t_room, t_full, t_res, t_urg, t_opt, clashes, dropped_by, mended_by, noted}
+use Rattle.tcp_norm.specs.Rows.{is_live, t_quota, t_room, t_full, t_res, t_urg, t_opt, clashes, dropped_by, noted}
 use Rattle.tcp_norm.specs.Emits.{packet_by, packets_passed}
 use Rattle.tcp_norm.specs.Outcomes.{outcome_at, outcome_by, verdict_of}
 use Rattle.tcp_norm.specs.Streams.{stream_rows}

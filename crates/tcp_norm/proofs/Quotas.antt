@@ -5,7 +5,7 @@ use Rattle.std.specs.List.{list_any, count_by, range_with_len}
 use Rattle.std.proofs.lemmas.Bool.{cases_eq}
 use Rattle.std.proofs.lemmas.Bool.Decides.{nat_tests}
 use Rattle.std.proofs.lemmas.List.Sums.{sum_by-cons}
-use Rattle.retain_store.specs.Maps.{Block, Store, ChangesOnly, ForgetsBelow, IsMap, IsWithin, block_at, chain_of, has_octet, holds, octet_at}
+use Rattle.retain_store.specs.Maps.{Block, Store, ChangesOnly, ForgetsBelow, IsMap, IsWithin, block_at, chain_of, holds, octet_at}
 use Rattle.tcp_norm.specs.Near.{AreBounded, IsAtMost}
 use Rattle.tcp_norm.specs.Rows.{exceeds}
 use Rattle.tcp_norm.proofs.Chains.{holds_octets}

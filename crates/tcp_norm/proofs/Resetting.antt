@@ -18,7 +18,7 @@ use Rattle.reset_probe.specs.declared.reset.ResetAnswer.TheVariants.{Pass, Refus
 use Rattle.reset_probe.specs.Answers.{reset_answer}
 use Rattle.reset_probe.specs.Rules.{era_probe, probe_with, awaited_number}
 use Rattle.tcp_norm.specs.declared.state.TcpNorm.{TcpNorm}
-use Rattle.tcp_norm.specs.Calls.{Call, datagram, Datagram, Outcome, Packet, Alive, read, goes_in, is_era, is_written, segments, eras, segment_in, key_of, without, written_by, begins_by, alive_at}
+use Rattle.tcp_norm.specs.Calls.{Call, datagram, Datagram, Outcome, Packet, read, goes_in, is_era, is_written, segments, eras, segment_in, key_of, without, begins_by, alive_at}
 use Rattle.tcp_norm.specs.Held.{held_of}
 use Rattle.tcp_norm.specs.Views.{View}
 use Rattle.tcp_norm.specs.Rows.{is_live, holds_era, dropped_by, exceeds, wanted_of}

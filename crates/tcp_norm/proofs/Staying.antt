@@ -18,10 +18,10 @@ use Rattle.era_state.specs.Eras as era
 use Rattle.tcp_norm.specs.declared.flow.Flow.{Flow}
 use Rattle.tcp_norm.specs.declared.key.EraKey.{EraKey}
 use Rattle.tcp_norm.specs.Calls.{Alive, without}
-use Rattle.tcp_norm.specs.Held.{kept_at, has_block, held_of}
+use Rattle.tcp_norm.specs.Held.{kept_at, held_of}
 use Rattle.tcp_norm.specs.Standing.{HoldsFor}
 use Rattle.tcp_norm.specs.Chains.{Keeps}
-use Rattle.tcp_norm.proofs.Finds.{At, at, wherever}
+use Rattle.tcp_norm.proofs.Finds.{at, wherever}
 use Rattle.tcp_norm.proofs.Forwarding.{stands_at, renamed}
 use Rattle.tcp_norm.proofs.Calling.{writes_in}
 

@@ -1,5 +1,5 @@
 -- The rows that mend an inbound segment of the stream, by what holds of it.
-use Rattle.std.specs.Prelude.{Bool, List, [], ◌∷◌, ◌++◌, if◌then◌else◌}
+use Rattle.std.specs.Prelude.{Bool, List, ◌++◌}
 use Rattle.rule_book.specs.declared.rule.Rule.{Rule}
 use Rattle.rule_book.specs.declared.rule.Rule.TheVariants as rules
 use Rattle.ip_rules.specs.Judged.{where_holds}

@@ -7,7 +7,7 @@ use wire_base::FlowKey;
 
 /// What becomes of it: T_STATE or T_SYN drops it, or it goes in and does this to the eras.
 #[derive(Clone, Copy)]
-pub enum Called {
+pub enum SynEffect {
     Early,
     Stray,
     Goes(Step),
@@ -21,11 +21,11 @@ impl TcpNorm {
     ghost use Rattle.tcp_norm.specs.Calls.{Call, Datagram, Outcome, datagram};
     ghost use Rattle.tcp_norm.specs.Views.{view_of};
     ghost use Rattle.tcp_norm.specs.Colds.{Comes};
-    ghost use Rattle.tcp_norm.specs.Recalls.{IsCalled, DoesCalled};
+    ghost use Rattle.tcp_norm.specs.Recalls.{IsSynEffect, DoesSyn};
     ghost use Rattle.tcp_norm.specs.Standing.{StandsFor};
 
     // Takes one of which `seg` is what goes inwards.
-    pub(crate) fn come_call(&mut self, slot: Slot, key: FlowKey, seg: &Seg, now: u32) -> Called
+    pub(crate) fn come_call(&mut self, slot: Slot, key: FlowKey, seg: &Seg, now: u32) -> SynEffect
         requires inside { IsIn self.old.table.entries slot }
         requires key { Wherever self.old.table.entries slot (λ e. e.key.0 ≡ key) }
         requires legal { tcp.are_legal seg.now.flags.0 ≡ true }
@@ -33,9 +33,9 @@ impl TcpNorm {
         requires few { self.old.calls < 2 ^ 32 - 1 }
         requires later { self.old.latest ≤ now }
         ensures rows { (settings : PlainSettings) (calls : List Call) (d : Datagram) → StandsFor settings self.old calls → Comes d key seg.now →
-            IsCalled settings (view_of settings calls d) d result }
+            IsSynEffect settings (view_of settings calls d) d result }
         ensures stands { (settings : PlainSettings) (calls : List Call) (d : Datagram) (o : Outcome) → StandsFor settings self.old calls → Comes d key seg.now →
-            DoesCalled d seg.now result o → StandsFor settings self.new (datagram now d o ∷ calls) }
+            DoesSyn d seg.now result o → StandsFor settings self.new (datagram now d o ∷ calls) }
     {
         let _count = self.table.len();
         let flow = self.flow_at(slot);
@@ -46,17 +46,17 @@ impl TcpNorm {
         let octets = flow.era.octets();
         self.arrive(now);
         if early {
-            return Called::Early;
+            return SynEffect::Early;
         }
         if stray {
-            return Called::Stray;
+            return SynEffect::Stray;
         }
         if again & !answer {
             self.end(slot);
             let number = self.begin(key, Era::Offered(Offered::offer(seg)), now);
-            return Called::Goes(Step::reopened(number, flow.number, octets));
+            return SynEffect::Goes(Step::reopened(number, flow.number, octets));
         }
         self.go_on(slot, flow, flow.era.seen_syn(seg), now);
-        Called::Goes(Step::within(flow.number))
+        SynEffect::Goes(Step::within(flow.number))
     }
 }

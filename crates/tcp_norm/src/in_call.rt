@@ -1,5 +1,5 @@
 //! An inbound SYN of a connection that has a live era.
-use crate::come_call::Called;
+use crate::come_call::SynEffect;
 use crate::entry::{tell_dropped, tell_in};
 use crate::flow::Flow;
 use crate::reading::{are_bits, bare_seg, inward_key, options_of};
@@ -70,18 +70,18 @@ impl TcpNorm {
         let era = flow.number;
         let ip = raised(&packet.head, self.hops);
         match self.come_call(slot, key, &seg, now) {
-            Called::Early => {
+            SynEffect::Early => {
                 tell_dropped(Rule::TState, Some(era), 1, entry);
                 put_probe(link, &ip, head, &cold_probe(&seg), out);
             }
-            Called::Stray => match probe_of(&flow.era, &seg) {
+            SynEffect::Stray => match probe_of(&flow.era, &seg) {
                 None => tell_dropped(Rule::TSyn, Some(era), 0, entry),
                 Some(probe) => {
                     tell_dropped(Rule::TSyn, Some(era), 1, entry);
                     put_probe(link, &ip, head, &probe, out);
                 }
             },
-            Called::Goes(step) => {
+            SynEffect::Goes(step) => {
                 let rows = rows_beside(packet.payload, head, changed, false);
                 tell_in(&step, &packet.fixes, &rows, 1, entry);
                 self.send_bare(packet, link, head, &rows, out);

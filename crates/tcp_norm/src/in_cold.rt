@@ -1,5 +1,5 @@
 //! An inbound datagram of a connection that has no live era.
-use crate::come_cold::Cold;
+use crate::come_cold::ColdEffect;
 use crate::entry::{tell_dropped, tell_in};
 use crate::reading::{are_bits, bare_seg, inward_key, options_of};
 use crate::rows::rows_beside;
@@ -59,15 +59,15 @@ impl TcpNorm {
         let seg = bare_seg(packet.payload, head);
         let (_options, changed) = options_of(packet.payload, head);
         match self.come_cold(key, &seg, now) {
-            Cold::Refused => tell_dropped(Rule::TCold, None, 0, entry),
-            Cold::Full => tell_dropped(Rule::TFull, None, 0, entry),
-            Cold::Asked(probe) => {
+            ColdEffect::Refused => tell_dropped(Rule::TCold, None, 0, entry),
+            ColdEffect::Full => tell_dropped(Rule::TFull, None, 0, entry),
+            ColdEffect::Asked(probe) => {
                 let rows = rows_beside(packet.payload, head, changed, true);
                 tell_in(&Step::outside(false), &packet.fixes, &rows, 1, entry);
                 let ip = raised(&packet.head, self.hops);
                 put_probe(link, &ip, head, &probe, out);
             }
-            Cold::Begun(place) => {
+            ColdEffect::Begun(place) => {
                 let rows = rows_beside(packet.payload, head, changed, false);
                 tell_in(&Step::begun(place), &packet.fixes, &rows, 1, entry);
                 self.send_bare(packet, link, head, &rows, out);

@@ -1,5 +1,5 @@
 //! An inbound RST of a connection that has a live era.
-use crate::come_reset::Knock;
+use crate::come_reset::ResetEffect;
 use crate::entry::{packets_with, tell_dropped, tell_in};
 use crate::flow::Flow;
 use crate::reading::{are_bits, bare_seg, options_of};
@@ -66,8 +66,8 @@ impl TcpNorm {
         let seg = bare_seg(packet.payload, head);
         let (_options, changed) = options_of(packet.payload, head);
         match self.come_reset(slot, &seg, now) {
-            Knock::Repelled => tell_dropped(Rule::TRst, Some(flow.number), 0, entry),
-            Knock::Enters(number, probe) => {
+            ResetEffect::Repelled => tell_dropped(Rule::TRst, Some(flow.number), 0, entry),
+            ResetEffect::Enters(number, probe) => {
                 let rows = rows_beside(packet.payload, head, changed, probe.is_some());
                 let count = packets_with(probe);
                 tell_in(&Step::within(number), &packet.fixes, &rows, count, entry);

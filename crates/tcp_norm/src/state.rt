@@ -99,7 +99,8 @@ impl TcpNorm {
         self.table.len()
     }
 
-    /// How many cells hold octets: where a quota is set, of each era at most so many; and where all eras together have so many, T_ROOM never holds.
+    /// How many cells hold octets. Where a quota is set no live era holds more cells than that, and where there are as many cells as all eras may hold
+    /// together, T_ROOM drops nothing.
     pub fn held(&self) -> u32
         ensures number { (settings : PlainSettings) (calls : List Call) → StandsFor settings self.now calls → result ≡ held_all calls }
         ensures bounded { (settings : PlainSettings) (calls : List Call) → StandsFor settings self.now calls → result ≤ settings.cells }

@@ -256,14 +256,14 @@ const BOUNDS: &[Run] = &[
         Row(0, Sent(Inward, SYN, 999, 0, "", PLAIN), "10 in pass 1 @5\n", &[]),
         Row(0, Sent(Inward, SYN, 999, 0, "", NEXT), "11 in pass 1 @6 +6 -3:evicted:3\n", &[]),
     ], ..RUN },
-    // An era is idle past 3,600 seconds; two end at a time.
-    Run { rows: &[
+    // An era is idle past 3,600 seconds; two end at a time, before a place is looked for.
+    Run { flows: 3, rows: &[
         Row(0, Sent(Inward, SYN, 999, 0, "", PLAIN), "1 in pass 1 @1 +1\n", &[]),
         Row(0, Sent(Inward, SYN, 999, 0, "", NEXT), "2 in pass 1 @2 +2\n", &[]),
         Row(0, Sent(Inward, SYN, 999, 0, "", More { port: 40_002, ..PLAIN }), "3 in pass 1 @3 +3\n", &[]),
         Row(3600, Sent(Inward, RST, 999, 0, "", More { port: 40_003, ..PLAIN }), "4 in drop 0 T_COLD\n", &[]),
-        Row(3601, Sent(Inward, RST, 999, 0, "", More { port: 40_003, ..PLAIN }), "5 in drop 0 T_COLD -1:idle:0 -2:idle:0\n", &[]),
-        Row(3601, Sent(Inward, SYN, 999, 0, "", PLAIN), "6 in pass 1 @4 +4 -3:idle:0\n", &[]),
+        Row(3601, Sent(Inward, SYN, 999, 0, "", More { port: 40_003, ..PLAIN }), "5 in pass 1 @4 +4 -1:idle:0 -2:idle:0\n", &[]),
+        Row(3601, Sent(Inward, SYN, 999, 0, "", PLAIN), "6 in pass 1 @5 +5 -3:idle:0\n", &[]),
     ], ..RUN },
 ];
 

@@ -1,4 +1,4 @@
-use Rattle.std.proofs.Common.{◌≡◌, ◌+◌, ◌∙◌, Bool, cond, true, false, Some, None, sym, ap, ap₂, arith}
+use Rattle.std.proofs.Common.{◌≡◌, ◌<◌, ◌≤◌, ◌+◌, ◌∙◌, cond, true, false, Some, None, sym, ap, ap₂, arith}
 use Rattle.std.specs.Prelude.{nat_lt}
 use Rattle.std.proofs.lemmas.Bool.Decides.{nat_tests}
 use Rattle.rule_book.specs.declared.rule.Rule.TheVariants as rules
@@ -21,7 +21,8 @@ returns-then-wanted-free-clause-value c ws w keeps count is =
     let wanted = wanted_is ws w c.args.kept.now _ c.need-wanted.result c.size_of.result c.held-held.ensures.map keeps is c.need-wanted.ensures c.size_of.ensures in
     let cells : c.from.result + c.from-2.result ≡ held_of ws + wanted_of ws w = ap₂ (λ a b. a + b) (c.from.ensures ∙ (c.held-held.ensures.count ∙ count)) (c.from-2.ensures ∙ wanted) in
     let above : exceeds c.args.quota (held_of ws + wanted_of ws w) ≡ false = sym (ap (exceeds c.args.quota) cells) ∙ (sym c.exceeds-over.ensures ∙ c.if-over.false) in
-    let few : nat_lt c.args.store.now.free (wanted_of ws w) ≡ true = grind (arith, nat_tests, wanted, c.if-wanted-free.true, c.free.ensures.value) in
+    let above_free : c.args.store.now.free < wanted_of ws w = omega (arith, wanted, c.if-wanted-free.true, c.free.ensures.value) in
+    let few : nat_lt c.args.store.now.free (wanted_of ws w) ≡ true = grind (arith, nat_tests, above_free) in
     sym (ap₂ (λ a b. cond a (Some rules.TQuota) (cond b (Some rules.TRoom) None)) above few)
 
 pub returns-clause-value : goal.returns-clause-value
@@ -29,7 +30,8 @@ returns-clause-value c ws w keeps count is =
     let wanted = wanted_is ws w c.args.kept.now _ c.need-wanted.result c.size_of.result c.held-held.ensures.map keeps is c.need-wanted.ensures c.size_of.ensures in
     let cells : c.from.result + c.from-2.result ≡ held_of ws + wanted_of ws w = ap₂ (λ a b. a + b) (c.from.ensures ∙ (c.held-held.ensures.count ∙ count)) (c.from-2.ensures ∙ wanted) in
     let above : exceeds c.args.quota (held_of ws + wanted_of ws w) ≡ false = sym (ap (exceeds c.args.quota) cells) ∙ (sym c.exceeds-over.ensures ∙ c.if-over.false) in
-    let enough : nat_lt c.args.store.now.free (wanted_of ws w) ≡ false = grind (arith, nat_tests, wanted, c.if-wanted-free.false, c.free.ensures.value) in
+    let below_free : wanted_of ws w ≤ c.args.store.now.free = omega (arith, wanted, c.if-wanted-free.false, c.free.ensures.value) in
+    let enough : nat_lt c.args.store.now.free (wanted_of ws w) ≡ false = grind (arith, nat_tests, below_free) in
     sym (ap₂ (λ a b. cond a (Some rules.TQuota) (cond b (Some rules.TRoom) None)) above enough)
 
 pub returns-clause-within : goal.returns-clause-within

@@ -3,7 +3,6 @@ use Rattle.linked_table.specs.Table as table
 use Rattle.tcp_norm.specs.declared.flow.Flow.{Flow}
 use Rattle.tcp_norm.specs.declared.key.EraKey.{EraKey}
 use Rattle.rule_book.specs.declared.entry.Reason.TheVariants as reasons
-use Rattle.era_state.specs.Quantities.{octets_of}
 use Rattle.tcp_norm.specs.Steps.{first_empty}
 use Rattle.tcp_norm.proofs.Finds.{at, wherever}
 use Rattle.tcp_norm.proofs.Firsts.{ended_at}
