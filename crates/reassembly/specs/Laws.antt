@@ -35,7 +35,7 @@ calls_on id (offer now p answer ∷ cs) = if is_id p.id id then offer now p answ
 abbrev pub is_late : (time now : ℕ) → List Call → DatagramId → Bool
 is_late time now cs id = list_any (λ g. is_id g.id id && is_old time now g) (gathered time cs)
 
--- Datagrams of two identifications have nothing to do with one another.
+-- What is held of a datagram is told by its own pieces, by what became of each, and by time. Others matter to it by F_MANY and F_ROOM alone.
 pub record DatagramsAreApart : Type 0 where
   -- no identification is held twice
   pub once : (time : ℕ) (cs : List Call) → Pairwise (λ a b. is_id a.id b.id ≡ false) (gathered time cs)
@@ -46,5 +46,5 @@ pub record DatagramsAreApart : Type 0 where
   -- time forgets a datagram by its own first piece
   pub passes : (time now : ℕ) (cs : List Call) (id : DatagramId)
       → pieces_in (gathered time (expiry now ∷ cs)) id ≡ (if is_late time now cs id then [] else pieces_in (gathered time cs) id)
-  -- so what is held of a datagram is what would be held if no other piece had come
+  -- so, with each piece answered as it was, what is held of a datagram is what its own calls alone would leave
   pub alone : (time : ℕ) (cs : List Call) (id : DatagramId) → pieces_in (gathered time cs) id ≡ pieces_in (gathered time (calls_on id cs)) id

@@ -7,7 +7,7 @@ pub fn whole_is_its_pieces()
     ensures { WholeIsItsPieces }
 {}
 
-/// Datagrams of two identifications have nothing to do with one another.
+/// What is held of a datagram is told by its own pieces, by what became of each, and by time; others matter to it by F_MANY and F_ROOM alone.
 pub fn datagrams_are_apart()
     ensures { DatagramsAreApart }
 {}
