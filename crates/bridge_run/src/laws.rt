@@ -13,8 +13,8 @@ pub fn refused_words_leave_a_line()
     ensures { Leaves 2 EndsRefused }
 {}
 
-/// At 3 the capture was given the head and the frames of the records before the flaw, and the report their lines and the stop; nothing behind the head or
-/// record that has the flaw was taken.
+/// At 3 the capture was given the head and the frames of the records before the flaw, or nothing where the head has it, and the report their lines and the
+/// stop; nothing behind the head or record that has the flaw was taken.
 pub fn faulty_inputs_leave_what_is_before()
     ensures { Leaves 3 (λ words before now. UnderWords words (λ settings. EndsFaulty settings before now)) }
 {}
@@ -35,7 +35,8 @@ pub fn failed_outputs_leave_a_prefix()
     ensures { Leaves 6 (λ words before now. UnderWords words (λ settings. EndsUnwritten settings before now)) }
 {}
 
-/// At 7 the report holds all lines but the last, and a prefix of that one; the capture has the frames of all records that were taken.
+/// At 7 the report holds all lines but the last, and a prefix of that one; the capture has the head and the frames of all records that were taken, or nothing
+/// where the first line failed.
 pub fn failed_reports_leave_a_prefix()
     ensures { Leaves 7 (λ words before now. UnderWords words (λ settings. EndsUntold settings before now)) }
 {}

@@ -8,7 +8,7 @@ use Rattle.reassembly.specs.Pieces.{Fragment, datagram_octets, front_of, IsMadeO
 use Rattle.reassembly.specs.Calls.{Answer, held, done, dropped, Call, expiry, offer, gathered, pieces_in, is_id, is_old, forgets}
 use Rattle.reassembly.specs.Rows.{answer_at, view_of, AreAnswered}
 
--- the datagram of these pieces is made of them: its octets are theirs, and its header fields are those of one at offset 0
+-- the datagram of these pieces is made of them: its octets are theirs, and one of them stands at offset 0
 pub record IsOfPieces (ps : List Fragment) : Type 0 where
   pub octets : IsMadeOf (datagram_octets ps) ps
   pub head : is_some (front_of ps) ≡ true
