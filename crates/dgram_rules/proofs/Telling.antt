@@ -6,7 +6,8 @@ use Rattle.rule_book.specs.declared.rule.Rule.TheVariants as rules
 use Rattle.norm_settings.specs.Settings.{PlainSettings}
 use Rattle.dgram_rules.specs.declared.judged.DgramJudged.TheVariants.{Pass, Mend, Drop}
 use Rattle.rule_book.specs.Rules.{datagram_rows}
-use Rattle.dgram_rules.specs.Rows.{Message, is_outward, has_wrong_sum, u_short, u_len, u_sum, u_sum_out, m_short, m_sum, m_type, m_quote, holds_dgram, dgram_dropped_by}
+use Rattle.ip_rules.specs.Datagrams.{Datagram, goes_in}
+use Rattle.dgram_rules.specs.Rows.{has_wrong_sum, u_short, u_len, u_sum, u_sum_out, m_short, m_sum, m_type, m_quote, holds_dgram, dgram_dropped_by}
 use Rattle.dgram_rules.specs.Judged.{udp_judged, icmp_judged}
 use Rattle.dgram_rules.specs.Laws.{Tells, UdpTellsTheRows, IcmpTellsTheRows, OthersHaveNoRow, OffloadKeepsWrongSums}
 
@@ -27,13 +28,13 @@ first_row udp icmp a b c d e f g =
     else if icmp && d then Some rules.MShort else if icmp && e then Some rules.MSum else if icmp && f then Some rules.MType
     else if icmp && g then Some rules.MQuote else None
 
-abbrev row_of : (udp icmp : Bool) → PlainSettings → Bool → Message → Option Rule
-row_of udp icmp settings live m =
-    first_row udp icmp (u_short m) (u_len m) (u_sum settings m) (m_short m) (m_sum m) (m_type m) (m_quote settings live m)
+abbrev row_of : (udp icmp : Bool) → PlainSettings → Bool → Datagram → Option Rule
+row_of udp icmp settings live d =
+    first_row udp icmp (u_short d) (u_len d) (u_sum settings d) (m_short d) (m_sum d) (m_type d) (m_quote settings live d)
 
-by_tests : (settings : PlainSettings) (live : Bool) (m : Message) → dgram_dropped_by settings live m ≡ row_of (m.protocol == 17) (m.protocol == 1) settings live m
+by_tests : (settings : PlainSettings) (live : Bool) (d : Datagram) → dgram_dropped_by settings live d ≡ row_of (d.head.protocol == 17) (d.head.protocol == 1) settings live d
 unfolding dgram_dropped_by
-by_tests settings live m = refl
+by_tests settings live d = refl
 
 udp_by : (a b c d e f g mended : Bool)
     → Tells (first_row true false a b c d e f g) mended
@@ -45,13 +46,13 @@ udp_by false false false d e f g true = mend_tells
 udp_by false false false d e f g false = pass_tells
 
 pub udp_tells : UdpTellsTheRows
-udp_tells settings live m h =
-    let row : dgram_dropped_by settings live m ≡ row_of true false settings live m =
-    by_tests settings live m ∙ ap (λ p. row_of (p == 17) (p == 1) settings live m) h in
-    let mended : holds_dgram settings live m rules.USumOut ≡ u_sum_out settings m = ap (λ p. (p == 17) && u_sum_out settings m) h in
-    let P : Option Rule → Bool → Type 0 = λ dropped mended. Tells dropped mended (udp_judged settings m) in
-    subst (λ dropped. P dropped (holds_dgram settings live m rules.USumOut)) (sym row)
-    (subst (P (row_of true false settings live m)) (sym mended) (udp_by (u_short m) (u_len m) (u_sum settings m) (m_short m) (m_sum m) (m_type m) (m_quote settings live m) (u_sum_out settings m)))
+udp_tells settings live d h =
+    let row : dgram_dropped_by settings live d ≡ row_of true false settings live d =
+    by_tests settings live d ∙ ap (λ p. row_of (p == 17) (p == 1) settings live d) h in
+    let mended : holds_dgram settings live d rules.USumOut ≡ u_sum_out settings d = ap (λ p. (p == 17) && u_sum_out settings d) h in
+    let P : Option Rule → Bool → Type 0 = λ dropped mended. Tells dropped mended (udp_judged settings d) in
+    subst (λ dropped. P dropped (holds_dgram settings live d rules.USumOut)) (sym row)
+    (subst (P (row_of true false settings live d)) (sym mended) (udp_by (u_short d) (u_len d) (u_sum settings d) (m_short d) (m_sum d) (m_type d) (m_quote settings live d) (u_sum_out settings d)))
 
 icmp_by : (a b c d e f g : Bool)
     → Tells (first_row false true a b c d e f g) false
@@ -63,31 +64,31 @@ icmp_by a b c false false false true = drop_tells rules.MQuote false
 icmp_by a b c false false false false = pass_tells
 
 pub icmp_tells : IcmpTellsTheRows
-icmp_tells settings live m h =
-    let row : dgram_dropped_by settings live m ≡ row_of false true settings live m =
-    by_tests settings live m ∙ ap (λ p. row_of (p == 17) (p == 1) settings live m) h in
-    let mended : holds_dgram settings live m rules.USumOut ≡ false = ap (λ p. (p == 17) && u_sum_out settings m) h in
-    let P : Option Rule → Bool → Type 0 = λ dropped mended. Tells dropped mended (icmp_judged settings live m) in
-    subst (λ dropped. P dropped (holds_dgram settings live m rules.USumOut)) (sym row)
-    (subst (P (row_of false true settings live m)) (sym mended) (icmp_by (u_short m) (u_len m) (u_sum settings m) (m_short m) (m_sum m) (m_type m) (m_quote settings live m)))
+icmp_tells settings live d h =
+    let row : dgram_dropped_by settings live d ≡ row_of false true settings live d =
+    by_tests settings live d ∙ ap (λ p. row_of (p == 17) (p == 1) settings live d) h in
+    let mended : holds_dgram settings live d rules.USumOut ≡ false = ap (λ p. (p == 17) && u_sum_out settings d) h in
+    let P : Option Rule → Bool → Type 0 = λ dropped mended. Tells dropped mended (icmp_judged settings live d) in
+    subst (λ dropped. P dropped (holds_dgram settings live d rules.USumOut)) (sym row)
+    (subst (P (row_of false true settings live d)) (sym mended) (icmp_by (u_short d) (u_len d) (u_sum settings d) (m_short d) (m_sum d) (m_type d) (m_quote settings live d)))
 
 -- no row holds where both tests of the protocol fail
-none_holds : (settings : PlainSettings) (live : Bool) (m : Message) → (m.protocol == 17) ≡ false → (m.protocol == 1) ≡ false → (rule : Rule) → holds_dgram settings live m rule ≡ false
-none_holds settings live m a b rules.UShort = ap (λ t. t && u_short m) a
-none_holds settings live m a b rules.ULen = ap (λ t. t && u_len m) a
-none_holds settings live m a b rules.USum = ap (λ t. t && u_sum settings m) a
-none_holds settings live m a b rules.MShort = ap (λ t. t && m_short m) b
-none_holds settings live m a b rules.MSum = ap (λ t. t && m_sum m) b
-none_holds settings live m a b rules.MType = ap (λ t. t && m_type m) b
-none_holds settings live m a b rules.MQuote = ap (λ t. t && m_quote settings live m) b
-none_holds settings live m a b rules.USumOut = ap (λ t. t && u_sum_out settings m) a
-none_holds settings live m a b _ = refl
+none_holds : (settings : PlainSettings) (live : Bool) (d : Datagram) → (d.head.protocol == 17) ≡ false → (d.head.protocol == 1) ≡ false → (rule : Rule) → holds_dgram settings live d rule ≡ false
+none_holds settings live d a b rules.UShort = ap (λ t. t && u_short d) a
+none_holds settings live d a b rules.ULen = ap (λ t. t && u_len d) a
+none_holds settings live d a b rules.USum = ap (λ t. t && u_sum settings d) a
+none_holds settings live d a b rules.MShort = ap (λ t. t && m_short d) b
+none_holds settings live d a b rules.MSum = ap (λ t. t && m_sum d) b
+none_holds settings live d a b rules.MType = ap (λ t. t && m_type d) b
+none_holds settings live d a b rules.MQuote = ap (λ t. t && m_quote settings live d) b
+none_holds settings live d a b rules.USumOut = ap (λ t. t && u_sum_out settings d) a
+none_holds settings live d a b _ = refl
 
 pub others_have_none : OthersHaveNoRow
-others_have_none settings live m a b =
-    let udp : (m.protocol == 17) ≡ false = ne_eqb m.protocol 17 a in
-    let icmp : (m.protocol == 1) ≡ false = ne_eqb m.protocol 1 b in
-    (by_tests settings live m ∙ (λ i. row_of (udp i) (icmp i) settings live m), none_holds settings live m udp icmp)
+others_have_none settings live d a b =
+    let udp : (d.head.protocol == 17) ≡ false = ne_eqb d.head.protocol 17 a in
+    let icmp : (d.head.protocol == 1) ≡ false = ne_eqb d.head.protocol 1 b in
+    (by_tests settings live d ∙ (λ i. row_of (udp i) (icmp i) settings live d), none_holds settings live d udp icmp)
 
 -- what is found passes the test
 first_passes : (p : Rule → Bool) (told : Bool) (y x : Rule) (rest : Option Rule) → p y ≡ told → (rest ≡ Some x → p x ≡ true) → cond told (Some y) rest ≡ Some x → p x ≡ true
@@ -100,8 +101,8 @@ found_passes p (y ∷ ys) x h = first_passes p (p y) y x (find p ys) refl (found
 
 pub offload_keeps : OffloadKeepsWrongSums
 unfolding dgram_dropped_by
-offload_keeps settings live m offload side h =
-    let spared : u_sum settings m ≡ false =
-    (λ i. has_wrong_sum m && not (is_outward (side i) && offload i)) ∙ and_right (has_wrong_sum m) false refl in
-    let holds = and_parts (m.protocol == 17) (u_sum settings m) (found_passes (holds_dgram settings live m) datagram_rows rules.USum h) in
-    both_ways (u_sum settings m) spared holds.1
+offload_keeps settings live d offload side h =
+    let spared : u_sum settings d ≡ false =
+    (λ i. has_wrong_sum d && not (not (goes_in (side i)) && offload i)) ∙ and_right (has_wrong_sum d) false refl in
+    let holds = and_parts (d.head.protocol == 17) (u_sum settings d) (found_passes (holds_dgram settings live d) datagram_rows rules.USum h) in
+    both_ways (u_sum settings d) spared holds.1

@@ -6,7 +6,8 @@ use Rattle.rule_book.specs.declared.rule.Rule.TheVariants as rules
 use Rattle.norm_settings.specs.Settings.{PlainSettings}
 use Rattle.dgram_rules.specs.declared.judged.DgramJudged.{DgramJudged}
 use Rattle.dgram_rules.specs.declared.judged.DgramJudged.TheVariants.{Pass, Mend, Drop}
-use Rattle.dgram_rules.specs.Rows.{Message, holds_dgram, dgram_dropped_by}
+use Rattle.ip_rules.specs.Datagrams.{Datagram}
+use Rattle.dgram_rules.specs.Rows.{holds_dgram, dgram_dropped_by}
 use Rattle.dgram_rules.specs.Judged.{udp_judged, icmp_judged}
 
 -- the row that an answer drops by, if it drops
@@ -30,23 +31,23 @@ pub record Tells (dropped : Option Rule) (mended : Bool) (answer : DgramJudged) 
 -- what becomes of UDP tells of the rows, whichever eras are live
 abbrev pub UdpTellsTheRows : Type 0
 UdpTellsTheRows =
-    (settings : PlainSettings) (live : Bool) (m : Message) → m.protocol ≡ 17
-    → Tells (dgram_dropped_by settings live m) (holds_dgram settings live m rules.USumOut) (udp_judged settings m)
+    (settings : PlainSettings) (live : Bool) (d : Datagram) → d.head.protocol ≡ 17
+    → Tells (dgram_dropped_by settings live d) (holds_dgram settings live d rules.USumOut) (udp_judged settings d)
 
 -- what becomes of ICMP tells of the rows
 abbrev pub IcmpTellsTheRows : Type 0
 IcmpTellsTheRows =
-    (settings : PlainSettings) (live : Bool) (m : Message) → m.protocol ≡ 1
-    → Tells (dgram_dropped_by settings live m) (holds_dgram settings live m rules.USumOut) (icmp_judged settings live m)
+    (settings : PlainSettings) (live : Bool) (d : Datagram) → d.head.protocol ≡ 1
+    → Tells (dgram_dropped_by settings live d) (holds_dgram settings live d rules.USumOut) (icmp_judged settings live d)
 
 -- of another protocol no row holds, and none drops it
 abbrev pub OthersHaveNoRow : Type 0
 OthersHaveNoRow =
-    (settings : PlainSettings) (live : Bool) (m : Message) → m.protocol ≢ 17 → m.protocol ≢ 1
-    → (dgram_dropped_by settings live m ≡ None) × ((rule : Rule) → holds_dgram settings live m rule ≡ false)
+    (settings : PlainSettings) (live : Bool) (d : Datagram) → d.head.protocol ≢ 17 → d.head.protocol ≢ 1
+    → (dgram_dropped_by settings live d ≡ None) × ((rule : Rule) → holds_dgram settings live d rule ≡ false)
 
 -- under offload no outbound UDP message is dropped for its checksum
 abbrev pub OffloadKeepsWrongSums : Type 0
 OffloadKeepsWrongSums =
-    (settings : PlainSettings) (live : Bool) (m : Message) → settings.offload ≡ true → m.side ≡ Some Outward
-    → dgram_dropped_by settings live m ≢ Some rules.USum
+    (settings : PlainSettings) (live : Bool) (d : Datagram) → settings.offload ≡ true → d.side ≡ Outward
+    → dgram_dropped_by settings live d ≢ Some rules.USum

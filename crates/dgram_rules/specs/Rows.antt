@@ -1,8 +1,6 @@
 -- The rows of the rule table on UDP and ICMP, one definition each, in the order of their numbers (this project's profile).
 -- A row is read of one whole datagram under settings; of other packets it knows only whether the TCP connection that an ICMP error quotes is live.
-use Rattle.std.specs.Prelude.{ℕ, ◌==◌, ◌&&◌, ◌||◌, not, Bool, true, false, List, length, Option, Some, None, find}
-use Rattle.wire_base.specs.declared.address.Side.{Side}
-use Rattle.wire_base.specs.declared.address.Side.TheVariants.{Inward, Outward}
+use Rattle.std.specs.Prelude.{ℕ, ◌==◌, ◌&&◌, ◌||◌, not, Bool, true, false, length, Option, Some, None, find}
 use Rattle.wire_base.specs.Sums.{pseudo_sum}
 use Rattle.wire_base.specs.Udp as udp
 use Rattle.wire_base.specs.Icmp as icmp
@@ -13,65 +11,39 @@ use Rattle.rule_book.specs.declared.rule.Rule.TheVariants as rules
 use Rattle.rule_book.specs.Rules.{datagram_rows}
 use Rattle.norm_settings.specs.Settings.{PlainSettings}
 use Rattle.norm_settings.specs.Side.{is_trusted}
-use Rattle.ip_rules.specs.declared.judged.IpPacket.{IpPacket}
-use Rattle.ip_rules.specs.Rows.{is_inward}
-
--- a whole datagram, from one packet or put together from fragments: its side, the addresses and the protocol of its header, and what it carries
-pub record Message : Type 0 where
-  pub side : Option Side
-  pub source : ℕ
-  pub destination : ℕ
-  pub protocol : ℕ
-  pub octets : List ℕ
-
--- the datagram that one packet is
-abbrev pub message_of : IpPacket → Message
-message_of packet =
-    record {
-      side = Some packet.side;
-      source = packet.head.src.0;
-      destination = packet.head.dst.0;
-      protocol = packet.head.protocol;
-      octets = packet.payload.now;
-    }
-
--- it goes outward
-abbrev pub is_outward : Option Side → Bool
-is_outward (Some Outward) = true
-is_outward (Some Inward) = false
-is_outward None = false
+use Rattle.ip_rules.specs.Datagrams.{Datagram, goes_in}
 
 -- what UDP and TCP sum before the message (RFC 768, RFC 9293 section 3.1)
-abbrev pub pseudo_of : Message → ℕ
-pseudo_of m = pseudo_sum m.source m.destination m.protocol (length m.octets)
+abbrev pub pseudo_of : Datagram → ℕ
+pseudo_of d = pseudo_sum d.head.src.0 d.head.dst.0 d.head.protocol (length d.octets)
 
 -- a checksum was made and is not right (RFC 768: 0 says that none was made)
-abbrev pub has_wrong_sum : Message → Bool
-has_wrong_sum m = udp.has_wrong_sum (pseudo_of m) m.octets
+abbrev pub has_wrong_sum : Datagram → Bool
+has_wrong_sum d = udp.has_wrong_sum (pseudo_of d) d.octets
 
 -- outbound, and the sender leaves checksums to its interface
-abbrev pub is_offloaded : PlainSettings → Message → Bool
-is_offloaded settings m = is_outward m.side && settings.offload
+abbrev pub is_offloaded : PlainSettings → Datagram → Bool
+is_offloaded settings d = not (goes_in d.side) && settings.offload
 
 -- U_SHORT: UDP of fewer than 8 octets
-abbrev pub u_short : Message → Bool
-u_short m = udp.is_short m.octets
+abbrev pub u_short : Datagram → Bool
+u_short d = udp.is_short d.octets
 
 -- U_LEN: the length field is not the payload's length
-abbrev pub u_len : Message → Bool
-u_len m = udp.has_other_length m.octets
+abbrev pub u_len : Datagram → Bool
+u_len d = udp.has_other_length d.octets
 
 -- U_SUM: the checksum is not 0 and not right, and not both outbound and offload
-abbrev pub u_sum : PlainSettings → Message → Bool
-u_sum settings m = has_wrong_sum m && not (is_offloaded settings m)
+abbrev pub u_sum : PlainSettings → Datagram → Bool
+u_sum settings d = has_wrong_sum d && not (is_offloaded settings d)
 
 -- M_SHORT: ICMP of fewer than 8 octets
-abbrev pub m_short : Message → Bool
-m_short m = icmp.is_short m.octets
+abbrev pub m_short : Datagram → Bool
+m_short d = icmp.is_short d.octets
 
 -- M_SUM: the sum over the whole message is not right
-abbrev pub m_sum : Message → Bool
-m_sum m = icmp.has_wrong_sum m.octets
+abbrev pub m_sum : Datagram → Bool
+m_sum d = icmp.has_wrong_sum d.octets
 
 -- the types of the errors that quote a packet: destination unreachable, time exceeded, parameter problem (RFC 792)
 abbrev pub is_error : (kind : ℕ) → Bool
@@ -82,8 +54,8 @@ abbrev pub is_query : (kind : ℕ) → Bool
 is_query kind = (kind == 0) || (kind == 8) || (kind == 13) || (kind == 14)
 
 -- M_TYPE: the type is not 0, 3, 8, 11, 12, 13 or 14
-abbrev pub m_type : Message → Bool
-m_type m = not (is_error (icmp.kind m.octets) || is_query (icmp.kind m.octets))
+abbrev pub m_type : Datagram → Bool
+m_type d = not (is_error (icmp.kind d.octets) || is_query (icmp.kind d.octets))
 
 -- what an error quotes is no packet that went outward: none can be read, its source is not trusted, its destination is, or it is TCP
 -- of a connection that has no live era
@@ -93,25 +65,25 @@ is_stray settings live (Some quote) =
     not (is_trusted settings quote.src.0) || is_trusted settings quote.dst.0 || ((quote.protocol == 6) && not live)
 
 -- M_QUOTE: an inbound error whose quote is no packet that went outward
-abbrev pub m_quote : PlainSettings → (live : Bool) → Message → Bool
-m_quote settings live m = is_inward m.side && is_error (icmp.kind m.octets) && is_stray settings live (quoted_in m.octets)
+abbrev pub m_quote : PlainSettings → (live : Bool) → Datagram → Bool
+m_quote settings live d = goes_in d.side && is_error (icmp.kind d.octets) && is_stray settings live (quoted_in d.octets)
 
 -- U_SUM_OUT: outbound and offload, and the checksum is not 0 and not right
-abbrev pub u_sum_out : PlainSettings → Message → Bool
-u_sum_out settings m = is_offloaded settings m && has_wrong_sum m
+abbrev pub u_sum_out : PlainSettings → Datagram → Bool
+u_sum_out settings d = is_offloaded settings d && has_wrong_sum d
 
 -- whether the condition of a row on UDP or ICMP holds of a datagram of its protocol, 17 or 1; the rows of other layers hold of none
-abbrev pub holds_dgram : PlainSettings → (live : Bool) → Message → Rule → Bool
-holds_dgram settings live m rules.UShort = (m.protocol == 17) && u_short m
-holds_dgram settings live m rules.ULen = (m.protocol == 17) && u_len m
-holds_dgram settings live m rules.USum = (m.protocol == 17) && u_sum settings m
-holds_dgram settings live m rules.MShort = (m.protocol == 1) && m_short m
-holds_dgram settings live m rules.MSum = (m.protocol == 1) && m_sum m
-holds_dgram settings live m rules.MType = (m.protocol == 1) && m_type m
-holds_dgram settings live m rules.MQuote = (m.protocol == 1) && m_quote settings live m
-holds_dgram settings live m rules.USumOut = (m.protocol == 17) && u_sum_out settings m
-holds_dgram settings live m _ = false
+abbrev pub holds_dgram : PlainSettings → (live : Bool) → Datagram → Rule → Bool
+holds_dgram settings live d rules.UShort = (d.head.protocol == 17) && u_short d
+holds_dgram settings live d rules.ULen = (d.head.protocol == 17) && u_len d
+holds_dgram settings live d rules.USum = (d.head.protocol == 17) && u_sum settings d
+holds_dgram settings live d rules.MShort = (d.head.protocol == 1) && m_short d
+holds_dgram settings live d rules.MSum = (d.head.protocol == 1) && m_sum d
+holds_dgram settings live d rules.MType = (d.head.protocol == 1) && m_type d
+holds_dgram settings live d rules.MQuote = (d.head.protocol == 1) && m_quote settings live d
+holds_dgram settings live d rules.USumOut = (d.head.protocol == 17) && u_sum_out settings d
+holds_dgram settings live d _ = false
 
 -- the first row that drops the datagram, in the order of testing, if there is one
-unfoldable pub dgram_dropped_by : PlainSettings → (live : Bool) → Message → Option Rule
-dgram_dropped_by settings live m = find (holds_dgram settings live m) datagram_rows
+unfoldable pub dgram_dropped_by : PlainSettings → (live : Bool) → Datagram → Option Rule
+dgram_dropped_by settings live d = find (holds_dgram settings live d) datagram_rows

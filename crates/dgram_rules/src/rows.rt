@@ -1,9 +1,10 @@
 //! The rows on UDP and ICMP, in the order of their numbers.
-ghost use Rattle.std.specs.Prelude.{◌≡◌, ◌≤◌, All, false, length};
+ghost use Rattle.std.specs.Prelude.{◌≡◌, ◌≤◌, ◌&&◌, not, ℕ, List, All, false, length};
 ghost use Rattle.wire_base.specs.Udp as udp;
 ghost use Rattle.wire_base.specs.Sums.{pseudo_sum};
 ghost use Rattle.norm_settings.specs.Settings.{plain_settings};
 ghost use Rattle.icmp_codec.specs.Quote.{quoted_in};
+ghost use Rattle.ip_rules.specs.Datagrams.{datagram_with, goes_in};
 ghost use Rattle.dgram_rules.specs.Rows as table;
 ghost use Rattle.dgram_rules.specs.Judged as spec;
 
@@ -21,7 +22,7 @@ const TCP: u8 = 6;
 
 /// Judges a packet that carries UDP by the first row that holds; `Mend` where that is U_SUM_OUT.
 pub fn judge_udp(settings: &Settings, packet: &IpPacket<'_>) -> DgramJudged
-    ensures { result ≡ spec.udp_judged (plain_settings settings.now) (table.message_of packet.now) }
+    ensures { (header : List ℕ) → result ≡ spec.udp_judged (plain_settings settings.now) (datagram_with header packet.now) }
 {
     let pseudo = pseudo_of(&packet.head, packet.payload);
     let offloaded = is_offloaded(settings, packet);
@@ -44,7 +45,7 @@ fn pseudo_of(head: &Ipv4, message: &[u8]) -> u32
 
 // Whether the packet's sender leaves checksums to its interface.
 fn is_offloaded(settings: &Settings, packet: &IpPacket<'_>) -> bool
-    ensures { result ≡ table.is_offloaded (plain_settings settings.now) (table.message_of packet.now) }
+    ensures { result ≡ (not (goes_in packet.now.side) && settings.now.offload) }
 {
     match packet.side {
         Side::Outward => settings.offload,
@@ -56,7 +57,7 @@ fn is_offloaded(settings: &Settings, packet: &IpPacket<'_>) -> bool
 /// that it quotes.
 pub fn judge_icmp(settings: &Settings, packet: &IpPacket<'_>, live: bool) -> DgramJudged
     requires prefixes { All (λ prefix. prefix.len ≤ 32) settings.now.prefixes.items }
-    ensures { result ≡ spec.icmp_judged (plain_settings settings.now) live (table.message_of packet.now) }
+    ensures { (header : List ℕ) → result ≡ spec.icmp_judged (plain_settings settings.now) live (datagram_with header packet.now) }
 {
     let head = match icmp_codec::parse(packet.payload) {
         Ok(head) => head,

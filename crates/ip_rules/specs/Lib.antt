@@ -1,2 +1,3 @@
 pub mod Rows
+pub mod Datagrams
 pub mod Judged

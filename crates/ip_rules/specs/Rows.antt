@@ -1,6 +1,6 @@
 -- The rows of the rule table on the link, the IPv4 header and the protocol, one definition each, in the order of their numbers (this project's profile).
 -- A row is read of one record, or of the packet in it, under settings and on a link; it knows nothing of other records.
-use Rattle.std.specs.Prelude.{ℕ, ◌==◌, ◌&&◌, ◌||◌, nat_lt, nat_le, not, Bool, true, false, List, [], ◌∷◌, ◌++◌, length, drop, Option, Some, None, is_none, find, filter}
+use Rattle.std.specs.Prelude.{ℕ, ◌==◌, ◌&&◌, ◌||◌, nat_lt, nat_le, not, Bool, true, false, List, [], ◌∷◌, ◌++◌, length, take, drop, Option, Some, None, is_none, find, filter}
 use Rattle.wire_base.specs.declared.address.Link.{Link}
 use Rattle.wire_base.specs.declared.address.Link.TheVariants.{Ethernet, Raw}
 use Rattle.wire_base.specs.declared.address.Side.{Side}
@@ -29,6 +29,11 @@ carries_arp Raw frame = false
 abbrev pub packet_in : Link → List ℕ → List ℕ
 packet_in Ethernet frame = drop 14 frame
 packet_in Raw frame = frame
+
+-- what stands in a frame before the packet: the Ethernet header of 14 octets (RFC 894), and nothing on a raw link
+abbrev pub link_octets : Link → (frame : List ℕ) → List ℕ
+link_octets Ethernet frame = take 14 frame
+link_octets Raw frame = []
 
 -- the side of a packet: outward from a trusted source to a destination that is not, inward the other way, and otherwise none
 abbrev pub side_in : PlainSettings → (packet : List ℕ) → Option Side

@@ -1,0 +1,166 @@
+-- What is known of a datagram that no row on its header drops.
+use Rattle.std.proofs.Common.{◌≡◌, ℕ, ◌<◌, ◌≤◌, ◌&&◌, ◌||◌, ◌==◌, Bool, true, false, List, [], ◌++◌, length, take, drop, Some, None, refl, sym, ap, ap₂, subst, ◌∙◌, filter, arith}
+use Rattle.std.specs.Prelude.{nat_lt, nat_le}
+use Rattle.std.specs.List.{AllByRecursion}
+use Rattle.std.proofs.Math.Seq.{take-length}
+use Rattle.std.proofs.lemmas.Bool.{not-false, eqb-true}
+use Rattle.std.proofs.lemmas.Bool.Decides.{nat_tests}
+use Rattle.std.proofs.lemmas.List.{take-append-drop, length-take-le}
+use Rattle.wire_base.specs.declared.address.Link.{Link}
+use Rattle.wire_base.specs.declared.address.Link.TheVariants.{Ethernet, Raw}
+use Rattle.wire_base.specs.declared.address.Side.{Side}
+use Rattle.wire_base.specs.declared.address.Side.TheVariants.{Inward, Outward}
+use Rattle.wire_base.specs.Ipv4 as ip
+use Rattle.wire_base.specs.Plain.{IsPlainHeader}
+use Rattle.pcap_file.specs.Records.{Packet}
+use Rattle.ipv4_codec.specs.Header.{fields_of}
+use Rattle.rule_book.specs.declared.rule.Rule.{Rule}
+use Rattle.norm_settings.specs.Settings.{PlainSettings}
+use Rattle.ip_rules.specs.Rows.{carries_ip, packet_in, side_in, is_inward, holds_in, holds_ip, packet_drop_rows, ip_drop_rows, whole_fix_rows, ip_dropped_by, ip_fixes}
+use Rattle.ip_rules.specs.Datagrams.{DatagramsAreKnown, AreOctets, HasSizes, IsKnown, IsPacketOf, goes_in, datagram_of, as_read}
+use Rattle.ip_rules.proofs.Octets.{two_below, four_below, taken, dropped, behind_long}
+use Rattle.ip_rules.proofs.Undropped.{none_found, none_named, Made, made_by}
+
+or_false : (a b : Bool) → (a || b) ≡ false → (a ≡ false) × (b ≡ false)
+or_false false b e = (refl, e)
+or_false true b e = cc
+
+not_less : (a b : ℕ) → nat_lt a b ≡ false → b ≤ a
+not_less a b e = grind (arith, nat_tests, e)
+
+-- the header of a packet, as no row that drops it leaves it
+pub record IsSound (p : List ℕ) : Type 0 where
+  pub long : 20 ≤ length p
+  pub version : ip.version p ≡ 4
+  pub least : 20 ≤ ip.header_length p
+  pub inside : ip.header_length p ≤ length p
+  pub order : ip.header_length p ≤ ip.total_length p
+  pub whole : ip.total_length p ≤ length p
+  pub sum : ip.has_wrong_sum p ≡ false
+  pub known : ((ip.protocol p == 1) || (ip.protocol p == 6) || (ip.protocol p == 17)) ≡ true
+
+sound : (settings : PlainSettings) (p : List ℕ) → AllByRecursion (λ rule. holds_in settings p rule ≡ false) packet_drop_rows → IsSound p
+sound settings p rows =
+    let header = or_false (nat_lt (ip.header_length p) 20) (nat_lt (length p) (ip.header_length p)) rows.1.1.0 in
+    let total = or_false (nat_lt (ip.total_length p) (ip.header_length p)) (nat_lt (length p) (ip.total_length p)) rows.1.1.1.0 in
+    record {
+      long = not_less (length p) 20 rows.0;
+      version = eqb-true (ip.version p) 4 (not-false (ip.version p == 4) rows.1.0);
+      least = not_less (ip.header_length p) 20 header.0;
+      inside = not_less (length p) (ip.header_length p) header.1;
+      order = not_less (ip.total_length p) (ip.header_length p) total.0;
+      whole = not_less (length p) (ip.total_length p) total.1;
+      sum = rows.1.1.1.1.0;
+      known = not-false _ rows.1.1.1.1.1.1.1.1.1.1.0;
+    }
+
+sizes : (p : List ℕ) → AreOctets p → HasSizes (fields_of p)
+sizes p each = record {
+  tos = each 1;
+  ident = two_below p 4 each;
+  ttl = each 8;
+  protocol = each 9;
+  source = four_below p 12 each;
+  destination = four_below p 16 each;
+}
+
+carried_short : (p : List ℕ) → AreOctets p → IsSound p → length (ip.payload p) ≤ 65515
+carried_short p each s =
+    let most = behind_long (ip.header_length p) (ip.total_length p) p in
+    let total = two_below p 2 each in
+    let least = s.least in
+    omega (arith, most, total, least)
+
+-- no row mends the header
+pub record IsUnmended (settings : PlainSettings) (p : List ℕ) : Type 0 where
+  pub trailer : ip.has_trailer p ≡ false
+  pub options : ip.has_options p ≡ false
+  pub reserved : ip.has_reserved p ≡ false
+  pub ttl : (is_inward (side_in settings p) && nat_le (ip.time_to_live p) settings.hops) ≡ false
+
+unmended : (settings : PlainSettings) (p : List ℕ) → filter (holds_in settings p) whole_fix_rows ≡ [] → IsUnmended settings p
+unmended settings p none =
+    let rows = none_named (holds_in settings p) whole_fix_rows none in
+    record { trailer = rows.0; options = rows.1.0; reserved = rows.1.1.0; ttl = rows.1.1.1.0 }
+
+no_offset : (n : ℕ) → nat_lt 0 n ≡ false → n ≡ 0
+no_offset n e = grind (arith, nat_tests, e)
+
+plain : (settings : PlainSettings) (p : List ℕ) → IsSound p → IsUnmended settings p → ip.is_fragment p ≡ false → IsPlainHeader p
+plain settings p s u whole =
+    let parts = or_false (ip.has_more_fragments p) (nat_lt 0 (ip.fragment_offset p)) whole in
+    let most = not_less 20 (ip.header_length p) u.options in
+    let least = s.least in
+    let end = not_less (ip.total_length p) (length p) u.trailer in
+    let inside = s.whole in
+    record {
+      whole_header = s.long;
+      version = s.version;
+      header_length = omega (arith, most, least);
+      total_length = omega (arith, end, inside);
+      reserved = u.reserved;
+      more_fragments = parts.0;
+      fragment_offset = no_offset (ip.fragment_offset p) parts.1;
+      sum = not-false _ s.sum;
+    }
+
+inward_is : (side : Side) → is_inward (Some side) ≡ goes_in side
+inward_is Inward = refl
+inward_is Outward = refl
+
+passes : (inward : Bool) (ttl hops : ℕ) → (inward && nat_le ttl hops) ≡ false → inward ≡ true → hops < ttl
+passes true ttl hops e is = grind (arith, nat_tests, e)
+passes false ttl hops e is = cc
+
+-- a datagram that nothing mends is a packet of it, as it was read
+whole_packet : (settings : PlainSettings) (p : List ℕ) (fixes : List Rule) (side : Side) → side_in settings p ≡ Some side → IsSound p → IsUnmended settings p → IsPlainHeader p
+    → IsPacketOf settings (datagram_of p fixes side) (as_read (datagram_of p fixes side))
+whole_packet settings p fixes side told s u h =
+    let header : ip.header p ≡ take 20 p = ap (λ n. take n p) h.header_length in
+    let carries : ip.payload p ≡ drop 20 p = (λ k. drop (h.header_length k) (take (h.total_length k) p)) ∙ ap (drop 20) (take-length p) in
+    let joined : ip.header p ++ ip.payload p ≡ p = ap₂ (λ a b. a ++ b) header carries ∙ take-append-drop 20 p in
+    let back = sym joined in
+    record {
+      long = ap length header ∙ length-take-le 20 p s.long;
+      header = subst IsPlainHeader back h;
+      carries = ap ip.payload joined;
+      protocol = ap ip.protocol joined;
+      source = ap ip.source joined;
+      destination = ap ip.destination joined;
+      passes = λ inward. subst (λ q. settings.hops < ip.time_to_live q) back
+          (passes (goes_in side) (ip.time_to_live p) settings.hops (ap (λ b. b && nat_le (ip.time_to_live p) settings.hops) (sym (ap is_inward told ∙ inward_is side)) ∙ u.ttl) inward);
+    }
+
+-- the packet in a frame of octets is octets
+packet_octets : (link : Link) (frame : List ℕ) → AreOctets frame → AreOctets (packet_in link frame)
+packet_octets Ethernet frame each = dropped 14 frame each
+packet_octets Raw frame each = each
+
+-- no row on the packet drops the record, and those that mend it are those on the packet
+undropped_packet : (settings : PlainSettings) (link : Link) (r : Packet) → carries_ip link r.octets ≡ true → ip_dropped_by settings link r ≡ None
+    → AllByRecursion (λ rule. holds_in settings (packet_in link r.octets) rule ≡ false) packet_drop_rows
+unfolding ip_dropped_by
+undropped_packet settings link r carried none =
+    subst (λ b. AllByRecursion (λ rule. (b && holds_in settings (packet_in link r.octets) rule) ≡ false) packet_drop_rows) carried
+    (none_found (holds_ip settings link r) ip_drop_rows none).1.1.1
+
+unmended_packet : (settings : PlainSettings) (link : Link) (r : Packet) → carries_ip link r.octets ≡ true → ip_fixes settings link r whole_fix_rows ≡ []
+    → filter (holds_in settings (packet_in link r.octets)) whole_fix_rows ≡ []
+unfolding ip_fixes
+unmended_packet settings link r carried none = sym (ap (λ b. filter (λ rule. b && holds_in settings (packet_in link r.octets) rule) whole_fix_rows) carried) ∙ none
+
+pub datagrams_are_known : DatagramsAreKnown
+datagrams_are_known settings link r d each taken_up =
+    let p = packet_in link r.octets in
+    let fixes = ip_fixes settings link r whole_fix_rows in
+    let m : Made (ip_dropped_by settings link r) (carries_ip link r.octets) (ip.is_fragment p) (side_in settings p) (datagram_of p fixes) d =
+    made_by (ip_dropped_by settings link r) (carries_ip link r.octets) (ip.is_fragment p) (side_in settings p) (datagram_of p fixes) d taken_up in
+    let octets = packet_octets link r.octets each in
+    let s = sound settings p (undropped_packet settings link r m.carried m.undropped) in
+    subst (IsKnown settings) m.made (record {
+      sizes = sizes p octets;
+      known = s.known;
+      short = carried_short p octets s;
+      each = dropped (ip.header_length p) (take (ip.total_length p) p) (taken (ip.total_length p) p octets);
+      whole = λ none. let u = unmended settings p (unmended_packet settings link r m.carried none) in whole_packet settings p fixes m.side m.told_is s u (plain settings p s u m.whole);
+    })

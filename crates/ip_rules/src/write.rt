@@ -1,0 +1,72 @@
+//! Frames put into the outbox: as they were read, or with a header anew (RFC 791 section 3.1).
+ghost use Rattle.std.specs.Prelude.{◌≡◌, ◌+◌, ◌≤◌, ◌<◌, [], ◌∷◌, ◌++◌, length};
+ghost use Rattle.ipv4_codec.specs.Write.{plain_header};
+ghost use Rattle.ip_rules.specs.Rows as table;
+ghost use Rattle.ip_rules.specs.Datagrams as spec;
+
+use crate::judged::IpPacket;
+use edge_io::Outbox;
+use ipv4_codec::{Ipv4, write_plain};
+use wire_base::{Link, Side};
+
+/// The octets of an Ethernet header (RFC 894).
+const ETHERNET: usize = 14;
+
+/// What stands in a frame before its packet: the Ethernet header, and nothing on a raw link.
+pub fn link_octets(link: Link, frame: &[u8]) -> &[u8]
+    ensures octets { result.now ≡ table.link_octets link frame.now }
+    ensures short { length result.now ≤ 14 }
+{
+    match link {
+        Link::Ethernet => &frame[..frame.len().min(ETHERNET)],
+        Link::Raw => &[],
+    }
+}
+
+/// The header of a datagram as it goes out: an inbound one that would not pass all routers behind the bridge gets a TTL that does.
+pub fn head_sent(packet: &IpPacket<'_>, hops: u8) -> Ipv4
+    requires { hops ≤ 254 }
+    ensures { result ≡ spec.head_at packet.now.side hops packet.now.head }
+{
+    match packet.side {
+        Side::Inward => raised(&packet.head, hops),
+        Side::Outward => packet.head,
+    }
+}
+
+/// The header of an inbound datagram with a TTL that passes so many routers behind the bridge.
+pub fn raised(head: &Ipv4, hops: u8) -> Ipv4
+    requires { hops ≤ 254 }
+    ensures { result ≡ spec.raised hops head.now }
+{
+    let mut head = *head;
+    if head.ttl <= hops {
+        head.ttl = hops + 1;
+    }
+    head
+}
+
+/// Puts a frame as it was read into the empty outbox.
+pub fn put_read(frame: &[u8], out: &mut Outbox)
+    requires empty { out.old ≡ [] }
+    requires short { length frame.now ≤ 65549 }
+    ensures { out.new ≡ frame.now ∷ [] }
+{
+    out.begin();
+    out.append(frame);
+}
+
+/// Puts a packet with its header anew into the empty outbox, behind these link octets.
+pub fn put_anew(link: &[u8], head: &Ipv4, octets: &[u8], out: &mut Outbox)
+    requires empty { out.old ≡ [] }
+    requires link { length link.now ≤ 14 }
+    requires short { length octets.now ≤ 65515 }
+    ensures { out.new ≡ (link.now ++ plain_header head.now (length octets.now) ++ octets.now) ∷ [] }
+{
+    let mut header = [0u8; 20];
+    write_plain(head, octets.len() as u16, &mut header);
+    out.begin();
+    out.append(link);
+    out.append(&header);
+    out.append(octets);
+}
