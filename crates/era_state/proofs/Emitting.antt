@@ -138,7 +138,8 @@ bounded_from base before (w ∷ ws) only emitted h =
     let next : Bounded base (before ++ w ∷ []) = bounded_next base before w (other_before base (before ++ w ∷ []) ws on) emitted.0 h in
     subst (Bounded base) (sym (pushed before w ws)) (bounded_from base (before ++ w ∷ []) ws on emitted.1 next)
 
-bounded : (base : ℕ) (ws : List Written) → HasNoOtherBase base ws → AreEmitted [] ws → Bounded base ws
+-- emitted segments, where no other base is fixed
+pub bounded : (base : ℕ) (ws : List Written) → HasNoOtherBase base ws → AreEmitted [] ws → Bounded base ws
 bounded base ws only emitted = bounded_from base [] ws only emitted (bounded_none base)
 
 pub emitted_joins : EmittedJoins

@@ -44,7 +44,7 @@ or_some : (f : Option ℕ) (rest more : Option ℕ) (base : ℕ) → option_or f
 or_some None rest more base is goes = goes is
 or_some (Some b) rest more base is goes = is
 
-first_stays_of : (xs : List Written) (w : Written) (base : ℕ) → first_of fixes xs ≡ Some base → first_of fixes (xs ++ w ∷ []) ≡ Some base
+pub first_stays_of : (xs : List Written) (w : Written) (base : ℕ) → first_of fixes xs ≡ Some base → first_of fixes (xs ++ w ∷ []) ≡ Some base
 first_stays_of [] w base is = cc
 first_stays_of (x ∷ xs) w base is = or_some (fixes x) (first_of fixes xs) (first_of fixes (xs ++ w ∷ [])) base is (first_stays_of xs w base)
 

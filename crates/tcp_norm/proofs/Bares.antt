@@ -13,7 +13,8 @@ use Rattle.norm_settings.specs.Settings.{PlainSettings}
 use Rattle.tcp_codec.specs.Write.{Fits, AreReadBack, segment_octets, header_octets, checksum_of}
 use Rattle.era_state.specs.declared.segment.Seg.{Seg}
 use Rattle.era_state.specs.Read.{came}
-use Rattle.tcp_norm.specs.Calls.{Datagram, read, goes_in, segment_in, key_of}
+use Rattle.ip_rules.specs.Datagrams.{Datagram, goes_in}
+use Rattle.tcp_norm.specs.Calls.{read, segment_in, key_of}
 use Rattle.tcp_norm.specs.Rows.{t_res, t_urg, t_opt, t_strip, options_sent}
 use Rattle.tcp_norm.specs.Emits.{without_flag, packet_by, segment_sent, segment_anew, bare_segment, sum_mended}
 use Rattle.tcp_norm.specs.Streams.{bare_rows}
@@ -78,18 +79,18 @@ none_holds a b c e p none =
     let l2 = empty_left _ (where_holds b rules.TUrg) l3.0 in
     record { urgent = holds_not b rules.TUrg l2.1; options = holds_not c rules.TOpt l3.1; loaded = holds_not e rules.TStrip l4.1 }
 
-empty : (xs : List ℕ) → nat_lt 0 (length xs) ≡ false → xs ≡ []
+pub empty : (xs : List ℕ) → nat_lt 0 (length xs) ≡ false → xs ≡ []
 empty [] e = refl
 empty (x ∷ xs) e = absurd (grind (arith, nat_tests, e))
 
-behind : (a b : Bool) → a ≡ true → (a && b) ≡ false → b ≡ false
+pub behind : (a b : Bool) → a ≡ true → (a && b) ≡ false → b ≡ false
 behind true b is e = e
 behind false b is e = cc
 
 -- what is read of the packet, where the segment anew is a bare one
 pub bare_is_read : AreReadBack → (settings : PlainSettings) (ws : List Written) (d : Datagram) (probe : Bool) (named : List Rule) → goes_in d.side ≡ true → Fits (bare_segment d)
     → segment_anew ws d ≡ bare_segment d → (tcp.has_syn (segment_in d).flags || tcp.has_rst (segment_in d).flags) ≡ true
-    → bare_rows (t_res d) (t_urg d) (t_opt d) (t_strip (segment_in d)) probe ≡ named → read true (packet_by settings ws d d.fixes named).segment ≡ bare_read d.octets
+    → bare_rows (t_res d) (t_urg d) (t_opt d) (t_strip (segment_in d)) probe ≡ named → read true (packet_by settings ws d d.fixes named).octets ≡ bare_read d.octets
 bare_is_read back settings ws d probe [] side fits bare marked none =
     let rows = none_holds (t_res d) (t_urg d) (t_opt d) (t_strip (segment_in d)) probe none in
     let urgent : tcp.has_urg (tcp.flags d.octets) ≡ false = (or_false (tcp.has_urg (tcp.flags d.octets)) (not (tcp.urgent_pointer d.octets == 0)) (behind (goes_in d.side) _ side rows.urgent)).0 in
@@ -108,7 +109,7 @@ bare_is_read back settings ws d probe [] side fits bare marked none =
       octets = payload k;
     })
   where
-    as_read : (fixes : List Rule) → (packet_by settings ws d fixes []).segment ≡ d.octets
+    as_read : (fixes : List Rule) → (packet_by settings ws d fixes []).octets ≡ d.octets
     as_read [] = refl
     as_read (x ∷ xs) = refl
 bare_is_read back settings ws d probe (rule ∷ more) side fits bare marked some =
@@ -125,7 +126,7 @@ bare_is_read back settings ws d probe (rule ∷ more) side fits bare marked some
       octets = it.octets k;
     })
   where
-    mended : (fixes : List Rule) → (packet_by settings ws d fixes (rule ∷ more)).segment ≡ segment_sent ws d (rule ∷ more)
+    mended : (fixes : List Rule) → (packet_by settings ws d fixes (rule ∷ more)).octets ≡ segment_sent ws d (rule ∷ more)
     mended [] = refl
     mended (x ∷ xs) = refl
 

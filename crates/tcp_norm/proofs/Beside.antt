@@ -12,7 +12,8 @@ use Rattle.rule_book.specs.declared.rule.Rule.TheVariants as rules
 use Rattle.norm_settings.specs.Settings.{PlainSettings}
 use Rattle.era_state.specs.Rules as era
 use Rattle.era_state.specs.Keeping.{bounds_of, offset_of, begins_below, passes_window, passes_end}
-use Rattle.tcp_norm.specs.Calls.{Datagram, goes_in, segment_in}
+use Rattle.ip_rules.specs.Datagrams.{Datagram, goes_in}
+use Rattle.tcp_norm.specs.Calls.{segment_in}
 use Rattle.tcp_norm.specs.Views.{View}
 use Rattle.tcp_norm.specs.Rows.{is_live, holds_era, mended_by, differ, t_res, t_urg, t_opt, t_strip, c_probe, clashes}
 use Rattle.tcp_norm.specs.Streams.{bare_rows}

@@ -12,7 +12,8 @@ use Rattle.norm_settings.specs.Settings.{PlainSettings}
 use Rattle.era_state.specs.Rules.{is_of_stream}
 use Rattle.tcp_norm.specs.declared.flow.Flow.{Flow}
 use Rattle.tcp_norm.specs.declared.key.EraKey.{EraKey}
-use Rattle.tcp_norm.specs.Calls.{Call, Datagram, Alive, eras, segments, live, is_key, key_of, goes_in, segment_in}
+use Rattle.ip_rules.specs.Datagrams.{Datagram, goes_in}
+use Rattle.tcp_norm.specs.Calls.{Call, Alive, eras, segments, live, is_key, key_of, segment_in}
 use Rattle.tcp_norm.specs.Held.{held_all, held_in, held_of}
 use Rattle.tcp_norm.specs.Near.{AreBounded, IsAtMost}
 use Rattle.tcp_norm.specs.Views.{view_of, number_of, segments_of}

@@ -12,7 +12,8 @@ use Rattle.era_state.specs.Offsets.{off, natural}
 use Rattle.era_state.specs.Quantities.{base_of, iss, octets_of}
 use Rattle.era_state.specs.States.{state_of, is_called, is_offered, is_closed}
 use Rattle.era_state.specs.Rules.{t_state, t_syn, reopens_inward, reopens_outward, follows, precedes}
-use Rattle.tcp_norm.specs.Calls.{Datagram, goes_in, segment_in}
+use Rattle.ip_rules.specs.Datagrams.{Datagram, goes_in}
+use Rattle.tcp_norm.specs.Calls.{segment_in}
 use Rattle.tcp_norm.specs.Views.{View}
 use Rattle.tcp_norm.specs.Rows.{dropped_by, reopens}
 use Rattle.tcp_norm.specs.Colds.{Comes}

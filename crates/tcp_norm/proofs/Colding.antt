@@ -15,7 +15,8 @@ use Rattle.era_state.specs.declared.segment.Seg.{Seg}
 use Rattle.era_state.specs.Read.{came}
 use Rattle.cold_start.specs.Rules.{is_asked, is_call, t_cold, cold_probe_of}
 use Rattle.tcp_norm.specs.declared.step.Place.{Place}
-use Rattle.tcp_norm.specs.Calls.{Datagram, goes_in, segment_in}
+use Rattle.ip_rules.specs.Datagrams.{Datagram, goes_in}
+use Rattle.tcp_norm.specs.Calls.{segment_in}
 use Rattle.tcp_norm.specs.Views.{View}
 use Rattle.tcp_norm.specs.Rows.{dropped_by, t_full}
 use Rattle.tcp_norm.specs.Colds.{Comes}

@@ -12,7 +12,8 @@ use Rattle.tcp_norm.specs.declared.flow.Flow.{Flow}
 use Rattle.tcp_norm.specs.declared.key.EraKey.{EraKey}
 use Rattle.tcp_norm.specs.declared.state.TcpNorm.{TcpNorm}
 use Rattle.tcp_norm.specs.declared.step.Step.{Step}
-use Rattle.tcp_norm.specs.Calls.{Call, expiry, datagram, Datagram, Outcome, Packet, Alive, read, goes_in, is_era, is_written, segments, eras, written_by, touched_by, ended_by, begins_by, asks_by, time_of, alive_at, key_of, without, numbers_of, is_among}
+use Rattle.ip_rules.specs.Datagrams.{Datagram, Packet, goes_in}
+use Rattle.tcp_norm.specs.Calls.{Call, expiry, datagram, Outcome, Alive, read, is_era, is_written, segments, eras, written_by, touched_by, ended_by, begins_by, asks_by, time_of, alive_at, key_of, without, numbers_of, is_among}
 use Rattle.era_state.specs.Eras as era
 use Rattle.tcp_norm.specs.Held.{held_of}
 use Rattle.tcp_norm.specs.Standing.{HoldsFor, IsFor, IsTimely, StandsFor, Pairwise, EntryStands, alive_in}
@@ -27,17 +28,17 @@ use Rattle.tcp_norm.proofs.Beginning.{others_before}
 -- what is written in the era that it names, and in no other
 pub own_of : (now n : ℕ) (d : Datagram) (w : Written) (s : Step) (o : Outcome) → Does d w s o → s.era ≡ Some n → written_by n (datagram now d o) ≡ w ∷ []
 own_of now n d w s o does era =
-    ap₂ (λ a b. cond (is_era n a && b) (map (λ (p : Packet). read (goes_in d.side) p.segment) o.packets) []) (does.era_is ∙ era) does.written
-    ∙ (ap (λ b. cond (b && true) (map (λ (p : Packet). read (goes_in d.side) p.segment) o.packets) []) (number_same n) ∙ does.packets_are)
+    ap₂ (λ a b. cond (is_era n a && b) (map (λ (p : Packet). read (goes_in d.side) p.octets) o.packets) []) (does.era_is ∙ era) does.written
+    ∙ (ap (λ b. cond (b && true) (map (λ (p : Packet). read (goes_in d.side) p.octets) o.packets) []) (number_same n) ∙ does.packets_are)
 
 pub others_of : (now n m : ℕ) (d : Datagram) (w : Written) (s : Step) (o : Outcome) → Does d w s o → s.era ≡ Some n → m ≢ n → written_by m (datagram now d o) ≡ []
 others_of now n m d w s o does era ne =
-    ap (λ a. cond (is_era m a && is_written o.verdict) (map (λ (p : Packet). read (goes_in d.side) p.segment) o.packets) []) (does.era_is ∙ era)
-    ∙ ap (λ b. cond (b && is_written o.verdict) (map (λ (p : Packet). read (goes_in d.side) p.segment) o.packets) []) (number_other n m (λ same. ne (sym same)))
+    ap (λ a. cond (is_era m a && is_written o.verdict) (map (λ (p : Packet). read (goes_in d.side) p.octets) o.packets) []) (does.era_is ∙ era)
+    ∙ ap (λ b. cond (b && is_written o.verdict) (map (λ (p : Packet). read (goes_in d.side) p.octets) o.packets) []) (number_other n m (λ same. ne (sym same)))
 
 pub nothing_of : (now m : ℕ) (d : Datagram) (w : Written) (s : Step) (o : Outcome) → Does d w s o → s.era ≡ None → written_by m (datagram now d o) ≡ []
 nothing_of now m d w s o does era =
-    ap (λ a. cond (is_era m a && is_written o.verdict) (map (λ (p : Packet). read (goes_in d.side) p.segment) o.packets) []) (does.era_is ∙ era)
+    ap (λ a. cond (is_era m a && is_written o.verdict) (map (λ (p : Packet). read (goes_in d.side) p.octets) o.packets) []) (does.era_is ∙ era)
 
 pub touched_of : (now : ℕ) (d : Datagram) (w : Written) (s : Step) (o : Outcome) (era : Option ℕ) → Does d w s o → s.era ≡ era → touched_by (datagram now d o) ≡ alive_at now (key_of d) era
 touched_of now d w s o era does is = ap₂ (λ a b. cond b (alive_at now (key_of d) a) []) (does.era_is ∙ is) does.written

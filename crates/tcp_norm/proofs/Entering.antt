@@ -15,14 +15,14 @@ use Rattle.era_state.specs.Rules.{t_state, is_early_at}
 use Rattle.cold_start.specs.Rules.{is_asked, cold_probe_of}
 use Rattle.reset_probe.specs.Rules.{era_probe}
 use Rattle.tcp_norm.specs.declared.step.Step.{Step}
-use Rattle.tcp_norm.specs.Calls.{Datagram, Packet, read, goes_in, segment_in, key_of, key_at}
+use Rattle.ip_rules.specs.Datagrams.{Datagram, Packet, goes_in, IsDatagram}
+use Rattle.tcp_norm.specs.Calls.{read, segment_in, key_of, key_at}
 use Rattle.tcp_norm.specs.Views.{View}
 use Rattle.tcp_norm.specs.Rows.{is_live, holds_era, dropped_by, mended_by}
 use Rattle.tcp_norm.specs.Emits.{packet_by, packets_passed, probe_packet, probe_packets, probe_dropped}
 use Rattle.tcp_norm.specs.Outcomes.{outcome_at, outcome_by, outcome_dropped, verdict_of}
 use Rattle.tcp_norm.specs.Inwards.{passed}
 use Rattle.tcp_norm.specs.Colds.{IsUnheard}
-use Rattle.tcp_norm.specs.Passing.{IsDatagram}
 use Rattle.tcp_norm.specs.Steps.{IsStep, Does}
 use Rattle.tcp_norm.proofs.Judging.{both_true, not_true, dropped_is}
 use Rattle.tcp_norm.proofs.Passing.{fixed_or_passed, no_note}
@@ -56,7 +56,7 @@ in_outcome settings v d s fixes named packets side fixed none mends is sends =
     })
 
 -- an outcome does what it says
-pub in_does : (d : Datagram) (w : Written) (s : Step) (fixes named : List Rule) (packets : List Packet) → map (λ p. read (goes_in d.side) p.segment) packets ≡ w ∷ []
+pub in_does : (d : Datagram) (w : Written) (s : Step) (fixes named : List Rule) (packets : List Packet) → map (λ p. read (goes_in d.side) p.octets) packets ≡ w ∷ []
     → Does d w s (passed s fixes named packets)
 in_does d w s fixes named packets writes = record {
   written = fixed_or_passed (fixes ++ named);

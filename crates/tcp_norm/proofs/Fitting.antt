@@ -9,7 +9,8 @@ use Rattle.era_state.specs.Offsets.{nat_of}
 use Rattle.era_state.specs.Quantities.{base_at}
 use Rattle.era_state.specs.Keeping.{bounds_of, offset_of, low, high, keeps_fin, frame_sequence_of}
 use Rattle.tcp_norm.specs.Heads.{AreBits}
-use Rattle.tcp_norm.specs.Calls.{Datagram, segment_in}
+use Rattle.ip_rules.specs.Datagrams.{Datagram}
+use Rattle.tcp_norm.specs.Calls.{segment_in}
 use Rattle.tcp_norm.specs.Rows.{options_sent}
 use Rattle.tcp_norm.specs.Emits.{without_flag, segment_with, bare_segment, stream_segment, is_fin_kept, octets_sent}
 

@@ -11,7 +11,8 @@ use Rattle.era_state.specs.declared.interval.Interval.{Interval}
 use Rattle.era_state.specs.States.{State, called, offered, warm, closed, state_of, is_called, is_offered, is_closed, is_acknowledged}
 use Rattle.era_state.specs.Rules as era
 use Rattle.era_state.specs.Intervals.{KeptOf}
-use Rattle.tcp_norm.specs.Calls.{Datagram, goes_in, segment_in}
+use Rattle.ip_rules.specs.Datagrams.{Datagram, goes_in}
+use Rattle.tcp_norm.specs.Calls.{segment_in}
 use Rattle.tcp_norm.specs.Views.{View}
 use Rattle.tcp_norm.specs.Rows.{is_live, holds_era, dropped_by, mended_by, t_quota, t_room, t_res, t_urg, t_opt, clashes, begins, reopens, t_full}
 use Rattle.tcp_norm.specs.Outcomes.{begun_with, ended_with, ends}

@@ -51,3 +51,14 @@ pub mod Fitting
 pub mod Marked
 pub mod Quotas
 pub mod Bounds
+pub mod Outgoing
+pub mod OwnPackets
+pub mod PlainSegments
+pub mod EmittingBare
+pub mod EmittingStream
+pub mod EmittingCalls
+pub mod Clean
+pub mod HeldCounts
+pub mod HeldGrowth
+pub mod HeldWrites
+pub mod HeldLaws

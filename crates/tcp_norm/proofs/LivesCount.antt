@@ -5,7 +5,8 @@ use Rattle.std.proofs.lemmas.Bool.Decides.{nat_tests}
 use Rattle.std.specs.List.{find}
 use Rattle.wire_base.specs.declared.address.FlowKey.{FlowKey}
 use Rattle.norm_settings.specs.Settings.{PlainSettings}
-use Rattle.tcp_norm.specs.Calls.{Call, expiry, datagram, Alive, Datagram, eras, live, is_key, is_among, ended_by, begun_in, without, key_of}
+use Rattle.ip_rules.specs.Datagrams.{Datagram}
+use Rattle.tcp_norm.specs.Calls.{Call, expiry, datagram, Alive, eras, live, is_key, is_among, ended_by, begun_in, without, key_of}
 use Rattle.tcp_norm.specs.Held.{held_in}
 use Rattle.tcp_norm.specs.Views.{number_of, head_of, view_of}
 use Rattle.tcp_norm.specs.Outcomes.{call_of, expiry_of}

@@ -11,7 +11,8 @@ use Rattle.rule_book.specs.declared.rule.Rule.{Rule}
 use Rattle.rule_book.specs.declared.entry.Reason.{Reason}
 use Rattle.rule_book.specs.declared.entry.Ended.{Ended}
 use Rattle.norm_settings.specs.Settings.{PlainSettings}
-use Rattle.tcp_norm.specs.Calls.{Call, datagram, Datagram, Outcome, Alive, eras, live, is_key, is_era, is_written, key_of, segment_in, ended_by, touched_by, begins_by, alive_at, numbers_of, is_among}
+use Rattle.ip_rules.specs.Datagrams.{Datagram}
+use Rattle.tcp_norm.specs.Calls.{Call, datagram, Outcome, Alive, eras, live, is_key, is_era, is_written, key_of, segment_in, ended_by, touched_by, begins_by, alive_at, numbers_of, is_among}
 use Rattle.tcp_norm.specs.Held.{evictable}
 use Rattle.tcp_norm.specs.Views.{View, view_of}
 use Rattle.tcp_norm.specs.Rows.{begins, begins_cold, reopens, dropped_by, mended_by}

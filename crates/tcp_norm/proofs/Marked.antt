@@ -22,18 +22,18 @@ use Rattle.era_state.specs.States.{State, state_of, is_acknowledged, is_closed}
 use Rattle.era_state.specs.Rules as era
 use Rattle.reset_probe.specs.Rules.{era_probe, probe_with, awaited_number}
 use Rattle.cold_start.specs.Rules.{is_asked}
-use Rattle.tcp_norm.specs.Calls.{Datagram, Packet, read, goes_in, segment_in}
+use Rattle.ip_rules.specs.Datagrams.{Datagram, Packet, goes_in, raised, IsDatagram}
+use Rattle.tcp_norm.specs.Calls.{read, segment_in}
 use Rattle.tcp_norm.specs.Views.{View}
 use Rattle.tcp_norm.specs.Heads.{IsHead, AreBits}
 use Rattle.tcp_norm.specs.Rows.{is_live, c_probe, t_quota, t_room, dropped_by, mended_by, options_sent}
 use Rattle.tcp_norm.specs.declared.parts.Anew.{Anew}
 use Rattle.tcp_norm.specs.declared.step.Step.{Step}
 use Rattle.tcp_norm.specs.Emits.{packet_by, probe_packets, probe_dropped, without_flag, is_fin_kept, octets_sent, segment_anew, stream_segment, bare_segment}
-use Rattle.tcp_norm.specs.Inwards.{bare_read, raised, passed}
+use Rattle.tcp_norm.specs.Inwards.{bare_read, passed}
 use Rattle.tcp_norm.specs.Anews.{anew_segment}
 use Rattle.tcp_norm.specs.Steps.{IsStep, listed}
 use Rattle.tcp_norm.specs.Resets.{WritesAll}
-use Rattle.tcp_norm.specs.Passing.{IsDatagram}
 use Rattle.tcp_norm.proofs.Judging.{OfStream, not_true, stream_dropped, stream_begins_none, stream_ends_none}
 use Rattle.tcp_norm.proofs.Passing.{fixed_or_passed}
 use Rattle.tcp_norm.proofs.Fitting.{bare_fits}
@@ -66,14 +66,14 @@ pub bare_writes : AreReadBack → (settings : PlainSettings) (v : View) (d : Dat
     → (options : List ℕ) → options ≡ cleaned (tcp.has_syn head.flags.0) (tcp.options packet.payload.now) → length options % 4 ≡ 0 → 20 + length options ≡ head.header
     → (tcp.has_syn (segment_in d).flags || tcp.has_rst (segment_in d).flags) ≡ true → (is_live v && era.is_of_stream v.segments (segment_in d)) ≡ false → c_probe v (segment_in d) ≡ probe
     → mended_by settings v d ≡ rows → came s ≡ bare_read packet.payload.now
-    → map (λ p. read (goes_in d.side) p.segment) (packet_by settings v.segments d d.fixes rows ∷ []) ≡ came s ∷ []
+    → map (λ p. read (goes_in d.side) p.octets) (packet_by settings v.segments d d.fixes rows ∷ []) ≡ came s ∷ []
 bare_writes back settings v d packet link head probe rows s side is bits h options exact words size marked stream probes mends reads =
     let cleans : options ≡ options_sent d =
     exact ∙ (ap (λ (x : Tcp). cleaned (tcp.has_syn x.flags.0) (tcp.options packet.payload.now)) h.fields ∙ ap (λ m. cleaned (tcp.has_syn (tcp.flags m)) (tcp.options m)) (sym is.octets)) in
     let here : AreBits d.head d.octets = subst (λ m. AreBits d.head m) (sym is.octets) (subst (λ (x : Ipv4). AreBits x packet.payload.now) (sym is.head) bits) in
     let long = ap length cleans in
     let fits = bare_fits d here (ap (λ n. n % 4) (sym long) ∙ words) (omega (arith, long, size, h.most)) in
-    ap (λ w. w ∷ []) (ap (λ b. read b (packet_by settings v.segments d d.fixes rows).segment) side
+    ap (λ w. w ∷ []) (ap (λ b. read b (packet_by settings v.segments d d.fixes rows).octets) side
     ∙ (bare_is_read back settings v.segments d probe rows side fits (bare_anew v.segments d marked) marked (sym (bare_mended settings v d probe side stream probes) ∙ mends)
     ∙ (ap bare_read is.octets ∙ sym reads)))
 
@@ -144,7 +144,7 @@ stream_anew ws d packet link head hops anew octets is h syn rst seq fin options 
 
 -- an outcome that writes in a live era alone
 pub writes_all : (d : Datagram) (n : ℕ) (s : Step) (fixes named : List Rule) (packets : List Packet) → s ≡ record { era = Some n; begun = None; ended = None; full = false }
-    → WritesAll d n (map (λ p. read (goes_in d.side) p.segment) packets) (passed s fixes named packets)
+    → WritesAll d n (map (λ p. read (goes_in d.side) p.octets) packets) (passed s fixes named packets)
 writes_all d n s fixes named packets is = record {
   written = fixed_or_passed (fixes ++ named);
   era_is = ap (λ (x : Step). x.era) is;
@@ -171,7 +171,7 @@ pub reset_silent : (s : Seg) → tcp.are_legal s.flags.0 ≡ true → tcp.has_sy
 reset_silent s legal syn rst = record { inward = refl; no_syn = syn; no_fin = not_true (tcp.has_fin s.flags.0) (ap₂ (λ x y. tcp.go_together x (tcp.has_fin s.flags.0) y (tcp.has_ack s.flags.0)) (sym syn) (sym rst) ∙ legal); no_octets = refl }
 
 pub probes_silent : (settings : PlainSettings) (d : Datagram) (probe : Option Probe) → goes_in d.side ≡ true
-    → AllByRecursion IsSilent (map (λ p. read (goes_in d.side) p.segment) (probe_packets settings d probe))
+    → AllByRecursion IsSilent (map (λ p. read (goes_in d.side) p.octets) (probe_packets settings d probe))
 probes_silent settings d None side = tt
 probes_silent settings d (Some probe) side = (record { inward = side; no_syn = refl; no_fin = refl; no_octets = refl }, tt)
 

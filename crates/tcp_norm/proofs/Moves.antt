@@ -12,7 +12,8 @@ use Rattle.norm_settings.specs.Settings.{PlainSettings}
 use Rattle.tcp_norm.specs.declared.state.TcpNorm.{TcpNorm}
 use Rattle.tcp_norm.specs.declared.step.Step.{Step}
 use Rattle.tcp_norm.specs.declared.step.Place.{Place}
-use Rattle.tcp_norm.specs.Calls.{Call, datagram, Datagram, Outcome, Alive, segments, eras, key_of, without}
+use Rattle.ip_rules.specs.Datagrams.{Datagram}
+use Rattle.tcp_norm.specs.Calls.{Call, datagram, Outcome, Alive, segments, eras, key_of, without}
 use Rattle.tcp_norm.specs.Steps.{Does, one, number_ended, listed, place_of}
 use Rattle.tcp_norm.specs.Standing.{HoldsFor, IsFor, StandsFor}
 use Rattle.tcp_norm.proofs.Splits.{all_weaker}

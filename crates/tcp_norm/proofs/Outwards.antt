@@ -18,7 +18,8 @@ use Rattle.era_state.specs.Rules.{reopens_inward, reopens_outward, precedes}
 use Rattle.tcp_norm.specs.declared.flow.Flow.{Flow}
 use Rattle.tcp_norm.specs.declared.key.EraKey.{EraKey}
 use Rattle.tcp_norm.specs.declared.step.Place.{Place}
-use Rattle.tcp_norm.specs.Calls.{Call, Alive, Datagram, segments, eras, key_of}
+use Rattle.ip_rules.specs.Datagrams.{Datagram}
+use Rattle.tcp_norm.specs.Calls.{Call, Alive, segments, eras, key_of}
 use Rattle.tcp_norm.specs.Views.{View, view_of, number_of, segments_of}
 use Rattle.tcp_norm.specs.Rows.{reopens}
 use Rattle.tcp_norm.specs.Steps.{IsStep, began, evicted, place_of}

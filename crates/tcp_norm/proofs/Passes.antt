@@ -9,8 +9,8 @@ use Rattle.era_state.specs.Rules.{is_of_stream}
 use Rattle.era_state.specs.Standing.{WarmFor}
 use Rattle.era_state.specs.Intervals.{KeptOf}
 use Rattle.era_state.specs.Frames.{IsFrame}
-use Rattle.tcp_norm.specs.Calls.{datagram, Datagram, segment_in, key_of}
-use Rattle.tcp_norm.specs.Calls.{goes_in}
+use Rattle.ip_rules.specs.Datagrams.{Datagram, goes_in}
+use Rattle.tcp_norm.specs.Calls.{datagram, segment_in, key_of}
 use Rattle.wire_base.specs.Tcp as tcp
 use Rattle.wire_base.specs.Options.{cleaned}
 use Rattle.rule_book.specs.declared.rule.Rule.{Rule}

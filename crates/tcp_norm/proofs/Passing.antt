@@ -6,7 +6,8 @@ use Rattle.rule_book.specs.declared.rule.Rule.TheVariants as rules
 use Rattle.norm_settings.specs.Settings.{PlainSettings}
 use Rattle.era_state.specs.declared.interval.Interval.{Interval}
 use Rattle.era_state.specs.Intervals.{KeptOf}
-use Rattle.tcp_norm.specs.Calls.{datagram, Datagram, Outcome, Packet, read, goes_in, segment_in, key_of, is_written, alive_at}
+use Rattle.ip_rules.specs.Datagrams.{Datagram, Packet, goes_in}
+use Rattle.tcp_norm.specs.Calls.{datagram, Outcome, read, segment_in, key_of, is_written, alive_at}
 use Rattle.tcp_norm.specs.Views.{View}
 use Rattle.tcp_norm.specs.Writes.{WritesIn}
 use Rattle.tcp_norm.specs.Rows.{is_live, t_quota, t_room, t_full, t_res, t_urg, t_opt, clashes, dropped_by, noted}
@@ -16,10 +17,10 @@ use Rattle.tcp_norm.specs.Streams.{stream_rows}
 use Rattle.tcp_norm.proofs.Steps.{number_other, number_same}
 use Rattle.tcp_norm.proofs.Judging.{OfStream, stream_dropped, stream_mended, stream_begins_none, stream_ends_none}
 
-passed_in : (d : Datagram) (o : Outcome) (n now : ℕ) → is_written o.verdict ≡ true → WritesIn (datagram now d (record o { era = Some n; begun = None; ended = [] })) n (key_of d) now (map (λ p. read (goes_in d.side) p.segment) o.packets)
+passed_in : (d : Datagram) (o : Outcome) (n now : ℕ) → is_written o.verdict ≡ true → WritesIn (datagram now d (record o { era = Some n; begun = None; ended = [] })) n (key_of d) now (map (λ p. read (goes_in d.side) p.octets) o.packets)
 passed_in d o n now written = record {
-  own = ap₂ (λ a b. cond (a && b) (map (λ (p : Packet). read (goes_in d.side) p.segment) o.packets) []) (number_same n) written;
-  others = λ m ne. ap (λ a. cond (a && is_written o.verdict) (map (λ (p : Packet). read (goes_in d.side) p.segment) o.packets) []) (number_other n m (λ same. ne (sym same)));
+  own = ap₂ (λ a b. cond (a && b) (map (λ (p : Packet). read (goes_in d.side) p.octets) o.packets) []) (number_same n) written;
+  others = λ m ne. ap (λ a. cond (a && is_written o.verdict) (map (λ (p : Packet). read (goes_in d.side) p.octets) o.packets) []) (number_other n m (λ same. ne (sym same)));
   touched = ap (λ b. cond b (alive_at now (key_of d) (Some n)) []) written;
   ended = refl;
   begun = refl;
@@ -27,10 +28,10 @@ passed_in d o n now written = record {
 }
 
 pub passed_writes : (d : Datagram) (o : Outcome) (n now : ℕ) → is_written o.verdict ≡ true → o.era ≡ Some n → o.begun ≡ None → o.ended ≡ []
-    → WritesIn (datagram now d o) n (key_of d) now (map (λ p. read (goes_in d.side) p.segment) o.packets)
+    → WritesIn (datagram now d o) n (key_of d) now (map (λ p. read (goes_in d.side) p.octets) o.packets)
 passed_writes d o n now written era begun ended =
     let same : record o { era = Some n; begun = None; ended = [] } ≡ o = λ i. record o { era = (sym era) i; begun = (sym begun) i; ended = (sym ended) i } in
-    subst (λ x. WritesIn (datagram now d x) n (key_of d) now (map (λ (p : Packet). read (goes_in d.side) p.segment) o.packets)) same (passed_in d o n now written)
+    subst (λ x. WritesIn (datagram now d x) n (key_of d) now (map (λ (p : Packet). read (goes_in d.side) p.octets) o.packets)) same (passed_in d o n now written)
 
 pub fixed_or_passed : (named : List Rule) → is_written (verdict_of named) ≡ true
 fixed_or_passed [] = refl
@@ -77,11 +78,11 @@ stream_outcome settings v d i clash n era f is clashed quota room =
 pub stream_writes : (settings : PlainSettings) (v : View) (d : Datagram) (i : Interval) (clash : Bool) (n now : ℕ) → v.era ≡ Some n → OfStream v.segments (segment_in d)
     → KeptOf v.segments (segment_in d) i → clash ≡ clashes v.segments (segment_in d) → t_quota settings v (segment_in d) ≡ false → t_room v (segment_in d) ≡ false
     → WritesIn (datagram now d (outcome_at settings v d)) n (key_of d) now
-    (read true (packet_by settings v.segments d d.fixes (stream_rows (t_res d) (t_urg d) (t_opt d) i.below i.window i.end clash)).segment ∷ [])
+    (read true (packet_by settings v.segments d d.fixes (stream_rows (t_res d) (t_urg d) (t_opt d) i.below i.window i.end clash)).octets ∷ [])
 stream_writes settings v d i clash n now era f is clashed quota room =
     let named = stream_rows (t_res d) (t_urg d) (t_opt d) i.below i.window i.end clash in
     let outcome = stream_outcome settings v d i clash n era f is clashed quota room in
     let plain : Outcome = record { verdict = verdict_of (d.fixes ++ named); rules = d.fixes ++ named; era = Some n; begun = None; ended = []; packets = packet_by settings v.segments d d.fixes named ∷ [] } in
     let writes = passed_writes d plain n now (fixed_or_passed (d.fixes ++ named)) refl refl refl in
-    subst (λ (x : Outcome). WritesIn (datagram now d x) n (key_of d) now (read true (packet_by settings v.segments d d.fixes named).segment ∷ [])) (sym outcome)
-    (subst (λ b. WritesIn (datagram now d plain) n (key_of d) now (read b (packet_by settings v.segments d d.fixes named).segment ∷ [])) f.inward writes)
+    subst (λ (x : Outcome). WritesIn (datagram now d x) n (key_of d) now (read true (packet_by settings v.segments d d.fixes named).octets ∷ [])) (sym outcome)
+    (subst (λ b. WritesIn (datagram now d plain) n (key_of d) now (read b (packet_by settings v.segments d d.fixes named).octets ∷ [])) f.inward writes)

@@ -15,10 +15,8 @@ use Rattle.tcp_codec.specs.Header.{fields_of}
 use Rattle.tcp_codec.specs.Write.{segment_octets}
 use Rattle.era_state.specs.declared.probe.Probe.{Probe}
 use Rattle.reset_probe.specs.Write.{probe_octets, probe_segment}
-use Rattle.tcp_norm.specs.Calls.{Datagram, Packet, goes_in}
-use Rattle.tcp_norm.specs.Emits.{packet_by, anew, head_sent, segment_sent, segment_anew, sum_mended, probe_packet}
-use Rattle.tcp_norm.specs.Inwards.{raised}
-use Rattle.tcp_norm.specs.Passing.{IsDatagram, frames_of}
+use Rattle.ip_rules.specs.Datagrams.{Datagram, Packet, goes_in, raised, head_sent, anew, frames_of, IsDatagram}
+use Rattle.tcp_norm.specs.Emits.{packet_by, segment_sent, segment_anew, sum_mended, probe_packet}
 
 pub side_is : (packet : IpPacket) (link : List ℕ) (d : Datagram) → packet.side ≡ Inward → IsDatagram packet link d → goes_in d.side ≡ true
 side_is packet link d side is = ap goes_in (is.side ∙ side)

@@ -18,7 +18,8 @@ use Rattle.reset_probe.specs.declared.reset.ResetAnswer.TheVariants.{Pass, Refus
 use Rattle.reset_probe.specs.Answers.{reset_answer}
 use Rattle.reset_probe.specs.Rules.{era_probe, probe_with, awaited_number}
 use Rattle.tcp_norm.specs.declared.state.TcpNorm.{TcpNorm}
-use Rattle.tcp_norm.specs.Calls.{Call, datagram, Datagram, Outcome, Packet, read, goes_in, is_era, is_written, segments, eras, segment_in, key_of, without, begins_by, alive_at}
+use Rattle.ip_rules.specs.Datagrams.{Datagram, Packet, goes_in}
+use Rattle.tcp_norm.specs.Calls.{Call, datagram, Outcome, read, is_era, is_written, segments, eras, segment_in, key_of, without, begins_by, alive_at}
 use Rattle.tcp_norm.specs.Held.{held_of}
 use Rattle.tcp_norm.specs.Views.{View}
 use Rattle.tcp_norm.specs.Rows.{is_live, holds_era, dropped_by, exceeds, wanted_of}
@@ -78,14 +79,14 @@ no_call f legal rst = cases (tcp.has_syn f) refl
 pub own_with : (cs : List Call) (now n : ℕ) (d : Datagram) (ws : List Written) (o : Outcome) → WritesAll d n ws o → segments n (datagram now d o ∷ cs) ≡ segments n cs ++ ws
 own_with cs now n d ws o does =
     ap (λ l. segments n cs ++ l)
-    (ap₂ (λ a b. cond (is_era n a && b) (map (λ (p : Packet). read (goes_in d.side) p.segment) o.packets) []) does.era_is does.written
-    ∙ (ap (λ b. cond (b && true) (map (λ (p : Packet). read (goes_in d.side) p.segment) o.packets) []) (number_same n) ∙ does.packets_are))
+    (ap₂ (λ a b. cond (is_era n a && b) (map (λ (p : Packet). read (goes_in d.side) p.octets) o.packets) []) does.era_is does.written
+    ∙ (ap (λ b. cond (b && true) (map (λ (p : Packet). read (goes_in d.side) p.octets) o.packets) []) (number_same n) ∙ does.packets_are))
 
 pub other_with : (cs : List Call) (now n m : ℕ) (d : Datagram) (ws : List Written) (o : Outcome) → WritesAll d n ws o → m ≢ n → segments m (datagram now d o ∷ cs) ≡ segments m cs
 other_with cs now n m d ws o does ne =
     ap (λ l. segments m cs ++ l)
-    (ap (λ a. cond (is_era m a && is_written o.verdict) (map (λ (p : Packet). read (goes_in d.side) p.segment) o.packets) []) does.era_is
-    ∙ ap (λ b. cond (b && is_written o.verdict) (map (λ (p : Packet). read (goes_in d.side) p.segment) o.packets) []) (number_other n m (λ same. ne (sym same))))
+    (ap (λ a. cond (is_era m a && is_written o.verdict) (map (λ (p : Packet). read (goes_in d.side) p.octets) o.packets) []) does.era_is
+    ∙ ap (λ b. cond (b && is_written o.verdict) (map (λ (p : Packet). read (goes_in d.side) p.octets) o.packets) []) (number_other n m (λ same. ne (sym same))))
     ∙ append-nil (segments m cs)
 
 -- a RST that enters its era leaves it live, and touched

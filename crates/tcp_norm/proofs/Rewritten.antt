@@ -8,7 +8,8 @@ use Rattle.tcp_codec.specs.Write.{Fits, AreReadBack, segment_octets}
 use Rattle.era_state.specs.declared.interval.Interval.{Interval}
 use Rattle.era_state.specs.Intervals.{KeptOf}
 use Rattle.era_state.specs.Frames.{IsFrame}
-use Rattle.tcp_norm.specs.Calls.{Datagram, read, segment_in}
+use Rattle.ip_rules.specs.Datagrams.{Datagram}
+use Rattle.tcp_norm.specs.Calls.{read, segment_in}
 use Rattle.tcp_norm.specs.Rows.{low_of, high_of, octet_sent, kept_offsets}
 use Rattle.tcp_norm.specs.Emits.{without_flag, stream_segment, is_fin_kept, octets_sent}
 use Rattle.tcp_norm.proofs.Judging.{OfStream}

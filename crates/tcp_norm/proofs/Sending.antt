@@ -10,10 +10,9 @@ use Rattle.rule_book.specs.declared.rule.Rule.{Rule}
 use Rattle.rule_book.specs.declared.rule.Rule.TheVariants as rules
 use Rattle.norm_settings.specs.Settings.{PlainSettings}
 use Rattle.tcp_codec.specs.Mending.{mended}
-use Rattle.tcp_norm.specs.Calls.{Datagram, goes_in}
-use Rattle.tcp_norm.specs.Emits.{packet_by, anew, segment_sent, sum_mended}
+use Rattle.ip_rules.specs.Datagrams.{Datagram, goes_in, anew, frames_of, IsDatagram}
+use Rattle.tcp_norm.specs.Emits.{packet_by, segment_sent, sum_mended}
 use Rattle.ip_rules.specs.Judged.{where_holds}
-use Rattle.tcp_norm.specs.Passing.{IsDatagram, frames_of}
 use Rattle.tcp_norm.proofs.Sent.{out_head}
 
 side_is : (packet : IpPacket) (link : List ℕ) (d : Datagram) → packet.side ≡ Outward → IsDatagram packet link d → goes_in d.side ≡ false

@@ -13,7 +13,7 @@ use Rattle.tcp_codec.specs.declared.header.Tcp.{Tcp}
 use Rattle.tcp_codec.specs.Header.{fields_of}
 use Rattle.era_state.specs.declared.segment.Seg.{Seg}
 use Rattle.era_state.specs.Read.{sent}
-use Rattle.tcp_norm.specs.Passing.{IsDatagram}
+use Rattle.ip_rules.specs.Datagrams.{Datagram, goes_in, head_sent, IsDatagram}
 use Rattle.rule_book.specs.declared.rule.Rule.{Rule}
 use Rattle.rule_book.specs.declared.rule.Rule.TheVariants as rules
 use Rattle.rule_book.specs.Rules.{era_rows}
@@ -24,10 +24,10 @@ use Rattle.era_state.specs.Rules as era
 use Rattle.cold_start.specs.Rules.{is_asked, cold_probe_of}
 use Rattle.reset_probe.specs.Rules.{era_probe}
 use Rattle.tcp_norm.specs.declared.step.Step.{Step}
-use Rattle.tcp_norm.specs.Calls.{Datagram, Outcome, read, goes_in, segment_in, key_at}
+use Rattle.tcp_norm.specs.Calls.{Outcome, read, segment_in, key_at}
 use Rattle.tcp_norm.specs.Views.{View}
 use Rattle.tcp_norm.specs.Rows.{is_live, holds_era, dropped_by, mended_by, noted, t_sum_out, clashes, pseudo_of}
-use Rattle.tcp_norm.specs.Emits.{packet_by, packets_passed, probe_packet, probe_packets, head_sent, segment_sent, sum_mended}
+use Rattle.tcp_norm.specs.Emits.{packet_by, packets_passed, probe_packet, probe_packets, segment_sent, sum_mended}
 use Rattle.tcp_norm.specs.Outcomes.{outcome_at, outcome_by, verdict_of}
 use Rattle.ip_rules.specs.Judged.{where_holds}
 use Rattle.tcp_norm.specs.Steps.{IsStep, Does, Sends, listed}
@@ -124,13 +124,13 @@ read_same inward a b same = λ k. record {
 
 -- what is read of its packet is its segment
 sent_segment : MendedSayTheSame → (settings : PlainSettings) (ws : List Written) (d : Datagram) (wrong : Bool) → goes_in d.side ≡ false → 20 ≤ length d.octets → 20 ≤ tcp.header_length d.octets
-    → read false (packet_by settings ws d d.fixes (where_holds wrong rules.TSumOut)).segment ≡ read false d.octets
+    → read false (packet_by settings ws d d.fixes (where_holds wrong rules.TSumOut)).octets ≡ read false d.octets
 sent_segment law settings ws d wrong side long words = cases d.fixes wrong
   where
     summed : segment_sent ws d (rules.TSumOut ∷ []) ≡ sum_mended d
     summed = rw side refl
 
-    cases : (fixes : List Rule) (b : Bool) → read false (packet_by settings ws d fixes (where_holds b rules.TSumOut)).segment ≡ read false d.octets
+    cases : (fixes : List Rule) (b : Bool) → read false (packet_by settings ws d fixes (where_holds b rules.TSumOut)).octets ≡ read false d.octets
     cases [] false = refl
     cases (x ∷ xs) false = refl
     cases [] true = ap (read false) summed ∙ read_same false (sum_mended d) d.octets (law (pseudo_of d) d.octets long words)
@@ -145,7 +145,7 @@ out_does law settings v d s wrong side sum is long words =
       era_is = refl;
       begun_is = refl;
       ended_are = refl;
-      packets_are = ap (λ w. w ∷ []) (ap (λ b. read b (packet_by settings v.segments d d.fixes (where_holds wrong rules.TSumOut)).segment) side
+      packets_are = ap (λ w. w ∷ []) (ap (λ b. read b (packet_by settings v.segments d d.fixes (where_holds wrong rules.TSumOut)).octets) side
           ∙ (sent_segment law settings v.segments d wrong side long words ∙ ap (λ b. read b d.octets) (sym side)));
     })
 

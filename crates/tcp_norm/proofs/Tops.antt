@@ -10,7 +10,7 @@ use Rattle.era_state.specs.Offsets.{off, natural, nat_of}
 use Rattle.era_state.specs.Marks.{octet_at, top_place, get_at, has_octets}
 use Rattle.era_state.specs.Quantities.{acked, first, top}
 
-got_inside : (xs : List ℕ) (i : ℕ) → is_some (slice_get xs i) ≡ true → i < length xs
+pub got_inside : (xs : List ℕ) (i : ℕ) → is_some (slice_get xs i) ≡ true → i < length xs
 got_inside [] i some = cc
 got_inside (x ∷ xs) zero some = omega arith
 got_inside (x ∷ xs) (suc i) some = let rest = got_inside xs i some in omega arith

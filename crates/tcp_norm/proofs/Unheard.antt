@@ -4,15 +4,16 @@ use Rattle.std.proofs.lemmas.List.{append-nil}
 use Rattle.std.specs.List.{AllByRecursion}
 use Rattle.norm_settings.specs.Settings.{PlainSettings}
 use Rattle.tcp_norm.specs.declared.state.TcpNorm.{TcpNorm}
-use Rattle.tcp_norm.specs.Calls.{Call, datagram, Datagram, Outcome, Packet, Alive, read, goes_in, is_era, is_written, segments, eras, written_by, touched_by, begins_by, alive_at, key_of}
+use Rattle.ip_rules.specs.Datagrams.{Datagram, Packet, goes_in}
+use Rattle.tcp_norm.specs.Calls.{Call, datagram, Outcome, Alive, read, is_era, is_written, segments, eras, written_by, touched_by, begins_by, alive_at, key_of}
 use Rattle.tcp_norm.specs.Colds.{IsUnheard}
 use Rattle.tcp_norm.specs.Standing.{HoldsFor, IsFor, StandsFor}
 use Rattle.tcp_norm.proofs.Effects.{lives_stay, stands_next, relabel}
 use Rattle.tcp_norm.proofs.Moves.{GoesOn}
 
 none_written : (now m : ℕ) (d : Datagram) (o : Outcome) (b : Bool) → is_written o.verdict ≡ b → IsUnheard o → written_by m (datagram now d o) ≡ []
-none_written now m d o true e u = ap (λ a. cond (is_era m a && is_written o.verdict) (map (λ (p : Packet). read (goes_in d.side) p.segment) o.packets) []) (u.era e)
-none_written now m d o false e u = ap (λ b. cond (is_era m o.era && b) (map (λ (p : Packet). read (goes_in d.side) p.segment) o.packets) []) e ∙ never (is_era m o.era) _
+none_written now m d o true e u = ap (λ a. cond (is_era m a && is_written o.verdict) (map (λ (p : Packet). read (goes_in d.side) p.octets) o.packets) []) (u.era e)
+none_written now m d o false e u = ap (λ b. cond (is_era m o.era && b) (map (λ (p : Packet). read (goes_in d.side) p.octets) o.packets) []) e ∙ never (is_era m o.era) _
   where
     never : {X : Type 0} (a : Bool) (xs : List X) → cond (a && false) xs [] ≡ []
     never true xs = refl

@@ -6,11 +6,9 @@ use Rattle.std.proofs.lemmas.Bool.Decides.{nat_tests}
 use Rattle.wire_base.specs.Tcp as tcp
 use Rattle.wire_base.specs.Segments.{Written}
 use Rattle.era_state.specs.declared.interval.Interval.{Interval}
-use Rattle.era_state.specs.declared.warm.Warm.{Warm}
-use Rattle.era_state.specs.Offsets.{off, nat_of, number_in, whole, OffsetsAreRead}
+use Rattle.era_state.specs.Offsets.{off, nat_of, whole, OffsetsAreRead}
 use Rattle.era_state.specs.Quantities.{base_at, acked, end_of}
 use Rattle.era_state.specs.Rules as era
-use Rattle.era_state.specs.Standing.{WarmFor}
 use Rattle.era_state.specs.Intervals.{KeptOf}
 use Rattle.era_state.specs.Frames.{IsFrame}
 use Rattle.tcp_norm.proofs.Judging.{OfStream}
@@ -126,9 +124,9 @@ own_sequence reads base from end b at sequence len fin ends is fits o = first_ca
     first_case false e = second_case (keeps_fin b at len fin) refl e
 
 -- a segment of the stream on which none of these rows holds is its own frame
-pub verbatim : OffsetsAreRead → (e : Warm) (ws : List Written) (w : Written) (i : Interval) → WarmFor e ws → KeptOf ws w i → OfStream ws w → w.seq < 2 ^ 32
+pub verbatim : OffsetsAreRead → (place : Option ℕ) (ws : List Written) (w : Written) (i : Interval) → whole place ≡ end_of (base_at ws) ws → KeptOf ws w i → OfStream ws w → w.seq < 2 ^ 32
     → i.below ≡ false → i.window ≡ false → i.end ≡ false → IsFrame ws w i w
-verbatim reads e ws w i was is f fits below window end =
+verbatim reads place ws w i pinned is f fits below window end =
     let b = bounds_of ws in
     let at = offset_of ws w.seq in
     let stream : (t : Bool) (row : Bool) → t ≡ (era.is_of_stream ws w && row) → t ≡ false → row ≡ false =
@@ -138,12 +136,10 @@ verbatim reads e ws w i was is f fits below window end =
       window = stream i.window _ is.window_is window;
       end = stream i.end _ is.end_is end;
     }) in
-    let base : e.base ≡ base_at ws = sym (ap number_in was.base_is) in
     record {
       inward = f.inward;
       no_syn = f.no_syn;
       fin_is = o.fin_is ∙ sym is.spans.fin_is;
       long = ap (λ n. n + length w.octets) is.spans.lo_is ∙ (o.long ∙ sym is.spans.hi_is);
-      sequence_is = own_sequence reads (base_at ws) (acked (base_at ws) ws) e.end b at w.seq (length w.octets) (tcp.has_fin w.flags)
-          (sym (was.end_is ∙ ap (λ n. end_of n ws) base)) refl fits o;
+      sequence_is = own_sequence reads (base_at ws) (acked (base_at ws) ws) place b at w.seq (length w.octets) (tcp.has_fin w.flags) (sym pinned) refl fits o;
     }

@@ -8,24 +8,11 @@ use Rattle.wire_base.specs.Tcp as tcp
 use Rattle.wire_base.specs.Options.{scale_of}
 use Rattle.wire_base.specs.Segments.{Written}
 use Rattle.ipv4_codec.specs.declared.header.Ipv4.{Ipv4}
+use Rattle.ip_rules.specs.Datagrams.{Datagram, Packet, goes_in}
 use Rattle.rule_book.specs.declared.rule.Rule.{Rule}
 use Rattle.rule_book.specs.declared.entry.Ended.{Ended}
 use Rattle.rule_book.specs.declared.entry.Verdict.{Verdict}
 use Rattle.rule_book.specs.declared.entry.Verdict.TheVariants as verdicts
-
--- a datagram that carries TCP: its side, the fields of its header, the header's octets as they were read (asked for only where nothing mends the
--- packet), what it carries, and the rows on its header that mend it
-pub record Datagram : Type 0 where
-  pub side : Side
-  pub head : Ipv4
-  pub header : List ℕ
-  pub octets : List ℕ
-  pub fixes : List Rule
-
--- a packet that went out: its header, and its segment
-pub record Packet : Type 0 where
-  pub header : List ℕ
-  pub segment : List ℕ
 
 -- what became of a datagram: what its record's entry says, the eras that ended with it in their order, and the packets that went out
 pub record Outcome : Type 0 where
@@ -40,11 +27,6 @@ pub record Outcome : Type 0 where
 pub data Call : Type 0 where
   expiry : (now : ℕ) (ended : List ℕ) → Call
   datagram : (now : ℕ) (asked : Datagram) (outcome : Outcome) → Call
-
--- it goes inwards
-abbrev pub goes_in : Side → Bool
-goes_in Inward = true
-goes_in Outward = false
 
 -- the segment of these octets, as one that is written to this side
 abbrev pub read : (inward : Bool) → List ℕ → Written
@@ -106,7 +88,7 @@ ended_by (datagram now asked outcome) = map (λ e. e.era) outcome.ended
 abbrev pub written_by : (era : ℕ) → Call → List Written
 written_by era (expiry now ended) = []
 written_by era (datagram now asked outcome) =
-    if is_era era outcome.era && is_written outcome.verdict then map (λ p. read (goes_in asked.side) p.segment) outcome.packets else []
+    if is_era era outcome.era && is_written outcome.verdict then map (λ p. read (goes_in asked.side) p.octets) outcome.packets else []
 
 -- whether a call names an era: its record belongs to it
 abbrev pub names : Call → (era : ℕ) → Bool

@@ -9,7 +9,8 @@ use Rattle.era_state.specs.Read.{came}
 use Rattle.cold_start.specs.Rules.{is_asked, cold_probe_of}
 use Rattle.tcp_norm.specs.declared.come_cold.ColdEffect.{ColdEffect}
 use Rattle.tcp_norm.specs.declared.come_cold.ColdEffect.TheVariants.{Refused, Full, Asked, Begun}
-use Rattle.tcp_norm.specs.Calls.{Datagram, Outcome, goes_in, segment_in, key_of, is_written}
+use Rattle.ip_rules.specs.Datagrams.{Datagram, goes_in}
+use Rattle.tcp_norm.specs.Calls.{Outcome, segment_in, key_of, is_written}
 use Rattle.tcp_norm.specs.Views.{View}
 use Rattle.tcp_norm.specs.Rows.{dropped_by}
 use Rattle.tcp_norm.specs.Steps.{IsStep, Does, began}

@@ -1,9 +1,7 @@
 -- The packets that go out for a datagram (this project's profile, over RFC 791 and RFC 9293 section 3.1).
-use Rattle.std.specs.Prelude.{ℕ, ◌+◌, ◌-◌, ◌&&◌, ◌||◌, nat_le, not, Bool, List, [], ◌∷◌, length, map, Option, Some, None, if◌then◌else◌}
+use Rattle.std.specs.Prelude.{ℕ, ◌-◌, ◌&&◌, ◌||◌, not, Bool, List, [], ◌∷◌, length, map, Option, Some, None, if◌then◌else◌}
 use Rattle.wire_base.specs.Tcp as tcp
 use Rattle.wire_base.specs.Segments.{Segment, Written}
-use Rattle.ipv4_codec.specs.declared.header.Ipv4.{Ipv4}
-use Rattle.ipv4_codec.specs.Write.{plain_header}
 use Rattle.tcp_codec.specs.Mending.{mended}
 use Rattle.tcp_codec.specs.Write.{segment_octets}
 use Rattle.rule_book.specs.declared.rule.Rule.{Rule}
@@ -14,17 +12,10 @@ use Rattle.era_state.specs.Keeping.{bounds_of, offset_of, keeps_fin, frame_seque
 use Rattle.cold_start.specs.Rules.{cold_probe_of, is_asked}
 use Rattle.reset_probe.specs.Rules.{era_probe}
 use Rattle.reset_probe.specs.Write.{probe_segment}
-use Rattle.tcp_norm.specs.Calls.{Datagram, Packet, goes_in, segment_in}
+use Rattle.ip_rules.specs.Datagrams.{Datagram, Packet, goes_in, as_read, head_sent, anew}
+use Rattle.tcp_norm.specs.Calls.{segment_in}
 use Rattle.tcp_norm.specs.Views.{View}
 use Rattle.tcp_norm.specs.Rows.{is_live, pseudo_of, octet_sent, kept_offsets, options_sent}
-
--- the fields of the header that go out: those read, and of an inbound datagram that would not pass all routers behind the bridge a TTL that does
-abbrev pub head_sent : PlainSettings → Datagram → Ipv4
-head_sent settings d = record d.head { ttl = if goes_in d.side && nat_le d.head.ttl settings.hops then settings.hops + 1 else d.head.ttl }
-
--- a packet with its header anew
-abbrev pub anew : PlainSettings → Datagram → List ℕ → Packet
-anew settings d m = record { header = plain_header (head_sent settings d) (length m); segment = m }
 
 -- the flags without the one of this weight
 abbrev pub without_flag : ℕ → ℕ → ℕ
@@ -78,7 +69,7 @@ segment_sent ws d (rule ∷ more) = if goes_in d.side then segment_octets (segme
 
 -- the packet of the datagram itself: as it came where no row mends it
 abbrev pub packet_by : PlainSettings → List Written → Datagram → (fixes mended : List Rule) → Packet
-packet_by settings ws d [] [] = record { header = d.header; segment = d.octets }
+packet_by settings ws d [] [] = as_read d
 packet_by settings ws d [] (rule ∷ more) = anew settings d (segment_sent ws d (rule ∷ more))
 packet_by settings ws d (fix ∷ others) mended = anew settings d (segment_sent ws d mended)
 

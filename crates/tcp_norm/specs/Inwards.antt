@@ -1,12 +1,12 @@
 -- What goes inwards of a datagram, and what its record's entry says.
-use Rattle.std.specs.Prelude.{ℕ, ◌+◌, nat_le, true, List, [], ◌++◌, if◌then◌else◌}
+use Rattle.std.specs.Prelude.{ℕ, true, List, [], ◌++◌}
 use Rattle.wire_base.specs.Tcp as tcp
 use Rattle.wire_base.specs.Options.{cleaned, scale_of}
 use Rattle.wire_base.specs.Segments.{Written}
-use Rattle.ipv4_codec.specs.declared.header.Ipv4.{Ipv4}
 use Rattle.rule_book.specs.declared.rule.Rule.{Rule}
 use Rattle.tcp_norm.specs.declared.step.Step.{Step}
-use Rattle.tcp_norm.specs.Calls.{Outcome, Packet}
+use Rattle.ip_rules.specs.Datagrams.{Packet}
+use Rattle.tcp_norm.specs.Calls.{Outcome}
 use Rattle.tcp_norm.specs.Emits.{without_flag}
 use Rattle.tcp_norm.specs.Outcomes.{verdict_of}
 use Rattle.tcp_norm.specs.Steps.{listed}
@@ -23,10 +23,6 @@ bare_read m =
       scale = scale_of (cleaned (tcp.has_syn (tcp.flags m)) (tcp.options m));
       octets = [];
     }
-
--- the header of an inbound datagram with a TTL that passes all routers behind the bridge
-abbrev pub raised : (hops : ℕ) → Ipv4 → Ipv4
-raised hops ip = record ip { ttl = if nat_le ip.ttl hops then hops + 1 else ip.ttl }
 
 -- the outcome of a datagram that no row drops, by what it does to the eras, the rows on its header and on its segment, and its packets
 abbrev pub passed : Step → (fixes mended : List Rule) → List Packet → Outcome

@@ -9,7 +9,8 @@ use Rattle.era_state.specs.Rules.{is_of_stream}
 use Rattle.era_state.specs.Standing.{WarmFor}
 use Rattle.era_state.specs.Intervals.{KeptOf}
 use Rattle.era_state.specs.Frames.{IsFrame}
-use Rattle.tcp_norm.specs.Calls.{Call, datagram, Datagram, Alive, segments, eras, names, ended_by, is_among, segment_in, key_of}
+use Rattle.ip_rules.specs.Datagrams.{Datagram}
+use Rattle.tcp_norm.specs.Calls.{Call, datagram, Alive, segments, eras, names, ended_by, is_among, segment_in, key_of}
 use Rattle.tcp_norm.specs.Views.{View}
 use Rattle.tcp_norm.specs.Rows.{t_quota, t_room}
 use Rattle.tcp_norm.specs.Emits.{octets_sent, stream_segment}

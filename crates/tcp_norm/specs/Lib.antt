@@ -7,6 +7,7 @@ pub mod Outcomes
 pub mod Keys
 pub mod Standing
 pub mod Writes
+pub mod Segments
 pub mod Laws
 pub mod Lives
 pub mod Chains

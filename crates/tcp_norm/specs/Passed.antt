@@ -3,7 +3,8 @@ use Rattle.std.specs.Prelude.{◌≡◌, ℕ, List, length, None}
 use Rattle.norm_settings.specs.Settings.{PlainSettings}
 use Rattle.era_state.specs.Keeping.{frame_sequence_of}
 use Rattle.tcp_norm.specs.declared.pass.Passed.{Passed}
-use Rattle.tcp_norm.specs.Calls.{Datagram, segment_in}
+use Rattle.ip_rules.specs.Datagrams.{Datagram}
+use Rattle.tcp_norm.specs.Calls.{segment_in}
 use Rattle.tcp_norm.specs.Views.{View}
 use Rattle.tcp_norm.specs.Rows.{dropped_by, mended_by, options_sent}
 use Rattle.tcp_norm.specs.Emits.{is_fin_kept, octets_sent}

@@ -1,20 +1,7 @@
 -- A packet that is handed over, and what its record's entry and the outbox say then.
-use Rattle.std.specs.Prelude.{◌≡◌, ℕ, ◌++◌, List, [], length, map}
-use Rattle.ip_rules.specs.declared.judged.IpPacket.{IpPacket}
+use Rattle.std.specs.Prelude.{◌≡◌, ◌++◌, length}
 use Rattle.rule_book.specs.declared.entry.Entry.{Entry}
-use Rattle.tcp_norm.specs.Calls.{Datagram, Outcome, Packet}
-
--- the datagram is the packet, whose frame has these link octets; its header's octets are those of the frame, where no row on the header mends it
-pub record IsDatagram (packet : IpPacket) (link : List ℕ) (d : Datagram) : Type 0 where
-  pub side : d.side ≡ packet.side
-  pub head : d.head ≡ packet.head
-  pub octets : d.octets ≡ packet.payload.now
-  pub fixes : d.fixes ≡ packet.fixes.items
-  pub frame : packet.fixes.items ≡ [] → packet.frame.now ≡ link ++ d.header ++ d.octets
-
--- the frames of packets behind these link octets
-abbrev pub frames_of : List ℕ → List Packet → List (List ℕ)
-frames_of link packets = map (λ p. link ++ p.header ++ p.segment) packets
+use Rattle.tcp_norm.specs.Calls.{Outcome}
 
 -- the entry says what became of the datagram, and nothing else in it has changed; eras that ended before stand before those that ended with it
 pub record Reports (old new : Entry) (o : Outcome) : Type 0 where

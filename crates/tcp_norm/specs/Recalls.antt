@@ -6,7 +6,8 @@ use Rattle.era_state.specs.declared.segment.Seg.{Seg}
 use Rattle.era_state.specs.Read.{came}
 use Rattle.tcp_norm.specs.declared.come_call.SynEffect.{SynEffect}
 use Rattle.tcp_norm.specs.declared.come_call.SynEffect.TheVariants.{Early, Stray, Goes}
-use Rattle.tcp_norm.specs.Calls.{Datagram, Outcome, segment_in}
+use Rattle.ip_rules.specs.Datagrams.{Datagram}
+use Rattle.tcp_norm.specs.Calls.{Outcome, segment_in}
 use Rattle.tcp_norm.specs.Views.{View}
 use Rattle.tcp_norm.specs.Rows.{dropped_by}
 use Rattle.tcp_norm.specs.Steps.{IsStep, Does}

@@ -8,7 +8,8 @@ use Rattle.era_state.specs.Silence.{IsSilent}
 use Rattle.reset_probe.specs.Rules.{era_probe}
 use Rattle.tcp_norm.specs.declared.come_reset.ResetEffect.{ResetEffect}
 use Rattle.tcp_norm.specs.declared.come_reset.ResetEffect.TheVariants.{Repelled, Enters}
-use Rattle.tcp_norm.specs.Calls.{Datagram, Outcome, read, goes_in, is_written, segment_in}
+use Rattle.ip_rules.specs.Datagrams.{Datagram, goes_in}
+use Rattle.tcp_norm.specs.Calls.{Outcome, read, is_written, segment_in}
 use Rattle.tcp_norm.specs.Views.{View}
 use Rattle.tcp_norm.specs.Rows.{dropped_by}
 use Rattle.tcp_norm.specs.Colds.{IsUnheard}
@@ -25,7 +26,7 @@ pub record WritesAll (d : Datagram) (number : ℕ) (ws : List Written) (o : Outc
   pub era_is : o.era ≡ Some number
   pub begun_is : o.begun ≡ None
   pub ended_are : o.ended ≡ []
-  pub packets_are : map (λ p. read (goes_in d.side) p.segment) o.packets ≡ ws
+  pub packets_are : map (λ p. read (goes_in d.side) p.octets) o.packets ≡ ws
 
 -- an outcome does this: what goes inwards with a RST brings its era nothing
 abbrev pub DoesReset : Datagram → ResetEffect → Outcome → Type 0

@@ -16,7 +16,8 @@ use Rattle.era_state.specs.Quantities.{base_at, first, out}
 use Rattle.era_state.specs.Keeping.{bounds_of, offset_of, low, high}
 use Rattle.era_state.specs.Rules as era
 use Rattle.cold_start.specs.Rules as cold
-use Rattle.tcp_norm.specs.Calls.{Datagram, goes_in, segment_in}
+use Rattle.ip_rules.specs.Datagrams.{Datagram, goes_in}
+use Rattle.tcp_norm.specs.Calls.{segment_in}
 use Rattle.tcp_norm.specs.Held.{held_of, missing_of}
 use Rattle.tcp_norm.specs.Views.{View}
 

@@ -10,7 +10,8 @@ use Rattle.era_state.specs.Read.{sent}
 use Rattle.wire_base.specs.declared.address.FlowKey.{FlowKey}
 use Rattle.tcp_norm.specs.declared.step.Step.{Step}
 use Rattle.tcp_norm.specs.declared.step.Place.{Place}
-use Rattle.tcp_norm.specs.Calls.{Alive, Datagram, Outcome, read, goes_in, is_written, segment_in, key_of}
+use Rattle.ip_rules.specs.Datagrams.{Datagram, goes_in}
+use Rattle.tcp_norm.specs.Calls.{Alive, Outcome, read, is_written, segment_in, key_of}
 use Rattle.tcp_norm.specs.Held.{held_of}
 use Rattle.tcp_norm.specs.Views.{View, number_of, segments_of, head_of}
 use Rattle.tcp_norm.specs.Rows.{t_full}
@@ -44,7 +45,7 @@ pub record Does (d : Datagram) (w : Written) (s : Step) (o : Outcome) : Type 0 w
   pub era_is : o.era ≡ s.era
   pub begun_is : o.begun ≡ s.begun
   pub ended_are : o.ended ≡ listed s.ended
-  pub packets_are : map (λ p. read (goes_in d.side) p.segment) o.packets ≡ w ∷ []
+  pub packets_are : map (λ p. read (goes_in d.side) p.octets) o.packets ≡ w ∷ []
 
 -- the least recently touched era, where nothing was written in it for more than `idle` seconds
 abbrev pub first_old : (idle now : ℕ) → List Alive → Option ℕ

@@ -3,7 +3,8 @@ use Rattle.std.specs.Prelude.{ℕ, ◌+◌, ◌-◌, nat_le, Bool, List, [], ◌
 use Rattle.wire_base.specs.Segments.{Written}
 use Rattle.era_state.specs.Quantities.{octets_of}
 use Rattle.norm_settings.specs.Settings.{PlainSettings}
-use Rattle.tcp_norm.specs.Calls.{Call, Datagram, Alive, segments, begun_in, eras, live, key_of, numbers_of}
+use Rattle.ip_rules.specs.Datagrams.{Datagram}
+use Rattle.tcp_norm.specs.Calls.{Call, Alive, segments, begun_in, eras, live, key_of, numbers_of}
 use Rattle.tcp_norm.specs.Held.{held_all, evictable}
 
 -- The live era of the datagram's four-tuple and the segments written in it, how many cells hold nothing, whether as many eras are live as may be, the

@@ -1,7 +1,7 @@
 -- Worked rows: a connection that opens and brings octets, a clash, a reset with its probe, a reset that stays outside, and one that ends an era.
 use Rattle.std.specs.Prelude.{◌≡◌, ℕ, true, false, List, [], ◌∷◌, map, Some, None}
 use Rattle.rule_book.specs.declared.entry.Reason.TheVariants as reasons
-use Rattle.tcp_norm.specs.Emits.{anew}
+use Rattle.ip_rules.specs.Datagrams.{Datagram, anew}
 use Rattle.wire_base.specs.declared.address.Side.TheVariants.{Inward, Outward}
 use Rattle.wire_base.specs.Segments.{Segment}
 use Rattle.ipv4_codec.specs.declared.header.Ipv4.{Ipv4}
@@ -9,7 +9,7 @@ use Rattle.tcp_codec.specs.Write.{segment_octets}
 use Rattle.rule_book.specs.declared.rule.Rule.TheVariants as rules
 use Rattle.rule_book.specs.declared.entry.Verdict.TheVariants as verdicts
 use Rattle.norm_settings.specs.Settings.{standard}
-use Rattle.tcp_norm.specs.Calls.{Call, Datagram, Outcome, read}
+use Rattle.tcp_norm.specs.Calls.{Call, Outcome, read}
 use Rattle.tcp_norm.specs.Views.{view_of}
 use Rattle.tcp_norm.specs.Outcomes.{call_of, outcome_at}
 
@@ -52,7 +52,7 @@ pub record WorkedRows : Type 0 where
         era = Some 1;
         begun = None;
         ended = [];
-        packets = record { header = []; segment = (came_in 16 1000 5001 []).octets } ∷ [];
+        packets = record { header = []; octets = (came_in 16 1000 5001 []).octets } ∷ [];
       }
   -- octets that differ from those that went in first are replaced by them
   pub clash : became (came_in 24 1000 5001 (97 ∷ 98 ∷ 99 ∷ 100 ∷ []) ∷ opening) (came_in 24 1000 5001 (97 ∷ 98 ∷ 88 ∷ 100 ∷ []))
@@ -66,7 +66,7 @@ pub record WorkedRows : Type 0 where
       }
   -- a reset that is awaited passes, and the probe of its era goes behind it
   pub reset : (became opening (came_in 4 1000 0 [])).rules ≡ rules.CProbe ∷ []
-  pub reset_packets : map (λ p. read true p.segment) (became opening (came_in 4 1000 0 [])).packets
+  pub reset_packets : map (λ p. read true p.octets) (became opening (came_in 4 1000 0 [])).packets
       ≡ record { inward = true; seq = 1000; ack = 0; flags = 4; window = 8192; scale = None; octets = [] }
       ∷ record { inward = true; seq = 999; ack = 5001; flags = 16; window = 8192; scale = None; octets = [] } ∷ []
   -- a reset of what is acknowledged stays outside

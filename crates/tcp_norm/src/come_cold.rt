@@ -19,7 +19,8 @@ impl TcpNorm {
     ghost use Rattle.wire_base.specs.Tcp as tcp;
     ghost use Rattle.norm_settings.specs.Settings.{PlainSettings};
     ghost use Rattle.linked_table.specs.Table.{HasNone};
-    ghost use Rattle.tcp_norm.specs.Calls.{Call, Datagram, Outcome, datagram};
+    ghost use Rattle.ip_rules.specs.Datagrams.{Datagram};
+    ghost use Rattle.tcp_norm.specs.Calls.{Call, Outcome, datagram};
     ghost use Rattle.tcp_norm.specs.Views.{view_of};
     ghost use Rattle.tcp_norm.specs.Colds.{Comes, IsColdEffect, DoesCold};
     ghost use Rattle.tcp_norm.specs.Standing.{StandsFor};

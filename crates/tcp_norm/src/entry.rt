@@ -3,7 +3,7 @@ ghost use Rattle.std.specs.Prelude.{◌≡◌, ◌+◌, ◌≤◌, ◌++◌, Lis
 ghost use Rattle.ip_rules.specs.Judged.{where_holds};
 ghost use Rattle.tcp_norm.specs.Outcomes.{verdict_of};
 ghost use Rattle.tcp_norm.specs.Steps.{listed};
-ghost use Rattle.tcp_norm.specs.Calls.{Packet};
+ghost use Rattle.ip_rules.specs.Datagrams.{Packet};
 ghost use Rattle.tcp_norm.specs.Passing.{Reports};
 ghost use Rattle.tcp_norm.specs.Inwards.{passed};
 ghost use Rattle.rule_book.specs.declared.rule.Rule.TheVariants as rules;

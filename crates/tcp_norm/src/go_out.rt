@@ -31,7 +31,8 @@ fn era_of(seg: &Seg) -> Era
 impl TcpNorm {
     ghost use Rattle.norm_settings.specs.Settings.{PlainSettings};
     ghost use Rattle.linked_table.specs.Table.{IsIn, HasNone, Wherever};
-    ghost use Rattle.tcp_norm.specs.Calls.{Call, Datagram, Outcome, datagram, segment_in};
+    ghost use Rattle.ip_rules.specs.Datagrams.{Datagram};
+    ghost use Rattle.tcp_norm.specs.Calls.{Call, Outcome, datagram, segment_in};
     ghost use Rattle.tcp_norm.specs.Views.{view_of};
     ghost use Rattle.tcp_norm.specs.Steps.{Sends, IsStep, Does};
     ghost use Rattle.tcp_norm.specs.Standing.{StandsFor};

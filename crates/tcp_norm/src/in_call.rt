@@ -5,10 +5,11 @@ use crate::flow::Flow;
 use crate::reading::{are_bits, bare_seg, inward_key, options_of};
 use crate::rows::rows_beside;
 use crate::state::TcpNorm;
-use crate::write::{put_probe, raised};
+use crate::write::put_probe;
 use cold_start::cold_probe;
 use edge_io::Outbox;
 use ip_rules::IpPacket;
+use ip_rules::write::raised;
 use linked_table::Slot;
 use reset_probe::probe_of;
 use rule_book::{Entry, Rule};
@@ -21,11 +22,12 @@ impl TcpNorm {
     ghost use Rattle.wire_base.specs.declared.address.Side.TheVariants.{Inward};
     ghost use Rattle.linked_table.specs.Table.{IsIn, Wherever};
     ghost use Rattle.norm_settings.specs.Settings.{PlainSettings};
-    ghost use Rattle.tcp_norm.specs.Calls.{Call, Datagram, key_at};
+    ghost use Rattle.ip_rules.specs.Datagrams.{Datagram, frames_of, IsDatagram};
+    ghost use Rattle.tcp_norm.specs.Calls.{Call, key_at};
     ghost use Rattle.tcp_norm.specs.Views.{view_of};
     ghost use Rattle.tcp_norm.specs.Heads.{IsHead};
     ghost use Rattle.tcp_norm.specs.Outcomes.{call_of, outcome_at};
-    ghost use Rattle.tcp_norm.specs.Passing.{IsDatagram, Reports, frames_of};
+    ghost use Rattle.tcp_norm.specs.Passing.{Reports};
     ghost use Rattle.tcp_norm.specs.Standing.{StandsFor};
 
     // It goes in, begins an era anew, or a row drops it and a probe goes in.

@@ -5,9 +5,10 @@ use crate::reading::{are_bits, bare_seg, inward_key, options_of};
 use crate::rows::rows_beside;
 use crate::state::TcpNorm;
 use crate::step::Step;
-use crate::write::{put_probe, raised};
+use crate::write::put_probe;
 use edge_io::Outbox;
 use ip_rules::IpPacket;
+use ip_rules::write::raised;
 use rule_book::{Entry, Rule};
 use tcp_codec::Tcp;
 use tcp_codec::laws::segments_are_read_back;
@@ -18,11 +19,12 @@ impl TcpNorm {
     ghost use Rattle.wire_base.specs.declared.address.Side.TheVariants.{Inward};
     ghost use Rattle.linked_table.specs.Table.{HasNone};
     ghost use Rattle.norm_settings.specs.Settings.{PlainSettings};
-    ghost use Rattle.tcp_norm.specs.Calls.{Call, Datagram, key_at};
+    ghost use Rattle.ip_rules.specs.Datagrams.{Datagram, frames_of, IsDatagram};
+    ghost use Rattle.tcp_norm.specs.Calls.{Call, key_at};
     ghost use Rattle.tcp_norm.specs.Views.{view_of};
     ghost use Rattle.tcp_norm.specs.Heads.{IsHead};
     ghost use Rattle.tcp_norm.specs.Outcomes.{call_of, outcome_at};
-    ghost use Rattle.tcp_norm.specs.Passing.{IsDatagram, Reports, frames_of};
+    ghost use Rattle.tcp_norm.specs.Passing.{Reports};
     ghost use Rattle.tcp_norm.specs.Standing.{StandsFor};
 
     // It begins an era, a host is asked about it, or a row drops it.

@@ -18,11 +18,12 @@ impl TcpNorm {
     ghost use Rattle.wire_base.specs.declared.address.Side.TheVariants.{Inward};
     ghost use Rattle.linked_table.specs.Table.{IsIn, Wherever};
     ghost use Rattle.norm_settings.specs.Settings.{PlainSettings};
-    ghost use Rattle.tcp_norm.specs.Calls.{Call, Datagram, key_at};
+    ghost use Rattle.ip_rules.specs.Datagrams.{Datagram, frames_of, IsDatagram};
+    ghost use Rattle.tcp_norm.specs.Calls.{Call, key_at};
     ghost use Rattle.tcp_norm.specs.Views.{view_of};
     ghost use Rattle.tcp_norm.specs.Heads.{IsHead};
     ghost use Rattle.tcp_norm.specs.Outcomes.{call_of, outcome_at};
-    ghost use Rattle.tcp_norm.specs.Passing.{IsDatagram, Reports, frames_of};
+    ghost use Rattle.tcp_norm.specs.Passing.{Reports};
     ghost use Rattle.tcp_norm.specs.Standing.{StandsFor};
     ghost use Rattle.wire_base.specs.Segments.{Written};
     ghost use Rattle.era_state.specs.States.{is_acknowledged};

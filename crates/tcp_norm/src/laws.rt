@@ -2,9 +2,15 @@
 ghost use Rattle.tcp_norm.specs.Worked.{WorkedRows};
 ghost use Rattle.tcp_norm.specs.Laws.{OthersStay, StreamsAreWritten};
 ghost use Rattle.tcp_norm.specs.Lives.{LivesAreLast, FlowsAreBounded};
+ghost use Rattle.tcp_norm.specs.Segments.{CallsAreEmitted, CleanKeepsPayload, HeldIsBounded, PacketsAreItsOwn, PacketsArePlain, ProbesAreSilent, QuotaLeavesRoom};
 
-use era_state::laws::offsets_are_read;
-use tcp_codec::laws::segments_are_read_back;
+use era_state::laws::{
+    acked_never_falls, emitted_joins, first_stays, intervals_fit, offsets_are_read,
+    places_are_read, unbased_has_no_octet, written_remains,
+};
+use ip_rules::laws::anew_is_packet;
+use reset_probe::laws::probes_are_plain;
+use tcp_codec::laws::{mended_say_the_same, options_are_cleaned, segments_are_read_back};
 
 /// A call that neither names nor ends an era leaves it as it was.
 pub fn others_stay()
@@ -33,3 +39,73 @@ pub fn lives_are_last()
 pub fn flows_are_bounded()
     ensures { FlowsAreBounded }
 {}
+
+/// Each packet that goes out for a datagram is one of it.
+pub fn packets_are_its_own()
+    ensures { PacketsAreItsOwn }
+{
+    anew_is_packet();
+    options_are_cleaned();
+    mended_say_the_same();
+}
+
+/// What goes inwards is read alike by every host.
+pub fn packets_are_plain()
+    ensures { PacketsArePlain }
+{
+    anew_is_packet();
+    options_are_cleaned();
+    mended_say_the_same();
+    segments_are_read_back();
+    probes_are_plain();
+}
+
+/// A probe that goes out for a datagram that a row drops says nothing of a stream.
+pub fn probes_are_silent()
+    ensures { ProbesAreSilent }
+{}
+
+/// In calls that the rules make of datagrams that are segments, the segments written of each era are emitted, each after those before it.
+pub fn calls_are_emitted()
+    ensures { CallsAreEmitted }
+{
+    emitted_joins();
+    written_remains();
+    offsets_are_read();
+    segments_are_read_back();
+    mended_say_the_same();
+    options_are_cleaned();
+}
+
+/// Where no row holds that touches a payload, one packet goes out for a datagram, which carries what its segment does.
+pub fn clean_keeps_payload()
+    ensures { CleanKeepsPayload }
+{
+    intervals_fit();
+    options_are_cleaned();
+    segments_are_read_back();
+    mended_say_the_same();
+}
+
+/// No more blocks hold octets than there are cells, and no more of one era than the quota.
+pub fn held_is_bounded()
+    ensures { HeldIsBounded }
+{
+    offsets_are_read();
+    places_are_read();
+    intervals_fit();
+    first_stays();
+    acked_never_falls();
+    emitted_joins();
+    unbased_has_no_octet();
+    options_are_cleaned();
+    segments_are_read_back();
+    calls_are_emitted();
+}
+
+/// Where the cells are as many as all eras may hold together, T_ROOM drops nothing.
+pub fn quota_leaves_room()
+    ensures { QuotaLeavesRoom }
+{
+    held_is_bounded();
+}

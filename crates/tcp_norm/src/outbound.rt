@@ -2,9 +2,10 @@
 use crate::entry::tell_out;
 use crate::reading::{outward_key, seg_of};
 use crate::state::TcpNorm;
-use crate::write::{put_anew, put_mended, put_read};
+use crate::write::put_mended;
 use edge_io::Outbox;
 use ip_rules::IpPacket;
+use ip_rules::write::{put_anew, put_read};
 use rule_book::Entry;
 use tcp_codec::Tcp;
 use tcp_codec::laws::mended_say_the_same;
@@ -18,13 +19,14 @@ impl TcpNorm {
     ghost use Rattle.rule_book.specs.declared.rule.Rule.TheVariants as rules;
     ghost use Rattle.tcp_codec.specs.Header.{fields_of};
     ghost use Rattle.norm_settings.specs.Settings.{PlainSettings};
-    ghost use Rattle.tcp_norm.specs.Calls.{Call, Datagram};
+    ghost use Rattle.ip_rules.specs.Datagrams.{Datagram, frames_of, IsDatagram};
+    ghost use Rattle.tcp_norm.specs.Calls.{Call};
     ghost use Rattle.tcp_norm.specs.Views.{view_of};
     ghost use Rattle.tcp_norm.specs.Heads.{IsHead};
     ghost use Rattle.ip_rules.specs.Judged.{where_holds};
     ghost use Rattle.tcp_norm.specs.Emits.{packet_by};
     ghost use Rattle.tcp_norm.specs.Outcomes.{call_of, outcome_at};
-    ghost use Rattle.tcp_norm.specs.Passing.{IsDatagram, Reports, frames_of};
+    ghost use Rattle.tcp_norm.specs.Passing.{Reports};
     ghost use Rattle.tcp_norm.specs.Standing.{StandsFor};
 
     /// Takes an outbound datagram: it goes on in its era, or ends, reopens or begins one.

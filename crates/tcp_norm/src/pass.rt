@@ -30,7 +30,8 @@ impl TcpNorm {
     ghost use Rattle.linked_table.specs.Table.{IsIn, Wherever};
     ghost use Rattle.era_state.specs.Standing.{WarmFor};
     ghost use Rattle.era_state.specs.Rules.{is_of_stream};
-    ghost use Rattle.tcp_norm.specs.Calls.{Alive, Datagram, datagram, segment_in, key_of, goes_in, without, written_by};
+    ghost use Rattle.ip_rules.specs.Datagrams.{Datagram, goes_in};
+    ghost use Rattle.tcp_norm.specs.Calls.{Alive, datagram, segment_in, key_of, without, written_by};
     ghost use Rattle.tcp_norm.specs.Views.{View};
     ghost use Rattle.tcp_norm.specs.Held.{held_of};
     ghost use Rattle.tcp_norm.specs.Chains as chains;

@@ -5,7 +5,8 @@ impl TcpNorm {
     ghost use Rattle.std.specs.Prelude.{◌<◌, ◌≤◌, ◌-◌, ◌^◌, List, ◌∷◌};
     ghost use Rattle.rule_book.specs.declared.rule.Rule.{Rule};
     ghost use Rattle.norm_settings.specs.Settings.{PlainSettings};
-    ghost use Rattle.tcp_norm.specs.Calls.{Call, Datagram, datagram};
+    ghost use Rattle.ip_rules.specs.Datagrams.{Datagram};
+    ghost use Rattle.tcp_norm.specs.Calls.{Call, datagram};
     ghost use Rattle.tcp_norm.specs.Views.{view_of};
     ghost use Rattle.tcp_norm.specs.Outcomes.{outcome_dropped};
     ghost use Rattle.tcp_norm.specs.Standing.{StandsFor};

@@ -2,10 +2,11 @@
 use crate::parts::Anew;
 use crate::reading::options_of;
 use crate::state::TcpNorm;
-use crate::write::{put_anew, put_read, put_rewritten, raised};
+use crate::write::put_rewritten;
 use arrayvec::ArrayVec;
 use edge_io::Outbox;
 use ip_rules::IpPacket;
+use ip_rules::write::{put_anew, put_read, raised};
 use rule_book::Rule;
 use tcp_codec::Tcp;
 
@@ -14,12 +15,11 @@ impl TcpNorm {
     ghost use Rattle.wire_base.specs.Segments.{Written};
     ghost use Rattle.wire_base.specs.declared.address.Side.TheVariants.{Inward};
     ghost use Rattle.norm_settings.specs.Settings.{PlainSettings};
-    ghost use Rattle.tcp_norm.specs.Calls.{Call, Datagram, goes_in};
+    ghost use Rattle.ip_rules.specs.Datagrams.{Datagram, goes_in, raised, frames_of, IsDatagram};
+    ghost use Rattle.tcp_norm.specs.Calls.{Call};
     ghost use Rattle.tcp_norm.specs.Heads.{IsHead};
     ghost use Rattle.tcp_norm.specs.Anews.{anew_segment};
-    ghost use Rattle.tcp_norm.specs.Inwards.{raised};
     ghost use Rattle.tcp_norm.specs.Emits.{packet_by, segment_anew, bare_segment};
-    ghost use Rattle.tcp_norm.specs.Passing.{IsDatagram, frames_of};
     ghost use Rattle.tcp_norm.specs.Standing.{IsFor, StandsFor};
 
     // Puts the packet of an inbound datagram that these rows mend into the empty outbox; what it carries anew stands at the front of the scratch.

@@ -51,7 +51,8 @@ impl TcpNorm {
     ghost use Rattle.std.specs.List.{AllByRecursion};
     ghost use Rattle.rule_book.specs.declared.rule.Rule.TheVariants as rules;
     ghost use Rattle.norm_settings.specs.Settings.{PlainSettings, plain_settings, AreInRange};
-    ghost use Rattle.tcp_norm.specs.Calls.{Call, Datagram, eras, live};
+    ghost use Rattle.ip_rules.specs.Datagrams.{Datagram};
+    ghost use Rattle.tcp_norm.specs.Calls.{Call, eras, live};
     ghost use Rattle.tcp_norm.specs.Held.{held_all, held_in};
     ghost use Rattle.tcp_norm.specs.Near.{IsAtMost};
     ghost use Rattle.tcp_norm.specs.Rows.{dropped_by};

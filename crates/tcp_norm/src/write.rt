@@ -7,13 +7,13 @@ ghost use Rattle.tcp_codec.specs.Mending.{mended};
 ghost use Rattle.tcp_codec.specs.Write.{segment_octets};
 ghost use Rattle.reset_probe.specs.Write.{probe_octets};
 ghost use Rattle.tcp_norm.specs.Anews.{anew_segment};
-ghost use Rattle.tcp_norm.specs.Inwards.{raised};
 
 use crate::anew::write_anew;
 use crate::parts::Anew;
 use edge_io::Outbox;
 use era_state::Probe;
-use ipv4_codec::{Ipv4, write_plain};
+use ip_rules::write::put_anew;
+use ipv4_codec::Ipv4;
 use reset_probe::write_probe;
 use tcp_codec::laws::mended_say_the_same;
 use tcp_codec::{Tcp, mend};
@@ -21,31 +21,6 @@ use wire_base::pseudo_sum;
 
 // The protocol's number (RFC 9293 section 3.1).
 const TCP: u8 = 6;
-
-/// Puts a frame as it was read into the empty outbox.
-pub(crate) fn put_read(frame: &[u8], out: &mut Outbox)
-    requires empty { out.old ≡ [] }
-    requires short { length frame.now ≤ 65549 }
-    ensures { out.new ≡ frame.now ∷ [] }
-{
-    out.begin();
-    out.append(frame);
-}
-
-/// Puts a packet with its header anew into the empty outbox, behind these link octets.
-pub(crate) fn put_anew(link: &[u8], head: &Ipv4, segment: &[u8], out: &mut Outbox)
-    requires empty { out.old ≡ [] }
-    requires link { length link.now ≤ 14 }
-    requires short { length segment.now ≤ 65515 }
-    ensures { out.new ≡ (link.now ++ plain_header head.now (length segment.now) ++ segment.now) ∷ [] }
-{
-    let mut header = [0u8; 20];
-    write_plain(head, segment.len() as u16, &mut header);
-    out.begin();
-    out.append(link);
-    out.append(&header);
-    out.append(segment);
-}
 
 /// Puts a packet with its header anew and with its segment's checksum mended into the empty outbox.
 pub(crate) fn put_mended(
@@ -72,18 +47,6 @@ pub(crate) fn put_mended(
         pseudo_sum(head.src, head.dst, TCP, segment.len() as u16),
     );
     put_anew(link, head, copy, out);
-}
-
-/// The header of an inbound datagram with a TTL that passes so many routers behind the bridge.
-pub(crate) fn raised(ip: &Ipv4, hops: u8) -> Ipv4
-    requires { hops ≤ 254 }
-    ensures { result ≡ raised hops ip.now }
-{
-    let mut head = *ip;
-    if head.ttl <= hops {
-        head.ttl = hops + 1;
-    }
-    head
 }
 
 /// Puts a packet with its header anew and its segment written anew into the empty outbox.

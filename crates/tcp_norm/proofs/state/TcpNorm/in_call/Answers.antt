@@ -8,7 +8,8 @@ use Rattle.tcp_norm.specs.Views.{view_of}
 use Rattle.tcp_norm.specs.Emits.{probe_packet, probe_packets}
 use Rattle.tcp_norm.specs.Inwards.{bare_read}
 use Rattle.tcp_norm.specs.Outcomes.{outcome_at}
-use Rattle.tcp_norm.specs.Passing.{Reports, frames_of}
+use Rattle.ip_rules.specs.Datagrams.{frames_of}
+use Rattle.tcp_norm.specs.Passing.{Reports}
 use Rattle.tcp_norm.specs.Steps.{Does}
 use Rattle.tcp_norm.proofs.Outwards.{view_live, era_at}
 use Rattle.tcp_norm.proofs.Calleds.{no_reset}

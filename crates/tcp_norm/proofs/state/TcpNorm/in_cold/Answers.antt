@@ -7,7 +7,8 @@ use Rattle.tcp_norm.specs.Colds.{IsUnheard}
 use Rattle.tcp_norm.specs.Emits.{probe_packet}
 use Rattle.tcp_norm.specs.Inwards.{bare_read}
 use Rattle.tcp_norm.specs.Outcomes.{outcome_at}
-use Rattle.tcp_norm.specs.Passing.{Reports, frames_of}
+use Rattle.ip_rules.specs.Datagrams.{frames_of}
+use Rattle.tcp_norm.specs.Passing.{Reports}
 use Rattle.tcp_norm.specs.Steps.{IsStep, Does, began}
 use Rattle.tcp_norm.proofs.Outwards.{view_cold}
 use Rattle.tcp_norm.proofs.Bares.{comes_bare, bare_anew}

@@ -9,7 +9,8 @@ use Rattle.tcp_norm.specs.Rows.{mended_by}
 use Rattle.tcp_norm.specs.Emits.{probe_packet}
 use Rattle.tcp_norm.specs.Inwards.{bare_read}
 use Rattle.tcp_norm.specs.Outcomes.{outcome_by}
-use Rattle.tcp_norm.specs.Passing.{Reports, frames_of}
+use Rattle.ip_rules.specs.Datagrams.{frames_of}
+use Rattle.tcp_norm.specs.Passing.{Reports}
 use Rattle.tcp_norm.specs.Standing.{StandsFor}
 use Rattle.tcp_norm.proofs.Outwards.{view_live, era_at}
 use Rattle.tcp_norm.proofs.Colding.{probe_same}

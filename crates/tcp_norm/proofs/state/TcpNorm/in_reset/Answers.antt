@@ -3,12 +3,13 @@ use Rattle.wire_base.specs.Tcp as tcp
 use Rattle.rule_book.specs.declared.rule.Rule.TheVariants as rules
 use Rattle.era_state.specs.Silence.{IsSilent}
 use Rattle.tcp_norm.specs.declared.step.Step.{Step}
-use Rattle.tcp_norm.specs.Calls.{read, goes_in, segment_in}
+use Rattle.ip_rules.specs.Datagrams.{goes_in, frames_of}
+use Rattle.tcp_norm.specs.Calls.{read, segment_in}
 use Rattle.tcp_norm.specs.Views.{view_of}
 use Rattle.tcp_norm.specs.Emits.{packet_by, probe_packets}
 use Rattle.tcp_norm.specs.Inwards.{bare_read}
 use Rattle.tcp_norm.specs.Outcomes.{outcome_at}
-use Rattle.tcp_norm.specs.Passing.{Reports, frames_of}
+use Rattle.tcp_norm.specs.Passing.{Reports}
 use Rattle.tcp_norm.specs.Resets.{WritesAll}
 use Rattle.tcp_norm.specs.Steps.{IsStep}
 use Rattle.tcp_norm.proofs.Outwards.{view_live}
@@ -87,9 +88,9 @@ returns-in-Some-clause-stands c settings calls d st is =
     c.are_bits.ensures c.requires.head c.options_of-options.result.0.items c.options_of-options.ensures.exact c.options_of-options.ensures.words c.options_of-options.ensures.size (rst_marked w syn rst) stream probes mends c.bare_seg-seg.ensures.read) in
     let silent = subst IsSilent (sym first) (reset_silent c.bare_seg-seg.result c.bare_seg-seg.ensures.flags (comes.syn ∙ syn) (comes.rst ∙ rst)) in
     let stood = c.in-Enters.ensures.stands settings calls d (outcome_at settings v d) _ st c.requires.key comes (
-      map (λ p. read (goes_in d.side) p.segment) packets,
+      map (λ p. read (goes_in d.side) p.octets) packets,
       (silent, probes_silent settings d c.in-Enters.probe side),
-      subst (WritesAll d n (map (λ p. read (goes_in d.side) p.segment) packets)) (sym is_it) (writes_all d n s d.fixes named packets refl),
+      subst (WritesAll d n (map (λ p. read (goes_in d.side) p.octets) packets)) (sym is_it) (writes_all d n s d.fixes named packets refl),
     ) in
     c.send_bare.ensures.stays settings _ stood
 
@@ -149,9 +150,9 @@ returns-in-Some-clause-frames c settings calls d st is =
     c.are_bits.ensures c.requires.head c.options_of-options.result.0.items c.options_of-options.ensures.exact c.options_of-options.ensures.words c.options_of-options.ensures.size (rst_marked w syn rst) stream probes mends c.bare_seg-seg.ensures.read) in
     let silent = subst IsSilent (sym first) (reset_silent c.bare_seg-seg.result c.bare_seg-seg.ensures.flags (comes.syn ∙ syn) (comes.rst ∙ rst)) in
     let stood = c.in-Enters.ensures.stands settings calls d (outcome_at settings v d) _ st c.requires.key comes (
-      map (λ p. read (goes_in d.side) p.segment) packets,
+      map (λ p. read (goes_in d.side) p.octets) packets,
       (silent, probes_silent settings d c.in-Enters.probe side),
-      subst (WritesAll d n (map (λ p. read (goes_in d.side) p.segment) packets)) (sym is_it) (writes_all d n s d.fixes named packets refl),
+      subst (WritesAll d n (map (λ p. read (goes_in d.side) p.octets) packets)) (sym is_it) (writes_all d n s d.fixes named packets refl),
     ) in
     let own_frame = c.send_bare.ensures.frames settings d v.segments stood.opened c.requires.side is (bare_anew v.segments d (rst_marked w syn rst)) in
     probe_behind settings d c.args.packet.now c.args.link.now c.args.head.now c.requires.head.pseudo c.come_reset.new.self.hops c.raised-ip.result c.in-Some.probe own c.send_bare.new.out c.put_probe.new.out
@@ -186,9 +187,9 @@ returns-in-None-clause-stands c settings calls d st is =
     c.are_bits.ensures c.requires.head c.options_of-options.result.0.items c.options_of-options.ensures.exact c.options_of-options.ensures.words c.options_of-options.ensures.size (rst_marked w syn rst) stream probes mends c.bare_seg-seg.ensures.read) in
     let silent = subst IsSilent (sym first) (reset_silent c.bare_seg-seg.result c.bare_seg-seg.ensures.flags (comes.syn ∙ syn) (comes.rst ∙ rst)) in
     let stood = c.in-Enters.ensures.stands settings calls d (outcome_at settings v d) _ st c.requires.key comes (
-      map (λ p. read (goes_in d.side) p.segment) packets,
+      map (λ p. read (goes_in d.side) p.octets) packets,
       (silent, probes_silent settings d c.in-Enters.probe side),
-      subst (WritesAll d n (map (λ p. read (goes_in d.side) p.segment) packets)) (sym is_it) (writes_all d n s d.fixes named packets refl),
+      subst (WritesAll d n (map (λ p. read (goes_in d.side) p.octets) packets)) (sym is_it) (writes_all d n s d.fixes named packets refl),
     ) in
     c.send_bare.ensures.stays settings _ stood
 
@@ -248,9 +249,9 @@ returns-in-None-clause-frames c settings calls d st is =
     c.are_bits.ensures c.requires.head c.options_of-options.result.0.items c.options_of-options.ensures.exact c.options_of-options.ensures.words c.options_of-options.ensures.size (rst_marked w syn rst) stream probes mends c.bare_seg-seg.ensures.read) in
     let silent = subst IsSilent (sym first) (reset_silent c.bare_seg-seg.result c.bare_seg-seg.ensures.flags (comes.syn ∙ syn) (comes.rst ∙ rst)) in
     let stood = c.in-Enters.ensures.stands settings calls d (outcome_at settings v d) _ st c.requires.key comes (
-      map (λ p. read (goes_in d.side) p.segment) packets,
+      map (λ p. read (goes_in d.side) p.octets) packets,
       (silent, probes_silent settings d c.in-Enters.probe side),
-      subst (WritesAll d n (map (λ p. read (goes_in d.side) p.segment) packets)) (sym is_it) (writes_all d n s d.fixes named packets refl),
+      subst (WritesAll d n (map (λ p. read (goes_in d.side) p.octets) packets)) (sym is_it) (writes_all d n s d.fixes named packets refl),
     ) in
     let own_frame = c.send_bare.ensures.frames settings d v.segments stood.opened c.requires.side is (bare_anew v.segments d (rst_marked w syn rst)) in
     own_frame ∙ (ap (λ p. frames_of c.args.link.now (own ∷ probe_packets settings d p)) (sym c.in-None.is) ∙ ap (λ o. frames_of c.args.link.now o.packets) (sym is_it))

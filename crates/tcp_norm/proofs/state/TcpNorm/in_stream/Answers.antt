@@ -8,14 +8,15 @@ use Rattle.era_state.specs.Standing.{WarmFor}
 use Rattle.tcp_norm.specs.declared.flow.Flow.{Flow}
 use Rattle.tcp_norm.specs.declared.key.EraKey.{EraKey}
 use Rattle.tcp_norm.specs.declared.step.Step.{Step}
-use Rattle.tcp_norm.specs.Calls.{datagram, read, goes_in, segment_in, segments, eras, key_of, without}
+use Rattle.ip_rules.specs.Datagrams.{goes_in, frames_of}
+use Rattle.tcp_norm.specs.Calls.{datagram, read, segment_in, segments, eras, key_of, without}
 use Rattle.tcp_norm.specs.Views.{view_of}
 use Rattle.tcp_norm.specs.Heads.{AreBits}
 use Rattle.tcp_norm.specs.Held.{held_of}
 use Rattle.tcp_norm.specs.Chains.{Keeps}
 use Rattle.tcp_norm.specs.Emits.{packet_by}
 use Rattle.tcp_norm.specs.Outcomes.{outcome_at}
-use Rattle.tcp_norm.specs.Passing.{Reports, frames_of}
+use Rattle.tcp_norm.specs.Passing.{Reports}
 use Rattle.tcp_norm.specs.Resets.{WritesAll}
 use Rattle.tcp_norm.specs.Steps.{IsStep}
 use Rattle.tcp_norm.specs.Standing.{HoldsFor}
@@ -168,7 +169,7 @@ returns-in-Ok-clause-stands c settings calls d st is =
     let packets = packet_by settings v.segments d d.fixes rows ∷ [] in
     let s : Step = record { era = Some n; begun = None; ended = None; full = false } in
     let is_it = in_outcome settings v d s d.fixes rows packets side refl passes.passes (sym passes.rows) step (packets_live settings v d rows n live.era_is rst) in
-    let writes = subst (WritesAll d n (map (λ p. read (goes_in d.side) p.segment) packets)) (sym is_it) (writes_all d n s d.fixes rows packets refl) in
+    let writes = subst (WritesAll d n (map (λ p. read (goes_in d.side) p.octets) packets)) (sym is_it) (writes_all d n s d.fixes rows packets refl) in
     let holds_was = the_same (eras calls) (λ m. segments m calls) c.args.self.now.begun c.args.self.now.table c.arrive.new.self.table c.args.self.now.store c.arrive.new.self.store c.arrive.ensures.entries c.arrive.ensures.store st.holds in
     let bits = subst (λ m. AreBits d.head m) (sym is.octets) (subst (λ (x : Ipv4). AreBits x c.args.packet.now.payload.now) (sym is.head) c.are_bits.ensures) in
     let long = ap length passes.options in

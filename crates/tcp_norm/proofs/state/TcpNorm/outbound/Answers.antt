@@ -5,7 +5,8 @@ use Rattle.rule_book.specs.declared.rule.Rule.TheVariants as rules
 use Rattle.tcp_norm.specs.Views.{view_of}
 use Rattle.ip_rules.specs.Judged.{where_holds}
 use Rattle.tcp_norm.specs.Outcomes.{outcome_at, verdict_of}
-use Rattle.tcp_norm.specs.Passing.{Reports, frames_of}
+use Rattle.ip_rules.specs.Datagrams.{frames_of}
+use Rattle.tcp_norm.specs.Passing.{Reports}
 use Rattle.tcp_norm.proofs.Sent.{out_outcome, out_does, sum_wrong, sends_it}
 use Rattle.tcp_norm.proofs.state.TcpNorm.outbound.Goals as goal
 

@@ -1,5 +1,5 @@
 use Rattle.std.proofs.Common.{◌∙◌, take, sym, ap}
-use Rattle.tcp_norm.specs.Inwards.{raised}
+use Rattle.ip_rules.specs.Datagrams.{raised}
 use Rattle.tcp_norm.specs.Anews.{anew_segment}
 use Rattle.tcp_norm.proofs.Probing.{side_is, head_is, frame_rewritten, frame_headed}
 use Rattle.tcp_norm.proofs.state.TcpNorm.send_in.Goals as goal

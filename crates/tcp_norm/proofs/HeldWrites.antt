@@ -1,0 +1,189 @@
+-- What a call of a datagram writes: segments that bring no octet, or one whose octets stand in the kept interval.
+use Rattle.std.proofs.Common.{◌≡◌, ℕ, ◌&&◌, ◌||◌, not, Bool, true, false, cond, List, [], ◌∷◌, length, map, find, Option, Some, None, inl, inr, pos, ◌-ℤ◌, refl, sym, ap, ap₂, subst, ◌∙◌}
+use Rattle.std.specs.Prelude.{nat_lt}
+use Rattle.std.specs.List.{AllByRecursion, list_any}
+use Rattle.std.proofs.lemmas.Bool.{and_right}
+use Rattle.wire_base.specs.Tcp as tcp
+use Rattle.wire_base.specs.Segments.{Written}
+use Rattle.rule_book.specs.declared.rule.Rule.{Rule}
+use Rattle.rule_book.specs.Rules.{era_rows}
+use Rattle.norm_settings.specs.Settings.{PlainSettings}
+use Rattle.tcp_codec.specs.declared.header.Tcp.{Tcp}
+use Rattle.tcp_codec.specs.Write.{segment_octets}
+use Rattle.era_state.specs.Offsets.{off, natural}
+use Rattle.era_state.specs.Marks.{octet_at, get_at}
+use Rattle.era_state.specs.Quantities.{base_of, out}
+use Rattle.era_state.specs.declared.probe.Probe.{Probe}
+use Rattle.era_state.specs.Emission.{AreEmitted}
+use Rattle.cold_start.specs.Rules.{is_asked}
+use Rattle.reset_probe.specs.Rules.{era_probe}
+use Rattle.ip_rules.specs.Datagrams.{Datagram, Packet, goes_in}
+use Rattle.tcp_norm.specs.Calls.{datagram, read, segment_in, is_era, is_written, written_by}
+use Rattle.tcp_norm.specs.Views.{View}
+use Rattle.tcp_norm.specs.Rows.{is_live, holds_era, dropped_by, mended_by, t_quota, t_room}
+use Rattle.tcp_norm.specs.Emits.{packet_by, packets_passed, probe_packets, segment_sent, segment_anew, bare_segment, stream_segment, sum_mended}
+use Rattle.tcp_norm.specs.Outcomes.{outcome_at, outcome_by, outcome_dropped, outcome_passed}
+use Rattle.tcp_norm.specs.Segments.{IsSegment, touches_payload}
+use Rattle.tcp_norm.specs.Writes.{BringsNone}
+use Rattle.tcp_norm.proofs.Acks.{outbound_brings_none}
+use Rattle.tcp_norm.proofs.Verbatim.{or_false}
+use Rattle.tcp_norm.proofs.OwnPackets.{bare_fits_here, stream_fits_here}
+use Rattle.tcp_norm.proofs.EmittingBare.{packet_sent}
+use Rattle.tcp_norm.proofs.Bares.{empty, behind}
+use Rattle.tcp_norm.proofs.Rewritten.{sent_long}
+use Rattle.tcp_norm.proofs.LivesLists.{found_none}
+use Rattle.tcp_norm.proofs.Clean.{clean, packets_if, Streams, streams, owned}
+use Rattle.tcp_norm.proofs.HeldGrowth.{Laws, Stands, own_stands, anew_stands}
+
+-- What is written: nothing that brings an octet, or, in a live era and where T_QUOTA and T_ROOM do not hold, one frame.
+pub data Writes (settings : PlainSettings) (v : View) (d : Datagram) (more : List Written) : Type 0 where
+  silent : AllByRecursion BringsNone more → Writes settings v d more
+  framed : (frame : Written) → more ≡ frame ∷ [] → Streams v (segment_in d) → t_quota settings v (segment_in d) ≡ false → t_room v (segment_in d) ≡ false
+      → Stands v.segments (segment_in d) frame → Writes settings v d more
+
+-- the packet carries nothing
+abbrev IsEmpty : Packet → Type 0
+IsEmpty p = tcp.payload p.octets ≡ []
+
+nowhere : (i : Option ℕ) → get_at [] i ≡ None
+nowhere None = refl
+nowhere (Some i) = refl
+
+brings_none : (inward : Bool) (m : List ℕ) → tcp.payload m ≡ [] → BringsNone (read inward m)
+brings_none inward m none base at o = cases inward
+  where
+    cases : (b : Bool) → octet_at base at (pos o) (read b m) ≡ None
+    cases false = refl
+    cases true = ap (λ l. octet_at base at (pos o) (record (read true m) { octets = l })) none ∙ nowhere (natural (pos o -ℤ off base at (tcp.sequence m)))
+
+all_silent : (d : Datagram) (ps : List Packet) → AllByRecursion IsEmpty ps → AllByRecursion BringsNone (map (λ p. read (goes_in d.side) p.octets) ps)
+all_silent d [] all = tt
+all_silent d (p ∷ ps) all = (brings_none (goes_in d.side) p.octets all.0, all_silent d ps all.1)
+
+-- outwards no octet of the stream goes
+outwards : (side : Bool) (ps : List Packet) → side ≡ false → AllByRecursion BringsNone (map (λ p. read side p.octets) ps)
+outwards side [] e = tt
+outwards side (p ∷ ps) e = (outbound_brings_none (read side p.octets) e, outwards side ps e)
+
+-- the packets of a datagram whose own carries nothing
+packets_empty : (settings : PlainSettings) (v : View) (d : Datagram) (mended : List Rule) → IsEmpty (packet_by settings v.segments d d.fixes mended)
+    → (asked reset : Bool) → AllByRecursion IsEmpty (packets_if settings v d mended asked reset)
+packets_empty settings v d mended none true reset = (refl, tt)
+packets_empty settings v d mended none false false = (none, tt)
+packets_empty settings v d mended none false true = (none, behind_it (era_probe v.segments (segment_in d)))
+  where
+    behind_it : (probe : Option Probe) → AllByRecursion IsEmpty (probe_packets settings d probe)
+    behind_it None = tt
+    behind_it (Some p) = (refl, tt)
+
+-- a SYN or RST goes inwards without octets
+bare_empty : Laws → (settings : PlainSettings) (v : View) (d : Datagram) → IsSegment settings d → goes_in d.side ≡ true
+    → (tcp.has_syn (segment_in d).flags || tcp.has_rst (segment_in d).flags) ≡ true → (mended : List Rule) → mended_by settings v d ≡ mended
+    → tcp.payload (segment_sent v.segments d mended) ≡ []
+bare_empty l settings v d is side marked [] named =
+    let w = segment_in d in
+    let rows = clean (holds_era settings v d) (ap (list_any touches_payload) named) in
+    empty (tcp.payload d.octets) (behind (w.inward && (tcp.has_syn w.flags || tcp.has_rst w.flags)) (nat_lt 0 (length w.octets)) (λ k. side k && marked k) rows.strip)
+bare_empty l settings v d is side marked (rule ∷ more) named =
+    ap (λ b. tcp.payload (cond b (segment_octets (segment_anew v.segments d)) (sum_mended d))) side
+    ∙ (ap (λ b. tcp.payload (segment_octets (cond b (bare_segment d) (stream_segment v.segments d)))) marked
+    ∙ (l.back (bare_segment d) (bare_fits_here l.cleans settings d is)).octets)
+
+-- a segment of the stream goes inwards with the octets of its interval
+stream_stands : Laws → (settings : PlainSettings) (v : View) (d : Datagram) → IsSegment settings d → goes_in d.side ≡ true
+    → (tcp.has_syn (segment_in d).flags || tcp.has_rst (segment_in d).flags) ≡ false → Streams v (segment_in d)
+    → (mended : List Rule) → mended_by settings v d ≡ mended → Stands v.segments (segment_in d) (read true (segment_sent v.segments d mended))
+stream_stands l settings v d is side unmarked s [] named =
+    let w = segment_in d in
+    let rows = clean (holds_era settings v d) (ap (list_any touches_payload) named) in
+    let mine = own_stands v.segments w (owned v w s rows.old rows.window rows.end) in
+    subst (λ b. Stands v.segments w (read b d.octets)) side mine
+stream_stands l settings v d is side unmarked s (rule ∷ more) named =
+    let w = segment_in d in
+    let r = l.back (stream_segment v.segments d) (stream_fits_here l.cleans settings v.segments d is) in
+    let sent : segment_sent v.segments d (rule ∷ more) ≡ segment_octets (stream_segment v.segments d) =
+    ap (λ b. cond b (segment_octets (segment_anew v.segments d)) (sum_mended d)) side ∙ ap (λ b. segment_octets (cond b (bare_segment d) (stream_segment v.segments d))) unmarked in
+    subst (λ m. Stands v.segments w (read true m)) (sym sent)
+    (anew_stands l v.segments w (read true (segment_octets (stream_segment v.segments d))) (ap (λ (h : Tcp). h.seq) r.header) (ap length r.octets ∙ sent_long v.segments w))
+
+-- these packets as they are written
+abbrev as_written : Datagram → List Packet → List Written
+as_written d packets = map (λ p. read (goes_in d.side) p.octets) packets
+
+-- what goes out of a datagram that no row drops
+passed_writes : Laws → (settings : PlainSettings) (v : View) (d : Datagram) → IsSegment settings d → dropped_by settings v d ≡ None
+    → (mended : List Rule) → mended_by settings v d ≡ mended → Writes settings v d (as_written d (packets_passed settings v d mended))
+passed_writes l settings v d is passes mended named = by_side (goes_in d.side) refl
+  where
+    w : Written
+    w = segment_in d
+
+    reset : Bool
+    reset = is_live v && w.inward && tcp.has_rst w.flags
+
+    packets : Bool → List Packet
+    packets asked = packets_if settings v d mended asked reset
+
+    none : goes_in d.side ≡ true → AllByRecursion (λ x. holds_era settings v d x ≡ false) era_rows
+    none side = found_none (holds_era settings v d) era_rows (sym (ap (λ b. cond b (find (holds_era settings v d) era_rows) None) side) ∙ passes)
+
+    stream : goes_in d.side ≡ true → tcp.has_syn w.flags ≡ false → tcp.has_rst w.flags ≡ false → (asked : Bool) → (not (is_live v) && is_asked w) ≡ asked
+        → Writes settings v d (as_written d (packets asked))
+    stream side syn rst true e = silent (all_silent d (packets true) (refl, tt))
+    stream side syn rst false e =
+        let rows = none side in
+        let s = streams v w side syn rst e rows.1.0 in
+        let alone : packets false ≡ packet_by settings v.segments d d.fixes mended ∷ [] =
+        ap (packets_if settings v d mended false) (and_right (is_live v && w.inward) (tcp.has_rst w.flags) rst) in
+        let sent = ap₂ read side (packet_sent settings v.segments d d.fixes mended) in
+        framed (read true (segment_sent v.segments d mended)) (ap (as_written d) alone ∙ ap (λ x. x ∷ []) sent) s rows.1.1.1.1.1.0 rows.1.1.1.1.1.1.0
+        (stream_stands l settings v d is side (λ k. syn k || rst k) s mended named)
+
+    marked : goes_in d.side ≡ true → (b : Bool) → (tcp.has_syn w.flags || tcp.has_rst w.flags) ≡ b → (asked : Bool) → (not (is_live v) && is_asked w) ≡ asked
+        → Writes settings v d (as_written d (packets asked))
+    marked side true e asked same =
+        let empty = ap tcp.payload (packet_sent settings v.segments d d.fixes mended) ∙ bare_empty l settings v d is side e mended named in
+        silent (all_silent d (packets asked) (packets_empty settings v d mended empty asked reset))
+    marked side false e asked same = let flags = or_false (tcp.has_syn w.flags) (tcp.has_rst w.flags) e in stream side flags.0 flags.1 asked same
+
+    by_side : (b : Bool) → goes_in d.side ≡ b → Writes settings v d (as_written d (packets_passed settings v d mended))
+    by_side false side = silent (outwards (goes_in d.side) (packets_passed settings v d mended) side)
+    by_side true side = marked side (tcp.has_syn w.flags || tcp.has_rst w.flags) refl (not (is_live v) && is_asked w) refl
+
+-- what is written in an era
+pub call_writes : Laws → (settings : PlainSettings) (v : View) (d : Datagram) (now n : ℕ) → IsSegment settings d
+    → Writes settings v d (written_by n (datagram now d (outcome_at settings v d)))
+call_writes l settings v d now n is = by_row (dropped_by settings v d) refl
+  where
+    named : List Rule
+    named = mended_by settings v d
+
+    by_row : (rule : Option Rule) → dropped_by settings v d ≡ rule → Writes settings v d (written_by n (datagram now d (outcome_by settings v d rule named)))
+    by_row (Some rule) drops =
+        let unwritten : (is_era n v.era && false) ≡ false = and_right (is_era n v.era) false refl in
+        silent (subst (AllByRecursion BringsNone) (sym (ap (λ b. cond b (as_written d (outcome_dropped settings v d rule).packets) []) unwritten)) tt)
+    by_row None passes =
+        let o = outcome_passed settings v d named in
+        elim (is_era n o.era && is_written o.verdict) as (λ b. Writes settings v d (cond b (as_written d o.packets) [])) [
+          | true ↦ passed_writes l settings v d is passes named refl
+          | false ↦ silent tt
+        ]
+
+-- a frame needs a base
+pub first_is_silent : (frame : Written) → AreEmitted [] (frame ∷ []) → BringsNone frame
+first_is_silent frame emitted base at o =
+    elim emitted.0 [
+      | inl out ↦ outbound_brings_none frame out.outward base at o
+      | inr (inl bare) ↦ none_in bare.no_octets
+      | inr (inr kept) ↦ absurd (unbased kept.based)
+    ]
+  where
+    unbased : {b : ℕ} → base_of [] ≡ Some b → ⊥
+    unbased e = cc
+
+    none_in : frame.octets ≡ [] → octet_at base at (pos o) frame ≡ None
+    none_in e = cases frame.inward
+      where
+        cases : (b : Bool) → cond b (get_at frame.octets (natural (pos o -ℤ off base at frame.seq))) None ≡ None
+        cases true = ap (λ l. get_at l (natural (pos o -ℤ off base at frame.seq))) e ∙ nowhere (natural (pos o -ℤ off base at frame.seq))
+        cases false = refl
