@@ -7,3 +7,4 @@ pub mod Steps
 pub mod Deliveries
 pub mod PlainPackets
 pub mod WrittenPackets
+pub mod FourStreams

@@ -142,6 +142,9 @@ read_taken p f fin old new read same_fin t =
     let all : Takes (taken_of (next_of old) (segment_in p f)) (tcp.has_fin (segment_in p f).flags) old new = subst (λ (r : List ℕ × Bool). Takes (record { next = next_of old; sequence = f.seq; octets = r.0 }) r.1 old new) (λ i. (take_rest p f.start i, same_fin i)) t in
     subst (λ s. Takes (taken_of (next_of old) s) (tcp.has_fin s.flags) old new) read all
 
+pub read_last : (p : List ℕ) (f : Fields) (fin : Bool) (old new : StreamState) → segment_in p f ≡ fields_of p → fin ≡ tcp.has_fin f.flags.0 → TakesRead p f fin old new → new.taken ≡ old.taken ++ taken_of (next_of old) (fields_of p) ∷ []
+read_last p f fin old new read same_fin t = let taken = read_taken p f fin old new read same_fin t in taken.taken
+
 pub read_step : (p : List ℕ) (f : Fields) (fin : Bool) (old new : StreamState) → ip.protocol p ≡ 6 → segment_in p f ≡ fields_of p → fin ≡ tcp.has_fin f.flags.0 → f.seq < 2 ^ 32 → TakesRead p f fin old new → StepsWith (segment_of p) old new
 read_step p f fin old new tcp read same_fin small t =
     let low : (fields_of p).sequence < 2 ^ 32 = subst (λ s. s.sequence < 2 ^ 32) read small in

@@ -7,5 +7,7 @@ pub mod Agreement
 pub mod Fields
 pub mod Policies
 pub mod Streams
+pub mod Marks
+pub mod Families
 pub mod Tests
 pub mod Written

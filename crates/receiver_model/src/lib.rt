@@ -2,7 +2,9 @@
 #![tactic(auto)]
 
 pub mod agreement;
+pub mod family;
 pub mod laws;
+mod mark;
 pub mod member;
 mod piece;
 pub mod plain_packet;
@@ -11,6 +13,7 @@ pub mod segment;
 pub mod stream;
 
 pub use agreement::agree;
+pub use family::Family;
 pub use member::Member;
 pub use plain_packet::plain;
 pub use policy::Policy;

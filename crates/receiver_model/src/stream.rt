@@ -4,9 +4,11 @@ ghost use Rattle.wire_base.specs.Ipv4 as ip;
 ghost use Rattle.wire_base.specs.Plain.{Plain};
 ghost use Rattle.wire_base.specs.Segments.{segment_of, fields_of};
 ghost use Rattle.receiver_model.specs.Delivery.{Extends};
+ghost use Rattle.receiver_model.specs.Marks.{gone_back, mark_of};
 ghost use Rattle.receiver_model.specs.Policies.{Taken, octet_after, waiting_after};
-ghost use Rattle.receiver_model.specs.Streams.{fresh, next_of, AddsFrame, Chooses, IsSameStream, StandsFor, StepsWith, Takes};
+ghost use Rattle.receiver_model.specs.Streams.{fresh, next_of, taken_of, AddsFrame, Chooses, IsSameStream, StandsFor, StepsWith, Takes};
 
+use crate::mark::Mark;
 use crate::piece::{HALF, Piece, raised_offset};
 use crate::policy::{Policy, Waiting};
 use crate::segment::read_plain;
@@ -122,6 +124,7 @@ impl Stream {
         ensures same { OnOk result (IsSameStream self.old self.new) }
         ensures step { OnOk result (StepsWith (segment_of bytes.now) self.old self.new) }
         ensures choice { OnOk result (Chooses (fields_of bytes.now) self.old self.new) }
+        ensures taken { OnOk result (self.new.taken ≡ self.old.taken ++ taken_of (next_of self.old) (fields_of bytes.now) ∷ []) }
         ensures stands { OnOk result (AddsFrame bytes.now self.old self.new) }
         ensures err { OnErr result (self.new ≡ self.old) }
     {
@@ -172,5 +175,27 @@ impl Stream {
         ensures { result ≡ self.now.ended }
     {
         self.ended
+    }
+
+    /// How far it is.
+    pub(crate) fn mark(&self) -> Mark
+        ensures { result ≡ mark_of self.now }
+    {
+        Mark {
+            taken: self.pieces.len(),
+            octets: self.octets.len(),
+            fin: self.fin,
+            ended: self.ended,
+        }
+    }
+
+    /// Forgets what came behind a mark.
+    pub(crate) fn go_back(&mut self, mark: &Mark)
+        ensures { self.new ≡ gone_back self.old mark.now }
+    {
+        self.pieces.truncate(mark.taken);
+        self.octets.truncate(mark.octets);
+        self.fin = mark.fin;
+        self.ended = mark.ended;
     }
 }

@@ -3,7 +3,7 @@ ghost use Rattle.std.specs.Prelude.{◌≡◌};
 ghost use Rattle.wire_base.specs.Ipv4 as ip;
 ghost use Rattle.wire_base.specs.Plain.{Plain};
 
-use crate::{Policy, Segment, Stream, plain, read_plain};
+use crate::{Family, Policy, Segment, Stream, plain, read_plain};
 use edge_io::NoMemory;
 use std::alloc::Global;
 use std::process::Abort;
@@ -315,5 +315,44 @@ fn each_policy_settles_an_overlap_its_way(rt: HostRuntime) -> Result<(), Fail> {
         &CD,
         [b"awxyz", b"awCDz", b"awxyz", b"awxyz"],
     )?;
+    Ok(())
+}
+
+/// What the four streams, with the base 1000, make of two segments and then `a`.
+fn family_of(alloc: Global, one: &[u8], two: &[u8]) -> Result<Family, NoMemory>
+    requires one_plain { Plain 0 one.now }
+    requires one_tcp { ip.protocol one.now ≡ 6 }
+    requires two_plain { Plain 0 two.now }
+    requires two_tcp { ip.protocol two.now ≡ 6 }
+{
+    let mut family = Family::open(alloc, 1000, 0)?;
+    family.take(one)?;
+    family.take(two)?;
+    family.take(&A)?;
+    Ok(family)
+}
+
+// `abcd` with a FIN comes twice and then `a`: all end. `XY` comes where `bc` waits, which the policies settle in two ways.
+#[test]
+fn a_family_tells_whether_its_streams_agree(rt: HostRuntime) -> Result<(), Fail> {
+    let last = changed(&[(33, 0x19), (37, 0xc3)]);
+    assert!(rt; plain(0, &last));
+    assert_eq!(rt; last[9], 6);
+    let alike = family_of(rt.alloc(), &last, &last)?;
+    let apart = family_of(rt.alloc(), &BC, &XY)?;
+    let rows: [(Policy, &[u8]); 4] = [
+        (Policy::First, b"abc"),
+        (Policy::Newest, b"aXY"),
+        (Policy::Left, b"abc"),
+        (Policy::Right, b"abc"),
+    ];
+    for (policy, octets) in rows {
+        assert_eq!(rt; alike.octets(policy), b"abcd".as_slice(), "{policy:?}");
+        assert!(rt; alike.ended(policy), "{policy:?}");
+        assert_eq!(rt; apart.octets(policy), octets, "{policy:?}");
+        assert!(rt; !apart.ended(policy), "{policy:?}");
+    }
+    assert!(rt; alike.agree());
+    assert!(rt; !apart.agree());
     Ok(())
 }

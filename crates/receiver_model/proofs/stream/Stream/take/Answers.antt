@@ -1,6 +1,6 @@
 use Rattle.std.proofs.Common.{◌<◌, ◌^◌, length, rules, arith}
 use Rattle.std.proofs.lemmas.Grind.{common_steps}
-use Rattle.receiver_model.proofs.Steps.{read_step, read_chosen, read_stands, on_ok}
+use Rattle.receiver_model.proofs.Steps.{read_last, read_step, read_chosen, read_stands, on_ok}
 use Rattle.receiver_model.proofs.stream.Stream.take.Goals as goal
 
 pub returns-clause-step : goal.returns-clause-step
@@ -19,3 +19,7 @@ pub returns-clause-stands : goal.returns-clause-stands
 returns-clause-stands c =
     let small : c.read_plain-segment.result.seq < 2 ^ 32 = search rules in
     on_ok c.put.result (read_stands c.args.bytes.now c.read_plain-segment.result c.fin.result c.args.self.now c.put.new.self c.requires.tcp c.read_plain-segment.ensures.fields c.fin.ensures small) c.put.ensures.taken
+
+pub returns-clause-taken : goal.returns-clause-taken
+returns-clause-taken c =
+    on_ok c.put.result (read_last c.args.bytes.now c.read_plain-segment.result c.fin.result c.args.self.now c.put.new.self c.read_plain-segment.ensures.fields c.fin.ensures) c.put.ensures.taken
