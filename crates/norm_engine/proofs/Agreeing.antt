@@ -1,39 +1,230 @@
--- No row begins an era, so no packet belongs to one.
-use Rattle.std.proofs.Common.{◌≡◌, ℕ, ◌&&◌, List, [], ◌∷◌, ◌++◌, Option, Some, None, refl, sym, ap, ap₂, ◌∙◌, subst, if◌then◌else◌}
-use Rattle.std.specs.Prelude.{ℤ}
-use Rattle.std.proofs.lemmas.List.Elements.{All-nil}
+-- In each era of a lawful trace all receivers agree.
+use Rattle.std.proofs.Common.{◌≡◌, ℕ, ◌≤◌, Bool, true, false, cond, ◌&&◌, ◌==◌, not, List, [], ◌∷◌, ◌++◌, length, map, Option, Some, None, refl, sym, ap, ap₂, subst, ◌∙◌}
+use Rattle.std.specs.Prelude.{All, option_map}
+use Rattle.std.specs.List.{AllByRecursion}
+use Rattle.std.proofs.lemmas.List.{append_assoc, append-nil}
+use Rattle.std.proofs.lemmas.List.Elements.{All-nil, All-cons, All-append}
 use Rattle.wire_base.specs.declared.address.Link.{Link}
+use Rattle.wire_base.specs.declared.address.Link.TheVariants.{Ethernet}
 use Rattle.wire_base.specs.declared.address.Side.{Side}
-use Rattle.rule_book.specs.declared.rule.Rule.{Rule}
+use Rattle.wire_base.specs.declared.address.Side.TheVariants.{Inward, Outward}
+use Rattle.wire_base.specs.Tcp as tcp
+use Rattle.wire_base.specs.Plain.{Plain}
+use Rattle.wire_base.specs.Segments.{Segment, fields_of, segment_of}
+use Rattle.pcap_file.specs.Records as records
 use Rattle.norm_settings.specs.Settings.{PlainSettings}
-use Rattle.era_state.specs.Quantities.{base_of}
-use Rattle.era_agreement.specs.Sent.{is_era, inward_packets, segments_in, written_in, inward_places}
-use Rattle.era_agreement.specs.Agreement.{IsSilentPacket, EraIsSound}
-use Rattle.norm_engine.specs.Trace.{Item, Lawful, dropped_by, entry_by}
-use Rattle.norm_engine.specs.Agreement.{sent_for, sent_in, Agree}
+use Rattle.ip_rules.specs.Rows.{packet_in, is_inward, link_octets}
+use Rattle.ip_rules.specs.Datagrams.{Datagram, Packet, DatagramsAreKnown, IsPacketOf, goes_in, frames_of}
+use Rattle.era_state.specs.Emission.{AreEmitted}
+use Rattle.era_agreement.specs.Sent.{Sent, is_era, inward_packets, aside_packets, written_as, segments_in, written_in}
+use Rattle.era_agreement.specs.Agreement.{IsSilentPacket}
+use Rattle.era_agreement.specs.Laws.{EmittedAgrees, EmittedTellsOneStream, IsEmittedEra}
+use Rattle.tcp_norm.specs.Calls.{Call, Outcome, expiry, datagram, read, segments, is_written}
+use Rattle.tcp_norm.specs.Views.{view_of}
+use Rattle.tcp_norm.specs.Segments.{IsSegment, PacketsAreItsOwn, PacketsArePlain, ProbesAreSilent, CallsAreEmitted, IsSilentPacket as Silent}
+use Rattle.norm_engine.specs.Items.{Item, now_with}
+use Rattle.norm_engine.specs.Rows.{is_segment, side_of_frame}
+use Rattle.norm_engine.specs.Calls.{segment_after, datagram_after, past_of, flow_calls}
+use Rattle.norm_engine.specs.Trace.{item_of, read_after, dropped_by, outcome_of, era_by}
+use Rattle.norm_engine.specs.Clean.{HasOctets}
+use Rattle.norm_engine.specs.Agreement.{sent_for, sent_in}
+use Rattle.norm_engine.specs.Laws.{IsSound, LawfulAgrees, LawfulCallsAreMade, LawfulTellsStreams}
+use Rattle.norm_engine.proofs.Reading.{behind}
+use Rattle.norm_engine.proofs.Stepping.{AreOfEra, era_told, sides, segment_frames, segment_verdict}
+use Rattle.norm_engine.proofs.Joining.{carried_in, side_of}
+use Rattle.norm_engine.proofs.Lawfuls.{RowsAreOfEras, both_of, calls_with, called, long_enough, segment_is}
 
-no_era : (dropped : Option Rule) (named : List Rule) (number : ℕ) (told : Option Side) (count : ℕ) → (entry_by dropped named number told count).era ≡ None
-no_era None named number told count = refl
-no_era (Some rule) named number told count = refl
+-- the octets of a packet that goes out
+abbrev whole : Packet → List ℕ
+whole p = p.header ++ p.octets
 
-names_none : (settings : PlainSettings) (link : Link) (item : Item) (older : List Item) → Lawful settings link (item ∷ older) → item.entry.era ≡ None
-names_none settings link item older lawful = ap (λ (i : Item). i.entry.era) lawful.1 ∙ no_era (dropped_by settings link older item.packet) _ _ _ _
+-- the packets in a segment's frames are those that went out
+wholes_back : (link : Link) (frame : List ℕ) (packets : List Packet) → (link ≡ Ethernet → 14 ≤ length frame)
+    → map (packet_in link) (frames_of (link_octets link frame) packets) ≡ map whole packets
+wholes_back link frame [] long = refl
+wholes_back link frame (p ∷ ps) long =
+    let here = ap (packet_in link) (append_assoc (link_octets link frame) p.header p.octets) ∙ behind link frame (whole p) long in
+    ap₂ (λ x xs. x ∷ xs) here (wholes_back link frame ps long)
 
-nothing_inward : (settings : PlainSettings) (link : Link) (era : ℕ) (trace : List Item) → Lawful settings link trace → inward_packets era (sent_in link trace) ≡ []
-nothing_inward settings link era [] lawful = refl
-nothing_inward settings link era (item ∷ older) lawful =
-    ap₂ (λ before named. before ++ (if is_era era named && (sent_for link item).inward then (sent_for link item).packets else []))
-    (nothing_inward settings link era older lawful.0) (names_none settings link item older lawful)
+-- such a packet of a segment is read as one
+segment_whole : (settings : PlainSettings) (d : Datagram) (p : Packet) → d.head.protocol ≡ 6 → IsPacketOf settings d p → segment_of (whole p) ≡ Some (fields_of (whole p))
+segment_whole settings d p six is = ap (λ n. cond (n == 6) (Some (fields_of (whole p))) None) (is.protocol ∙ six)
 
-nothing_written : (settings : PlainSettings) (link : Link) (era : ℕ) (trace : List Item) → Lawful settings link trace → written_in era (sent_in link trace) ≡ []
-nothing_written settings link era [] lawful = refl
-nothing_written settings link era (item ∷ older) lawful =
-    ap₂ (λ before named. before ++ (if is_era era named && (sent_for link item).written then segments_in (sent_for link item).inward (sent_for link item).packets else []))
-    (nothing_written settings link era older lawful.0) (names_none settings link item older lawful)
+-- the segments of packets are those that they carry
+read_back : (settings : PlainSettings) (d : Datagram) (inward : Bool) (packets : List Packet) → d.head.protocol ≡ 6 → AllByRecursion (IsPacketOf settings d) packets
+    → segments_in inward (map whole packets) ≡ map (λ p. read inward p.octets) packets
+read_back settings d inward [] six own = refl
+read_back settings d inward (p ∷ ps) six own =
+    let here = ap (written_as inward) (segment_whole settings d p six own.0) ∙ ap (λ m. read inward m ∷ []) own.0.carries in
+    ap₂ (λ xs ys. xs ++ ys) here (read_back settings d inward ps six own.1)
 
-pub all_agree : (settings : PlainSettings) (link : Link) (trace : List Item) → Lawful settings link trace → Agree settings.hops link trace
-all_agree settings link trace lawful = λ era.
-    let places : ℕ → List ℤ = λ base. inward_places era base (sent_in link trace) in
-    let none : EraIsSound settings.hops None places [] = All-nil IsSilentPacket in
-    subst (λ (base : Option ℕ). EraIsSound settings.hops base places (inward_packets era (sent_in link trace))) (sym (ap base_of (nothing_written settings link era trace lawful)))
-    (subst (EraIsSound settings.hops None places) (sym (nothing_inward settings link era trace lawful)) none)
+-- what carries nothing of a stream says nothing of one
+silent_whole : (settings : PlainSettings) (d : Datagram) (p : Packet) → d.head.protocol ≡ 6 → IsPacketOf settings d p → Silent p → IsSilentPacket (whole p)
+silent_whole settings d p six is silent s says =
+    let same : fields_of (whole p) ≡ s = let stands = segment_whole settings d p six is in cc in
+    subst (λ (t : Segment). (t.octets ≡ []) × (tcp.has_syn t.flags ≡ false) × (tcp.has_fin t.flags ≡ false)) same (
+      ap tcp.payload is.carries ∙ silent.octets,
+      ap (λ m. tcp.has_syn (tcp.flags m)) is.carries ∙ silent.no_syn,
+      ap (λ m. tcp.has_fin (tcp.flags m)) is.carries ∙ silent.no_fin,
+    )
+
+silent_wholes : (settings : PlainSettings) (d : Datagram) (packets : List Packet) → d.head.protocol ≡ 6 → AllByRecursion (IsPacketOf settings d) packets → AllByRecursion Silent packets
+    → All IsSilentPacket (map whole packets)
+silent_wholes settings d [] six own silent = All-nil IsSilentPacket
+silent_wholes settings d (p ∷ ps) six own silent =
+    All-cons IsSilentPacket (whole p) (map whole ps) (silent_whole settings d p six own.0 silent.0) (silent_wholes settings d ps six own.1 silent.1)
+
+plain_wholes : (hops : ℕ) (packets : List Packet) → AllByRecursion (λ p. Plain hops (whole p)) packets → All (λ p. Plain hops p) (map whole packets)
+plain_wholes hops [] plain = All-nil (λ p. Plain hops p)
+plain_wholes hops (p ∷ ps) plain = All-cons (λ p. Plain hops p) (whole p) (map whole ps) plain.0 (plain_wholes hops ps plain.1)
+
+-- What was sent in an era is what its calls wrote: the same segments, plain inwards, and beside them nothing of a stream.
+record IsAsCalled (hops era : ℕ) (sent : List Sent) (cs : List Call) : Type 0 where
+  written : written_in era sent ≡ segments era cs
+  plain : All (λ p. Plain hops p) (inward_packets era sent)
+  silent : All IsSilentPacket (aside_packets era sent)
+
+-- with the eras that are idle by a time
+with_idle : (hops era : ℕ) (sent : List Sent) (cs : List Call) (now : ℕ) (ended : List ℕ) → IsAsCalled hops era sent cs → IsAsCalled hops era sent (expiry now ended ∷ cs)
+with_idle hops era sent cs now ended is = record { written = is.written ∙ sym (append-nil (segments era cs)); plain = is.plain; silent = is.silent }
+
+-- with what was sent for a record that belongs to no era
+with_other : (hops era : ℕ) (sent : List Sent) (cs : List Call) (s : Sent) → s.era ≡ None → IsAsCalled hops era sent cs → IsAsCalled hops era (s ∷ sent) cs
+with_other hops era sent cs s none is = subst (λ o. IsAsCalled hops era (record s { era = o } ∷ sent) cs) (sym none) (record {
+  written = append-nil (written_in era sent) ∙ is.written;
+  plain = subst (All (λ p. Plain hops p)) (sym (append-nil (inward_packets era sent))) is.plain;
+  silent = subst (All IsSilentPacket) (sym (append-nil (aside_packets era sent))) is.silent;
+})
+
+-- what is known of the packets that go out for a segment
+record AreOf (settings : PlainSettings) (d : Datagram) (o : Outcome) : Type 0 where
+  protocol : d.head.protocol ≡ 6
+  own : AllByRecursion (IsPacketOf settings d) o.packets
+  plain : goes_in d.side ≡ true → AllByRecursion (λ p. Plain settings.hops (whole p)) o.packets
+  silent : is_written o.verdict ≡ false → AllByRecursion Silent o.packets
+
+-- what was sent for a segment, by what became of it
+abbrev sent_by : Datagram → Outcome → Sent
+sent_by d o = record { inward = goes_in d.side; era = o.era; written = is_written o.verdict; packets = map whole o.packets }
+
+with_segment : (settings : PlainSettings) (era : ℕ) (sent : List Sent) (cs : List Call) (now : ℕ) (d : Datagram) (o : Outcome)
+    → AreOf settings d o → IsAsCalled settings.hops era sent cs → IsAsCalled settings.hops era (sent_by d o ∷ sent) (datagram now d o ∷ cs)
+with_segment settings era sent cs now d o known is = record {
+  written =
+      ap₂ (λ xs ys. xs ++ ys) is.written
+      (ap (λ xs. cond (is_era era o.era && is_written o.verdict) xs []) (read_back settings d (goes_in d.side) o.packets known.protocol known.own));
+  plain =
+      All-append (λ p. Plain settings.hops p) (inward_packets era sent) (cond (is_era era o.era && goes_in d.side) (map whole o.packets) [])
+      is.plain (plain_here (is_era era o.era) (goes_in d.side) refl);
+  silent =
+      All-append IsSilentPacket (aside_packets era sent) (cond (is_era era o.era && goes_in d.side && not (is_written o.verdict)) (map whole o.packets) [])
+      is.silent (silent_here (is_era era o.era) (goes_in d.side) (is_written o.verdict) refl);
+}
+  where
+    plain_here : (named inward : Bool) → goes_in d.side ≡ inward → All (λ p. Plain settings.hops p) (cond (named && inward) (map whole o.packets) [])
+    plain_here true true goes = plain_wholes settings.hops o.packets (known.plain goes)
+    plain_here true false goes = All-nil (λ p. Plain settings.hops p)
+    plain_here false inward goes = All-nil (λ p. Plain settings.hops p)
+
+    silent_here : (named inward written : Bool) → is_written o.verdict ≡ written → All IsSilentPacket (cond (named && inward && not written) (map whole o.packets) [])
+    silent_here true true false was = silent_wholes settings d o.packets known.protocol known.own (known.silent was)
+    silent_here true true true was = All-nil IsSilentPacket
+    silent_here true false written was = All-nil IsSilentPacket
+    silent_here false inward written was = All-nil IsSilentPacket
+
+inward_is : (side : Side) → is_inward (Some side) ≡ goes_in side
+inward_is Inward = refl
+inward_is Outward = refl
+
+-- what is sent for a segment is what becomes of it
+sent_is : (settings : PlainSettings) (link : Link) (history : List Item) (r : records.Packet) (d : Datagram)
+    → segment_after settings link history r ≡ Some d → AreOfEra settings link (read_after settings link history r) r d
+    → sent_for link (item_of settings link history r) ≡ sent_by d (outcome_of settings (read_after settings link history r) d)
+sent_is settings link history r d h rows =
+    let read = read_after settings link history r in
+    let o = outcome_of settings read d in
+    let frame_side = side_of_frame settings link r.octets in
+    let told = sides (dropped_by settings link read r) frame_side (λ rule dropped. era_told settings read.past.calls d rule (sym rows.dropped ∙ dropped)) in
+    let side = side_of settings link r d (carried_in settings link r d (both_of (is_segment settings) (datagram_after settings link history r) d h).0) in
+    λ i. record {
+      inward = (ap is_inward (told ∙ side) ∙ inward_is d.side) i;
+      era = era_by (option_map (outcome_of settings read) (h i));
+      written = is_written (segment_verdict settings link read r d rows i);
+      packets = (ap (map (packet_in link)) (segment_frames settings link read r d rows)
+          ∙ wholes_back link r.octets o.packets (long_enough settings link history r d h)) i;
+    }
+
+-- the laws that this stands on
+pub record PacketLaws : Type 0 where
+  pub rows : RowsAreOfEras
+  pub known : DatagramsAreKnown
+  pub own : PacketsAreItsOwn
+  pub plain : PacketsArePlain
+  pub silent : ProbesAreSilent
+
+packets_are : PacketLaws → (settings : PlainSettings) (link : Link) (history : List Item) (r : records.Packet) (d : Datagram) → settings.hops ≤ 254 → HasOctets r
+    → segment_after settings link history r ≡ Some d → AreOf settings d (outcome_of settings (read_after settings link history r) d)
+packets_are laws settings link history r d hops octets h =
+    let v = view_of settings (past_of settings link history r).calls d in
+    let is : IsSegment settings d = segment_is laws.known settings link history r d octets h in
+    record {
+      protocol = is.protocol;
+      own = laws.own settings v d hops is;
+      plain = laws.plain settings v d hops is;
+      silent = laws.silent settings v d;
+    }
+
+-- with one record more
+as_called_with : PacketLaws → (settings : PlainSettings) (link : Link) (era : ℕ) (history : List Item) (r : records.Packet) → settings.hops ≤ 254 → HasOctets r
+    → IsAsCalled settings.hops era (sent_in link history) (flow_calls settings link history)
+    → IsAsCalled settings.hops era (sent_in link (item_of settings link history r ∷ history)) (flow_calls settings link (item_of settings link history r ∷ history))
+as_called_with laws settings link era history r hops octets before =
+    let calls = calls_with laws.rows laws.known laws.own settings link history r hops octets (segment_after settings link history r) refl in
+    subst (IsAsCalled settings.hops era (sent_in link (item ∷ history))) (sym calls) (by (segment_after settings link history r) refl)
+  where
+    item : Item
+    item = item_of settings link history r
+
+    now : ℕ
+    now = now_with history r
+
+    past : List Call
+    past = (past_of settings link history r).calls
+
+    idle : IsAsCalled settings.hops era (sent_in link history) past
+    idle = with_idle settings.hops era (sent_in link history) (flow_calls settings link history) now _ before
+
+    by : (segment : Option Datagram) → segment_after settings link history r ≡ segment → IsAsCalled settings.hops era (sent_in link (item ∷ history)) (called settings past now segment)
+    by None h =
+        with_other settings.hops era (sent_in link history) past (sent_for link item)
+        (ap (λ o. era_by (option_map (outcome_of settings (read_after settings link history r)) o)) h) idle
+    by (Some d) h =
+        let o = outcome_of settings (read_after settings link history r) d in
+        subst (λ s. IsAsCalled settings.hops era (s ∷ sent_in link history) (datagram now d o ∷ past))
+        (sym (sent_is settings link history r d h (laws.rows settings link history r d h)))
+        (with_segment settings era (sent_in link history) past now d o (packets_are laws settings link history r d hops octets h) idle)
+
+as_called : PacketLaws → (settings : PlainSettings) (link : Link) (era : ℕ) (trace : List Item) → IsSound settings link trace
+    → IsAsCalled settings.hops era (sent_in link trace) (flow_calls settings link trace)
+as_called laws settings link era [] sound = record { written = refl; plain = All-nil (λ p. Plain settings.hops p); silent = All-nil IsSilentPacket }
+as_called laws settings link era (item ∷ older) sound =
+    let before = as_called laws settings link era older (record { hops = sound.hops; octets = sound.octets.0; lawful = sound.lawful.0 }) in
+    subst (λ x. IsAsCalled settings.hops era (sent_in link (x ∷ older)) (flow_calls settings link (x ∷ older))) (sym sound.lawful.1)
+    (as_called_with laws settings link era older item.packet sound.hops sound.octets.1 before)
+
+emitted_era : PacketLaws → CallsAreEmitted → LawfulCallsAreMade → (settings : PlainSettings) (link : Link) (trace : List Item) → IsSound settings link trace
+    → (era : ℕ) → IsEmittedEra settings.hops era (sent_in link trace)
+emitted_era laws emitted made settings link trace sound era =
+    let is = as_called laws settings link era trace sound in
+    record {
+      plain = is.plain;
+      emitted = subst (AreEmitted []) (sym is.written) (emitted settings (flow_calls settings link trace) (made settings link trace sound) era);
+      silent = is.silent;
+    }
+
+pub agrees : PacketLaws → CallsAreEmitted → EmittedAgrees → LawfulCallsAreMade → LawfulAgrees
+agrees laws emitted agree made settings link trace sound = agree settings.hops (sent_in link trace) (emitted_era laws emitted made settings link trace sound)
+
+pub tells : PacketLaws → CallsAreEmitted → EmittedTellsOneStream → LawfulCallsAreMade → LawfulTellsStreams
+tells laws emitted tell made settings link trace sound era base based =
+    tell settings.hops era base (sent_in link trace) (emitted_era laws emitted made settings link trace sound era) based

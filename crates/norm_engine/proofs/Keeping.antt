@@ -1,10 +1,11 @@
 -- Clean records keep their payload, also where a row mends their packet.
-use Rattle.std.proofs.Common.{◌≡◌, ℕ, ◌+◌, ◌*◌, ◌≤◌, ◌<◌, Bool, true, false, ◌&&◌, ◌==◌, not, nat_lt, List, [], ◌∷◌, ◌++◌, length, take, drop, slice_index, get_or, Option, Some, None, is_none, refl, sym, ap, ap₂, ◌∙◌, subst, arith, if◌then◌else◌}
+use Rattle.std.proofs.Common.{◌≡◌, ℕ, ◌+◌, ◌*◌, ◌≤◌, ◌<◌, Bool, true, false, cond, ◌&&◌, ◌||◌, ◌==◌, not, nat_lt, List, [], ◌∷◌, ◌++◌, length, take, drop, get_or, Option, Some, None, is_none, refl, sym, ap, ap₂, ◌∙◌, subst, arith}
+use Rattle.std.specs.List.{AllByRecursion, list_any}
 use Rattle.std.specs.Option.{option_or}
 use Rattle.std.proofs.lemmas.Grind.{common_steps}
 use Rattle.std.proofs.lemmas.Bool.{eqb-true}
 use Rattle.std.proofs.lemmas.Bool.Decides.{nat_tests}
-use Rattle.std.proofs.lemmas.List.{length-append, length-take-le, get_or-take, get_or-drop}
+use Rattle.std.proofs.lemmas.List.{append_assoc, length-append, length-take-le, get_or-take}
 use Rattle.std.proofs.Math.Seq.{drop-append_seam}
 use Rattle.std.proofs.Math.ListN.{get_or-append}
 use Rattle.wire_base.specs.declared.address.Link.{Link}
@@ -12,182 +13,239 @@ use Rattle.wire_base.specs.declared.address.Link.TheVariants.{Ethernet, Raw}
 use Rattle.wire_base.specs.Numbers.{u16_octets, with_u16}
 use Rattle.wire_base.specs.Ipv4 as ip
 use Rattle.wire_base.specs.Tcp as tcp
-use Rattle.pcap_file.specs.Records.{Packet}
-use Rattle.ipv4_codec.specs.declared.header.Ipv4.{Ipv4}
-use Rattle.ipv4_codec.proofs.PlainHeaders.{header-plain}
+use Rattle.icmp_codec.specs.Quote.{quoted_in}
+use Rattle.pcap_file.specs.Records as records
 use Rattle.udp_codec.specs.Checksum.{mended}
 use Rattle.rule_book.specs.declared.rule.Rule.{Rule}
 use Rattle.rule_book.specs.declared.rule.Rule.TheVariants as rules
-use Rattle.rule_book.specs.Rules.{datagram_rows}
+use Rattle.rule_book.specs.declared.entry.Verdict.TheVariants as verdicts
 use Rattle.norm_settings.specs.Settings.{PlainSettings}
-use Rattle.ip_rules.specs.Rows.{carries_ip, packet_in, ip_drop_rows, l_short}
-use Rattle.ip_rules.specs.Judged.{IsKept}
-use Rattle.dgram_rules.specs.Rows.{Message, pseudo_of, holds_dgram, u_short, u_sum_out}
-use Rattle.receiver_model.proofs.Places.{payload_is}
-use Rattle.norm_engine.specs.Rows.{side_of_frame, datagram_of, datagram_in}
-use Rattle.norm_engine.specs.Frames.{link_octets, head_sent, octets_sent, packet_sent, mended_frame}
-use Rattle.norm_engine.specs.Trace.{Item, Lawful, item_of, dropped_by, named_rows, entry_by, frames_by, emits}
-use Rattle.norm_engine.specs.Clean.{payload_of, payload_in, KeepsPayload, CleanIsKept, HasOctets, HaveOctets}
-use Rattle.norm_engine.proofs.Joining.{later_row, by_layers, named_by_layers, later_of_piece}
-use Rattle.norm_engine.proofs.Judging.{nothing_fixed, nothing_mended, row_fails, header_is_whole, payload_fits, fails}
+use Rattle.ip_rules.specs.Rows.{carries_ip, packet_in, link_octets}
+use Rattle.ip_rules.specs.Datagrams.{Datagram, Packet, IsPacketOf, DatagramsAreKnown, AnewIsPacket, datagram_in, frame_of, frames_of, anew}
+use Rattle.dgram_rules.specs.Rows.{pseudo_of, holds_dgram, dgram_dropped_by, u_short, u_sum_out}
+use Rattle.tcp_norm.specs.Rows as era
+use Rattle.tcp_norm.specs.Views.{view_of}
+use Rattle.tcp_norm.specs.Outcomes.{verdict_of}
+use Rattle.tcp_norm.specs.Segments as segments
+use Rattle.tcp_norm.specs.Segments.{PacketsAreItsOwn, CleanKeepsPayload}
+use Rattle.norm_engine.specs.Items.{Item}
+use Rattle.norm_engine.specs.Laws.{IsSound}
+use Rattle.norm_engine.specs.Frames.{octets_sent, mended_frame, frame_by}
+use Rattle.norm_engine.specs.Calls.{segment_after}
+use Rattle.norm_engine.specs.Trace.{Read, read_after, is_quoted_live, dropped_by, named_rows, outcome_of, frames_by, verdict_by, item_of}
+use Rattle.norm_engine.specs.Clean.{touches_payload, is_clean, payload_of, payload_in, KeepsPayload, CleanIsKept, HasOctets}
+use Rattle.norm_engine.proofs.Reading.{behind}
+use Rattle.norm_engine.proofs.Stepping.{segment_frames, plain_frames}
+use Rattle.norm_engine.proofs.Joining.{IsCarried, carried_in, row_of_datagram, dropped_by_layers}
+use Rattle.norm_engine.proofs.Judging.{whole_frame}
+use Rattle.norm_engine.proofs.Lawfuls.{RowsAreOfEras, both_of, segment_is, not_short, link_kept}
 
 -- the payload by the protocol
-
 abbrev payload_by : (protocol : ℕ) → List ℕ → List ℕ
-payload_by protocol octets = if protocol == 6 then tcp.payload octets else if protocol == 17 then drop 8 octets else octets
+payload_by protocol octets = cond (protocol == 6) (tcp.payload octets) (cond (protocol == 17) (drop 8 octets) octets)
 
-pub payload_sent : (head : Ipv4) (xs : List ℕ) → length xs ≤ 65515 → payload_of (packet_sent head xs) ≡ payload_by head.protocol xs
-payload_sent head xs fits = ap (payload_by head.protocol) (payload_is (packet_sent head xs) (header-plain head xs fits))
-
--- a mended message has all octets behind its header as they were
-
-pub behind_checksum : (m : List ℕ) (value : ℕ) → 8 ≤ length m → drop 8 (with_u16 m 6 value) ≡ drop 8 m
-behind_checksum m value whole =
-    let eight : length (take 6 m ++ u16_octets value) ≡ 8 =
-    length-append (take 6 m) (u16_octets value) ∙ ap (λ n. n + 2) (length-take-le 6 m (omega arith)) in
-    ap (λ n. drop n (with_u16 m 6 value)) (sym eight) ∙ drop-append_seam (take 6 m ++ u16_octets value) (drop 8 m)
-
-pub same_length : (m : List ℕ) (value : ℕ) → 8 ≤ length m → length (with_u16 m 6 value) ≡ length m
-same_length m value whole = grind (arith, common_steps)
-
-both_true : (a b : Bool) → (a && b) ≡ true → a ≡ true
-both_true true b h = refl
-both_true false b h = absurd (cc)
-
-mended_by : (b : Bool) (settings : PlainSettings) (m : Message) → holds_dgram settings false m rules.USumOut ≡ b → octets_sent settings m ≡ (if b then mended (pseudo_of m) m.octets else m.octets)
-mended_by b settings m is = ap (λ b. if b then mended (pseudo_of m) m.octets else m.octets) is
-
--- what goes out of a datagram has its payload, and its length
-pub record SendsPayload (settings : PlainSettings) (m : Message) : Type 0 where
-  pub payload : payload_by m.protocol (octets_sent settings m) ≡ payload_by m.protocol m.octets
-  pub size : length (octets_sent settings m) ≡ length m.octets
-
-sent_by : (b : Bool) (settings : PlainSettings) (m : Message) → holds_dgram settings false m rules.USumOut ≡ b → (b ≡ true → 8 ≤ length m.octets) → SendsPayload settings m
-sent_by false settings m is whole =
-    let as_read = mended_by false settings m is in
-    record { payload = ap (payload_by m.protocol) as_read; size = ap length as_read }
-sent_by true settings m is whole =
-    let long = whole refl in
-    let udp : m.protocol ≡ 17 = eqb-true m.protocol 17 (both_true (m.protocol == 17) (u_sum_out settings m) is) in
-    let anew = mended_by true settings m is in
-    record {
-      payload = ap₂ payload_by udp anew ∙ behind_checksum m.octets _ long ∙ sym (ap (λ n. payload_by n m.octets) udp);
-      size = ap length anew ∙ same_length m.octets _ long;
-    }
-
--- frames that begin with the link octets of another one
-
-long_header : (octets : ℕ) → nat_lt octets 14 ≡ false → 14 ≤ octets
-long_header octets h = grind (arith, nat_tests)
-
-behind_link : (link : Link) (frame rest : List ℕ) → l_short link frame ≡ false → packet_in link (link_octets link frame ++ rest) ≡ rest
-behind_link Raw frame rest h = refl
-behind_link Ethernet frame rest h =
-    let size : length (take 14 frame) ≡ 14 = length-take-le 14 frame (long_header (length frame) h) in
-    ap (λ n. drop n (take 14 frame ++ rest)) (sym size) ∙ drop-append_seam (take 14 frame) rest
+-- a frame behind the link octets of another one carries IPv4 as that one does
 
 header_octet : (frame rest : List ℕ) (at : ℕ) → at < 14 → 14 ≤ length frame → get_or (take 14 frame ++ rest) at 0 ≡ get_or frame at 0
 header_octet frame rest at lt long =
     let size : length (take 14 frame) ≡ 14 = length-take-le 14 frame long in
     get_or-append (take 14 frame) rest 0 at (omega (arith, size)) ∙ get_or-take 14 frame at 0 lt
 
-carries_same : (link : Link) (frame rest : List ℕ) → l_short link frame ≡ false → carries_ip link (link_octets link frame ++ rest) ≡ carries_ip link frame
+carries_same : (link : Link) (frame rest : List ℕ) → (link ≡ Ethernet → 14 ≤ length frame) → carries_ip link (link_octets link frame ++ rest) ≡ carries_ip link frame
 carries_same Raw frame rest h = refl
 carries_same Ethernet frame rest h =
-    let long = long_header (length frame) h in
+    let long = h refl in
     ap₂ (λ high low. (256 * high + low) == 2048) (header_octet frame rest 12 (omega arith) long) (header_octet frame rest 13 (omega arith) long)
 
-in_frame : (link : Link) (frame : List ℕ) → carries_ip link frame ≡ true → payload_in link frame ≡ payload_of (packet_in link frame)
-in_frame link frame carried = ap (λ c. if c then payload_of (packet_in link frame) else frame) carried
+module _ (settings : PlainSettings) (link : Link) (r : records.Packet) (d : Datagram) (c : IsCarried settings link r d) where
+  long : link ≡ Ethernet → 14 ≤ length r.octets
+  long = not_short link r.octets (link_kept settings link r c.undropped)
 
--- a record that rows mend
+  -- the payload of a packet of the datagram in its frame, and of the record
+  sent_payload : (p : Packet) → IsPacketOf settings d p → payload_in link (frame_of (link_octets link r.octets) p) ≡ payload_by d.head.protocol p.octets
+  sent_payload p is =
+      let rest = p.header ++ p.octets in
+      let whole : frame_of (link_octets link r.octets) p ≡ link_octets link r.octets ++ rest = append_assoc (link_octets link r.octets) p.header p.octets in
+      let carried = carries_same link r.octets rest long ∙ c.carried in
+      ap (payload_in link) whole
+      ∙ (ap (λ b. cond b (payload_of (packet_in link (link_octets link r.octets ++ rest))) (link_octets link r.octets ++ rest)) carried
+      ∙ (ap payload_of (behind link r.octets rest long) ∙ ap₂ payload_by is.protocol is.carries))
 
-both_none : (one other : Option Rule) → option_or one other ≡ None → (one ≡ None) × (other ≡ None)
-both_none None other h = (refl, h)
-both_none (Some rule) other h = absurd (cc)
+  read_payload : payload_in link r.octets ≡ payload_by d.head.protocol d.octets
+  read_payload =
+      ap (λ b. cond b (payload_of (packet_in link r.octets)) r.octets) c.carried
+      ∙ ap (λ (e : Datagram). payload_by e.head.protocol e.octets) c.is
 
-no_piece : (piece : Bool) (settings : PlainSettings) (m : Message) → later_row true piece settings m ≡ None → piece ≡ false
-no_piece false settings m h = refl
-no_piece true settings m h = absurd (let dropped = later_of_piece settings m in cc)
+-- a mended message has all octets behind its header as they were
 
-short_fails : (settings : PlainSettings) (m : Message) → later_row true false settings m ≡ None → holds_dgram settings false m rules.UShort ≡ false
-unfolding later_row
-short_fails settings m h = fails (λ (row : Rule). (true && not false) && holds_dgram settings false m row) [] (drop 1 datagram_rows) rules.UShort (both_none _ _ h).0
+behind_checksum : (m : List ℕ) (value : ℕ) → 8 ≤ length m → drop 8 (with_u16 m 6 value) ≡ drop 8 m
+behind_checksum m value whole =
+    let eight : length (take 6 m ++ u16_octets value) ≡ 8 =
+    length-append (take 6 m) (u16_octets value) ∙ ap (λ n. n + 2) (length-take-le 6 m (omega arith)) in
+    ap (λ n. drop n (with_u16 m 6 value)) (sym eight) ∙ drop-append_seam (take 6 m ++ u16_octets value) (drop 8 m)
 
-udp_row_fails : (udp short : Bool) → (udp && short) ≡ false → udp ≡ true → short ≡ false
-udp_row_fails true short h u = h
-udp_row_fails false short h u = absurd (cc)
+same_length : (m : List ℕ) (value : ℕ) → 8 ≤ length m → length (with_u16 m 6 value) ≡ length m
+same_length m value whole = grind (arith, common_steps)
+
+both_true : (a b : Bool) → (a && b) ≡ true → a ≡ true
+both_true true b h = refl
+both_true false b h = absurd (cc)
+
+-- what goes out of a datagram has its payload, and its length
+record SendsPayload (settings : PlainSettings) (d : Datagram) : Type 0 where
+  payload : payload_by d.head.protocol (octets_sent settings d) ≡ payload_by d.head.protocol d.octets
+  size : length (octets_sent settings d) ≡ length d.octets
+
+sent_by : (b : Bool) (settings : PlainSettings) (d : Datagram) → holds_dgram settings false d rules.USumOut ≡ b → (b ≡ true → 8 ≤ length d.octets) → SendsPayload settings d
+sent_by false settings d is whole =
+    let same : octets_sent settings d ≡ d.octets = ap (λ b. cond b (mended (pseudo_of d) d.octets) d.octets) is in
+    record { payload = ap (payload_by d.head.protocol) same; size = ap length same }
+sent_by true settings d is whole =
+    let long = whole refl in
+    let udp : d.head.protocol ≡ 17 = eqb-true d.head.protocol 17 (both_true (d.head.protocol == 17) (u_sum_out settings d) is) in
+    let same : octets_sent settings d ≡ mended (pseudo_of d) d.octets = ap (λ b. cond b (mended (pseudo_of d) d.octets) d.octets) is in
+    record {
+      payload = ap₂ payload_by udp same ∙ (behind_checksum d.octets _ long ∙ sym (ap (λ n. payload_by n d.octets) udp));
+      size = ap length same ∙ same_length d.octets _ long;
+    }
+
+-- of a datagram that no row drops a UDP message has its header
+first_none : (one other : Option Rule) → option_or one other ≡ None → (one ≡ None) × (other ≡ None)
+first_none None other h = (refl, h)
+first_none (Some rule) other h = absurd (cc)
+
+short_by : (udp short : Bool) (rest : Option Rule) → cond (udp && short) (Some rules.UShort) rest ≡ None → udp ≡ true → short ≡ false
+short_by true true rest h u = absurd (cc)
+short_by true false rest h u = refl
+short_by false short rest h u = absurd (cc)
 
 whole_message : (octets : ℕ) → nat_lt octets 8 ≡ false → 8 ≤ octets
 whole_message octets h = grind (arith, nat_tests)
 
-packet_octet : (link : Link) (frame : List ℕ) → ((at : ℕ) → slice_index frame at < 256) → (at : ℕ) → slice_index (packet_in link frame) at < 256
-packet_octet Raw frame h at = h at
-packet_octet Ethernet frame h at = subst (λ n. n < 256) (sym (get_or-drop 14 frame at 0)) (h (14 + at))
+not_short_udp : (settings : PlainSettings) (live : Bool) (d : Datagram) → dgram_dropped_by settings live d ≡ None → (d.head.protocol == 17) ≡ true → 8 ≤ length d.octets
+unfolding dgram_dropped_by
+not_short_udp settings live d none udp = whole_message (length d.octets) (short_by (d.head.protocol == 17) (u_short d) _ none udp)
 
-total_is_small : (p : List ℕ) → ((at : ℕ) → slice_index p at < 256) → ip.total_length p < 65536
-total_is_small p h = let high = h 2 in let low = h 3 in omega (arith, high, low)
+-- the item of a clean record, by its segment and its datagram
 
-mended_payload : (settings : PlainSettings) (link : Link) (r : Packet) → HasOctets r → IsKept settings link r
-    → later_row true (ip.is_fragment (packet_in link r.octets)) settings (datagram_in settings link r.octets) ≡ None
-    → payload_in link (mended_frame settings link r.octets) ≡ payload_in link r.octets
-unfolding mended_frame
-mended_payload settings link r octets kept none =
-    let p = packet_in link r.octets in
-    let m = datagram_of settings p in
-    let whole = no_piece (ip.is_fragment p) settings m none in
-    let short : holds_dgram settings false m rules.UShort ≡ false = short_fails settings m (ap (λ b. later_row true b settings m) (sym whole) ∙ none) in
-    let small = total_is_small p (packet_octet link r.octets octets) in
-    let fits = payload_fits p (header_is_whole settings link r kept) small in
-    let long : holds_dgram settings false m rules.USumOut ≡ true → 8 ≤ length m.octets =
-    λ mends. whole_message (length m.octets) (udp_row_fails (m.protocol == 17) (u_short m) short (both_true (m.protocol == 17) (u_sum_out settings m) mends)) in
-    let sends = sent_by (holds_dgram settings false m rules.USumOut) settings m refl long in
-    let link_fails = row_fails settings link r (take 1 ip_drop_rows) (drop 2 ip_drop_rows) rules.LShort refl kept.undropped in
-    let q = packet_sent (head_sent settings p) (octets_sent settings m) in
-    let room : length (octets_sent settings m) ≤ 65515 = subst (λ n. n ≤ 65515) (sym sends.size) fits in
-    in_frame link (link_octets link r.octets ++ q) (carries_same link r.octets q link_fails ∙ kept.carries)
-    ∙ ap payload_of (behind_link link r.octets q link_fails)
-    ∙ payload_sent (head_sent settings p) (octets_sent settings m) room
-    ∙ sends.payload
-    ∙ sym (in_frame link r.octets kept.carries)
+pass_is_bare : (rule : Rule) (more : List Rule) → verdict_of (rule ∷ more) ≡ verdicts.Pass → ⊥
+pass_is_bare rule more h = absurd (cc)
 
-carried_by : (carried : Bool) (settings : PlainSettings) (link : Link) (r : Packet) (history : List Item) (rule : Rule) (others : List Rule)
-    → carries_ip link r.octets ≡ carried → named_rows settings link history r ≡ rule ∷ others → carries_ip link r.octets ≡ true
-carried_by true settings link r history rule others c named = c
-carried_by false settings link r history rule others c named =
-    let nothing : named_rows settings link history r ≡ [] = named_by_layers settings link r history ∙ ap₂ (λ xs ys. xs ++ ys) (nothing_fixed settings link r c) (nothing_mended settings link r c) in
-    absurd (cc)
+bare_of_pass : (named : List Rule) → verdict_of named ≡ verdicts.Pass → named ≡ []
+bare_of_pass [] h = refl
+bare_of_pass (rule ∷ more) h = absurd (pass_is_bare rule more h)
 
--- each clean record keeps its payload
+pub both_empty : (xs ys : List Rule) → xs ++ ys ≡ [] → (xs ≡ []) × (ys ≡ [])
+both_empty [] ys e = (refl, e)
+both_empty (x ∷ xs) ys e = absurd (cc)
 
-none_is : (dropped : Option Rule) (rest : Bool) → (is_none dropped && rest) ≡ true → dropped ≡ None
-none_is None rest h = refl
-none_is (Some rule) rest h = absurd (cc)
+-- no row that touches a payload, in the words of connections
+era_touches : (rule : Rule) → touches_payload rule ≡ false → segments.touches_payload rule ≡ false
+era_touches rules.TStrip h = absurd (cc)
+era_touches rules.CProbe h = absurd (cc)
+era_touches rules.TOld h = absurd (cc)
+era_touches rules.TWindow h = absurd (cc)
+era_touches rules.TEnd h = absurd (cc)
+era_touches rules.TClash h = absurd (cc)
+era_touches _ h = refl
 
-kept_by : (named : List Rule) (settings : PlainSettings) (link : Link) (older : List Item) (r : Packet) → HasOctets r → named_rows settings link older r ≡ named → dropped_by settings link older r ≡ None
-    → KeepsPayload link (item_of settings link older r)
-kept_by [] settings link older r octets named none = record {
-  frame = r.octets;
-  only = ap₂ (λ d rows. frames_by d rows r.octets (mended_frame settings link r.octets)) none named;
-  same = refl;
-  whole = λ pass. refl;
-}
-kept_by (rule ∷ others) settings link older r octets named none =
-    let carried = carried_by (carries_ip link r.octets) settings link r older rule others refl named in
-    let rows = both_none _ _ (sym (by_layers settings link r older) ∙ none) in
-    let kept : IsKept settings link r = record { undropped = rows.0; carries = carried } in
-    let later = ap (λ c. later_row c (ip.is_fragment (packet_in link r.octets)) settings (datagram_in settings link r.octets)) (sym carried) ∙ rows.1 in
-    record {
-      frame = mended_frame settings link r.octets;
-      only = ap₂ (λ d rows. frames_by d rows r.octets (mended_frame settings link r.octets)) none named;
-      same = mended_payload settings link r octets kept later;
-      whole = λ pass. absurd (let fixed = ap₂ (λ d rows. (entry_by d rows (length older + 1) (side_of_frame settings link r.octets) (length (emits settings link older r))).verdict) none named in cc);
-    }
+none_left : (a b : Bool) → (a || b) ≡ false → (a ≡ false) × (b ≡ false)
+none_left false b h = (refl, h)
+none_left true b h = absurd (cc)
 
-pub clean_is_kept : (settings : PlainSettings) (link : Link) (trace : List Item) → HaveOctets trace → Lawful settings link trace → CleanIsKept settings link trace
-clean_is_kept settings link [] octets lawful = tt
-clean_is_kept settings link (item ∷ older) octets lawful = (
-  clean_is_kept settings link older octets.0 lawful.0,
-  λ clean. subst (KeepsPayload link) (sym lawful.1)
-      (kept_by (named_rows settings link older item.packet) settings link older item.packet octets.1 refl (none_is (dropped_by settings link older item.packet) _ clean)),
+none_touches : (xs ys : List Rule) → list_any touches_payload (xs ++ ys) ≡ false → list_any segments.touches_payload ys ≡ false
+none_touches [] [] h = refl
+none_touches [] (y ∷ ys) h =
+    let both = none_left (touches_payload y) (list_any touches_payload ys) h in
+    ap₂ (λ a b. a || b) (era_touches y both.0) (none_touches [] ys both.1)
+none_touches (x ∷ xs) ys h = none_touches xs ys (none_left (touches_payload x) (list_any touches_payload (xs ++ ys)) h).1
+
+clean_parts : (dropped : Option Rule) (touched : Bool) → (is_none dropped && not touched) ≡ true → (dropped ≡ None) × (touched ≡ false)
+clean_parts None false h = (refl, refl)
+clean_parts None true h = absurd (cc)
+clean_parts (Some rule) touched h = absurd (cc)
+
+module _ (known : DatagramsAreKnown) (fresh : AnewIsPacket) (own : PacketsAreItsOwn) (keeps : CleanKeepsPayload) (rows : RowsAreOfEras)
+    (settings : PlainSettings) (link : Link) (older : List Item) (r : records.Packet) (hops : settings.hops ≤ 254) (octets : HasOctets r) where
+  abbrev read : Read
+  read = read_after settings link older r
+
+  -- a segment
+  of_segment : (d : Datagram) → segment_after settings link older r ≡ Some d → dropped_by settings link read r ≡ None → list_any touches_payload (named_rows settings link read r) ≡ false
+      → KeepsPayload link (item_of settings link older r)
+  of_segment d h undropped untouched =
+      let v = view_of settings read.past.calls d in
+      let t = rows settings link older r d h in
+      let made = (both_of _ _ d h).0 in
+      let c = carried_in settings link r d made in
+      let s = segment_is known settings link older r d octets h in
+      let kept = keeps settings v d s (sym t.dropped ∙ undropped) (none_touches d.fixes (era.mended_by settings v d) (sym (ap (list_any touches_payload) t.named) ∙ untouched)) in
+      let packets : List Packet = (outcome_of settings read d).packets in
+      let is : IsPacketOf settings d kept.packet = (subst (AllByRecursion (IsPacketOf settings d)) kept.only (own settings v d hops s)).0 in
+      let six = s.protocol in
+      let frame = frame_of (link_octets link r.octets) kept.packet in
+      record {
+        frame = frame;
+        only = segment_frames settings link read r d t ∙ ap (frames_of (link_octets link r.octets)) kept.only;
+        same = sent_payload settings link r d c kept.packet is
+            ∙ (ap (λ n. payload_by n kept.packet.octets) six ∙ (kept.same ∙ sym (ap (λ n. payload_by n d.octets) six)) ∙ sym (read_payload settings link r d c));
+        whole = λ pass.
+            let bare = bare_of_pass (named_rows settings link read r) (sym (ap (λ x. verdict_by x (named_rows settings link read r)) undropped) ∙ pass) in
+            let none = both_empty d.fixes (era.mended_by settings v d) (sym t.named ∙ bare) in
+            let header : d.header ≡ ip.header (packet_in link r.octets) = sym (ap (λ (e : Datagram). e.header) c.is) in
+            let body : d.octets ≡ ip.payload (packet_in link r.octets) = sym (ap (λ (e : Datagram). e.octets) c.is) in
+            ap (frame_of (link_octets link r.octets)) (kept.whole none.0 none.1)
+            ∙ ((λ i. link_octets link r.octets ++ header i ++ body i)
+            ∙ sym (whole_frame settings link r (record { undropped = c.undropped; carries = c.carried }) (ap (λ (e : Datagram). e.fixes) c.is ∙ none.0)));
+      }
+
+  -- another record
+  of_other : (datagram : Option Datagram) (named : List Rule) → datagram_in settings link r ≡ datagram → named_rows settings link read r ≡ named → read.segment ≡ None → dropped_by settings link read r ≡ None
+      → KeepsPayload link (item_of settings link older r)
+  of_other None named made is none undropped = record {
+    frame = r.octets;
+    only = plain_frames settings link read r none ∙ (λ i. frames_by (undropped i) (frame_by settings (link_octets link r.octets) r.octets (made i) (named_rows settings link read r)));
+    same = refl;
+    whole = λ pass. refl;
+  }
+  of_other (Some d) [] made is none undropped = record {
+    frame = r.octets;
+    only = plain_frames settings link read r none ∙ (λ i. frames_by (undropped i) (frame_by settings (link_octets link r.octets) r.octets (made i) (is i)));
+    same = refl;
+    whole = λ pass. refl;
+  }
+  of_other (Some d) (rule ∷ more) made is none undropped =
+      let c = carried_in settings link r d made in
+      let live = is_quoted_live read.past.calls (quoted_in d.octets) in
+      let row : row_of_datagram settings read.past.calls read.datagram ≡ None = (first_none _ _ (first_none _ _ (sym (dropped_by_layers settings link r read) ∙ undropped)).1).0 in
+      let passes : dgram_dropped_by settings live d ≡ None = sym (ap (row_of_datagram settings read.past.calls) made) ∙ row in
+      let sends = sent_by (holds_dgram settings false d rules.USumOut) settings d refl
+      (λ mends. not_short_udp settings live d passes (both_true (d.head.protocol == 17) (u_sum_out settings d) mends)) in
+      let k = known settings link r d octets made in
+      let short = k.short in
+      let size = sends.size in
+      let p = anew settings d (octets_sent settings d) in
+      record {
+        frame = mended_frame settings (link_octets link r.octets) d;
+        only = plain_frames settings link read r none ∙ (λ i. frames_by (undropped i) (frame_by settings (link_octets link r.octets) r.octets (made i) (is i)));
+        same = sent_payload settings link r d c p (fresh settings d (octets_sent settings d) hops k.sizes (omega (arith, short, size))) ∙ (sends.payload ∙ sym (read_payload settings link r d c));
+        whole = λ pass. absurd (pass_is_bare rule more (sym (ap₂ verdict_by undropped is) ∙ pass));
+      }
+
+  pub of_clean : is_clean settings link older r ≡ true → KeepsPayload link (item_of settings link older r)
+  of_clean clean =
+      let parts = clean_parts (dropped_by settings link read r) (list_any touches_payload (named_rows settings link read r)) clean in
+      by read.segment refl parts.0 parts.1
+    where
+      by : (segment : Option Datagram) → read.segment ≡ segment → dropped_by settings link read r ≡ None → list_any touches_payload (named_rows settings link read r) ≡ false
+          → KeepsPayload link (item_of settings link older r)
+      by None h undropped untouched = of_other (datagram_in settings link r) (named_rows settings link read r) refl refl h undropped
+      by (Some d) h undropped untouched = of_segment d h undropped untouched
+
+pub clean_is_kept : DatagramsAreKnown → AnewIsPacket → PacketsAreItsOwn → CleanKeepsPayload → RowsAreOfEras → (settings : PlainSettings) (link : Link) (trace : List Item)
+    → IsSound settings link trace → CleanIsKept settings link trace
+clean_is_kept known fresh own keeps rows settings link [] sound = tt
+clean_is_kept known fresh own keeps rows settings link (item ∷ older) sound = (
+  clean_is_kept known fresh own keeps rows settings link older (record { hops = sound.hops; octets = sound.octets.0; lawful = sound.lawful.0 }),
+  λ clean. subst (KeepsPayload link) (sym sound.lawful.1) (of_clean known fresh own keeps rows settings link older item.packet sound.hops sound.octets.1 clean),
 )

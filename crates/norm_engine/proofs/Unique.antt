@@ -1,37 +1,55 @@
 -- Records have one lawful trace, whatever the seed.
-use Rattle.std.proofs.Common.{◌≡◌, ℕ, ◌+◌, List, [], ◌∷◌, length, refl, sym, ap₂, ◌∙◌}
+use Rattle.std.proofs.Common.{◌≡◌, ℕ, ◌+◌, List, [], ◌∷◌, length, refl, sym, ap, ap₂, ◌∙◌}
 use Rattle.wire_base.specs.declared.address.Link.{Link}
-use Rattle.pcap_file.specs.Records.{Packet}
+use Rattle.pcap_file.specs.Records as records
 use Rattle.norm_settings.specs.Settings.{PlainSettings}
-use Rattle.norm_engine.specs.Frames.{mended_frame}
-use Rattle.norm_engine.specs.Rows.{side_of_frame}
-use Rattle.norm_engine.specs.Trace.{Item, Lawful, packets, item_of, dropped_by, named_rows, entry_by, frames_by}
+use Rattle.ip_rules.specs.Rows.{ip_dropped_by, ip_fixes}
+use Rattle.ip_rules.specs.Datagrams.{datagram_in}
+use Rattle.tcp_norm.specs.Calls.{segments}
+use Rattle.tcp_norm.specs.Views.{idle_at}
+use Rattle.tcp_norm.specs.Steps.{idled}
+use Rattle.tcp_norm.specs.Outcomes.{expiry_of}
+use Rattle.norm_engine.specs.Items.{Item, packets, now_with}
+use Rattle.norm_engine.specs.Calls.{past_of, segment_after, outcome_in, expiry_in, with_asked, flow_calls}
+use Rattle.norm_engine.specs.Trace.{Read, read_after, Lawful, item_by, item_of, dropped_by, noted_rows, named_rows}
 
 abbrev reseeded : PlainSettings → ℕ → PlainSettings
 reseeded settings seed = record settings { seed = seed }
 
-same_drop : (settings : PlainSettings) (seed : ℕ) (link : Link) (history : List Item) (r : Packet) → dropped_by (reseeded settings seed) link history r ≡ dropped_by settings link history r
-unfolding dropped_by
-same_drop settings seed link history r = refl
+same_datagram : (settings : PlainSettings) (seed : ℕ) (link : Link) (r : records.Packet) → datagram_in (reseeded settings seed) link r ≡ datagram_in settings link r
+unfolding ip_dropped_by ip_fixes
+same_datagram settings seed link r = refl
 
-same_rows : (settings : PlainSettings) (seed : ℕ) (link : Link) (history : List Item) (r : Packet) → named_rows (reseeded settings seed) link history r ≡ named_rows settings link history r
-unfolding named_rows
-same_rows settings seed link history r = refl
+same_segment : (settings : PlainSettings) (seed : ℕ) (link : Link) (history : List Item) (r : records.Packet) → segment_after (reseeded settings seed) link history r ≡ segment_after settings link history r
+unfolding ip_dropped_by ip_fixes
+same_segment settings seed link history r = refl
 
-same_frame : (settings : PlainSettings) (seed : ℕ) (link : Link) (octets : List ℕ) → mended_frame (reseeded settings seed) link octets ≡ mended_frame settings link octets
-unfolding mended_frame
-same_frame settings seed link octets = refl
+same_calls : (settings : PlainSettings) (seed : ℕ) (link : Link) (history : List Item) → flow_calls (reseeded settings seed) link history ≡ flow_calls settings link history
+same_calls settings seed link [] = refl
+same_calls settings seed link (item ∷ older) = λ i.
+    with_asked (same_segment settings seed link older item.packet i) (now_with older item.packet) (outcome_in link item) (expiry_in older item ∷ same_calls settings seed link older i)
 
-same_item : (settings : PlainSettings) (seed : ℕ) (link : Link) (history : List Item) (r : Packet) → item_of (reseeded settings seed) link history r ≡ item_of settings link history r
+same_past : (settings : PlainSettings) (seed : ℕ) (link : Link) (history : List Item) (r : records.Packet) → past_of (reseeded settings seed) link history r ≡ past_of settings link history r
+same_past settings seed link history r =
+    let calls = same_calls settings seed link history in
+    let now = now_with history r in
+    λ i. record { idle = idled (λ era. segments era (calls i)) (idle_at settings now (calls i)); calls = expiry_of settings (calls i) now ∷ calls i }
+
+same_read : (settings : PlainSettings) (seed : ℕ) (link : Link) (history : List Item) (r : records.Packet) → read_after (reseeded settings seed) link history r ≡ read_after settings link history r
+same_read settings seed link history r = λ i. record {
+  datagram = same_datagram settings seed link r i;
+  segment = same_segment settings seed link history r i;
+  past = same_past settings seed link history r i;
+}
+
+same_by : (settings : PlainSettings) (seed : ℕ) (link : Link) (read : Read) (r : records.Packet) (number : ℕ) → item_by (reseeded settings seed) link read r number ≡ item_by settings link read r number
+unfolding dropped_by noted_rows named_rows
+same_by settings seed link read r number = refl
+
+same_item : (settings : PlainSettings) (seed : ℕ) (link : Link) (history : List Item) (r : records.Packet) → item_of (reseeded settings seed) link history r ≡ item_of settings link history r
 same_item settings seed link history r =
-    let drop = same_drop settings seed link history r in
-    let rows = same_rows settings seed link history r in
-    let frame = same_frame settings seed link r.octets in
-    λ i. record {
-      packet = r;
-      entry = entry_by (drop i) (rows i) (length history + 1) (side_of_frame settings link r.octets) (length (frames_by (drop i) (rows i) r.octets (frame i)));
-      frames = frames_by (drop i) (rows i) r.octets (frame i);
-    }
+    same_by settings seed link (read_after (reseeded settings seed) link history r) r (length history + 1)
+    ∙ ap (λ read. item_by settings link read r (length history + 1)) (same_read settings seed link history r)
 
 pub trace_is_one : (settings : PlainSettings) (seed : ℕ) (link : Link) (trace other : List Item)
     → Lawful settings link trace → Lawful (reseeded settings seed) link other → packets trace ≡ packets other → trace ≡ other

@@ -1,19 +1,11 @@
 -- That receivers agree on what was written inwards in each era of a trace (this project's profile).
-use Rattle.std.specs.Prelude.{ℕ, Bool, true, false, List, map}
+use Rattle.std.specs.Prelude.{ℕ, List, map}
 use Rattle.wire_base.specs.declared.address.Link.{Link}
-use Rattle.rule_book.specs.declared.entry.Verdict.{Verdict}
-use Rattle.rule_book.specs.declared.entry.Verdict.TheVariants as verdicts
 use Rattle.ip_rules.specs.Rows.{packet_in, is_inward}
 use Rattle.era_agreement.specs.Sent.{Sent}
 use Rattle.era_agreement.specs.Agreement as eras
-use Rattle.norm_engine.specs.Trace.{Item}
-
--- the record was written: it passed, or went out mended
-abbrev pub is_written : Verdict → Bool
-is_written verdicts.Pass = true
-is_written verdicts.Fix = true
-is_written verdicts.Hold = false
-is_written verdicts.Drop = false
+use Rattle.tcp_norm.specs.Calls.{is_written}
+use Rattle.norm_engine.specs.Items.{Item}
 
 -- the packets of an item's frames, and the era that its entry names
 abbrev pub sent_for : Link → Item → Sent
@@ -29,7 +21,8 @@ sent_for link item =
 abbrev pub sent_in : Link → List Item → List Sent
 sent_in link trace = map (sent_for link) trace
 
--- In each era of the trace, any two receivers of the family behind at most so many routers deliver streams of which one is a prefix of the other,
--- whichever packets written inwards reach them in time, how often and in which order.
+-- In each era of the trace whose base is fixed, the packets written inwards are plain, their SYNs have the number before the base, and any two receivers of
+-- the family behind at most so many routers deliver streams of which one is a prefix of the other, and an ended one the longer, whichever packets reach them in
+-- time, how often and in which order; an era without a base has no octet, no SYN and no FIN inwards.
 abbrev pub Agree : (hops : ℕ) → Link → List Item → Type 0
 Agree hops link trace = eras.Agree hops (sent_in link trace)

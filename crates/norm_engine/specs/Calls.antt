@@ -1,55 +1,86 @@
--- What a history asks of the state of connections and of fragments, call by call (this project's profile): for each record first how late it is, and
--- then for the packet that its rows leave to that state. Lists of calls have the newest at the head, as the history has.
-use Rattle.std.specs.Prelude.{ℕ, ◌==◌, ◌&&◌, Bool, List, [], ◌∷◌, ◌++◌, Option, Some, None, is_none, find, if◌then◌else◌}
+-- What a history asks of the state of connections, call by call (this project's profile): for each record first which eras are idle by its time, and then
+-- its datagram, where that is a segment which no row before those of eras drops. Lists of calls have the newest at the head, as the history has.
+use Rattle.std.specs.Prelude.{ℕ, not, Bool, true, false, List, [], ◌∷◌, map, filter, Option, Some, None, if◌then◌else◌}
 use Rattle.wire_base.specs.declared.address.Link.{Link}
 use Rattle.wire_base.specs.Ipv4 as ip
-use Rattle.pcap_file.specs.Records.{Packet}
-use Rattle.rule_book.specs.declared.rule.Rule.{Rule}
-use Rattle.rule_book.specs.Rules.{datagram_rows, fragment_rows, segment_rows}
-use Rattle.rule_book.specs.Entries.{PlainEntry}
+use Rattle.pcap_file.specs.Records as records
+use Rattle.rule_book.specs.declared.entry.Ended.{Ended}
+use Rattle.rule_book.specs.declared.entry.Reason.{Reason}
+use Rattle.rule_book.specs.declared.entry.Reason.TheVariants as reasons
 use Rattle.norm_settings.specs.Settings.{PlainSettings}
-use Rattle.ip_rules.specs.Rows.{carries_ip, ip_drop_rows, packet_in}
-use Rattle.dgram_rules.specs.Rows.{Message}
-use Rattle.norm_engine.specs.Rows.{carries_datagram, datagram_in}
-use Rattle.norm_engine.specs.Trace.{Item, holds, now_at}
+use Rattle.ip_rules.specs.Datagrams.{Datagram, Packet, datagram_in}
+use Rattle.ip_rules.specs.Rows.{packet_in}
+use Rattle.tcp_norm.specs.Calls.{Call, expiry, datagram, Outcome, segments}
+use Rattle.tcp_norm.specs.Views.{idle_at}
+use Rattle.tcp_norm.specs.Steps.{idled}
+use Rattle.tcp_norm.specs.Outcomes.{expiry_of}
+use Rattle.norm_engine.specs.Items.{Item, now_with}
+use Rattle.norm_engine.specs.Rows.{is_segment}
 
--- none of these drop rows holds of the record
-abbrev pub is_left : List Rule → PlainSettings → Link → (history : List Item) → Packet → Bool
-is_left rows settings link history r = is_none (find (holds settings link history r) rows)
+-- what passes the test, if it does
+abbrev pub where_passes : {A : Type 0} → (A → Bool) → Option A → Option A
+where_passes test None = None
+where_passes test (Some x) = if test x then Some x else None
 
--- a call for one record: the time by then, the packet that is left to this state, if there is one, and what became of the record
-pub record Call (A : Type 0) : Type 0 where
-  pub now : ℕ
-  pub asked : Option A
-  pub entry : PlainEntry
-  pub frames : List (List ℕ)
+-- the whole datagram of a record; a fragment makes none as long as no row on fragments is built
+abbrev pub datagram_after : PlainSettings → Link → (history : List Item) → records.Packet → Option Datagram
+datagram_after settings link history r = datagram_in settings link r
 
--- the drop rows before those of connections
-abbrev pub rows_before_eras : List Rule
-rows_before_eras = ip_drop_rows ++ fragment_rows ++ datagram_rows ++ segment_rows
+-- the segment of a record that no row before those of eras drops
+abbrev pub segment_after : PlainSettings → Link → (history : List Item) → records.Packet → Option Datagram
+segment_after settings link history r = where_passes (is_segment settings) (datagram_after settings link history r)
 
--- the TCP datagram that no row before those of connections drops
-abbrev pub segment_asked : PlainSettings → Link → (history : List Item) → Packet → Option Message
-segment_asked settings link history r =
-    let m = datagram_in settings link r.octets in
-    if carries_datagram link r.octets && (m.protocol == 6) && is_left rows_before_eras settings link history r then Some m else None
+-- the packet that stands in a frame
+abbrev pub packet_of : Link → (frame : List ℕ) → Packet
+packet_of link frame = record { header = ip.header (packet_in link frame); octets = ip.payload (packet_in link frame) }
 
--- the fragment that no row before those of fragments drops
-abbrev pub piece_asked : PlainSettings → Link → (history : List Item) → Packet → Option (List ℕ)
-piece_asked settings link history r =
-    let p = packet_in link r.octets in
-    if carries_ip link r.octets && ip.is_fragment p && is_left ip_drop_rows settings link history r then Some p else None
+-- the reason is idleness
+abbrev pub is_idleness : Reason → Bool
+is_idleness reasons.Idle = true
+is_idleness _ = false
 
--- an item as a call that asks for this
-abbrev pub call_of : {A : Type 0} → List Item → Item → Option A → Call A
-call_of older item asked = record { now = now_at (item ∷ older); asked = asked; entry = item.entry; frames = item.frames }
+-- an era ended for being idle
+abbrev pub is_idle : Ended → Bool
+is_idle ended = is_idleness ended.reason
 
--- what a history asks of connections
-abbrev pub flow_calls : PlainSettings → Link → List Item → List (Call Message)
+-- what became of the datagram of an item: what its entry says, but for the eras that ended for being idle, and the packets of its frames
+abbrev pub outcome_in : Link → Item → Outcome
+outcome_in link item =
+    record {
+      verdict = item.entry.verdict;
+      rules = item.entry.rules;
+      era = item.entry.era;
+      begun = item.entry.begun;
+      ended = filter (λ e. not (is_idle e)) item.entry.ended;
+      packets = map (packet_of link) item.frames;
+    }
+
+-- the eras that ended for being idle with an item, as a call at its time
+abbrev pub expiry_in : (older : List Item) → Item → Call
+expiry_in older item = expiry (now_with older item.packet) (map (λ e. e.era) (filter is_idle item.entry.ended))
+
+-- the calls with that of a datagram, if there is one
+abbrev pub with_asked : Option Datagram → (now : ℕ) → Outcome → List Call → List Call
+with_asked None now outcome calls = calls
+with_asked (Some d) now outcome calls = datagram now d outcome ∷ calls
+
+-- the calls that a history makes
+abbrev pub flow_calls : PlainSettings → Link → List Item → List Call
 flow_calls settings link [] = []
-flow_calls settings link (item ∷ older) = call_of older item (segment_asked settings link older item.packet) ∷ flow_calls settings link older
+flow_calls settings link (item ∷ older) =
+    with_asked (segment_after settings link older item.packet) (now_with older item.packet) (outcome_in link item)
+    (expiry_in older item ∷ flow_calls settings link older)
 
--- what a history asks of fragments
-abbrev pub piece_calls : PlainSettings → Link → List Item → List (Call (List ℕ))
-piece_calls settings link [] = []
-piece_calls settings link (item ∷ older) = call_of older item (piece_asked settings link older item.packet) ∷ piece_calls settings link older
+-- What the rows ask of a history before a record: the eras that are idle by the record's time, as they end, and the calls up to their end.
+pub record Past : Type 0 where
+  pub idle : List Ended
+  pub calls : List Call
+
+abbrev pub past_of : PlainSettings → Link → (history : List Item) → records.Packet → Past
+past_of settings link history r =
+    let calls = flow_calls settings link history in
+    let now = now_with history r in
+    record {
+      idle = idled (λ era. segments era calls) (idle_at settings now calls);
+      calls = expiry_of settings calls now ∷ calls;
+    }

@@ -1,4 +1,4 @@
--- Clean records: those whose payload goes out as it came (this project's profile).
+-- Clean records, and that their payload goes out as it came (this project's profile).
 use Rattle.std.specs.Prelude.{◌≡◌, ℕ, ◌<◌, ◌==◌, ◌&&◌, not, Bool, true, false, List, [], ◌∷◌, drop, slice_index, is_none, if◌then◌else◌}
 use Rattle.std.specs.List.{list_any}
 use Rattle.wire_base.specs.declared.address.Link.{Link}
@@ -10,9 +10,10 @@ use Rattle.rule_book.specs.declared.rule.Rule.TheVariants as rules
 use Rattle.rule_book.specs.declared.entry.Verdict.TheVariants as verdicts
 use Rattle.norm_settings.specs.Settings.{PlainSettings}
 use Rattle.ip_rules.specs.Rows.{carries_ip, packet_in}
-use Rattle.norm_engine.specs.Trace.{Item, dropped_by, named_rows}
+use Rattle.norm_engine.specs.Items.{Item}
+use Rattle.norm_engine.specs.Trace.{dropped_by, named_rows, read_after}
 
--- the rules that hold a payload back, join it from pieces, or change it
+-- the rules that hold a payload back, join it from pieces, change it, or put a probe in its place or behind it
 abbrev pub touches_payload : Rule → Bool
 touches_payload rules.FHeld = true
 touches_payload rules.FDone = true
@@ -28,7 +29,8 @@ touches_payload _ = false
 -- no row drops the record, and none that touches a payload holds
 abbrev pub is_clean : PlainSettings → Link → (history : List Item) → Packet → Bool
 is_clean settings link history r =
-    is_none (dropped_by settings link history r) && not (list_any touches_payload (named_rows settings link history r))
+    let read = read_after settings link history r in
+    is_none (dropped_by settings link read r) && not (list_any touches_payload (named_rows settings link read r))
 
 -- the payload of a packet: what stands behind the TCP or the UDP header, or the whole message of another protocol
 abbrev pub payload_of : (packet : List ℕ) → List ℕ

@@ -1,41 +1,65 @@
 -- What the engine holds, and what its answers say of a record.
-use Rattle.std.specs.Prelude.{◌≡◌, ℕ, ◌+◌, ◌≤◌, ◌==◌, ◌&&◌, nat_le, Bool, true, false, List, [], ◌∷◌, ◌++◌, length, Option, Some, None, if◌then◌else◌}
+use Rattle.std.specs.Prelude.{◌≡◌, ℕ, ◌≤◌, Bool, true, false, List, [], ◌∷◌, ◌++◌, length, Option, Some, None, find, if◌then◌else◌}
+use Rattle.std.specs.Option.{option_or}
 use Rattle.wire_base.specs.declared.address.Link.{Link}
 use Rattle.wire_base.specs.declared.address.Side.{Side}
-use Rattle.wire_base.specs.Ipv4 as ip
 use Rattle.pcap_file.specs.Records.{Packet}
-use Rattle.ipv4_codec.specs.Header.{fields_of}
+use Rattle.tcp_codec.specs.declared.header.Tcp.{Tcp}
 use Rattle.tcp_codec.specs.declared.header.TcpFault.{TcpFault}
 use Rattle.tcp_codec.specs.declared.header.TcpFault.TheVariants as faults
+use Rattle.tcp_codec.specs.Header.{fields_of}
 use Rattle.udp_codec.specs.Checksum.{mended}
 use Rattle.rule_book.specs.declared.rule.Rule.{Rule}
 use Rattle.rule_book.specs.declared.rule.Rule.TheVariants as rules
+use Rattle.rule_book.specs.declared.entry.Ended.{Ended}
 use Rattle.rule_book.specs.declared.entry.Verdict.TheVariants as verdicts
+use Rattle.rule_book.specs.Rules.{segment_rows}
 use Rattle.rule_book.specs.Entries.{PlainEntry}
 use Rattle.norm_settings.specs.Settings.{PlainSettings}
 use Rattle.ip_rules.specs.declared.judged.IpPacket.{IpPacket}
-use Rattle.ip_rules.specs.Rows.{packet_in, side_in, tells_side, is_inward}
+use Rattle.ip_rules.specs.Rows.{link_octets, tells_side}
+use Rattle.ip_rules.specs.Datagrams.{Datagram, datagram_in, datagram_with, head_at, IsDatagram}
+use Rattle.ipv4_codec.specs.Write.{plain_header}
 use Rattle.dgram_rules.specs.declared.judged.DgramJudged.{DgramJudged}
 use Rattle.dgram_rules.specs.declared.judged.DgramJudged.TheVariants as dgram
-use Rattle.dgram_rules.specs.Rows.{Message, message_of, pseudo_of, holds_dgram}
-use Rattle.dgram_rules.specs.Judged.{udp_judged, icmp_judged}
+use Rattle.dgram_rules.specs.Rows.{pseudo_of, holds_dgram, dgram_dropped_by}
+use Rattle.tcp_norm.specs.declared.state.TcpNorm.{TcpNorm}
+use Rattle.tcp_norm.specs.Calls.{Call}
+use Rattle.tcp_norm.specs.Standing as flows
+use Rattle.tcp_norm.specs.Heads.{IsHead}
+use Rattle.tcp_norm.specs.Views.{view_of}
+use Rattle.tcp_norm.specs.Outcomes.{verdict_of}
+use Rattle.tcp_norm.specs.Rows as era
 use Rattle.norm_engine.specs.declared.judge.Judgment.{Judgment}
-use Rattle.norm_engine.specs.declared.judge.Judgment.TheVariants.{Arp, Drop, Send}
-use Rattle.norm_engine.specs.Rows.{side_of_frame, datagram_of, t_short, t_hlen, t_sum, t_flags, t_opt_bad}
-use Rattle.norm_engine.specs.Frames.{link_octets, packet_sent}
-use Rattle.norm_engine.specs.Trace.{Item, dropped_by, named_rows, verdict_of, frames_by, now_at}
+use Rattle.norm_engine.specs.declared.judge.Judgment.TheVariants.{Arp, Drop, Send, Segment}
+use Rattle.norm_engine.specs.declared.judge.Judged.{Judged}
+use Rattle.norm_engine.specs.declared.judge.Judged.TheVariants as judged
+use Rattle.norm_engine.specs.Items.{Item, now_at}
+use Rattle.norm_engine.specs.Rows.{side_of_frame, t_short, t_hlen, t_sum, t_flags, t_opt_bad, holds_tcp, is_segment}
+use Rattle.norm_engine.specs.Calls.{Past, flow_calls, where_passes}
+use Rattle.norm_engine.specs.Trace.{Read, dropped_by, noted_rows, named_rows}
 
--- an engine as contracts see it: its settings, its link, the number of records so far, and the greatest time of them in seconds
+-- an engine as contracts see it: its settings, its link, the number of records so far, the greatest time of them in seconds, and its connections
 pub record Engaged : Type 0 where
   pub settings : PlainSettings
   pub link : Link
   pub records : ℕ
   pub latest : ℕ
+  pub norm : TcpNorm
 
--- The engine stands for the history: it has counted its items, and holds the greatest time of their records.
+-- The engine stands for the history: it has counted its items, holds the greatest time of their records, and its connections stand for the calls that
+-- the history makes.
 pub record StandsFor (engine : Engaged) (history : List Item) : Type 0 where
   pub counted : engine.records ≡ length history
   pub latest : engine.latest ≡ now_at history
+  pub flows : flows.StandsFor engine.settings engine.norm (flow_calls engine.settings engine.link history)
+
+-- connections stand for some calls, none of them later than this time, with not more datagrams among them than so many records
+pub record Kept (settings : PlainSettings) (norm : TcpNorm) (records latest : ℕ) : Type 0 where
+  pub calls : List Call
+  pub stands : flows.StandsFor settings norm calls
+  pub later : norm.latest ≤ latest
+  pub few : norm.calls ≤ records
 
 -- the rule that a fault of a segment's header falls under
 abbrev pub rule_of : TcpFault → Rule
@@ -45,72 +69,146 @@ rule_of faults.Sum = rules.TSum
 rule_of faults.Flags = rules.TFlags
 rule_of faults.Options = rules.TOptBad
 
--- the rule that drops a segment: the first row on its header that holds, and else X_LATER
-abbrev pub segment_row : PlainSettings → Message → Rule
-segment_row settings m =
-    if t_short m then rules.TShort
-    else if t_hlen m then rules.THlen
-    else if t_sum settings m then rules.TSum
-    else if t_flags m then rules.TFlags
-    else if t_opt_bad m then rules.TOptBad
-    else rules.XLater
+-- the judgment of the rows on UDP and ICMP
+abbrev pub of_rows : DgramJudged → Judged
+of_rows dgram.Pass = judged.Pass
+of_rows dgram.Mend = judged.Mend
+of_rows (dgram.Drop rule) = judged.Drop rule
 
--- what becomes of a whole datagram, by its protocol
-abbrev pub datagram_judged : PlainSettings → Message → DgramJudged
-datagram_judged settings m =
-    if m.protocol == 17 then udp_judged settings m
-    else if m.protocol == 1 then icmp_judged settings false m
-    else dgram.Drop (segment_row settings m)
+-- the first row on the header of a segment that holds
+abbrev pub segment_row : PlainSettings → Datagram → Option Rule
+segment_row settings d =
+    if t_short d then Some rules.TShort
+    else if t_hlen d then Some rules.THlen
+    else if t_sum settings d then Some rules.TSum
+    else if t_flags d then Some rules.TFlags
+    else if t_opt_bad d then Some rules.TOptBad
+    else None
 
--- a record whose datagram goes out: no row drops it, the rows that mend it are named, and the packet is what stands in its frame
-pub record IsSent (settings : PlainSettings) (link : Link) (r : Packet) (packet : IpPacket) (mend : Bool) : Type 0 where
-  pub undropped : (history : List Item) → dropped_by settings link history r ≡ None
-  pub named : (history : List Item) → named_rows settings link history r ≡ packet.fixes.items
-  pub side : side_in settings (packet_in link r.octets) ≡ Some packet.side
+-- the fields of a segment's header are those of its octets, and the header has no fault
+pub record IsHeaded (d : Datagram) (head : Tcp) : Type 0 where
+  pub fields : head ≡ fields_of (pseudo_of d) d.octets
+  pub whole : IsHead d.octets head
+
+-- the header of a segment was read, or this row on it holds first
+abbrev pub IsReadSegment : PlainSettings → Datagram → Judged → Type 0
+IsReadSegment settings d judged.Pass = ⊥
+IsReadSegment settings d judged.Mend = ⊥
+IsReadSegment settings d (judged.Drop rule) = segment_row settings d ≡ Some rule
+IsReadSegment settings d (judged.Segment head) = (segment_row settings d ≡ None) × IsHeaded d head
+
+-- the header of what is judged a segment was read
+abbrev pub HeadIsRead : Datagram → Judged → Type 0
+HeadIsRead d judged.Pass = Unit {0}
+HeadIsRead d judged.Mend = Unit {0}
+HeadIsRead d (judged.Drop rule) = Unit {0}
+HeadIsRead d (judged.Segment head) = IsHeaded d head
+
+abbrev pub SegmentIsRead : Judgment → Type 0
+SegmentIsRead Arp = Unit {0}
+SegmentIsRead (Drop side rule) = Unit {0}
+SegmentIsRead (Send packet mend) = Unit {0}
+SegmentIsRead (Segment packet head) = IsHeaded (datagram_with [] packet) head
+
+-- the first row on a datagram, or on the header of its segment, that holds
+abbrev pub datagram_row : PlainSettings → (live : Bool) → Datagram → Option Rule
+datagram_row settings live d = option_or (dgram_dropped_by settings live d) (find (holds_tcp settings d) segment_rows)
+
+-- the judgment on a datagram is that of the rows on it and on the header of its segment
+abbrev pub Follows : PlainSettings → (live : Bool) → Datagram → Judged → Type 0
+Follows settings live d judged.Pass =
+    (is_segment settings d ≡ false) × (datagram_row settings live d ≡ None) × (holds_dgram settings live d rules.USumOut ≡ false)
+Follows settings live d judged.Mend =
+    (is_segment settings d ≡ false) × (datagram_row settings live d ≡ None) × (holds_dgram settings live d rules.USumOut ≡ true)
+Follows settings live d (judged.Drop rule) = (is_segment settings d ≡ false) × (datagram_row settings live d ≡ Some rule)
+Follows settings live d (judged.Segment head) =
+    (is_segment settings d ≡ true) × (datagram_row settings live d ≡ None)
+
+-- a record that passes as ARP: no row drops or mends it
+pub record IsArp (settings : PlainSettings) (link : Link) (read : Read) (r : Packet) : Type 0 where
+  pub datagram : read.datagram ≡ None
+  pub segment : read.segment ≡ None
+  pub undropped : dropped_by settings link read r ≡ None
+  pub named : named_rows settings link read r ≡ []
+  pub side : side_of_frame settings link r.octets ≡ None
+  pub short : length r.octets ≤ 65549
+
+-- a record that this row drops, which is no segment
+pub record IsDropped (settings : PlainSettings) (link : Link) (read : Read) (r : Packet) (told : Option Side) (rule : Rule) : Type 0 where
+  pub segment : read.segment ≡ None
+  pub dropped : dropped_by settings link read r ≡ Some rule
+  pub side : told ≡ (if tells_side rule then side_of_frame settings link r.octets else None)
+
+-- a record whose datagram goes out and is no segment: no row drops it, the rows that mend it are named, and the packet is what stands in its frame
+pub record IsSent (settings : PlainSettings) (link : Link) (read : Read) (r : Packet) (packet : IpPacket) (mend : Bool) : Type 0 where
+  pub own : Datagram
+  pub datagram : read.datagram ≡ Some own
+  pub segment : read.segment ≡ None
+  pub undropped : dropped_by settings link read r ≡ None
+  pub named : named_rows settings link read r ≡ packet.fixes.items
   pub told : side_of_frame settings link r.octets ≡ Some packet.side
-  pub head : packet.head ≡ fields_of (packet_in link r.octets)
+  pub side : own.side ≡ packet.side
+  pub head : own.head ≡ packet.head
+  pub octets : own.octets ≡ packet.payload.now
   pub frame : packet.frame.now ≡ r.octets
-  pub payload : packet.payload.now ≡ ip.payload (packet_in link r.octets)
-  pub mends : mend ≡ holds_dgram settings false (datagram_of settings (packet_in link r.octets)) rules.USumOut
+  pub mends : mend ≡ holds_dgram settings false own rules.USumOut
   pub whole : mend ≡ true → 8 ≤ length packet.payload.now
   pub fits : length packet.payload.now ≤ 65515
   pub short : packet.fixes.items ≡ [] → length packet.frame.now ≤ 65549
 
--- a record that passes as ARP: no row drops or mends it
-pub record IsArp (settings : PlainSettings) (link : Link) (r : Packet) : Type 0 where
-  pub undropped : (history : List Item) → dropped_by settings link history r ≡ None
-  pub named : (history : List Item) → named_rows settings link history r ≡ []
-  pub side : side_of_frame settings link r.octets ≡ None
-  pub short : length r.octets ≤ 65549
+-- a record whose datagram is a segment that no row before those of eras drops: the rows that drop, note and mend it are those of its connection
+pub record IsTaken (settings : PlainSettings) (link : Link) (read : Read) (r : Packet) (packet : IpPacket) (head : Tcp) : Type 0 where
+  pub own : Datagram
+  pub segment : read.segment ≡ Some own
+  pub is : IsDatagram packet (link_octets link r.octets) own
+  pub told : side_of_frame settings link r.octets ≡ Some packet.side
+  pub protocol : own.head.protocol ≡ 6
+  pub dropped : dropped_by settings link read r ≡ era.dropped_by settings (view_of settings read.past.calls own) own
+  pub noted : noted_rows settings link read r ≡ era.noted (view_of settings read.past.calls own) own
+  pub named : named_rows settings link read r ≡ own.fixes ++ era.mended_by settings (view_of settings read.past.calls own) own
+  pub few : length packet.fixes.items ≤ 6
+  pub fits : length packet.payload.now ≤ 65515
+  pub short : packet.fixes.items ≡ [] → length packet.frame.now ≤ 65549
 
--- the judgment is that of the rows, after whatever history
-abbrev pub Judges : PlainSettings → Link → Packet → Judgment → Type 0
-Judges settings link r Arp = IsArp settings link r
-Judges settings link r (Drop side rule) =
-    ((history : List Item) → dropped_by settings link history r ≡ Some rule) × (side ≡ (if tells_side rule then side_of_frame settings link r.octets else None))
-Judges settings link r (Send packet mend) = IsSent settings link r packet mend
+-- the judgment is that of the rows
+abbrev pub Judges : PlainSettings → Link → Read → Packet → Judgment → Type 0
+Judges settings link read r Arp = IsArp settings link read r
+Judges settings link read r (Drop side rule) = IsDropped settings link read r side rule
+Judges settings link read r (Send packet mend) = IsSent settings link read r packet mend
+Judges settings link read r (Segment packet head) = IsTaken settings link read r packet head
+
+-- what the rows of a record are read of, with this past
+abbrev pub read_with : PlainSettings → Link → Past → Packet → Read
+read_with settings link past r =
+    record {
+      datagram = datagram_in settings link r;
+      segment = where_passes (is_segment settings) (datagram_in settings link r);
+      past = past;
+    }
 
 -- the judgment on a whole packet whose datagram is judged so
-abbrev pub joined : IpPacket → DgramJudged → Judgment
-joined packet dgram.Pass = Send packet false
-joined packet (dgram.Drop rule) = Drop (Some packet.side) rule
-joined packet dgram.Mend = Send (record packet { fixes = record { items = packet.fixes.items ++ rules.USumOut ∷ [] } }) true
+abbrev pub joined : IpPacket → Judged → Judgment
+joined packet judged.Pass = Send packet false
+joined packet (judged.Drop rule) = Drop (Some packet.side) rule
+joined packet judged.Mend = Send (record packet { fixes = record { items = packet.fixes.items ++ rules.USumOut ∷ [] } }) true
+joined packet (judged.Segment head) = Segment packet head
 
--- the entry of a record that goes out, mended by these rules
-abbrev pub entry_written : (number : ℕ) → Option Side → List Rule → PlainEntry
-entry_written number side named =
-    record { number = number; side = side; verdict = verdict_of named; packets = 1; rules = named; era = None; begun = None; ended = [] }
+-- the entry of a record that goes out, mended by these rules, with which these eras ended
+abbrev pub entry_written : (number : ℕ) → Option Side → List Rule → List Ended → PlainEntry
+entry_written number side named ended =
+    record { number = number; side = side; verdict = verdict_of named; packets = 1; rules = named; era = None; begun = None; ended = ended }
 
 -- the entry of a record that a row drops
-abbrev pub entry_dropped : (number : ℕ) → Option Side → Rule → PlainEntry
-entry_dropped number side rule =
-    record { number = number; side = side; verdict = verdicts.Drop; packets = 0; rules = rule ∷ []; era = None; begun = None; ended = [] }
+abbrev pub entry_dropped : (number : ℕ) → Option Side → Rule → List Ended → PlainEntry
+entry_dropped number side rule ended =
+    record { number = number; side = side; verdict = verdicts.Drop; packets = 0; rules = rule ∷ []; era = None; begun = None; ended = ended }
 
--- the entry of the record with this number, as it was judged
-abbrev pub entry_for : (number : ℕ) → Judgment → PlainEntry
-entry_for number Arp = entry_written number None []
-entry_for number (Drop side rule) = entry_dropped number side rule
-entry_for number (Send packet mend) = entry_written number (Some packet.side) packet.fixes.items
+-- the entry of the record with this number, which is judged so and is no segment
+abbrev pub entry_for : (number : ℕ) → Judgment → List Ended → PlainEntry
+entry_for number Arp ended = entry_written number None [] ended
+entry_for number (Drop side rule) ended = entry_dropped number side rule ended
+entry_for number (Send packet mend) ended = entry_written number (Some packet.side) packet.fixes.items ended
+entry_for number (Segment packet head) ended = entry_written number (Some packet.side) [] ended
 
 -- what the outbox and the header have room for
 abbrev pub Fits : Judgment → (octets : List ℕ) → Type 0
@@ -118,22 +216,26 @@ Fits Arp octets = length octets ≤ 65549
 Fits (Drop side rule) octets = Unit {0}
 Fits (Send packet mend) octets =
     (length packet.payload.now ≤ 65515) × (mend ≡ true → 8 ≤ length packet.payload.now) × (packet.fixes.items ≡ [] → length packet.frame.now ≤ 65549)
-
--- the TTL that goes out with a packet
-abbrev pub ttl_for : IpPacket → (hops : ℕ) → ℕ
-ttl_for packet hops = if is_inward (Some packet.side) && nat_le packet.head.ttl hops then hops + 1 else packet.head.ttl
+Fits (Segment packet head) octets = Unit {0}
 
 -- the payload that goes out with a packet
 abbrev pub payload_for : IpPacket → (mend : Bool) → List ℕ
-payload_for packet mend = if mend then mended (pseudo_of (message_of packet)) packet.payload.now else packet.payload.now
+payload_for packet mend = if mend then mended (pseudo_of (datagram_with [] packet)) packet.payload.now else packet.payload.now
 
 -- the frame that goes out where rows mend a packet
 abbrev pub frame_for : IpPacket → (mend : Bool) → (hops : ℕ) → Link → List ℕ
 frame_for packet mend hops link =
-    link_octets link packet.frame.now ++ packet_sent (record packet.head { ttl = ttl_for packet hops }) (payload_for packet mend)
+    let octets = payload_for packet mend in
+    link_octets link packet.frame.now ++ plain_header (head_at packet.side hops packet.head) (length octets) ++ octets
 
--- the frames of a record, as it was judged
+-- as it was read where no rows mend it
+abbrev pub frame_with : List Rule → (read mended : List ℕ) → List ℕ
+frame_with [] read mended = read
+frame_with (rule ∷ more) read mended = mended
+
+-- the frames of a record that is judged so and is no segment
 abbrev pub frames_for : Judgment → (hops : ℕ) → Link → (octets : List ℕ) → List (List ℕ)
 frames_for Arp hops link octets = octets ∷ []
 frames_for (Drop side rule) hops link octets = []
-frames_for (Send packet mend) hops link octets = frames_by None packet.fixes.items packet.frame.now (frame_for packet mend hops link)
+frames_for (Send packet mend) hops link octets = frame_with packet.fixes.items packet.frame.now (frame_for packet mend hops link) ∷ []
+frames_for (Segment packet head) hops link octets = []

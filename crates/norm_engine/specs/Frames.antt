@@ -1,41 +1,22 @@
--- The frame of a datagram that a row mends (this project's profile): the header anew, with 20 octets, and what it carries.
-use Rattle.std.specs.Prelude.{ℕ, ◌+◌, false, List, [], ◌++◌, length, take, if◌then◌else◌}
-use Rattle.wire_base.specs.declared.address.Link.{Link}
-use Rattle.wire_base.specs.declared.address.Link.TheVariants.{Ethernet, Raw}
-use Rattle.wire_base.specs.Ipv4 as ip
-use Rattle.ipv4_codec.specs.declared.header.Ipv4.{Ipv4}
-use Rattle.ipv4_codec.specs.Header.{fields_of}
-use Rattle.ipv4_codec.specs.Write.{plain_header}
+-- The frame of a datagram that is no TCP segment (this project's profile): as it came where no row mends it, and else with its header anew.
+use Rattle.std.specs.Prelude.{ℕ, false, List, [], ◌∷◌, Option, Some, None, if◌then◌else◌}
 use Rattle.udp_codec.specs.Checksum.{mended}
+use Rattle.rule_book.specs.declared.rule.Rule.{Rule}
 use Rattle.rule_book.specs.declared.rule.Rule.TheVariants as rules
 use Rattle.norm_settings.specs.Settings.{PlainSettings}
-use Rattle.ip_rules.specs.Rows.{packet_in, i_ttl}
-use Rattle.dgram_rules.specs.Rows.{Message, pseudo_of, holds_dgram}
-use Rattle.norm_engine.specs.Rows.{datagram_of}
-
--- what stands in a frame before the packet: the Ethernet header of 14 octets (RFC 894), and nothing on a raw link
-abbrev pub link_octets : Link → (frame : List ℕ) → List ℕ
-link_octets Ethernet frame = take 14 frame
-link_octets Raw frame = []
-
--- the TTL that goes out: the packet's own, and of an inbound packet that would not pass all routers behind the bridge one more than these
-abbrev pub ttl_sent : PlainSettings → (packet : List ℕ) → ℕ
-ttl_sent settings p = if i_ttl settings p then settings.hops + 1 else ip.time_to_live p
-
--- the fields that go out: those read, with that TTL
-abbrev pub head_sent : PlainSettings → (packet : List ℕ) → Ipv4
-head_sent settings p = record (fields_of p) { ttl = ttl_sent settings p }
+use Rattle.ip_rules.specs.Datagrams.{Datagram, anew, frame_of}
+use Rattle.dgram_rules.specs.Rows.{pseudo_of, holds_dgram}
 
 -- what goes out behind the header: as it came, with its checksum mended under U_SUM_OUT
-abbrev pub octets_sent : PlainSettings → Message → List ℕ
-octets_sent settings m = if holds_dgram settings false m rules.USumOut then mended (pseudo_of m) m.octets else m.octets
+abbrev pub octets_sent : PlainSettings → Datagram → List ℕ
+octets_sent settings d = if holds_dgram settings false d rules.USumOut then mended (pseudo_of d) d.octets else d.octets
 
--- a packet of these fields that carries these octets, whole and without options
-abbrev pub packet_sent : Ipv4 → List ℕ → List ℕ
-packet_sent head octets = plain_header head (length octets) ++ octets
+-- the frame with a header anew, behind these link octets
+abbrev pub mended_frame : PlainSettings → (link : List ℕ) → Datagram → List ℕ
+mended_frame settings link d = frame_of link (anew settings d (octets_sent settings d))
 
--- the frame that goes out where a row mends it
-unfoldable pub mended_frame : PlainSettings → Link → (frame : List ℕ) → List ℕ
-mended_frame settings link frame =
-    let p = packet_in link frame in
-    link_octets link frame ++ packet_sent (head_sent settings p) (octets_sent settings (datagram_of settings p))
+-- the frame of a record that no row drops: what was read, where these rows are none or it carries no datagram
+abbrev pub frame_by : PlainSettings → (link read : List ℕ) → Option Datagram → (named : List Rule) → List ℕ
+frame_by settings link read None named = read
+frame_by settings link read (Some d) [] = read
+frame_by settings link read (Some d) (rule ∷ more) = mended_frame settings link d

@@ -1,33 +1,85 @@
 -- Laws of lawful traces.
-use Rattle.std.specs.Prelude.{◌≡◌, ℕ, List, Some}
+use Rattle.std.specs.Prelude.{◌≡◌, ◌≢◌, ◌↔◌, ℕ, ◌*◌, ◌≤◌, true, List, length, Some, None}
+use Rattle.std.specs.List.{AllByRecursion}
 use Rattle.wire_base.specs.declared.address.Link.{Link}
 use Rattle.pcap_file.specs.Records.{Packet}
 use Rattle.rule_book.specs.declared.rule.Rule.TheVariants as rules
+use Rattle.rule_book.specs.Entries.{IsOfVersion}
 use Rattle.norm_settings.specs.Settings.{PlainSettings}
-use Rattle.dgram_rules.specs.Rows.{Message}
-use Rattle.norm_engine.specs.Trace.{Item, Lawful, packets, dropped_by}
-use Rattle.norm_engine.specs.Calls.{segment_asked, piece_asked}
+use Rattle.ip_rules.specs.Rows.{ip_dropped_by}
+use Rattle.era_state.specs.Quantities.{base_of}
+use Rattle.era_agreement.specs.Sent.{written_in}
+use Rattle.era_agreement.specs.Laws.{TellsItsStream}
+use Rattle.tcp_norm.specs.Calls.{eras}
+use Rattle.tcp_norm.specs.Segments.{AreOfSegments, IsBounded}
+use Rattle.norm_engine.specs.Items.{Item, packets}
+use Rattle.norm_engine.specs.Rows.{x_later}
+use Rattle.norm_engine.specs.Calls.{flow_calls}
+use Rattle.norm_engine.specs.Trace.{Lawful, dropped_by, item_of, read_after}
 use Rattle.norm_engine.specs.Clean.{HaveOctets, CleanIsKept}
-use Rattle.norm_engine.specs.Agreement.{Agree}
+use Rattle.norm_engine.specs.Agreement.{Agree, sent_in}
 
--- In every lawful trace of records of octets each clean record has exactly one frame, with its payload, and octet for octet where the verdict is pass.
+-- a trace that is lawful for settings of at most 254 routers, of records of octets
+pub record IsSound (settings : PlainSettings) (link : Link) (trace : List Item) : Type 0 where
+  pub hops : settings.hops ≤ 254
+  pub octets : HaveOctets trace
+  pub lawful : Lawful settings link trace
+
+-- an entry counts the frames of its item, of which there are two at the most, and tells each era that ended with its octets
+pub record IsCounted (item : Item) : Type 0 where
+  pub packets : item.entry.packets ≡ length item.frames
+  pub few : length item.frames ≤ 2
+  pub octets : IsOfVersion 2 item.entry
+
+-- this holds of each item
+abbrev pub ItemsAreCounted : Type 0
+ItemsAreCounted = (settings : PlainSettings) (link : Link) (history : List Item) (r : Packet) → IsCounted (item_of settings link history r)
+
+-- In every lawful trace each clean record has exactly one frame, with its payload, and octet for octet where the verdict is pass.
 abbrev pub LawfulKeepsClean : Type 0
-LawfulKeepsClean =
-    (settings : PlainSettings) (link : Link) (trace : List Item) → HaveOctets trace → Lawful settings link trace → CleanIsKept settings link trace
+LawfulKeepsClean = (settings : PlainSettings) (link : Link) (trace : List Item) → IsSound settings link trace → CleanIsKept settings link trace
 
--- Records have one lawful trace, whatever the seed of the tables' hashes.
+-- Records have at most one lawful trace, whatever the seed of the tables' hashes.
 abbrev pub LawfulIsOne : Type 0
 LawfulIsOne =
     (settings : PlainSettings) (seed : ℕ) (link : Link) (trace other : List Item)
     → Lawful settings link trace → Lawful (record settings { seed = seed }) link other → packets trace ≡ packets other → trace ≡ other
 
+-- The calls of a lawful trace are those that the rules make of its segments.
+abbrev pub LawfulCallsAreMade : Type 0
+LawfulCallsAreMade =
+    (settings : PlainSettings) (link : Link) (trace : List Item) → IsSound settings link trace → AreOfSegments settings (flow_calls settings link trace)
+
+-- At every history of a lawful trace no more eras are live, and no more blocks hold octets, than the settings allow.
+pub record IsWithin (settings : PlainSettings) (link : Link) (history : List Item) : Type 0 where
+  pub flows : length (eras (flow_calls settings link history)) ≤ settings.flows
+  pub held : IsBounded settings (flow_calls settings link history)
+
+-- a trace is itself a history of each longer one, so this holds of each history in one
+abbrev pub LawfulIsWithin : Type 0
+LawfulIsWithin = (settings : PlainSettings) (link : Link) (trace : List Item) → IsSound settings link trace → IsWithin settings link trace
+
+-- Where a quota is set and there are as many cells as all eras may hold together, no entry names T_ROOM.
+abbrev pub LawfulLeavesRoom : Type 0
+LawfulLeavesRoom =
+    (settings : PlainSettings) (link : Link) (history : List Item) (r : Packet) (most : ℕ) → IsSound settings link history
+    → settings.quota ≡ Some most → settings.flows * most ≤ settings.cells
+    → AllByRecursion (λ rule. rule ≢ rules.TRoom) (item_of settings link history r).entry.rules
+
 -- In each era of every lawful trace all receivers agree.
 abbrev pub LawfulAgrees : Type 0
-LawfulAgrees = (settings : PlainSettings) (link : Link) (trace : List Item) → Lawful settings link trace → Agree settings.hops link trace
+LawfulAgrees = (settings : PlainSettings) (link : Link) (trace : List Item) → IsSound settings link trace → Agree settings.hops link trace
 
--- What the rows leave to the state of connections, or of fragments, is dropped under X_LATER, as long as neither is built.
-pub record LeftIsLater : Type 0 where
-  pub segments : (settings : PlainSettings) (link : Link) (history : List Item) (r : Packet) (m : Message)
-      → segment_asked settings link history r ≡ Some m → dropped_by settings link history r ≡ Some rules.XLater
-  pub pieces : (settings : PlainSettings) (link : Link) (history : List Item) (r : Packet) (p : List ℕ)
-      → piece_asked settings link history r ≡ Some p → dropped_by settings link history r ≡ Some rules.XLater
+-- In each era of a lawful trace whose base is fixed, the frames written inwards tell one stream, each at the place of its number: each of their octets is the
+-- first at its place, and each FIN is the end of the era.
+abbrev pub LawfulTellsStreams : Type 0
+LawfulTellsStreams =
+    (settings : PlainSettings) (link : Link) (trace : List Item) → IsSound settings link trace
+    → (era base : ℕ) → base_of (written_in era (sent_in link trace)) ≡ Some base → TellsItsStream settings.hops era base (sent_in link trace)
+
+-- X_LATER drops exactly the fragments that no row on the link, the header and the protocol drops.
+abbrev pub FragmentsAreLater : Type 0
+FragmentsAreLater =
+    (settings : PlainSettings) (link : Link) (history : List Item) (r : Packet)
+    → (dropped_by settings link (read_after settings link history r) r ≡ Some rules.XLater)
+    ↔ ((ip_dropped_by settings link r ≡ None) × (x_later link r.octets ≡ true))

@@ -1,8 +1,9 @@
+pub mod Items
 pub mod Rows
+pub mod Calls
 pub mod Frames
 pub mod Trace
 pub mod Clean
-pub mod Calls
 pub mod Agreement
 pub mod Laws
 pub mod Engine

@@ -1,106 +1,227 @@
--- A trace: what norm does with each record of a capture, and which trace is lawful (this project's profile).
--- Traces and histories are lists of items with the newest at the head.
-use Rattle.std.specs.Prelude.{◌≡◌, ℕ, ◌+◌, ◌&&◌, max, Bool, false, List, [], ◌∷◌, length, map, Option, Some, None, find, filter, ◌++◌, if◌then◌else◌}
+-- Which trace is lawful: what norm does with each record of a capture after those before it (this project's profile).
+use Rattle.std.specs.Prelude.{◌≡◌, ℕ, ◌+◌, ◌&&◌, not, Bool, false, List, [], ◌∷◌, ◌++◌, length, Option, Some, None, option_map, find, filter, if◌then◌else◌}
+use Rattle.std.specs.Option.{is_some}
 use Rattle.wire_base.specs.declared.address.Link.{Link}
 use Rattle.wire_base.specs.declared.address.Side.{Side}
+use Rattle.wire_base.specs.declared.address.FlowKey.{FlowKey}
+use Rattle.icmp_codec.specs.declared.quote.QuotedKey.{QuotedKey}
+use Rattle.icmp_codec.specs.Quote.{quoted_in}
 use Rattle.pcap_file.specs.Records.{Packet}
 use Rattle.rule_book.specs.declared.rule.Rule.{Rule}
 use Rattle.rule_book.specs.declared.rule.Rule.TheVariants as rules
+use Rattle.rule_book.specs.declared.entry.Ended.{Ended}
 use Rattle.rule_book.specs.declared.entry.Verdict.{Verdict}
 use Rattle.rule_book.specs.declared.entry.Verdict.TheVariants as verdicts
 use Rattle.rule_book.specs.Rules.{drop_rows, fix_rows, step_rows}
-use Rattle.rule_book.specs.Entries.{PlainEntry}
 use Rattle.norm_settings.specs.Settings.{PlainSettings}
-use Rattle.ip_rules.specs.Rows.{holds_ip, tells_side}
+use Rattle.ip_rules.specs.Datagrams.{Datagram, goes_in, frames_of}
+use Rattle.ip_rules.specs.Rows.{holds_ip, link_octets, tells_side}
 use Rattle.dgram_rules.specs.Rows.{holds_dgram}
-use Rattle.norm_engine.specs.Rows.{side_of_frame, carries_datagram, datagram_in, holds_tcp, x_later}
-use Rattle.norm_engine.specs.Frames.{mended_frame}
+use Rattle.tcp_norm.specs.Calls.{Call, Outcome, live}
+use Rattle.tcp_norm.specs.Views.{view_of}
+use Rattle.tcp_norm.specs.Rows.{holds_era}
+use Rattle.tcp_norm.specs.Outcomes.{outcome_at, verdict_of}
+use Rattle.norm_engine.specs.Items.{Item}
+use Rattle.norm_engine.specs.Rows.{side_of_frame, holds_tcp, x_later}
+use Rattle.norm_engine.specs.Calls.{Past, past_of, datagram_after, segment_after}
+use Rattle.norm_engine.specs.Frames.{frame_by}
 
--- a record of the capture, the entry that reports it, and the frames written for it
-pub record Item : Type 0 where
-  pub packet : Packet
-  pub entry : PlainEntry
-  pub frames : List (List ℕ)
+-- the connection that is quoted by an inbound error, whose packet went outwards
+abbrev pub key_quoted : QuotedKey → FlowKey
+key_quoted q = record { outside = q.dst; outside_port = q.dport; inside = q.src; inside_port = q.sport }
 
--- whether the row on UDP or ICMP holds of the datagram that a frame carries; no era is live as long as none begins
-abbrev pub of_dgram : PlainSettings → Link → (frame : List ℕ) → Rule → Bool
-of_dgram settings link frame rule = carries_datagram link frame && holds_dgram settings false (datagram_in settings link frame) rule
+-- an era is live for the connection that is quoted, if one is
+abbrev pub is_quoted_live : List Call → Option QuotedKey → Bool
+is_quoted_live calls None = false
+is_quoted_live calls (Some q) = is_some (live calls (key_quoted q))
 
--- whether the row on the header of a TCP segment holds of the datagram that a frame carries
-abbrev pub of_tcp : PlainSettings → Link → (frame : List ℕ) → Rule → Bool
-of_tcp settings link frame rule = carries_datagram link frame && holds_tcp settings (datagram_in settings link frame) rule
+-- what a record's rows are read of: the datagram that it makes after its history, the segment that this is, where no row before those of eras drops it,
+-- and what they ask of the history
+pub record Read : Type 0 where
+  pub datagram : Option Datagram
+  pub segment : Option Datagram
+  pub past : Past
 
--- Whether the condition of a rule holds of a record after a history. Each layer has its rows, and a rule that is not built holds of no record.
-abbrev pub holds : PlainSettings → Link → (history : List Item) → Packet → Rule → Bool
-holds settings link history r rules.UShort = of_dgram settings link r.octets rules.UShort
-holds settings link history r rules.ULen = of_dgram settings link r.octets rules.ULen
-holds settings link history r rules.USum = of_dgram settings link r.octets rules.USum
-holds settings link history r rules.MShort = of_dgram settings link r.octets rules.MShort
-holds settings link history r rules.MSum = of_dgram settings link r.octets rules.MSum
-holds settings link history r rules.MType = of_dgram settings link r.octets rules.MType
-holds settings link history r rules.MQuote = of_dgram settings link r.octets rules.MQuote
-holds settings link history r rules.USumOut = of_dgram settings link r.octets rules.USumOut
-holds settings link history r rules.TShort = of_tcp settings link r.octets rules.TShort
-holds settings link history r rules.THlen = of_tcp settings link r.octets rules.THlen
-holds settings link history r rules.TSum = of_tcp settings link r.octets rules.TSum
-holds settings link history r rules.TFlags = of_tcp settings link r.octets rules.TFlags
-holds settings link history r rules.TOptBad = of_tcp settings link r.octets rules.TOptBad
-holds settings link history r rules.XLater = x_later link r.octets
-holds settings link history r rule = holds_ip settings link r rule
+abbrev pub read_after : PlainSettings → Link → (history : List Item) → Packet → Read
+read_after settings link history r =
+    record {
+      datagram = datagram_after settings link history r;
+      segment = segment_after settings link history r;
+      past = past_of settings link history r;
+    }
 
--- the first drop row that holds, if there is one
-unfoldable pub dropped_by : PlainSettings → Link → (history : List Item) → Packet → Option Rule
-dropped_by settings link history r = find (holds settings link history r) drop_rows
+-- the test of a datagram, false where there is none
+abbrev pub holds_of : Option Datagram → (Datagram → Bool) → Bool
+holds_of None test = false
+holds_of (Some d) test = test d
+
+-- the layers of the rule table
+pub data Layer : Type 0 where
+  link_and_header : Layer
+  datagrams : Layer
+  segment_headers : Layer
+  eras : Layer
+  fragments : Layer
+  cuts : Layer
+  later : Layer
+
+-- the layer of a rule's row
+abbrev pub layer_of : Rule → Layer
+layer_of rules.FDf = fragments
+layer_of rules.FEmpty = fragments
+layer_of rules.FAlign = fragments
+layer_of rules.FBig = fragments
+layer_of rules.FEnd = fragments
+layer_of rules.FClash = fragments
+layer_of rules.FMany = fragments
+layer_of rules.FRoom = fragments
+layer_of rules.FHeld = fragments
+layer_of rules.FDone = fragments
+layer_of rules.UShort = datagrams
+layer_of rules.ULen = datagrams
+layer_of rules.USum = datagrams
+layer_of rules.MShort = datagrams
+layer_of rules.MSum = datagrams
+layer_of rules.MType = datagrams
+layer_of rules.MQuote = datagrams
+layer_of rules.USumOut = datagrams
+layer_of rules.TShort = segment_headers
+layer_of rules.THlen = segment_headers
+layer_of rules.TSum = segment_headers
+layer_of rules.TFlags = segment_headers
+layer_of rules.TOptBad = segment_headers
+layer_of rules.TCold = eras
+layer_of rules.TState = eras
+layer_of rules.TSyn = eras
+layer_of rules.TRst = eras
+layer_of rules.TFull = eras
+layer_of rules.TQuota = eras
+layer_of rules.TRoom = eras
+layer_of rules.TSumOut = eras
+layer_of rules.TRes = eras
+layer_of rules.TUrg = eras
+layer_of rules.TOpt = eras
+layer_of rules.TStrip = eras
+layer_of rules.CProbe = eras
+layer_of rules.TOld = eras
+layer_of rules.TWindow = eras
+layer_of rules.TTurn = eras
+layer_of rules.TEnd = eras
+layer_of rules.TClash = eras
+layer_of rules.ECut = cuts
+layer_of rules.EMtu = cuts
+layer_of rules.XLater = later
+layer_of _ = link_and_header
+
+-- whether the row of a layer holds of what was read; a row that is not built holds of none
+abbrev pub holds_at : Layer → PlainSettings → Link → Read → Packet → Rule → Bool
+holds_at link_and_header settings link read r rule = holds_ip settings link r rule
+holds_at datagrams settings link read r rule =
+    holds_of read.datagram (λ d. holds_dgram settings (is_quoted_live read.past.calls (quoted_in d.octets)) d rule)
+holds_at segment_headers settings link read r rule = holds_of read.datagram (λ d. holds_tcp settings d rule)
+holds_at eras settings link read r rule = holds_of read.segment (λ d. holds_era settings (view_of settings read.past.calls d) d rule)
+holds_at fragments settings link read r rule = false
+holds_at cuts settings link read r rule = false
+holds_at later settings link read r rule = x_later link r.octets
+
+-- whether the condition of a rule's row holds
+abbrev pub holds : PlainSettings → Link → Read → Packet → Rule → Bool
+holds settings link read r rule = holds_at (layer_of rule) settings link read r rule
+
+-- the row is T_FULL of an outbound segment: a note, which drops nothing
+abbrev pub is_note : Read → Rule → Bool
+is_note read rules.TFull = holds_of read.segment (λ d. not (goes_in d.side))
+is_note read _ = false
+
+-- the row drops the record: it holds, and is no note
+abbrev pub drops : PlainSettings → Link → Read → Packet → Rule → Bool
+drops settings link read r rule = not (is_note read rule) && holds settings link read r rule
+
+-- the first row that drops the record, if one does
+unfoldable pub dropped_by : PlainSettings → Link → Read → Packet → Option Rule
+dropped_by settings link read r = find (drops settings link read r) drop_rows
+
+-- the notes on the record: rows that hold and drop nothing
+unfoldable pub noted_rows : PlainSettings → Link → Read → Packet → List Rule
+noted_rows settings link read r = filter (λ rule. is_note read rule && holds settings link read r rule) drop_rows
 
 -- the rows behind the drop rows that hold, those that hold back or mend a packet, in the order of their numbers
-unfoldable pub named_rows : PlainSettings → Link → (history : List Item) → Packet → List Rule
-named_rows settings link history r = filter (holds settings link history r) (fix_rows ++ step_rows)
+unfoldable pub named_rows : PlainSettings → Link → Read → Packet → List Rule
+named_rows settings link read r = filter (holds settings link read r) (fix_rows ++ step_rows)
 
--- the verdict on a record that no row drops: fix where a row mends it, else pass
-abbrev pub verdict_of : List Rule → Verdict
-verdict_of [] = verdicts.Pass
-verdict_of (rule ∷ others) = verdicts.Fix
+-- what becomes of a segment by its rows
+abbrev pub outcome_of : PlainSettings → Read → Datagram → Outcome
+outcome_of settings read d = outcome_at settings (view_of settings read.past.calls d) d
 
--- the entry of a record: a drop row that holds is its only rule, and it has no side where that row comes before the side is known
-abbrev pub entry_by : Option Rule → (named : List Rule) → (number : ℕ) → Option Side → (packets : ℕ) → PlainEntry
-entry_by (Some rule) named number side packets =
-    record { number = number; side = if tells_side rule then side else None; verdict = verdicts.Drop; packets = packets; rules = rule ∷ []; era = None; begun = None; ended = [] }
-entry_by None named number side packets =
-    record { number = number; side = side; verdict = verdict_of named; packets = packets; rules = named; era = None; begun = None; ended = [] }
+-- the frames of a record that is no segment: none where a row drops it
+abbrev pub frames_by : Option Rule → (passed : List ℕ) → List (List ℕ)
+frames_by (Some rule) passed = []
+frames_by None passed = passed ∷ []
 
--- the frames of a record: none where a row drops it, the record octet for octet where no row mends it, and else the mended frame
-abbrev pub frames_by : Option Rule → (named : List Rule) → (read mended : List ℕ) → List (List ℕ)
-frames_by (Some rule) named read mended = []
-frames_by None [] read mended = read ∷ []
-frames_by None (rule ∷ others) read mended = mended ∷ []
+-- the frames of a record, by its segment: those of the segment's packets, among them a probe for one that is dropped; and otherwise its own, where no row
+-- drops it
+abbrev pub frames_with : PlainSettings → Link → Read → Packet → (segment : Option Datagram) → List (List ℕ)
+frames_with settings link read r (Some d) = frames_of (link_octets link r.octets) (outcome_of settings read d).packets
+frames_with settings link read r None =
+    frames_by (dropped_by settings link read r) (frame_by settings (link_octets link r.octets) r.octets read.datagram (named_rows settings link read r))
 
--- the frames that a record has after a history
-abbrev pub emits : PlainSettings → Link → (history : List Item) → Packet → List (List ℕ)
-emits settings link history r =
-    frames_by (dropped_by settings link history r) (named_rows settings link history r) r.octets (mended_frame settings link r.octets)
+abbrev pub emits : PlainSettings → Link → Read → Packet → List (List ℕ)
+emits settings link read r = frames_with settings link read r read.segment
+
+-- a row drops the record; else it is mended by these rows
+abbrev pub verdict_by : Option Rule → (named : List Rule) → Verdict
+verdict_by (Some rule) named = verdicts.Drop
+verdict_by None named = verdict_of named
+
+-- the rule that drops a record is its only one; else the notes stand before the rows that mend it
+abbrev pub rules_by : Option Rule → (noted named : List Rule) → List Rule
+rules_by (Some rule) noted named = rule ∷ []
+rules_by None noted named = noted ++ named
+
+-- a record has no side where a row drops it that comes before the side is known
+abbrev pub side_by : Option Rule → Option Side → Option Side
+side_by (Some rule) side = if tells_side rule then side else None
+side_by None side = side
+
+-- what the outcome of a segment says of eras: the one that it belongs to, the one that begins, and those that end
+abbrev pub era_by : Option Outcome → Option ℕ
+era_by None = None
+era_by (Some outcome) = outcome.era
+
+abbrev pub begun_by : Option Outcome → Option ℕ
+begun_by None = None
+begun_by (Some outcome) = outcome.begun
+
+abbrev pub ended_by : Option Outcome → List Ended
+ended_by None = []
+ended_by (Some outcome) = outcome.ended
+
+-- the item of a record with this number; eras that are idle end before those that the record ends
+abbrev pub item_by : PlainSettings → Link → Read → Packet → (number : ℕ) → Item
+item_by settings link read r number =
+    let dropped = dropped_by settings link read r in
+    let named = named_rows settings link read r in
+    let outcome = option_map (outcome_of settings read) read.segment in
+    record {
+      packet = r;
+      entry = record {
+        number = number;
+        side = side_by dropped (side_of_frame settings link r.octets);
+        verdict = verdict_by dropped named;
+        packets = length (emits settings link read r);
+        rules = rules_by dropped (noted_rows settings link read r) named;
+        era = era_by outcome;
+        begun = begun_by outcome;
+        ended = read.past.idle ++ ended_by outcome;
+      };
+      frames = emits settings link read r;
+    }
 
 -- the one item that a record has after a history
 abbrev pub item_of : PlainSettings → Link → (history : List Item) → Packet → Item
-item_of settings link history r =
-    record {
-      packet = r;
-      entry = entry_by (dropped_by settings link history r) (named_rows settings link history r) (length history + 1) (side_of_frame settings link r.octets) (length (emits settings link history r));
-      frames = emits settings link history r;
-    }
+item_of settings link history r = item_by settings link (read_after settings link history r) r (length history + 1)
 
 -- each item is the one that its record has after the items before it
 abbrev pub Lawful : PlainSettings → Link → List Item → Type 0
 Lawful settings link [] = Unit {0}
 Lawful settings link (item ∷ older) = Lawful settings link older × (item ≡ item_of settings link older item.packet)
-
--- the records of a trace, and its entries, the newest first
-abbrev pub packets : List Item → List Packet
-packets trace = map (λ item. item.packet) trace
-
-abbrev pub entries : List Item → List PlainEntry
-entries trace = map (λ item. item.entry) trace
-
--- Now: the greatest time, in seconds, of all records so far
-abbrev pub now_at : List Item → ℕ
-now_at [] = 0
-now_at (item ∷ older) = max (now_at older) item.packet.seconds

@@ -1,13 +1,20 @@
 //! The engine: each record of a capture is one step.
-use crate::entries::entry_of;
-use crate::judge::judge;
+ghost use Rattle.ip_rules.specs.Datagrams.{AreOctets};
+
+use crate::entries::{blank, tell};
+use crate::judge::{Judgment, judge};
+use crate::segment::take;
 use crate::send::{MAX_PAYLOAD, send};
 use edge_io::{NoMemory, Outbox};
+use ip_rules::laws::datagrams_are_known;
+use ip_rules::write::link_octets;
 use norm_settings::Settings;
 use pcap_file::Record;
 use rule_book::Entry;
 use std::alloc::Global;
 use std::marker::Model;
+use tcp_norm::TcpNorm;
+use tcp_norm::laws::packets_are_its_own;
 use wire_base::Link;
 
 /// Judges the records of a capture, one after another. It takes all its memory when it is opened.
@@ -18,6 +25,8 @@ pub struct Engine {
     records: u32,
     /// The greatest time of the records so far, in seconds.
     latest: u32,
+    /// The connections.
+    norm: TcpNorm,
     /// Room for the payload whose checksum is mended.
     scratch: Vec<u8>,
 }
@@ -25,22 +34,26 @@ pub struct Engine {
 impl Model for Engine {
     ghost use Rattle.std.specs.Prelude.{◌≡◌, vec_len};
     ghost use Rattle.norm_settings.specs.Settings.{plain_settings, AreInRange};
-    ghost use Rattle.norm_engine.specs.Engine.{Engaged};
+    ghost use Rattle.norm_engine.specs.Engine.{Engaged, Kept};
 
     ghost Value = { Engaged };
 
-    ghost view = { λ e. record { settings = plain_settings e.settings; link = e.link; records = e.records; latest = e.latest } };
+    ghost view = { λ e. record { settings = plain_settings e.settings; link = e.link; records = e.records; latest = e.latest; norm = e.norm } };
 
-    ghost invariant = { λ e. AreInRange (plain_settings e.settings) × (vec_len e.scratch ≡ 65515) };
+    ghost invariant = { λ e. AreInRange (plain_settings e.settings) × (vec_len e.scratch ≡ 65515) × ∥ Kept (plain_settings e.settings) e.norm e.records e.latest ∥₁ };
 }
 
 impl Engine {
-    ghost use Rattle.std.specs.Prelude.{◌≡◌, ◌<◌, ◌-◌, ◌^◌, List, [], ◌∷◌, IfOk};
+    ghost use Rattle.std.specs.Prelude.{◌≡◌, ◌<◌, ◌≤◌, ◌-◌, ◌^◌, List, [], ◌∷◌, length, IfOk};
     ghost use Rattle.wire_base.specs.declared.address.Link.TheVariants.{Raw};
     ghost use Rattle.norm_settings.specs.Settings.{plain_settings, AreInRange};
     ghost use Rattle.pcap_file.specs.Reads.{shown};
     ghost use Rattle.rule_book.specs.Entries.{plain};
-    ghost use Rattle.norm_engine.specs.Trace.{Item, item_of};
+    ghost use Rattle.tcp_norm.specs.Calls.{eras};
+    ghost use Rattle.tcp_norm.specs.Held.{held_all};
+    ghost use Rattle.norm_engine.specs.Items.{Item};
+    ghost use Rattle.norm_engine.specs.Calls.{flow_calls};
+    ghost use Rattle.norm_engine.specs.Trace.{item_of};
     ghost use Rattle.norm_engine.specs.Engine.{StandsFor};
 
     /// An engine for records of a raw link, before the first of them.
@@ -51,11 +64,13 @@ impl Engine {
         ensures stands { IfOk result (λ engine. StandsFor engine []) }
     {
         let scratch = vec![in alloc; 0u8; MAX_PAYLOAD]?;
+        let norm = TcpNorm::open(alloc, &settings)?;
         Ok(Engine {
             settings,
             link: Link::Raw,
             records: 0,
             latest: 0,
+            norm,
             scratch,
         })
     }
@@ -75,6 +90,24 @@ impl Engine {
         self.records
     }
 
+    /// How many eras are live.
+    pub fn flows(&self) -> u32
+        ensures number { (history : List Item) → StandsFor self.now history →
+            result ≡ length (eras (flow_calls self.now.settings self.now.link history)) }
+        ensures bounded { result ≤ self.now.settings.flows }
+    {
+        self.norm.flows()
+    }
+
+    /// How many cells hold octets of live eras.
+    pub fn held(&self) -> u32
+        ensures number { (history : List Item) → StandsFor self.now history →
+            result ≡ held_all (flow_calls self.now.settings self.now.link history) }
+        ensures bounded { result ≤ self.now.settings.cells }
+    {
+        self.norm.held()
+    }
+
     /// The entry of this record after all before it; its frames are put into the outbox, in place of what was there. It takes
     /// no memory.
     pub fn step(&mut self, input: &Record<'_>, out: &mut Outbox) -> Entry
@@ -88,19 +121,48 @@ impl Engine {
         ensures stands { (history : List Item) → StandsFor self.old history →
             StandsFor self.new (item_of self.old.settings self.old.link history (shown input.now) ∷ history) }
     {
+        datagrams_are_known();
+        packets_are_its_own();
+        have_octets(input.bytes);
         out.clear();
-        let hops = self.settings.hops;
-        let judgment = judge(&self.settings, self.link, input);
-        send(
-            &judgment,
-            hops,
-            self.link,
-            input.bytes,
-            &mut self.scratch,
-            out,
-        );
         self.latest = self.latest.max(input.seconds);
         self.records += 1;
-        entry_of(self.records, judgment)
+        let mut entry = blank(self.records);
+        self.norm.expire(self.latest, &mut entry);
+        match judge(&self.settings, self.link, &self.norm, input) {
+            Judgment::Segment(packet, head) => {
+                entry.side = Some(packet.side);
+                let link = link_octets(self.link, input.bytes);
+                take(
+                    &mut self.norm,
+                    self.latest,
+                    &packet,
+                    link,
+                    &head,
+                    out,
+                    &mut entry,
+                );
+                entry
+            }
+            judgment => {
+                send(
+                    &judgment,
+                    self.settings.hops,
+                    self.link,
+                    input.bytes,
+                    &mut self.scratch,
+                    out,
+                );
+                tell(judgment, &mut entry);
+                entry
+            }
+        }
     }
+}
+
+// What stands in a buffer of octets is below 256.
+fn have_octets(bytes: &[u8])
+    ensures { AreOctets bytes.now }
+{
+    let _octets = bytes;
 }

@@ -1,5 +1,5 @@
 //! The entry of a record, as it was judged.
-ghost use Rattle.std.specs.Prelude.{◌≡◌};
+ghost use Rattle.std.specs.Prelude.{◌≡◌, None, []};
 ghost use Rattle.rule_book.specs.Entries.{plain};
 ghost use Rattle.norm_engine.specs.Engine as spec;
 
@@ -9,52 +9,62 @@ use ip_rules::Fixes;
 use rule_book::{Entry, Rule, Verdict};
 use wire_base::Side;
 
-/// The entry of the record with this number, which was judged so.
-pub fn entry_of(number: u32, judgment: Judgment<'_>) -> Entry
-    ensures { plain result ≡ spec.entry_for number judgment.entry }
+/// The entry of the record with this number, before it is judged.
+pub fn blank(number: u32) -> Entry
+    ensures { plain result ≡ spec.entry_written number None [] [] }
 {
-    match judgment {
-        Judgment::Arp => written(number, None, Fixes::new()),
-        Judgment::Drop(side, rule) => dropped(number, side, rule),
-        Judgment::Send(packet, _) => written(number, Some(packet.side), packet.fixes),
+    Entry {
+        number,
+        side: None,
+        verdict: Verdict::Pass,
+        packets: 1,
+        rules: ArrayVec::new(),
+        era: None,
+        begun: None,
+        ended: ArrayVec::new(),
     }
 }
 
-// The entry of a record that goes out, mended by these rules.
-fn written(number: u32, side: Option<Side>, rules: Fixes) -> Entry
-    ensures { plain result ≡ spec.entry_written number side rules.items }
+/// Tells the entry of a record that was judged so, and is no segment. It keeps its number and the eras that ended.
+pub fn tell(judgment: Judgment<'_>, entry: &mut Entry)
+    requires era { entry.old.era ≡ None }
+    requires begun { entry.old.begun ≡ None }
+    ensures { plain entry.new ≡ spec.entry_for entry.old.number judgment.entry entry.old.ended.items }
 {
-    let verdict = if rules.is_empty() {
+    match judgment {
+        Judgment::Arp => written(None, Fixes::new(), entry),
+        Judgment::Drop(side, rule) => dropped(side, rule, entry),
+        Judgment::Send(packet, _) => written(Some(packet.side), packet.fixes, entry),
+        Judgment::Segment(packet, _) => written(Some(packet.side), Fixes::new(), entry),
+    }
+}
+
+// Tells that a record goes out, mended by these rules.
+fn written(side: Option<Side>, rules: Fixes, entry: &mut Entry)
+    requires era { entry.old.era ≡ None }
+    requires begun { entry.old.begun ≡ None }
+    ensures { plain entry.new ≡ spec.entry_written entry.old.number side rules.items entry.old.ended.items }
+{
+    entry.verdict = if rules.is_empty() {
         Verdict::Pass
     } else {
         Verdict::Fix
     };
-    Entry {
-        number,
-        side,
-        verdict,
-        packets: 1,
-        rules,
-        era: None,
-        begun: None,
-        ended: ArrayVec::new(),
-    }
+    entry.side = side;
+    entry.packets = 1;
+    entry.rules = rules;
 }
 
-// The entry of a record that a row drops.
-fn dropped(number: u32, side: Option<Side>, rule: Rule) -> Entry
-    ensures { plain result ≡ spec.entry_dropped number side rule }
+// Tells that a row drops a record.
+fn dropped(side: Option<Side>, rule: Rule, entry: &mut Entry)
+    requires era { entry.old.era ≡ None }
+    requires begun { entry.old.begun ≡ None }
+    ensures { plain entry.new ≡ spec.entry_dropped entry.old.number side rule entry.old.ended.items }
 {
     let mut rules = ArrayVec::new();
     rules.push(rule);
-    Entry {
-        number,
-        side,
-        verdict: Verdict::Drop,
-        packets: 0,
-        rules,
-        era: None,
-        begun: None,
-        ended: ArrayVec::new(),
-    }
+    entry.side = side;
+    entry.verdict = Verdict::Drop;
+    entry.packets = 0;
+    entry.rules = rules;
 }

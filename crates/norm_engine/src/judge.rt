@@ -1,19 +1,26 @@
-//! What becomes of a record: the rows of all layers, in the order of their numbers.
-ghost use Rattle.std.specs.Prelude.{◌≡◌, ◌<◌, ◌≤◌, ◌^◌, ◌&&◌, not, All, length, Some};
-ghost use Rattle.norm_settings.specs.Settings.{plain_settings};
+//! What becomes of a record by the rows before those of eras, in the order of testing.
+ghost use Rattle.std.specs.Prelude.{◌≡◌, ◌<◌, ◌≤◌, ◌^◌, ◌==◌, ◌&&◌, ◌||◌, not, true, ℕ, List, All, length, Some};
+ghost use Rattle.norm_settings.specs.Settings.{PlainSettings, plain_settings};
 ghost use Rattle.pcap_file.specs.Reads.{shown};
+ghost use Rattle.icmp_codec.specs.Quote.{quoted_in};
 ghost use Rattle.tcp_codec.specs.Header.{is_judged};
-ghost use Rattle.dgram_rules.specs.Rows.{message_of, is_outward};
+ghost use Rattle.ip_rules.specs.Datagrams.{datagram_with, goes_in};
+ghost use Rattle.tcp_norm.specs.Calls.{Call};
+ghost use Rattle.tcp_norm.specs.Standing as flows;
+ghost use Rattle.norm_engine.specs.Calls.{Past};
+ghost use Rattle.norm_engine.specs.Trace.{is_quoted_live};
 ghost use Rattle.norm_engine.specs.Engine as spec;
 
 use dgram_rules::laws::{icmp_tells_the_rows, others_have_no_row, udp_tells_the_rows};
 use dgram_rules::{DgramJudged, judge_icmp, judge_udp};
+use icmp_codec::quoted;
 use ip_rules::{IpJudged, IpPacket, judge_ip};
 use norm_settings::Settings;
 use pcap_file::Record;
 use rule_book::Rule;
-use tcp_codec::{SumRule, TcpFault};
-use wire_base::{Link, Side, pseudo_sum};
+use tcp_codec::{SumRule, Tcp, TcpFault};
+use tcp_norm::TcpNorm;
+use wire_base::{FlowKey, Link, Side, pseudo_sum};
 
 // The protocol numbers of ICMP (RFC 792) and UDP (RFC 768).
 const ICMP: u8 = 1;
@@ -29,73 +36,129 @@ pub enum Judgment<'a> {
     Drop(Option<Side>, Rule),
     /// Its packet goes out, mended by the rows that it names; the flag says whether its UDP checksum is mended.
     Send(IpPacket<'a>, bool),
+    /// It is a TCP segment with this header, of which its connection decides.
+    Segment(IpPacket<'a>, Tcp),
 }
 
-/// Judges a record by the rows of all layers.
-pub fn judge<'a>(settings: &Settings, link: Link, input: &Record<'a>) -> Judgment<'a>
+/// What becomes of a whole datagram.
+#[derive(Debug, Drop)]
+pub enum Judged {
+    /// No row holds.
+    Pass,
+    /// It goes out with its UDP checksum mended.
+    Mend,
+    /// This row drops it.
+    Drop(Rule),
+    /// It is a TCP segment with this header.
+    Segment(Tcp),
+}
+
+/// Judges a record by the rows before those of eras.
+pub fn judge<'a>(
+    settings: &Settings,
+    link: Link,
+    norm: &TcpNorm,
+    input: &Record<'a>,
+) -> Judgment<'a>
     requires { All (λ prefix. prefix.len ≤ 32) settings.now.prefixes.items }
-    ensures { spec.Judges (plain_settings settings.now) link (shown input.now) result }
+    ensures read { spec.SegmentIsRead result }
+    ensures rows { (past : Past) → flows.StandsFor (plain_settings settings.now) norm.now past.calls →
+        spec.Judges (plain_settings settings.now) link (spec.read_with (plain_settings settings.now) link past (shown input.now)) (shown input.now) result }
 {
-    udp_tells_the_rows();
-    icmp_tells_the_rows();
-    others_have_no_row();
     match judge_ip(settings, link, input) {
         IpJudged::Arp => Judgment::Arp,
         IpJudged::Drop(side, rule) => Judgment::Drop(side, rule),
         IpJudged::Piece(packet) => Judgment::Drop(Some(packet.side), Rule::XLater),
         IpJudged::Whole(packet) => {
-            let judged = judge_datagram(settings, &packet);
+            let judged = judge_datagram(settings, norm, &packet);
             joined(packet, judged)
         }
     }
 }
 
 // The judgment on a whole packet whose datagram is judged so.
-fn joined(packet: IpPacket<'_>, judged: DgramJudged) -> Judgment<'_>
+fn joined(packet: IpPacket<'_>, judged: Judged) -> Judgment<'_>
     requires { length packet.fixes.items < 16 }
     ensures { result ≡ spec.joined packet.entry judged }
 {
     match judged {
-        DgramJudged::Pass => Judgment::Send(packet, false),
-        DgramJudged::Drop(rule) => Judgment::Drop(Some(packet.side), rule),
-        DgramJudged::Mend => {
+        Judged::Pass => Judgment::Send(packet, false),
+        Judged::Drop(rule) => Judgment::Drop(Some(packet.side), rule),
+        Judged::Mend => {
             let mut packet = packet;
             packet.fixes.push(Rule::USumOut);
             Judgment::Send(packet, true)
         }
+        Judged::Segment(head) => Judgment::Segment(packet, head),
     }
 }
 
 // What becomes of the datagram that a whole packet is.
-fn judge_datagram(settings: &Settings, packet: &IpPacket<'_>) -> DgramJudged
+fn judge_datagram(settings: &Settings, norm: &TcpNorm, packet: &IpPacket<'_>) -> Judged
     requires prefixes { All (λ prefix. prefix.len ≤ 32) settings.now.prefixes.items }
+    requires known { ((packet.now.head.protocol == 1) || (packet.now.head.protocol == 6) || (packet.now.head.protocol == 17)) ≡ true }
     requires size { length packet.now.payload.now < 2 ^ 16 }
-    ensures { result ≡ spec.datagram_judged (plain_settings settings.now) (message_of packet.now) }
+    ensures read { (header : List ℕ) → spec.HeadIsRead (datagram_with header packet.now) result }
+    ensures rows { (calls : List Call) (header : List ℕ) → flows.StandsFor (plain_settings settings.now) norm.now calls →
+        spec.Follows (plain_settings settings.now) (is_quoted_live calls (quoted_in packet.now.payload.now)) (datagram_with header packet.now) result }
 {
+    udp_tells_the_rows();
+    icmp_tells_the_rows();
+    others_have_no_row();
     match packet.head.protocol {
-        UDP => judge_udp(settings, packet),
-        ICMP => judge_icmp(settings, packet, false),
-        _ => DgramJudged::Drop(segment_row(settings, packet)),
+        UDP => of_rows(judge_udp(settings, packet)),
+        ICMP => {
+            let live = quotes_live(norm, packet.payload);
+            of_rows(judge_icmp(settings, packet, live))
+        }
+        _ => read_segment(settings, packet),
     }
 }
 
-// The row that drops a TCP segment: the first on its header that holds, and else X_LATER, since no row that judges a whole segment is built.
-fn segment_row(settings: &Settings, packet: &IpPacket<'_>) -> Rule
+// The judgment of the rows on UDP and ICMP.
+fn of_rows(judged: DgramJudged) -> Judged
+    ensures { result ≡ spec.of_rows judged }
+{
+    match judged {
+        DgramJudged::Pass => Judged::Pass,
+        DgramJudged::Mend => Judged::Mend,
+        DgramJudged::Drop(rule) => Judged::Drop(rule),
+    }
+}
+
+// Whether an era is live for the connection that an ICMP error quotes.
+fn quotes_live(norm: &TcpNorm, message: &[u8]) -> bool
+    ensures { (settings : PlainSettings) (calls : List Call) → flows.StandsFor settings norm.now calls →
+        result ≡ is_quoted_live calls (quoted_in message.now) }
+{
+    let Some(quote) = quoted(message) else {
+        return false;
+    };
+    norm.live(&FlowKey {
+        outside: quote.dst,
+        outside_port: quote.dport,
+        inside: quote.src,
+        inside_port: quote.sport,
+    })
+}
+
+// The header of a TCP segment, or the first row on it that holds.
+fn read_segment(settings: &Settings, packet: &IpPacket<'_>) -> Judged
     requires { length packet.now.payload.now < 2 ^ 16 }
-    ensures { result ≡ spec.segment_row (plain_settings settings.now) (message_of packet.now) }
+    ensures { (header : List ℕ) → spec.IsReadSegment (plain_settings settings.now) (datagram_with header packet.now) result }
 {
     let size = packet.payload.len() as u16;
     let pseudo = pseudo_sum(packet.head.src, packet.head.dst, packet.head.protocol, size);
     let rule = sum_rule(settings, packet.side);
     match tcp_codec::parse(packet.payload, pseudo, rule) {
-        Ok(_) => Rule::XLater,
-        Err(fault) => rule_of(fault),
+        Ok(head) => Judged::Segment(head),
+        Err(fault) => Judged::Drop(rule_of(fault)),
     }
 }
 
 // Whether the sum of a segment must be right: not where it goes outward and sums are left to the sender's interface.
 fn sum_rule(settings: &Settings, side: Side) -> SumRule
-    ensures { is_judged result ≡ not (is_outward (Some side) && settings.now.offload) }
+    ensures { is_judged result ≡ not (not (goes_in side) && settings.now.offload) }
 {
     match side {
         Side::Outward if settings.offload => SumRule::Skip,

@@ -1,24 +1,85 @@
 //! Laws of lawful traces.
-ghost use Rattle.norm_engine.specs.Laws.{LawfulAgrees, LawfulIsOne, LawfulKeepsClean, LeftIsLater};
+ghost use Rattle.norm_engine.specs.Laws.{FragmentsAreLater, ItemsAreCounted, LawfulAgrees, LawfulCallsAreMade, LawfulIsOne, LawfulIsWithin, LawfulKeepsClean, LawfulLeavesRoom, LawfulTellsStreams};
 
-/// In every lawful trace of records of octets each clean record has exactly one frame, with its payload; where the verdict is pass, the frame is
-/// the record octet for octet.
-pub fn lawful_keeps_clean()
-    ensures { LawfulKeepsClean }
+use era_agreement::laws::{emitted_agrees, emitted_tells_one_stream};
+use ip_rules::laws::{anew_is_packet, datagrams_are_known};
+use tcp_norm::laws::{
+    calls_are_emitted, clean_keeps_payload, flows_are_bounded, held_is_bounded,
+    packets_are_its_own, packets_are_plain, probes_are_silent, quota_leaves_room,
+};
+
+/// An entry counts the frames of its item, of which there are two at the most, and tells each era that ended with its octets.
+pub fn items_are_counted()
+    ensures { ItemsAreCounted }
 {}
 
-/// Records have one lawful trace, whatever the seed of the tables' hashes.
+/// In every lawful trace each clean record has exactly one frame, with its payload; where the verdict is pass, the frame is the record octet for octet.
+pub fn lawful_keeps_clean()
+    ensures { LawfulKeepsClean }
+{
+    datagrams_are_known();
+    anew_is_packet();
+    packets_are_its_own();
+    clean_keeps_payload();
+}
+
+/// Records have at most one lawful trace, whatever the seed of the tables' hashes.
 pub fn lawful_is_one()
     ensures { LawfulIsOne }
 {}
 
-/// In each era of every lawful trace all receivers of the family agree on the frames written inwards. No row that begins an era
-/// is built yet, so that no entry names one.
+/// The calls of a lawful trace are those that the rules make of its segments.
+pub fn lawful_calls_are_made()
+    ensures { LawfulCallsAreMade }
+{
+    datagrams_are_known();
+    packets_are_its_own();
+}
+
+/// At every history of a lawful trace no more eras are live, and no more blocks hold octets, than the settings allow.
+pub fn lawful_is_within()
+    ensures { LawfulIsWithin }
+{
+    lawful_calls_are_made();
+    flows_are_bounded();
+    held_is_bounded();
+}
+
+/// Where a quota is set and there are as many cells as all eras may hold together, no entry names `T_ROOM`.
+pub fn lawful_leaves_room()
+    ensures { LawfulLeavesRoom }
+{
+    lawful_calls_are_made();
+    quota_leaves_room();
+}
+
+/// In each era of every lawful trace all receivers of the family agree on the frames written inwards.
 pub fn lawful_agrees()
     ensures { LawfulAgrees }
-{}
+{
+    datagrams_are_known();
+    packets_are_its_own();
+    packets_are_plain();
+    probes_are_silent();
+    calls_are_emitted();
+    emitted_agrees();
+    lawful_calls_are_made();
+}
 
-/// What the rows leave to the state of connections, or of fragments, is dropped under `X_LATER`: neither is built yet.
-pub fn left_is_later()
-    ensures { LeftIsLater }
+/// In each era of a lawful trace the frames written inwards tell one stream: the octets that were written first at their places, and the era's end.
+pub fn lawful_tells_streams()
+    ensures { LawfulTellsStreams }
+{
+    datagrams_are_known();
+    packets_are_its_own();
+    packets_are_plain();
+    probes_are_silent();
+    calls_are_emitted();
+    emitted_tells_one_stream();
+    lawful_calls_are_made();
+}
+
+/// `X_LATER` drops exactly the fragments that no row on the link, the header and the protocol drops.
+pub fn fragments_are_later()
+    ensures { FragmentsAreLater }
 {}

@@ -5,6 +5,7 @@ pub mod engine;
 mod entries;
 mod judge;
 pub mod laws;
+mod segment;
 mod send;
 
 pub use engine::Engine;

@@ -1,4 +1,4 @@
-//! Steps of an engine, over TCP segments and a datagram whose checksum is mended.
+//! Steps of an engine over TCP segments: the rows on their header, and an engine that follows as many connections as it may.
 ghost use Rattle.norm_settings.specs.Settings.{plain_settings, AreInRange};
 
 use super::Engine;
@@ -6,9 +6,9 @@ use arrayvec::ArrayVec;
 use edge_io::Outbox;
 use norm_settings::Settings;
 use pcap_file::Record;
-use rule_book::{Rule, Verdict};
+use rule_book::{Entry, Rule, Verdict};
 use std::test::Fail;
-use wire_base::{Addr, Link, Prefix};
+use wire_base::{Addr, Link, Prefix, pseudo_sum, put_u16, sum_for};
 
 /// A SYN (RFC 9293) from 198.51.100.7 port 40000 to 10.0.0.1 port 80 with sequence 999 and window 8192.
 const SYN: [u8; 40] = [
@@ -17,11 +17,12 @@ const SYN: [u8; 40] = [
     0x50, 0x02, 0x20, 0x00, 0xbb, 0x2f, 0x00, 0x00,
 ];
 
-/// Octets at some places of the SYN, whether checksums are left to the interface, and the row that drops it.
+/// Octets at some places of the SYN, and whether checksums are left to the interface; what becomes of it, and under which rows.
 struct Row {
     changes: &'static [(usize, u8)],
     offload: bool,
-    rule: Rule,
+    verdict: Verdict,
+    rules: &'static [Rule],
 }
 
 /// From 10.0.0.1 to 198.51.100.7, with another checksum.
@@ -39,14 +40,14 @@ const WRONG_OUTWARD: &[(usize, u8)] = &[
 
 #[rattlefmt::skip]
 const ROWS: [Row; 8] = [
-    Row { changes: &[], offload: false, rule: Rule::XLater },
-    Row { changes: &[(37, 0x2e)], offload: false, rule: Rule::TSum },
-    Row { changes: &[(37, 0x2e)], offload: true, rule: Rule::TSum },
-    Row { changes: WRONG_OUTWARD, offload: false, rule: Rule::TSum },
-    Row { changes: WRONG_OUTWARD, offload: true, rule: Rule::XLater },
-    Row { changes: &[(33, 3), (37, 0x2e)], offload: false, rule: Rule::TFlags },
-    Row { changes: &[(32, 0x40)], offload: false, rule: Rule::THlen },
-    Row { changes: &[(32, 0x60)], offload: false, rule: Rule::THlen },
+    Row { changes: &[], offload: false, verdict: Verdict::Pass, rules: &[] },
+    Row { changes: &[(37, 0x2e)], offload: false, verdict: Verdict::Drop, rules: &[Rule::TSum] },
+    Row { changes: &[(37, 0x2e)], offload: true, verdict: Verdict::Drop, rules: &[Rule::TSum] },
+    Row { changes: WRONG_OUTWARD, offload: false, verdict: Verdict::Drop, rules: &[Rule::TSum] },
+    Row { changes: WRONG_OUTWARD, offload: true, verdict: Verdict::Fix, rules: &[Rule::TSumOut] },
+    Row { changes: &[(33, 3), (37, 0x2e)], offload: false, verdict: Verdict::Drop, rules: &[Rule::TFlags] },
+    Row { changes: &[(32, 0x40)], offload: false, verdict: Verdict::Drop, rules: &[Rule::THlen] },
+    Row { changes: &[(32, 0x60)], offload: false, verdict: Verdict::Drop, rules: &[Rule::THlen] },
 ];
 
 fn settings(offload: bool) -> Settings
@@ -62,32 +63,104 @@ fn settings(offload: bool) -> Settings
     settings
 }
 
+/// Memory for as many eras as there may be.
+fn widest() -> Settings
+    ensures { AreInRange (plain_settings result) }
+{
+    let mut settings = settings(false);
+    settings.flows = 65_536;
+    settings
+}
+
+/// What becomes of this packet, captured whole at time 0.
+fn step(engine: &mut Engine, packet: &[u8; 40], out: &mut Outbox) -> Option<Entry> {
+    if engine.records() == u32::MAX {
+        return None;
+    }
+    let input = Record {
+        seconds: 0,
+        fraction: 0,
+        original: 40,
+        offset: 24,
+        bytes: packet,
+    };
+    Some(engine.step(&input, out))
+}
+
+/// Whether an entry says so, with the first era begun exactly where a frame goes out.
+fn is_first(entry: &Entry, row: &Row) -> bool {
+    let frames = u8::from(row.verdict != Verdict::Drop);
+    let era = if frames == 1 { Some(1) } else { None };
+    let told = entry.number == 1 && entry.verdict == row.verdict && entry.packets == frames;
+    let rules = entry.rules.as_slice() == row.rules;
+    let eras = entry.era == era && entry.begun == era && entry.ended.is_empty();
+    told && rules && eras
+}
+
 #[test]
 fn segments_are_judged_by_their_header(rt: HostRuntime) -> Result<(), Fail> {
-    for row in &ROWS {
+    for (number, row) in ROWS.iter().enumerate() {
         let mut packet = SYN;
         for (at, octet) in row.changes {
             if let Some(place) = packet.get_mut(*at) {
                 *place = *octet;
             }
         }
-        let input = Record {
-            seconds: 0,
-            fraction: 0,
-            original: 40,
-            offset: 24,
-            bytes: &packet,
-        };
         let mut out = Outbox::open(rt.alloc()).ok().ok_or("no memory")?;
         let mut engine = Engine::open(rt.alloc(), settings(row.offload))
             .ok()
             .ok_or("no memory")?;
-        engine.set_link(Link::Raw);
-        let entry = engine.step(&input, &mut out);
-        assert_eq!(rt; entry.number, 1);
-        assert_eq!(rt; entry.verdict, Verdict::Drop);
-        assert_eq!(rt; entry.rules.as_slice(), [row.rule].as_slice());
-        assert_eq!(rt; out.frames(), 0);
+        let entry = step(&mut engine, &packet, &mut out).ok_or("no record")?;
+        assert!(rt; is_first(&entry, row), "row {number}");
+        assert_eq!(rt;
+            out.frames(),
+            usize::from(row.verdict != Verdict::Drop),
+            "row {number}"
+        );
+    }
+    Ok(())
+}
+
+/// The SYN from this port.
+fn syn_from(port: u16) -> [u8; 40] {
+    let mut packet = SYN;
+    put_u16(&mut packet, 20, port);
+    put_u16(&mut packet, 36, 0);
+    let sum = sum_for(
+        &packet[20..],
+        pseudo_sum(Addr(0xc633_6407), Addr(0x0a00_0001), 6, 20),
+    );
+    put_u16(&mut packet, 36, sum);
+    packet
+}
+
+/// Whether the SYN from this port passes under no row, in the era that it begins, or that it began before.
+fn passes(engine: &mut Engine, port: u16, begins: bool, out: &mut Outbox) -> bool {
+    let Some(entry) = step(engine, &syn_from(port), out) else {
+        return false;
+    };
+    let era = Some(u32::from(port) + 1);
+    let begun = if begins { era } else { None };
+    let told = entry.verdict == Verdict::Pass && entry.packets == 1 && entry.rules.is_empty();
+    told && entry.era == era && entry.begun == begun && entry.ended.is_empty()
+}
+
+// Each step does work that does not grow with the number of eras.
+#[test]
+fn a_full_engine_finds_each_era(rt: HostRuntime) -> Result<(), Fail> {
+    let mut out = Outbox::open(rt.alloc()).ok().ok_or("no memory")?;
+    let mut engine = Engine::open(rt.alloc(), widest()).ok().ok_or("no memory")?;
+    for port in 0..=65_535u16 {
+        assert!(rt; passes(&mut engine, port, true, &mut out), "{port}");
+    }
+    let mut state = 7u64;
+    for _ in 0..4_000_000 {
+        state = state
+            .wrapping_mul(6_364_136_223_846_793_005)
+            .wrapping_add(1_442_695_040_888_963_407);
+        let port = ((state >> 33) % 65_536) as u16;
+        assert!(rt; passes(&mut engine, port, false, &mut out), "{port}");
+        assert_eq!(rt; engine.flows(), 65_536);
     }
     Ok(())
 }

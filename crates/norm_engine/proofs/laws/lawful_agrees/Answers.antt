@@ -1,5 +1,13 @@
-use Rattle.norm_engine.proofs.Agreeing.{all_agree}
+use Rattle.norm_engine.proofs.Agreeing.{agrees}
+use Rattle.norm_engine.proofs.Joined.{rows_are_of_eras}
 use Rattle.norm_engine.proofs.laws.lawful_agrees.Goals as goal
 
 pub returns : goal.returns
-returns c = all_agree
+returns c =
+    agrees (record {
+      rows = rows_are_of_eras;
+      known = c.datagrams_are_known.ensures;
+      own = c.packets_are_its_own.ensures;
+      plain = c.packets_are_plain.ensures;
+      silent = c.probes_are_silent.ensures;
+    }) c.calls_are_emitted.ensures c.emitted_agrees.ensures c.lawful_calls_are_made.ensures

@@ -1,0 +1,203 @@
+-- The item of a record, as it was judged.
+use Rattle.std.proofs.Common.{◌≡◌, ℕ, ◌≤◌, Bool, true, false, cond, ◌&&◌, not, List, [], ◌∷◌, ◌++◌, length, map, find, filter, Option, Some, None, refl, sym, ap, ap₂, subst, ◌∙◌}
+use Rattle.std.specs.Prelude.{option_map}
+use Rattle.std.specs.List.{AllByRecursion}
+use Rattle.std.proofs.lemmas.List.{append-nil, length-map}
+use Rattle.std.proofs.lemmas.List.Elements.{filter-append}
+use Rattle.wire_base.specs.declared.address.Link.{Link}
+use Rattle.wire_base.specs.declared.address.Link.TheVariants.{Ethernet}
+use Rattle.wire_base.specs.declared.address.Side.{Side}
+use Rattle.wire_base.specs.Segments.{Written}
+use Rattle.pcap_file.specs.Records as records
+use Rattle.tcp_codec.specs.declared.header.Tcp.{Tcp}
+use Rattle.rule_book.specs.declared.rule.Rule.{Rule}
+use Rattle.rule_book.specs.declared.rule.Rule.TheVariants as rules
+use Rattle.rule_book.specs.declared.entry.Entry.{Entry}
+use Rattle.rule_book.specs.declared.entry.Ended.{Ended}
+use Rattle.rule_book.specs.Entries.{plain}
+use Rattle.rule_book.specs.Rules.{era_rows}
+use Rattle.norm_settings.specs.Settings.{PlainSettings}
+use Rattle.ip_rules.specs.declared.judged.IpPacket.{IpPacket}
+use Rattle.ip_rules.specs.Rows.{link_octets, tells_side}
+use Rattle.ip_rules.specs.Datagrams.{Datagram, IsPacketOf, frame_of, frames_of, goes_in}
+use Rattle.tcp_norm.specs.Calls.{Call, expiry, segments}
+use Rattle.tcp_norm.specs.Views.{view_of, idle_at}
+use Rattle.tcp_norm.specs.Steps.{idled}
+use Rattle.tcp_norm.specs.Rows as era
+use Rattle.tcp_norm.specs.Outcomes.{call_of}
+use Rattle.tcp_norm.specs.Passing.{Reports}
+use Rattle.norm_engine.specs.declared.judge.Judgment.{Judgment}
+use Rattle.norm_engine.specs.declared.judge.Judgment.TheVariants.{Arp, Drop, Send, Segment}
+use Rattle.norm_engine.specs.Items.{Item, now_with}
+use Rattle.norm_engine.specs.Rows.{side_of_frame}
+use Rattle.norm_engine.specs.Calls.{past_of, outcome_in, with_asked, flow_calls, is_idle, packet_of}
+use Rattle.norm_engine.specs.Trace.{Read, read_after, holds, holds_of, dropped_by, noted_rows, named_rows, outcome_of, frames_with, frames_by, emits, verdict_by, rules_by, side_by, era_by, begun_by, ended_by, item_by, item_of}
+use Rattle.norm_engine.specs.Frames.{frame_by}
+use Rattle.norm_engine.specs.Engine.{IsTaken, Judges, entry_for}
+use Rattle.norm_engine.proofs.Reading.{packets_back, idle_kept, idle_left, idle_numbers, outcome_other, verdict_back, rules_back}
+
+-- what is found passes the test of all
+pub found_of : {A : Type 0} (P : A → Type 0) (f : A → Bool) (xs : List A) (x : A) → AllByRecursion P xs → find f xs ≡ Some x → P x
+found_of P f [] x all h = absurd (cc)
+found_of P f (y ∷ ys) x all h = by (found_of P f ys x all.1) (f y) h
+  where
+    by : (find f ys ≡ Some x → P x) → (b : Bool) → cond b (Some y) (find f ys) ≡ Some x → P x
+    by rest true here = let same : y ≡ x = cc in subst P same all.0
+    by rest false later = rest later
+
+-- the side is told of a record that a row on eras drops
+pub era_told : (settings : PlainSettings) (calls : List Call) (d : Datagram) (rule : Rule) → era.dropped_by settings (view_of settings calls d) d ≡ Some rule → tells_side rule ≡ true
+era_told settings calls d rule h = by (goes_in d.side) h
+  where
+    by : (inward : Bool) → cond inward (find (era.holds_era settings (view_of settings calls d) d) era_rows) None ≡ Some rule → tells_side rule ≡ true
+    by true here = found_of (λ x. tells_side x ≡ true) (era.holds_era settings (view_of settings calls d) d) era_rows rule (refl, (refl, (refl, (refl, (refl, (refl, (refl, tt))))))) here
+    by false here = absurd (cc)
+
+pub sides : (dropped : Option Rule) (side : Option Side) → ((rule : Rule) → dropped ≡ Some rule → tells_side rule ≡ true) → side_by dropped side ≡ side
+sides None side told = refl
+sides (Some rule) side told = ap (λ b. cond b side None) (told rule refl)
+
+-- the rows of a segment are those of its connection
+pub record AreOfEra (settings : PlainSettings) (link : Link) (read : Read) (r : records.Packet) (d : Datagram) : Type 0 where
+  pub segment : read.segment ≡ Some d
+  pub dropped : dropped_by settings link read r ≡ era.dropped_by settings (view_of settings read.past.calls d) d
+  pub noted : noted_rows settings link read r ≡ era.noted (view_of settings read.past.calls d) d
+  pub named : named_rows settings link read r ≡ d.fixes ++ era.mended_by settings (view_of settings read.past.calls d) d
+
+pub taken_rows : (settings : PlainSettings) (link : Link) (read : Read) (r : records.Packet) (packet : IpPacket) (head : Tcp) (t : IsTaken settings link read r packet head) → AreOfEra settings link read r t.own
+taken_rows settings link read r packet head t = record { segment = t.segment; dropped = t.dropped; noted = t.noted; named = t.named }
+
+-- the frames, the verdict and the rules of a segment's item are those of its outcome
+
+pub segment_frames : (settings : PlainSettings) (link : Link) (read : Read) (r : records.Packet) (d : Datagram) → AreOfEra settings link read r d
+    → emits settings link read r ≡ frames_of (link_octets link r.octets) (outcome_of settings read d).packets
+segment_frames settings link read r d t = ap (frames_with settings link read r) t.segment
+
+pub segment_verdict : (settings : PlainSettings) (link : Link) (read : Read) (r : records.Packet) (d : Datagram) → AreOfEra settings link read r d
+    → verdict_by (dropped_by settings link read r) (named_rows settings link read r) ≡ (outcome_of settings read d).verdict
+segment_verdict settings link read r d t =
+    let v = view_of settings read.past.calls d in
+    ap₂ verdict_by t.dropped t.named ∙ verdict_back settings v d (era.dropped_by settings v d) (era.mended_by settings v d)
+
+pub segment_rules : (settings : PlainSettings) (link : Link) (read : Read) (r : records.Packet) (d : Datagram) → AreOfEra settings link read r d
+    → rules_by (dropped_by settings link read r) (noted_rows settings link read r) (named_rows settings link read r) ≡ (outcome_of settings read d).rules
+segment_rules settings link read r d t =
+    let v = view_of settings read.past.calls d in
+    (λ i. rules_by (t.dropped i) (t.noted i) (t.named i)) ∙ rules_back settings v d (era.dropped_by settings v d) (era.mended_by settings v d)
+
+-- the entry of a segment
+pub segment_entry : (settings : PlainSettings) (link : Link) (read : Read) (r : records.Packet) (packet : IpPacket) (head : Tcp) (number : ℕ) (old new : Entry)
+    → (t : IsTaken settings link read r packet head) → old.number ≡ number → old.side ≡ Some packet.side → old.ended.items ≡ read.past.idle
+    → Reports old new (outcome_of settings read t.own) → plain new ≡ (item_by settings link read r number).entry
+segment_entry settings link read r packet head number old new t counted sided idle says =
+    let d = t.own in
+    let rows = taken_rows settings link read r packet head t in
+    let o = outcome_of settings read d in
+    let side : Some packet.side ≡ side_by (dropped_by settings link read r) (side_of_frame settings link r.octets) =
+    sym (sides (dropped_by settings link read r) (side_of_frame settings link r.octets) (λ rule h. era_told settings read.past.calls d rule (sym t.dropped ∙ h)) ∙ t.told) in
+    let packets : length o.packets ≡ length (emits settings link read r) =
+    sym (ap length (segment_frames settings link read r d rows) ∙ length-map o.packets (frame_of (link_octets link r.octets))) in
+    let told : Some o ≡ option_map (outcome_of settings read) read.segment = sym (ap (option_map (outcome_of settings read)) t.segment) in
+    λ i. record {
+      number = (says.number ∙ counted) i;
+      side = (says.side ∙ sided ∙ side) i;
+      verdict = (says.verdict ∙ sym (segment_verdict settings link read r d rows)) i;
+      packets = (says.packets ∙ packets) i;
+      rules = (says.rules ∙ sym (segment_rules settings link read r d rows)) i;
+      era = (says.era ∙ ap era_by told) i;
+      begun = (says.begun ∙ ap begun_by told) i;
+      ended = (says.ended ∙ ap₂ (λ xs ys. xs ++ ys) idle (ap ended_by told)) i;
+    }
+
+-- no note stands where there is no segment
+pub nothing_noted : (settings : PlainSettings) (link : Link) (read : Read) (r : records.Packet) → read.segment ≡ None → noted_rows settings link read r ≡ []
+unfolding noted_rows
+nothing_noted settings link read r none =
+    ap (λ (segment : Option Datagram). cond (holds_of segment (λ d. not (goes_in d.side)) && holds settings link read r rules.TFull) (rules.TFull ∷ []) []) none
+
+-- what an item without segment says of eras
+era_none : (settings : PlainSettings) (read : Read) → read.segment ≡ None → option_map (outcome_of settings read) read.segment ≡ None
+era_none settings read none = ap (option_map (outcome_of settings read)) none
+
+pub plain_frames : (settings : PlainSettings) (link : Link) (read : Read) (r : records.Packet) → read.segment ≡ None
+    → emits settings link read r ≡ frames_by (dropped_by settings link read r) (frame_by settings (link_octets link r.octets) r.octets read.datagram (named_rows settings link read r))
+plain_frames settings link read r none = ap (frames_with settings link read r) none
+
+-- the entry of a record that is no segment, by its row and the rows that mend it
+plain_entry : (settings : PlainSettings) (link : Link) (read : Read) (r : records.Packet) (number : ℕ) (dropped : Option Rule) (named : List Rule) (side : Option Side)
+    → read.segment ≡ None → dropped_by settings link read r ≡ dropped → named_rows settings link read r ≡ named → side_by dropped (side_of_frame settings link r.octets) ≡ side
+    → (item_by settings link read r number).entry
+    ≡ record { number = number; side = side; verdict = verdict_by dropped named; packets = length (frames_by dropped (r.octets)); rules = rules_by dropped [] named; era = None; begun = None; ended = read.past.idle }
+plain_entry settings link read r number dropped named side none d n s =
+    λ i. record {
+      number = number;
+      side = (ap (λ x. side_by x (side_of_frame settings link r.octets)) d ∙ s) i;
+      verdict = verdict_by (d i) (n i);
+      packets = (ap length (plain_frames settings link read r none) ∙ (counts (dropped_by settings link read r) _ ∙ ap (λ x. length (frames_by x r.octets)) d)) i;
+      rules = rules_by (d i) (nothing_noted settings link read r none i) (n i);
+      era = era_by (era_none settings read none i);
+      begun = begun_by (era_none settings read none i);
+      ended = (ap (λ o. read.past.idle ++ ended_by o) (era_none settings read none) ∙ append-nil read.past.idle) i;
+    }
+  where
+    counts : (x : Option Rule) (frame : List ℕ) → length (frames_by x frame) ≡ length (frames_by x r.octets)
+    counts None frame = refl
+    counts (Some rule) frame = refl
+
+pub other_entry : (settings : PlainSettings) (link : Link) (read : Read) (r : records.Packet) (number : ℕ) (judgment : Judgment) → Judges settings link read r judgment
+    → read.segment ≡ None → entry_for number judgment read.past.idle ≡ (item_by settings link read r number).entry
+other_entry settings link read r number Arp j none =
+    sym (plain_entry settings link read r number None [] None none j.undropped j.named j.side)
+other_entry settings link read r number (Drop side rule) j none =
+    sym (plain_entry settings link read r number (Some rule) (named_rows settings link read r) side none j.dropped refl (sym j.side))
+other_entry settings link read r number (Send packet mend) j none =
+    sym (plain_entry settings link read r number None packet.fixes.items (Some packet.side) none j.undropped j.named j.told)
+other_entry settings link read r number (Segment packet head) j none = let no = sym j.segment ∙ none in absurd (cc)
+
+-- the calls of a history with an item
+
+pub segment_calls : (settings : PlainSettings) (link : Link) (history : List Item) (r : records.Packet) (d : Datagram)
+    → (link ≡ Ethernet → 14 ≤ length r.octets) → AreOfEra settings link (read_after settings link history r) r d
+    → AllByRecursion (IsPacketOf settings d) (outcome_of settings (read_after settings link history r) d).packets
+    → flow_calls settings link (item_of settings link history r ∷ history)
+    ≡ call_of settings (past_of settings link history r).calls (now_with history r) d ∷ (past_of settings link history r).calls
+segment_calls settings link history r d long rows own =
+    let read = read_after settings link history r in
+    let item = item_of settings link history r in
+    let o = outcome_of settings read d in
+    let calls = flow_calls settings link history in
+    let now = now_with history r in
+    let numbers = idle_at settings now calls in
+    let segments_at : ℕ → List Written = λ n. segments n calls in
+    let told : option_map (outcome_of settings read) read.segment ≡ Some o = ap (option_map (outcome_of settings read)) rows.segment in
+    let ended : item.entry.ended ≡ idled segments_at numbers ++ o.ended = ap (λ x. idled segments_at numbers ++ ended_by x) told in
+    let other = outcome_other settings (view_of settings read.past.calls d) d in
+    let outcome : outcome_in link item ≡ o = λ i. record {
+      verdict = segment_verdict settings link read r d rows i;
+      rules = segment_rules settings link read r d rows i;
+      era = era_by (told i);
+      begun = begun_by (told i);
+      ended = (ap (filter (λ e. not (is_idle e))) ended
+          ∙ (filter-append (λ e. not (is_idle e)) (idled segments_at numbers) o.ended
+          ∙ ap₂ (λ xs ys. xs ++ ys) (idle_left segments_at numbers) other.kept)) i;
+      packets = (ap (map (packet_of link)) (segment_frames settings link read r d rows) ∙ packets_back settings link r.octets d o.packets long own) i;
+    } in
+    let idle : map (λ (e : Ended). e.era) (filter is_idle item.entry.ended) ≡ numbers =
+    ap (λ es. map (λ (e : Ended). e.era) (filter is_idle es)) ended
+    ∙ (ap (map (λ (e : Ended). e.era)) (filter-append is_idle (idled segments_at numbers) o.ended ∙ (ap₂ (λ xs ys. xs ++ ys) (idle_kept segments_at numbers) other.left ∙ append-nil (idled segments_at numbers)))
+    ∙ idle_numbers segments_at numbers) in
+    λ i. with_asked (rows.segment i) now (outcome i) (expiry now (idle i) ∷ calls)
+
+pub plain_calls : (settings : PlainSettings) (link : Link) (history : List Item) (r : records.Packet) → (read_after settings link history r).segment ≡ None
+    → flow_calls settings link (item_of settings link history r ∷ history) ≡ (past_of settings link history r).calls
+plain_calls settings link history r none =
+    let read = read_after settings link history r in
+    let item = item_of settings link history r in
+    let calls = flow_calls settings link history in
+    let now = now_with history r in
+    let numbers = idle_at settings now calls in
+    let segments_at : ℕ → List Written = λ n. segments n calls in
+    let ended : item.entry.ended ≡ idled segments_at numbers = ap (λ o. idled segments_at numbers ++ ended_by o) (era_none settings read none) ∙ append-nil (idled segments_at numbers) in
+    let idle : map (λ (e : Ended). e.era) (filter is_idle item.entry.ended) ≡ numbers =
+    ap (λ es. map (λ (e : Ended). e.era) (filter is_idle es)) ended ∙ (ap (map (λ (e : Ended). e.era)) (idle_kept segments_at numbers) ∙ idle_numbers segments_at numbers) in
+    λ i. with_asked (none i) now (outcome_in link item) (expiry now (idle i) ∷ calls)

@@ -1,0 +1,21 @@
+use Rattle.std.proofs.Common.{◌≤◌, sym, ap, subst, ◌∙◌}
+use Rattle.std.proofs.Math.Logic.{∥∥₁_elim}
+use Rattle.std.specs.Coded.{le_prop}
+use Rattle.norm_settings.specs.Settings.{plain_settings}
+use Rattle.tcp_norm.specs.Held.{held_all}
+use Rattle.tcp_norm.specs.Standing as flows
+use Rattle.norm_engine.specs.Calls.{flow_calls}
+use Rattle.norm_engine.specs.Engine.{Engaged}
+use Rattle.norm_engine.proofs.engine.Engine.held.Goals as goal
+
+pub returns-clause-number : goal.returns-clause-number
+returns-clause-number c = λ history stands.
+    let settings = plain_settings c.self.inside.settings in
+    let here = subst (λ (e : Engaged). flows.StandsFor e.settings e.norm (flow_calls e.settings e.link history)) (sym c.self.view_is) stands.flows in
+    c.held.ensures.number settings (flow_calls settings c.self.inside.link history) here
+    ∙ ap (λ (e : Engaged). held_all (flow_calls e.settings e.link history)) c.self.view_is
+
+pub returns-clause-bounded : goal.returns-clause-bounded
+returns-clause-bounded c =
+    subst (λ (e : Engaged). c.held.result ≤ e.settings.cells) c.self.view_is
+    (∥∥₁_elim c.self.invariant.2 le_prop (λ k. c.held.ensures.bounded (plain_settings c.self.inside.settings) k.calls k.stands))
