@@ -104,7 +104,7 @@ impl Choice {
                     least: 1,
                     greatest: 262_144,
                 },
-                is_built: false,
+                is_built: true,
             },
             Choice::Mtu => Row {
                 name: "mtu",

@@ -6,7 +6,7 @@ use Rattle.wire_base.specs.declared.prefix.Prefix as wire
 use Rattle.command_line.specs.Options.{Text, is_built}
 use Rattle.command_line.specs.Line.{PlainUse, PlainLine, given}
 use Rattle.command_line.specs.declared.options.Choice.{Choice}
-use Rattle.command_line.specs.declared.options.Choice.TheVariants.{Quota, Mtu, Inside, Both}
+use Rattle.command_line.specs.declared.options.Choice.TheVariants.{Mtu, Inside, Both}
 use Rattle.norm_settings.specs.Settings.{plain_settings, settings_of, limit_told, name_told, is_told, AreBuilt}
 use Rattle.norm_settings.specs.Asked.{PlainNames, run, run_of, run_by, prefixes_from, plain_command, SettingsAreBuilt}
 use Rattle.norm_settings.specs.declared.command.Command.{Command}
@@ -19,7 +19,6 @@ AreUnused uses = (choice : Choice) → is_built choice ≡ false → given choic
 
 told_built : (uses : List PlainUse) (prefixes : List wire.Prefix) → AreUnused uses → AreBuilt (settings_of (λ choice. given choice uses) prefixes)
 told_built uses prefixes h = record {
-  quota = λ n. ap (limit_told Quota) (h Quota n);
   both = λ n. ap is_told (h Both n);
   mirror = refl;
   inside = λ n. ap name_told (h Inside n);

@@ -104,7 +104,6 @@ pub record AreInRange (s : PlainSettings) : Type 0 where
 
 -- nothing is asked for that is not built, and no word exchanges the sides
 pub record AreBuilt (s : PlainSettings) : Type 0 where
-  pub quota : is_built Quota ≡ false → s.quota ≡ None
   pub both : is_built Both ≡ false → s.both ≡ false
   pub mirror : s.mirror ≡ false
   pub inside : is_built Inside ≡ false → s.inside ≡ None

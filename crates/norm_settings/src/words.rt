@@ -263,7 +263,7 @@ mod tests {
 
     #[test]
     fn options_are_refused(rt: HostRuntime) -> Result<(), Fail> {
-        let rows: [&[&str]; 25] = [
+        let rows: [&[&str]; 26] = [
             &["--hops", "5", "--hops=6"],
             &["--hops", "255"],
             &["--hops=255"],
@@ -285,7 +285,8 @@ mod tests {
             &["--help"],
             &["--"],
             &["--=5"],
-            &["--quota", "5"],
+            &["--quota", "0"],
+            &["--quota=262145"],
             &["--mtu=1500"],
             &["--inside", "eth0"],
             &["--both"],
@@ -314,6 +315,7 @@ mod tests {
                 "--frag-time=3600",
                 "--seed",
                 "18446744073709551615",
+                "--quota=262144",
                 "--offload",
             ],
         )?;
@@ -324,6 +326,7 @@ mod tests {
         assert_eq!(rt; (settings.frags, settings.frag_cells), (4096, 256));
         assert_eq!(rt; (settings.idle, settings.frag_time), (1_000_000, 3600));
         assert_eq!(rt; (settings.seed, settings.offload), (u64::MAX, true));
+        assert_eq!(rt; settings.quota, Some(262_144));
         Ok(())
     }
 
