@@ -8,7 +8,7 @@ use Rattle.pcap_file.specs.declared.head.Head.{Head}
 use Rattle.pcap_file.specs.Heads.{head_octets}
 use Rattle.rule_book.specs.declared.last.StopKind.TheVariants as kinds
 use Rattle.rule_book.specs.Text.{lines_text, entry_text}
-use Rattle.norm_engine.specs.Trace.{Item, entries}
+use Rattle.norm_engine.specs.Items.{Item, entries}
 use Rattle.bridge_run.specs.declared.stop.Stop.{Stop}
 use Rattle.bridge_run.specs.declared.stop.Stop.TheVariants as stops
 use Rattle.bridge_run.specs.Frames.{frames_octets, item_octets}

@@ -1,8 +1,6 @@
 -- How a run goes on from record to record, and how it ends.
 use Rattle.std.proofs.Common.{◌≡◌, ℕ, ◌+◌, ◌≤◌, List, [], ◌∷◌, ◌++◌, length, drop, Option, Some, None, Ok, Err, Result, IfErr, refl, sym, ap, ap₂, subst, ◌∙◌, arith, suc, append_assoc, append-nil}
 use Rattle.std.specs.Io.KnownBytes.{Appends}
-use Rattle.wire_base.specs.declared.address.Link.{Link}
-use Rattle.wire_base.specs.declared.address.Side.{Side}
 use Rattle.pcap_file.specs.declared.head.Head.{Head}
 use Rattle.pcap_file.specs.declared.order.Order.{Order}
 use Rattle.pcap_file.specs.Records.{Packet, front_of}
@@ -10,13 +8,12 @@ use Rattle.pcap_file.specs.Capture.{ReadsTo, offset_of}
 use Rattle.pcap_file.specs.Reads.{Leaves, HasEnd, Advances}
 use Rattle.pcap_file.specs.Reading.{Reading}
 use Rattle.rule_book.specs.declared.last.Last.TheVariants.{End}
-use Rattle.rule_book.specs.declared.rule.Rule.{Rule}
 use Rattle.rule_book.specs.Text.{lines_text, last_text}
 use Rattle.norm_settings.specs.Settings.{PlainSettings}
-use Rattle.norm_engine.specs.Frames.{mended_frame}
-use Rattle.norm_engine.specs.Trace.{Item, item_of, packets, entries, dropped_by, named_rows, frames_by, entry_by}
+use Rattle.norm_engine.specs.Items.{Item, packets, entries}
+use Rattle.norm_engine.specs.Trace.{item_of}
 use Rattle.norm_engine.specs.Clean.{HasOctets}
-use Rattle.norm_engine.specs.Laws.{LawfulKeepsClean, LawfulAgrees}
+use Rattle.norm_engine.specs.Laws.{ItemsAreCounted, LawfulKeepsClean, LawfulAgrees, IsSound}
 use Rattle.norm_engine.specs.Engine.{Engaged, StandsFor}
 use Rattle.bridge_run.specs.declared.stop.Stop.{Stop}
 use Rattle.bridge_run.specs.Frames.{frame_count}
@@ -52,23 +49,6 @@ taken_whole (Some x) None c head trace p q = absurd p
 taken_whole (Some x) (Some y) None head trace p q = absurd q
 taken_whole (Some x) (Some y) (Some z) head trace p q = q.1
 
--- the frames of an entry are counted in it, and there is one at the most
-entry_packets : (dropped : Option Rule) (named : List Rule) (number : ℕ) (told : Option Side) (count : ℕ) → (entry_by dropped named number told count).packets ≡ count
-entry_packets None named number told count = refl
-entry_packets (Some rule) named number told count = refl
-
-few_frames : (dropped : Option Rule) (named : List Rule) (read mended : List ℕ) → length (frames_by dropped named read mended) ≤ 1
-few_frames None [] read mended = omega arith
-few_frames None (rule ∷ others) read mended = omega arith
-few_frames (Some rule) named read mended = omega arith
-
-packets_are : (settings : PlainSettings) (link : Link) (history : List Item) (r : Packet)
-    → ((item_of settings link history r).entry.packets ≡ length (item_of settings link history r).frames) × (length (item_of settings link history r).frames ≤ 1)
-packets_are settings link history r = (
-  entry_packets (dropped_by settings link history r) (named_rows settings link history r) _ _ _,
-  few_frames (dropped_by settings link history r) (named_rows settings link history r) r.octets (mended_frame settings link r.octets),
-)
-
 pub none_rose_after : (a b c : Moment) → NoneRose a b → NoneRose b c → NoneRose a c
 none_rose_after a b c p q = record {
   source = q.source ∙ p.source;
@@ -77,7 +57,7 @@ none_rose_after a b c p q = record {
 
 -- The item of one more record was written, and the run goes on.
 pub goes_on : (settings : PlainSettings) (head : Head) (a b c : Moment) (engine engine' : Engaged) (reader reader' : Reading) (frames n : ℕ) (p : Packet)
-    → Going settings head a b engine reader frames
+    → ItemsAreCounted → Going settings head a b engine reader frames
     → Leaves reader.head.order reader.given b.source.octets c.source.octets p → Advances reader reader' (length p.octets) → reader'.head ≡ reader.head
     → c.source.faults ≡ b.source.faults
     → ((history : List Item) → StandsFor engine history → Relayed head.order (item_of engine.settings engine.link history p) b.sinks c.sinks n)
@@ -85,12 +65,12 @@ pub goes_on : (settings : PlainSettings) (head : Head) (a b c : Moment) (engine 
     → HasOctets p
     → engine'.settings ≡ engine.settings → engine'.link ≡ engine.link
     → Going settings head a c engine' reader' (frames + n)
-goes_on settings head a b c engine engine' reader reader' frames n p going left ahead same counted_so written stands octets settled linked =
+goes_on settings head a b c engine engine' reader reader' frames n p counts going left ahead same counted_so written stands octets settled linked =
     let trace = going.trace in
     let item = item_of settings head.link trace p in
     let is : item_of engine.settings engine.link trace p ≡ item = ap₂ (λ x y. item_of x y trace p) going.engine_settings going.engine_link in
     let put : Relayed head.order item b.sinks c.sinks n = subst (λ (i : Item). Relayed head.order i b.sinks c.sinks n) is (written trace going.stands) in
-    let counted = packets_are settings head.link trace p in
+    let counted = counts settings head.link trace p in
     record {
       trace = item ∷ trace;
       so_far = record {
@@ -106,17 +86,18 @@ goes_on settings head a b c engine engine' reader reader' frames n p going left 
       reader_head = same ∙ going.reader_head;
       given_is = omega (arith, ahead.given, going.given_is);
       place_is = ahead.place ∙ ap (λ k. k + 16 + length p.octets) going.place_is ∙ omega arith;
-      frames_are = ap₂ (λ x y. x + y) going.frames_are (put.frames_are ∙ counted.0);
-      few = let n_is : n ≡ length item.frames = put.frames_are ∙ counted.0 in omega (arith, going.few, ahead.given, n_is, counted.1);
+      frames_are = ap₂ (λ x y. x + y) going.frames_are (put.frames_are ∙ counted.packets);
+      few = let n_is : n ≡ length item.frames = put.frames_are ∙ counted.packets in omega (arith, going.few, ahead.given, n_is, counted.few);
     }
 
 -- the run is over: all was read, and the last line is written
 pub normalized : (settings : PlainSettings) (head : Head) (a b c : Moment) (engine : Engaged) (reader : Reading) (frames count : ℕ)
-    → LawfulKeepsClean → LawfulAgrees
+    → LawfulKeepsClean → LawfulAgrees → settings.hops ≤ 254
     → Going settings head a b engine reader frames → HasEnd b.source.octets c.source.octets → count ≡ engine.records → Ended count frames b.sinks c.sinks
     → Normalized settings a.source.octets c.source.octets a.sinks.capture.octets c.sinks.capture.octets a.sinks.report.octets c.sinks.report.octets
-normalized settings head a b c engine reader frames count keeps agrees going end counted ended =
+normalized settings head a b c engine reader frames count keeps agrees hops going end counted ended =
     let trace = going.trace in
+    let sound : IsSound settings head.link trace = record { hops = hops; octets = going.so_far.octets; lawful = going.so_far.lawful } in
     let all : Given (outputs_of head trace ++ end_outputs count frames) a.sinks c.sinks = given_after _ _ a.sinks b.sinks c.sinks going.so_far.given ended.given in
     let line : last_text (End count frames) ++ [] ≡ last_text (End (length trace) (frame_count trace)) =
     append-nil _ ∙ ap₂ (λ x y. last_text (End x y)) (counted ∙ going.stands.counted) going.frames_are in
@@ -130,8 +111,8 @@ normalized settings head a b c engine reader frames count keeps agrees going end
           (capture_part-append (outputs_of head trace) _ ∙ append-nil _ ∙ capture_is head trace) all.capture;
       report_written = subst (Appends a.sinks.report.octets c.sinks.report.octets)
           (report_part-append (outputs_of head trace) _ ∙ ap₂ (λ x y. x ++ y) (report_is head trace) line ∙ append_assoc heading (lines_text (entries trace)) (last_text (End (length trace) (frame_count trace)))) all.report;
-      clean_kept = keeps settings head.link trace going.so_far.octets going.so_far.lawful;
-      agree = agrees settings head.link trace going.so_far.lawful;
+      clean_kept = keeps settings head.link trace sound;
+      agree = agrees settings head.link trace sound;
     }
 
 -- the end could not be told

@@ -9,7 +9,7 @@ use Rattle.pcap_file.specs.Reads.{StopsAt, HasFlaw}
 use Rattle.pcap_file.specs.Laws.{FlawIsOne, FlawExcludesEnd}
 use Rattle.rule_book.specs.declared.last.StopKind.TheVariants as kinds
 use Rattle.norm_settings.specs.Settings.{PlainSettings}
-use Rattle.norm_engine.specs.Trace.{packets}
+use Rattle.norm_engine.specs.Items.{packets}
 use Rattle.bridge_run.specs.declared.stop.Stop.{Stop}
 use Rattle.bridge_run.specs.declared.stop.Stop.TheVariants as stops
 use Rattle.bridge_run.specs.Moments.{Moment}

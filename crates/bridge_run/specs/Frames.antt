@@ -3,7 +3,7 @@ use Rattle.std.specs.Prelude.{ℕ, ◌+◌, List, [], ◌∷◌, ◌++◌, lengt
 use Rattle.std.specs.List.{flat_map}
 use Rattle.pcap_file.specs.declared.order.Order.{Order}
 use Rattle.pcap_file.specs.Records.{Packet, record_octets}
-use Rattle.norm_engine.specs.Trace.{Item}
+use Rattle.norm_engine.specs.Items.{Item}
 
 -- the records of a packet's frames, each with the packet's time
 abbrev pub frame_octets : Order → Packet → List (List ℕ) → List ℕ

@@ -19,13 +19,14 @@ use Rattle.norm_settings.specs.declared.fault.WordFault.{WordFault}
 use Rattle.norm_settings.specs.Settings.{PlainSettings}
 use Rattle.norm_settings.specs.Faults.{number_of}
 use Rattle.norm_settings.specs.Asked.{asked}
-use Rattle.norm_engine.specs.Trace.{Item, Lawful, packets, entries}
+use Rattle.norm_engine.specs.Items.{Item, packets, entries}
+use Rattle.norm_engine.specs.Trace.{Lawful}
 use Rattle.bridge_run.specs.Frames.{frames_octets, item_octets, frame_count}
 use Rattle.bridge_run.specs.Moments.{Seen, Moment}
 use Rattle.bridge_run.specs.Outputs.{heading}
 use Rattle.bridge_run.specs.Run.{Took, TookAll, TakenWhole, AsksRun}
-use Rattle.bridge_run.specs.Stops.{is_cut, words_line, memory_line}
-use Rattle.bridge_run.specs.Stopped.{Stopped, SaysOnly, Finishes}
+use Rattle.bridge_run.specs.Stops.{is_cut, words_line}
+use Rattle.bridge_run.specs.Stopped.{Stopped, SaysOnly}
 
 -- what the capture is given for a head and the items of a trace
 abbrev pub capture_octets : Head → List Item → List ℕ

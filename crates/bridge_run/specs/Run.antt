@@ -1,5 +1,5 @@
 -- What stands in the course of a run, and at its end. Where an object does not tell its octets nothing is claimed of them.
-use Rattle.std.specs.Prelude.{◌≡◌, ℕ, ◌≤◌, List, [], ◌++◌, length, drop, Option, Some, None, Ok, Err}
+use Rattle.std.specs.Prelude.{◌≡◌, ℕ, ◌*◌, ◌≤◌, List, [], ◌++◌, length, drop, Option, Some, None, Ok, Err}
 use Rattle.std.specs.Io.KnownBytes.{Appends}
 use Rattle.pcap_file.specs.declared.head.Head.{Head}
 use Rattle.pcap_file.specs.declared.order.Order.{Order}
@@ -12,7 +12,8 @@ use Rattle.norm_settings.specs.declared.fault.WordFault.{WordFault}
 use Rattle.norm_settings.specs.Settings.{PlainSettings}
 use Rattle.norm_settings.specs.Faults.{number_of}
 use Rattle.norm_settings.specs.Asked.{asked, PlainNames, run}
-use Rattle.norm_engine.specs.Trace.{Item, Lawful, packets, entries}
+use Rattle.norm_engine.specs.Items.{Item, packets, entries}
+use Rattle.norm_engine.specs.Trace.{Lawful}
 use Rattle.norm_engine.specs.Clean.{CleanIsKept, HaveOctets}
 use Rattle.norm_engine.specs.Agreement.{Agree}
 use Rattle.norm_engine.specs.Engine.{Engaged, StandsFor}
@@ -88,7 +89,7 @@ pub record Going (settings : PlainSettings) (head : Head) (before now : Moment) 
   pub given_is : reader.given ≡ length trace
   pub place_is : reader.place ≡ offset_of (packets trace)
   pub frames_are : frames ≡ frame_count trace
-  pub few : frames ≤ reader.given
+  pub few : frames ≤ 2 * reader.given
 
 -- The first line and the head were written, and the head was read.
 pub record Begun (head : Head) (before now : Moment) : Type 0 where

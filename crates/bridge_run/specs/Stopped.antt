@@ -14,7 +14,8 @@ use Rattle.norm_settings.specs.declared.fault.WordFault.{WordFault}
 use Rattle.norm_settings.specs.Settings.{PlainSettings}
 use Rattle.norm_settings.specs.Faults.{number_of}
 use Rattle.norm_settings.specs.Asked.{asked}
-use Rattle.norm_engine.specs.Trace.{Item, Lawful, packets}
+use Rattle.norm_engine.specs.Items.{Item, packets}
+use Rattle.norm_engine.specs.Trace.{Lawful}
 use Rattle.bridge_run.specs.declared.stop.Stop.{Stop}
 use Rattle.bridge_run.specs.declared.stop.Stop.TheVariants as stops
 use Rattle.bridge_run.specs.Frames.{frame_count}

@@ -9,7 +9,8 @@ ghost use Rattle.rule_book.specs.Text.{entry_text, last_text};
 ghost use Rattle.rule_book.specs.declared.last.Last.TheVariants.{End};
 ghost use Rattle.norm_settings.specs.Asked.{asked};
 ghost use Rattle.norm_settings.specs.Settings.{PlainSettings, plain_settings, AreInRange, AreBuilt};
-ghost use Rattle.norm_engine.specs.Trace.{Item, item_of};
+ghost use Rattle.norm_engine.specs.Items.{Item};
+ghost use Rattle.norm_engine.specs.Trace.{item_of};
 ghost use Rattle.norm_engine.specs.Clean.{HasOctets};
 ghost use Rattle.norm_engine.specs.Engine.{StandsFor};
 ghost use Rattle.bridge_run.specs.Frames.{frame_octets};
@@ -25,7 +26,7 @@ use crate::stop::{
 };
 use edge_io::{Failed, NoMemory, Outbox, Sink, Source};
 use norm_engine::Engine;
-use norm_engine::laws::{lawful_agrees, lawful_keeps_clean};
+use norm_engine::laws::{items_are_counted, lawful_agrees, lawful_keeps_clean};
 use norm_settings::{Command, Settings, WordFault, read_words};
 use pcap_file::laws::{flaw_excludes_end, flaw_is_one};
 use pcap_file::{Head, MAX_CAPTURED, Reader, Record, read_head, write_head, write_record};
@@ -225,6 +226,7 @@ fn normalize<S: Source, K: Sink, R: Sink>(
     report: &mut R,
 ) -> Result<(), Stop>
     requires stands { StandsFor engine.old [] }
+    requires hops { engine.old.settings.hops ≤ 254 }
     requires room { 262144 ≤ length buffer.old }
     ensures finished { OnOk result (spec.Normalized engine.old.settings
         (S.left source.old) (S.left source.new) (K.held capture.old) (K.held capture.new)
@@ -248,6 +250,7 @@ fn normalize<S: Source, K: Sink, R: Sink>(
     ensures capture_later { K.fault_count capture.old ≤ K.fault_count capture.new }
     ensures report_later { R.fault_count report.old ≤ R.fault_count report.new }
 {
+    items_are_counted();
     lawful_keeps_clean();
     lawful_agrees();
     let head = begin(source, capture, report)?;
@@ -337,6 +340,7 @@ fn relay<K: Sink, R: Sink>(
     ensures capture_later { K.fault_count capture.old ≤ K.fault_count capture.new }
     ensures report_later { R.fault_count report.old ≤ R.fault_count report.new }
 {
+    items_are_counted();
     have_octets(input.bytes);
     let entry = engine.step(input, out);
     if write_frames(out, head, input, capture).is_err() {

@@ -6,7 +6,10 @@ use edge_io::{Failed, MemSink, MemSource, Sink};
 use std::alloc::{AllocError, Global};
 use std::test::Fail;
 
+mod connections;
+mod evasions;
 mod forms;
+mod packets;
 mod stopped;
 
 /// Little-endian, microseconds, raw IP.
@@ -162,7 +165,7 @@ fn runs_tell_how_they_end(rt: HostRuntime) -> Result<(), Fail> {
 }
 
 #[rattlefmt::skip]
-const REFUSED: [(&[&str], &str); 10] = [
+const REFUSED: [(&[&str], &str); 9] = [
     (&["run", "a"], "stop words 1\n"),
     (&["run", "a", "a", "10.0.0.0/8"], "stop words 5\n"),
     (&["run", "a", "b", "0.0.0.0/8", "1.0.0.0/8", "2.0.0.0/8", "3.0.0.0/8", "4.0.0.0/8", "5.0.0.0/8", "6.0.0.0/8", "7.0.0.0/8", "8.0.0.0/8",
@@ -170,7 +173,6 @@ const REFUSED: [(&[&str], &str); 10] = [
     (&["run", "a", "b", "10.0.0/8"], "stop words 2\n"),
     (&["run", "--hops", "255", "a", "b", "10.0.0.0/8"], "stop words 1\n"),
     // What is not built is not asked for.
-    (&["run", "--quota", "5", "a", "b", "10.0.0.0/8"], "stop words 1\n"),
     (&["run", "--both", "a", "b", "10.0.0.0/8"], "stop words 1\n"),
     (&["run", "--inside", "eth0", "a", "b", "10.0.0.0/8"], "stop words 1\n"),
     (&["run", "--mtu", "1500", "a", "b", "10.0.0.0/8"], "stop words 1\n"),

@@ -97,7 +97,8 @@ fn an_ethernet_capture_keeps_its_arp(rt: HostRuntime) -> Result<(), Fail> {
     segment.extend_from_slice(&SYN)?;
     let mut file = head_of(rt.alloc(), true, true, 1)?;
     add_record(&mut file, true, (0, 0), &arp, 42)?;
-    let written = Vec::from_slice(rt.alloc(), &file)?;
+    let mut written = Vec::from_slice(rt.alloc(), &file)?;
+    add_record(&mut written, true, (0, 0), &segment[..54], 54)?;
     add_record(&mut file, true, (0, 0), &segment, 60)?;
     add_record(&mut file, true, (0, 0), &segment[..20], 60)?;
     let words = ["run", "a", "b", "10.0.0.0/8"];
@@ -105,7 +106,7 @@ fn an_ethernet_capture_keeps_its_arp(rt: HostRuntime) -> Result<(), Fail> {
     assert_eq!(rt; ended.status, 0);
     assert_eq!(rt;
         ended.report.held(),
-        b"norm 2\n1 - pass 1\n2 in drop 0 X_LATER\n3 - drop 0 L_SNAP\nend 3 1\n".as_slice()
+        b"norm 2\n1 - pass 1\n2 in fix 1 I_TRAIL @1 +1\n3 - drop 0 L_SNAP\nend 3 2\n".as_slice()
     );
     assert_eq!(rt; ended.capture.held(), written.as_slice());
     Ok(())

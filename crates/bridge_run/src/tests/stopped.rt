@@ -56,6 +56,10 @@ const SOURCE_CALLS: [(usize, Row); 6] = [
     (1, Row { status: 5, written: 116, report: "norm 2\n1 in pass 1\n2 in pass 1\nstop read 116\n", left: 0 }),
 ];
 
+/// The words of a run that takes little memory.
+#[rattlefmt::skip]
+const SMALL: &[&str] = &["run", "--flows=1", "--cells=1", "--frags=1", "--frag-cells=256", "a", "b", "10.0.0.0/8"];
+
 /// How a run is disturbed: the octets that a call of the source gives, which calls fail, and the capture's room.
 #[derive(Clone, Copy)]
 struct Disturbed {
@@ -68,7 +72,7 @@ struct Disturbed {
 fn leaves(alloc: Global, disturbed: Disturbed, row: &Row) -> Result<bool, Fail>
     requires { 0 < disturbed.piece }
 {
-    let words = line(alloc, &["run", "a", "b", "10.0.0.0/8"])?;
+    let words = line(alloc, SMALL)?;
     let file = capture_file(alloc, &[], 2, &[])?;
     let written = Vec::from_slice(alloc, &file)?;
     let failing = disturbed.failing;

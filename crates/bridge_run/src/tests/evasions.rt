@@ -1,0 +1,177 @@
+//! Whole runs over ways to show a monitor another stream than the host, after Handley, Paxson and Kreibich: the whole report, and what goes out.
+use super::connections::{FEW, NOTHING, OPENED, Row, holds};
+use super::packets::Kind::*;
+use super::packets::Mark::*;
+use super::packets::add_inward;
+use edge_io::NoMemory;
+use receiver_model::{Family, Policy, plain};
+use std::alloc::{AllocError, Global};
+use std::test::Fail;
+
+/// A run, and what receivers deliver of the connection that comes first: from which offset on, the octets, and whether the stream ends.
+struct Case {
+    row: Row,
+    streams: &'static [(u32, &'static [u8], bool)],
+}
+
+#[rattlefmt::skip]
+const CASES: [Case; 12] = [
+    // Overlapping segments out of order, which differ past the octets that are missing.
+    Case { row: Row { options: FEW, before: OPENED, packets: &[(DataIn(1002, 5001, b"cdef"), &[]), (DataIn(1000, 5001, b"abXXgh"), &[])],
+        report: "4 in pass 1 @1\n5 in fix 1 T_CLASH @1\nend 5 5\n",
+        written: &[(DataIn(1002, 5001, b"cdef"), &[]), (DataIn(1000, 5001, b"abcdef"), &[])] }, streams: &[(0, b"abcdef", false)] },
+    // A segment that would end on its way.
+    Case { row: Row { options: FEW, before: OPENED, packets: &[(DataIn(1000, 5001, b"bad!"), &[Ttl(1)]), (DataIn(1000, 5001, b"good"), &[])],
+        report: "4 in fix 1 I_TTL @1\n5 in fix 1 T_CLASH @1\nend 5 5\n",
+        written: &[(DataIn(1000, 5001, b"bad!"), &[Ttl(31)]), (DataIn(1000, 5001, b"bad!"), &[])] }, streams: &[(0, b"bad!", false)] },
+    // An urgent octet, which one host leaves out of the stream.
+    Case { row: Row { options: FEW, before: OPENED, packets: &[(DataIn(1000, 5001, b"abcd"), &[Urgent(1)])],
+        report: "4 in fix 1 T_URG @1\nend 4 4\n", written: &[(DataIn(1000, 5001, b"abcd"), &[])] }, streams: &[(0, b"abcd", false)] },
+    // A reset that one host takes.
+    Case { row: Row { options: FEW, before: OPENED, packets: &[(ResetIn(1003), &[]), (DataIn(1000, 5001, b"abcd"), &[])],
+        report: "4 in drop 0 T_RST @1\n5 in pass 1 @1\nend 5 4\n", written: &[(DataIn(1000, 5001, b"abcd"), &[])] },
+        streams: &[(0, b"abcd", false)] },
+    // A checksum that is wrong.
+    Case { row: Row { options: FEW, before: OPENED, packets: &[(DataIn(1000, 5001, b"evil"), &[WrongSum]), (DataIn(1000, 5001, b"good"), &[])],
+        report: "4 in drop 0 T_SUM\n5 in pass 1 @1\nend 5 4\n", written: &[(DataIn(1000, 5001, b"good"), &[])] }, streams: &[(0, b"good", false)] },
+    // Reserved bits.
+    Case { row: Row { options: FEW, before: OPENED, packets: &[(DataIn(1000, 5001, b"abcd"), &[Reserved(5)])],
+        report: "4 in fix 1 T_RES @1\nend 4 4\n", written: &[(DataIn(1000, 5001, b"abcd"), &[])] }, streams: &[(0, b"abcd", false)] },
+    // Octets on a SYN.
+    Case { row: Row { options: FEW, before: NOTHING,
+        packets: &[(SynIn(999), &[Payload(b"evil")]), (SynAckOut(5000, 1000), &[]), (AckIn(1000, 5001), &[]), (DataIn(1000, 5001, b"good"), &[])],
+        report: "1 in fix 1 T_STRIP @1 +1\n2 out pass 1 @1\n3 in pass 1 @1\n4 in pass 1 @1\nend 4 4\n",
+        written: &[(SynIn(999), &[]), (SynAckOut(5000, 1000), &[]), (AckIn(1000, 5001), &[]), (DataIn(1000, 5001, b"good"), &[])] },
+        streams: &[(0, b"good", false)] },
+    // Octets behind the end.
+    Case { row: Row { options: FEW, before: OPENED, packets: &[(FinIn(1000, 5001, b""), &[]), (DataIn(1000, 5001, b"abcd"), &[])],
+        report: "4 in pass 1 @1\n5 in fix 1 T_END @1\nend 5 5\n", written: &[(FinIn(1000, 5001, b""), &[]), (DataIn(1000, 5001, b""), &[])] },
+        streams: &[(0, b"", true)] },
+    // Octets past the window.
+    Case { row: Row { options: FEW, before: OPENED, packets: &[(DataIn(10_000, 5001, b"zz"), &[])],
+        report: "4 in fix 1 T_WINDOW @1\nend 4 4\n", written: &[(DataIn(10_000, 5001, b""), &[])] }, streams: &[(0, b"", false)] },
+    // Options of the IPv4 header: three that do nothing, and a source route.
+    Case { row: Row { options: FEW, before: OPENED,
+        packets: &[(DataIn(1000, 5001, b"abcd"), &[HeaderOptions(&[1, 1, 1, 1])]), (DataIn(1000, 5001, b"abcd"), &[HeaderOptions(&[0x83, 3, 4, 0])])],
+        report: "4 in fix 1 I_OPT @1\n5 in drop 0 I_ROUTE\nend 5 4\n", written: &[(DataIn(1000, 5001, b"abcd"), &[])] },
+        streams: &[(0, b"abcd", false)] },
+    // Octets that the host has already.
+    Case { row: Row { options: FEW, before: OPENED, packets: &[(DataIn(1004, 5001, b"efgh"), &[]), (AckOut(5001, 1008), &[]), (DataIn(1000, 5001, b"abcd"), &[])],
+        report: "4 in pass 1 @1\n5 out pass 1 @1\n6 in fix 1 T_OLD @1\nend 6 6\n",
+        written: &[(DataIn(1004, 5001, b"efgh"), &[]), (AckOut(5001, 1008), &[]), (DataIn(1000, 5001, b""), &[])] },
+        streams: &[(0, b"", false), (4, b"efgh", false)] },
+    // A flood of SYNs, where two connections are followed.
+    Case { row: Row { options: &["--flows=2", "--cells=64"], before: NOTHING,
+        packets: &[(SynIn(999), &[]), (SynIn(999), &[Port(40_001)]), (SynIn(999), &[Port(40_002)]), (SynIn(999), &[Port(40_003)]),
+            (SynIn(999), &[Port(40_004)]), (SynIn(999), &[Port(40_005)]), (SynIn(999), &[Port(40_006)]), (SynIn(999), &[Port(40_007)]),
+            (SynIn(999), &[Port(40_008)]), (SynIn(999), &[Port(40_009)])],
+        report: "1 in pass 1 @1 +1\n2 in pass 1 @2 +2\n3 in pass 1 @3 +3 -1:evicted:0\n4 in pass 1 @4 +4 -2:evicted:0\n\
+            5 in pass 1 @5 +5 -3:evicted:0\n6 in pass 1 @6 +6 -4:evicted:0\n7 in pass 1 @7 +7 -5:evicted:0\n\
+            8 in pass 1 @8 +8 -6:evicted:0\n9 in pass 1 @9 +9 -7:evicted:0\n10 in pass 1 @10 +10 -8:evicted:0\nend 10 10\n",
+        written: &[(SynIn(999), &[]), (SynIn(999), &[Port(40_001)]), (SynIn(999), &[Port(40_002)]), (SynIn(999), &[Port(40_003)]),
+            (SynIn(999), &[Port(40_004)]), (SynIn(999), &[Port(40_005)]), (SynIn(999), &[Port(40_006)]), (SynIn(999), &[Port(40_007)]),
+            (SynIn(999), &[Port(40_008)]), (SynIn(999), &[Port(40_009)])] }, streams: &[(0, b"", false)] },
+];
+
+/// Gives the packet to each receiver, and tells whether all hosts behind 30 routers read it by its fields.
+fn is_given(family: &mut Family, packet: &[u8]) -> Result<bool, NoMemory> {
+    if packet.len() < 10 {
+        return Ok(false);
+    }
+    if packet[9] != 6 {
+        return Ok(false);
+    }
+    if !plain(0, packet) {
+        return Ok(false);
+    }
+    family.take(packet)?;
+    Ok(plain(30, packet))
+}
+
+fn give(family: &mut Family, packets: &[Vec<u8>]) -> Result<bool, NoMemory> {
+    let mut all = true;
+    for packet in packets {
+        let given = is_given(family, packet)?;
+        all = all && given;
+    }
+    Ok(all)
+}
+
+fn give_backwards(family: &mut Family, packets: &[Vec<u8>]) -> Result<bool, NoMemory> {
+    let mut all = true;
+    for packet in packets.iter().rev() {
+        let given = is_given(family, packet)?;
+        all = all && given;
+    }
+    Ok(all)
+}
+
+fn give_twice(family: &mut Family, packets: &[Vec<u8>]) -> Result<bool, NoMemory> {
+    let mut all = true;
+    for packet in packets {
+        let once = is_given(family, packet)?;
+        let again = is_given(family, packet)?;
+        all = all && once && again;
+    }
+    Ok(all)
+}
+
+/// The packets that go inwards in the connection that comes first, in the order in which they are written.
+fn inward_of(alloc: Global, row: &Row) -> Result<Vec<Vec<u8>>, AllocError> {
+    let mut packets = Vec::new(alloc);
+    add_inward(&mut packets, alloc, row.before.packets)?;
+    add_inward(&mut packets, alloc, row.written)?;
+    Ok(packets)
+}
+
+/// Whether the receiver of each policy delivered these octets, and ended or not.
+fn delivers(family: &Family, octets: &[u8], ended: bool) -> bool {
+    let mut all = true;
+    for policy in [Policy::First, Policy::Newest, Policy::Left, Policy::Right] {
+        let same = family.octets(policy) == octets;
+        let so = family.ended(policy) == ended;
+        all = all && same && so;
+    }
+    all
+}
+
+/// Whether all receivers deliver these octets from this offset on, and agree also where the packets come backwards, and each twice.
+fn tells(
+    alloc: Global,
+    packets: &[Vec<u8>],
+    stream: (u32, &'static [u8], bool),
+) -> Result<bool, NoMemory> {
+    let (start, octets, ended) = stream;
+    let mut family = Family::open(alloc, 1000, start)?;
+    let mut backwards = Family::open(alloc, 1000, start)?;
+    let mut twice = Family::open(alloc, 1000, start)?;
+    let given = give(&mut family, packets)?;
+    let given_back = give_backwards(&mut backwards, packets)?;
+    let given_twice = give_twice(&mut twice, packets)?;
+    let told = delivers(&family, octets, ended);
+    let agreed = family.agree();
+    let agreed_back = backwards.agree();
+    let agreed_twice = twice.agree();
+    Ok(given && given_back && given_twice && told && agreed && agreed_back && agreed_twice)
+}
+
+#[test]
+fn evasions_go_on_as_one_stream(rt: HostRuntime) -> Result<(), Fail> {
+    for (number, case) in CASES.iter().enumerate() {
+        for seed in ["--seed=0", "--seed=7"] {
+            assert!(rt; holds(rt.alloc(), &case.row, seed)?, "case {number} {seed}");
+        }
+    }
+    Ok(())
+}
+
+#[test]
+fn receivers_agree_on_evasions(rt: HostRuntime) -> Result<(), Fail> {
+    for (number, case) in CASES.iter().enumerate() {
+        let packets = inward_of(rt.alloc(), &case.row)?;
+        for stream in case.streams {
+            assert!(rt; tells(rt.alloc(), &packets, *stream)?, "case {number}");
+        }
+    }
+    Ok(())
+}
