@@ -1,0 +1,23 @@
+-- Where the making of a load stands (this project's profile).
+use Rattle.std.specs.Prelude.{◌≡◌, ℕ, ◌^◌, ◌<◌, ◌≤◌, List, map}
+use Rattle.std.specs.List.{range_with_len}
+use Rattle.load_make.specs.declared.flow.Flow.{Flow}
+use Rattle.load_make.specs.Sequence.{number_before, actions_before}
+use Rattle.load_make.specs.Flows.{flow_after}
+
+-- The seed, how many records there are in all, and how many were made.
+pub record Making : Type 0 where
+  pub seed : ℕ
+  pub count : ℕ
+  pub made : ℕ
+
+-- where each flow stands before the record at this place
+abbrev pub flows_before : (seed place : ℕ) → List Flow
+flows_before seed place = map (λ flow. flow_after (actions_before seed flow place)) (range_with_len 0 64)
+
+-- The number and the flows are those before the record that is made next.
+pub record IsInStep (seed count made number : ℕ) (flows : List Flow) : Type 0 where
+  pub within : made ≤ count
+  pub few : count < 2 ^ 32
+  pub follows : number ≡ number_before seed made
+  pub each_flow : flows ≡ flows_before seed made

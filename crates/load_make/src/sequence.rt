@@ -1,0 +1,29 @@
+//! The numbers that decide what a load is made of.
+ghost use Rattle.std.specs.Prelude.{◌≡◌, ◌<◌};
+ghost use Rattle.load_make.specs.Sequence as sequence;
+
+/// The number that follows a number.
+pub(crate) fn following(number: u64) -> u64
+    ensures { result ≡ sequence.following number }
+{
+    number
+        .wrapping_mul(6364136223846793005)
+        .wrapping_add(1442695040888963407)
+}
+
+/// The flow that a number names.
+#[tactic(auto, unfolding(crate::specs::Sequence::flow_of))]
+pub(crate) fn flow_of(number: u64) -> u8
+    ensures exact { result ≡ sequence.flow_of number }
+    ensures small { result < 64 }
+{
+    (number / (1 << 33) % 64) as u8
+}
+
+/// The action that a number names.
+#[tactic(auto, unfolding(crate::specs::Sequence::action_of))]
+pub(crate) fn action_of(number: u64) -> u8
+    ensures { result ≡ sequence.action_of number }
+{
+    (number / (1 << 40) % 8) as u8
+}
