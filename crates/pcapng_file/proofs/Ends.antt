@@ -1,0 +1,165 @@
+-- Each list of octets is sections or has a first fault; each block takes some of them.
+use Rattle.std.proofs.Common.{◌≡◌, ◌≢◌, ℕ, zero, suc, ◌+◌, ◌-◌, ◌<◌, ◌≤◌, ◌==◌, ◌⊎◌, true, false, not, List, [], ◌∷◌, ◌++◌, length, take, drop, Some, None, Ok, Err, refl, sym, ap, ◌∙◌, subst, arith, inl, inr, length-drop}
+use Rattle.std.proofs.lemmas.Bool.{cases_lt, cases_Bool}
+use Rattle.std.proofs.lemmas.Bool.Decides.{eqb_tells}
+use Rattle.std.proofs.lemmas.List.{nil_from_length}
+use Rattle.std.specs.declared.option.Option.{Option}
+use Rattle.std.specs.declared.result.Result.{Result}
+use Rattle.wire_base.specs.declared.address.Link.{Link}
+use Rattle.wire_base.specs.declared.address.Link.TheVariants.{Ethernet, Raw}
+use Rattle.pcap_file.specs.declared.order.Order.{Order}
+use Rattle.pcap_file.specs.Numbers.{u32_at}
+use Rattle.pcapng_file.specs.declared.fault.NgFault.{NgFault}
+use Rattle.pcapng_file.specs.declared.fault.NgFault.TheVariants as faults
+use Rattle.pcapng_file.specs.declared.interface.Interface.{Interface}
+use Rattle.pcapng_file.specs.declared.content.Content.{Content}
+use Rattle.pcapng_file.specs.declared.content.Content.TheVariants as says
+use Rattle.pcapng_file.specs.declared.content.Found.{Found}
+use Rattle.pcapng_file.specs.declared.content.Found.TheVariants as is
+use Rattle.pcapng_file.specs.Standing.{Sections, counted, no_section}
+use Rattle.pcapng_file.specs.Options.{options_of, described}
+use Rattle.pcapng_file.specs.Contents.{is_link, interface_found, found_of, content_of, IsPlaced}
+use Rattle.pcapng_file.proofs.Fields.{content_placed}
+use Rattle.pcapng_file.specs.Blocks.{Step, is_size, order_at, ordered_at, sized_at, block_at, end_by, told, before, after_found, step_of, whole_step, Sided}
+use Rattle.pcapng_file.specs.Sections.{Walks, behind, size_of, packets_of, with_given, EndsWell, EndsBadly}
+use Rattle.pcapng_file.specs.Laws.{EachFileEnds, LinkStays, WalksOn}
+use Rattle.pcapng_file.proofs.Wholes.{at_nothing, at_short, at_many, at_ordered, sized_cut, sized_open, sized_closed, is_big}
+
+-- a link that may follow the first one is the same
+same_link : (first : Option Link) (link l : Link) → is_link first link ≡ true → first ≡ Some l → Some link ≡ Some l
+same_link None link l may e = absurd cc
+same_link (Some Ethernet) Ethernet l may e = e
+same_link (Some Ethernet) Raw l may e = absurd cc
+same_link (Some Raw) Ethernet l may e = absurd cc
+same_link (Some Raw) Raw l may e = e
+
+-- the link of the first interface stays
+module _ (inside : Option (List ℕ)) (s : Sections) (order : Order) (kind size : ℕ) (block : List ℕ) (l : Link) (linked : s.link ≡ Some l) where
+  found_keeps : (content : Content) → IsPlaced content s kind size → (after_found (counted s) order (found_of inside order size block content)).link ≡ Some l
+  found_keeps (says.Fails fault) placed = linked
+  found_keeps says.Passed placed = linked
+  found_keeps says.Section placed = linked
+  found_keeps (says.Interface link snap) placed = either_way (described inside snap (options_of order (take (size - 20) (drop 16 block)))) where
+    either_way : (o : Option Interface) → (after_found (counted s) order (interface_found link o)).link ≡ Some l
+    either_way None = linked
+    either_way (Some i) = same_link s.link link l placed.same linked
+  found_keeps (says.Packet stamp) placed = linked
+
+step_after : (s : Sections) (order : Order) (size : ℕ) (block : List ℕ) (found : Found) (step : Step) → step_of s order size block found ≡ Ok step → step.after ≡ after_found s order found
+step_after s order size block (is.Fails fault) step e = absurd cc
+step_after s order size block is.Passed step e = let one : whole_step s order size block is.Passed ≡ step = cc in ap (λ (t : Step). t.after) (sym one)
+step_after s order size block is.Section step e = let one : whole_step s order size block is.Section ≡ step = cc in ap (λ (t : Step). t.after) (sym one)
+step_after s order size block (is.Interface link i) step e = let one : whole_step s order size block (is.Interface link i) ≡ step = cc in ap (λ (t : Step). t.after) (sym one)
+step_after s order size block (is.Packet stamp) step e = let one : whole_step s order size block (is.Packet stamp) ≡ step = cc in ap (λ (t : Step). t.after) (sym one)
+
+told_keeps : (inside : Option (List ℕ)) (s : Sections) (order : Order) (size : ℕ) (block : List ℕ) (step : Step) → told inside s order size block ≡ Ok step → (l : Link) → s.link ≡ Some l
+    → step.after.link ≡ Some l
+told_keeps inside s order size block step e l linked =
+    let kind = u32_at order block 0 in
+    let content = content_of inside s order kind size block in
+    ap (λ (t : Sections). t.link) (step_after (counted s) order size block (found_of inside order size block content) step e)
+    ∙ found_keeps inside s order kind size block l linked content (content_placed s kind size inside order block)
+
+-- a fault stands at the front
+record HasFault (inside : Option (List ℕ)) (s : Sections) (x : List ℕ) : Type 0 where
+  fault : NgFault
+  flawed : block_at inside s x ≡ Err fault
+
+-- a block stands at the front, and takes some octets
+record HasStep (inside : Option (List ℕ)) (s : Sections) (x : List ℕ) : Type 0 where
+  step : Step
+  rest : List ℕ
+  stands : block_at inside s x ≡ Ok (Some (step, rest))
+  shorter : length rest < length x
+  keeps : (l : Link) → s.link ≡ Some l → step.after.link ≡ Some l
+
+module _ (inside : Option (List ℕ)) (s : Sections) (x : List ℕ) where
+  told_cases : (rest : List ℕ) (result : Result Step NgFault) → block_at inside s x ≡ before rest result → length rest < length x
+      → ((step : Step) → result ≡ Ok step → (l : Link) → s.link ≡ Some l → step.after.link ≡ Some l) → HasFault inside s x ⊎ HasStep inside s x
+  told_cases rest (Ok step) e shorter keeps = inr (record { step = step; rest = rest; stands = e; shorter = shorter; keeps = keeps step refl })
+  told_cases rest (Err fault) e shorter keeps = inl (record { fault = fault; flawed = e })
+
+  sized_cases : (order : Order) (size : ℕ) → block_at inside s x ≡ sized_at inside s order x size → HasFault inside s x ⊎ HasStep inside s x
+  sized_cases order size e = elim (cases_Bool (is_size size)) [
+    | inr odd ↦ inl (record { fault = faults.Block; flawed = e ∙ rw odd refl })
+    | inl sized ↦ elim (cases_lt (length x) size) [
+      | inl cut ↦ inl (record { fault = faults.Cut; flawed = e ∙ sized_cut inside s order x size sized cut })
+      | inr enough ↦ elim (cases_Bool (u32_at order x (size - 4) == size)) [
+        | inr different ↦ inl (record { fault = faults.Block; flawed = e ∙ sized_open inside s order x size sized enough different })
+        | inl same ↦
+            let big = is_big size sized in
+            told_cases (drop size x) (told inside s order size (take size x)) (e ∙ sized_closed inside s order x size sized enough same) (omega (arith, length-drop size x))
+            (told_keeps inside s order size (take size x))
+      ]
+    ]
+  ]
+
+  ordered_cases : (order : Option Order) → block_at inside s x ≡ ordered_at inside s order x → HasFault inside s x ⊎ HasStep inside s x
+  ordered_cases None e = inl (record { fault = faults.Magic; flawed = e })
+  ordered_cases (Some order) e = sized_cases order (u32_at order x 4) e
+
+  -- the octets end here, or a fault or a block stands at the front
+  front_cases : ((x ≡ []) × (block_at inside s [] ≡ Ok None)) ⊎ (HasFault inside s x ⊎ HasStep inside s x)
+  front_cases = elim (cases_lt 0 (length x)) [
+    | inr none ↦ nothing s.link refl (nil_from_length x (omega arith))
+    | inl some ↦ inr (elim (cases_lt (length x) 12) [
+      | inl short ↦ inl (record { fault = faults.Cut; flawed = at_short inside s x some short })
+      | inr whole ↦ elim (eqb_tells s.blocks 4294967295) [
+        | inl all ↦ inl (record { fault = faults.Many; flawed = at_many inside s x whole all.1 })
+        | inr few ↦ ordered_cases (order_at s.order x) (at_ordered inside s x whole few.1)
+      ]
+    ])
+  ] where
+    nothing : (link : Option Link) → s.link ≡ link → x ≡ [] → ((x ≡ []) × (block_at inside s [] ≡ Ok None)) ⊎ (HasFault inside s x ⊎ HasStep inside s x)
+    nothing None e none = inr (inl (record { fault = faults.Cut; flawed = ap (block_at inside s) none ∙ at_nothing inside s ∙ ap end_by e }))
+    nothing (Some link) e none = inl (none, at_nothing inside s ∙ ap end_by e)
+
+-- behind these blocks the octets end well or badly
+ends_from : (most : ℕ) (inside : Option (List ℕ)) (octets : List ℕ) (steps : List Step) (rest : List ℕ) → Walks inside no_section octets steps rest → length rest < most
+    → EndsWell inside octets ⊎ EndsBadly inside octets
+ends_from zero inside octets steps rest walks enough = absurd (omega arith)
+ends_from (suc most) inside octets steps rest walks enough = elim (front_cases inside (behind no_section steps) rest) [
+  | inl end ↦ inl (record { steps = steps; is = record { walks = subst (Walks inside no_section octets steps) end.0 walks; ends = end.1 } })
+  | inr (inl here) ↦ inr (record {
+    fault = here.fault;
+    offset = size_of steps;
+    is = record { steps = steps; rest = rest; walks = walks; flawed = here.flawed; place = refl };
+  })
+  | inr (inr here) ↦ ends_from most inside octets (here.step ∷ steps) here.rest (rest, walks, here.stands) (omega (arith, here.shorter))
+]
+
+pub each_ends : EachFileEnds
+each_ends inside octets = ends_from (suc (length octets)) inside octets [] octets refl (omega arith)
+
+pub link_stays : LinkStays
+link_stays inside s x step rest e l linked = elim (front_cases inside s x) [
+  | inl end ↦ let nothing : block_at inside s x ≡ Ok None = ap (block_at inside s) end.0 ∙ end.1 in absurd cc
+  | inr (inl here) ↦ let flawed : block_at inside s x ≡ Err here.fault = here.flawed in absurd cc
+  | inr (inr here) ↦
+      let stands : block_at inside s x ≡ Ok (Some (here.step, here.rest)) = here.stands in
+      let mine : Step × List ℕ = (here.step, here.rest) in
+      let yours : Step × List ℕ = (step, rest) in
+      let pairs : mine ≡ yours = cc in
+      ap (λ (p : Step × List ℕ). p.0.after.link) (sym pairs) ∙ here.keeps l linked
+]
+
+given_on : (given : Option Sided) (newer older : List Sided) → with_given given (newer ++ older) ≡ with_given given newer ++ older
+given_on None newer older = refl
+given_on (Some sided) newer older = refl
+
+-- blocks behind blocks
+pub walks_on : WalksOn
+walks_on inside s all left rest ps [] p q = record {
+  walks = subst (Walks inside s all ps) q p;
+  after = refl;
+  packets = refl;
+  size = omega arith;
+}
+walks_on inside s all left rest ps (step ∷ qs) p q =
+    let older = walks_on inside s all left q.0 ps qs p q.1 in
+    record {
+      walks = (q.0, older.walks, ap (λ t. block_at inside t q.0) older.after ∙ q.2);
+      after = refl;
+      packets = ap (with_given step.given) older.packets ∙ given_on step.given (packets_of qs) (packets_of ps);
+      size = omega (arith, older.size);
+    }

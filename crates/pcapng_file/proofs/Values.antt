@@ -1,0 +1,176 @@
+-- The options of an interface, as they are read one by one.
+use Rattle.std.proofs.Common.{◌≡◌, ℕ, ◌+◌, ◌-◌, ◌<◌, ◌≤◌, ◌==◌, min, Bool, true, false, List, [], ◌∷◌, ◌++◌, length, take, drop, Some, None, Ok, Err, refl, sym, ap, ap₂, take-append-drop, ◌∙◌, subst, arith, append_assoc, option_map, length-drop}
+use Rattle.std.proofs.lemmas.List.{length-append, length-take-le, take_all, take_at, drop_at, take-append-le}
+use Rattle.std.proofs.lemmas.Bool.Decides.{nat_tests}
+use Rattle.std.proofs.KnownBytes.{Consumes-trans, Consumes-nil}
+use Rattle.std.specs.Io.KnownBytes.{Consumes, IsAtEnd}
+use Rattle.std.specs.declared.option.Option.{Option}
+use Rattle.std.specs.declared.result.Result.{Result}
+use Rattle.pcap_file.specs.declared.order.Order.{Order}
+use Rattle.pcap_file.specs.Numbers.{u16_at}
+use Rattle.pcap_file.proofs.Fronts.{u16_at_front}
+use Rattle.pcapng_file.specs.declared.interface.Interface.{Interface}
+use Rattle.pcapng_file.specs.declared.interface.Seen.{Seen}
+use Rattle.pcapng_file.specs.declared.fault.NgFault.{NgFault}
+use Rattle.pcapng_file.specs.Options.{Entry, padded, options_of, option_size, entry_at, is_end, described}
+use Rattle.pcapng_file.specs.Seen.{seen_behind, described_by, nothing_seen}
+use Rattle.pcapng_file.specs.Takes.{Short, TakesCount, TakesOptions, TakesValue, Passes, ReadsValue}
+use Rattle.pcapng_file.proofs.OptionLists.{no_option, past_area, one_option, seen_first, all_options, result_by}
+use Rattle.pcapng_file.proofs.Takings.{short_behind}
+
+short_area : (order : Order) (area : List ℕ) → length area < 4 → options_of order area ≡ Some []
+short_area order area few = no_option order area (grind (arith, nat_tests))
+
+-- what four octets say of the option that they begin
+module _ (order : Order) (h : List ℕ) (four : length h ≡ 4) where
+  code_is : (rest : List ℕ) → u16_at order (h ++ rest) 0 ≡ u16_at order h 0
+  code_is rest = u16_at_front order h rest 0 (omega arith)
+
+  size_is : (rest : List ℕ) → u16_at order (h ++ rest) 2 ≡ u16_at order h 2
+  size_is rest = u16_at_front order h rest 2 (omega arith)
+
+  long_enough : (rest : List ℕ) → length (h ++ rest) ≡ 4 + length rest
+  long_enough rest = omega (arith, length-append h rest)
+
+  pub last_option : (rest : List ℕ) → u16_at order h 0 ≡ 0 → options_of order (h ++ rest) ≡ Some []
+  last_option rest e =
+      let code : u16_at order (h ++ rest) 0 ≡ 0 = code_is rest ∙ e in
+      no_option order (h ++ rest) (grind (arith, nat_tests))
+
+  goes : (rest : List ℕ) → 0 < u16_at order h 0 → is_end order (h ++ rest) ≡ false
+  goes rest some =
+      let code : 0 < u16_at order (h ++ rest) 0 = omega (arith, code_is rest) in
+      let size = long_enough rest in
+      grind (arith, nat_tests)
+
+  pub option_past : (rest : List ℕ) → 0 < u16_at order h 0 → length rest < padded (u16_at order h 2) → options_of order (h ++ rest) ≡ None
+  option_past rest some short =
+      let size : option_size order (h ++ rest) ≡ 4 + padded (u16_at order h 2) = ap (λ n. 4 + padded n) (size_is rest) in
+      past_area order (h ++ rest) (goes rest some) (omega (arith, long_enough rest, size))
+
+  pub option_read : (inside : Option (List ℕ)) (snap : ℕ) (seen : Seen) (v rest : List ℕ) → 0 < u16_at order h 0 → length v ≡ padded (u16_at order h 2)
+      → described_by inside snap seen (options_of order (h ++ (v ++ rest)))
+      ≡ result_by inside snap (seen_behind inside seen (record { code = u16_at order h 0; value = take (u16_at order h 2) v })) (options_of order rest)
+  option_read inside snap seen v rest some whole =
+      let area = h ++ (v ++ rest) in
+      let size : option_size order area ≡ 4 + padded (u16_at order h 2) = ap (λ n. 4 + padded n) (size_is (v ++ rest)) in
+      let behind : drop (option_size order area) area ≡ rest =
+      ap (λ n. drop n area) size ∙ ap (drop (4 + padded (u16_at order h 2))) (sym (append_assoc h v rest))
+      ∙ drop_at (h ++ v) rest (4 + padded (u16_at order h 2)) (omega (arith, length-append h v)) in
+      let value : take (u16_at order area 2) (drop 4 area) ≡ take (u16_at order h 2) v =
+      ap (λ n. take n (drop 4 area)) (size_is (v ++ rest)) ∙ ap (take (u16_at order h 2)) (drop_at h (v ++ rest) 4 four)
+      ∙ take-append-le (u16_at order h 2) v rest (omega arith) in
+      let entry : entry_at order area ≡ record { code = u16_at order h 0; value = take (u16_at order h 2) v } = rw (code_is (v ++ rest), value) refl in
+      ap (described_by inside snap seen) (one_option order area (goes (v ++ rest) some) (omega (arith, size, long_enough (v ++ rest), length-append v rest)))
+      ∙ ap (λ l. described_by inside snap seen (option_map (λ entries. entry_at order area ∷ entries) (options_of order l))) behind
+      ∙ ap (λ (e : Entry). described_by inside snap seen (option_map (λ entries. e ∷ entries) (options_of order rest))) entry
+      ∙ seen_first inside snap seen (record { code = u16_at order h 0; value = take (u16_at order h 2) v }) (options_of order rest)
+
+-- the options so far were taken, and this was seen of them
+pub record SeesOptions (a b : Option (List ℕ)) (order : Order) (inside : Option (List ℕ)) (snap room left : ℕ) (seen : Seen) : Type 0 where
+  pub octets : List ℕ
+  pub taken : Consumes a b octets
+  pub size : length octets + left ≡ room
+  pub says : (rest : List ℕ) → length rest ≡ left → described inside snap (options_of order (octets ++ rest)) ≡ described_by inside snap seen (options_of order rest)
+
+pub sees_nothing : (a : Option (List ℕ)) (order : Order) (inside : Option (List ℕ)) (snap room : ℕ) → SeesOptions a a order inside snap room room nothing_seen
+sees_nothing a order inside snap room = record {
+  octets = [];
+  taken = Consumes-nil a;
+  size = omega arith;
+  says = λ rest size. all_options inside snap (options_of order rest);
+}
+
+module _ (order : Order) (inside : Option (List ℕ)) (snap room : ℕ) where
+  pub short_options : (a b c : Option (List ℕ)) (left few : ℕ) (seen : Seen) (fault : NgFault) → SeesOptions a b order inside snap room left seen → Short b c few fault → few ≤ left → Short a c room fault
+  short_options a b c left few seen fault p q fits = short_behind a b c p.octets few room fault p.taken q (omega (arith, p.size))
+
+  -- behind the first four octets of an option
+  pub short_option : (a b c d : Option (List ℕ)) (h : List ℕ) (left few : ℕ) (seen : Seen) (fault : NgFault) → SeesOptions a b order inside snap room left seen → Consumes b c h → Short c d few fault
+      → length h + few ≤ left → Short a d room fault
+  short_option a b c d h left few seen fault p q r fits =
+      short_options a b d left (length h + few) seen fault p (short_behind b c d h few (length h + few) fault q r (omega arith)) fits
+
+  -- no option stands in what is left
+  pub sees_all : (a b c : Option (List ℕ)) (left : ℕ) (seen : Seen) (interface : Interface) → SeesOptions a b order inside snap room left seen → left < 4 → TakesCount b c left
+      → Some interface ≡ described_by inside snap seen (Some []) → TakesOptions a c order inside snap room (Some interface)
+  sees_all a b c left seen interface p few q is = record {
+    octets = p.octets ++ q.octets;
+    taken = Consumes-trans a b c p.octets q.octets p.taken q.taken;
+    size = omega (arith, length-append p.octets q.octets, p.size, q.size);
+    says = is ∙ sym (p.says q.octets q.size ∙ ap (described_by inside snap seen) (short_area order q.octets (omega (arith, q.size))));
+  }
+
+  -- four octets end the options
+  pub sees_end : (a b c d : Option (List ℕ)) (h : List ℕ) (left rest : ℕ) (seen : Seen) (interface : Interface) → SeesOptions a b order inside snap room left seen → length h ≡ 4 → Consumes b c h
+      → TakesCount c d rest → left ≡ 4 + rest → u16_at order h 0 ≡ 0 → Some interface ≡ described_by inside snap seen (Some []) → TakesOptions a d order inside snap room (Some interface)
+  sees_end a b c d h left rest seen interface p four q r e code is = record {
+    octets = p.octets ++ (h ++ r.octets);
+    taken = Consumes-trans a b d p.octets (h ++ r.octets) p.taken (Consumes-trans b c d h r.octets q r.taken);
+    size = omega (arith, length-append p.octets (h ++ r.octets), length-append h r.octets, p.size, r.size);
+    says = is ∙ sym (p.says (h ++ r.octets) (omega (arith, length-append h r.octets, r.size)) ∙ ap (described_by inside snap seen) (last_option order h four r.octets code));
+  }
+
+  -- an option reaches past the area
+  pub sees_past : (a b c d : Option (List ℕ)) (h : List ℕ) (left rest code size : ℕ) (seen : Seen) → SeesOptions a b order inside snap room left seen → length h ≡ 4 → Consumes b c h
+      → TakesCount c d rest → left ≡ 4 + rest → code ≡ u16_at order h 0 → size ≡ u16_at order h 2 → 0 < code → rest < padded size → TakesOptions a d order inside snap room None
+  sees_past a b c d h left rest code size seen p four q r e code_is size_is some short = record {
+    octets = p.octets ++ (h ++ r.octets);
+    taken = Consumes-trans a b d p.octets (h ++ r.octets) p.taken (Consumes-trans b c d h r.octets q r.taken);
+    size = omega (arith, length-append p.octets (h ++ r.octets), length-append h r.octets, p.size, r.size);
+    says = sym (p.says (h ++ r.octets) (omega (arith, length-append h r.octets, r.size)) ∙ ap (described_by inside snap seen) (option_past order h four r.octets (omega arith)
+        (omega (arith, r.size, ap padded size_is))));
+  }
+
+  -- one more option was read
+  module _ (a b c d : Option (List ℕ)) (h v : List ℕ) (left code size : ℕ) (seen : Seen) (p : SeesOptions a b order inside snap room left seen) (four : length h ≡ 4) (q : Consumes b c h)
+      (r : Consumes c d v) (code_is : code ≡ u16_at order h 0) (size_is : size ≡ u16_at order h 2) (some : 0 < code) (whole : length v ≡ padded size) where
+    joined : (rest : List ℕ) → (p.octets ++ (h ++ v)) ++ rest ≡ p.octets ++ (h ++ (v ++ rest))
+    joined rest = append_assoc p.octets (h ++ v) rest ∙ ap (λ l. p.octets ++ l) (append_assoc h v rest)
+
+    told : (rest : List ℕ) → length h + length v + length rest ≡ left
+        → described inside snap (options_of order ((p.octets ++ (h ++ v)) ++ rest))
+        ≡ result_by inside snap (seen_behind inside seen (record { code = code; value = take size v })) (options_of order rest)
+    told rest e =
+        ap (λ l. described inside snap (options_of order l)) (joined rest)
+        ∙ p.says (h ++ (v ++ rest)) (omega (arith, length-append h (v ++ rest), length-append v rest))
+        ∙ option_read order h four inside snap seen v rest (omega arith) (whole ∙ ap padded size_is)
+        ∙ sym (ap₂ (λ c s. result_by inside snap (seen_behind inside seen (record { code = c; value = take s v })) (options_of order rest)) code_is size_is)
+
+    pub sees_more : (more : Seen) (rest : ℕ) → left ≡ 4 + padded size + rest → Some more ≡ seen_behind inside seen (record { code = code; value = take size v })
+        → SeesOptions a d order inside snap room rest more
+    sees_more more rest e is = record {
+      octets = p.octets ++ (h ++ v);
+      taken = Consumes-trans a b d p.octets (h ++ v) p.taken (Consumes-trans b c d h v q r);
+      size = omega (arith, length-append p.octets (h ++ v), length-append h v, p.size);
+      says = λ tail size. told tail (omega arith) ∙ sym (ap (λ o. result_by inside snap o (options_of order tail)) is);
+    }
+
+    pub sees_wrong : (f : Option (List ℕ)) (rest : ℕ) → left ≡ 4 + padded size + rest → None ≡ seen_behind inside seen (record { code = code; value = take size v })
+        → TakesCount d f rest → TakesOptions a f order inside snap room None
+    sees_wrong f rest e is t = record {
+      octets = (p.octets ++ (h ++ v)) ++ t.octets;
+      taken = Consumes-trans a d f (p.octets ++ (h ++ v)) t.octets (Consumes-trans a b d p.octets (h ++ v) p.taken (Consumes-trans b c d h v q r)) t.taken;
+      size = omega (arith, length-append (p.octets ++ (h ++ v)) t.octets, length-append p.octets (h ++ v), length-append h v, p.size, t.size);
+      says = sym (told t.octets (omega (arith, t.size)) ∙ sym (ap (λ o. result_by inside snap o (options_of order t.octets)) is));
+    }
+
+-- the first octets of a value that was kept
+pub value_kept : (size : ℕ) (kept v : List ℕ) → length v ≡ padded size → take (min size 64) kept ≡ take (min size 64) v
+    → (length (take size v) ≡ size) × (take (min size 64) kept ≡ take (min size 64) (take size v))
+value_kept size kept v whole first =
+    let long : length (take size v) ≡ size = length-take-le size v (omega arith) in (
+      long,
+      first ∙ ap (take (min size 64)) (sym (take-append-drop size v)) ∙ take-append-le (min size 64) (take size v) (drop size v) (omega arith),
+    )
+
+-- a value that was read in two parts
+pub value_read : {T : Type 0} (a b c : Option (List ℕ)) (h post : List ℕ) (size n : ℕ) (result : Result T NgFault) → Consumes a b h → Passes b c n result → length h ≡ min size 64
+    → min size 64 + n ≡ padded size → ReadsValue a c size result (h ++ post)
+value_read a b c h post size n (Ok done) p q long e = record {
+  octets = h ++ q.octets;
+  taken = Consumes-trans a b c h q.octets p q.taken;
+  whole = omega (arith, length-append h q.octets, q.size);
+  first = take_at h post (min size 64) long ∙ sym (take_at h q.octets (min size 64) long);
+}
+value_read a b c h post size n (Err fault) p q long e = short_behind a b c h n (padded size) fault p q (omega arith)

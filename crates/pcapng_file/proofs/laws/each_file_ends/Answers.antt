@@ -1,0 +1,5 @@
+use Rattle.pcapng_file.proofs.Ends.{each_ends}
+use Rattle.pcapng_file.proofs.laws.each_file_ends.Goals as goal
+
+pub returns : goal.returns
+returns c = each_ends

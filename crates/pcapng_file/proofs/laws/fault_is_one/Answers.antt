@@ -1,0 +1,5 @@
+use Rattle.pcapng_file.proofs.Unique.{fault_one}
+use Rattle.pcapng_file.proofs.laws.fault_is_one.Goals as goal
+
+pub returns : goal.returns
+returns c = fault_one

@@ -1,0 +1,5 @@
+use Rattle.pcapng_file.proofs.Ends.{link_stays}
+use Rattle.pcapng_file.proofs.laws.link_stays.Goals as goal
+
+pub returns : goal.returns
+returns c = link_stays

@@ -1,0 +1,13 @@
+use Rattle.std.proofs.Common.{◌≡◌, ◌-◌, option_map}
+use Rattle.pcapng_file.proofs.Walking.{OpensSoFar}
+use Rattle.pcapng_file.proofs.reader.NgReader.open.Given as goal
+
+-- no packet stood in what was read
+abbrev pub invariant-loop-reader : goal.invariant-loop-reader
+invariant-loop-reader g l = record {
+  so_far : OpensSoFar (option_map (λ name. name.now) l.fn.inside) l.reader (g.S.Source.left l.fn.source) (g.S.Source.left l.source);
+  counted : g.S.Source.fault_count l.source ≡ g.S.Source.fault_count l.fn.source;
+}
+
+abbrev pub decreases-loop-reader : goal.decreases-loop-reader
+decreases-loop-reader g l = 4294967295 - l.reader.sections.blocks

@@ -1,0 +1,203 @@
+-- What the fixed fields of a block say, by its type (pcapng), and what the block is with its options.
+use Rattle.std.specs.Prelude.{◌≡◌, ℕ, ◌<◌, ◌≤◌, ◌+◌, ◌-◌, ◌*◌, ◌/◌, ◌%◌, ◌^◌, ◌==◌, not, nat_lt, min, Bool, true, false, List, [], ◌∷◌, length, take, drop, slice_get, Option, Some, None, if◌then◌else◌}
+use Rattle.wire_base.specs.declared.address.Link.{Link}
+use Rattle.wire_base.specs.declared.address.Link.TheVariants.{Ethernet, Raw}
+use Rattle.wire_base.specs.declared.address.Side.{Side}
+use Rattle.wire_base.specs.declared.address.Side.TheVariants.{Inward, Outward}
+use Rattle.pcap_file.specs.declared.order.Order.{Order}
+use Rattle.pcap_file.specs.Numbers.{u16_at, u32_at}
+use Rattle.pcap_file.specs.Heads.{link_of}
+use Rattle.pcapng_file.specs.declared.fault.NgFault.{NgFault}
+use Rattle.pcapng_file.specs.declared.fault.NgFault.TheVariants as faults
+use Rattle.pcapng_file.specs.declared.interface.Interface.{Interface}
+use Rattle.pcapng_file.specs.declared.content.Stamp.{Stamp}
+use Rattle.pcapng_file.specs.declared.content.Content.{Content}
+use Rattle.pcapng_file.specs.declared.content.Content.TheVariants as says
+use Rattle.pcapng_file.specs.declared.content.Found.{Found}
+use Rattle.pcapng_file.specs.declared.content.Found.TheVariants as is
+use Rattle.pcapng_file.specs.Options.{padded, options_of, described}
+use Rattle.pcapng_file.specs.Standing.{Sections}
+
+-- the types of blocks that are looked into
+abbrev pub section_type : ℕ
+section_type = 0x0a0d0d0a
+
+abbrev pub interface_type : ℕ
+interface_type = 1
+
+abbrev pub old_packet_type : ℕ
+old_packet_type = 2
+
+abbrev pub simple_type : ℕ
+simple_type = 3
+
+abbrev pub enhanced_type : ℕ
+enhanced_type = 6
+
+-- a section block begins with its magic, its major version, which is 1, and its minor one, which is not looked at
+abbrev pub section_says : Order → (size : ℕ) → List ℕ → Content
+section_says order size block =
+    if nat_lt size 28 then says.Fails faults.Block
+    else if u16_at order block 12 == 1 then says.Section
+    else says.Fails faults.Version
+
+-- whether an interface's link is that of the file's first interface, where there was one
+abbrev pub is_link : Option Link → Link → Bool
+is_link None link = true
+is_link (Some Ethernet) Ethernet = true
+is_link (Some Ethernet) Raw = false
+is_link (Some Raw) Ethernet = false
+is_link (Some Raw) Raw = true
+
+-- an interface of this link, which is one that is read; a section has 64 interfaces at most
+abbrev pub linked_says : Sections → Option Link → (snap : ℕ) → Content
+linked_says sections None snap = says.Fails faults.Link
+linked_says sections (Some link) snap =
+    if not (is_link sections.link link) then says.Fails faults.Link
+    else if nat_lt (length sections.interfaces) 64 then says.Interface link snap
+    else says.Fails faults.Block
+
+-- an interface block begins with the link, two octets that are not looked at, and the snap length
+abbrev pub interface_says : Sections → Order → (size : ℕ) → List ℕ → Content
+interface_says sections order size block =
+    if nat_lt size 20 then says.Fails faults.Block
+    else linked_says sections (link_of (u16_at order block 8)) (u32_at order block 12)
+
+-- the side of a packet, where the name of the inside is given: outward from the interface of this name
+abbrev pub side_by : (inside : Option (List ℕ)) → (named : Bool) → Option Side
+side_by None named = None
+side_by (Some name) true = Some Outward
+side_by (Some name) false = Some Inward
+
+-- how many units of an interface's time a second has
+abbrev pub per_second : (nano : Bool) → ℕ
+per_second true = 10 ^ 9
+per_second false = 10 ^ 6
+
+-- how many nanoseconds a unit of an interface's time has
+abbrev pub nanos_each : (nano : Bool) → ℕ
+nanos_each true = 1
+nanos_each false = 1000
+
+-- a packet of this interface at this time
+abbrev pub timed_says : (inside : Option (List ℕ)) → Interface → (time original captured : ℕ) → Content
+timed_says inside interface time original captured =
+    if nat_lt (time / per_second interface.nano) (2 ^ 32) then says.Packet (record {
+      seconds = time / per_second interface.nano;
+      fraction = time % per_second interface.nano * nanos_each interface.nano;
+      original = original;
+      size = captured;
+      place = 28;
+      side = side_by inside interface.named;
+    })
+    else says.Fails faults.Block
+
+-- an enhanced packet of this interface, where the section has described it
+abbrev pub enhanced_of : (inside : Option (List ℕ)) → Option Interface → Order → (size : ℕ) → List ℕ → Content
+enhanced_of inside None order size block = says.Fails faults.Block
+enhanced_of inside (Some interface) order size block =
+    if nat_lt 262144 (u32_at order block 20) then says.Fails faults.Long
+    else if nat_lt size (32 + padded (u32_at order block 20)) then says.Fails faults.Block
+    else timed_says inside interface (u32_at order block 12 * 2 ^ 32 + u32_at order block 16) (u32_at order block 24) (u32_at order block 20)
+
+-- an enhanced packet block begins with the interface, the time in two words, the highest first, and the captured and the original length
+abbrev pub enhanced_says : (inside : Option (List ℕ)) → Sections → Order → (size : ℕ) → List ℕ → Content
+enhanced_says inside sections order size block =
+    if nat_lt size 32 then says.Fails faults.Block
+    else enhanced_of inside (slice_get sections.interfaces (u32_at order block 8)) order size block
+
+-- the captured length of a simple packet: its original length, but no more than the snap length, where that is not 0
+abbrev pub clipped : (snap original : ℕ) → ℕ
+clipped snap original = if snap == 0 then original else min original snap
+
+-- a simple packet with this captured length, of an interface with this name or another; its time is that of the packet before
+abbrev pub simple_sized : (inside : Option (List ℕ)) → (named : Bool) → Sections → (size original captured : ℕ) → Content
+simple_sized inside named sections size original captured =
+    if nat_lt 262144 captured then says.Fails faults.Long
+    else if nat_lt size (16 + padded captured) then says.Fails faults.Block
+    else says.Packet (record {
+      seconds = sections.seconds;
+      fraction = sections.fraction;
+      original = original;
+      size = captured;
+      place = 12;
+      side = side_by inside named;
+    })
+
+-- a simple packet of the section's first interface, where there is one
+abbrev pub simple_of : (inside : Option (List ℕ)) → Option Interface → Sections → (size original : ℕ) → Content
+simple_of inside None sections size original = says.Fails faults.Block
+simple_of inside (Some interface) sections size original =
+    simple_sized inside interface.named sections size original (clipped interface.snap original)
+
+-- a simple packet block begins with the original length
+abbrev pub simple_says : (inside : Option (List ℕ)) → Sections → Order → (size : ℕ) → List ℕ → Content
+simple_says inside sections order size block =
+    if nat_lt size 16 then says.Fails faults.Block
+    else simple_of inside (slice_get sections.interfaces 0) sections size (u32_at order block 8)
+
+-- how many octets of fixed fields of a block of this type and size stand behind the first twelve
+abbrev pub more_of : (kind size : ℕ) → ℕ
+more_of kind size =
+    if kind == section_type then (if nat_lt size 28 then 0 else 4)
+    else if kind == interface_type then (if nat_lt size 20 then 0 else 4)
+    else if kind == enhanced_type then (if nat_lt size 32 then 0 else 16)
+    else 0
+
+-- What the fixed fields of a block of this type and size say. Blocks of other types are passed over.
+unfoldable pub content_of : (inside : Option (List ℕ)) → Sections → Order → (kind size : ℕ) → List ℕ → Content
+content_of inside sections order kind size block =
+    if kind == section_type then section_says order size block
+    else if kind == interface_type then interface_says sections order size block
+    else if kind == enhanced_type then enhanced_says inside sections order size block
+    else if kind == simple_type then simple_says inside sections order size block
+    else if kind == old_packet_type then says.Fails faults.Block
+    else says.Passed
+
+-- an interface, where its options describe one
+abbrev pub interface_found : Link → Option Interface → Found
+interface_found link None = is.Fails faults.Block
+interface_found link (Some interface) = is.Interface link interface
+
+-- What a block with this content is: the options of an interface stand between its 16 fixed octets and the 4 last ones.
+abbrev pub found_of : (inside : Option (List ℕ)) → Order → (size : ℕ) → List ℕ → Content → Found
+found_of inside order size block (says.Fails fault) = is.Fails fault
+found_of inside order size block says.Passed = is.Passed
+found_of inside order size block says.Section = is.Section
+found_of inside order size block (says.Interface link snap) = interface_found link (described inside snap (options_of order (take (size - 20) (drop 16 block))))
+found_of inside order size block (says.Packet stamp) = is.Packet stamp
+
+-- a fault of what a block says
+abbrev pub IsTold : NgFault → Type 0
+IsTold faults.Version = Unit {0}
+IsTold faults.Link = Unit {0}
+IsTold faults.Block = Unit {0}
+IsTold faults.Long = Unit {0}
+IsTold _ = ⊥
+
+-- a fault is one of what a block says, and a packet has no more octets than are read
+abbrev pub IsSound : Found → Type 0
+IsSound (is.Fails fault) = IsTold fault
+IsSound (is.Packet stamp) = stamp.size ≤ 262144
+IsSound found = Unit {0}
+
+-- Where the captured octets of a packet stand: behind the fixed fields, and within the block; an interface was described.
+pub record PacketPlaced (stamp : Stamp) (sections : Sections) (kind size : ℕ) : Type 0 where
+  pub place : stamp.place ≡ 12 + more_of kind size
+  pub within : stamp.place + stamp.size + 4 ≤ size
+  pub small : stamp.size ≤ 262144
+  pub some : 0 < length sections.interfaces
+
+-- The options of an interface stand behind 16 octets, the section has room for one more, and its link may follow the first one.
+pub record InterfacePlaced (sections : Sections) (link : Link) (kind size : ℕ) : Type 0 where
+  pub same : is_link sections.link link ≡ true
+  pub more : more_of kind size ≡ 4
+  pub big : 20 ≤ size
+  pub room : length sections.interfaces < 64
+
+-- where what a block holds stands in it
+abbrev pub IsPlaced : Content → Sections → (kind size : ℕ) → Type 0
+IsPlaced (says.Packet stamp) sections kind size = PacketPlaced stamp sections kind size
+IsPlaced (says.Interface link snap) sections kind size = InterfacePlaced sections link kind size
+IsPlaced (says.Fails fault) sections kind size = IsTold fault
+IsPlaced content sections kind size = Unit {0}

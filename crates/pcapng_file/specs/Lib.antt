@@ -1,0 +1,10 @@
+pub mod Options
+pub mod Seen
+pub mod Standing
+pub mod Contents
+pub mod Blocks
+pub mod Sections
+pub mod Takes
+pub mod Reading
+pub mod Reads
+pub mod Laws

@@ -1,0 +1,235 @@
+-- What reading a block, or the next packet, does to the octets that a source tells (this project's profile).
+use Rattle.std.specs.Prelude.{◌≡◌, ℕ, ◌+◌, ◌-◌, ◌<◌, ◌≤◌, ◌^◌, max, Bool, true, false, List, [], ◌∷◌, ◌++◌, length, take, drop, Option, Some, None, IsSome, Result, Ok, Err}
+use Rattle.std.specs.Io.KnownBytes.{Consumes, IsAtEnd}
+use Rattle.wire_base.specs.declared.address.Side.{Side}
+use Rattle.pcap_file.specs.declared.order.Order.{Order}
+use Rattle.pcap_file.specs.Records.{Packet}
+use Rattle.pcap_file.specs.Reads.{shown}
+use Rattle.pcapng_file.specs.declared.fault.NgFault.{NgFault}
+use Rattle.pcapng_file.specs.declared.fault.NgFault.TheVariants as faults
+use Rattle.pcapng_file.specs.declared.front.Front.{Front}
+use Rattle.pcapng_file.specs.declared.content.Stamp.{Stamp}
+use Rattle.pcapng_file.specs.declared.content.Content.{Content}
+use Rattle.pcapng_file.specs.declared.content.Content.TheVariants as says
+use Rattle.pcapng_file.specs.declared.content.Found.{Found}
+use Rattle.pcapng_file.specs.declared.content.Found.TheVariants as is
+use Rattle.pcapng_file.specs.declared.block.Block.{Block}
+use Rattle.pcapng_file.specs.declared.reader.NgRecord.{NgRecord}
+use Rattle.pcapng_file.specs.Standing.{Sections, counted, no_section}
+use Rattle.pcapng_file.specs.Options.{options_of, described}
+use Rattle.pcapng_file.specs.Contents.{found_of, interface_found, IsSound}
+use Rattle.pcapng_file.specs.Blocks.{Sided, Step, order_at, size_at, sized_at, block_at, step_of, packet_of, before, IsInterface, IsPacket}
+use Rattle.pcapng_file.specs.Sections.{Walks, behind, packets_of, size_of}
+use Rattle.pcapng_file.specs.Reading.{NgReading, first_reading, IsUnlinked}
+use Rattle.pcapng_file.specs.Takes.{Short}
+
+-- the captured octets of a packet stand in the buffer
+abbrev pub IsKept : Found → (block buf : List ℕ) → Type 0
+IsKept (is.Packet stamp) block buf = take stamp.size (drop stamp.place block) ≡ take stamp.size buf
+IsKept found block buf = Unit {0}
+
+-- what these octets between the fixed fields of a block and its last four make it, by its content
+abbrev pub IsBody : (inside : Option (List ℕ)) → Order → Content → (octets buf : List ℕ) → Found → Type 0
+IsBody inside order (says.Fails fault) octets buf found = found ≡ is.Fails fault
+IsBody inside order says.Passed octets buf found = found ≡ is.Passed
+IsBody inside order says.Section octets buf found = found ≡ is.Section
+IsBody inside order (says.Interface link snap) octets buf found = found ≡ interface_found link (described inside snap (options_of order octets))
+IsBody inside order (says.Packet stamp) octets buf found = (found ≡ is.Packet stamp) × (take stamp.size octets ≡ take stamp.size buf)
+
+-- a packet's captured octets fit into what is read of its block, and into the buffer
+abbrev pub HasRoom : Content → (room size : ℕ) → Type 0
+HasRoom (says.Packet stamp) room size = (stamp.size ≤ room) × (stamp.size ≤ size)
+HasRoom content room size = Unit {0}
+
+-- So many octets were taken, and make the block this one.
+pub record TakesBody (inside old new : Option (List ℕ)) (order : Order) (content : Content) (room : ℕ) (buf : List ℕ) (found : Found) : Type 0 where
+  pub octets : List ℕ
+  pub taken : Consumes old new octets
+  pub size : length octets ≡ room
+  pub says : IsBody inside order content octets buf found
+
+-- what was taken of a block behind its fixed fields
+abbrev pub ReadsBody : (inside old new : Option (List ℕ)) → Order → Content → (room : ℕ) → (buf : List ℕ) → Result Found NgFault → Type 0
+ReadsBody inside old new order content room buf (Ok found) = TakesBody inside old new order content room buf found
+ReadsBody inside old new order content room buf (Err fault) = Short old new room fault
+
+-- Behind the first twelve octets of a block all others were taken, and it is this one.
+pub record TakesRest (inside : Option (List ℕ)) (sections : Sections) (old new : Option (List ℕ)) (front : Front) (head buf : List ℕ) (found : Found) : Type 0 where
+  pub octets : List ℕ
+  pub taken : Consumes old new octets
+  pub size : 12 + length octets ≡ front.size
+  pub says : (rest : List ℕ) → sized_at inside sections front.order (head ++ octets ++ rest) front.size
+      ≡ before rest (step_of (counted sections) front.order front.size (head ++ octets) found)
+  pub kept : IsKept found (head ++ octets) buf
+  pub room : IsInterface found → length sections.interfaces < 64
+  pub some : IsPacket found → 0 < length sections.interfaces
+  pub sound : IsSound found
+
+-- what was taken of a block behind its first twelve octets
+abbrev pub ReadsRest : (inside : Option (List ℕ)) → Sections → (old new : Option (List ℕ)) → Front → (head buf : List ℕ) → Result Found NgFault → Type 0
+ReadsRest inside sections old new front head buf (Ok found) = TakesRest inside sections old new front head buf found
+ReadsRest inside sections old new front head buf (Err fault) = Short old new (front.size - 12) fault
+
+-- Nothing was left, and the octets end well here.
+pub record EndsHere (inside : Option (List ℕ)) (sections : Sections) (old new : Option (List ℕ)) : Type 0 where
+  pub taken : Consumes old new []
+  pub end : IsAtEnd new
+  pub ends : block_at inside sections [] ≡ Ok None
+
+-- All octets left were taken, and they are cut short.
+pub record IsCut (inside : Option (List ℕ)) (sections : Sections) (old new : Option (List ℕ)) : Type 0 where
+  pub octets : List ℕ
+  pub taken : Consumes old new octets
+  pub end : IsAtEnd new
+  pub flawed : block_at inside sections octets ≡ Err faults.Cut
+
+-- how many octets of the block at the front are taken at most: its first twelve, or all of it
+abbrev pub most_of : Sections → List ℕ → ℕ
+most_of sections octets = max 12 (size_at (order_at sections.order octets) octets)
+
+-- Octets of one block were taken, and it has this fault, whatever stands behind them.
+pub record IsFaulty (inside : Option (List ℕ)) (sections : Sections) (old new : Option (List ℕ)) (fault : NgFault) : Type 0 where
+  pub octets : List ℕ
+  pub taken : Consumes old new octets
+  pub within : length octets ≤ most_of sections octets
+  pub flawed : (rest : List ℕ) → block_at inside sections (octets ++ rest) ≡ Err fault
+
+-- Octets of one block were taken, but not all: fewer than twelve, or fewer than its size.
+pub record TakesPart (sections : Sections) (old new : Option (List ℕ)) : Type 0 where
+  pub octets : List ℕ
+  pub taken : Consumes old new octets
+  pub fewer : length octets < most_of sections octets
+
+-- the fault of the block at the front, and what was taken of it
+abbrev pub Stops : (inside : Option (List ℕ)) → Sections → (old new : Option (List ℕ)) → NgFault → Type 0
+Stops inside sections old new faults.Cut = IsCut inside sections old new
+Stops inside sections old new faults.ReadFault = TakesPart sections old new
+Stops inside sections old new fault = IsFaulty inside sections old new fault
+
+-- A block was taken: its octets are this block, whatever stands behind them.
+pub record TakesBlock (inside : Option (List ℕ)) (sections : Sections) (old new : Option (List ℕ)) (order : Order) (size : ℕ) (buf : List ℕ) (found : Found) : Type 0 where
+  pub octets : List ℕ
+  pub taken : Consumes old new octets
+  pub whole : length octets ≡ size
+  pub says : (rest : List ℕ) → block_at inside sections (octets ++ rest) ≡ before rest (step_of (counted sections) order size octets found)
+  pub within : length octets ≤ most_of sections octets
+  pub kept : IsKept found octets buf
+  pub few : sections.blocks < 4294967295
+  pub room : IsInterface found → length sections.interfaces < 64
+  pub some : IsPacket found → 0 < length sections.interfaces
+  pub sound : IsSound found
+
+-- the block at the front was read, or there is none, or it has this fault
+abbrev pub ReadsBlock : (inside : Option (List ℕ)) → Sections → (old new : Option (List ℕ)) → (buf : List ℕ) → Result (Option Block) NgFault → Type 0
+ReadsBlock inside sections old new buf (Ok None) = EndsHere inside sections old new
+ReadsBlock inside sections old new buf (Ok (Some block)) = TakesBlock inside sections old new block.order block.size buf block.found
+ReadsBlock inside sections old new buf (Err fault) = Stops inside sections old new fault
+
+-- Some octets were taken, which are these blocks, the newest first, whatever stands behind them.
+pub record TakesSteps (inside : Option (List ℕ)) (sections : Sections) (old new : Option (List ℕ)) (steps : List Step) : Type 0 where
+  pub octets : List ℕ
+  pub taken : Consumes old new octets
+  pub walks : (rest : List ℕ) → Walks inside sections (octets ++ rest) steps rest
+
+-- The reader stands behind these blocks, the newest first, and looked last at the block at this offset.
+pub record Moves (old new : NgReading) (steps : List Step) (asked : ℕ) (is_open : Bool) : Type 0 where
+  pub inside : new.inside ≡ old.inside
+  pub sections : new.sections ≡ behind old.sections steps
+  pub place : new.place ≡ old.place + size_of steps
+  pub looked : new.asked ≡ asked
+  pub goes_on : new.is_open ≡ is_open
+
+-- the packet that a block gives, its octets in the buffer
+abbrev pub IsGiven : Found → (buf : List ℕ) → Option Sided → Type 0
+IsGiven (is.Fails fault) buf given = ⊥
+IsGiven (is.Packet stamp) buf given = given ≡ Some (packet_of stamp (take stamp.size buf))
+IsGiven found buf given = given ≡ None
+
+-- One block was taken, which is this step.
+pub record LooksAt (old new : NgReading) (before after : Option (List ℕ)) (buf : List ℕ) (found : Found) : Type 0 where
+  pub step : Step
+  pub steps : TakesSteps old.inside old.sections before after (step ∷ [])
+  pub moves : Moves old new (step ∷ []) old.place true
+  pub given : IsGiven found buf step.given
+  pub few : old.sections.blocks < 4294967295
+  pub counted : new.sections.blocks ≡ old.sections.blocks + 1
+  pub some : IsPacket found → 0 < length old.sections.interfaces
+  pub sound : IsSound found
+  pub unlinked : IsUnlinked new.sections.link new.sections.interfaces
+
+-- Nothing more was read.
+pub record Halts (old new : NgReading) (P : Type 0) : Type 0 where
+  pub moves : Moves old new [] old.place false
+  pub why : P
+
+abbrev pub Looks : (old new : NgReading) → (before after : Option (List ℕ)) → (buf : List ℕ) → Result (Option Found) NgFault → Type 0
+Looks old new before after buf (Ok None) = Halts old new (EndsHere old.inside old.sections before after)
+Looks old new before after buf (Ok (Some found)) = LooksAt old new before after buf found
+Looks old new before after buf (Err fault) = Halts old new (Stops old.inside old.sections before after fault)
+
+-- Blocks without a packet were passed over, and behind them a packet was taken: this one.
+pub record TakesPacket (old new : NgReading) (before after : Option (List ℕ)) (sided : Sided) : Type 0 where
+  pub step : Step
+  pub older : List Step
+  pub steps : TakesSteps old.inside old.sections before after (step ∷ older)
+  pub silent : packets_of older ≡ []
+  pub given : step.given ≡ Some sided
+  pub moves : Moves old new (step ∷ older) (old.place + size_of older) true
+
+-- Blocks without a packet were passed over.
+pub record PassesOver (old : NgReading) (before after : Option (List ℕ)) (steps : List Step) : Type 0 where
+  pub taken : TakesSteps old.inside old.sections before after steps
+  pub silent : packets_of steps ≡ []
+
+-- Blocks without a packet were passed over, and behind them it is as said.
+pub record HaltsBehind (old new : NgReading) (before after : Option (List ℕ)) (P : Sections → Option (List ℕ) → Type 0) : Type 0 where
+  pub steps : List Step
+  pub between : Option (List ℕ)
+  pub passed : PassesOver old before between steps
+  pub moves : Moves old new steps (old.place + size_of steps) false
+  pub why : P (behind old.sections steps) between
+
+-- the next packet of this stamp was read, its octets in the buffer, or there is none, or this is the fault
+abbrev pub Finds : (old new : NgReading) → (before after : Option (List ℕ)) → (buf : List ℕ) → Result (Option Stamp) NgFault → Type 0
+Finds old new before after buf (Ok None) = HaltsBehind old new before after (λ sections between. EndsHere old.inside sections between after)
+Finds old new before after buf (Ok (Some stamp)) = TakesPacket old new before after (packet_of stamp (take stamp.size buf))
+Finds old new before after buf (Err fault) = HaltsBehind old new before after (λ sections between. Stops old.inside sections between after fault)
+
+-- a packet that was found has no more octets than are read
+abbrev pub IsSmall : Result (Option Stamp) NgFault → Type 0
+IsSmall (Ok (Some stamp)) = stamp.size ≤ 262144
+IsSmall (Ok None) = Unit {0}
+IsSmall (Err fault) = Unit {0}
+
+-- the next packet was read, or there is none, or this is the fault
+abbrev pub Reads : (old new : NgReading) → (before after : Option (List ℕ)) → Result (Option NgRecord) NgFault → Type 0
+Reads old new before after (Ok None) = HaltsBehind old new before after (λ sections between. EndsHere old.inside sections between after)
+Reads old new before after (Ok (Some given)) = TakesPacket old new before after (record { packet = shown given.record; side = given.side })
+Reads old new before after (Err fault) = HaltsBehind old new before after (λ sections between. Stops old.inside sections between after fault)
+
+-- a fact of the packet, where one was given
+abbrev pub IfPacket : Result (Option NgRecord) NgFault → (NgRecord → Type 0) → Type 0
+IfPacket (Ok (Some given)) P = P given
+IfPacket (Ok None) P = Unit {0}
+IfPacket (Err fault) P = Unit {0}
+
+-- The octets up to the end of the first interface block were taken; no packet stood among them.
+pub record OpensAt (inside old new : Option (List ℕ)) (reading : NgReading) : Type 0 where
+  pub steps : List Step
+  pub taken : TakesSteps inside no_section old new steps
+  pub silent : packets_of steps ≡ []
+  pub linked : IsSome reading.sections.link
+  pub moves : Moves (first_reading inside) reading steps reading.asked true
+
+-- Blocks without a packet or an interface were passed over, and the one behind them has this fault.
+pub record FailsAhead (inside old new : Option (List ℕ)) (fault : NgFault) : Type 0 where
+  pub steps : List Step
+  pub between : Option (List ℕ)
+  pub taken : TakesSteps inside no_section old between steps
+  pub unlinked : (behind no_section steps).link ≡ None
+  pub stops : Stops inside (behind no_section steps) between new fault
+
+-- the first interface was read, or this is the fault before it
+abbrev pub Opens : (inside old new : Option (List ℕ)) → Result NgReading NgFault → Type 0
+Opens inside old new (Ok reader) = OpensAt inside old new reader
+Opens inside old new (Err fault) = FailsAhead inside old new fault

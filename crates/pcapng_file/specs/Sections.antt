@@ -1,0 +1,55 @@
+-- A pcapng file as a whole: a list of blocks, and the end or a first fault at an offset.
+use Rattle.std.specs.Prelude.{◌≡◌, ℕ, ◌+◌, List, [], ◌∷◌, Option, Some, None, Ok, Err}
+use Rattle.pcapng_file.specs.declared.fault.NgFault.{NgFault}
+use Rattle.pcapng_file.specs.Standing.{Sections, no_section}
+use Rattle.pcapng_file.specs.Blocks.{Sided, Step, block_at}
+
+-- what the file has said behind these blocks, the newest first
+abbrev pub behind : Sections → List Step → Sections
+behind sections [] = sections
+behind sections (step ∷ older) = step.after
+
+-- Behind these blocks, the newest first, this is left of all the octets.
+abbrev pub Walks : (inside : Option (List ℕ)) → Sections → (all : List ℕ) → List Step → (rest : List ℕ) → Type 0
+Walks inside sections all [] rest = all ≡ rest
+Walks inside sections all (step ∷ older) rest =
+    (left : List ℕ) × Walks inside sections all older left × (block_at inside (behind sections older) left ≡ Ok (Some (step, rest)))
+
+-- a packet before the others, where there is one
+abbrev pub with_given : Option Sided → List Sided → List Sided
+with_given None older = older
+with_given (Some sided) older = sided ∷ older
+
+-- the packets of blocks, the newest first
+abbrev pub packets_of : List Step → List Sided
+packets_of [] = []
+packets_of (step ∷ older) = with_given step.given (packets_of older)
+
+-- how many octets blocks take
+abbrev pub size_of : List Step → ℕ
+size_of [] = 0
+size_of (step ∷ older) = size_of older + step.size
+
+-- The octets are these blocks, the newest first, and nothing else.
+pub record IsSections (inside : Option (List ℕ)) (octets : List ℕ) (steps : List Step) : Type 0 where
+  pub walks : Walks inside no_section octets steps []
+  pub ends : block_at inside (behind no_section steps) [] ≡ Ok None
+
+-- The octets have some blocks, and behind them this first fault, at this offset.
+pub record FailsAt (inside : Option (List ℕ)) (octets : List ℕ) (fault : NgFault) (offset : ℕ) : Type 0 where
+  pub steps : List Step
+  pub rest : List ℕ
+  pub walks : Walks inside no_section octets steps rest
+  pub flawed : block_at inside (behind no_section steps) rest ≡ Err fault
+  pub place : offset ≡ size_of steps
+
+-- The octets are sections.
+pub record EndsWell (inside : Option (List ℕ)) (octets : List ℕ) : Type 0 where
+  pub steps : List Step
+  pub is : IsSections inside octets steps
+
+-- The octets have a first fault.
+pub record EndsBadly (inside : Option (List ℕ)) (octets : List ℕ) : Type 0 where
+  pub fault : NgFault
+  pub offset : ℕ
+  pub is : FailsAt inside octets fault offset

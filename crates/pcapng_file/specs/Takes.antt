@@ -1,0 +1,79 @@
+-- What reading a part of a block does to the octets that a source tells, and to its count of faults (this project's profile).
+use Rattle.std.specs.Prelude.{◌≡◌, ℕ, ◌+◌, ◌<◌, ◌==◌, Bool, true, false, List, length, take, min, Option, Some, None, Result, Ok, Err}
+use Rattle.std.specs.Io.KnownBytes.{Consumes, IsAtEnd}
+use Rattle.edge_io.specs.Octets.{TakesFewer}
+use Rattle.pcap_file.specs.declared.order.Order.{Order}
+use Rattle.pcap_file.specs.Numbers.{u32_at}
+use Rattle.pcapng_file.specs.declared.fault.NgFault.{NgFault}
+use Rattle.pcapng_file.specs.declared.fault.NgFault.TheVariants as faults
+use Rattle.pcapng_file.specs.declared.interface.Interface.{Interface}
+use Rattle.pcapng_file.specs.Options.{padded, options_of, described}
+
+-- whether the source itself failed
+abbrev pub is_read_fault : {T : Type 0} → Result T NgFault → Bool
+is_read_fault (Ok value) = false
+is_read_fault (Err faults.ReadFault) = true
+is_read_fault (Err _) = false
+
+-- All octets left were taken, and they are fewer than so many.
+pub record EndsBefore (old new : Option (List ℕ)) (count : ℕ) : Type 0 where
+  pub octets : List ℕ
+  pub taken : Consumes old new octets
+  pub fewer : length octets < count
+  pub end : IsAtEnd new
+
+-- fewer octets than so many were taken: none is left, or the source failed
+abbrev pub Short : (old new : Option (List ℕ)) → (count : ℕ) → NgFault → Type 0
+Short old new count faults.Cut = EndsBefore old new count
+Short old new count faults.ReadFault = TakesFewer old new count
+Short old new count _ = ⊥
+
+-- The buffer was filled.
+abbrev pub FillsWhole : {T : Type 0} → (old new : Option (List ℕ)) → Result T NgFault → (buf : List ℕ) → Type 0
+FillsWhole old new (Ok done) buf = Consumes old new buf
+FillsWhole old new (Err fault) buf = Short old new (length buf) fault
+
+-- So many octets were taken.
+pub record TakesCount (old new : Option (List ℕ)) (count : ℕ) : Type 0 where
+  pub octets : List ℕ
+  pub taken : Consumes old new octets
+  pub size : length octets ≡ count
+
+-- So many octets were passed over.
+abbrev pub Passes : {T : Type 0} → (old new : Option (List ℕ)) → (count : ℕ) → Result T NgFault → Type 0
+Passes old new count (Ok done) = TakesCount old new count
+Passes old new count (Err fault) = Short old new count fault
+
+-- Octets of this number were taken, and say whether it is this size.
+pub record TakesSize (old new : Option (List ℕ)) (order : Order) (size : ℕ) (same : Bool) : Type 0 where
+  pub octets : List ℕ
+  pub taken : Consumes old new octets
+  pub four : length octets ≡ 4
+  pub says : same ≡ (u32_at order octets 0 == size)
+
+-- The four octets were taken that end a block of this size.
+abbrev pub Closes : (old new : Option (List ℕ)) → Order → (size : ℕ) → Result Bool NgFault → Type 0
+Closes old new order size (Ok same) = TakesSize old new order size same
+Closes old new order size (Err fault) = Short old new 4 fault
+
+-- An option's value was taken with its padding, and its first octets, at most 64, kept.
+pub record TakesValue (old new : Option (List ℕ)) (size : ℕ) (kept : List ℕ) : Type 0 where
+  pub octets : List ℕ
+  pub taken : Consumes old new octets
+  pub whole : length octets ≡ padded size
+  pub first : take (min size 64) kept ≡ take (min size 64) octets
+
+abbrev pub ReadsValue : {T : Type 0} → (old new : Option (List ℕ)) → (size : ℕ) → Result T NgFault → (kept : List ℕ) → Type 0
+ReadsValue old new size (Ok done) kept = TakesValue old new size kept
+ReadsValue old new size (Err fault) kept = Short old new (padded size) fault
+
+-- The options of an interface were taken, and describe this.
+pub record TakesOptions (old new : Option (List ℕ)) (order : Order) (inside : Option (List ℕ)) (snap room : ℕ) (interface : Option Interface) : Type 0 where
+  pub octets : List ℕ
+  pub taken : Consumes old new octets
+  pub size : length octets ≡ room
+  pub says : interface ≡ described inside snap (options_of order octets)
+
+abbrev pub ReadsOptions : (old new : Option (List ℕ)) → Order → (inside : Option (List ℕ)) → (snap room : ℕ) → Result (Option Interface) NgFault → Type 0
+ReadsOptions old new order inside snap room (Ok interface) = TakesOptions old new order inside snap room interface
+ReadsOptions old new order inside snap room (Err fault) = Short old new room fault

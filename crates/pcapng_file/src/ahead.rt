@@ -1,0 +1,52 @@
+//! Octets that were looked at, before those that a source has left.
+ghost use Rattle.std.specs.Prelude.{◌≡◌};
+
+use edge_io::{Failed, Source};
+
+/// Gives the kept octets, and then those of the source.
+#[derive(Drop)]
+pub struct Ahead<'a, S> {
+    kept: &'a [u8],
+    source: &'a mut S,
+}
+
+impl<'a, S: Source> Ahead<'a, S> {
+    /// These octets, and then what the source has left.
+    pub fn new(kept: &'a [u8], source: &'a mut S) -> Ahead<'a, S>
+        ensures kept { result.kept.now ≡ kept.entry.now }
+        ensures source { result.source.now ≡ source.old }
+        ensures same_source { result.source.ghost_name ≡ source.entry.ghost_name }
+    {
+        Ahead { kept, source }
+    }
+}
+
+impl<S: Source> Source for Ahead<'_, S> {
+    ghost use Rattle.std.specs.Prelude.{◌≡◌};
+    ghost use Rattle.std.specs.Io.KnownBytes.{prepend_known};
+    ghost use Rattle.edge_io.specs.Faults.{HasCause};
+    ghost use Rattle.edge_io.specs.Octets.{Fetches};
+
+    ghost left = { λ a. prepend_known a.kept.now (S.left a.source.now) };
+
+    ghost fault_count = { λ a. S.fault_count a.source.now };
+
+    fn fetch(&mut self, buf: &mut [u8]) -> Result<usize, Failed>
+        ensures octets { Fetches (prepend_known self.old.kept.now (S.left self.old.source.now))
+            (prepend_known self.new.kept.now (S.left self.new.source.now)) result buf.new }
+        ensures cause { HasCause (S.fault_count self.old.source.now) (S.fault_count self.new.source.now) result }
+        ensures same_source { self.new.source.ghost_name ≡ self.old.source.ghost_name }
+    {
+        if self.kept.is_empty() {
+            return self.source.fetch(buf);
+        }
+        let count = self.kept.len().min(buf.len());
+        buf[..count].copy_from_slice(&self.kept[..count]);
+        self.kept = &self.kept[count..];
+        Ok(count)
+    }
+
+    fn faults(&self) -> u64 {
+        self.source.faults()
+    }
+}

@@ -1,0 +1,35 @@
+//! Why a pcapng file is not read on.
+use edge_io::Failed;
+use thiserror::Error;
+
+/// Why there is no further record. The octets of a block are all looked at before what it says.
+#[derive(Clone, Copy, Debug, PartialEq, Eq, Error)]
+pub enum NgFault {
+    #[error("the octets end inside a block, or before the first interface")]
+    Cut,
+    #[error("no section block, or one whose byte-order magic is not read")]
+    Magic,
+    #[error("another major version than 1")]
+    Version,
+    #[error("a link that is not read, or another than that of the first interface")]
+    Link,
+    #[error("a block that is not well formed")]
+    Block,
+    #[error("a captured length above 262144")]
+    Long,
+    #[error("more than 4294967295 blocks")]
+    Many,
+    #[error("the source failed")]
+    ReadFault,
+}
+
+impl From<Failed> for NgFault {
+    ghost use Rattle.std.specs.Prelude.{◌≡◌};
+    ghost use Rattle.pcapng_file.specs.declared.fault.NgFault.TheVariants.{ReadFault};
+
+    ghost from_gives = { λ _ fault. fault ≡ ReadFault };
+
+    fn from(_: Failed) -> Self {
+        NgFault::ReadFault
+    }
+}

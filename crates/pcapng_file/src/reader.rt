@@ -1,0 +1,199 @@
+//! Reads the packets of a pcapng file one by one.
+ghost use Rattle.std.specs.Prelude.{◌≡◌, ◌≤◌, ◌<◌, length, true, false, option_map, IfOk, IfSome, Some, []};
+ghost use Rattle.edge_io.specs.Faults.{Rose};
+ghost use Rattle.pcapng_file.specs.Takes.{is_read_fault};
+ghost use Rattle.pcapng_file.specs.Reads.{Looks, Finds, IsSmall, Reads, Opens, IfPacket};
+ghost use Rattle.pcapng_file.specs.Reading.{written_head};
+
+use crate::NgFault;
+use crate::block::read_block;
+use crate::content::{Found, Stamp};
+use crate::standing::Standing;
+use arrayvec::ArrayVec;
+use edge_io::Source;
+use pcap_file::{Head, Order, Record};
+use std::marker::Model;
+use wire_base::{Link, Side};
+
+/// The next packet, and the side that its interface tells where the name of the inside is given.
+#[derive(Clone, Copy, Debug)]
+pub struct NgRecord<'a> {
+    /// Its fraction counts nanoseconds; its offset is that of its block.
+    pub record: Record<'a>,
+    pub side: Option<Side>,
+}
+
+/// Where reading stands in a pcapng file.
+#[derive(Debug, Drop)]
+pub struct NgReader {
+    inside: Option<ArrayVec<u8, 64>>,
+    standing: Standing,
+    place: u64,
+    asked: u64,
+    going: bool,
+}
+
+impl Model for NgReader {
+    ghost use Rattle.std.specs.Prelude.{◌≤◌, ◌*◌, option_map};
+    ghost use Rattle.pcapng_file.specs.Standing.{known};
+    ghost use Rattle.pcapng_file.specs.Reading.{NgReading, IsUnlinked};
+
+    ghost Value = { NgReading };
+
+    ghost view = { λ r. record {
+      inside = option_map (λ name. name.items) r.inside;
+      sections = known r.standing;
+      place = r.place;
+      asked = r.asked;
+      is_open = r.going;
+    } };
+
+    ghost invariant = { λ r. (r.place ≤ 4294967295 * r.standing.blocks) × IsUnlinked r.standing.link r.standing.interfaces.items };
+}
+
+impl NgReader {
+    /// Reads to the end of the first interface block.
+    pub fn open<S: Source>(inside: Option<&[u8]>, source: &mut S) -> Result<NgReader, NgFault>
+        requires { IfSome inside (λ name. length name.now ≤ 64) }
+        ensures octets { Opens (option_map (λ name. name.now) inside.entry) (S.left source.old) (S.left source.new) result }
+        ensures later { S.fault_count source.old ≤ S.fault_count source.new }
+        ensures kept { is_read_fault result ≡ false → S.fault_count source.new ≡ S.fault_count source.old }
+        ensures cause { is_read_fault result ≡ true → Rose (S.fault_count source.old) (S.fault_count source.new) }
+    {
+        let mut reader = NgReader {
+            inside: copied_name(inside),
+            standing: Standing::new(),
+            place: 0,
+            asked: 0,
+            going: true,
+        };
+        while reader.standing.link.is_none() {
+            reader.look(source, &mut [])?;
+        }
+        Ok(reader)
+    }
+
+    /// How a classic file with these packets begins: lowest octet first, nanoseconds, the link of the first interface.
+    pub fn head(&self) -> Head
+        ensures { result ≡ written_head self.now.sections.link }
+    {
+        Head {
+            order: Order::Little,
+            nano: true,
+            link: self.standing.link.unwrap_or(Link::Raw),
+        }
+    }
+
+    /// Whether the next packet may be asked for.
+    pub fn is_open(&self) -> bool
+        ensures { result ≡ self.now.is_open }
+    {
+        self.going
+    }
+
+    /// The place of the block that was looked at last, in octets from the first of the file.
+    pub fn offset(&self) -> u64
+        ensures { result ≡ self.now.asked }
+    {
+        self.asked
+    }
+
+    // Looks at the next block, where one is left.
+    fn look<S: Source>(&mut self, source: &mut S, buf: &mut [u8]) -> Result<Option<Found>, NgFault>
+        requires { 0 < length self.old.sections.interfaces → 262144 ≤ length buf.old }
+        ensures octets { Looks self.old self.new (S.left source.old) (S.left source.new) buf.new result }
+        ensures later { S.fault_count source.old ≤ S.fault_count source.new }
+        ensures kept { is_read_fault result ≡ false → S.fault_count source.new ≡ S.fault_count source.old }
+        ensures cause { is_read_fault result ≡ true → Rose (S.fault_count source.old) (S.fault_count source.new) }
+    {
+        self.going = false;
+        self.asked = self.place;
+        let inside = octets_of(&self.inside);
+        let Some(block) = read_block(source, buf, &self.standing, inside)? else {
+            return Ok(None);
+        };
+        if let Found::Fails(fault) = block.found {
+            return Err(fault);
+        }
+        self.standing.settle(block.order, block.found);
+        self.place += u64::from(block.size);
+        self.going = true;
+        Ok(Some(block.found))
+    }
+
+    // Passes over blocks up to the next packet.
+    fn next_stamp<S: Source>(
+        &mut self,
+        source: &mut S,
+        buf: &mut [u8],
+    ) -> Result<Option<Stamp>, NgFault>
+        requires { 262144 ≤ length buf.old }
+        ensures small { IsSmall result }
+        ensures octets { Finds self.old self.new (S.left source.old) (S.left source.new) buf.new result }
+        ensures later { S.fault_count source.old ≤ S.fault_count source.new }
+        ensures kept { is_read_fault result ≡ false → S.fault_count source.new ≡ S.fault_count source.old }
+        ensures cause { is_read_fault result ≡ true → Rose (S.fault_count source.old) (S.fault_count source.new) }
+    {
+        while let Some(found) = self.look(source, buf)? {
+            if let Found::Packet(stamp) = found {
+                return Ok(Some(stamp));
+            }
+        }
+        Ok(None)
+    }
+
+    /// The next packet, its octets in the buffer.
+    pub fn next<'a, S: Source>(
+        &mut self,
+        source: &mut S,
+        buf: &'a mut [u8],
+    ) -> Result<Option<NgRecord<'a>>, NgFault>
+        requires open { self.old.is_open ≡ true }
+        requires room { 262144 ≤ length buf.old }
+        ensures octets { Reads self.old self.new (S.left source.old) (S.left source.new) result }
+        ensures later { S.fault_count source.old ≤ S.fault_count source.new }
+        ensures kept { is_read_fault result ≡ false → S.fault_count source.new ≡ S.fault_count source.old }
+        ensures cause { is_read_fault result ≡ true → Rose (S.fault_count source.old) (S.fault_count source.new) }
+        ensures offset { IfPacket result (λ given. given.record.offset ≡ self.new.asked) }
+    {
+        let Some(stamp) = self.next_stamp(source, buf)? else {
+            return Ok(None);
+        };
+        let bytes = &buf[..stamp.size as usize];
+        let record = Record::new(
+            stamp.seconds,
+            stamp.fraction,
+            stamp.original,
+            self.asked,
+            bytes,
+        );
+        Ok(Some(NgRecord {
+            record,
+            side: stamp.side,
+        }))
+    }
+}
+
+// The octets of a name.
+fn octets_of(name: &Option<ArrayVec<u8, 64>>) -> Option<&[u8]>
+    ensures value { option_map (λ octets. octets.now) result ≡ option_map (λ octets. octets.items) name.now }
+    ensures small { IfSome result (λ octets. length octets.now ≤ 64) }
+{
+    match name {
+        Some(octets) => Some(octets.as_slice()),
+        None => None,
+    }
+}
+
+// The same name in memory of its own.
+fn copied_name(name: Option<&[u8]>) -> Option<ArrayVec<u8, 64>>
+    requires { IfSome name (λ octets. length octets.now ≤ 64) }
+    ensures { option_map (λ octets. octets.items) result ≡ option_map (λ octets. octets.now) name.entry }
+{
+    let Some(name) = name else {
+        return None;
+    };
+    let mut copy = ArrayVec::new();
+    copy.try_extend_from_slice(name).unwrap();
+    Some(copy)
+}
