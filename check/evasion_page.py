@@ -1,0 +1,256 @@
+"""The page on evasions: reads what examples/evasions.txt says of each, makes its capture, and writes its section of docs/EVASIONS.md."""
+
+import os
+import textwrap
+from types import SimpleNamespace
+
+from norm_model.capture import read_head, read_records
+from norm_model.hosts import READERS, fields
+from norm_model.packets import INSIDE, LETTERS, capture_of, segment
+from norm_model.receivers import POLICIES, all_agree, deliver
+from norm_model.report import read_report
+
+TOP = os.path.dirname(os.path.dirname(os.path.abspath(__file__)))
+
+DESCRIPTIONS = os.path.join(TOP, "examples", "evasions.txt")
+
+PAGE = os.path.join(TOP, "docs", "EVASIONS.md")
+
+BASE, WIDTH = 1000, 150
+
+# A field that is not as usual: its name in a line, the maker's name, how its value is read, and how it is written.
+FIELDS = (
+    ("TTL", "ttl", int, str),
+    ("window", "window", int, str),
+    ("urgent", "urgent", int, str),
+    ("reserved", "reserved", int, str),
+    ("options", "ip_options", bytes.fromhex, bytes.hex),
+    ("port", "outside_port", int, str),
+)
+
+USUAL = {"ttl": 64, "window": 8192, "urgent": 0, "reserved": 0, "ip_options": b"", "outside_port": 40000}
+
+HEAD = """# Evasions
+
+A monitor is evaded where it reads another stream than the host. Handley, Paxson and Kreibich (*Network Intrusion Detection: Evasion, Traffic
+Normalization, and End-to-End Protocol Semantics*, USENIX Security 2001) show how: hosts differ on certain packets, and the monitor cannot know which
+host it watches. Each section below has such packets, what receivers deliver of them, what norm writes in their place, and what receivers deliver of
+that.
+
+Four receivers differ at an octet for which another one waits already: **First** keeps the one that waits, and **Newest** replaces it; **Left**
+replaces it where the newer segment begins before the one that brought it, and **Right** where it ends behind that one. Receivers that differ in
+another way, such as in whether they verify checksums, stand one below the other, each with all four policies. Of what norm wrote, all that start at
+one octet deliver the same.
+
+The columns are the packets that come, norm's report, and the packets that norm writes. A packet is written as `> PA 1000,5001 abcd`: inwards (`>`) or
+outwards (`<`), flags, sequence number, acknowledgment number and octets, and behind commas the fields that are not as usual. README.md explains the
+lines of the report, and docs/RULES.md the rules. The last line of a section repeats it, at the top of the repository and with the built program
+`crates/norm/out/norm` as `norm`.
+
+Fragments that overlap are missing here: a fragment is dropped under `X_LATER` until reassembly joins the program.
+
+`examples/make` makes this page and the captures from `examples/evasions.txt`. `check/evasions PROGRAM` fails where a program writes another report
+or other packets than stand here.
+"""
+
+
+# What is described
+
+def read_descriptions(text):
+    """One description for each evasion."""
+    cases = []
+    for line in text.splitlines():
+        if line.startswith("== "):
+            name, _, title = line[3:].partition(": ")
+            cases.append(SimpleNamespace(name=name, title=title, prose={"attack": "", "answer": "", "options": ""}, hosts=[], lines=[]))
+        elif cases and line.strip():
+            add_line(cases[-1], line)
+    return cases
+
+
+def add_line(case, line):
+    word, _, rest = line.partition(": ")
+    if line[:2] in ("> ", "< "):
+        case.lines.append(line)
+    elif word.startswith("host "):
+        name, _, start = word[5:].partition(" from ")
+        case.hosts.append(SimpleNamespace(read=READERS[name], start=int(start or 0), label=rest))
+    elif word in case.prose:
+        case.last, case.prose[word] = word, rest
+    elif line.startswith("  "):
+        case.prose[case.last] += " " + line.strip()
+    else:
+        raise ValueError("%s: nobody knows what this says: %s" % (case.name, line))
+
+
+def packet_of(line):
+    """The packet of a line such as `> PA 1000,5001 abcd, TTL 1`."""
+    text, *marks = line.split(", ")
+    values = dict(value_of(mark) for mark in marks if mark != "wrong sum")
+    packet = segment(text, **values)
+    return packet[:37] + bytes([packet[37] ^ 1]) + packet[38:] if "wrong sum" in marks else packet
+
+
+def value_of(mark):
+    for name, field, read, _ in FIELDS:
+        if mark.startswith(name + " "):
+            return field, read(mark[len(name) + 1:])
+    raise ValueError("nobody knows the field: %s" % mark)
+
+
+def line_of(packet):
+    """The line that this packet is made from."""
+    ip, tcp = fields(packet)
+    inward = ip.dst == INSIDE
+    values = {"ttl": ip.ttl, "window": tcp.window, "urgent": tcp.urgent, "reserved": tcp.reserved,
+              "ip_options": packet[20:ip.header], "outside_port": tcp.sport if inward else tcp.dport}
+    letters = "".join(letter for letter in "USFRPA" if tcp.flags & LETTERS[letter])
+    line = "%s %s %d%s" % (">" if inward else "<", letters, tcp.seq, ",%d" % tcp.ack if tcp.ack else "")
+    line += " " + tcp.payload.decode("ascii", "replace") if tcp.payload else ""
+    line += "".join(", %s %s" % (name, write(values[field])) for name, field, _, write in FIELDS if values[field] != USUAL[field])
+    if packet_of(line) != packet:
+        raise ValueError("no line makes the packet %s" % packet.hex())
+    return line
+
+
+def capture_file(case):
+    return os.path.join(TOP, "examples", case.name + ".pcap")
+
+
+def made_capture(case):
+    return capture_of([packet_of(line) for line in case.lines])
+
+
+def words(case, written):
+    """The words of the run, but for the program."""
+    return ["run"] + case.prose["options"].split() + ["examples/%s.pcap" % case.name, written, "10.0.0.0/8"]
+
+
+# What became of it
+
+def frames_of(case, report, written):
+    """For each record the packets that were written for it."""
+    read, head = read_report(report), read_head(written)
+    if isinstance(read, tuple) or isinstance(head, str):
+        raise ValueError("the report or the written capture cannot be read back")
+    if len(read.entries) != len(case.lines):
+        raise ValueError("the report has a line too many or too few")
+    packets = [record.octets for record in read_records(written, head)[0]]
+    if written != capture_of(packets) or len(packets) != sum(entry.packets for entry in read.entries):
+        raise ValueError("the written capture has other heads, times or records than the report tells")
+    frames, rest = [], packets
+    for entry in read.entries:
+        frames.append(rest[:entry.packets])
+        rest = rest[entry.packets:]
+    return frames
+
+
+def ends_of(packet):
+    ip, tcp = fields(packet)
+    return {(ip.src, tcp.sport), (ip.dst, tcp.dport)}
+
+
+def first_connection(packets):
+    return [packet for packet in packets if ends_of(packet) == ends_of(packets[0])]
+
+
+def streams(host, packets):
+    return deliver(host.read(packets), BASE, host.start)
+
+
+def shown(stream):
+    octets = "`%s`" % stream.octets.decode("ascii") if stream.octets else "nothing"
+    return octets + (", then the end" if stream.ended else "")
+
+
+def rows(case, came, written):
+    """Receivers that have the same: what they are, their policies, what they deliver of what came and of what was written."""
+    found = {}
+    for host in case.hosts:
+        for policy, one, other in zip(POLICIES, streams(host, came), streams(host, written)):
+            found.setdefault((host.label, host.start, shown(one), shown(other)), []).append(policy)
+    return [SimpleNamespace(label=label, start=start, policies=policies, came=one, written=other)
+            for (label, start, one, other), policies in found.items()]
+
+
+def check_agreement(case, written):
+    """Of what was written all receivers with one start deliver the same, and no other order or repeat makes two of them differ."""
+    for start in {host.start for host in case.hosts}:
+        same = [stream for host in case.hosts if host.start == start for stream in streams(host, written)]
+        if len({(stream.octets, stream.ended) for stream in same}) != 1:
+            raise ValueError("receivers deliver different streams of what was written")
+        inward = READERS["every_packet"](written)
+        for schedule in (inward[::-1], inward + inward, [packet for packet in inward for _ in (1, 2)]):
+            if not all_agree(deliver(schedule, BASE, start) + same):
+                raise ValueError("receivers of another order disagree on what was written")
+
+
+# The page
+
+def wrapped(text):
+    return "\n".join(textwrap.wrap(text, WIDTH, break_on_hyphens=False, break_long_words=False))
+
+
+def columns(case, report, frames):
+    """What came, the lines of the report, and what was written, side by side."""
+    lines = report.splitlines()
+    table = [("", lines[0], "")]
+    for line, told, packets in zip(case.lines, lines[1:], frames):
+        written = [line_of(packet) for packet in packets] or [""]
+        table.append((line, told, written[0]))
+        table += [("", "", other) for other in written[1:]]
+    table.append(("", lines[-1], ""))
+    wide = [max(len(row[i]) for row in table) + 3 for i in (0, 1)]
+    return "\n".join(("    " + row[0].ljust(wide[0]) + row[1].ljust(wide[1]) + row[2]).rstrip() for row in table)
+
+
+def receivers_table(found):
+    lines = ["| Receiver | Policy | delivers of what came | and of what norm wrote |", "|---|---|---|---|"]
+    for row in found:
+        policies = "all four" if len(row.policies) == len(POLICIES) else ", ".join(row.policies)
+        lines.append("| %s | %s | %s | %s |" % (row.label, policies, row.came, row.written))
+    return "\n".join(lines)
+
+
+def section(case, report, written):
+    """The section, and the row of the table at the top."""
+    frames = frames_of(case, report, written)
+    came = first_connection([packet_of(line) for line in case.lines])
+    went = first_connection([packet for packets in frames for packet in packets])
+    check_agreement(case, went)
+    found = rows(case, came, went)
+    files = ["examples/%s.pcap" % case.name, "/tmp/out.pcap"]
+    command = " && ".join(["norm " + " ".join(words(case, files[1]))] + ["tcpdump -nvXr " + file for file in files])
+    parts = ["## " + case.title, wrapped(case.prose["attack"]), columns(case, report, frames)]
+    parts += [receivers_table(found)] if found else []
+    parts += [wrapped(case.prose["answer"]), "    " + command]
+    return "\n\n".join(parts) + "\n", top_row(case, report, found)
+
+
+def top_row(case, report, found):
+    told = []
+    for entry in read_report(report).entries:
+        told += entry.rules + [ended.reason for ended in entry.ended]
+    starts = ["" if row.start == 0 else " from offset %d on" % row.start for row in found]
+    came = [row.came + start for row, start in zip(found, starts)] or ["no octets"] * 2
+    written = [row.written + start for row, start in zip(found, starts)] or ["no octets"]
+    cells = came + ["; ".join(dict.fromkeys(written)), " ".join("`%s`" % word for word in dict.fromkeys(told))]
+    return "| [%s](#%s) | %s |" % (case.title, case.title.lower().replace(" ", "-"), " | ".join(cells))
+
+
+def page(outcomes):
+    """The page, from pairs of a description and its outcome, the report and the octets written."""
+    sections, table = [], ["| What comes | One receiver has | another has | All have of what norm wrote | In the report |", "|---|---|---|---|---|"]
+    for case, (report, written) in outcomes:
+        try:
+            text, row = section(case, report, written)
+        except ValueError as fault:
+            raise ValueError("%s: %s" % (case.name, fault)) from fault
+        sections.append(text)
+        table.append(row)
+    return "\n".join([HEAD, "\n".join(table) + "\n"] + sections)
+
+
+def read_cases():
+    with open(DESCRIPTIONS, encoding="ascii") as file:
+        return read_descriptions(file.read())

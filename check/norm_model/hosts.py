@@ -1,0 +1,107 @@
+"""Receivers that differ on packets that are not plain: what each leaves out or reads otherwise, before octets come to their places.
+
+Each takes the packets of one connection, in both directions and in order, and gives those that go inwards as it reads them.
+"""
+
+from norm_model.formats import FIN, RST, SYN, TCP, URG, pseudo_sum, read_ipv4, read_tcp, sum_right, write_ipv4, write_tcp
+from norm_model.packets import INSIDE
+
+
+def fields(packet):
+    ip = read_ipv4(packet)
+    return ip, read_tcp(packet[ip.header:])
+
+
+def inward(packets):
+    return [packet for packet in packets if read_ipv4(packet).dst == INSIDE]
+
+
+def rewritten(packet, seq, flags, payload):
+    ip, tcp = fields(packet)
+    return write_ipv4(ip, ip.ttl, write_tcp(ip.src, ip.dst, tcp, seq, tcp.ack, flags, b"", payload))
+
+
+def before(packets, flag):
+    """The packets up to and with the first one that goes inwards with this flag."""
+    read = []
+    for packet in packets:
+        read.append(packet)
+        if fields(packet)[1].flags & flag:
+            break
+    return read
+
+
+def every_packet(packets):
+    """Looks at nothing but the fields."""
+    return inward(packets)
+
+
+def behind_a_router(packets):
+    return [packet for packet in inward(packets) if read_ipv4(packet).ttl > 1]
+
+
+def takes_the_urgent_octet_out(packets):
+    """Where the octet before the pointer is the urgent one, and nothing follows the segment."""
+    read = []
+    for packet in inward(packets):
+        tcp = fields(packet)[1]
+        if tcp.flags & URG and 0 < tcp.urgent <= len(tcp.payload):
+            packet = rewritten(packet, tcp.seq, tcp.flags, tcp.payload[:tcp.urgent - 1] + tcp.payload[tcp.urgent:])
+        read.append(packet)
+    return read
+
+
+def stops_at_a_reset(packets):
+    return before(inward(packets), RST)
+
+
+def verifies_checksums(packets):
+    def right(packet):
+        ip = read_ipv4(packet)
+        message = packet[ip.header:]
+        return sum_right(message, pseudo_sum(ip.src, ip.dst, TCP, len(message)))
+    return [packet for packet in inward(packets) if right(packet)]
+
+
+def refuses_reserved_bits(packets):
+    return [packet for packet in inward(packets) if fields(packet)[1].reserved == 0]
+
+
+def keeps_octets_on_a_syn(packets):
+    """They stand behind the SYN, which has a number of its own."""
+    read = []
+    for packet in inward(packets):
+        tcp = fields(packet)[1]
+        read.append(rewritten(packet, tcp.seq + 1, tcp.flags & ~SYN, tcp.payload) if tcp.flags & SYN else packet)
+    return read
+
+
+def leaves_octets_on_a_syn(packets):
+    return [packet for packet in inward(packets) if not fields(packet)[1].flags & SYN]
+
+
+def stops_at_a_fin(packets):
+    return before(inward(packets), FIN)
+
+
+def keeps_to_its_window(packets):
+    """Leaves out what lies past all that it has offered; numbers do not come round here."""
+    edge, read = 0, []
+    for packet in packets:
+        ip, tcp = fields(packet)
+        if ip.dst != INSIDE:
+            edge = max(edge, tcp.ack + tcp.window)
+        elif tcp.seq + len(tcp.payload) <= edge or not tcp.payload:
+            read.append(packet)
+        elif tcp.seq < edge:
+            read.append(rewritten(packet, tcp.seq, tcp.flags & ~FIN, tcp.payload[:edge - tcp.seq]))
+    return read
+
+
+def refuses_header_options(packets):
+    return [packet for packet in inward(packets) if read_ipv4(packet).header == 20]
+
+
+READERS = {reader.__name__: reader for reader in (
+    every_packet, behind_a_router, takes_the_urgent_octet_out, stops_at_a_reset, verifies_checksums, refuses_reserved_bits,
+    keeps_octets_on_a_syn, leaves_octets_on_a_syn, stops_at_a_fin, keeps_to_its_window, refuses_header_options)}
