@@ -97,8 +97,10 @@ fn an_ethernet_capture_keeps_its_arp(rt: HostRuntime) -> Result<(), Fail> {
     segment.extend_from_slice(&SYN)?;
     let mut file = head_of(rt.alloc(), true, true, 1)?;
     add_record(&mut file, true, (0, 0), &arp, 42)?;
+    let mut unpadded = Vec::from_slice(rt.alloc(), &ethernet(0x0800))?;
+    unpadded.extend_from_slice(&SYN[..40])?;
     let mut written = Vec::from_slice(rt.alloc(), &file)?;
-    add_record(&mut written, true, (0, 0), &segment[..54], 54)?;
+    add_record(&mut written, true, (0, 0), &unpadded, 54)?;
     add_record(&mut file, true, (0, 0), &segment, 60)?;
     add_record(&mut file, true, (0, 0), &segment[..20], 60)?;
     let words = ["run", "a", "b", "10.0.0.0/8"];
