@@ -54,7 +54,7 @@ sound settings p rows =
       known = not-false _ rows.1.1.1.1.1.1.1.1.1.1.0;
     }
 
-sizes : (p : List ℕ) → AreOctets p → HasSizes (fields_of p)
+pub sizes : (p : List ℕ) → AreOctets p → HasSizes (fields_of p)
 sizes p each = record {
   tos = each 1;
   ident = two_below p 4 each;
@@ -132,7 +132,7 @@ whole_packet settings p fixes side told s u h =
     }
 
 -- the packet in a frame of octets is octets
-packet_octets : (link : Link) (frame : List ℕ) → AreOctets frame → AreOctets (packet_in link frame)
+pub packet_octets : (link : Link) (frame : List ℕ) → AreOctets frame → AreOctets (packet_in link frame)
 packet_octets Ethernet frame each = dropped 14 frame each
 packet_octets Raw frame each = each
 

@@ -26,12 +26,12 @@ use Rattle.norm_engine.specs.Items.{Item, now_with}
 use Rattle.norm_engine.specs.Rows.{is_segment, side_of_frame}
 use Rattle.norm_engine.specs.Calls.{segment_after, datagram_after, past_of, flow_calls}
 use Rattle.norm_engine.specs.Trace.{item_of, read_after, dropped_by, outcome_of, era_by}
-use Rattle.norm_engine.specs.Clean.{HasOctets}
+use Rattle.norm_engine.specs.Clean.{HasOctets, HaveOctets}
 use Rattle.norm_engine.specs.Agreement.{sent_for, sent_in}
 use Rattle.norm_engine.specs.Laws.{IsSound, LawfulAgrees, LawfulCallsAreMade, LawfulTellsStreams}
 use Rattle.norm_engine.proofs.Reading.{behind}
 use Rattle.norm_engine.proofs.Stepping.{AreOfEra, era_told, sides, segment_frames, segment_verdict}
-use Rattle.norm_engine.proofs.Joining.{carried_in, side_of}
+use Rattle.norm_engine.proofs.Joining.{inward_is, made_of}
 use Rattle.norm_engine.proofs.Lawfuls.{RowsAreOfEras, both_of, calls_with, called, long_enough, segment_is}
 
 -- the octets of a packet that goes out
@@ -132,10 +132,6 @@ with_segment settings era sent cs now d o known is = record {
     silent_here true false written was = All-nil IsSilentPacket
     silent_here false inward written was = All-nil IsSilentPacket
 
-inward_is : (side : Side) → is_inward (Some side) ≡ goes_in side
-inward_is Inward = refl
-inward_is Outward = refl
-
 -- what is sent for a segment is what becomes of it
 sent_is : (settings : PlainSettings) (link : Link) (history : List Item) (r : records.Packet) (d : Datagram)
     → segment_after settings link history r ≡ Some d → AreOfEra settings link (read_after settings link history r) r d
@@ -145,7 +141,7 @@ sent_is settings link history r d h rows =
     let o = outcome_of settings read d in
     let frame_side = side_of_frame settings link r.octets in
     let told = sides (dropped_by settings link read r) frame_side (λ rule dropped. era_told settings read.past.calls d rule (sym rows.dropped ∙ dropped)) in
-    let side = side_of settings link r d (carried_in settings link r d (both_of (is_segment settings) (datagram_after settings link history r) d h).0) in
+    let side = (made_of settings link (past_of settings link history r) r d (both_of (is_segment settings) (datagram_after settings link history r) d h).0).told in
     λ i. record {
       inward = (ap is_inward (told ∙ side) ∙ inward_is d.side) i;
       era = era_by (option_map (outcome_of settings read) (h i));
@@ -162,11 +158,11 @@ pub record PacketLaws : Type 0 where
   pub plain : PacketsArePlain
   pub silent : ProbesAreSilent
 
-packets_are : PacketLaws → (settings : PlainSettings) (link : Link) (history : List Item) (r : records.Packet) (d : Datagram) → settings.hops ≤ 254 → HasOctets r
+packets_are : PacketLaws → (settings : PlainSettings) (link : Link) (history : List Item) (r : records.Packet) (d : Datagram) → settings.hops ≤ 254 → HaveOctets history → HasOctets r
     → segment_after settings link history r ≡ Some d → AreOf settings d (outcome_of settings (read_after settings link history r) d)
-packets_are laws settings link history r d hops octets h =
+packets_are laws settings link history r d hops older octets h =
     let v = view_of settings (past_of settings link history r).calls d in
-    let is : IsSegment settings d = segment_is laws.known settings link history r d octets h in
+    let is : IsSegment settings d = segment_is laws.known settings link history r d older octets h in
     record {
       protocol = is.protocol;
       own = laws.own settings v d hops is;
@@ -175,11 +171,11 @@ packets_are laws settings link history r d hops octets h =
     }
 
 -- with one record more
-as_called_with : PacketLaws → (settings : PlainSettings) (link : Link) (era : ℕ) (history : List Item) (r : records.Packet) → settings.hops ≤ 254 → HasOctets r
+as_called_with : PacketLaws → (settings : PlainSettings) (link : Link) (era : ℕ) (history : List Item) (r : records.Packet) → settings.hops ≤ 254 → HaveOctets history → HasOctets r
     → IsAsCalled settings.hops era (sent_in link history) (flow_calls settings link history)
     → IsAsCalled settings.hops era (sent_in link (item_of settings link history r ∷ history)) (flow_calls settings link (item_of settings link history r ∷ history))
-as_called_with laws settings link era history r hops octets before =
-    let calls = calls_with laws.rows laws.known laws.own settings link history r hops octets (segment_after settings link history r) refl in
+as_called_with laws settings link era history r hops older octets before =
+    let calls = calls_with laws.rows laws.known laws.own settings link history r hops older octets (segment_after settings link history r) refl in
     subst (IsAsCalled settings.hops era (sent_in link (item ∷ history))) (sym calls) (by (segment_after settings link history r) refl)
   where
     item : Item
@@ -202,7 +198,7 @@ as_called_with laws settings link era history r hops octets before =
         let o = outcome_of settings (read_after settings link history r) d in
         subst (λ s. IsAsCalled settings.hops era (s ∷ sent_in link history) (datagram now d o ∷ past))
         (sym (sent_is settings link history r d h (laws.rows settings link history r d h)))
-        (with_segment settings era (sent_in link history) past now d o (packets_are laws settings link history r d hops octets h) idle)
+        (with_segment settings era (sent_in link history) past now d o (packets_are laws settings link history r d hops older octets h) idle)
 
 as_called : PacketLaws → (settings : PlainSettings) (link : Link) (era : ℕ) (trace : List Item) → IsSound settings link trace
     → IsAsCalled settings.hops era (sent_in link trace) (flow_calls settings link trace)
@@ -210,7 +206,7 @@ as_called laws settings link era [] sound = record { written = refl; plain = All
 as_called laws settings link era (item ∷ older) sound =
     let before = as_called laws settings link era older (record { hops = sound.hops; octets = sound.octets.0; lawful = sound.lawful.0 }) in
     subst (λ x. IsAsCalled settings.hops era (sent_in link (x ∷ older)) (flow_calls settings link (x ∷ older))) (sym sound.lawful.1)
-    (as_called_with laws settings link era older item.packet sound.hops sound.octets.1 before)
+    (as_called_with laws settings link era older item.packet sound.hops sound.octets.0 sound.octets.1 before)
 
 emitted_era : PacketLaws → CallsAreEmitted → LawfulCallsAreMade → (settings : PlainSettings) (link : Link) (trace : List Item) → IsSound settings link trace
     → (era : ℕ) → IsEmittedEra settings.hops era (sent_in link trace)

@@ -26,7 +26,7 @@ use Rattle.tcp_norm.specs.Outcomes.{outcome_by, outcome_at, ends}
 use Rattle.norm_engine.specs.Laws.{ItemsAreCounted}
 use Rattle.norm_engine.specs.Items.{now_with}
 use Rattle.norm_engine.specs.Calls.{flow_calls}
-use Rattle.norm_engine.specs.Trace.{Read, read_after, dropped_by, frames_by, frames_with, outcome_of, ended_by}
+use Rattle.norm_engine.specs.Trace.{Read, read_after, is_held, dropped_by, frames_by, frames_with, outcome_of, ended_by}
 
 one_probe : (settings : PlainSettings) (d : Datagram) (probe : Option Probe) → length (probe_packets settings d probe) ≤ 1
 one_probe settings d None = omega arith
@@ -42,12 +42,13 @@ few_packets : (settings : PlainSettings) (v : View) (d : Datagram) (dropped : Op
 few_packets settings v d (Some rule) mended = let one = one_probe settings d (probe_dropped v d rule) in omega (arith, one)
 few_packets settings v d None mended = few_passed settings d _ _ _ _ _
 
-few_plain : (dropped : Option Rule) (passed : List ℕ) → length (frames_by dropped passed) ≤ 2
-few_plain None passed = omega arith
-few_plain (Some rule) passed = omega arith
+few_plain : (dropped : Option Rule) (held : Bool) (passed : List ℕ) → length (frames_by dropped held passed) ≤ 2
+few_plain None true passed = omega arith
+few_plain None false passed = omega arith
+few_plain (Some rule) held passed = omega arith
 
 few_frames : (settings : PlainSettings) (link : Link) (read : Read) (r : records.Packet) (segment : Option Datagram) → length (frames_with settings link read r segment) ≤ 2
-few_frames settings link read r None = few_plain (dropped_by settings link read r) _
+few_frames settings link read r None = few_plain (dropped_by settings link read r) (is_held read) _
 few_frames settings link read r (Some d) =
     let v = view_of settings read.past.calls d in
     subst (λ n. n ≤ 2) (sym (length-map (outcome_at settings v d).packets (frame_of (link_octets link r.octets)))) (few_packets settings v d (era.dropped_by settings v d) (era.mended_by settings v d))

@@ -2,6 +2,7 @@
 use Rattle.std.proofs.Common.{◌≡◌, ℕ, ◌+◌, ◌*◌, ◌≤◌, ◌<◌, Bool, true, false, cond, ◌&&◌, ◌||◌, ◌==◌, not, nat_lt, List, [], ◌∷◌, ◌++◌, length, take, drop, get_or, Option, Some, None, is_none, refl, sym, ap, ap₂, ◌∙◌, subst, arith}
 use Rattle.std.specs.List.{AllByRecursion, list_any}
 use Rattle.std.specs.Option.{option_or}
+use Rattle.std.specs.Prelude.{option_map}
 use Rattle.std.proofs.lemmas.Grind.{common_steps}
 use Rattle.std.proofs.lemmas.Bool.{eqb-true}
 use Rattle.std.proofs.lemmas.Bool.Decides.{nat_tests}
@@ -20,7 +21,7 @@ use Rattle.rule_book.specs.declared.rule.Rule.{Rule}
 use Rattle.rule_book.specs.declared.rule.Rule.TheVariants as rules
 use Rattle.rule_book.specs.declared.entry.Verdict.TheVariants as verdicts
 use Rattle.norm_settings.specs.Settings.{PlainSettings}
-use Rattle.ip_rules.specs.Rows.{carries_ip, packet_in, link_octets}
+use Rattle.ip_rules.specs.Rows.{carries_ip, packet_in, link_octets, piece_fix_rows, ip_fixes}
 use Rattle.ip_rules.specs.Datagrams.{Datagram, Packet, IsPacketOf, DatagramsAreKnown, AnewIsPacket, datagram_in, frame_of, frames_of, anew}
 use Rattle.dgram_rules.specs.Rows.{pseudo_of, holds_dgram, dgram_dropped_by, u_short, u_sum_out}
 use Rattle.tcp_norm.specs.Rows as era
@@ -28,16 +29,20 @@ use Rattle.tcp_norm.specs.Views.{view_of}
 use Rattle.tcp_norm.specs.Outcomes.{verdict_of}
 use Rattle.tcp_norm.specs.Segments as segments
 use Rattle.tcp_norm.specs.Segments.{PacketsAreItsOwn, CleanKeepsPayload}
+use Rattle.reassembly.specs.Pieces.{is_whole}
+use Rattle.reassembly.specs.Rows as fragments
+use Rattle.reassembly.specs.Rows.{answer_by, is_done}
 use Rattle.norm_engine.specs.Items.{Item}
+use Rattle.norm_engine.specs.Fragments.{Offering, fragment_in, offering_of, holds_offered, pieces_before}
 use Rattle.norm_engine.specs.Laws.{IsSound}
 use Rattle.norm_engine.specs.Frames.{octets_sent, mended_frame, frame_by}
 use Rattle.norm_engine.specs.Calls.{segment_after}
-use Rattle.norm_engine.specs.Trace.{Read, read_after, is_quoted_live, dropped_by, named_rows, outcome_of, frames_by, verdict_by, item_of}
-use Rattle.norm_engine.specs.Clean.{touches_payload, is_clean, payload_of, payload_in, KeepsPayload, CleanIsKept, HasOctets}
+use Rattle.norm_engine.specs.Trace.{Read, read_after, is_held, is_quoted_live, dropped_by, named_rows, outcome_of, frames_by, verdict_by, item_of}
+use Rattle.norm_engine.specs.Clean.{touches_payload, is_clean, payload_of, payload_in, KeepsPayload, CleanIsKept, HasOctets, HaveOctets}
 use Rattle.norm_engine.proofs.Reading.{behind}
 use Rattle.norm_engine.proofs.Stepping.{segment_frames, plain_frames}
-use Rattle.norm_engine.proofs.Joining.{IsCarried, carried_in, row_of_datagram, dropped_by_layers}
-use Rattle.norm_engine.proofs.Judging.{whole_frame}
+use Rattle.norm_engine.proofs.Joining.{IsCarried, carried_in, row_of_piece, row_of_datagram, mends_of_life, named_of_piece, dropped_by_layers, named_by_layers}
+use Rattle.norm_engine.proofs.Judging.{unjoined, whole_frame}
 use Rattle.norm_engine.proofs.Lawfuls.{RowsAreOfEras, both_of, segment_is, not_short, link_kept}
 
 -- the payload by the protocol
@@ -165,20 +170,54 @@ clean_parts None false h = (refl, refl)
 clean_parts None true h = absurd (cc)
 clean_parts (Some rule) touched h = absurd (cc)
 
+-- a record that no row drops and no rule that touches a payload names carries no fragment
+
+any_parts : (xs ys : List Rule) → list_any touches_payload (xs ++ ys) ≡ false → (list_any touches_payload xs ≡ false) × (list_any touches_payload ys ≡ false)
+any_parts [] ys h = (refl, h)
+any_parts (x ∷ xs) ys h =
+    let here = none_left (touches_payload x) (list_any touches_payload (xs ++ ys)) h in
+    let rest = any_parts xs ys here.1 in
+    (ap₂ (λ a b. a || b) here.0 rest.0, rest.1)
+
+touched_by : (row : Option Rule) (whole : Bool) → row ≡ None
+    → let answer = answer_by row whole in
+    list_any touches_payload (cond (fragments.is_held answer) (rules.FHeld ∷ cond (is_done answer) (rules.FDone ∷ []) []) (cond (is_done answer) (rules.FDone ∷ []) [])) ≡ true
+touched_by None true h = refl
+touched_by None false h = refl
+touched_by (Some rule) whole h = absurd (cc)
+
+no_piece : (piece : Option Offering) → row_of_piece piece ≡ None → list_any touches_payload (named_of_piece piece) ≡ false → piece ≡ None
+no_piece None row named = refl
+no_piece (Some o) row named = let touched = touched_by (fragments.dropped_by o.view o.piece) (is_whole (o.piece ∷ o.view.pieces)) row in absurd (both_ways (sym touched ∙ named))
+  where
+    both_ways : true ≡ false → ⊥
+    both_ways e = absurd (cc)
+
+nothing_in : {A B : Type 0} (f : A → B) (x : Option A) → option_map f x ≡ None → x ≡ None
+nothing_in f None h = refl
+nothing_in f (Some x) h = absurd (cc)
+
 module _ (known : DatagramsAreKnown) (fresh : AnewIsPacket) (own : PacketsAreItsOwn) (keeps : CleanKeepsPayload) (rows : RowsAreOfEras)
-    (settings : PlainSettings) (link : Link) (older : List Item) (r : records.Packet) (hops : settings.hops ≤ 254) (octets : HasOctets r) where
+    (settings : PlainSettings) (link : Link) (older : List Item) (r : records.Packet) (hops : settings.hops ≤ 254) (before : HaveOctets older) (octets : HasOctets r) where
   abbrev read : Read
   read = read_after settings link older r
 
+  -- a record that carries no fragment makes the datagram that it carries
+  own_datagram : fragment_in settings link r ≡ None → read.datagram ≡ datagram_in settings link r
+  own_datagram bare = unjoined settings link (pieces_before settings link older r) r bare
+
+  not_held : fragment_in settings link r ≡ None → is_held read ≡ false
+  not_held bare = ap (λ x. holds_offered (option_map (offering_of settings (pieces_before settings link older r)) x) rules.FHeld) bare
+
   -- a segment
-  of_segment : (d : Datagram) → segment_after settings link older r ≡ Some d → dropped_by settings link read r ≡ None → list_any touches_payload (named_rows settings link read r) ≡ false
+  of_segment : (d : Datagram) → fragment_in settings link r ≡ None → segment_after settings link older r ≡ Some d → dropped_by settings link read r ≡ None → list_any touches_payload (named_rows settings link read r) ≡ false
       → KeepsPayload link (item_of settings link older r)
-  of_segment d h undropped untouched =
+  of_segment d bare h undropped untouched =
       let v = view_of settings read.past.calls d in
       let t = rows settings link older r d h in
-      let made = (both_of _ _ d h).0 in
+      let made = sym (own_datagram bare) ∙ (both_of _ _ d h).0 in
       let c = carried_in settings link r d made in
-      let s = segment_is known settings link older r d octets h in
+      let s = segment_is known settings link older r d before octets h in
       let kept = keeps settings v d s (sym t.dropped ∙ undropped) (none_touches d.fixes (era.mended_by settings v d) (sym (ap (list_any touches_payload) t.named) ∙ untouched)) in
       let packets : List Packet = (outcome_of settings read d).packets in
       let is : IsPacketOf settings d kept.packet = (subst (AllByRecursion (IsPacketOf settings d)) kept.only (own settings v d hops s)).0 in
@@ -190,8 +229,8 @@ module _ (known : DatagramsAreKnown) (fresh : AnewIsPacket) (own : PacketsAreIts
         same = sent_payload settings link r d c kept.packet is
             ∙ (ap (λ n. payload_by n kept.packet.octets) six ∙ (kept.same ∙ sym (ap (λ n. payload_by n d.octets) six)) ∙ sym (read_payload settings link r d c));
         whole = λ pass.
-            let bare = bare_of_pass (named_rows settings link read r) (sym (ap (λ x. verdict_by x (named_rows settings link read r)) undropped) ∙ pass) in
-            let none = both_empty d.fixes (era.mended_by settings v d) (sym t.named ∙ bare) in
+            let unmended = bare_of_pass (named_rows settings link read r) (sym (ap₂ (λ x y. verdict_by x y (named_rows settings link read r)) undropped t.held) ∙ pass) in
+            let none = both_empty d.fixes (era.mended_by settings v d) (sym t.named ∙ unmended) in
             let header : d.header ≡ ip.header (packet_in link r.octets) = sym (ap (λ (e : Datagram). e.header) c.is) in
             let body : d.octets ≡ ip.payload (packet_in link r.octets) = sym (ap (λ (e : Datagram). e.octets) c.is) in
             ap (frame_of (link_octets link r.octets)) (kept.whole none.0 none.1)
@@ -200,25 +239,28 @@ module _ (known : DatagramsAreKnown) (fresh : AnewIsPacket) (own : PacketsAreIts
       }
 
   -- another record
-  of_other : (datagram : Option Datagram) (named : List Rule) → datagram_in settings link r ≡ datagram → named_rows settings link read r ≡ named → read.segment ≡ None → dropped_by settings link read r ≡ None
-      → KeepsPayload link (item_of settings link older r)
-  of_other None named made is none undropped = record {
+  of_other : (datagram : Option Datagram) (named : List Rule) → fragment_in settings link r ≡ None → datagram_in settings link r ≡ datagram → named_rows settings link read r ≡ named → read.segment ≡ None
+      → dropped_by settings link read r ≡ None → KeepsPayload link (item_of settings link older r)
+  of_other None named bare made is none undropped = record {
     frame = r.octets;
-    only = plain_frames settings link read r none ∙ (λ i. frames_by (undropped i) (frame_by settings (link_octets link r.octets) r.octets (made i) (named_rows settings link read r)));
+    only = plain_frames settings link read r none
+        ∙ (λ i. frames_by (undropped i) (not_held bare i) (frame_by settings (link_octets link r.octets) r.octets ((own_datagram bare ∙ made) i) (named_rows settings link read r)));
     same = refl;
     whole = λ pass. refl;
   }
-  of_other (Some d) [] made is none undropped = record {
+  of_other (Some d) [] bare made is none undropped = record {
     frame = r.octets;
-    only = plain_frames settings link read r none ∙ (λ i. frames_by (undropped i) (frame_by settings (link_octets link r.octets) r.octets (made i) (is i)));
+    only = plain_frames settings link read r none
+        ∙ (λ i. frames_by (undropped i) (not_held bare i) (frame_by settings (link_octets link r.octets) r.octets ((own_datagram bare ∙ made) i) (is i)));
     same = refl;
     whole = λ pass. refl;
   }
-  of_other (Some d) (rule ∷ more) made is none undropped =
+  of_other (Some d) (rule ∷ more) bare made is none undropped =
       let c = carried_in settings link r d made in
       let live = is_quoted_live read.past.calls (quoted_in d.octets) in
-      let row : row_of_datagram settings read.past.calls read.datagram ≡ None = (first_none _ _ (first_none _ _ (sym (dropped_by_layers settings link r read) ∙ undropped)).1).0 in
-      let passes : dgram_dropped_by settings live d ≡ None = sym (ap (row_of_datagram settings read.past.calls) made) ∙ row in
+      let row : row_of_datagram settings read.past.calls read.datagram ≡ None =
+      (first_none _ _ (first_none _ _ (first_none _ _ (sym (dropped_by_layers settings link r read) ∙ undropped)).1).1).0 in
+      let passes : dgram_dropped_by settings live d ≡ None = sym (ap (row_of_datagram settings read.past.calls) (own_datagram bare ∙ made)) ∙ row in
       let sends = sent_by (holds_dgram settings false d rules.USumOut) settings d refl
       (λ mends. not_short_udp settings live d passes (both_true (d.head.protocol == 17) (u_sum_out settings d) mends)) in
       let k = known settings link r d octets made in
@@ -227,25 +269,30 @@ module _ (known : DatagramsAreKnown) (fresh : AnewIsPacket) (own : PacketsAreIts
       let p = anew settings d (octets_sent settings d) in
       record {
         frame = mended_frame settings (link_octets link r.octets) d;
-        only = plain_frames settings link read r none ∙ (λ i. frames_by (undropped i) (frame_by settings (link_octets link r.octets) r.octets (made i) (is i)));
+        only = plain_frames settings link read r none
+            ∙ (λ i. frames_by (undropped i) (not_held bare i) (frame_by settings (link_octets link r.octets) r.octets ((own_datagram bare ∙ made) i) (is i)));
         same = sent_payload settings link r d c p (fresh settings d (octets_sent settings d) hops k.sizes (omega (arith, short, size))) ∙ (sends.payload ∙ sym (read_payload settings link r d c));
-        whole = λ pass. absurd (pass_is_bare rule more (sym (ap₂ verdict_by undropped is) ∙ pass));
+        whole = λ pass. absurd (pass_is_bare rule more (sym (λ i. verdict_by (undropped i) (not_held bare i) (is i)) ∙ pass));
       }
 
   pub of_clean : is_clean settings link older r ≡ true → KeepsPayload link (item_of settings link older r)
   of_clean clean =
       let parts = clean_parts (dropped_by settings link read r) (list_any touches_payload (named_rows settings link read r)) clean in
-      by read.segment refl parts.0 parts.1
+      let row = (first_none _ _ (first_none _ _ (sym (dropped_by_layers settings link r read) ∙ parts.0)).1).0 in
+      let named = sym (ap (list_any touches_payload) (named_by_layers settings link r read)) ∙ parts.1 in
+      let piece = (any_parts (named_of_piece read.piece) _ (any_parts (mends_of_life settings read.datagram) _ (any_parts (ip_fixes settings link r piece_fix_rows) _ named).1).1).0 in
+      let bare = nothing_in (offering_of settings (pieces_before settings link older r)) (fragment_in settings link r) (no_piece read.piece row piece) in
+      by bare read.segment refl parts.0 parts.1
     where
-      by : (segment : Option Datagram) → read.segment ≡ segment → dropped_by settings link read r ≡ None → list_any touches_payload (named_rows settings link read r) ≡ false
-          → KeepsPayload link (item_of settings link older r)
-      by None h undropped untouched = of_other (datagram_in settings link r) (named_rows settings link read r) refl refl h undropped
-      by (Some d) h undropped untouched = of_segment d h undropped untouched
+      by : fragment_in settings link r ≡ None → (segment : Option Datagram) → read.segment ≡ segment → dropped_by settings link read r ≡ None
+          → list_any touches_payload (named_rows settings link read r) ≡ false → KeepsPayload link (item_of settings link older r)
+      by bare None h undropped untouched = of_other (datagram_in settings link r) (named_rows settings link read r) bare refl refl h undropped
+      by bare (Some d) h undropped untouched = of_segment d bare h undropped untouched
 
 pub clean_is_kept : DatagramsAreKnown → AnewIsPacket → PacketsAreItsOwn → CleanKeepsPayload → RowsAreOfEras → (settings : PlainSettings) (link : Link) (trace : List Item)
     → IsSound settings link trace → CleanIsKept settings link trace
 clean_is_kept known fresh own keeps rows settings link [] sound = tt
 clean_is_kept known fresh own keeps rows settings link (item ∷ older) sound = (
   clean_is_kept known fresh own keeps rows settings link older (record { hops = sound.hops; octets = sound.octets.0; lawful = sound.lawful.0 }),
-  λ clean. subst (KeepsPayload link) (sym sound.lawful.1) (of_clean known fresh own keeps rows settings link older item.packet sound.hops sound.octets.1 clean),
+  λ clean. subst (KeepsPayload link) (sym sound.lawful.1) (of_clean known fresh own keeps rows settings link older item.packet sound.hops sound.octets.0 sound.octets.1 clean),
 )

@@ -1,8 +1,9 @@
 -- The calls of a lawful trace are those that the rules make of its segments.
-use Rattle.std.proofs.Common.{◌≡◌, ℕ, ◌≤◌, Bool, true, false, cond, ◌&&◌, ◌||◌, not, nat_lt, List, [], ◌∷◌, length, find, Option, Some, None, is_none, refl, sym, ap, subst, ◌∙◌, arith}
+use Rattle.std.proofs.Common.{◌≡◌, ℕ, ◌≤◌, Bool, true, false, cond, ◌&&◌, ◌||◌, not, nat_lt, List, [], ◌∷◌, ◌++◌, length, take, find, Option, Some, None, is_none, refl, sym, ap, subst, ◌∙◌, arith}
 use Rattle.std.proofs.lemmas.Bool.{eqb-true}
 use Rattle.std.proofs.lemmas.Bool.Decides.{nat_tests}
 use Rattle.std.specs.List.{AllByRecursion}
+use Rattle.std.specs.Option.{option_or}
 use Rattle.wire_base.specs.declared.address.Link.{Link}
 use Rattle.wire_base.specs.declared.address.Link.TheVariants.{Ethernet, Raw}
 use Rattle.wire_base.specs.Sums.{sum_is_right, pseudo_sum}
@@ -13,8 +14,16 @@ use Rattle.rule_book.specs.declared.rule.Rule.{Rule}
 use Rattle.rule_book.specs.declared.rule.Rule.TheVariants as rules
 use Rattle.rule_book.specs.Rules.{segment_rows}
 use Rattle.norm_settings.specs.Settings.{PlainSettings}
-use Rattle.ip_rules.specs.Rows.{l_snap, l_short, ip_dropped_by}
-use Rattle.ip_rules.specs.Datagrams.{Datagram, DatagramsAreKnown, datagram_in, carries_datagram, goes_in}
+use Rattle.wire_base.specs.Ipv4 as ip
+use Rattle.ip_rules.specs.Rows.{packet_in, l_snap, l_short, ip_dropped_by}
+use Rattle.ip_rules.specs.Datagrams.{Datagram, DatagramsAreKnown, IsKnown, datagram_in, goes_in}
+use Rattle.ip_rules.proofs.Known.{packet_octets, sizes}
+use Rattle.ip_rules.proofs.Octets.{taken, dropped}
+use Rattle.reassembly.specs.Pieces.{Fragment}
+use Rattle.reassembly.specs.Calls as reassembly
+use Rattle.reassembly.specs.Rows.{AreAnswered, answer_at, is_done}
+use Rattle.reassembly.specs.Laws.{IsSized, AreSized}
+use Rattle.reassembly.proofs.Sizes.{wholes_are_sized}
 use Rattle.dgram_rules.specs.Rows as dgram
 use Rattle.tcp_norm.specs.Calls.{Call}
 use Rattle.tcp_norm.specs.Views.{view_of}
@@ -23,11 +32,14 @@ use Rattle.tcp_norm.specs.Segments.{IsSegment, AsksSegment, AreOfSegments, Packe
 use Rattle.tcp_norm.specs.Lives.{AreMade}
 use Rattle.norm_engine.specs.Items.{Item, now_with}
 use Rattle.norm_engine.specs.Laws.{IsSound}
+use Rattle.norm_engine.specs.Fragments.{fragment_in, with_offered, piece_calls, pieces_before, offering_in, joined_in}
 use Rattle.norm_engine.specs.Rows.{is_tcp, is_segment, holds_tcp, t_short, t_hlen, t_sum, t_flags, t_opt_bad}
 use Rattle.norm_engine.specs.Calls.{where_passes, segment_after, datagram_after, past_of, flow_calls}
 use Rattle.norm_engine.specs.Trace.{item_of, read_after}
-use Rattle.norm_engine.specs.Clean.{HasOctets}
+use Rattle.norm_engine.specs.Clean.{HasOctets, HaveOctets}
 use Rattle.norm_engine.proofs.Stepping.{AreOfEra, segment_calls, plain_calls}
+use Rattle.norm_engine.proofs.Joining.{IsJoined, fragment_is, joined_of, made_of}
+use Rattle.norm_engine.proofs.Judging.{kept_packet, not_nil}
 
 -- the calls with that of a segment, if there is one
 abbrev pub called : PlainSettings → List Call → (now : ℕ) → Option Datagram → List Call
@@ -79,17 +91,15 @@ right_inward true true offload e h = absurd (cc)
 right_inward false inward offload e h = refl
 right_inward true false offload e h = absurd (cc)
 
--- the segment of a record of octets
-pub segment_is : DatagramsAreKnown → (settings : PlainSettings) (link : Link) (history : List Item) (r : records.Packet) (d : Datagram)
-    → HasOctets r → segment_after settings link history r ≡ Some d → IsSegment settings d
-segment_is known settings link history r d octets h =
-    let here = both_of (is_segment settings) (datagram_after settings link history r) d h in
-    let parts = both (is_tcp d) (is_none (find (holds_tcp settings d) segment_rows)) here.1 in
+-- a known datagram that no row on the header of its segment drops
+pub segment_known : (settings : PlainSettings) (d : Datagram) → IsKnown settings d → is_segment settings d ≡ true → IsSegment settings d
+segment_known settings d known is =
+    let parts = both (is_tcp d) (is_none (find (holds_tcp settings d) segment_rows)) is in
     let six : d.head.protocol ≡ 6 = eqb-true d.head.protocol 6 parts.0 in
     let none = no_fault (is_tcp d) (t_short d) (t_hlen d) (t_sum settings d) (t_flags d) (t_opt_bad d) parts.0 parts.1 in
     let sizes = header_fits (tcp.header_length d.octets) (length d.octets) none.is_hlen in
     record {
-      known = known settings link r d octets here.0;
+      known = known;
       protocol = six;
       least = sizes.0;
       inside = sizes.1;
@@ -100,21 +110,81 @@ segment_is known settings link history r d octets h =
           subst (λ n. sum_is_right d.octets (pseudo_sum d.head.src.0 d.head.dst.0 n (length d.octets)) ≡ true) six (stands (sum_is_right d.octets (dgram.pseudo_of d)) right);
     }
 
+-- the pieces of a history of octets
+
+piece_sized : (settings : PlainSettings) (link : Link) (r : records.Packet) (piece : Fragment) → HasOctets r → fragment_in settings link r ≡ Some piece → IsSized piece
+piece_sized settings link r piece octets h =
+    let each = packet_octets link r.octets octets in
+    let p = packet_in link r.octets in
+    subst IsSized (fragment_is settings link r piece h).is (record { tos = each 1; ttl = each 8; octets = dropped (ip.header_length p) (take (ip.total_length p) p) (taken (ip.total_length p) p each) })
+
+with_sized : (settings : PlainSettings) (piece : Option Fragment) (now : ℕ) (calls : List reassembly.Call) → ((p : Fragment) → piece ≡ Some p → IsSized p) → AreSized calls
+    → AreSized (with_offered settings piece now calls)
+with_sized settings None now calls is all = all
+with_sized settings (Some p) now calls is all = (is p refl, all)
+
+pieces_sized : (settings : PlainSettings) (link : Link) (history : List Item) → HaveOctets history → AreSized (piece_calls settings link history)
+pieces_sized settings link [] octets = tt
+pieces_sized settings link (item ∷ older) octets =
+    with_sized settings (fragment_in settings link item.packet) (now_with older item.packet) (reassembly.expiry (now_with older item.packet) ∷ piece_calls settings link older)
+    (λ p h. piece_sized settings link item.packet p octets.1 h) (pieces_sized settings link older octets.0)
+
+with_answered : (settings : PlainSettings) (piece : Option Fragment) (now : ℕ) (calls : List reassembly.Call) → AreAnswered settings calls → AreAnswered settings (with_offered settings piece now calls)
+with_answered settings None now calls all = all
+with_answered settings (Some p) now calls all = (refl, all)
+
+-- each piece of a history was answered as the rows say
+pub pieces_answered : (settings : PlainSettings) (link : Link) (history : List Item) → AreAnswered settings (piece_calls settings link history)
+pieces_answered settings link [] = tt
+pieces_answered settings link (item ∷ older) =
+    with_answered settings (fragment_in settings link item.packet) (now_with older item.packet) (reassembly.expiry (now_with older item.packet) ∷ piece_calls settings link older)
+    (pieces_answered settings link older)
+
+answer_is : (answer : reassembly.Answer) → is_done answer ≡ true → answer ≡ reassembly.done
+answer_is reassembly.held h = absurd (cc)
+answer_is reassembly.done h = refl
+answer_is (reassembly.dropped rule) h = absurd (cc)
+
+joined_known : (settings : PlainSettings) (link : Link) (history : List Item) (r : records.Packet) (d : Datagram) → HaveOctets history → HasOctets r
+    → IsJoined settings link (pieces_before settings link history r) r d → IsKnown settings d
+joined_known settings link history r d older octets j =
+    let p = packet_in link r.octets in
+    let calls = pieces_before settings link history r in
+    let f = fragment_is settings link r j.piece j.offered in
+    let is = wholes_are_sized settings calls j.piece (pieces_answered settings link history) (pieces_sized settings link history older) (piece_sized settings link r j.piece octets j.offered)
+    (answer_is _ j.done) in
+    let size = sizes p (packet_octets link r.octets octets) in
+    subst (IsKnown settings) j.is (record {
+      sizes = record { tos = is.tos; ident = size.ident; ttl = is.ttl; protocol = size.protocol; source = size.source; destination = size.destination };
+      known = (kept_packet settings link r (record { undropped = f.undropped; carries = f.carried })).known;
+      short = is.short;
+      each = is.octets;
+      whole = λ none. absurd (not_nil _ rules.FDone none);
+    })
+
+-- what is known of the datagram of a record, where it and those before it are octets
+pub datagram_known : DatagramsAreKnown → (settings : PlainSettings) (link : Link) (history : List Item) (r : records.Packet) (d : Datagram) → HaveOctets history → HasOctets r
+    → datagram_after settings link history r ≡ Some d → IsKnown settings d
+datagram_known known settings link history r d older octets h = by (datagram_in settings link r) refl h
+  where
+    calls : List reassembly.Call
+    calls = pieces_before settings link history r
+
+    by : (x : Option Datagram) → datagram_in settings link r ≡ x → option_or x (joined_in settings link r (offering_in settings link calls r)) ≡ Some d → IsKnown settings d
+    by None is h = joined_known settings link history r d older octets (joined_of settings link calls r d h)
+    by (Some e) is h = known settings link r d octets (is ∙ h)
+
+-- the segment of a record of octets
+pub segment_is : DatagramsAreKnown → (settings : PlainSettings) (link : Link) (history : List Item) (r : records.Packet) (d : Datagram)
+    → HaveOctets history → HasOctets r → segment_after settings link history r ≡ Some d → IsSegment settings d
+segment_is known settings link history r d older octets h =
+    let here = both_of (is_segment settings) (datagram_after settings link history r) d h in
+    segment_known settings d (datagram_known known settings link history r d older octets here.0) here.1
+
 -- a frame of Ethernet that no row on the link drops has its whole header
 rest_none : {A : Type 0} (b : Bool) (x : A) (rest : Option A) → cond b (Some x) rest ≡ None → (b ≡ false) × (rest ≡ None)
 rest_none true x rest h = absurd (cc)
 rest_none false x rest h = (refl, h)
-
-none_is : (first : Option Rule) (b : Bool) → (is_none first && b) ≡ true → first ≡ None
-none_is None b h = refl
-none_is (Some rule) b h = absurd (cc)
-
-kept_of : (test : Bool) (o : Option Datagram) (d : Datagram) → cond test o None ≡ Some d → test ≡ true
-kept_of true o d h = refl
-kept_of false o d h = absurd (cc)
-
-pub undropped : (settings : PlainSettings) (link : Link) (r : records.Packet) (d : Datagram) → datagram_in settings link r ≡ Some d → ip_dropped_by settings link r ≡ None
-undropped settings link r d h = none_is (ip_dropped_by settings link r) (carries_datagram link r.octets) (kept_of _ _ d h)
 
 pub not_short : (link : Link) (frame : List ℕ) → l_short link frame ≡ false → link ≡ Ethernet → 14 ≤ length frame
 not_short Raw frame h is = absurd (cc)
@@ -127,7 +197,7 @@ link_kept settings link r none = (rest_none (l_short link r.octets) rules.LShort
 pub long_enough : (settings : PlainSettings) (link : Link) (history : List Item) (r : records.Packet) (d : Datagram) → segment_after settings link history r ≡ Some d
     → link ≡ Ethernet → 14 ≤ length r.octets
 long_enough settings link history r d h =
-    not_short link r.octets (link_kept settings link r (undropped settings link r d (both_of (is_segment settings) (datagram_after settings link history r) d h).0))
+    not_short link r.octets (link_kept settings link r (made_of settings link (past_of settings link history r) r d (both_of (is_segment settings) (datagram_after settings link history r) d h).0).undropped)
 
 -- the rows of each segment are those of its connection
 abbrev pub RowsAreOfEras : Type 0
@@ -136,13 +206,13 @@ RowsAreOfEras =
     → segment_after settings link history r ≡ Some d → AreOfEra settings link (read_after settings link history r) r d
 
 -- the calls with one record more
-pub calls_with : RowsAreOfEras → DatagramsAreKnown → PacketsAreItsOwn → (settings : PlainSettings) (link : Link) (history : List Item) (r : records.Packet) → settings.hops ≤ 254 → HasOctets r
+pub calls_with : RowsAreOfEras → DatagramsAreKnown → PacketsAreItsOwn → (settings : PlainSettings) (link : Link) (history : List Item) (r : records.Packet) → settings.hops ≤ 254 → HaveOctets history → HasOctets r
     → (segment : Option Datagram) → segment_after settings link history r ≡ segment
     → flow_calls settings link (item_of settings link history r ∷ history) ≡ called settings (past_of settings link history r).calls (now_with history r) segment
-calls_with rows known own settings link history r hops octets None h = plain_calls settings link history r h
-calls_with rows known own settings link history r hops octets (Some d) h =
+calls_with rows known own settings link history r hops before octets None h = plain_calls settings link history r h
+calls_with rows known own settings link history r hops before octets (Some d) h =
     segment_calls settings link history r d (long_enough settings link history r d h) (rows settings link history r d h)
-    (own settings (view_of settings (past_of settings link history r).calls d) d hops (segment_is known settings link history r d octets h))
+    (own settings (view_of settings (past_of settings link history r).calls d) d hops (segment_is known settings link history r d before octets h))
 
 made_with : (settings : PlainSettings) (cs : List Call) (now : ℕ) (segment : Option Datagram) → AreMade settings cs → AreMade settings (called settings cs now segment)
 made_with settings cs now None made = made
@@ -161,9 +231,9 @@ calls_are_made rows known own settings link (item ∷ older) sound =
     let r = item.packet in
     let same : flow_calls settings link (item ∷ older) ≡ called settings (past_of settings link older r).calls (now_with older r) (segment_after settings link older r) =
     ap (λ (x : Item). flow_calls settings link (x ∷ older)) sound.lawful.1
-    ∙ calls_with rows known own settings link older r sound.hops sound.octets.1 (segment_after settings link older r) refl in
+    ∙ calls_with rows known own settings link older r sound.hops sound.octets.0 sound.octets.1 (segment_after settings link older r) refl in
     subst (AreOfSegments settings) (sym same) (record {
       made = made_with settings (past_of settings link older r).calls (now_with older r) (segment_after settings link older r) (refl, before.made);
       asked = asked_with settings (past_of settings link older r).calls (now_with older r) (segment_after settings link older r)
-          (λ d h. segment_is known settings link older r d sound.octets.1 h) (tt, before.asked);
+          (λ d h. segment_is known settings link older r d sound.octets.0 sound.octets.1 h) (tt, before.asked);
     })

@@ -9,5 +9,5 @@ pub mod Lawfuls
 pub mod Joined
 pub mod Agreeing
 pub mod Keeping
-pub mod Later
+pub mod Rooms
 pub mod Stepped

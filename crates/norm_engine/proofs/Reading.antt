@@ -91,11 +91,11 @@ outcome_other settings v d = by (era.dropped_by settings v d)
 
 -- the verdict and the rules of an entry are those of the outcome
 pub verdict_back : (settings : PlainSettings) (v : View) (d : Datagram) (dropped : Option Rule) (mended : List Rule)
-    → verdict_by dropped (d.fixes ++ mended) ≡ (outcome_by settings v d dropped mended).verdict
+    → verdict_by dropped false (d.fixes ++ mended) ≡ (outcome_by settings v d dropped mended).verdict
 verdict_back settings v d None mended = refl
 verdict_back settings v d (Some rule) mended = refl
 
 pub rules_back : (settings : PlainSettings) (v : View) (d : Datagram) (dropped : Option Rule) (mended : List Rule)
-    → rules_by dropped (era.noted v d) (d.fixes ++ mended) ≡ (outcome_by settings v d dropped mended).rules
+    → rules_by dropped false (era.noted v d) (d.fixes ++ mended) ≡ (outcome_by settings v d dropped mended).rules
 rules_back settings v d None mended = sym (append_assoc (era.noted v d) d.fixes mended)
 rules_back settings v d (Some rule) mended = refl

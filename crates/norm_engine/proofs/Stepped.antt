@@ -12,7 +12,7 @@ use Rattle.rule_book.specs.declared.rule.Rule.{Rule}
 use Rattle.norm_settings.specs.Settings.{PlainSettings}
 use Rattle.ip_rules.specs.declared.judged.IpPacket.{IpPacket}
 use Rattle.ip_rules.specs.Rows.{link_octets}
-use Rattle.ip_rules.specs.Datagrams.{Datagram, DatagramsAreKnown, datagram_with, head_at}
+use Rattle.ip_rules.specs.Datagrams.{Datagram, datagram_with, head_at}
 use Rattle.ipv4_codec.specs.Write.{plain_header}
 use Rattle.dgram_rules.specs.Rows.{pseudo_of}
 use Rattle.tcp_norm.specs.Calls.{Call, Alive, numbers_of}
@@ -22,15 +22,17 @@ use Rattle.tcp_norm.specs.Standing as flows
 use Rattle.tcp_norm.specs.Outcomes.{call_of}
 use Rattle.tcp_norm.specs.Segments.{PacketsAreItsOwn}
 use Rattle.norm_engine.specs.declared.judge.Judgment.{Judgment}
-use Rattle.norm_engine.specs.declared.judge.Judgment.TheVariants.{Arp, Drop, Send, Segment}
+use Rattle.norm_engine.specs.declared.judge.Judgment.TheVariants.{Arp, Drop, Hold, Send, Segment}
+use Rattle.reassembly.specs.Assemblies as fragments
 use Rattle.norm_engine.specs.Items.{Item, now_with}
+use Rattle.norm_engine.specs.Rows.{is_segment}
+use Rattle.norm_engine.specs.Fragments.{piece_calls}
 use Rattle.norm_engine.specs.Calls.{past_of, flow_calls}
-use Rattle.norm_engine.specs.Clean.{HasOctets}
 use Rattle.norm_engine.specs.Frames.{octets_sent, mended_frame, frame_by}
-use Rattle.norm_engine.specs.Trace.{Read, read_after, item_of, named_rows, frames_by, emits}
+use Rattle.norm_engine.specs.Trace.{Read, read_after, is_held, item_of, named_rows, frames_by, emits}
 use Rattle.norm_engine.specs.Engine.{Engaged, StandsFor, IsTaken, IsSent, Judges, Fits, frames_for, frame_for, frame_with, payload_for}
 use Rattle.norm_engine.proofs.Stepping.{taken_rows, segment_calls, plain_calls, plain_frames}
-use Rattle.norm_engine.proofs.Lawfuls.{segment_is, long_enough}
+use Rattle.norm_engine.proofs.Lawfuls.{both_of, segment_known, long_enough}
 
 -- at most two eras end for being idle
 
@@ -51,6 +53,7 @@ few_idle settings now calls segments =
 pub room_for : (settings : PlainSettings) (link : Link) (r : records.Packet) (judgment : Judgment) → ∥ ((read : Read) × Judges settings link read r judgment) ∥₁ → Fits judgment r.octets
 room_for settings link r Arp judged = ∥∥₁_elim judged le_prop (λ j. j.1.short)
 room_for settings link r (Drop side rule) judged = tt
+room_for settings link r (Hold side) judged = tt
 room_for settings link r (Send packet mend) judged = (
   ∥∥₁_elim judged le_prop (λ j. j.1.fits),
   λ mends. ∥∥₁_elim judged le_prop (λ j. j.1.whole mends),
@@ -63,6 +66,7 @@ pub no_segment : (settings : PlainSettings) (link : Link) (read : Read) (r : rec
     → ((packet : IpPacket) (head : Tcp) → judgment ≡ Segment packet head → ⊥) → read.segment ≡ None
 no_segment settings link read r Arp j other = j.segment
 no_segment settings link read r (Drop side rule) j other = j.segment
+no_segment settings link read r (Hold side) j other = j.segment
 no_segment settings link read r (Send packet mend) j other = j.segment
 no_segment settings link read r (Segment packet head) j other = absurd (other packet head refl)
 
@@ -90,47 +94,56 @@ frame_named settings link read mended (rule ∷ more) d same = same
 pub other_frames : (settings : PlainSettings) (link : Link) (read : Read) (r : records.Packet) (judgment : Judgment) → Judges settings link read r judgment → read.segment ≡ None
     → frames_for judgment settings.hops link r.octets ≡ emits settings link read r
 other_frames settings link read r Arp j none =
-    sym (plain_frames settings link read r none ∙ (λ i. frames_by (j.undropped i) (frame_by settings (link_octets link r.octets) r.octets (j.datagram i) (named_rows settings link read r))))
-other_frames settings link read r (Drop side rule) j none = sym (plain_frames settings link read r none ∙ ap (λ d. frames_by d (frame_by settings (link_octets link r.octets) r.octets read.datagram (named_rows settings link read r))) j.dropped)
+    sym (plain_frames settings link read r none
+    ∙ (λ i. frames_by (j.undropped i) (j.held i) (frame_by settings (link_octets link r.octets) r.octets (j.datagram i) (named_rows settings link read r))))
+other_frames settings link read r (Drop side rule) j none =
+    sym (plain_frames settings link read r none ∙ ap (λ d. frames_by d (is_held read) (frame_by settings (link_octets link r.octets) r.octets read.datagram (named_rows settings link read r))) j.dropped)
+other_frames settings link read r (Hold side) j none =
+    sym (plain_frames settings link read r none
+    ∙ (λ i. frames_by (j.undropped i) (j.held i) (frame_by settings (link_octets link r.octets) r.octets read.datagram (named_rows settings link read r))))
 other_frames settings link read r (Send packet mend) j none =
     ap (λ frame. frame ∷ [])
     (ap (λ (read : List ℕ). frame_with packet.fixes.items read (frame_for packet mend settings.hops link)) j.frame
     ∙ frame_named settings (link_octets link r.octets) r.octets (frame_for packet mend settings.hops link) packet.fixes.items j.own (sent_frame settings link read r packet mend j))
-    ∙ sym (plain_frames settings link read r none ∙ (λ i. frames_by (j.undropped i) (frame_by settings (link_octets link r.octets) r.octets (j.datagram i) (j.named i))))
+    ∙ sym (plain_frames settings link read r none ∙ (λ i. frames_by (j.undropped i) (j.held i) (frame_by settings (link_octets link r.octets) r.octets (j.datagram i) (j.named i))))
 other_frames settings link read r (Segment packet head) j none = let never = sym j.segment ∙ none in absurd (cc)
 
--- the history with one item more
-pub segment_stands : DatagramsAreKnown → PacketsAreItsOwn → (old new : Engaged) (history : List Item) (r : records.Packet) (packet : IpPacket) (head : Tcp)
-    → old.settings.hops ≤ 254 → HasOctets r → (t : IsTaken old.settings old.link (read_after old.settings old.link history r) r packet head)
+-- the engine stands for the history with one item more, where its connections and its fragments stand for the calls with that
+stands_with : (old new : Engaged) (history : List Item) (r : records.Packet)
     → StandsFor old history → new.settings ≡ old.settings → new.link ≡ old.link → new.records ≡ old.records + 1 → new.latest ≡ now_with history r
-    → flows.StandsFor old.settings new.norm (call_of old.settings (past_of old.settings old.link history r).calls (now_with history r) t.own ∷ (past_of old.settings old.link history r).calls)
+    → flows.StandsFor old.settings new.norm (flow_calls old.settings old.link (item_of old.settings old.link history r ∷ history))
+    → fragments.StandsFor old.settings new.pieces (piece_calls old.settings old.link (item_of old.settings old.link history r ∷ history))
     → StandsFor new (item_of old.settings old.link history r ∷ history)
-segment_stands known own old new history r packet head hops octets t stands settings link counted latest norm =
-    let read = read_after old.settings old.link history r in
-    let past = past_of old.settings old.link history r in
-    let d = t.own in
-    let s = segment_is known old.settings old.link history r d octets t.segment in
-    let calls = segment_calls old.settings old.link history r d (long_enough old.settings old.link history r d t.segment) (taken_rows old.settings old.link read r packet head t)
-    (own old.settings (view_of old.settings past.calls d) d hops s) in
-    let item = item_of old.settings old.link history r in
+stands_with old new history r stands settings link counted latest norm pieces =
+    let items = item_of old.settings old.link history r ∷ history in
     record {
       counted = counted ∙ (ap (λ n. n + 1) stands.counted ∙ omega arith);
       latest = latest;
-      flows = subst (λ (e : PlainSettings). flows.StandsFor e new.norm (flow_calls e new.link (item ∷ history))) (sym settings)
-          (subst (λ (l : Link). flows.StandsFor old.settings new.norm (flow_calls old.settings l (item ∷ history))) (sym link)
-          (subst (flows.StandsFor old.settings new.norm) (sym calls) norm));
+      flows = subst (λ (e : PlainSettings). flows.StandsFor e new.norm (flow_calls e new.link items)) (sym settings)
+          (subst (λ (l : Link). flows.StandsFor old.settings new.norm (flow_calls old.settings l items)) (sym link) norm);
+      pieces = subst (λ (e : PlainSettings). fragments.StandsFor e new.pieces (piece_calls e new.link items)) (sym settings)
+          (subst (λ (l : Link). fragments.StandsFor old.settings new.pieces (piece_calls old.settings l items)) (sym link) pieces);
     }
+
+pub segment_stands : PacketsAreItsOwn → (old new : Engaged) (history : List Item) (r : records.Packet) (packet : IpPacket) (head : Tcp)
+    → old.settings.hops ≤ 254 → (t : IsTaken old.settings old.link (read_after old.settings old.link history r) r packet head)
+    → StandsFor old history → new.settings ≡ old.settings → new.link ≡ old.link → new.records ≡ old.records + 1 → new.latest ≡ now_with history r
+    → flows.StandsFor old.settings new.norm (call_of old.settings (past_of old.settings old.link history r).calls (now_with history r) t.own ∷ (past_of old.settings old.link history r).calls)
+    → fragments.StandsFor old.settings new.pieces (piece_calls old.settings old.link (item_of old.settings old.link history r ∷ history))
+    → StandsFor new (item_of old.settings old.link history r ∷ history)
+segment_stands own old new history r packet head hops t stands settings link counted latest norm pieces =
+    let read = read_after old.settings old.link history r in
+    let past = past_of old.settings old.link history r in
+    let d = t.own in
+    let s = segment_known old.settings d t.known (both_of (is_segment old.settings) read.datagram d t.segment).1 in
+    let calls = segment_calls old.settings old.link history r d (long_enough old.settings old.link history r d t.segment) (taken_rows old.settings old.link read r packet head t)
+    (own old.settings (view_of old.settings past.calls d) d hops s) in
+    stands_with old new history r stands settings link counted latest (subst (flows.StandsFor old.settings new.norm) (sym calls) norm) pieces
 
 pub other_stands : (old new : Engaged) (history : List Item) (r : records.Packet) → (read_after old.settings old.link history r).segment ≡ None
     → StandsFor old history → new.settings ≡ old.settings → new.link ≡ old.link → new.records ≡ old.records + 1 → new.latest ≡ now_with history r
     → flows.StandsFor old.settings new.norm (past_of old.settings old.link history r).calls
+    → fragments.StandsFor old.settings new.pieces (piece_calls old.settings old.link (item_of old.settings old.link history r ∷ history))
     → StandsFor new (item_of old.settings old.link history r ∷ history)
-other_stands old new history r none stands settings link counted latest norm =
-    let item = item_of old.settings old.link history r in
-    record {
-      counted = counted ∙ (ap (λ n. n + 1) stands.counted ∙ omega arith);
-      latest = latest;
-      flows = subst (λ (e : PlainSettings). flows.StandsFor e new.norm (flow_calls e new.link (item ∷ history))) (sym settings)
-          (subst (λ (l : Link). flows.StandsFor old.settings new.norm (flow_calls old.settings l (item ∷ history))) (sym link)
-          (subst (flows.StandsFor old.settings new.norm) (sym (plain_calls old.settings old.link history r none)) norm));
-    }
+other_stands old new history r none stands settings link counted latest norm pieces =
+    stands_with old new history r stands settings link counted latest (subst (flows.StandsFor old.settings new.norm) (sym (plain_calls old.settings old.link history r none)) norm) pieces

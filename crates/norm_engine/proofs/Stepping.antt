@@ -27,11 +27,11 @@ use Rattle.tcp_norm.specs.Rows as era
 use Rattle.tcp_norm.specs.Outcomes.{call_of}
 use Rattle.tcp_norm.specs.Passing.{Reports}
 use Rattle.norm_engine.specs.declared.judge.Judgment.{Judgment}
-use Rattle.norm_engine.specs.declared.judge.Judgment.TheVariants.{Arp, Drop, Send, Segment}
+use Rattle.norm_engine.specs.declared.judge.Judgment.TheVariants.{Arp, Drop, Hold, Send, Segment}
 use Rattle.norm_engine.specs.Items.{Item, now_with}
 use Rattle.norm_engine.specs.Rows.{side_of_frame}
 use Rattle.norm_engine.specs.Calls.{past_of, outcome_in, with_asked, flow_calls, is_idle, packet_of}
-use Rattle.norm_engine.specs.Trace.{Read, read_after, holds, holds_of, dropped_by, noted_rows, named_rows, outcome_of, frames_with, frames_by, emits, verdict_by, rules_by, side_by, era_by, begun_by, ended_by, item_by, item_of}
+use Rattle.norm_engine.specs.Trace.{Read, read_after, is_held, holds, holds_of, dropped_by, noted_rows, named_rows, outcome_of, frames_with, frames_by, emits, verdict_by, rules_by, side_by, era_by, begun_by, ended_by, item_by, item_of}
 use Rattle.norm_engine.specs.Frames.{frame_by}
 use Rattle.norm_engine.specs.Engine.{IsTaken, Judges, entry_for}
 use Rattle.norm_engine.proofs.Reading.{packets_back, idle_kept, idle_left, idle_numbers, outcome_other, verdict_back, rules_back}
@@ -60,12 +60,13 @@ sides (Some rule) side told = ap (λ b. cond b side None) (told rule refl)
 -- the rows of a segment are those of its connection
 pub record AreOfEra (settings : PlainSettings) (link : Link) (read : Read) (r : records.Packet) (d : Datagram) : Type 0 where
   pub segment : read.segment ≡ Some d
+  pub held : is_held read ≡ false
   pub dropped : dropped_by settings link read r ≡ era.dropped_by settings (view_of settings read.past.calls d) d
   pub noted : noted_rows settings link read r ≡ era.noted (view_of settings read.past.calls d) d
   pub named : named_rows settings link read r ≡ d.fixes ++ era.mended_by settings (view_of settings read.past.calls d) d
 
 pub taken_rows : (settings : PlainSettings) (link : Link) (read : Read) (r : records.Packet) (packet : IpPacket) (head : Tcp) (t : IsTaken settings link read r packet head) → AreOfEra settings link read r t.own
-taken_rows settings link read r packet head t = record { segment = t.segment; dropped = t.dropped; noted = t.noted; named = t.named }
+taken_rows settings link read r packet head t = record { segment = t.segment; held = t.held; dropped = t.dropped; noted = t.noted; named = t.named }
 
 -- the frames, the verdict and the rules of a segment's item are those of its outcome
 
@@ -74,16 +75,16 @@ pub segment_frames : (settings : PlainSettings) (link : Link) (read : Read) (r :
 segment_frames settings link read r d t = ap (frames_with settings link read r) t.segment
 
 pub segment_verdict : (settings : PlainSettings) (link : Link) (read : Read) (r : records.Packet) (d : Datagram) → AreOfEra settings link read r d
-    → verdict_by (dropped_by settings link read r) (named_rows settings link read r) ≡ (outcome_of settings read d).verdict
+    → verdict_by (dropped_by settings link read r) (is_held read) (named_rows settings link read r) ≡ (outcome_of settings read d).verdict
 segment_verdict settings link read r d t =
     let v = view_of settings read.past.calls d in
-    ap₂ verdict_by t.dropped t.named ∙ verdict_back settings v d (era.dropped_by settings v d) (era.mended_by settings v d)
+    (λ i. verdict_by (t.dropped i) (t.held i) (t.named i)) ∙ verdict_back settings v d (era.dropped_by settings v d) (era.mended_by settings v d)
 
 pub segment_rules : (settings : PlainSettings) (link : Link) (read : Read) (r : records.Packet) (d : Datagram) → AreOfEra settings link read r d
-    → rules_by (dropped_by settings link read r) (noted_rows settings link read r) (named_rows settings link read r) ≡ (outcome_of settings read d).rules
+    → rules_by (dropped_by settings link read r) (is_held read) (noted_rows settings link read r) (named_rows settings link read r) ≡ (outcome_of settings read d).rules
 segment_rules settings link read r d t =
     let v = view_of settings read.past.calls d in
-    (λ i. rules_by (t.dropped i) (t.noted i) (t.named i)) ∙ rules_back settings v d (era.dropped_by settings v d) (era.mended_by settings v d)
+    (λ i. rules_by (t.dropped i) (t.held i) (t.noted i) (t.named i)) ∙ rules_back settings v d (era.dropped_by settings v d) (era.mended_by settings v d)
 
 -- the entry of a segment
 pub segment_entry : (settings : PlainSettings) (link : Link) (read : Read) (r : records.Packet) (packet : IpPacket) (head : Tcp) (number : ℕ) (old new : Entry)
@@ -120,38 +121,41 @@ era_none : (settings : PlainSettings) (read : Read) → read.segment ≡ None �
 era_none settings read none = ap (option_map (outcome_of settings read)) none
 
 pub plain_frames : (settings : PlainSettings) (link : Link) (read : Read) (r : records.Packet) → read.segment ≡ None
-    → emits settings link read r ≡ frames_by (dropped_by settings link read r) (frame_by settings (link_octets link r.octets) r.octets read.datagram (named_rows settings link read r))
+    → emits settings link read r ≡ frames_by (dropped_by settings link read r) (is_held read) (frame_by settings (link_octets link r.octets) r.octets read.datagram (named_rows settings link read r))
 plain_frames settings link read r none = ap (frames_with settings link read r) none
 
--- the entry of a record that is no segment, by its row and the rows that mend it
-plain_entry : (settings : PlainSettings) (link : Link) (read : Read) (r : records.Packet) (number : ℕ) (dropped : Option Rule) (named : List Rule) (side : Option Side)
-    → read.segment ≡ None → dropped_by settings link read r ≡ dropped → named_rows settings link read r ≡ named → side_by dropped (side_of_frame settings link r.octets) ≡ side
+-- the entry of a record that is no segment, by its row, whether it is held back, and the rows that mend it
+plain_entry : (settings : PlainSettings) (link : Link) (read : Read) (r : records.Packet) (number : ℕ) (dropped : Option Rule) (held : Bool) (named : List Rule) (side : Option Side)
+    → read.segment ≡ None → dropped_by settings link read r ≡ dropped → is_held read ≡ held → named_rows settings link read r ≡ named → side_by dropped (side_of_frame settings link r.octets) ≡ side
     → (item_by settings link read r number).entry
-    ≡ record { number = number; side = side; verdict = verdict_by dropped named; packets = length (frames_by dropped (r.octets)); rules = rules_by dropped [] named; era = None; begun = None; ended = read.past.idle }
-plain_entry settings link read r number dropped named side none d n s =
+    ≡ record { number = number; side = side; verdict = verdict_by dropped held named; packets = length (frames_by dropped held r.octets); rules = rules_by dropped held [] named; era = None; begun = None; ended = read.past.idle }
+plain_entry settings link read r number dropped held named side none d w n s =
     λ i. record {
       number = number;
       side = (ap (λ x. side_by x (side_of_frame settings link r.octets)) d ∙ s) i;
-      verdict = verdict_by (d i) (n i);
-      packets = (ap length (plain_frames settings link read r none) ∙ (counts (dropped_by settings link read r) _ ∙ ap (λ x. length (frames_by x r.octets)) d)) i;
-      rules = rules_by (d i) (nothing_noted settings link read r none i) (n i);
+      verdict = verdict_by (d i) (w i) (n i);
+      packets = (ap length (plain_frames settings link read r none) ∙ (counts (dropped_by settings link read r) (is_held read) _ ∙ ap₂ (λ x y. length (frames_by x y r.octets)) d w)) i;
+      rules = rules_by (d i) (w i) (nothing_noted settings link read r none i) (n i);
       era = era_by (era_none settings read none i);
       begun = begun_by (era_none settings read none i);
       ended = (ap (λ o. read.past.idle ++ ended_by o) (era_none settings read none) ∙ append-nil read.past.idle) i;
     }
   where
-    counts : (x : Option Rule) (frame : List ℕ) → length (frames_by x frame) ≡ length (frames_by x r.octets)
-    counts None frame = refl
-    counts (Some rule) frame = refl
+    counts : (x : Option Rule) (held : Bool) (frame : List ℕ) → length (frames_by x held frame) ≡ length (frames_by x held r.octets)
+    counts None true frame = refl
+    counts None false frame = refl
+    counts (Some rule) held frame = refl
 
 pub other_entry : (settings : PlainSettings) (link : Link) (read : Read) (r : records.Packet) (number : ℕ) (judgment : Judgment) → Judges settings link read r judgment
     → read.segment ≡ None → entry_for number judgment read.past.idle ≡ (item_by settings link read r number).entry
 other_entry settings link read r number Arp j none =
-    sym (plain_entry settings link read r number None [] None none j.undropped j.named j.side)
+    sym (plain_entry settings link read r number None false [] None none j.undropped j.held j.named j.side)
 other_entry settings link read r number (Drop side rule) j none =
-    sym (plain_entry settings link read r number (Some rule) (named_rows settings link read r) side none j.dropped refl (sym j.side))
+    sym (plain_entry settings link read r number (Some rule) (is_held read) (named_rows settings link read r) side none j.dropped refl refl (sym j.side))
+other_entry settings link read r number (Hold side) j none =
+    sym (plain_entry settings link read r number None true (named_rows settings link read r) (Some side) none j.undropped j.held refl j.told)
 other_entry settings link read r number (Send packet mend) j none =
-    sym (plain_entry settings link read r number None packet.fixes.items (Some packet.side) none j.undropped j.named j.told)
+    sym (plain_entry settings link read r number None false packet.fixes.items (Some packet.side) none j.undropped j.held j.named j.told)
 other_entry settings link read r number (Segment packet head) j none = let no = sym j.segment ∙ none in absurd (cc)
 
 -- the calls of a history with an item

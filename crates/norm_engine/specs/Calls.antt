@@ -1,6 +1,7 @@
 -- What a history asks of the state of connections, call by call (this project's profile): for each record first which eras are idle by its time, and then
 -- its datagram, where that is a segment which no row before those of eras drops. Lists of calls have the newest at the head, as the history has.
 use Rattle.std.specs.Prelude.{ℕ, not, Bool, true, false, List, [], ◌∷◌, map, filter, Option, Some, None, if◌then◌else◌}
+use Rattle.std.specs.Option.{option_or}
 use Rattle.wire_base.specs.declared.address.Link.{Link}
 use Rattle.wire_base.specs.Ipv4 as ip
 use Rattle.pcap_file.specs.Records as records
@@ -14,7 +15,9 @@ use Rattle.tcp_norm.specs.Calls.{Call, expiry, datagram, Outcome, segments}
 use Rattle.tcp_norm.specs.Views.{idle_at}
 use Rattle.tcp_norm.specs.Steps.{idled}
 use Rattle.tcp_norm.specs.Outcomes.{expiry_of}
+use Rattle.reassembly.specs.Calls as reassembly
 use Rattle.norm_engine.specs.Items.{Item, now_with}
+use Rattle.norm_engine.specs.Fragments.{pieces_before, offering_in, joined_in}
 use Rattle.norm_engine.specs.Rows.{is_segment}
 
 -- what passes the test, if it does
@@ -22,9 +25,12 @@ abbrev pub where_passes : {A : Type 0} → (A → Bool) → Option A → Option 
 where_passes test None = None
 where_passes test (Some x) = if test x then Some x else None
 
--- the whole datagram of a record; a fragment makes none as long as no row on fragments is built
+-- the whole datagram of a record after these calls of reassembly: the one that it carries, or the one that its fragment makes whole
+abbrev pub datagram_by : PlainSettings → Link → (pieces : List reassembly.Call) → records.Packet → Option Datagram
+datagram_by settings link pieces r = option_or (datagram_in settings link r) (joined_in settings link r (offering_in settings link pieces r))
+
 abbrev pub datagram_after : PlainSettings → Link → (history : List Item) → records.Packet → Option Datagram
-datagram_after settings link history r = datagram_in settings link r
+datagram_after settings link history r = datagram_by settings link (pieces_before settings link history r) r
 
 -- the segment of a record that no row before those of eras drops
 abbrev pub segment_after : PlainSettings → Link → (history : List Item) → records.Packet → Option Datagram
@@ -71,10 +77,12 @@ flow_calls settings link (item ∷ older) =
     with_asked (segment_after settings link older item.packet) (now_with older item.packet) (outcome_in link item)
     (expiry_in older item ∷ flow_calls settings link older)
 
--- What the rows ask of a history before a record: the eras that are idle by the record's time, as they end, and the calls up to their end.
+-- What the rows ask of a history before a record: the eras that are idle by the record's time, as they end; the calls of connections up to their end; and
+-- those of reassembly, up to where old datagrams are forgotten.
 pub record Past : Type 0 where
   pub idle : List Ended
   pub calls : List Call
+  pub pieces : List reassembly.Call
 
 abbrev pub past_of : PlainSettings → Link → (history : List Item) → records.Packet → Past
 past_of settings link history r =
@@ -83,4 +91,5 @@ past_of settings link history r =
     record {
       idle = idled (λ era. segments era calls) (idle_at settings now calls);
       calls = expiry_of settings calls now ∷ calls;
+      pieces = pieces_before settings link history r;
     }

@@ -1,5 +1,5 @@
 -- What the engine holds, and what its answers say of a record.
-use Rattle.std.specs.Prelude.{◌≡◌, ℕ, ◌≤◌, Bool, true, false, List, [], ◌∷◌, ◌++◌, length, Option, Some, None, find, if◌then◌else◌}
+use Rattle.std.specs.Prelude.{◌≡◌, ℕ, ◌≤◌, ◌&&◌, nat_le, Bool, true, false, List, [], ◌∷◌, ◌++◌, length, Option, Some, None, find, if◌then◌else◌}
 use Rattle.std.specs.Option.{option_or}
 use Rattle.wire_base.specs.declared.address.Link.{Link}
 use Rattle.wire_base.specs.declared.address.Side.{Side}
@@ -9,16 +9,19 @@ use Rattle.tcp_codec.specs.declared.header.TcpFault.{TcpFault}
 use Rattle.tcp_codec.specs.declared.header.TcpFault.TheVariants as faults
 use Rattle.tcp_codec.specs.Header.{fields_of}
 use Rattle.udp_codec.specs.Checksum.{mended}
+use Rattle.icmp_codec.specs.Quote.{quoted_in}
 use Rattle.rule_book.specs.declared.rule.Rule.{Rule}
 use Rattle.rule_book.specs.declared.rule.Rule.TheVariants as rules
 use Rattle.rule_book.specs.declared.entry.Ended.{Ended}
+use Rattle.rule_book.specs.declared.entry.Verdict.{Verdict}
 use Rattle.rule_book.specs.declared.entry.Verdict.TheVariants as verdicts
 use Rattle.rule_book.specs.Rules.{segment_rows}
 use Rattle.rule_book.specs.Entries.{PlainEntry}
 use Rattle.norm_settings.specs.Settings.{PlainSettings}
 use Rattle.ip_rules.specs.declared.judged.IpPacket.{IpPacket}
 use Rattle.ip_rules.specs.Rows.{link_octets, tells_side}
-use Rattle.ip_rules.specs.Datagrams.{Datagram, datagram_in, datagram_with, head_at, IsDatagram}
+use Rattle.ip_rules.specs.Datagrams.{Datagram, datagram_with, goes_in, head_at, AreOctets, HasSizes, IsDatagram, IsKnown}
+use Rattle.ip_rules.specs.Judged.{where_holds}
 use Rattle.ipv4_codec.specs.Write.{plain_header}
 use Rattle.dgram_rules.specs.declared.judged.DgramJudged.{DgramJudged}
 use Rattle.dgram_rules.specs.declared.judged.DgramJudged.TheVariants as dgram
@@ -31,35 +34,47 @@ use Rattle.tcp_norm.specs.Views.{view_of}
 use Rattle.tcp_norm.specs.Outcomes.{verdict_of}
 use Rattle.tcp_norm.specs.Rows as era
 use Rattle.norm_engine.specs.declared.judge.Judgment.{Judgment}
-use Rattle.norm_engine.specs.declared.judge.Judgment.TheVariants.{Arp, Drop, Send, Segment}
+use Rattle.norm_engine.specs.declared.judge.Judgment.TheVariants.{Arp, Drop, Hold, Send, Segment}
 use Rattle.norm_engine.specs.declared.judge.Judged.{Judged}
 use Rattle.norm_engine.specs.declared.judge.Judged.TheVariants as judged
+use Rattle.reassembly.specs.declared.assembly.Assembly.{Assembly}
+use Rattle.reassembly.specs.declared.piece.Whole.{Whole}
+use Rattle.reassembly.specs.Pieces.{whole_of, datagram_octets}
+use Rattle.reassembly.specs.Calls as reassembly
+use Rattle.reassembly.specs.Assemblies as fragments
 use Rattle.norm_engine.specs.Items.{Item, now_at}
+use Rattle.norm_engine.specs.Fragments.{Offering, piece_calls, offering_in, pieces_with, head_of_whole}
 use Rattle.norm_engine.specs.Rows.{side_of_frame, t_short, t_hlen, t_sum, t_flags, t_opt_bad, holds_tcp, is_segment}
-use Rattle.norm_engine.specs.Calls.{Past, flow_calls, where_passes}
-use Rattle.norm_engine.specs.Trace.{Read, dropped_by, noted_rows, named_rows}
+use Rattle.norm_engine.specs.Calls.{Past, flow_calls, where_passes, datagram_by}
+use Rattle.norm_engine.specs.Trace.{Read, is_held, is_quoted_live, dropped_by, noted_rows, named_rows}
 
--- an engine as contracts see it: its settings, its link, the number of records so far, the greatest time of them in seconds, and its connections
+-- an engine as contracts see it: its settings, its link, the number of records so far, the greatest time of them in seconds, its connections, and the
+-- datagrams of which it holds fragments
 pub record Engaged : Type 0 where
   pub settings : PlainSettings
   pub link : Link
   pub records : ℕ
   pub latest : ℕ
   pub norm : TcpNorm
+  pub pieces : Assembly
 
--- The engine stands for the history: it has counted its items, holds the greatest time of their records, and its connections stand for the calls that
--- the history makes.
+-- The engine stands for the history: it has counted its items, holds the greatest time of their records, and its connections and its fragments stand for
+-- the calls that the history makes.
 pub record StandsFor (engine : Engaged) (history : List Item) : Type 0 where
   pub counted : engine.records ≡ length history
   pub latest : engine.latest ≡ now_at history
   pub flows : flows.StandsFor engine.settings engine.norm (flow_calls engine.settings engine.link history)
+  pub pieces : fragments.StandsFor engine.settings engine.pieces (piece_calls engine.settings engine.link history)
 
--- connections stand for some calls, none of them later than this time, with not more datagrams among them than so many records
-pub record Kept (settings : PlainSettings) (norm : TcpNorm) (records latest : ℕ) : Type 0 where
+-- connections stand for some calls, with not more datagrams among them than so many records, and fragments for others, none of them later than this time
+pub record Kept (settings : PlainSettings) (norm : TcpNorm) (pieces : Assembly) (records latest : ℕ) : Type 0 where
   pub calls : List Call
   pub stands : flows.StandsFor settings norm calls
   pub later : norm.latest ≤ latest
   pub few : norm.calls ≤ records
+  pub offers : List reassembly.Call
+  pub holds : fragments.StandsFor settings pieces offers
+  pub passed : fragments.last_time pieces ≤ latest
 
 -- the rule that a fault of a segment's header falls under
 abbrev pub rule_of : TcpFault → Rule
@@ -107,6 +122,7 @@ HeadIsRead d (judged.Segment head) = IsHeaded d head
 abbrev pub SegmentIsRead : Judgment → Type 0
 SegmentIsRead Arp = Unit {0}
 SegmentIsRead (Drop side rule) = Unit {0}
+SegmentIsRead (Hold side) = Unit {0}
 SegmentIsRead (Send packet mend) = Unit {0}
 SegmentIsRead (Segment packet head) = IsHeaded (datagram_with [] packet) head
 
@@ -129,6 +145,7 @@ pub record IsArp (settings : PlainSettings) (link : Link) (read : Read) (r : Pac
   pub datagram : read.datagram ≡ None
   pub segment : read.segment ≡ None
   pub undropped : dropped_by settings link read r ≡ None
+  pub held : is_held read ≡ false
   pub named : named_rows settings link read r ≡ []
   pub side : side_of_frame settings link r.octets ≡ None
   pub short : length r.octets ≤ 65549
@@ -139,12 +156,20 @@ pub record IsDropped (settings : PlainSettings) (link : Link) (read : Read) (r :
   pub dropped : dropped_by settings link read r ≡ Some rule
   pub side : told ≡ (if tells_side rule then side_of_frame settings link r.octets else None)
 
+-- a record that is a fragment to this side which no row drops, and after which its datagram is not whole
+pub record IsHeldBack (settings : PlainSettings) (link : Link) (read : Read) (r : Packet) (side : Side) : Type 0 where
+  pub segment : read.segment ≡ None
+  pub undropped : dropped_by settings link read r ≡ None
+  pub held : is_held read ≡ true
+  pub told : side_of_frame settings link r.octets ≡ Some side
+
 -- a record whose datagram goes out and is no segment: no row drops it, the rows that mend it are named, and the packet is what stands in its frame
 pub record IsSent (settings : PlainSettings) (link : Link) (read : Read) (r : Packet) (packet : IpPacket) (mend : Bool) : Type 0 where
   pub own : Datagram
   pub datagram : read.datagram ≡ Some own
   pub segment : read.segment ≡ None
   pub undropped : dropped_by settings link read r ≡ None
+  pub held : is_held read ≡ false
   pub named : named_rows settings link read r ≡ packet.fixes.items
   pub told : side_of_frame settings link r.octets ≡ Some packet.side
   pub side : own.side ≡ packet.side
@@ -161,8 +186,10 @@ pub record IsTaken (settings : PlainSettings) (link : Link) (read : Read) (r : P
   pub own : Datagram
   pub segment : read.segment ≡ Some own
   pub is : IsDatagram packet (link_octets link r.octets) own
+  pub known : IsKnown settings own
   pub told : side_of_frame settings link r.octets ≡ Some packet.side
   pub protocol : own.head.protocol ≡ 6
+  pub held : is_held read ≡ false
   pub dropped : dropped_by settings link read r ≡ era.dropped_by settings (view_of settings read.past.calls own) own
   pub noted : noted_rows settings link read r ≡ era.noted (view_of settings read.past.calls own) own
   pub named : named_rows settings link read r ≡ own.fixes ++ era.mended_by settings (view_of settings read.past.calls own) own
@@ -174,6 +201,7 @@ pub record IsTaken (settings : PlainSettings) (link : Link) (read : Read) (r : P
 abbrev pub Judges : PlainSettings → Link → Read → Packet → Judgment → Type 0
 Judges settings link read r Arp = IsArp settings link read r
 Judges settings link read r (Drop side rule) = IsDropped settings link read r side rule
+Judges settings link read r (Hold side) = IsHeldBack settings link read r side
 Judges settings link read r (Send packet mend) = IsSent settings link read r packet mend
 Judges settings link read r (Segment packet head) = IsTaken settings link read r packet head
 
@@ -181,10 +209,19 @@ Judges settings link read r (Segment packet head) = IsTaken settings link read r
 abbrev pub read_with : PlainSettings → Link → Past → Packet → Read
 read_with settings link past r =
     record {
-      datagram = datagram_in settings link r;
-      segment = where_passes (is_segment settings) (datagram_in settings link r);
+      piece = offering_in settings link past.pieces r;
+      datagram = datagram_by settings link past.pieces r;
+      segment = where_passes (is_segment settings) (datagram_by settings link past.pieces r);
       past = past;
     }
+
+-- the packet of a whole datagram: that of the fragment which made it whole, with the datagram's header and octets, and the rows that mend it
+pub record IsMadeWhole (hops : ℕ) (packet : IpPacket) (whole : Whole) (octets : List ℕ) (made : IpPacket) : Type 0 where
+  pub side : made.side ≡ packet.side
+  pub head : made.head ≡ head_of_whole packet.head whole
+  pub frame : made.frame.now ≡ packet.frame.now
+  pub payload : made.payload.now ≡ octets
+  pub fixes : made.fixes.items ≡ packet.fixes.items ++ where_holds (goes_in packet.side && nat_le whole.ttl hops) rules.ITtl ++ rules.FDone ∷ []
 
 -- the judgment on a whole packet whose datagram is judged so
 abbrev pub joined : IpPacket → Judged → Judgment
@@ -193,20 +230,42 @@ joined packet (judged.Drop rule) = Drop (Some packet.side) rule
 joined packet judged.Mend = Send (record packet { fixes = record { items = packet.fixes.items ++ rules.USumOut ∷ [] } }) true
 joined packet (judged.Segment head) = Segment packet head
 
+-- a whole packet is judged as its datagram, with a header of these octets, is
+pub record IsWholeJudged (settings : PlainSettings) (calls : List Call) (header : List ℕ) (packet : IpPacket) (judgment : Judgment) : Type 0 where
+  pub answer : Judged
+  pub follows : Follows settings (is_quoted_live calls (quoted_in packet.payload.now)) (datagram_with header packet) answer
+  pub is : judgment ≡ joined packet answer
+
+-- a whole packet was made of the datagram that a fragment completes, and is judged as its datagram is
+pub record IsJoinedJudged (settings : PlainSettings) (calls : List Call) (o : Offering) (packet : IpPacket) (judgment : Judgment) : Type 0 where
+  pub made : IpPacket
+  pub makes : IsMadeWhole settings.hops packet (whole_of (pieces_with o)) (datagram_octets (pieces_with o)) made
+  pub sizes : HasSizes made.head
+  pub each : AreOctets made.payload.now
+  pub short : length made.payload.now ≤ 65515
+  pub judged : IsWholeJudged settings calls [] made judgment
+
+-- a packet that is a fragment is judged by what was answered on it
+abbrev pub IsPieceJudged : PlainSettings → (calls : List Call) → Offering → IpPacket → Judgment → reassembly.Answer → Type 0
+IsPieceJudged settings calls o packet judgment reassembly.held = judgment ≡ Hold packet.side
+IsPieceJudged settings calls o packet judgment reassembly.done = IsJoinedJudged settings calls o packet judgment
+IsPieceJudged settings calls o packet judgment (reassembly.dropped rule) = judgment ≡ Drop (Some packet.side) rule
+
 -- the entry of a record that goes out, mended by these rules, with which these eras ended
 abbrev pub entry_written : (number : ℕ) → Option Side → List Rule → List Ended → PlainEntry
 entry_written number side named ended =
     record { number = number; side = side; verdict = verdict_of named; packets = 1; rules = named; era = None; begun = None; ended = ended }
 
--- the entry of a record that a row drops
-abbrev pub entry_dropped : (number : ℕ) → Option Side → Rule → List Ended → PlainEntry
-entry_dropped number side rule ended =
-    record { number = number; side = side; verdict = verdicts.Drop; packets = 0; rules = rule ∷ []; era = None; begun = None; ended = ended }
+-- the entry of a record for which nothing goes out, by this rule alone: it drops the record, or holds it back
+abbrev pub entry_stopped : (number : ℕ) → Option Side → Verdict → Rule → List Ended → PlainEntry
+entry_stopped number side verdict rule ended =
+    record { number = number; side = side; verdict = verdict; packets = 0; rules = rule ∷ []; era = None; begun = None; ended = ended }
 
 -- the entry of the record with this number, which is judged so and is no segment
 abbrev pub entry_for : (number : ℕ) → Judgment → List Ended → PlainEntry
 entry_for number Arp ended = entry_written number None [] ended
-entry_for number (Drop side rule) ended = entry_dropped number side rule ended
+entry_for number (Drop side rule) ended = entry_stopped number side verdicts.Drop rule ended
+entry_for number (Hold side) ended = entry_stopped number (Some side) verdicts.Hold rules.FHeld ended
 entry_for number (Send packet mend) ended = entry_written number (Some packet.side) packet.fixes.items ended
 entry_for number (Segment packet head) ended = entry_written number (Some packet.side) [] ended
 
@@ -214,6 +273,7 @@ entry_for number (Segment packet head) ended = entry_written number (Some packet
 abbrev pub Fits : Judgment → (octets : List ℕ) → Type 0
 Fits Arp octets = length octets ≤ 65549
 Fits (Drop side rule) octets = Unit {0}
+Fits (Hold side) octets = Unit {0}
 Fits (Send packet mend) octets =
     (length packet.payload.now ≤ 65515) × (mend ≡ true → 8 ≤ length packet.payload.now) × (packet.fixes.items ≡ [] → length packet.frame.now ≤ 65549)
 Fits (Segment packet head) octets = Unit {0}
@@ -237,5 +297,6 @@ frame_with (rule ∷ more) read mended = mended
 abbrev pub frames_for : Judgment → (hops : ℕ) → Link → (octets : List ℕ) → List (List ℕ)
 frames_for Arp hops link octets = octets ∷ []
 frames_for (Drop side rule) hops link octets = []
+frames_for (Hold side) hops link octets = []
 frames_for (Send packet mend) hops link octets = frame_with packet.fixes.items packet.frame.now (frame_for packet mend hops link) ∷ []
 frames_for (Segment packet head) hops link octets = []

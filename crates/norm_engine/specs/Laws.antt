@@ -1,21 +1,21 @@
 -- Laws of lawful traces.
-use Rattle.std.specs.Prelude.{◌≡◌, ◌≢◌, ◌↔◌, ℕ, ◌*◌, ◌≤◌, true, List, length, Some, None}
+use Rattle.std.specs.Prelude.{◌≡◌, ◌≢◌, ℕ, ◌*◌, ◌≤◌, true, List, length, Some}
 use Rattle.std.specs.List.{AllByRecursion}
 use Rattle.wire_base.specs.declared.address.Link.{Link}
 use Rattle.pcap_file.specs.Records.{Packet}
 use Rattle.rule_book.specs.declared.rule.Rule.TheVariants as rules
 use Rattle.rule_book.specs.Entries.{IsOfVersion}
 use Rattle.norm_settings.specs.Settings.{PlainSettings}
-use Rattle.ip_rules.specs.Rows.{ip_dropped_by}
 use Rattle.era_state.specs.Quantities.{base_of}
 use Rattle.era_agreement.specs.Sent.{written_in}
 use Rattle.era_agreement.specs.Laws.{TellsItsStream}
 use Rattle.tcp_norm.specs.Calls.{eras}
 use Rattle.tcp_norm.specs.Segments.{AreOfSegments, IsBounded}
+use Rattle.reassembly.specs.Laws as fragments
 use Rattle.norm_engine.specs.Items.{Item, packets}
-use Rattle.norm_engine.specs.Rows.{x_later}
+use Rattle.norm_engine.specs.Fragments.{piece_calls}
 use Rattle.norm_engine.specs.Calls.{flow_calls}
-use Rattle.norm_engine.specs.Trace.{Lawful, dropped_by, item_of, read_after}
+use Rattle.norm_engine.specs.Trace.{Lawful, item_of}
 use Rattle.norm_engine.specs.Clean.{HaveOctets, CleanIsKept}
 use Rattle.norm_engine.specs.Agreement.{Agree, sent_in}
 
@@ -50,10 +50,12 @@ abbrev pub LawfulCallsAreMade : Type 0
 LawfulCallsAreMade =
     (settings : PlainSettings) (link : Link) (trace : List Item) → IsSound settings link trace → AreOfSegments settings (flow_calls settings link trace)
 
--- At every history of a lawful trace no more eras are live, and no more blocks hold octets, than the settings allow.
+-- At every history of a lawful trace no more eras are live, no more blocks hold octets of streams, no more datagrams are held, and no more blocks hold octets of
+-- fragments, than the settings allow.
 pub record IsWithin (settings : PlainSettings) (link : Link) (history : List Item) : Type 0 where
   pub flows : length (eras (flow_calls settings link history)) ≤ settings.flows
   pub held : IsBounded settings (flow_calls settings link history)
+  pub fragments : fragments.IsWithin settings (piece_calls settings link history)
 
 -- a trace is itself a history of each longer one, so this holds of each history in one
 abbrev pub LawfulIsWithin : Type 0
@@ -76,10 +78,3 @@ abbrev pub LawfulTellsStreams : Type 0
 LawfulTellsStreams =
     (settings : PlainSettings) (link : Link) (trace : List Item) → IsSound settings link trace
     → (era base : ℕ) → base_of (written_in era (sent_in link trace)) ≡ Some base → TellsItsStream settings.hops era base (sent_in link trace)
-
--- X_LATER drops exactly the fragments that no row on the link, the header and the protocol drops.
-abbrev pub FragmentsAreLater : Type 0
-FragmentsAreLater =
-    (settings : PlainSettings) (link : Link) (history : List Item) (r : Packet)
-    → (dropped_by settings link (read_after settings link history r) r ≡ Some rules.XLater)
-    ↔ ((ip_dropped_by settings link r ≡ None) × (x_later link r.octets ≡ true))

@@ -1,5 +1,6 @@
 pub mod Items
 pub mod Rows
+pub mod Fragments
 pub mod Calls
 pub mod Frames
 pub mod Trace

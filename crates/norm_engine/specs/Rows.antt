@@ -1,9 +1,8 @@
--- The rows of the rule table on the header of a TCP segment, one definition each in the order of their numbers, and what no built row judges
+-- The rows of the rule table on the header of a TCP segment, one definition each in the order of their numbers
 -- (RFC 9293 section 3.1; which segments are dropped is this project's profile).
 use Rattle.std.specs.Prelude.{ℕ, ◌==◌, ◌&&◌, not, Bool, false, List, Option, None, is_none, find, if◌then◌else◌}
 use Rattle.wire_base.specs.declared.address.Link.{Link}
 use Rattle.wire_base.specs.declared.address.Side.{Side}
-use Rattle.wire_base.specs.Ipv4 as ip
 use Rattle.wire_base.specs.Tcp as tcp
 use Rattle.rule_book.specs.declared.rule.Rule.{Rule}
 use Rattle.rule_book.specs.declared.rule.Rule.TheVariants as rules
@@ -53,7 +52,3 @@ holds_tcp settings d _ = false
 -- the datagram is a TCP segment that no row on its header drops
 abbrev pub is_segment : PlainSettings → Datagram → Bool
 is_segment settings d = is_tcp d && is_none (find (holds_tcp settings d) segment_rows)
-
--- X_LATER: what no built row judges, a fragment
-abbrev pub x_later : Link → (frame : List ℕ) → Bool
-x_later link frame = carries_ip link frame && ip.is_fragment (packet_in link frame)

@@ -22,7 +22,8 @@ use Rattle.tcp_norm.specs.Views.{view_of}
 use Rattle.tcp_norm.specs.Rows.{holds_era}
 use Rattle.tcp_norm.specs.Outcomes.{outcome_at, verdict_of}
 use Rattle.norm_engine.specs.Items.{Item}
-use Rattle.norm_engine.specs.Rows.{side_of_frame, holds_tcp, x_later}
+use Rattle.norm_engine.specs.Rows.{side_of_frame, holds_tcp}
+use Rattle.norm_engine.specs.Fragments.{Offering, i_ttl, holds_offered, offering_in, pieces_before}
 use Rattle.norm_engine.specs.Calls.{Past, past_of, datagram_after, segment_after}
 use Rattle.norm_engine.specs.Frames.{frame_by}
 
@@ -35,9 +36,10 @@ abbrev pub is_quoted_live : List Call → Option QuotedKey → Bool
 is_quoted_live calls None = false
 is_quoted_live calls (Some q) = is_some (live calls (key_quoted q))
 
--- what a record's rows are read of: the datagram that it makes after its history, the segment that this is, where no row before those of eras drops it,
--- and what they ask of the history
+-- what a record's rows are read of: the fragment that it carries, with what its rows ask; the datagram that it makes after its history; the segment that
+-- this is, where no row before those of eras drops it; and what they ask of the history
 pub record Read : Type 0 where
+  pub piece : Option Offering
   pub datagram : Option Datagram
   pub segment : Option Datagram
   pub past : Past
@@ -45,6 +47,7 @@ pub record Read : Type 0 where
 abbrev pub read_after : PlainSettings → Link → (history : List Item) → Packet → Read
 read_after settings link history r =
     record {
+      piece = offering_in settings link (pieces_before settings link history r) r;
       datagram = datagram_after settings link history r;
       segment = segment_after settings link history r;
       past = past_of settings link history r;
@@ -58,12 +61,12 @@ holds_of (Some d) test = test d
 -- the layers of the rule table
 pub data Layer : Type 0 where
   link_and_header : Layer
+  fragments : Layer
+  lifetimes : Layer
   datagrams : Layer
   segment_headers : Layer
   eras : Layer
-  fragments : Layer
   cuts : Layer
-  later : Layer
 
 -- the layer of a rule's row
 abbrev pub layer_of : Rule → Layer
@@ -77,6 +80,7 @@ layer_of rules.FMany = fragments
 layer_of rules.FRoom = fragments
 layer_of rules.FHeld = fragments
 layer_of rules.FDone = fragments
+layer_of rules.ITtl = lifetimes
 layer_of rules.UShort = datagrams
 layer_of rules.ULen = datagrams
 layer_of rules.USum = datagrams
@@ -110,19 +114,18 @@ layer_of rules.TEnd = eras
 layer_of rules.TClash = eras
 layer_of rules.ECut = cuts
 layer_of rules.EMtu = cuts
-layer_of rules.XLater = later
 layer_of _ = link_and_header
 
--- whether the row of a layer holds of what was read; a row that is not built holds of none
+-- whether the row of a layer holds of what was read
 abbrev pub holds_at : Layer → PlainSettings → Link → Read → Packet → Rule → Bool
 holds_at link_and_header settings link read r rule = holds_ip settings link r rule
+holds_at fragments settings link read r rule = holds_offered read.piece rule
+holds_at lifetimes settings link read r rule = holds_of read.datagram (i_ttl settings)
 holds_at datagrams settings link read r rule =
     holds_of read.datagram (λ d. holds_dgram settings (is_quoted_live read.past.calls (quoted_in d.octets)) d rule)
 holds_at segment_headers settings link read r rule = holds_of read.datagram (λ d. holds_tcp settings d rule)
 holds_at eras settings link read r rule = holds_of read.segment (λ d. holds_era settings (view_of settings read.past.calls d) d rule)
-holds_at fragments settings link read r rule = false
 holds_at cuts settings link read r rule = false
-holds_at later settings link read r rule = x_later link r.octets
 
 -- whether the condition of a rule's row holds
 abbrev pub holds : PlainSettings → Link → Read → Packet → Rule → Bool
@@ -153,30 +156,34 @@ named_rows settings link read r = filter (holds settings link read r) (fix_rows 
 abbrev pub outcome_of : PlainSettings → Read → Datagram → Outcome
 outcome_of settings read d = outcome_at settings (view_of settings read.past.calls d) d
 
--- the frames of a record that is no segment: none where a row drops it
-abbrev pub frames_by : Option Rule → (passed : List ℕ) → List (List ℕ)
-frames_by (Some rule) passed = []
-frames_by None passed = passed ∷ []
+-- the record is a fragment that is held back: F_HELD holds
+abbrev pub is_held : Read → Bool
+is_held read = holds_offered read.piece rules.FHeld
+
+-- the frames of a record that is no segment: none where a row drops it, or where it is held back
+abbrev pub frames_by : Option Rule → (held : Bool) → (passed : List ℕ) → List (List ℕ)
+frames_by (Some rule) held passed = []
+frames_by None held passed = if held then [] else passed ∷ []
 
 -- the frames of a record, by its segment: those of the segment's packets, among them a probe for one that is dropped; and otherwise its own, where no row
 -- drops it
 abbrev pub frames_with : PlainSettings → Link → Read → Packet → (segment : Option Datagram) → List (List ℕ)
 frames_with settings link read r (Some d) = frames_of (link_octets link r.octets) (outcome_of settings read d).packets
 frames_with settings link read r None =
-    frames_by (dropped_by settings link read r) (frame_by settings (link_octets link r.octets) r.octets read.datagram (named_rows settings link read r))
+    frames_by (dropped_by settings link read r) (is_held read) (frame_by settings (link_octets link r.octets) r.octets read.datagram (named_rows settings link read r))
 
 abbrev pub emits : PlainSettings → Link → Read → Packet → List (List ℕ)
 emits settings link read r = frames_with settings link read r read.segment
 
--- a row drops the record; else it is mended by these rows
-abbrev pub verdict_by : Option Rule → (named : List Rule) → Verdict
-verdict_by (Some rule) named = verdicts.Drop
-verdict_by None named = verdict_of named
+-- a row drops the record, or it is held back; else it is mended by these rows
+abbrev pub verdict_by : Option Rule → (held : Bool) → (named : List Rule) → Verdict
+verdict_by (Some rule) held named = verdicts.Drop
+verdict_by None held named = if held then verdicts.Hold else verdict_of named
 
--- the rule that drops a record is its only one; else the notes stand before the rows that mend it
-abbrev pub rules_by : Option Rule → (noted named : List Rule) → List Rule
-rules_by (Some rule) noted named = rule ∷ []
-rules_by None noted named = noted ++ named
+-- the rule that drops a record is its only one, and so is F_HELD; else the notes stand before the rows that mend it
+abbrev pub rules_by : Option Rule → (held : Bool) → (noted named : List Rule) → List Rule
+rules_by (Some rule) held noted named = rule ∷ []
+rules_by None held noted named = if held then rules.FHeld ∷ [] else noted ++ named
 
 -- a record has no side where a row drops it that comes before the side is known
 abbrev pub side_by : Option Rule → Option Side → Option Side
@@ -207,9 +214,9 @@ item_by settings link read r number =
       entry = record {
         number = number;
         side = side_by dropped (side_of_frame settings link r.octets);
-        verdict = verdict_by dropped named;
+        verdict = verdict_by dropped (is_held read) named;
         packets = length (emits settings link read r);
-        rules = rules_by dropped (noted_rows settings link read r) named;
+        rules = rules_by dropped (is_held read) (noted_rows settings link read r) named;
         era = era_by outcome;
         begun = begun_by outcome;
         ended = read.past.idle ++ ended_by outcome;

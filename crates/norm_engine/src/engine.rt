@@ -1,15 +1,13 @@
 //! The engine: each record of a capture is one step.
-ghost use Rattle.ip_rules.specs.Datagrams.{AreOctets};
-
 use crate::entries::{blank, tell};
 use crate::judge::{Judgment, judge};
 use crate::segment::take;
 use crate::send::{MAX_PAYLOAD, send};
 use edge_io::{NoMemory, Outbox};
-use ip_rules::laws::datagrams_are_known;
 use ip_rules::write::link_octets;
 use norm_settings::Settings;
 use pcap_file::Record;
+use reassembly::Assembly;
 use rule_book::Entry;
 use std::alloc::Global;
 use std::marker::Model;
@@ -27,6 +25,10 @@ pub struct Engine {
     latest: u32,
     /// The connections.
     norm: TcpNorm,
+    /// The datagrams of which fragments are held.
+    pieces: Assembly,
+    /// Room for the datagram that fragments make.
+    whole: Vec<u8>,
     /// Room for the payload whose checksum is mended.
     scratch: Vec<u8>,
 }
@@ -38,9 +40,9 @@ impl Model for Engine {
 
     ghost Value = { Engaged };
 
-    ghost view = { λ e. record { settings = plain_settings e.settings; link = e.link; records = e.records; latest = e.latest; norm = e.norm } };
+    ghost view = { λ e. record { settings = plain_settings e.settings; link = e.link; records = e.records; latest = e.latest; norm = e.norm; pieces = e.pieces } };
 
-    ghost invariant = { λ e. AreInRange (plain_settings e.settings) × (vec_len e.scratch ≡ 65515) × ∥ Kept (plain_settings e.settings) e.norm e.records e.latest ∥₁ };
+    ghost invariant = { λ e. AreInRange (plain_settings e.settings) × (vec_len e.whole ≡ 65515) × (vec_len e.scratch ≡ 65515) × ∥ Kept (plain_settings e.settings) e.norm e.pieces e.records e.latest ∥₁ };
 }
 
 impl Engine {
@@ -51,7 +53,9 @@ impl Engine {
     ghost use Rattle.rule_book.specs.Entries.{plain};
     ghost use Rattle.tcp_norm.specs.Calls.{eras};
     ghost use Rattle.tcp_norm.specs.Held.{held_all};
+    ghost use Rattle.reassembly.specs.Calls.{gathered, cells_in};
     ghost use Rattle.norm_engine.specs.Items.{Item};
+    ghost use Rattle.norm_engine.specs.Fragments.{piece_calls};
     ghost use Rattle.norm_engine.specs.Calls.{flow_calls};
     ghost use Rattle.norm_engine.specs.Trace.{item_of};
     ghost use Rattle.norm_engine.specs.Engine.{StandsFor};
@@ -63,7 +67,9 @@ impl Engine {
         ensures link { IfOk result (λ engine. engine.link ≡ Raw) }
         ensures stands { IfOk result (λ engine. StandsFor engine []) }
     {
+        let whole = vec![in alloc; 0u8; MAX_PAYLOAD]?;
         let scratch = vec![in alloc; 0u8; MAX_PAYLOAD]?;
+        let pieces = Assembly::open(alloc, &settings)?;
         let norm = TcpNorm::open(alloc, &settings)?;
         Ok(Engine {
             settings,
@@ -71,6 +77,8 @@ impl Engine {
             records: 0,
             latest: 0,
             norm,
+            pieces,
+            whole,
             scratch,
         })
     }
@@ -108,6 +116,24 @@ impl Engine {
         self.norm.held()
     }
 
+    /// Of how many datagrams fragments are held.
+    pub fn datagrams(&self) -> u32
+        ensures number { (history : List Item) → StandsFor self.now history →
+            result ≡ length (gathered self.now.settings.frag_time (piece_calls self.now.settings self.now.link history)) }
+        ensures bounded { result ≤ self.now.settings.frags }
+    {
+        self.pieces.datagrams()
+    }
+
+    /// How many cells hold octets of fragments.
+    pub fn frag_cells(&self) -> u32
+        ensures number { (history : List Item) → StandsFor self.now history →
+            result ≡ cells_in (gathered self.now.settings.frag_time (piece_calls self.now.settings self.now.link history)) }
+        ensures bounded { result ≤ self.now.settings.frag_cells }
+    {
+        self.pieces.cells()
+    }
+
     /// The entry of this record after all before it; its frames are put into the outbox, in place of what was there. It takes
     /// no memory.
     pub fn step(&mut self, input: &Record<'_>, out: &mut Outbox) -> Entry
@@ -121,15 +147,22 @@ impl Engine {
         ensures stands { (history : List Item) → StandsFor self.old history →
             StandsFor self.new (item_of self.old.settings self.old.link history (shown input.now) ∷ history) }
     {
-        datagrams_are_known();
         packets_are_its_own();
-        have_octets(input.bytes);
         out.clear();
         self.latest = self.latest.max(input.seconds);
         self.records += 1;
         let mut entry = blank(self.records);
         self.norm.expire(self.latest, &mut entry);
-        match judge(&self.settings, self.link, &self.norm, input) {
+        let _forgotten = self.pieces.expire(self.latest);
+        match judge(
+            &self.settings,
+            self.link,
+            &self.norm,
+            &mut self.pieces,
+            &mut self.whole,
+            self.latest,
+            input,
+        ) {
             Judgment::Segment(packet, head) => {
                 entry.side = Some(packet.side);
                 let link = link_octets(self.link, input.bytes);
@@ -158,11 +191,4 @@ impl Engine {
             }
         }
     }
-}
-
-// What stands in a buffer of octets is below 256.
-fn have_octets(bytes: &[u8])
-    ensures { AreOctets bytes.now }
-{
-    let _octets = bytes;
 }

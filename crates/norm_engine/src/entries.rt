@@ -33,7 +33,8 @@ pub fn tell(judgment: Judgment<'_>, entry: &mut Entry)
 {
     match judgment {
         Judgment::Arp => written(None, Fixes::new(), entry),
-        Judgment::Drop(side, rule) => dropped(side, rule, entry),
+        Judgment::Drop(side, rule) => stopped(side, Verdict::Drop, rule, entry),
+        Judgment::Hold(side) => stopped(Some(side), Verdict::Hold, Rule::FHeld, entry),
         Judgment::Send(packet, _) => written(Some(packet.side), packet.fixes, entry),
         Judgment::Segment(packet, _) => written(Some(packet.side), Fixes::new(), entry),
     }
@@ -55,16 +56,16 @@ fn written(side: Option<Side>, rules: Fixes, entry: &mut Entry)
     entry.rules = rules;
 }
 
-// Tells that a row drops a record.
-fn dropped(side: Option<Side>, rule: Rule, entry: &mut Entry)
+// Tells that nothing goes out for a record, by this rule alone.
+fn stopped(side: Option<Side>, verdict: Verdict, rule: Rule, entry: &mut Entry)
     requires era { entry.old.era ≡ None }
     requires begun { entry.old.begun ≡ None }
-    ensures { plain entry.new ≡ spec.entry_dropped entry.old.number side rule entry.old.ended.items }
+    ensures { plain entry.new ≡ spec.entry_stopped entry.old.number side verdict rule entry.old.ended.items }
 {
     let mut rules = ArrayVec::new();
     rules.push(rule);
     entry.side = side;
-    entry.verdict = Verdict::Drop;
+    entry.verdict = verdict;
     entry.packets = 0;
     entry.rules = rules;
 }

@@ -1,12 +1,17 @@
 //! What becomes of a record by the rows before those of eras, in the order of testing.
-ghost use Rattle.std.specs.Prelude.{◌≡◌, ◌<◌, ◌≤◌, ◌^◌, ◌==◌, ◌&&◌, ◌||◌, not, true, ℕ, List, All, length, Some};
+ghost use Rattle.std.specs.Prelude.{◌≡◌, ◌<◌, ◌≤◌, ◌^◌, ◌==◌, ◌&&◌, ◌||◌, not, true, ℕ, List, [], ◌∷◌, All, length, Some};
 ghost use Rattle.norm_settings.specs.Settings.{PlainSettings, plain_settings};
 ghost use Rattle.pcap_file.specs.Reads.{shown};
 ghost use Rattle.icmp_codec.specs.Quote.{quoted_in};
 ghost use Rattle.tcp_codec.specs.Header.{is_judged};
-ghost use Rattle.ip_rules.specs.Datagrams.{datagram_with, goes_in};
+ghost use Rattle.ip_rules.specs.Datagrams.{AreOctets, datagram_with, goes_in};
 ghost use Rattle.tcp_norm.specs.Calls.{Call};
 ghost use Rattle.tcp_norm.specs.Standing as flows;
+ghost use Rattle.reassembly.specs.Pieces.{fragment_of, IsPiece};
+ghost use Rattle.reassembly.specs.Calls as reassembly;
+ghost use Rattle.reassembly.specs.Assemblies as fragments;
+ghost use Rattle.reassembly.specs.Rows.{answer_at, call_of};
+ghost use Rattle.norm_engine.specs.Fragments.{fragment_with, fragment_in, offering_of, with_offered};
 ghost use Rattle.norm_engine.specs.Calls.{Past};
 ghost use Rattle.norm_engine.specs.Trace.{is_quoted_live};
 ghost use Rattle.norm_engine.specs.Engine as spec;
@@ -14,9 +19,11 @@ ghost use Rattle.norm_engine.specs.Engine as spec;
 use dgram_rules::laws::{icmp_tells_the_rows, others_have_no_row, udp_tells_the_rows};
 use dgram_rules::{DgramJudged, judge_icmp, judge_udp};
 use icmp_codec::quoted;
+use ip_rules::laws::datagrams_are_known;
 use ip_rules::{IpJudged, IpPacket, judge_ip};
 use norm_settings::Settings;
 use pcap_file::Record;
+use reassembly::{Assembly, Offered, Piece, Whole};
 use rule_book::Rule;
 use tcp_codec::{SumRule, Tcp, TcpFault};
 use tcp_norm::TcpNorm;
@@ -34,6 +41,8 @@ pub enum Judgment<'a> {
     Arp,
     /// This row drops it; its side, where that was told by then.
     Drop(Option<Side>, Rule),
+    /// It is a fragment to this side that is held back.
+    Hold(Side),
     /// Its packet goes out, mended by the rows that it names; the flag says whether its UDP checksum is mended.
     Send(IpPacket<'a>, bool),
     /// It is a TCP segment with this header, of which its connection decides.
@@ -53,27 +62,123 @@ pub enum Judged {
     Segment(Tcp),
 }
 
-/// Judges a record by the rows before those of eras.
+/// Judges a record by the rows before those of eras. A fragment is offered to those held; where it makes its datagram whole,
+/// that stands at the front of the buffer, and is judged in its place.
 pub fn judge<'a>(
     settings: &Settings,
     link: Link,
     norm: &TcpNorm,
+    pieces: &mut Assembly,
+    buffer: &'a mut [u8],
+    now: u32,
     input: &Record<'a>,
 ) -> Judgment<'a>
-    requires { All (λ prefix. prefix.len ≤ 32) settings.now.prefixes.items }
+    requires prefixes { All (λ prefix. prefix.len ≤ 32) settings.now.prefixes.items }
+    requires buffer { 65515 ≤ length buffer.old }
+    requires late { fragments.last_time pieces.old ≤ now }
     ensures read { spec.SegmentIsRead result }
-    ensures rows { (past : Past) → flows.StandsFor (plain_settings settings.now) norm.now past.calls →
+    ensures rows { (past : Past) → flows.StandsFor (plain_settings settings.now) norm.now past.calls → fragments.StandsFor (plain_settings settings.now) pieces.old past.pieces →
         spec.Judges (plain_settings settings.now) link (spec.read_with (plain_settings settings.now) link past (shown input.now)) (shown input.now) result }
+    ensures pieces { (calls : List reassembly.Call) → fragments.StandsFor (plain_settings settings.now) pieces.old calls →
+        fragments.StandsFor (plain_settings settings.now) pieces.new
+        (with_offered (plain_settings settings.now) (fragment_in (plain_settings settings.now) link (shown input.now)) now calls) }
+    ensures passed { fragments.last_time pieces.new ≤ now }
 {
+    datagrams_are_known();
+    have_octets(input.bytes);
     match judge_ip(settings, link, input) {
         IpJudged::Arp => Judgment::Arp,
         IpJudged::Drop(side, rule) => Judgment::Drop(side, rule),
-        IpJudged::Piece(packet) => Judgment::Drop(Some(packet.side), Rule::XLater),
-        IpJudged::Whole(packet) => {
-            let judged = judge_datagram(settings, norm, &packet);
-            joined(packet, judged)
+        IpJudged::Piece(packet) => judge_piece(settings, norm, pieces, buffer, now, packet),
+        IpJudged::Whole(packet) => judge_whole(settings, norm, packet),
+    }
+}
+
+// Judges a fragment by the rows on fragments, and the datagram that it makes whole by those behind them.
+fn judge_piece<'a>(
+    settings: &Settings,
+    norm: &TcpNorm,
+    pieces: &mut Assembly,
+    buffer: &'a mut [u8],
+    now: u32,
+    packet: IpPacket<'a>,
+) -> Judgment<'a>
+    requires prefixes { All (λ prefix. prefix.len ≤ 32) settings.now.prefixes.items }
+    requires buffer { 65515 ≤ length buffer.old }
+    requires late { fragments.last_time pieces.old ≤ now }
+    requires piece { IsPiece (fragment_with packet.head packet.payload.now) }
+    requires known { ((packet.head.protocol == 1) || (packet.head.protocol == 6) || (packet.head.protocol == 17)) ≡ true }
+    requires few { length packet.fixes.items ≤ 4 }
+    ensures read { spec.SegmentIsRead result }
+    ensures rows { (calls : List Call) (offers : List reassembly.Call) → flows.StandsFor (plain_settings settings.now) norm.now calls →
+        fragments.StandsFor (plain_settings settings.now) pieces.old offers →
+        let o = offering_of (plain_settings settings.now) offers (fragment_with packet.entry.head packet.entry.payload.now) in
+        spec.IsPieceJudged (plain_settings settings.now) calls o packet.entry result (answer_at o.view o.piece) }
+    ensures pieces { (offers : List reassembly.Call) → fragments.StandsFor (plain_settings settings.now) pieces.old offers →
+        fragments.StandsFor (plain_settings settings.now) pieces.new (call_of (plain_settings settings.now) offers now (fragment_with packet.entry.head packet.entry.payload.now) ∷ offers) }
+    ensures passed { fragments.last_time pieces.new ≤ now }
+{
+    match pieces.offer(now, &piece_of(&packet), buffer) {
+        Offered::Held => Judgment::Hold(packet.side),
+        Offered::Drop(rule) => Judgment::Drop(Some(packet.side), rule),
+        Offered::Done(whole) => {
+            let octets = &buffer[..whole.len];
+            have_octets(octets);
+            let made = whole_packet(packet, &whole, octets, settings.hops);
+            judge_whole(settings, norm, made)
         }
     }
+}
+
+// Judges a whole datagram by the rows on it.
+fn judge_whole<'a>(settings: &Settings, norm: &TcpNorm, packet: IpPacket<'a>) -> Judgment<'a>
+    requires prefixes { All (λ prefix. prefix.len ≤ 32) settings.now.prefixes.items }
+    requires known { ((packet.head.protocol == 1) || (packet.head.protocol == 6) || (packet.head.protocol == 17)) ≡ true }
+    requires size { length packet.payload.now < 2 ^ 16 }
+    requires few { length packet.fixes.items < 16 }
+    ensures read { spec.SegmentIsRead result }
+    ensures rows { (calls : List Call) (header : List ℕ) → flows.StandsFor (plain_settings settings.now) norm.now calls →
+        spec.IsWholeJudged (plain_settings settings.now) calls header packet.entry result }
+{
+    let judged = judge_datagram(settings, norm, &packet);
+    joined(packet, judged)
+}
+
+// The fragment that a packet is.
+fn piece_of<'a>(packet: &IpPacket<'a>) -> Piece<'a>
+    ensures { fragment_of result ≡ fragment_with packet.now.head packet.now.payload.now }
+{
+    Piece {
+        src: packet.head.src,
+        dst: packet.head.dst,
+        protocol: packet.head.protocol,
+        ident: packet.head.ident,
+        offset: packet.head.offset,
+        more: packet.head.more,
+        df: packet.head.df,
+        tos: packet.head.tos,
+        ttl: packet.head.ttl,
+        bytes: packet.payload,
+    }
+}
+
+// The packet of a whole datagram with these octets, of which the fragment in this packet came last.
+fn whole_packet<'a>(packet: IpPacket<'a>, whole: &Whole, octets: &'a [u8], hops: u8) -> IpPacket<'a>
+    requires { length packet.fixes.items ≤ 14 }
+    ensures { spec.IsMadeWhole hops packet.entry whole.now octets.now result }
+{
+    let mut packet = packet;
+    packet.head.tos = whole.tos;
+    packet.head.df = whole.df;
+    packet.head.more = false;
+    packet.head.offset = 0;
+    packet.head.ttl = whole.ttl;
+    packet.payload = octets;
+    if packet.side == Side::Inward && whole.ttl <= hops {
+        packet.fixes.push(Rule::ITtl);
+    }
+    packet.fixes.push(Rule::FDone);
+    packet
 }
 
 // The judgment on a whole packet whose datagram is judged so.
@@ -177,4 +282,11 @@ fn rule_of(fault: TcpFault) -> Rule
         TcpFault::Flags => Rule::TFlags,
         TcpFault::Options => Rule::TOptBad,
     }
+}
+
+// What stands in a buffer of octets is below 256.
+fn have_octets(bytes: &[u8])
+    ensures { AreOctets bytes.now }
+{
+    let _octets = bytes;
 }

@@ -1,8 +1,9 @@
 //! Laws of lawful traces.
-ghost use Rattle.norm_engine.specs.Laws.{FragmentsAreLater, ItemsAreCounted, LawfulAgrees, LawfulCallsAreMade, LawfulIsOne, LawfulIsWithin, LawfulKeepsClean, LawfulLeavesRoom, LawfulTellsStreams};
+ghost use Rattle.norm_engine.specs.Laws.{ItemsAreCounted, LawfulAgrees, LawfulCallsAreMade, LawfulIsOne, LawfulIsWithin, LawfulKeepsClean, LawfulLeavesRoom, LawfulTellsStreams};
 
 use era_agreement::laws::{emitted_agrees, emitted_tells_one_stream};
 use ip_rules::laws::{anew_is_packet, datagrams_are_known};
+use reassembly::laws::answered_is_within;
 use tcp_norm::laws::{
     calls_are_emitted, clean_keeps_payload, flows_are_bounded, held_is_bounded,
     packets_are_its_own, packets_are_plain, probes_are_silent, quota_leaves_room,
@@ -36,13 +37,15 @@ pub fn lawful_calls_are_made()
     packets_are_its_own();
 }
 
-/// At every history of a lawful trace no more eras are live, and no more blocks hold octets, than the settings allow.
+/// At every history of a lawful trace no more eras are live, no more blocks hold octets of streams, no more datagrams are held, and no more blocks hold
+/// octets of fragments, than the settings allow.
 pub fn lawful_is_within()
     ensures { LawfulIsWithin }
 {
     lawful_calls_are_made();
     flows_are_bounded();
     held_is_bounded();
+    answered_is_within();
 }
 
 /// Where a quota is set and there are as many cells as all eras may hold together, no entry names `T_ROOM`.
@@ -78,8 +81,3 @@ pub fn lawful_tells_streams()
     emitted_tells_one_stream();
     lawful_calls_are_made();
 }
-
-/// `X_LATER` drops exactly the fragments that no row on the link, the header and the protocol drops.
-pub fn fragments_are_later()
-    ensures { FragmentsAreLater }
-{}

@@ -15,7 +15,7 @@ use wire_base::{Link, pseudo_sum};
 /// The octets of the longest payload: those of the longest packet (RFC 791 section 3.1) without a header of 20.
 pub const MAX_PAYLOAD: usize = 65_515;
 
-/// Puts the frame of a record that was judged so into the outbox, which is empty: none where a row drops it, the record as it
+/// Puts the frame of a record that was judged so into the outbox, which is empty: none where a row drops it or it is held back, the record as it
 /// came where no row mends it, and else its packet with a header anew.
 pub fn send(
     judgment: &Judgment<'_>,
@@ -33,7 +33,7 @@ pub fn send(
 {
     match judgment {
         Judgment::Arp => put_read(input, out),
-        Judgment::Drop(_, _) | Judgment::Segment(_, _) => {}
+        Judgment::Drop(_, _) | Judgment::Hold(_) | Judgment::Segment(_, _) => {}
         Judgment::Send(packet, _) if packet.fixes.is_empty() => put_read(packet.frame, out),
         Judgment::Send(packet, mend) => send_mended(packet, *mend, hops, link, scratch, out),
     }

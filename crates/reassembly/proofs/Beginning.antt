@@ -109,7 +109,7 @@ pub not_full : (ps : List Fragment) (max count : ℕ) → ps ≡ [] → count < 
 not_full ps max count none lt = let free : nat_le max count ≡ false = grind (arith, nat_tests) in ap₂ (λ a b. a && b) (ap is_none_held none) free
 
 -- all blocks touched have nothing
-any_none : (xs : List ℕ) → list_any (λ (n : ℕ). false) xs ≡ false
+pub any_none : (xs : List ℕ) → list_any (λ (n : ℕ). false) xs ≡ false
 any_none [] = refl
 any_none (x ∷ xs) = any_none xs
 

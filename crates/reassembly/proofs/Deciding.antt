@@ -4,11 +4,12 @@ use Rattle.std.specs.Prelude.{nat_lt}
 use Rattle.std.specs.Option.{option_or}
 use Rattle.std.proofs.lemmas.Bool.Decides.{nat_tests}
 use Rattle.rule_book.specs.declared.rule.Rule.{Rule}
-use Rattle.rule_book.specs.declared.rule.Rule.TheVariants.{FMany, FRoom}
+use Rattle.rule_book.specs.declared.rule.Rule.TheVariants.{FDf, FEmpty, FAlign, FBig, FMany, FRoom}
 use Rattle.reassembly.specs.declared.piece.Offered.TheVariants as offers
 use Rattle.reassembly.specs.Pieces.{Fragment, is_whole, whole_of}
 use Rattle.reassembly.specs.Calls.{dropped}
-use Rattle.reassembly.specs.Rows.{View, Row, first_row, own_rows, odd_rows, f_many, f_room, is_none_held, answer_by, answer_at, offered, offered_at}
+use Rattle.reassembly.specs.Rows.{View, Row, first_row, own_rows, odd_rows, f_df, f_empty, f_align, f_big, f_many, f_room, is_none_held, answer_by, answer_at, offered, offered_at}
+use Rattle.reassembly.specs.Laws.{FirstRowDrops}
 
 join_step : (b : Bool) (rule : Rule) (joined left right : Option Rule) → joined ≡ option_or left right → cond b (Some rule) joined ≡ option_or (cond b (Some rule) left) right
 join_step true rule joined left right e = refl
@@ -65,3 +66,15 @@ room_is room need wanted is lt = grind (arith, nat_tests, is)
 
 pub room_not : (room need wanted : ℕ) → need ≡ wanted → need ≤ room → nat_lt room wanted ≡ false
 room_not room need wanted is le = grind (arith, nat_tests, is)
+
+-- the rows in two parts are one list
+four_join : (a b c d : Bool) (r s t u : Rule) (rest : Option Rule)
+    → option_or (cond a (Some r) (cond b (Some s) (cond c (Some t) (cond d (Some u) None)))) rest ≡ cond a (Some r) (cond b (Some s) (cond c (Some t) (cond d (Some u) rest)))
+four_join true b c d r s t u rest = refl
+four_join false true c d r s t u rest = refl
+four_join false false true d r s t u rest = refl
+four_join false false false true r s t u rest = refl
+four_join false false false false r s t u rest = refl
+
+pub first_row_drops : FirstRowDrops
+first_row_drops v p = four_join (f_df p) (f_empty p) (f_align p) (f_big p) FDf FEmpty FAlign FBig (first_row (odd_rows v.pieces p ++ last_rows v p))

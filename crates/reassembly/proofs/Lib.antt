@@ -12,6 +12,9 @@ pub mod Beginning
 pub mod Ordering
 pub mod Rooms
 pub mod Gathering
+pub mod Held
 pub mod Octets
+pub mod Sizes
+pub mod Within
 pub mod Apart
 pub mod Passing

@@ -1,7 +1,7 @@
 -- A whole datagram is made of its pieces.
 use Rattle.std.proofs.Common.{◌≡◌, ℕ, zero, suc, ◌+◌, ◌-◌, ◌<◌, ◌≤◌, ◌==◌, ◌||◌, ◌&&◌, not, Bool, true, false, cond, List, [], ◌∷◌, length, map, take, drop, Option, Some, None, is_some, refl, sym, ap, ap₂, subst, ◌∙◌, arith}
 use Rattle.std.specs.Prelude.{nat_lt, nat_le, slice_get, slice_index, is_none}
-use Rattle.std.specs.List.{AllByRecursion, filter, list_any, range_with_len}
+use Rattle.std.specs.List.{AllByRecursion, list_any, range_with_len}
 use Rattle.std.proofs.lemmas.List.{length-map}
 use Rattle.std.proofs.lemmas.List.FromFn.{length-range_with_len}
 use Rattle.std.specs.Option.{option_or, unwrap_or}
@@ -9,15 +9,13 @@ use Rattle.std.proofs.lemmas.Bool.Decides.{nat_tests}
 use Rattle.linked_table.proofs.Splits.{all_weaker}
 use Rattle.retain_store.specs.Maps.{octet_in}
 use Rattle.norm_settings.specs.Settings.{PlainSettings}
-use Rattle.rule_book.specs.declared.rule.Rule.{Rule}
-use Rattle.reassembly.specs.declared.id.DatagramId.{DatagramId}
 use Rattle.reassembly.specs.declared.piece.Front.{Front}
 use Rattle.reassembly.specs.Pieces.{Fragment, end_of, front_of, octet_of, total_of, reach, is_filled, is_whole, datagram_octets, StandsIn, reaches, IsMadeOf}
-use Rattle.reassembly.specs.Calls.{Answer, held, done, dropped, Call, expiry, offer, Gathered, gathered, after, with_piece, of_others, pieces_in, is_id, is_old, forgets}
-use Rattle.reassembly.specs.Rows.{View, f_df, f_empty, f_end, f_clash, first_row, own_rows, dropped_by, answer_by, answer_at, view_of, AreAnswered}
+use Rattle.reassembly.specs.Calls.{Call, expiry, offer, done, Gathered, gathered, is_old}
+use Rattle.reassembly.specs.Rows.{f_end, f_clash, answer_by, view_of, AreAnswered}
 use Rattle.reassembly.specs.Laws.{WholeIsItsPieces}
 use Rattle.reassembly.proofs.Clashes.{clash_none}
-use Rattle.reassembly.proofs.Ordering.{all_filter}
+use Rattle.reassembly.proofs.Held.{EachHolds, each_filter, each_after, each_in, fits_in, held_not_dropped, done_not_dropped}
 use Rattle.reassembly.proofs.Pieces.{in_piece, ends_more, none_not}
 use Rattle.reassembly.proofs.Accepting.{list_is}
 use Rattle.retain_store.proofs.Counts.{each}
@@ -64,84 +62,14 @@ one_more ps p fits none long sound =
       some = (long, sound.some);
     }
 
--- a piece that no row drops is at odds with nothing
-pub record FitsIn (ps : List Fragment) (p : Fragment) : Type 0 where
-  pub end : f_end ps p ≡ false
-  pub octets : f_clash ps p ≡ false
-  pub some : 0 < length p.octets
-
-none_first : (b c : Bool) (r s : Rule) (rest : Option Rule) → cond b (Some r) (cond c (Some s) rest) ≡ None → (b ≡ false) × (c ≡ false)
-none_first true c r s rest e = cc
-none_first false true r s rest e = cc
-none_first false false r s rest e = (refl, refl)
-
-second_none : (b c : Bool) (r s : Rule) (rest : Option Rule) → cond b (Some r) (cond c (Some s) rest) ≡ None → c ≡ false
-second_none b c r s rest e = (none_first b c r s rest e).1
-
-left_none : (a b : Option Rule) → option_or a b ≡ None → a ≡ None
-left_none None b e = refl
-left_none (Some r) b e = cc
-
-right_none : (a b : Option Rule) → option_or a b ≡ None → b ≡ None
-right_none None b e = e
-right_none (Some r) b e = cc
-
-pub fits_in : (v : View) (p : Fragment) → dropped_by v p ≡ None → FitsIn v.pieces p
-fits_in v p none =
-    let both = none_first (f_end v.pieces p) (f_clash v.pieces p) _ _ _ (right_none (first_row (own_rows p)) _ none) in
-    let empty : (length p.octets == 0) ≡ false = second_none (f_df p) (f_empty p) _ _ _ (left_none (first_row (own_rows p)) _ none) in
-    record { end = both.0; octets = both.1; some = grind (arith, empty) }
-
-not_dropped : (r : Option Rule) (whole : Bool) (a : Answer) → answer_by r whole ≡ a → ((rule : Rule) → dropped rule ≡ a → ⊥) → r ≡ None
-not_dropped None whole a e no_way = refl
-not_dropped (Some rule) whole a e no_way = absurd (no_way rule e)
-
-by_whole : (whole : Bool) → answer_by None whole ≡ done → whole ≡ true
-by_whole true e = refl
-by_whole false e = cc
-
--- each datagram that is held is so
-abbrev AllSound : List Gathered → Type 0
-AllSound gs = AllByRecursion (λ g. AreSound g.pieces) gs
-
-of_datagram : (gs : List Gathered) (id : DatagramId) → AllSound gs → AreSound (pieces_in gs id)
-of_datagram [] id all = none_sound
-of_datagram (g ∷ gs) id all = by_test (is_id g.id id) (of_datagram gs id all.1)
-  where
-    by_test : (b : Bool) → AreSound (pieces_in gs id) → AreSound (cond b g.pieces (pieces_in gs id))
-    by_test true rest = all.0
-    by_test false rest = rest
-
-with_more : (now : ℕ) (p : Fragment) (gs : List Gathered) → AreSound (p ∷ pieces_in gs p.id) → AllSound gs → AllSound (with_piece now p gs)
-with_more now p [] more all = (more, tt)
-with_more now p (g ∷ gs) more all = by_test (is_id g.id p.id) more (with_more now p gs)
-  where
-    by_test : (b : Bool) → AreSound (p ∷ cond b g.pieces (pieces_in gs p.id)) → (AreSound (p ∷ pieces_in gs p.id) → AllSound gs → AllSound (with_piece now p gs))
-        → AllSound (cond b (record g { pieces = p ∷ g.pieces } ∷ gs) (g ∷ with_piece now p gs))
-    by_test true here rest = (here, all.1)
-    by_test false here rest = (all.0, rest here all.1)
-
-without : (q : Gathered → Bool) (gs : List Gathered) → AllSound gs → AllSound (filter q gs)
-without q gs all = all_filter (λ (g : Gathered). AreSound g.pieces) q gs all
-
-pub all_sound : (settings : PlainSettings) (cs : List Call) → AreAnswered settings cs → AllSound (gathered settings.frag_time cs)
+all_sound : (settings : PlainSettings) (cs : List Call) → AreAnswered settings cs → EachHolds AreSound (gathered settings.frag_time cs)
 all_sound settings [] answered = tt
-all_sound settings (expiry now ∷ cs) answered = without (λ (g : Gathered). not (is_old settings.frag_time now g)) (gathered settings.frag_time cs) (all_sound settings cs answered)
-all_sound settings (offer now p answer ∷ cs) answered = by_answer answer answered.0 (all_sound settings cs answered.1)
-  where
-    gs : List Gathered
-    gs = gathered settings.frag_time cs
-
-    by_answer : (a : Answer) → a ≡ answer_at (view_of settings cs p) p → AllSound gs → AllSound (after now p a gs)
-    by_answer held is before =
-        let fits = fits_in (view_of settings cs p) p (not_dropped (dropped_by (view_of settings cs p) p) _ held (sym is) (λ rule e. cc)) in
-        with_more now p gs (one_more (pieces_in gs p.id) p fits.end fits.octets fits.some (of_datagram gs p.id before)) before
-    by_answer done is before = without (λ (g : Gathered). not (is_id g.id p.id)) gs before
-    by_answer (dropped rule) is before = by_rule (forgets rule)
-      where
-        by_rule : (b : Bool) → AllSound (cond b (of_others p.id gs) gs)
-        by_rule true = without (λ (g : Gathered). not (is_id g.id p.id)) gs before
-        by_rule false = before
+all_sound settings (expiry now ∷ cs) answered = each_filter AreSound (λ (g : Gathered). not (is_old settings.frag_time now g)) (gathered settings.frag_time cs) (all_sound settings cs answered)
+all_sound settings (offer now p answer ∷ cs) answered =
+    let v = view_of settings cs p in
+    each_after AreSound now p answer (gathered settings.frag_time cs) none_sound
+    (λ is. let fits = fits_in v p (held_not_dropped v p answer answered.0 is) in one_more v.pieces p fits.end fits.octets fits.some)
+    (all_sound settings cs answered.1)
 
 -- a part of what a function gives over a range
 part_of : (f : ℕ → ℕ) (a n k m : ℕ) → k + m ≤ n → take m (drop k (map f (range_with_len a n))) ≡ map f (range_with_len (a + k) m)
@@ -209,6 +137,10 @@ made ps sound whole = by_total (total_of ps) refl
               ∙ each (λ o. is_some (octet_of ps o)) (λ o. is_none (octet_of ps o)) 0 total (λ m. none_not (octet_of ps m)) all offset (omega (arith, long)));
         })
 
+by_whole : (whole : Bool) → answer_by None whole ≡ done → whole ≡ true
+by_whole true e = refl
+by_whole false e = cc
+
 -- an octet at offset 0 is of a piece at offset 0
 front_there : (ps : List Fragment) → is_some (octet_of ps 0) ≡ true → is_some (front_of ps) ≡ true
 front_there [] some = cc
@@ -246,8 +178,8 @@ headed p ps sound whole = by_total (total_of (p ∷ ps)) refl
 pub whole_is_its_pieces : WholeIsItsPieces
 whole_is_its_pieces settings cs p answered is =
     let v = view_of settings cs p in
-    let none = not_dropped (dropped_by v p) (is_whole (p ∷ v.pieces)) done is (λ rule e. cc) in
+    let none = done_not_dropped v p is in
     let whole = by_whole (is_whole (p ∷ v.pieces)) (sym (ap (λ r. answer_by r (is_whole (p ∷ v.pieces))) none) ∙ is) in
     let fits = fits_in v p none in
-    let sound = one_more v.pieces p fits.end fits.octets fits.some (of_datagram (gathered settings.frag_time cs) p.id (all_sound settings cs answered)) in
+    let sound = one_more v.pieces p fits.end fits.octets fits.some (each_in AreSound (gathered settings.frag_time cs) p.id none_sound (all_sound settings cs answered)) in
     record { octets = made (p ∷ v.pieces) sound whole; head = headed p v.pieces sound whole }

@@ -40,7 +40,7 @@ of_piece from xs o low high =
     there (y ∷ ys) zero lt = refl
     there (y ∷ ys) (suc i) lt = there ys i (omega arith)
 
-some_or : (a b : Option ℕ) → is_some (option_or a b) ≡ (is_some a || is_some b)
+pub some_or : (a b : Option ℕ) → is_some (option_or a b) ≡ (is_some a || is_some b)
 some_or None b = refl
 some_or (Some x) b = refl
 
@@ -58,7 +58,7 @@ below_reach (p ∷ ps) o some = reach_step p ps o (octet_of ps o) (below_reach p
 pub placed : (old new : List Block) (p : Fragment) (ps : List Fragment) → Keeps old ps → Places old new p.offset p.octets → Keeps new (p ∷ ps)
 placed old new p ps keeps places o = places o ∙ ap (λ x. option_or x (octet_in p.offset p.octets o)) (keeps o)
 
-some_false : (b : Bool) → (b ≡ true → ⊥) → b ≡ false
+pub some_false : (b : Bool) → (b ≡ true → ⊥) → b ≡ false
 some_false true no_way = absurd (no_way refl)
 some_false false no_way = refl
 

@@ -1,12 +1,13 @@
 -- Laws of calls (this project's profile; RFC 791 section 3.2).
-use Rattle.std.specs.Prelude.{◌≡◌, ℕ, ◌&&◌, Bool, true, false, List, [], ◌∷◌, is_some, if◌then◌else◌}
+use Rattle.std.specs.Prelude.{◌≡◌, ℕ, ◌^◌, ◌<◌, ◌≤◌, ◌&&◌, Bool, true, false, List, [], ◌∷◌, length, find, slice_index, is_some, if◌then◌else◌}
 use Rattle.std.specs.List.{list_any}
 use Rattle.linked_table.specs.Table.{Pairwise}
 use Rattle.norm_settings.specs.Settings.{PlainSettings}
+use Rattle.rule_book.specs.Rules.{fragment_rows}
 use Rattle.reassembly.specs.declared.id.DatagramId.{DatagramId}
-use Rattle.reassembly.specs.Pieces.{Fragment, datagram_octets, front_of, IsMadeOf}
-use Rattle.reassembly.specs.Calls.{Answer, held, done, dropped, Call, expiry, offer, gathered, pieces_in, is_id, is_old, forgets}
-use Rattle.reassembly.specs.Rows.{answer_at, view_of, AreAnswered}
+use Rattle.reassembly.specs.Pieces.{Fragment, datagram_octets, front_of, whole_of, IsMadeOf}
+use Rattle.reassembly.specs.Calls.{Answer, held, done, dropped, Call, expiry, offer, gathered, pieces_in, cells_in, is_id, is_old, forgets}
+use Rattle.reassembly.specs.Rows.{View, answer_at, dropped_by, holds_fragment, view_of, AreAnswered}
 
 -- the datagram of these pieces is made of them: its octets are theirs, and one of them stands at offset 0
 pub record IsOfPieces (ps : List Fragment) : Type 0 where
@@ -48,3 +49,42 @@ pub record DatagramsAreApart : Type 0 where
       → pieces_in (gathered time (expiry now ∷ cs)) id ≡ (if is_late time now cs id then [] else pieces_in (gathered time cs) id)
   -- so, with each piece answered as it was, what is held of a datagram is what its own calls alone would leave
   pub alone : (time : ℕ) (cs : List Call) (id : DatagramId) → pieces_in (gathered time cs) id ≡ pieces_in (gathered time (calls_on id cs)) id
+
+-- A piece is dropped by the first row on fragments, in the order of testing, that holds of it.
+abbrev pub FirstRowDrops : Type 0
+FirstRowDrops = (v : View) (p : Fragment) → dropped_by v p ≡ find (holds_fragment v p) fragment_rows
+
+-- the fields of a piece have the sizes of their places in a header, and its octets are such
+pub record IsSized (p : Fragment) : Type 0 where
+  pub tos : p.tos < 2 ^ 8
+  pub ttl : p.ttl < 2 ^ 8
+  pub octets : (at : ℕ) → slice_index p.octets at < 2 ^ 8
+
+-- each piece offered in these calls is sized
+abbrev pub AreSized : List Call → Type 0
+AreSized [] = Unit {0}
+AreSized (expiry now ∷ cs) = AreSized cs
+AreSized (offer now p answer ∷ cs) = IsSized p × AreSized cs
+
+-- the datagram of these pieces fits behind a header of 20 octets, its length is told as it is, and its fields and octets have the sizes of their places
+pub record IsSizedWhole (ps : List Fragment) : Type 0 where
+  pub tos : (whole_of ps).tos < 2 ^ 8
+  pub ttl : (whole_of ps).ttl < 2 ^ 8
+  pub octets : (at : ℕ) → slice_index (datagram_octets ps) at < 2 ^ 8
+  pub short : length (datagram_octets ps) ≤ 65515
+  pub len : (whole_of ps).len ≡ length (datagram_octets ps)
+
+-- Where a piece makes its datagram whole and each piece is sized, the datagram is sized.
+abbrev pub WholesAreSized : Type 0
+WholesAreSized =
+    (settings : PlainSettings) (cs : List Call) (p : Fragment) → AreAnswered settings cs → AreSized cs → IsSized p
+    → answer_at (view_of settings cs p) p ≡ done → IsSizedWhole (p ∷ (view_of settings cs p).pieces)
+
+-- no more datagrams are held than may be, and no more cells
+pub record IsWithin (settings : PlainSettings) (cs : List Call) : Type 0 where
+  pub datagrams : length (gathered settings.frag_time cs) ≤ settings.frags
+  pub cells : cells_in (gathered settings.frag_time cs) ≤ settings.frag_cells
+
+-- Where each piece was answered as the rows say, what is held stays within the settings.
+abbrev pub AnsweredIsWithin : Type 0
+AnsweredIsWithin = (settings : PlainSettings) (cs : List Call) → AreAnswered settings cs → IsWithin settings cs

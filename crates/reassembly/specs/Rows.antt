@@ -1,9 +1,9 @@
 -- The rows of the rule table on fragments, in the order of testing, and what becomes of a piece (this project's profile).
-use Rattle.std.specs.Prelude.{◌≡◌, ℕ, ◌+◌, ◌-◌, ◌%◌, ◌==◌, ◌&&◌, ◌||◌, nat_lt, nat_le, Bool, true, false, not, List, [], ◌∷◌, ◌++◌, length, take, Option, Some, None, if◌then◌else◌}
+use Rattle.std.specs.Prelude.{◌≡◌, ℕ, ◌+◌, ◌-◌, ◌%◌, ◌==◌, ◌≤◌, ◌&&◌, ◌||◌, nat_lt, nat_le, Bool, true, false, not, List, [], ◌∷◌, ◌++◌, length, take, Option, Some, None, if◌then◌else◌}
 use Rattle.std.specs.Option.{option_or}
 use Rattle.norm_settings.specs.Settings.{PlainSettings}
 use Rattle.rule_book.specs.declared.rule.Rule.{Rule}
-use Rattle.rule_book.specs.declared.rule.Rule.TheVariants.{FDf, FEmpty, FAlign, FBig, FEnd, FClash, FMany, FRoom}
+use Rattle.rule_book.specs.declared.rule.Rule.TheVariants.{FDf, FEmpty, FAlign, FBig, FEnd, FClash, FMany, FRoom, FHeld, FDone}
 use Rattle.reassembly.specs.declared.piece.Whole.{Whole}
 use Rattle.reassembly.specs.declared.piece.Offered.{Offered}
 use Rattle.reassembly.specs.declared.piece.Offered.TheVariants as offers
@@ -121,6 +121,32 @@ answer_by (Some rule) whole = dropped rule
 abbrev pub answer_at : View → Fragment → Answer
 answer_at v p = answer_by (dropped_by v p) (is_whole (p ∷ v.pieces))
 
+-- it is held, and its datagram is not whole
+abbrev pub is_held : Answer → Bool
+is_held held = true
+is_held done = false
+is_held (dropped rule) = false
+
+-- it made its datagram whole
+abbrev pub is_done : Answer → Bool
+is_done held = false
+is_done done = true
+is_done (dropped rule) = false
+
+-- whether the condition of a row on fragments holds of a piece; rows of other layers hold of none
+abbrev pub holds_fragment : View → Fragment → Rule → Bool
+holds_fragment v p FDf = f_df p
+holds_fragment v p FEmpty = f_empty p
+holds_fragment v p FAlign = f_align p
+holds_fragment v p FBig = f_big p
+holds_fragment v p FEnd = f_end v.pieces p
+holds_fragment v p FClash = f_clash v.pieces p
+holds_fragment v p FMany = f_many v
+holds_fragment v p FRoom = f_room v p
+holds_fragment v p FHeld = is_held (answer_at v p)
+holds_fragment v p FDone = is_done (answer_at v p)
+holds_fragment v p rule = false
+
 abbrev pub offered : Answer → Whole → Offered
 offered held whole = offers.Held
 offered done whole = offers.Done whole
@@ -151,3 +177,9 @@ abbrev pub JoinsPieces : Offered → (buffer : List ℕ) → List Fragment → T
 JoinsPieces offers.Held buffer ps = Unit {0}
 JoinsPieces (offers.Done whole) buffer ps = IsMadeOf (take whole.len buffer) ps
 JoinsPieces (offers.Drop rule) buffer ps = Unit {0}
+
+-- a whole datagram is no longer than the longest one
+abbrev pub IsShort : Offered → Type 0
+IsShort offers.Held = Unit {0}
+IsShort (offers.Done whole) = whole.len ≤ 65515
+IsShort (offers.Drop rule) = Unit {0}

@@ -16,7 +16,7 @@ impl Assembly {
     ghost use Rattle.retain_store.specs.Maps.{chain_of, missing};
     ghost use Rattle.reassembly.specs.Pieces.{fragment_of, IsPiece, is_whole, whole_of};
     ghost use Rattle.reassembly.specs.Calls.{Call, Gathered, gathered, latest, pieces_in, after};
-    ghost use Rattle.reassembly.specs.Rows.{ends_otherwise, own_rows, first_row, answer_by, answer_at, offered, offered_at, view_in, view_of, is_none_held, call_of, Carries, JoinsPieces};
+    ghost use Rattle.reassembly.specs.Rows.{ends_otherwise, own_rows, first_row, answer_by, answer_at, offered, offered_at, view_in, view_of, is_none_held, call_of, Carries, IsShort, JoinsPieces};
     ghost use Rattle.reassembly.specs.Standing.{HoldsFor};
     ghost use Rattle.reassembly.specs.Assemblies.{IsFor, KeepsFor, StandsFor, last_time};
 
@@ -41,6 +41,7 @@ impl Assembly {
         ensures holds { let p = fragment_of piece.now in (now : ℕ) (gs : List Gathered) → HoldsFor gs self.old.table.entries self.old.store →
             HoldsFor (after now p (answer_by None (is_whole (p ∷ pieces_in gs p.id))) gs) self.new.table.entries self.new.store }
         ensures octets { let p = fragment_of piece.now in (gs : List Gathered) → HoldsFor gs self.old.table.entries self.old.store → Carries result buf.old buf.new (p ∷ pieces_in gs p.id) }
+        ensures short { IsShort result }
         ensures opened { (settings : PlainSettings) → IsFor settings self.old → IsFor settings self.new }
     {
         let _count = self.table.len();
@@ -73,6 +74,7 @@ impl Assembly {
             is_none_held (pieces_in gs p.id) ≡ false →
             HoldsFor (after now p (answer_at (view_in gs full self.old.store.free p) p) gs) self.new.table.entries self.new.store }
         ensures octets { let p = fragment_of piece.now in (gs : List Gathered) → HoldsFor gs self.old.table.entries self.old.store → Carries result buf.old buf.new (p ∷ pieces_in gs p.id) }
+        ensures short { IsShort result }
         ensures opened { (settings : PlainSettings) → IsFor settings self.old → IsFor settings self.new }
     {
         let _count = self.table.len();
@@ -102,6 +104,7 @@ impl Assembly {
         ensures holds { let p = fragment_of piece.now in (gs : List Gathered) → HoldsFor gs self.old.table.entries self.old.store →
             HoldsFor (after now p (answer_at (view_in gs (nat_le self.old.table.max (length gs)) self.old.store.free p) p) gs) self.new.table.entries self.new.store }
         ensures octets { let p = fragment_of piece.now in (gs : List Gathered) → HoldsFor gs self.old.table.entries self.old.store → Carries result buf.old buf.new (p ∷ pieces_in gs p.id) }
+        ensures short { IsShort result }
         ensures opened { (settings : PlainSettings) → IsFor settings self.old → IsFor settings self.new }
     {
         let count = self.table.len();
@@ -130,6 +133,7 @@ impl Assembly {
             result ≡ offered_at (view_of settings calls p) p }
         ensures octets { let p = fragment_of piece.now in (settings : PlainSettings) (calls : List Call) → KeepsFor settings self.old calls →
             Carries result buf.old buf.new (p ∷ (view_of settings calls p).pieces) }
+        ensures short { IsShort result }
         ensures keeps { let p = fragment_of piece.now in (settings : PlainSettings) (calls : List Call) → KeepsFor settings self.old calls → latest calls ≤ now →
             KeepsFor settings self.new (call_of settings calls now p ∷ calls) }
     {
@@ -154,6 +158,7 @@ impl Assembly {
             result ≡ offered_at (view_of settings calls p) p }
         ensures octets { let p = fragment_of piece.now in (settings : PlainSettings) (calls : List Call) → StandsFor settings self.old calls →
             Carries result buf.old buf.new (p ∷ (view_of settings calls p).pieces) }
+        ensures short { IsShort result }
         ensures pieces { let p = fragment_of piece.now in (settings : PlainSettings) (calls : List Call) → StandsFor settings self.old calls →
             JoinsPieces result buf.new (p ∷ (view_of settings calls p).pieces) }
         ensures stands { let p = fragment_of piece.now in (settings : PlainSettings) (calls : List Call) → StandsFor settings self.old calls →

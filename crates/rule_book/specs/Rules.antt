@@ -3,7 +3,7 @@ use Rattle.std.specs.Prelude.{◌≡◌, ℕ, ◌==◌, List, [], ◌∷◌, ◌
 use Rattle.std.specs.List.Sorted.{IsStrictlyIncreasing}
 use Rattle.std.specs.Str.{bytes_eq}
 use Rattle.rule_book.specs.declared.rule.Rule.{Rule}
-use Rattle.rule_book.specs.declared.rule.Rule.TheVariants.{LSnap, LShort, LType, IShort, IVersion, IHlen, ILen, ISum, ISrc, IDst, ISide, IOptBad, IRoute, PProto, FDf, FEmpty, FAlign, FBig, FEnd, FClash, FMany, FRoom, UShort, ULen, USum, MShort, MSum, MType, MQuote, TShort, THlen, TSum, TFlags, TOptBad, TCold, TState, TSyn, TRst, TFull, TRoom, ITrail, IOpt, IRes, ITtl, FHeld, FDone, USumOut, TSumOut, TRes, TUrg, TOpt, TStrip, CProbe, TOld, TWindow, TTurn, TEnd, TClash, XLater, TQuota, ECut, EMtu}
+use Rattle.rule_book.specs.declared.rule.Rule.TheVariants.{LSnap, LShort, LType, IShort, IVersion, IHlen, ILen, ISum, ISrc, IDst, ISide, IOptBad, IRoute, PProto, FDf, FEmpty, FAlign, FBig, FEnd, FClash, FMany, FRoom, UShort, ULen, USum, MShort, MSum, MType, MQuote, TShort, THlen, TSum, TFlags, TOptBad, TCold, TState, TSyn, TRst, TFull, TRoom, ITrail, IOpt, IRes, ITtl, FHeld, FDone, USumOut, TSumOut, TRes, TUrg, TOpt, TStrip, CProbe, TOld, TWindow, TTurn, TEnd, TClash, TQuota, ECut, EMtu}
 
 -- the number of a rule
 abbrev pub rule_number : Rule → ℕ
@@ -65,7 +65,6 @@ rule_number TWindow = 55
 rule_number TTurn = 56
 rule_number TEnd = 57
 rule_number TClash = 58
-rule_number XLater = 59
 rule_number TQuota = 60
 rule_number ECut = 61
 rule_number EMtu = 62
@@ -130,7 +129,6 @@ rule_name TWindow = codes "T_WINDOW"
 rule_name TTurn = codes "T_TURN"
 rule_name TEnd = codes "T_END"
 rule_name TClash = codes "T_CLASH"
-rule_name XLater = codes "X_LATER"
 rule_name TQuota = codes "T_QUOTA"
 rule_name ECut = codes "E_CUT"
 rule_name EMtu = codes "E_MTU"
@@ -165,9 +163,9 @@ segment_rows = TShort ∷ THlen ∷ TSum ∷ TFlags ∷ TOptBad ∷ []
 abbrev pub era_rows : List Rule
 era_rows = TCold ∷ TState ∷ TSyn ∷ TRst ∷ TFull ∷ TQuota ∷ TRoom ∷ []
 
--- the rules that drop a packet, in the order of testing; the one on what is not built comes last
+-- the rules that drop a packet, in the order of testing
 abbrev pub drop_rows : List Rule
-drop_rows = link_rows ++ header_rows ++ protocol_rows ++ fragment_rows ++ datagram_rows ++ segment_rows ++ era_rows ++ XLater ∷ []
+drop_rows = link_rows ++ header_rows ++ protocol_rows ++ fragment_rows ++ datagram_rows ++ segment_rows ++ era_rows
 
 -- the rules that mend the IPv4 header of a packet, whole or a fragment
 abbrev pub header_fix_rows : List Rule

@@ -3,9 +3,9 @@ ghost use Rattle.std.specs.Prelude.{◌≡◌, ◌≤◌, ◌↔◌, length};
 ghost use Rattle.rule_book.specs.Rules.{rule_name, rule_number};
 ghost use Rattle.rule_book.specs.declared.rule.Rule.{Rule};
 
-/// A rule: why a packet is dropped (those up to `TRoom`, and `XLater`, `TQuota`, `EMtu`), or what happens to one that is not.
+/// A rule: why a packet is dropped (those up to `TRoom`, and `TQuota`, `EMtu`), or what happens to one that is not.
 /// The first letter says what it is about: the link, the IPv4 header, the protocol, fragments, UDP, ICMP, TCP,
-/// the connection, frames that are too long for the link; X is for what is not built yet.
+/// the connection, frames that are too long for the link. 59 is the number of none.
 #[derive(Clone, Copy, Debug, Default, PartialEq, Eq)]
 pub enum Rule {
     /// The capture holds only a part of the frame.
@@ -125,10 +125,8 @@ pub enum Rule {
     TEnd,
     /// Octets are replaced by those that went inwards first.
     TClash,
-    /// A packet whose rules are not built yet.
-    XLater,
     /// Inbound octets that would take their connection above its quota of cells. It is tested before `TRoom`.
-    TQuota,
+    TQuota = 60,
     /// A TCP frame that is too long goes out as several.
     ECut,
     /// Another frame that is too long does not go out.
@@ -136,7 +134,7 @@ pub enum Rule {
 }
 
 /// All rules.
-const ALL: [Rule; 62] = [
+const ALL: [Rule; 61] = [
     Rule::LSnap,
     Rule::LShort,
     Rule::LType,
@@ -178,7 +176,6 @@ const ALL: [Rule; 62] = [
     Rule::TFull,
     Rule::TQuota,
     Rule::TRoom,
-    Rule::XLater,
     Rule::ITrail,
     Rule::IOpt,
     Rule::IRes,
@@ -202,7 +199,7 @@ const ALL: [Rule; 62] = [
 ];
 
 impl Rule {
-    /// The number of the rule, from 1 to 62.
+    /// The number of the rule, from 1 to 62, but not 59.
     pub fn number(self) -> u8
         ensures { result ≡ rule_number self }
     {
@@ -273,7 +270,6 @@ impl Rule {
             Rule::TTurn => "T_TURN",
             Rule::TEnd => "T_END",
             Rule::TClash => "T_CLASH",
-            Rule::XLater => "X_LATER",
             Rule::TQuota => "T_QUOTA",
             Rule::ECut => "E_CUT",
             Rule::EMtu => "E_MTU",

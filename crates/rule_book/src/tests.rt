@@ -233,7 +233,7 @@ fn texts_of_values_are_read(rt: HostRuntime) -> Result<(), Fail> {
             stop(StopKind::Magic, 7),
         ),
         (
-            "norm 1\n1 in pass 255 X_LATER I_TRAIL @4294967295 +0 -0:idle -9:evicted -9:reset -1:reopened\n\
+            "norm 1\n1 in pass 255 T_CLASH I_TRAIL @4294967295 +0 -0:idle -9:evicted -9:reset -1:reopened\n\
              stop read 18446744073709551615\n",
             1,
             1,
@@ -347,6 +347,15 @@ fn each_fault_is_told_at_its_line(rt: HostRuntime) {
         ),
         ("norm 1\n1 in drop 0 L_SNAQ\nend 1 1\n", LineFault::Shape(2)),
         (
+            "norm 1\n1 in drop 0 X_LATER\nend 1 0\n",
+            LineFault::Shape(2),
+        ),
+        (
+            "norm 2\n1 in pass 1\n2 in drop 0 X_LATER\nend 2 1\n",
+            LineFault::Shape(3),
+        ),
+        ("norm 2\n1 in drop 0 59\nend 1 0\n", LineFault::Shape(2)),
+        (
             "norm 1\n1 in drop 0 @1 L_SNAP\nend 1 1\n",
             LineFault::Shape(2),
         ),
@@ -422,5 +431,6 @@ fn a_rule_is_found_by_its_name(rt: HostRuntime) {
     assert_eq!(rt; Rule::of_name(b"T_SUM_OUT"), Some(Rule::TSumOut));
     assert_eq!(rt; Rule::of_name(b"T_SUM"), Some(Rule::TSum));
     assert_eq!(rt; Rule::of_name(b"T_SU"), None);
+    assert_eq!(rt; Rule::of_name(b"X_LATER"), None);
     assert_eq!(rt; Rule::of_name(b""), None);
 }

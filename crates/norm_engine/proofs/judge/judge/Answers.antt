@@ -1,42 +1,88 @@
-use Rattle.std.proofs.Common.{rules, [], ◌≡◌, ◌<◌, ◌==◌, ◌||◌, true, length, sym, subst, arith}
+use Rattle.std.proofs.Common.{rules, ◌≡◌, ◌<◌, ◌≤◌, ◌==◌, ◌||◌, true, false, [], length, Some, None, refl, sym, ap, subst, ◌∙◌, arith}
 use Rattle.norm_settings.specs.Settings.{plain_settings}
 use Rattle.pcap_file.specs.Reads.{shown}
 use Rattle.wire_base.specs.Ipv4 as ip
 use Rattle.ip_rules.specs.Rows.{packet_in}
 use Rattle.ipv4_codec.specs.declared.header.Ipv4.{Ipv4}
-use Rattle.norm_engine.specs.Engine as spec
-use Rattle.norm_engine.proofs.Judging.{arp_passes, row_drops, piece_drops, kept_packet, few_fixes, whole_judged, head_read}
+use Rattle.reassembly.specs.Assemblies as fragments
+use Rattle.norm_engine.proofs.Judging.{arp_is_no_ip, arp_passes, row_drops, none_called, kept_packet, few_fixes, few_parts, own, stands_in, carried_made, whole_judged, piece_judged, piece_called, is_piece}
 use Rattle.norm_engine.proofs.judge.judge.Goals as goal
 
 pub returns-in-Arp-clause-rows : goal.returns-in-Arp-clause-rows
-returns-in-Arp-clause-rows c = λ past stands. arp_passes (plain_settings c.args.settings.now) c.args.link past (shown c.args.input.now) c.in-Arp.ensures.0 c.in-Arp.ensures.1
+returns-in-Arp-clause-rows c = λ past stands held. arp_passes (plain_settings c.args.settings.now) c.args.link past (shown c.args.input.now) c.in-Arp.ensures.0 c.in-Arp.ensures.1
+
+pub returns-in-Arp-clause-pieces : goal.returns-in-Arp-clause-pieces
+returns-in-Arp-clause-pieces c = λ calls stands.
+    let settings = plain_settings c.args.settings.now in
+    let r = shown c.args.input.now in
+    subst (fragments.StandsFor settings c.args.pieces.now)
+    (sym (none_called settings c.args.link r c.args.now calls None false (ip.is_fragment (packet_in c.args.link r.octets)) c.in-Arp.ensures.0 (arp_is_no_ip c.args.link r.octets c.in-Arp.ensures.1) refl refl)) stands
 
 pub returns-in-Drop-clause-rows : goal.returns-in-Drop-clause-rows
-returns-in-Drop-clause-rows c = λ past stands. row_drops (plain_settings c.args.settings.now) c.args.link past (shown c.args.input.now) c.in-Drop.side c.in-Drop.rule c.in-Drop.ensures.0 c.in-Drop.ensures.1
+returns-in-Drop-clause-rows c = λ past stands held. row_drops (plain_settings c.args.settings.now) c.args.link past (shown c.args.input.now) c.in-Drop.side c.in-Drop.rule c.in-Drop.ensures.0 c.in-Drop.ensures.1
+
+pub returns-in-Drop-clause-pieces : goal.returns-in-Drop-clause-pieces
+returns-in-Drop-clause-pieces c = λ calls stands.
+    let settings = plain_settings c.args.settings.now in
+    let r = shown c.args.input.now in
+    subst (fragments.StandsFor settings c.args.pieces.now)
+    (sym (none_called settings c.args.link r c.args.now calls (Some c.in-Drop.rule) _ _ c.in-Drop.ensures.0 refl refl refl)) stands
 
 pub returns-in-Piece-clause-rows : goal.returns-in-Piece-clause-rows
-returns-in-Piece-clause-rows c = λ past stands. piece_drops (plain_settings c.args.settings.now) c.args.link past (shown c.args.input.now) c.in-Piece.packet.side c.in-Piece.ensures.0 c.in-Piece.ensures.1 c.in-Piece.ensures.2.side
+returns-in-Piece-clause-rows c = λ past stands held.
+    piece_judged (plain_settings c.args.settings.now) c.args.link past (shown c.args.input.now) c.in-Piece.packet c.in-Piece.ensures.0 c.in-Piece.ensures.1 c.in-Piece.ensures.2 c.judge_piece.result
+    (c.judge_piece.ensures.rows past.calls past.pieces stands held)
 
-pub judge_datagram-judged-requires-clause-known : goal.judge_datagram-judged-requires-clause-known
-judge_datagram-judged-requires-clause-known c =
+pub returns-in-Piece-clause-pieces : goal.returns-in-Piece-clause-pieces
+returns-in-Piece-clause-pieces c = λ calls stands.
+    let settings = plain_settings c.args.settings.now in
+    subst (fragments.StandsFor settings c.judge_piece.new.pieces)
+    (sym (piece_called settings c.args.link (record { idle = []; calls = []; pieces = calls }) (shown c.args.input.now) c.in-Piece.packet c.in-Piece.ensures.0 c.in-Piece.ensures.1 c.in-Piece.ensures.2 c.args.now calls))
+    (c.judge_piece.ensures.pieces calls stands)
+
+pub judge_piece-requires-clause-piece : goal.judge_piece-requires-clause-piece
+judge_piece-requires-clause-piece c =
+    let p = packet_in c.args.link c.args.input.now.bytes.now in
+    let small : ip.total_length p < 65536 =
+    (let total : c.in-Piece.packet.head.total < 65536 = search rules in subst (λ (head : Ipv4). head.total < 65536) c.in-Piece.ensures.2.head total) in
+    is_piece (plain_settings c.args.settings.now) c.args.link (record { idle = []; calls = []; pieces = [] }) (shown c.args.input.now) c.in-Piece.packet c.in-Piece.ensures.0 c.in-Piece.ensures.1 c.in-Piece.ensures.2 small
+
+pub judge_piece-requires-clause-known : goal.judge_piece-requires-clause-known
+judge_piece-requires-clause-known c =
+    subst (λ (head : Ipv4). ((head.protocol == 1) || (head.protocol == 6) || (head.protocol == 17)) ≡ true) (sym c.in-Piece.ensures.2.head)
+    (kept_packet (plain_settings c.args.settings.now) c.args.link (shown c.args.input.now) c.in-Piece.ensures.0).known
+
+pub judge_piece-requires-clause-few : goal.judge_piece-requires-clause-few
+judge_piece-requires-clause-few c =
+    let few = few_parts (plain_settings c.args.settings.now) c.args.link (shown c.args.input.now) in
+    subst (λ xs. length xs ≤ 4) (sym c.in-Piece.ensures.2.fixes) (omega (arith, few))
+
+pub judge_whole-requires-clause-known : goal.judge_whole-requires-clause-known
+judge_whole-requires-clause-known c =
     subst (λ (head : Ipv4). ((head.protocol == 1) || (head.protocol == 6) || (head.protocol == 17)) ≡ true) (sym c.in-Whole.ensures.2.head)
     (kept_packet (plain_settings c.args.settings.now) c.args.link (shown c.args.input.now) c.in-Whole.ensures.0).known
 
-pub joined-requires : goal.joined-requires
-joined-requires c =
+pub judge_whole-requires-clause-few : goal.judge_whole-requires-clause-few
+judge_whole-requires-clause-few c =
     let few = few_fixes (plain_settings c.args.settings.now) c.args.link (shown c.args.input.now) in
     subst (λ xs. length xs < 16) (sym c.in-Whole.ensures.2.fixes) (omega (arith, few))
 
 pub returns-in-Whole-clause-rows : goal.returns-in-Whole-clause-rows
-returns-in-Whole-clause-rows c = λ past stands.
+returns-in-Whole-clause-rows c = λ past stands held.
     let settings = plain_settings c.args.settings.now in
     let r = shown c.args.input.now in
     let whole = c.in-Whole.ensures in
     let p = packet_in c.args.link c.args.input.now.bytes.now in
     let small : ip.total_length p < 65536 =
     (let total : c.in-Whole.packet.head.total < 65536 = search rules in subst (λ (head : Ipv4). head.total < 65536) whole.2.head total) in
-    subst (spec.Judges settings c.args.link (spec.read_with settings c.args.link past r) r) (sym c.joined.ensures)
-    (whole_judged settings c.args.link past r c.in-Whole.packet whole.0 whole.1 whole.2 small c.judge_datagram-judged.result (c.judge_datagram-judged.ensures.rows past.calls (ip.header p) stands))
+    whole_judged settings c.args.link past r (own settings c.args.link r c.in-Whole.packet whole.0 whole.1 whole.2 small) c.in-Whole.packet
+    (carried_made settings c.args.link r c.in-Whole.packet whole.0 whole.1 whole.2 small past)
+    (stands_in settings c.args.link r c.in-Whole.packet whole.0 whole.1 whole.2 small c.datagrams_are_known.ensures c.have_octets.ensures)
+    c.judge_whole.result (c.judge_whole.ensures.rows past.calls (ip.header p) stands)
 
-pub returns-in-Whole-clause-read : goal.returns-in-Whole-clause-read
-returns-in-Whole-clause-read c = subst spec.SegmentIsRead (sym c.joined.ensures) (head_read c.in-Whole.packet c.judge_datagram-judged.result (c.judge_datagram-judged.ensures.read []))
+pub returns-in-Whole-clause-pieces : goal.returns-in-Whole-clause-pieces
+returns-in-Whole-clause-pieces c = λ calls stands.
+    let settings = plain_settings c.args.settings.now in
+    let r = shown c.args.input.now in
+    subst (fragments.StandsFor settings c.args.pieces.now)
+    (sym (none_called settings c.args.link r c.args.now calls None true false c.in-Whole.ensures.0.undropped c.in-Whole.ensures.0.carries c.in-Whole.ensures.1 refl)) stands

@@ -128,3 +128,10 @@ returns-in-None-clause-holds c now gs h =
     (sym (ap (λ (u : table.Table DatagramId Progress). u.entries) c.put-before.ensures.after))
     (held_holds now gs (fragment_of c.args.piece.now) c.args.self.now.table.entries c.args.self.now.store c.take-next.new.store c.args.slot c.args.progress.now c.take-next.result h t c.requires.valued n
     c.take-next.ensures.changed c.take-next.ensures.since)
+
+pub returns-in-Some-clause-short : goal.returns-in-Some-clause-short
+returns-in-Some-clause-short c = ∥∥₁_elim c.args.self.now.sound le_prop (λ s.
+    let t = taken s.datagrams (fragment_of c.args.piece.now) c.args.self.now.table.entries c.args.self.now.store c.take-next.new.store c.args.slot c.args.progress.now c.take-next.result s.holds c.requires.inside
+    c.len-count.ensures.slots_apart c.len-count.ensures.keys_apart c.requires.keyed c.requires.valued c.requires.own c.requires.ends c.take-next.ensures.progress c.take-next.ensures.octets c.take-next.ensures.count in
+    let w = tells_whole c.take-next.result (fragment_of c.args.piece.now ∷ pieces_in s.datagrams (fragment_of c.args.piece.now).id) c.in-Some.whole c.whole.result t.progress c.whole.ensures c.in-Some.is in
+    subst (λ n. n ≤ 65515) (sym (ap (λ (x : Whole). x.len) w.value)) (is_whole_at c.take-next.result (fragment_of c.args.piece.now ∷ pieces_in s.datagrams (fragment_of c.args.piece.now).id) t.progress w.whole).short)
