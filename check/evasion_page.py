@@ -1,12 +1,15 @@
 """The page on evasions: reads what examples/evasions.txt says of each, makes its capture, and writes its section of docs/EVASIONS.md."""
 
 import os
+import re
 import textwrap
 from types import SimpleNamespace
 
 from norm_model.capture import read_head, read_records
+from norm_model.formats import read_ipv4
+from norm_model.fragment_rows import is_fragment
 from norm_model.hosts import READERS, fields
-from norm_model.packets import INSIDE, LETTERS, capture_of, segment
+from norm_model.packets import INSIDE, LETTERS, capture_of, ipv4, segment
 from norm_model.receivers import POLICIES, all_agree, deliver
 from norm_model.report import read_report
 
@@ -17,6 +20,9 @@ DESCRIPTIONS = os.path.join(TOP, "examples", "evasions.txt")
 PAGE = os.path.join(TOP, "docs", "EVASIONS.md")
 
 BASE, WIDTH = 1000, 150
+
+# The octets of a segment that a fragment has.
+PART = re.compile("octets ([0-9]+) to ([0-9]+)")
 
 # A field that is not as usual: its name in a line, the maker's name, how its value is read, and how it is written.
 FIELDS = (
@@ -43,11 +49,9 @@ another way, such as in whether they verify checksums, stand one below the other
 one octet deliver the same.
 
 The columns are the packets that come, norm's report, and the packets that norm writes. A packet is written as `> PA 1000,5001 abcd`: inwards (`>`) or
-outwards (`<`), flags, sequence number, acknowledgment number and octets, and behind commas the fields that are not as usual. README.md explains the
-lines of the report, and docs/RULES.md the rules. The last line of a section repeats it, at the top of the repository and with the built program
-`crates/norm/out/norm` as `norm`.
-
-Fragments that overlap are missing here: a fragment is dropped under `X_LATER` until reassembly joins the program.
+outwards (`<`), flags, sequence number, acknowledgment number and octets, and behind commas the fields that are not as usual; `octets 0 to 15` is a
+fragment with these octets of the segment, from its header's first on. README.md explains the lines of the report, and docs/RULES.md the rules. The
+last line of a section repeats it, at the top of the repository and with the built program `crates/norm/out/norm` as `norm`.
 
 `examples/make` makes this page and the captures from `examples/evasions.txt`. `check/evasions PROGRAM` fails where a program writes another report
 or other packets than stand here.
@@ -86,9 +90,18 @@ def add_line(case, line):
 def packet_of(line):
     """The packet of a line such as `> PA 1000,5001 abcd, TTL 1`."""
     text, *marks = line.split(", ")
-    values = dict(value_of(mark) for mark in marks if mark != "wrong sum")
+    places = [PART.fullmatch(mark) for mark in marks if PART.fullmatch(mark)]
+    values = dict(value_of(mark) for mark in marks if mark != "wrong sum" and not PART.fullmatch(mark))
     packet = segment(text, **values)
-    return packet[:37] + bytes([packet[37] ^ 1]) + packet[38:] if "wrong sum" in marks else packet
+    packet = packet[:37] + bytes([packet[37] ^ 1]) + packet[38:] if "wrong sum" in marks else packet
+    return fragment_of(packet, int(places[0][1]), int(places[0][2])) if places else packet
+
+
+def fragment_of(packet, first, last):
+    """A fragment with these octets of the packet's segment."""
+    ip = read_ipv4(packet)
+    message = packet[ip.header:]
+    return ipv4(ip.src, ip.dst, ip.protocol, message[first:last + 1], ttl=ip.ttl, ident=ip.ident, mf=last + 1 < len(message), offset=first)
 
 
 def value_of(mark):
@@ -151,7 +164,8 @@ def ends_of(packet):
 
 
 def first_connection(packets):
-    return [packet for packet in packets if ends_of(packet) == ends_of(packets[0])]
+    """The packets of the first connection; each fragment is of it."""
+    return [packet for packet in packets if is_fragment(read_ipv4(packet)) or ends_of(packet) == ends_of(packets[0])]
 
 
 def streams(host, packets):

@@ -5,7 +5,6 @@ The model runs beside the maker, so that a maker can ask where an era stands and
 
 from types import SimpleNamespace
 
-from norm_model.built import WHOLE
 from norm_model.engine import open_engine, step
 from norm_model.packets import address
 from norm_model.words import is_trusted
@@ -15,7 +14,7 @@ OUTSIDES = [address(text) for text in ("198.51.100.7", "198.51.100.8", "11.0.0.0
 
 
 def open_world(rng, settings, link):
-    return SimpleNamespace(rng=rng, settings=settings, link=link, engine=open_engine(settings, link, WHOLE),
+    return SimpleNamespace(rng=rng, settings=settings, link=link, engine=open_engine(settings, link),
                            seconds=rng.choice([0, 0, 1, 1000000, 2**32 - 10]), records=[], entries=[], written=[])
 
 

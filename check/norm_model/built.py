@@ -1,7 +1,7 @@
-"""What a program has: the layers, the words and the version of its report.
+"""What a program has: the words and the version of its report.
 
-The model knows all rules. A program that has only a part of it is compared with that part: a
-packet that a missing layer would judge is dropped as X_LATER, and a missing word is refused.
+The model knows all words. A program that has only a part of them is compared with that part: a missing word is
+refused.
 """
 
 from types import SimpleNamespace
@@ -21,13 +21,12 @@ RANGES = {
 }
 
 
-def built(fragments, connections, options, prefixes, load, report_version):
-    return SimpleNamespace(fragments=fragments, connections=connections, options=list(options),
-                           prefixes=prefixes, load=load, report_version=report_version)
+def built(options, prefixes, load, report_version):
+    return SimpleNamespace(options=list(options), prefixes=prefixes, load=load, report_version=report_version)
 
 
 # Everything.
-WHOLE = built(True, True, RANGES, 16, True, 2)
+WHOLE = built(RANGES, 16, True, 2)
 
 # What the program of this repository has today.
-BUILT = built(False, True, RANGES, 16, False, 2)
+BUILT = built(RANGES, 16, False, 2)

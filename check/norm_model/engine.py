@@ -11,8 +11,8 @@ from norm_model.link_rows import HEADER_DROPS, HEADER_FIXES, LINK_DROPS, SIDE_DR
 from norm_model.segment_rows import SEGMENT_DROPS, SEGMENT_FIXES
 
 
-def open_engine(settings, link, built):
-    return SimpleNamespace(settings=settings, link=link, built=built, now=0, number=0, begun=0, live={}, held={})
+def open_engine(settings, link):
+    return SimpleNamespace(settings=settings, link=link, now=0, number=0, begun=0, live={}, held={})
 
 
 def step(engine, record):
@@ -61,8 +61,6 @@ def judge(engine, case, entry):
 
 
 def judge_piece(engine, case, entry):
-    if not engine.built.fragments:
-        return drop(entry, "X_LATER")
     offered = offer_piece(case, engine.held, engine.now)
     if offered == "F_HELD":
         entry.verdict, entry.rules = "hold", [offered]
@@ -81,8 +79,6 @@ def judge_message(engine, case, entry, done):
     if rule:
         return drop(entry, rule)
     if case.sent.protocol == TCP:
-        if not engine.built.connections:
-            return drop(entry, "X_LATER")
         return judge_segment(engine, case, entry, done)
     return pass_on(case, entry, done, [])
 

@@ -4,6 +4,7 @@ Each takes the packets of one connection, in both directions and in order, and g
 """
 
 from norm_model.formats import FIN, RST, SYN, TCP, URG, pseudo_sum, read_ipv4, read_tcp, sum_right, write_ipv4, write_tcp
+from norm_model.fragment_rows import datagram_key, is_fragment
 from norm_model.packets import INSIDE
 
 
@@ -29,6 +30,32 @@ def before(packets, flag):
         if fields(packet)[1].flags & flag:
             break
     return read
+
+
+def joined(packets, keep):
+    """The packets with one in the place of the fragments that make it; `keep` puts an octet at its place, where another may stand."""
+    read, held = [], {}
+    for packet in packets:
+        ip = read_ipv4(packet)
+        if not is_fragment(ip):
+            read.append(packet)
+            continue
+        octets, ends = held.setdefault(datagram_key(ip), ({}, []))
+        for place, octet in enumerate(packet[ip.header:], ip.offset):
+            keep(octets, place, octet)
+        ends += [] if ip.mf else [ip.offset + len(packet) - ip.header]
+        if ends and all(place in octets for place in range(ends[0])):
+            del held[datagram_key(ip)]
+            read.append(write_ipv4(ip, ip.ttl, bytes(octets[place] for place in range(ends[0]))))
+    return inward(read)
+
+
+def keeps_the_octet_of_the_first_fragment(packets):
+    return joined(packets, dict.setdefault)
+
+
+def keeps_the_octet_of_the_last_fragment(packets):
+    return joined(packets, dict.__setitem__)
 
 
 def every_packet(packets):
@@ -104,4 +131,5 @@ def refuses_header_options(packets):
 
 READERS = {reader.__name__: reader for reader in (
     every_packet, behind_a_router, takes_the_urgent_octet_out, stops_at_a_reset, verifies_checksums, refuses_reserved_bits,
-    keeps_octets_on_a_syn, leaves_octets_on_a_syn, stops_at_a_fin, keeps_to_its_window, refuses_header_options)}
+    keeps_octets_on_a_syn, leaves_octets_on_a_syn, stops_at_a_fin, keeps_to_its_window, refuses_header_options,
+    keeps_the_octet_of_the_first_fragment, keeps_the_octet_of_the_last_fragment)}

@@ -2,7 +2,6 @@
 
 from types import SimpleNamespace
 
-from norm_model.built import WHOLE
 from norm_model.capture import RAW
 from norm_model.engine import open_engine, step
 from norm_model.formats import TCP
@@ -56,10 +55,10 @@ def generated(seed, count):
                               octets=octets)
 
 
-def run_load(seed, count, built=WHOLE):
+def run_load(seed, count):
     settings = default_settings()
     settings.prefixes = [read_prefix("10.0.0.0/8")]
-    engine = open_engine(settings, RAW, built)
+    engine = open_engine(settings, RAW)
     packets, rules = 0, {}
     for record in generated(seed, count):
         entry, written = step(engine, record)

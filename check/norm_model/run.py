@@ -14,7 +14,7 @@ def run(words, octets, built):
     if isinstance(command, int):
         return 2, b"", report.stop_line("words", command)
     if command.kind == "load":
-        return 0, b"", run_load(command.seed, command.count, built)
+        return 0, b"", run_load(command.seed, command.count)
     status, written, lines, _ = run_capture(command.settings, octets, built)
     return status, written, lines
 
@@ -26,7 +26,7 @@ def run_capture(settings, octets, built):
     if isinstance(head, str):
         return STATUS[head], b"", lines + report.stop_line(head, 0), []
     parts, texts, steps = [capture.write_head(head)], [lines], []
-    engine = open_engine(settings, head.link, built)
+    engine = open_engine(settings, head.link)
     records, fault, at = capture.read_records(octets, head)
     for record in records:
         entry, written = step(engine, record)

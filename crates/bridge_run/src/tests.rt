@@ -9,6 +9,7 @@ use std::test::Fail;
 mod connections;
 mod evasions;
 mod forms;
+mod fragments;
 mod packets;
 mod stopped;
 
@@ -99,7 +100,7 @@ fn ended_run(
         piece,
         only(alloc, failing.0)?,
     );
-    let mut capture = MemSink::new(alloc, 4096, only(alloc, failing.1)?)?;
+    let mut capture = MemSink::new(alloc, 131_072, only(alloc, failing.1)?)?;
     let mut report = MemSink::new(alloc, 4096, only(alloc, failing.2)?)?;
     let status = run(alloc, &words, &mut source, &mut capture, &mut report);
     Ok(Outcome {
@@ -265,8 +266,8 @@ const JUDGED: [Judged; 27] = [
     Judged { changes: FADING, captured: 30, original: 30, line: "out pass 1", written: AsRead },
     Judged { changes: &[(8, 30), (10, 0x68)], captured: 30, original: 30, line: "in fix 1 I_TTL", written: Anew(&[(8, 31), (10, 0x67)]) },
     Judged { changes: &[(8, 31), (10, 0x67)], captured: 30, original: 30, line: "in pass 1", written: AsRead },
-    Judged { changes: &[(6, 0x20), (10, 0x26)], captured: 30, original: 30, line: "in drop 0 X_LATER", written: Nothing },
-    Judged { changes: &[(7, 1), (11, 0x92)], captured: 30, original: 30, line: "in drop 0 X_LATER", written: Nothing },
+    Judged { changes: &[(6, 0x20), (10, 0x26)], captured: 30, original: 30, line: "in drop 0 F_ALIGN", written: Nothing },
+    Judged { changes: &[(7, 1), (11, 0x92)], captured: 30, original: 30, line: "in hold 0 F_HELD", written: Nothing },
     Judged { changes: &[(6, 0x40), (10, 0x06)], captured: 30, original: 30, line: "in pass 1", written: AsRead },
     Judged { changes: &[(6, 0x80), (10, 0xc6), (11, 0x92)], captured: 30, original: 30, line: "in fix 1 I_RES", written: Anew(&[]) },
     Judged { changes: &[(9, 1), (11, 0xa3)], captured: 30, original: 30, line: "in drop 0 M_SUM", written: Nothing },

@@ -1,4 +1,4 @@
-//! Steps of an engine over TCP segments: the rows on their header, and an engine that follows as many connections as it may.
+//! Steps of an engine over TCP segments: the rows on their header, a segment in fragments, and an engine that follows as many connections as it may.
 ghost use Rattle.norm_settings.specs.Settings.{plain_settings, AreInRange};
 
 use super::Engine;
@@ -118,6 +118,70 @@ fn segments_are_judged_by_their_header(rt: HostRuntime) -> Result<(), Fail> {
             "row {number}"
         );
     }
+    Ok(())
+}
+
+/// The SYN in two fragments with identification 7: 16 octets of its segment, and the last four.
+const FRONT: [u8; 36] = [
+    0x45, 0x00, 0x00, 0x24, 0x00, 0x07, 0x20, 0x00, 0x40, 0x06, 0x26, 0x92, 0xc6, 0x33, 0x64, 0x07,
+    0x0a, 0x00, 0x00, 0x01, 0x9c, 0x40, 0x00, 0x50, 0x00, 0x00, 0x03, 0xe7, 0x00, 0x00, 0x00, 0x00,
+    0x50, 0x02, 0x20, 0x00,
+];
+
+const BACK: [u8; 24] = [
+    0x45, 0x00, 0x00, 0x18, 0x00, 0x07, 0x00, 0x02, 0x40, 0x06, 0x46, 0x9c, 0xc6, 0x33, 0x64, 0x07,
+    0x0a, 0x00, 0x00, 0x01, 0xbb, 0x2f, 0x00, 0x00,
+];
+
+/// Whether this fragment, captured whole at time 0, has this verdict and this one rule, in this era.
+fn becomes(
+    engine: &mut Engine,
+    fragment: &[u8],
+    told: (Verdict, Rule, Option<u32>),
+    out: &mut Outbox,
+) -> bool {
+    if engine.records() == u32::MAX {
+        return false;
+    }
+    let input = Record {
+        seconds: 0,
+        fraction: 0,
+        original: 0,
+        offset: 24,
+        bytes: fragment,
+    };
+    let entry = engine.step(&input, out);
+    entry.verdict == told.0 && entry.rules.as_slice() == [told.1].as_slice() && entry.era == told.2
+}
+
+#[test]
+fn a_fragment_is_held_until_its_datagram_is_whole(rt: HostRuntime) -> Result<(), Fail> {
+    let mut out = Outbox::open(rt.alloc()).ok().ok_or("no memory")?;
+    let mut engine = Engine::open(rt.alloc(), settings(false))
+        .ok()
+        .ok_or("no memory")?;
+    let held = (Verdict::Hold, Rule::FHeld, None);
+    assert!(rt; becomes(&mut engine, &FRONT, held, &mut out));
+    assert_eq!(rt;
+        (
+            engine.datagrams(),
+            engine.frag_cells(),
+            engine.flows(),
+            out.frames()
+        ),
+        (1, 1, 0, 0)
+    );
+    let done = (Verdict::Fix, Rule::FDone, Some(1));
+    assert!(rt; becomes(&mut engine, &BACK, done, &mut out));
+    assert_eq!(rt;
+        (
+            engine.datagrams(),
+            engine.frag_cells(),
+            engine.flows(),
+            out.frames()
+        ),
+        (0, 0, 1, 1)
+    );
     Ok(())
 }
 

@@ -66,13 +66,14 @@ pub struct Row {
 }
 
 /// Little memory, and enough.
-pub const FEW: &[&str] = &["--flows=8", "--cells=64"];
+#[rattlefmt::skip]
+pub const FEW: &[&str] = &["--flows=8", "--cells=64", "--frags=4", "--frag-cells=256"];
 
 /// The payload of the datagram.
 const MESSAGE: &[u8] = &[0x9c, 0x40, 0, 0x35, 0, 10, 0xc6, 0xbf, 0x68, 0x69];
 
 /// ICMP (RFC 792): a port unreachable that quotes a segment from 10.0.0.1 port 80 to 198.51.100.7 port 40000.
-const UNREACHABLE: &[u8] = &[
+pub const UNREACHABLE: &[u8] = &[
     3, 0, 0x60, 0x6f, 0, 0, 0, 0, 0x45, 0, 0, 0x1c, 0, 1, 0, 0, 0x40, 6, 0x46, 0xa0, 10, 0, 0, 1,
     198, 51, 100, 7, 0, 80, 0x9c, 0x40, 0, 0, 0, 0,
 ];

@@ -15,7 +15,7 @@ struct Case {
 }
 
 #[rattlefmt::skip]
-const CASES: [Case; 12] = [
+const CASES: [Case; 14] = [
     // Overlapping segments out of order, which differ past the octets that are missing.
     Case { row: Row { options: FEW, before: OPENED, packets: &[(DataIn(1002, 5001, b"cdef"), &[]), (DataIn(1000, 5001, b"abXXgh"), &[])],
         report: "4 in pass 1 @1\n5 in fix 1 T_CLASH @1\nend 5 5\n",
@@ -50,6 +50,15 @@ const CASES: [Case; 12] = [
     // Octets past the window.
     Case { row: Row { options: FEW, before: OPENED, packets: &[(DataIn(10_000, 5001, b"zz"), &[])],
         report: "4 in fix 1 T_WINDOW @1\nend 4 4\n", written: &[(DataIn(10_000, 5001, b""), &[])] }, streams: &[(0, b"", false)] },
+    // Fragments that overlap and differ: in the header of the segment, and in octets that have the same sum in either order.
+    Case { row: Row { options: FEW, before: OPENED,
+        packets: &[(DataIn(1000, 5001, b"abcd"), &[Piece(7, 0, 16)]), (DataIn(1000, 16_782_217, b"abcd"), &[Piece(7, 8, 24)])],
+        report: "4 in hold 0 F_HELD\n5 in drop 0 F_CLASH\nend 5 3\n", written: &[] }, streams: &[(0, b"", false)] },
+    Case { row: Row { options: FEW, before: OPENED,
+        packets: &[(DataIn(1000, 5001, b"evilgood and so on"), &[Piece(7, 0, 32)]), (DataIn(1000, 5001, b"goodevil and so on"), &[Piece(7, 16, 38)]),
+            (DataIn(1000, 5001, b"good"), &[Piece(7, 0, 16)]), (DataIn(1000, 5001, b"good"), &[Piece(7, 16, 24)])],
+        report: "4 in hold 0 F_HELD\n5 in drop 0 F_CLASH\n6 in hold 0 F_HELD\n7 in fix 1 F_DONE @1\nend 7 4\n",
+        written: &[(DataIn(1000, 5001, b"good"), &[Ident(7)])] }, streams: &[(0, b"good", false)] },
     // Options of the IPv4 header: three that do nothing, and a source route.
     Case { row: Row { options: FEW, before: OPENED,
         packets: &[(DataIn(1000, 5001, b"abcd"), &[HeaderOptions(&[1, 1, 1, 1])]), (DataIn(1000, 5001, b"abcd"), &[HeaderOptions(&[0x83, 3, 4, 0])])],

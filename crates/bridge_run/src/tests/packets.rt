@@ -1,4 +1,4 @@
-//! Packets by the formats' standards (RFC 791, RFC 9293), and classic captures of them.
+//! Packets and their fragments by the formats' standards (RFC 791, RFC 9293), and classic captures of them.
 use super::HEAD;
 use std::alloc::{AllocError, Global};
 use wire_base::{Addr, pseudo_sum, sum_for};
@@ -22,8 +22,9 @@ pub enum Kind {
     ResetIn(u32),
     ResetAckIn(u32, u32),
     ResetOut(u32),
-    /// Of this protocol, inwards.
+    /// Of this protocol.
     MessageIn(u8, &'static [u8]),
+    MessageOut(u8, &'static [u8]),
 }
 
 /// What is not as it is in most packets.
@@ -32,8 +33,22 @@ pub enum Mark {
     /// Since the first record.
     Seconds(u32),
     Ttl(u8),
+    /// The type of service.
+    Service(u8),
+    Ident(u16),
+    DontFragment,
+    /// The flag of the IPv4 header that is reserved.
+    ReservedFlag,
     /// The options of the IPv4 header.
     HeaderOptions(&'static [u8]),
+    /// Of the datagram with this identification the octets from one offset up to another; further ones follow where there are more.
+    Piece(u16, u16, u16),
+    /// All octets as a fragment with this identification and this offset, and whether further ones follow.
+    PieceAt(u16, u16, bool),
+    /// So many octets of 0 at the end of a message.
+    Zeros(u16),
+    /// Octets behind the packet.
+    Trail(&'static [u8]),
     /// The host outside has this port.
     Port(u16),
     Window(u16),
@@ -64,9 +79,44 @@ const ACK: u8 = 16;
 
 const URG: u8 = 32;
 
+// The flags of the IPv4 header, in the upper half of the octet that they share with the offset.
+const RESERVED: u8 = 128;
+
+const DF: u8 = 64;
+
+const MF: u8 = 32;
+
 const OUTSIDE: u32 = 0xc633_6407;
 
 const INSIDE: u32 = 0x0a00_0001;
+
+/// What of a packet is not told by its message: fields of the IPv4 header, and what stands behind it.
+#[derive(Clone, Copy)]
+struct Envelope {
+    ttl: u8,
+    service: u8,
+    ident: u16,
+    flags: u8,
+    offset: u16,
+    options: &'static [u8],
+    /// The first octet of the message that the packet has, and the first that it has no more.
+    part: Option<(u16, u16)>,
+    zeros: u16,
+    trail: &'static [u8],
+}
+
+/// That of most packets.
+const USUAL: Envelope = Envelope {
+    ttl: 64,
+    service: 0,
+    ident: 1,
+    flags: 0,
+    offset: 0,
+    options: &[],
+    part: None,
+    zeros: 0,
+    trail: &[],
+};
 
 /// The fields of a packet. Where the protocol is not TCP, the payload is all that follows the IPv4 header.
 #[derive(Clone, Copy)]
@@ -74,8 +124,7 @@ struct Fields {
     seconds: u32,
     inward: bool,
     protocol: u8,
-    ttl: u8,
-    header_options: &'static [u8],
+    envelope: Envelope,
     port: u16,
     sequence: u32,
     acknowledgment: u32,
@@ -93,8 +142,7 @@ fn segment(inward: bool, flags: u8, sequence: u32, acknowledgment: u32) -> Field
         seconds: 0,
         inward,
         protocol: 6,
-        ttl: 64,
-        header_options: &[],
+        envelope: USUAL,
         port: 40_000,
         sequence,
         acknowledgment,
@@ -110,6 +158,11 @@ fn segment(inward: bool, flags: u8, sequence: u32, acknowledgment: u32) -> Field
 
 fn with_payload(payload: &'static [u8], fields: Fields) -> Fields {
     Fields { payload, ..fields }
+}
+
+fn message(inward: bool, protocol: u8, octets: &'static [u8]) -> Fields {
+    let fields = with_payload(octets, segment(inward, 0, 0, 0));
+    Fields { protocol, ..fields }
 }
 
 fn fields_of(kind: Kind) -> Fields {
@@ -136,10 +189,56 @@ fn fields_of(kind: Kind) -> Fields {
         Kind::ResetIn(sequence) => segment(true, RST, sequence, 0),
         Kind::ResetAckIn(sequence, ack) => segment(true, RST | ACK, sequence, ack),
         Kind::ResetOut(sequence) => segment(false, RST, sequence, 0),
-        Kind::MessageIn(protocol, octets) => {
-            let fields = with_payload(octets, segment(true, 0, 0, 0));
-            Fields { protocol, ..fields }
+        Kind::MessageIn(protocol, octets) => message(true, protocol, octets),
+        Kind::MessageOut(protocol, octets) => message(false, protocol, octets),
+    }
+}
+
+impl Envelope {
+    fn mark(&mut self, mark: Mark) {
+        match mark {
+            Mark::Ttl(ttl) => self.ttl = ttl,
+            Mark::Service(service) => self.service = service,
+            Mark::Ident(ident) => self.ident = ident,
+            Mark::DontFragment => self.flags |= DF,
+            Mark::ReservedFlag => self.flags |= RESERVED,
+            Mark::HeaderOptions(options) => self.options = options,
+            Mark::Piece(ident, from, to) => {
+                self.place(ident, from, false);
+                self.part = Some((from, to));
+            }
+            Mark::PieceAt(ident, offset, more) => self.place(ident, offset, more),
+            Mark::Zeros(zeros) => self.zeros = zeros,
+            Mark::Trail(trail) => self.trail = trail,
+            _ => {}
         }
+    }
+
+    fn place(&mut self, ident: u16, offset: u16, more: bool) {
+        self.ident = ident;
+        self.offset = offset;
+        if more {
+            self.flags |= MF;
+        }
+    }
+
+    /// The octets of a message that the packet has, and whether further ones follow.
+    fn part_of<'a>(&self, message: &'a [u8]) -> (&'a [u8], bool) {
+        let Some((from, to)) = self.part else {
+            return (message, false);
+        };
+        let (from, to) = (usize::from(from), usize::from(to));
+        match message.get(from..to) {
+            Some(part) => (part, to < message.len()),
+            None => (&[], false),
+        }
+    }
+
+    /// The flags and the offset, as they stand in the header.
+    fn fragmentation(&self, more: bool) -> [u8; 2] {
+        let [high, low] = (self.offset / 8).to_be_bytes();
+        let flags = if more { self.flags | MF } else { self.flags };
+        [flags | high, low]
     }
 }
 
@@ -147,8 +246,6 @@ impl Fields {
     fn mark(&mut self, mark: Mark) {
         match mark {
             Mark::Seconds(seconds) => self.seconds = seconds,
-            Mark::Ttl(ttl) => self.ttl = ttl,
-            Mark::HeaderOptions(options) => self.header_options = options,
             Mark::Port(port) => self.port = port,
             Mark::Window(window) => self.window = window,
             Mark::Options(options) => self.options = options,
@@ -159,6 +256,7 @@ impl Fields {
             }
             Mark::Payload(payload) => self.payload = payload,
             Mark::ZeroSum | Mark::WrongSum => self.sum = Some(mark),
+            _ => self.envelope.mark(mark),
         }
     }
 
@@ -232,25 +330,24 @@ fn segment_octets(alloc: Global, fields: &Fields) -> Result<Vec<u8>, AllocError>
     Ok(octets)
 }
 
-/// The IPv4 header with identification 1 before a message of this length.
-fn header_octets(alloc: Global, fields: &Fields, message: u16) -> Result<Vec<u8>, AllocError> {
+/// The IPv4 header before this many octets of a message, where further ones follow or not.
+fn header_octets(
+    alloc: Global,
+    fields: &Fields,
+    size: u16,
+    more: bool,
+) -> Result<Vec<u8>, AllocError> {
     let (from, to) = fields.addresses();
+    let envelope = fields.envelope;
     let mut octets = Vec::new(alloc);
-    octets.extend_from_slice(&[
-        0x40 | words(fields.header_options) / 16,
-        0,
-        0,
-        0,
-        0,
-        1,
-        0,
-        0,
-    ])?;
-    octets.extend_from_slice(&[fields.ttl, fields.protocol, 0, 0])?;
+    octets.extend_from_slice(&[0x40 | words(envelope.options) / 16, envelope.service, 0, 0])?;
+    octets.extend_from_slice(&envelope.ident.to_be_bytes())?;
+    octets.extend_from_slice(&envelope.fragmentation(more))?;
+    octets.extend_from_slice(&[envelope.ttl, fields.protocol, 0, 0])?;
     octets.extend_from_slice(&from.to_be_bytes())?;
     octets.extend_from_slice(&to.to_be_bytes())?;
-    octets.extend_from_slice(fields.header_options)?;
-    let length = length_of(&octets).saturating_add(message);
+    octets.extend_from_slice(envelope.options)?;
+    let length = length_of(&octets).saturating_add(size);
     put(&mut octets, 2, length);
     let sum = sum_for(&octets, 0);
     put(&mut octets, 10, sum);
@@ -266,15 +363,25 @@ fn fields_with(packet: Packet) -> Fields {
     fields
 }
 
-/// The octets of the packet.
+/// The whole message.
+fn message_octets(alloc: Global, fields: &Fields) -> Result<Vec<u8>, AllocError> {
+    if fields.protocol == 6 {
+        return segment_octets(alloc, fields);
+    }
+    let mut octets = Vec::from_slice(alloc, fields.payload)?;
+    for _ in 0..fields.envelope.zeros {
+        octets.push(0)?;
+    }
+    Ok(octets)
+}
+
+/// The octets of the packet, and what stands behind it.
 fn octets_of(alloc: Global, fields: &Fields) -> Result<Vec<u8>, AllocError> {
-    let message = if fields.protocol == 6 {
-        segment_octets(alloc, fields)?
-    } else {
-        Vec::from_slice(alloc, fields.payload)?
-    };
-    let mut octets = header_octets(alloc, fields, length_of(&message))?;
-    octets.extend_from_slice(&message)?;
+    let message = message_octets(alloc, fields)?;
+    let (part, more) = fields.envelope.part_of(&message);
+    let mut octets = header_octets(alloc, fields, length_of(part), more)?;
+    octets.extend_from_slice(part)?;
+    octets.extend_from_slice(fields.envelope.trail)?;
     Ok(octets)
 }
 
@@ -318,4 +425,20 @@ pub fn capture_of(alloc: Global, first: &[Packet], then: &[Packet]) -> Result<Ve
 /// The octets of one packet.
 pub fn packet_octets(alloc: Global, packet: Packet) -> Result<Vec<u8>, AllocError> {
     octets_of(alloc, &fields_with(packet))
+}
+
+/// A capture of Ethernet (RFC 894), where the last octet of a packet's source is its number.
+pub fn framed_capture(alloc: Global, packets: &[(u8, Packet)]) -> Result<Vec<u8>, AllocError> {
+    let mut file = Vec::from_slice(alloc, &HEAD)?;
+    put(&mut file, 20, 0x0100);
+    for (number, packet) in packets {
+        let octets = packet_octets(alloc, *packet)?;
+        let size = u32::from(length_of(&octets)) + 14;
+        for value in [0, 0, size, size] {
+            file.extend_from_slice(&value.to_le_bytes())?;
+        }
+        file.extend_from_slice(&[2, 0, 0, 0, 0, 1, 2, 0, 0, 0, 0, *number, 8, 0])?;
+        file.extend_from_slice(&octets)?;
+    }
+    Ok(file)
 }
