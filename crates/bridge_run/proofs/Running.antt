@@ -13,7 +13,7 @@ use Rattle.norm_settings.specs.Settings.{PlainSettings}
 use Rattle.norm_engine.specs.Items.{Item, packets, entries}
 use Rattle.norm_engine.specs.Trace.{item_of}
 use Rattle.norm_engine.specs.Clean.{HasOctets}
-use Rattle.norm_engine.specs.Laws.{ItemsAreCounted, LawfulKeepsClean, LawfulAgrees, IsSound}
+use Rattle.norm_engine.specs.Laws.{ItemsAreCounted, LawfulKeepsClean, LawfulIsWithin, LawfulAgrees, IsSound}
 use Rattle.norm_engine.specs.Engine.{Engaged, StandsFor}
 use Rattle.bridge_run.specs.declared.stop.Stop.{Stop}
 use Rattle.bridge_run.specs.Frames.{frame_count}
@@ -92,10 +92,10 @@ goes_on settings head a b c engine engine' reader reader' frames n p counts goin
 
 -- the run is over: all was read, and the last line is written
 pub normalized : (settings : PlainSettings) (head : Head) (a b c : Moment) (engine : Engaged) (reader : Reading) (frames count : ℕ)
-    → LawfulKeepsClean → LawfulAgrees → settings.hops ≤ 254
+    → LawfulKeepsClean → LawfulIsWithin → LawfulAgrees → settings.hops ≤ 254
     → Going settings head a b engine reader frames → HasEnd b.source.octets c.source.octets → count ≡ engine.records → Ended count frames b.sinks c.sinks
     → Normalized settings a.source.octets c.source.octets a.sinks.capture.octets c.sinks.capture.octets a.sinks.report.octets c.sinks.report.octets
-normalized settings head a b c engine reader frames count keeps agrees hops going end counted ended =
+normalized settings head a b c engine reader frames count keeps bounds agrees hops going end counted ended =
     let trace = going.trace in
     let sound : IsSound settings head.link trace = record { hops = hops; octets = going.so_far.octets; lawful = going.so_far.lawful } in
     let all : Given (outputs_of head trace ++ end_outputs count frames) a.sinks c.sinks = given_after _ _ a.sinks b.sinks c.sinks going.so_far.given ended.given in
@@ -112,6 +112,7 @@ normalized settings head a b c engine reader frames count keeps agrees hops goin
       report_written = subst (Appends a.sinks.report.octets c.sinks.report.octets)
           (report_part-append (outputs_of head trace) _ ∙ ap₂ (λ x y. x ++ y) (report_is head trace) line ∙ append_assoc heading (lines_text (entries trace)) (last_text (End (length trace) (frame_count trace)))) all.report;
       clean_kept = keeps settings head.link trace sound;
+      within = bounds settings head.link trace sound;
       agree = agrees settings head.link trace sound;
     }
 

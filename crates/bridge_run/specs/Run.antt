@@ -16,6 +16,7 @@ use Rattle.norm_engine.specs.Items.{Item, packets, entries}
 use Rattle.norm_engine.specs.Trace.{Lawful}
 use Rattle.norm_engine.specs.Clean.{CleanIsKept, HaveOctets}
 use Rattle.norm_engine.specs.Agreement.{Agree}
+use Rattle.norm_engine.specs.Laws.{IsAlwaysWithin}
 use Rattle.norm_engine.specs.Engine.{Engaged, StandsFor}
 use Rattle.bridge_run.specs.Frames.{frames_octets, frame_count}
 use Rattle.bridge_run.specs.Moments.{Moment, Sinks, NoneRose, NoSinkRose}
@@ -38,7 +39,8 @@ abbrev pub AsksRun : List (List ℕ) → PlainSettings → Type 0
 AsksRun words settings = (names : PlainNames) × (asked words ≡ Ok (run names settings))
 
 -- A capture was normalized: what the source had left is a capture, all of it was taken, and what was written is the frames and the report of its one
--- lawful trace under these settings; every clean packet has exactly one frame with its payload; and in each era all receivers agree.
+-- lawful trace under these settings; every clean packet has exactly one frame with its payload; after no record more is held than the settings allow; and in
+-- each era all receivers agree.
 pub record Normalized (settings : PlainSettings) (source source' capture capture' report report' : Option (List ℕ)) : Type 0 where
   pub head : Head
   pub trace : List Item
@@ -48,6 +50,7 @@ pub record Normalized (settings : PlainSettings) (source source' capture capture
   pub frames_written : Appends capture capture' (head_octets head ++ frames_octets head.order trace)
   pub report_written : Appends report report' (report_text 2 (entries trace) (End (length trace) (frame_count trace)))
   pub clean_kept : CleanIsKept settings head.link trace
+  pub within : IsAlwaysWithin settings head.link trace
   pub agree : Agree settings.hops head.link trace
 
 -- A finished run: the words ask for a run, and under their settings the capture was normalized.

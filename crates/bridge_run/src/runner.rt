@@ -26,7 +26,7 @@ use crate::stop::{
 };
 use edge_io::{Failed, NoMemory, Outbox, Sink, Source};
 use norm_engine::Engine;
-use norm_engine::laws::{items_are_counted, lawful_agrees, lawful_keeps_clean};
+use norm_engine::laws::{items_are_counted, lawful_agrees, lawful_is_within, lawful_keeps_clean};
 use norm_settings::{Command, Settings, WordFault, read_words};
 use pcap_file::laws::{flaw_excludes_end, flaw_is_one};
 use pcap_file::{Head, MAX_CAPTURED, Reader, Record, read_head, write_head, write_record};
@@ -252,6 +252,7 @@ fn normalize<S: Source, K: Sink, R: Sink>(
 {
     items_are_counted();
     lawful_keeps_clean();
+    lawful_is_within();
     lawful_agrees();
     let head = begin(source, capture, report)?;
     engine.set_link(head.link);

@@ -31,7 +31,7 @@ use Rattle.tcp_norm.specs.Outcomes.{call_of}
 use Rattle.tcp_norm.specs.Segments.{IsSegment, AsksSegment, AreOfSegments, PacketsAreItsOwn}
 use Rattle.tcp_norm.specs.Lives.{AreMade}
 use Rattle.norm_engine.specs.Items.{Item, now_with}
-use Rattle.norm_engine.specs.Laws.{IsSound}
+use Rattle.norm_engine.specs.Laws.{IsSound, IsWithin, IsAlwaysWithin}
 use Rattle.norm_engine.specs.Fragments.{fragment_in, with_offered, piece_calls, pieces_before, offering_in, joined_in}
 use Rattle.norm_engine.specs.Rows.{is_tcp, is_segment, holds_tcp, t_short, t_hlen, t_sum, t_flags, t_opt_bad}
 use Rattle.norm_engine.specs.Calls.{where_passes, segment_after, datagram_after, past_of, flow_calls}
@@ -237,3 +237,10 @@ calls_are_made rows known own settings link (item ∷ older) sound =
       asked = asked_with settings (past_of settings link older r).calls (now_with older r) (segment_after settings link older r)
           (λ d h. segment_is known settings link older r d sound.octets.0 sound.octets.1 h) (tt, before.asked);
     })
+
+-- what holds after each sound history holds at each history of a sound trace
+pub always_within : (settings : PlainSettings) (link : Link) → ((history : List Item) → IsSound settings link history → IsWithin settings link history)
+    → (trace : List Item) → IsSound settings link trace → IsAlwaysWithin settings link trace
+always_within settings link within [] sound = within [] sound
+always_within settings link within (item ∷ older) sound =
+    (always_within settings link within older (record { hops = sound.hops; octets = sound.octets.0; lawful = sound.lawful.0 }), within (item ∷ older) sound)

@@ -19,20 +19,26 @@ use Rattle.tcp_norm.specs.Calls.{Call, Alive, numbers_of}
 use Rattle.tcp_norm.specs.Views.{view_of, idle_at}
 use Rattle.tcp_norm.specs.Steps.{idled, idle_end}
 use Rattle.tcp_norm.specs.Standing as flows
-use Rattle.tcp_norm.specs.Outcomes.{call_of}
+use Rattle.tcp_norm.specs.Outcomes.{call_of, expiry_of}
 use Rattle.tcp_norm.specs.Segments.{PacketsAreItsOwn}
 use Rattle.norm_engine.specs.declared.judge.Judgment.{Judgment}
 use Rattle.norm_engine.specs.declared.judge.Judgment.TheVariants.{Arp, Drop, Hold, Send, Segment}
+use Rattle.reassembly.specs.declared.assembly.Assembly.{Assembly}
 use Rattle.reassembly.specs.Assemblies as fragments
+use Rattle.reassembly.specs.Calls as reassembly
 use Rattle.norm_engine.specs.Items.{Item, now_with}
 use Rattle.norm_engine.specs.Rows.{is_segment}
-use Rattle.norm_engine.specs.Fragments.{piece_calls}
-use Rattle.norm_engine.specs.Calls.{past_of, flow_calls}
+use Rattle.norm_engine.specs.Fragments.{fragment_in, piece_calls, with_offered}
+use Rattle.norm_engine.specs.Calls.{Past, past_of, flow_calls}
 use Rattle.norm_engine.specs.Frames.{octets_sent, mended_frame, frame_by}
 use Rattle.norm_engine.specs.Trace.{Read, read_after, is_held, item_of, named_rows, frames_by, emits}
 use Rattle.norm_engine.specs.Engine.{Engaged, StandsFor, IsTaken, IsSent, Judges, Fits, frames_for, frame_for, frame_with, payload_for}
 use Rattle.norm_engine.proofs.Stepping.{taken_rows, segment_calls, plain_calls, plain_frames}
 use Rattle.norm_engine.proofs.Lawfuls.{both_of, segment_known, long_enough}
+
+-- what rows ask of these calls, once idle eras and old datagrams are forgotten by this time
+abbrev pub past_with : PlainSettings → (now : ℕ) → List Call → List reassembly.Call → Past
+past_with settings now calls offers = record { idle = []; calls = expiry_of settings calls now ∷ calls; pieces = reassembly.expiry now ∷ offers }
 
 -- at most two eras end for being idle
 
@@ -107,6 +113,13 @@ other_frames settings link read r (Send packet mend) j none =
     ∙ frame_named settings (link_octets link r.octets) r.octets (frame_for packet mend settings.hops link) packet.fixes.items j.own (sent_frame settings link read r packet mend j))
     ∙ sym (plain_frames settings link read r none ∙ (λ i. frames_by (j.undropped i) (j.held i) (frame_by settings (link_octets link r.octets) r.octets (j.datagram i) (j.named i))))
 other_frames settings link read r (Segment packet head) j none = let never = sym j.segment ∙ none in absurd (cc)
+
+-- fragments stand for the calls of a history with one item more
+pub pieces_stand : (settings : PlainSettings) (link : Link) (history : List Item) (r : records.Packet) (pieces : Assembly) (now : ℕ) → now ≡ now_with history r
+    → fragments.StandsFor settings pieces (with_offered settings (fragment_in settings link r) now (reassembly.expiry now ∷ piece_calls settings link history))
+    → fragments.StandsFor settings pieces (piece_calls settings link (item_of settings link history r ∷ history))
+pieces_stand settings link history r pieces now same =
+    subst (λ n. fragments.StandsFor settings pieces (with_offered settings (fragment_in settings link r) n (reassembly.expiry n ∷ piece_calls settings link history))) same
 
 -- the engine stands for the history with one item more, where its connections and its fragments stand for the calls with that
 stands_with : (old new : Engaged) (history : List Item) (r : records.Packet)

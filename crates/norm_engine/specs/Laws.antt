@@ -1,5 +1,5 @@
 -- Laws of lawful traces.
-use Rattle.std.specs.Prelude.{◌≡◌, ◌≢◌, ℕ, ◌*◌, ◌≤◌, true, List, length, Some}
+use Rattle.std.specs.Prelude.{◌≡◌, ◌≢◌, ℕ, ◌*◌, ◌≤◌, true, List, [], ◌∷◌, length, Some}
 use Rattle.std.specs.List.{AllByRecursion}
 use Rattle.wire_base.specs.declared.address.Link.{Link}
 use Rattle.pcap_file.specs.Records.{Packet}
@@ -50,16 +50,20 @@ abbrev pub LawfulCallsAreMade : Type 0
 LawfulCallsAreMade =
     (settings : PlainSettings) (link : Link) (trace : List Item) → IsSound settings link trace → AreOfSegments settings (flow_calls settings link trace)
 
--- At every history of a lawful trace no more eras are live, no more blocks hold octets of streams, no more datagrams are held, and no more blocks hold octets of
--- fragments, than the settings allow.
+-- After a history no more eras are live, no more blocks hold octets of streams, no more datagrams are held, and no more blocks hold octets of fragments, than
+-- the settings allow.
 pub record IsWithin (settings : PlainSettings) (link : Link) (history : List Item) : Type 0 where
   pub flows : length (eras (flow_calls settings link history)) ≤ settings.flows
   pub held : IsBounded settings (flow_calls settings link history)
   pub fragments : fragments.IsWithin settings (piece_calls settings link history)
 
--- a trace is itself a history of each longer one, so this holds of each history in one
+-- this holds at each history of a trace: before its first record and after each
+abbrev pub IsAlwaysWithin : PlainSettings → Link → List Item → Type 0
+IsAlwaysWithin settings link [] = IsWithin settings link []
+IsAlwaysWithin settings link (item ∷ older) = IsAlwaysWithin settings link older × IsWithin settings link (item ∷ older)
+
 abbrev pub LawfulIsWithin : Type 0
-LawfulIsWithin = (settings : PlainSettings) (link : Link) (trace : List Item) → IsSound settings link trace → IsWithin settings link trace
+LawfulIsWithin = (settings : PlainSettings) (link : Link) (trace : List Item) → IsSound settings link trace → IsAlwaysWithin settings link trace
 
 -- Where a quota is set and there are as many cells as all eras may hold together, no entry names T_ROOM.
 abbrev pub LawfulLeavesRoom : Type 0

@@ -70,6 +70,20 @@ pub data Layer : Type 0 where
 
 -- the layer of a rule's row
 abbrev pub layer_of : Rule → Layer
+layer_of rules.LSnap = link_and_header
+layer_of rules.LShort = link_and_header
+layer_of rules.LType = link_and_header
+layer_of rules.IShort = link_and_header
+layer_of rules.IVersion = link_and_header
+layer_of rules.IHlen = link_and_header
+layer_of rules.ILen = link_and_header
+layer_of rules.ISum = link_and_header
+layer_of rules.ISrc = link_and_header
+layer_of rules.IDst = link_and_header
+layer_of rules.ISide = link_and_header
+layer_of rules.IOptBad = link_and_header
+layer_of rules.IRoute = link_and_header
+layer_of rules.PProto = link_and_header
 layer_of rules.FDf = fragments
 layer_of rules.FEmpty = fragments
 layer_of rules.FAlign = fragments
@@ -80,6 +94,9 @@ layer_of rules.FMany = fragments
 layer_of rules.FRoom = fragments
 layer_of rules.FHeld = fragments
 layer_of rules.FDone = fragments
+layer_of rules.ITrail = link_and_header
+layer_of rules.IOpt = link_and_header
+layer_of rules.IRes = link_and_header
 layer_of rules.ITtl = lifetimes
 layer_of rules.UShort = datagrams
 layer_of rules.ULen = datagrams
@@ -114,7 +131,6 @@ layer_of rules.TEnd = eras
 layer_of rules.TClash = eras
 layer_of rules.ECut = cuts
 layer_of rules.EMtu = cuts
-layer_of _ = link_and_header
 
 -- whether the row of a layer holds of what was read
 abbrev pub holds_at : Layer → PlainSettings → Link → Read → Packet → Rule → Bool

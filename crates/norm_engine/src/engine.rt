@@ -154,6 +154,14 @@ impl Engine {
         let mut entry = blank(self.records);
         self.norm.expire(self.latest, &mut entry);
         let _forgotten = self.pieces.expire(self.latest);
+        // The same record, whose octets live as long as the buffer is lent.
+        let record = Record {
+            seconds: input.seconds,
+            fraction: input.fraction,
+            original: input.original,
+            offset: input.offset,
+            bytes: input.bytes,
+        };
         match judge(
             &self.settings,
             self.link,
@@ -161,7 +169,7 @@ impl Engine {
             &mut self.pieces,
             &mut self.whole,
             self.latest,
-            input,
+            &record,
         ) {
             Judgment::Segment(packet, head) => {
                 entry.side = Some(packet.side);

@@ -37,7 +37,7 @@ pub fn lawful_calls_are_made()
     packets_are_its_own();
 }
 
-/// At every history of a lawful trace no more eras are live, no more blocks hold octets of streams, no more datagrams are held, and no more blocks hold
+/// At each history of a lawful trace no more eras are live, no more blocks hold octets of streams, no more datagrams are held, and no more blocks hold
 /// octets of fragments, than the settings allow.
 pub fn lawful_is_within()
     ensures { LawfulIsWithin }

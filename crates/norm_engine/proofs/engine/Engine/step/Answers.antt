@@ -18,41 +18,47 @@ use Rattle.tcp_norm.specs.Views.{idle_at}
 use Rattle.tcp_norm.specs.Steps.{idled}
 use Rattle.norm_engine.specs.declared.judge.Judgment.TheVariants.{Segment}
 use Rattle.tcp_norm.specs.Standing as flows
+use Rattle.reassembly.specs.Calls as reassembly
+use Rattle.reassembly.specs.Assemblies as fragments
 use Rattle.tcp_norm.specs.Outcomes.{expiry_of, call_of}
 use Rattle.norm_engine.specs.Items.{Item, now_with}
+use Rattle.norm_engine.specs.Fragments.{fragment_in, piece_calls, with_offered}
 use Rattle.norm_engine.specs.Calls.{past_of, flow_calls}
 use Rattle.norm_engine.specs.Trace.{item_of, read_after, outcome_of}
 use Rattle.norm_engine.specs.Engine.{Engaged, StandsFor, read_with, entry_for}
 use Rattle.norm_engine.proofs.Stepping.{segment_entry, segment_frames, taken_rows, other_entry}
-use Rattle.norm_engine.proofs.Stepped.{few_idle, room_for, no_segment, other_frames, segment_stands, other_stands}
+use Rattle.norm_engine.proofs.Stepped.{past_with, few_idle, room_for, no_segment, other_frames, pieces_stand, segment_stands, other_stands}
 use Rattle.norm_engine.proofs.engine.Engine.step.Goals as goal
 
 pub expire-requires-clause-later : goal.expire-requires-clause-later
-expire-requires-clause-later c = ∥∥₁_elim c.self.invariant.2 le_prop (λ k. let now = c.max-self-inside.ensures in let later = k.later in omega (arith, now, later))
+expire-requires-clause-later c = ∥∥₁_elim c.self.invariant.3 le_prop (λ k. let now = c.max-self-inside.ensures in let later = k.later in omega (arith, now, later))
+
+pub expire-_forgotten-requires : goal.expire-_forgotten-requires
+expire-_forgotten-requires c = ∥∥₁_elim c.self.invariant.3 le_prop (λ k. let now = c.max-self-inside.ensures in let passed = k.passed in omega (arith, now, passed))
 
 pub take-requires-clause-short : goal.take-requires-clause-short
-take-requires-clause-short c = ∥∥₁_elim c.self.invariant.2 le_prop (λ k. (c.in-Segment.ensures.rows (record { idle = []; calls = expiry_of (plain_settings c.self.inside.settings) k.calls c.max-self-inside.result ∷ k.calls }) (c.expire.ensures.stands (plain_settings c.self.inside.settings) k.calls k.stands)).fits)
+take-requires-clause-short c = ∥∥₁_elim c.self.invariant.3 le_prop (λ k. (c.in-Segment.ensures.rows (past_with (plain_settings c.self.inside.settings) c.max-self-inside.result k.calls k.offers) (c.expire.ensures.stands (plain_settings c.self.inside.settings) k.calls k.stands) (c.expire-_forgotten.ensures.stands (plain_settings c.self.inside.settings) k.offers k.holds)).fits)
 
 pub take-requires-clause-fields : goal.take-requires-clause-fields
 take-requires-clause-fields c =
-    let six : c.in-Segment.packet.head.protocol ≡ 6 = ∥∥₁_elim c.self.invariant.2 (hlevel ℕ_set) (λ k.
-    let t = (c.in-Segment.ensures.rows (record { idle = []; calls = expiry_of (plain_settings c.self.inside.settings) k.calls c.max-self-inside.result ∷ k.calls }) (c.expire.ensures.stands (plain_settings c.self.inside.settings) k.calls k.stands)) in
+    let six : c.in-Segment.packet.head.protocol ≡ 6 = ∥∥₁_elim c.self.invariant.3 (hlevel ℕ_set) (λ k.
+    let t = (c.in-Segment.ensures.rows (past_with (plain_settings c.self.inside.settings) c.max-self-inside.result k.calls k.offers) (c.expire.ensures.stands (plain_settings c.self.inside.settings) k.calls k.stands) (c.expire-_forgotten.ensures.stands (plain_settings c.self.inside.settings) k.offers k.holds)) in
     sym (ap (λ (h : Ipv4). h.protocol) t.is.head) ∙ t.protocol) in
     c.in-Segment.ensures.read.fields
     ∙ ap (λ n. fields_of (pseudo_sum c.in-Segment.packet.head.src.0 c.in-Segment.packet.head.dst.0 n (length c.in-Segment.packet.payload.now)) c.in-Segment.packet.payload.now) six
 
 pub take-requires-clause-frame : goal.take-requires-clause-frame
-take-requires-clause-frame c = λ none. ∥∥₁_elim c.self.invariant.2 le_prop (λ k. (c.in-Segment.ensures.rows (record { idle = []; calls = expiry_of (plain_settings c.self.inside.settings) k.calls c.max-self-inside.result ∷ k.calls }) (c.expire.ensures.stands (plain_settings c.self.inside.settings) k.calls k.stands)).short none)
+take-requires-clause-frame c = λ none. ∥∥₁_elim c.self.invariant.3 le_prop (λ k. (c.in-Segment.ensures.rows (past_with (plain_settings c.self.inside.settings) c.max-self-inside.result k.calls k.offers) (c.expire.ensures.stands (plain_settings c.self.inside.settings) k.calls k.stands) (c.expire-_forgotten.ensures.stands (plain_settings c.self.inside.settings) k.offers k.holds)).short none)
 
 pub take-requires-clause-fixes : goal.take-requires-clause-fixes
-take-requires-clause-fixes c = ∥∥₁_elim c.self.invariant.2 le_prop (λ k. (c.in-Segment.ensures.rows (record { idle = []; calls = expiry_of (plain_settings c.self.inside.settings) k.calls c.max-self-inside.result ∷ k.calls }) (c.expire.ensures.stands (plain_settings c.self.inside.settings) k.calls k.stands)).few)
+take-requires-clause-fixes c = ∥∥₁_elim c.self.invariant.3 le_prop (λ k. (c.in-Segment.ensures.rows (past_with (plain_settings c.self.inside.settings) c.max-self-inside.result k.calls k.offers) (c.expire.ensures.stands (plain_settings c.self.inside.settings) k.calls k.stands) (c.expire-_forgotten.ensures.stands (plain_settings c.self.inside.settings) k.offers k.holds)).few)
 
 pub take-requires-clause-ended : goal.take-requires-clause-ended
-take-requires-clause-ended c = ∥∥₁_elim c.self.invariant.2 le_prop (λ k.
+take-requires-clause-ended c = ∥∥₁_elim c.self.invariant.3 le_prop (λ k.
     subst (λ es. length es ≤ 2) (sym (c.expire.ensures.entry (plain_settings c.self.inside.settings) k.calls k.stands)) (few_idle (plain_settings c.self.inside.settings) c.max-self-inside.result k.calls (λ number. segments number k.calls)))
 
 pub take-requires-clause-few : goal.take-requires-clause-few
-take-requires-clause-few c = ∥∥₁_elim c.self.invariant.2 le_prop (λ k.
+take-requires-clause-few c = ∥∥₁_elim c.self.invariant.3 le_prop (λ k.
     let new = (c.expire.ensures.stands (plain_settings c.self.inside.settings) k.calls k.stands).calls_is in
     let old = k.stands.calls_is in
     let few = k.few in
@@ -60,7 +66,7 @@ take-requires-clause-few c = ∥∥₁_elim c.self.invariant.2 le_prop (λ k.
     omega (arith, new, old, few, records))
 
 pub take-requires-clause-later : goal.take-requires-clause-later
-take-requires-clause-later c = ∥∥₁_elim c.self.invariant.2 le_prop (λ k.
+take-requires-clause-later c = ∥∥₁_elim c.self.invariant.3 le_prop (λ k.
     let new = (c.expire.ensures.stands (plain_settings c.self.inside.settings) k.calls k.stands).latest_is in
     let old = k.stands.latest_is in
     let later = k.later in
@@ -71,8 +77,9 @@ pub invariant_of-self : goal.invariant_of-self
 invariant_of-self c = (
   c.self.invariant.0,
   c.self.invariant.1,
-  ∥∥₁_map c.self.invariant.2 (λ k.
-      let t = (c.in-Segment.ensures.rows (record { idle = []; calls = expiry_of (plain_settings c.self.inside.settings) k.calls c.max-self-inside.result ∷ k.calls }) (c.expire.ensures.stands (plain_settings c.self.inside.settings) k.calls k.stands)) in
+  c.self.invariant.2,
+  ∥∥₁_map c.self.invariant.3 (λ k.
+      let t = (c.in-Segment.ensures.rows (past_with (plain_settings c.self.inside.settings) c.max-self-inside.result k.calls k.offers) (c.expire.ensures.stands (plain_settings c.self.inside.settings) k.calls k.stands) (c.expire-_forgotten.ensures.stands (plain_settings c.self.inside.settings) k.offers k.holds)) in
       let before = (c.expire.ensures.stands (plain_settings c.self.inside.settings) k.calls k.stands) in
       let calls = expiry_of (plain_settings c.self.inside.settings) k.calls c.max-self-inside.result ∷ k.calls in
       let is = subst (λ link. IsDatagram c.in-Segment.packet link t.own) (sym c.link_octets-link.ensures.octets) t.is in
@@ -84,7 +91,7 @@ invariant_of-self c = (
       let later = k.later in
       let few = k.few in
       let now = c.max-self-inside.ensures in
-      record { calls = call_of (plain_settings c.self.inside.settings) calls c.max-self-inside.result t.own ∷ calls; stands = stands; later = omega (arith, latest, old_latest, later, now); few = omega (arith, asked, old, few) }),
+      record { calls = call_of (plain_settings c.self.inside.settings) calls c.max-self-inside.result t.own ∷ calls; stands = stands; later = omega (arith, latest, old_latest, later, now); few = omega (arith, asked, old, few); offers = with_offered (plain_settings c.self.inside.settings) (fragment_in (plain_settings c.self.inside.settings) c.self.inside.link (shown c.args.input.now)) c.max-self-inside.result (reassembly.expiry c.max-self-inside.result ∷ k.offers); holds = c.judge.ensures.pieces (reassembly.expiry c.max-self-inside.result ∷ k.offers) (c.expire-_forgotten.ensures.stands (plain_settings c.self.inside.settings) k.offers k.holds); passed = c.judge.ensures.passed }),
 )
 
 pub send-requires : goal.send-requires
@@ -92,14 +99,15 @@ send-requires c = record {
   empty = c.clear.ensures;
   room = search rules;
   hops = c.self.invariant.0.hops;
-  fits = room_for (plain_settings c.self.inside.settings) c.self.inside.link (shown c.args.input.now) c.judge.result (∥∥₁_map c.self.invariant.2 (λ k. (read_with (plain_settings c.self.inside.settings) c.self.inside.link (record { idle = []; calls = expiry_of (plain_settings c.self.inside.settings) k.calls c.max-self-inside.result ∷ k.calls }) (shown c.args.input.now), c.judge.ensures.rows (record { idle = []; calls = expiry_of (plain_settings c.self.inside.settings) k.calls c.max-self-inside.result ∷ k.calls }) (c.expire.ensures.stands (plain_settings c.self.inside.settings) k.calls k.stands))));
+  fits = room_for (plain_settings c.self.inside.settings) c.self.inside.link (shown c.args.input.now) c.judge.result (∥∥₁_map c.self.invariant.3 (λ k. (read_with (plain_settings c.self.inside.settings) c.self.inside.link (past_with (plain_settings c.self.inside.settings) c.max-self-inside.result k.calls k.offers) (shown c.args.input.now), c.judge.ensures.rows (past_with (plain_settings c.self.inside.settings) c.max-self-inside.result k.calls k.offers) (c.expire.ensures.stands (plain_settings c.self.inside.settings) k.calls k.stands) (c.expire-_forgotten.ensures.stands (plain_settings c.self.inside.settings) k.offers k.holds))));
 }
 
 pub invariant_of-self-in_default : goal.invariant_of-self-in_default
 invariant_of-self-in_default c = (
   c.self.invariant.0,
   c.self.invariant.1,
-  ∥∥₁_map c.self.invariant.2 (λ k.
+  c.self.invariant.2,
+  ∥∥₁_map c.self.invariant.3 (λ k.
       let stands = (c.expire.ensures.stands (plain_settings c.self.inside.settings) k.calls k.stands) in
       let latest = stands.latest_is in
       let asked = stands.calls_is in
@@ -108,7 +116,7 @@ invariant_of-self-in_default c = (
       let later = k.later in
       let few = k.few in
       let now = c.max-self-inside.ensures in
-      record { calls = expiry_of (plain_settings c.self.inside.settings) k.calls c.max-self-inside.result ∷ k.calls; stands = stands; later = omega (arith, latest, old_latest, later, now); few = omega (arith, asked, old, few) }),
+      record { calls = expiry_of (plain_settings c.self.inside.settings) k.calls c.max-self-inside.result ∷ k.calls; stands = stands; later = omega (arith, latest, old_latest, later, now); few = omega (arith, asked, old, few); offers = with_offered (plain_settings c.self.inside.settings) (fragment_in (plain_settings c.self.inside.settings) c.self.inside.link (shown c.args.input.now)) c.max-self-inside.result (reassembly.expiry c.max-self-inside.result ∷ k.offers); holds = c.judge.ensures.pieces (reassembly.expiry c.max-self-inside.result ∷ k.offers) (c.expire-_forgotten.ensures.stands (plain_settings c.self.inside.settings) k.offers k.holds); passed = c.judge.ensures.passed }),
 )
 
 pub returns-in-Segment-clause-entry : goal.returns-in-Segment-clause-entry
@@ -116,10 +124,11 @@ returns-in-Segment-clause-entry c = subst (λ (e : Engaged). (history : List Ite
     let calls = flow_calls (plain_settings c.self.inside.settings) c.self.inside.link history in
     let now : c.max-self-inside.result ≡ now_with history (shown c.args.input.now) = c.max-self-inside.ensures ∙ ap (λ n. max n c.args.input.now.seconds) stands.latest in
     let before = subst (λ n. flows.StandsFor (plain_settings c.self.inside.settings) c.expire.new.self (expiry_of (plain_settings c.self.inside.settings) calls n ∷ calls)) now (c.expire.ensures.stands (plain_settings c.self.inside.settings) calls stands.flows) in
+    let gone = subst (λ n. fragments.StandsFor (plain_settings c.self.inside.settings) c.expire-_forgotten.new.self (reassembly.expiry n ∷ piece_calls (plain_settings c.self.inside.settings) c.self.inside.link history)) now (c.expire-_forgotten.ensures.stands (plain_settings c.self.inside.settings) (piece_calls (plain_settings c.self.inside.settings) c.self.inside.link history) stands.pieces) in
     let past = past_of (plain_settings c.self.inside.settings) c.self.inside.link history (shown c.args.input.now) in
     let read = read_after (plain_settings c.self.inside.settings) c.self.inside.link history (shown c.args.input.now) in
     let idle : c.expire.new.entry.ended.items ≡ past.idle = c.expire.ensures.entry (plain_settings c.self.inside.settings) calls stands.flows ∙ ap (λ n. idled (λ number. segments number calls) (idle_at (plain_settings c.self.inside.settings) n calls)) now in
-    let t = c.in-Segment.ensures.rows past before in
+    let t = c.in-Segment.ensures.rows past before gone in
     let is = subst (λ link. IsDatagram c.in-Segment.packet link t.own) (sym c.link_octets-link.ensures.octets) t.is in
     let entry = c.expire.ensures.rest in
     let number : c.expire.new.entry.number ≡ length history + 1 = ap (λ (e : Entry). e.number) entry ∙ (ap (λ (e : PlainEntry). e.number) c.blank-entry.ensures ∙ ap (λ n. n + 1) stands.counted) in
@@ -131,10 +140,11 @@ returns-in-Segment-clause-frames c = subst (λ (e : Engaged). (history : List It
     let calls = flow_calls (plain_settings c.self.inside.settings) c.self.inside.link history in
     let now : c.max-self-inside.result ≡ now_with history (shown c.args.input.now) = c.max-self-inside.ensures ∙ ap (λ n. max n c.args.input.now.seconds) stands.latest in
     let before = subst (λ n. flows.StandsFor (plain_settings c.self.inside.settings) c.expire.new.self (expiry_of (plain_settings c.self.inside.settings) calls n ∷ calls)) now (c.expire.ensures.stands (plain_settings c.self.inside.settings) calls stands.flows) in
+    let gone = subst (λ n. fragments.StandsFor (plain_settings c.self.inside.settings) c.expire-_forgotten.new.self (reassembly.expiry n ∷ piece_calls (plain_settings c.self.inside.settings) c.self.inside.link history)) now (c.expire-_forgotten.ensures.stands (plain_settings c.self.inside.settings) (piece_calls (plain_settings c.self.inside.settings) c.self.inside.link history) stands.pieces) in
     let past = past_of (plain_settings c.self.inside.settings) c.self.inside.link history (shown c.args.input.now) in
     let read = read_after (plain_settings c.self.inside.settings) c.self.inside.link history (shown c.args.input.now) in
     let idle : c.expire.new.entry.ended.items ≡ past.idle = c.expire.ensures.entry (plain_settings c.self.inside.settings) calls stands.flows ∙ ap (λ n. idled (λ number. segments number calls) (idle_at (plain_settings c.self.inside.settings) n calls)) now in
-    let t = c.in-Segment.ensures.rows past before in
+    let t = c.in-Segment.ensures.rows past before gone in
     let is = subst (λ link. IsDatagram c.in-Segment.packet link t.own) (sym c.link_octets-link.ensures.octets) t.is in
     c.take.ensures.frames (plain_settings c.self.inside.settings) past.calls t.own before is
     ∙ (ap (λ link. frames_of link (outcome_of (plain_settings c.self.inside.settings) read t.own).packets) c.link_octets-link.ensures.octets
@@ -142,19 +152,21 @@ returns-in-Segment-clause-frames c = subst (λ (e : Engaged). (history : List It
 
 pub returns-in-Segment-clause-stands : goal.returns-in-Segment-clause-stands
 returns-in-Segment-clause-stands c = subst (λ (e : Engaged). (history : List Item) → StandsFor e history
-    → StandsFor (record { settings = (plain_settings c.self.inside.settings); link = c.self.inside.link; records = c.self.inside.records + 1; latest = c.max-self-inside.result; norm = c.take.new.norm }) (item_of e.settings e.link history (shown c.args.input.now) ∷ history)) c.self.view_is (λ history stands.
+    → StandsFor (record { settings = (plain_settings c.self.inside.settings); link = c.self.inside.link; records = c.self.inside.records + 1; latest = c.max-self-inside.result; norm = c.take.new.norm; pieces = c.judge.new.pieces }) (item_of e.settings e.link history (shown c.args.input.now) ∷ history)) c.self.view_is (λ history stands.
     let calls = flow_calls (plain_settings c.self.inside.settings) c.self.inside.link history in
     let now : c.max-self-inside.result ≡ now_with history (shown c.args.input.now) = c.max-self-inside.ensures ∙ ap (λ n. max n c.args.input.now.seconds) stands.latest in
     let before = subst (λ n. flows.StandsFor (plain_settings c.self.inside.settings) c.expire.new.self (expiry_of (plain_settings c.self.inside.settings) calls n ∷ calls)) now (c.expire.ensures.stands (plain_settings c.self.inside.settings) calls stands.flows) in
+    let gone = subst (λ n. fragments.StandsFor (plain_settings c.self.inside.settings) c.expire-_forgotten.new.self (reassembly.expiry n ∷ piece_calls (plain_settings c.self.inside.settings) c.self.inside.link history)) now (c.expire-_forgotten.ensures.stands (plain_settings c.self.inside.settings) (piece_calls (plain_settings c.self.inside.settings) c.self.inside.link history) stands.pieces) in
     let past = past_of (plain_settings c.self.inside.settings) c.self.inside.link history (shown c.args.input.now) in
     let read = read_after (plain_settings c.self.inside.settings) c.self.inside.link history (shown c.args.input.now) in
     let idle : c.expire.new.entry.ended.items ≡ past.idle = c.expire.ensures.entry (plain_settings c.self.inside.settings) calls stands.flows ∙ ap (λ n. idled (λ number. segments number calls) (idle_at (plain_settings c.self.inside.settings) n calls)) now in
-    let t = c.in-Segment.ensures.rows past before in
+    let t = c.in-Segment.ensures.rows past before gone in
     let is = subst (λ link. IsDatagram c.in-Segment.packet link t.own) (sym c.link_octets-link.ensures.octets) t.is in
-    segment_stands c.datagrams_are_known.ensures c.packets_are_its_own.ensures (record { settings = (plain_settings c.self.inside.settings); link = c.self.inside.link; records = c.self.inside.records; latest = c.self.inside.latest; norm = c.self.inside.norm })
-    (record { settings = (plain_settings c.self.inside.settings); link = c.self.inside.link; records = c.self.inside.records + 1; latest = c.max-self-inside.result; norm = c.take.new.norm }) history (shown c.args.input.now) c.in-Segment.packet c.in-Segment.head
-    c.self.invariant.0.hops c.have_octets.ensures t stands refl refl refl now
-    (subst (λ n. flows.StandsFor (plain_settings c.self.inside.settings) c.take.new.norm (call_of (plain_settings c.self.inside.settings) past.calls n t.own ∷ past.calls)) now (c.take.ensures.stands (plain_settings c.self.inside.settings) past.calls t.own before is)))
+    segment_stands c.packets_are_its_own.ensures (record { settings = (plain_settings c.self.inside.settings); link = c.self.inside.link; records = c.self.inside.records; latest = c.self.inside.latest; norm = c.self.inside.norm; pieces = c.self.inside.pieces })
+    (record { settings = (plain_settings c.self.inside.settings); link = c.self.inside.link; records = c.self.inside.records + 1; latest = c.max-self-inside.result; norm = c.take.new.norm; pieces = c.judge.new.pieces }) history (shown c.args.input.now) c.in-Segment.packet c.in-Segment.head
+    c.self.invariant.0.hops t stands refl refl refl now
+    (subst (λ n. flows.StandsFor (plain_settings c.self.inside.settings) c.take.new.norm (call_of (plain_settings c.self.inside.settings) past.calls n t.own ∷ past.calls)) now (c.take.ensures.stands (plain_settings c.self.inside.settings) past.calls t.own before is))
+    (pieces_stand (plain_settings c.self.inside.settings) c.self.inside.link history (shown c.args.input.now) c.judge.new.pieces c.max-self-inside.result now (c.judge.ensures.pieces (reassembly.expiry c.max-self-inside.result ∷ piece_calls (plain_settings c.self.inside.settings) c.self.inside.link history) (c.expire-_forgotten.ensures.stands (plain_settings c.self.inside.settings) (piece_calls (plain_settings c.self.inside.settings) c.self.inside.link history) stands.pieces))))
 
 pub returns-in_default : goal.returns-in_default
 returns-in_default c = record {
@@ -164,36 +176,40 @@ returns-in_default c = record {
       let calls = flow_calls (plain_settings c.self.inside.settings) c.self.inside.link history in
       let now : c.max-self-inside.result ≡ now_with history (shown c.args.input.now) = c.max-self-inside.ensures ∙ ap (λ n. max n c.args.input.now.seconds) stands.latest in
       let before = subst (λ n. flows.StandsFor (plain_settings c.self.inside.settings) c.expire.new.self (expiry_of (plain_settings c.self.inside.settings) calls n ∷ calls)) now (c.expire.ensures.stands (plain_settings c.self.inside.settings) calls stands.flows) in
+      let gone = subst (λ n. fragments.StandsFor (plain_settings c.self.inside.settings) c.expire-_forgotten.new.self (reassembly.expiry n ∷ piece_calls (plain_settings c.self.inside.settings) c.self.inside.link history)) now (c.expire-_forgotten.ensures.stands (plain_settings c.self.inside.settings) (piece_calls (plain_settings c.self.inside.settings) c.self.inside.link history) stands.pieces) in
       let past = past_of (plain_settings c.self.inside.settings) c.self.inside.link history (shown c.args.input.now) in
       let read = read_after (plain_settings c.self.inside.settings) c.self.inside.link history (shown c.args.input.now) in
       let idle : c.expire.new.entry.ended.items ≡ past.idle = c.expire.ensures.entry (plain_settings c.self.inside.settings) calls stands.flows ∙ ap (λ n. idled (λ number. segments number calls) (idle_at (plain_settings c.self.inside.settings) n calls)) now in
       let entry = c.expire.ensures.rest in
       let number : c.expire.new.entry.number ≡ length history + 1 = ap (λ (e : Entry). e.number) entry ∙ (ap (λ (e : PlainEntry). e.number) c.blank-entry.ensures ∙ ap (λ n. n + 1) stands.counted) in
-      let j = c.judge.ensures.rows past before in
+      let j = c.judge.ensures.rows past before gone in
       let none = no_segment (plain_settings c.self.inside.settings) c.self.inside.link read (shown c.args.input.now) c.judge.result j other in
       c.tell.ensures ∙ ((λ i. entry_for (number i) c.judge.result (idle i)) ∙ other_entry (plain_settings c.self.inside.settings) c.self.inside.link read (shown c.args.input.now) (length history + 1) c.judge.result j none));
   frames = subst (λ (e : Engaged). (history : List Item) → StandsFor e history → c.send.new.out ≡ (item_of e.settings e.link history (shown c.args.input.now)).frames) c.self.view_is (λ history stands.
       let calls = flow_calls (plain_settings c.self.inside.settings) c.self.inside.link history in
       let now : c.max-self-inside.result ≡ now_with history (shown c.args.input.now) = c.max-self-inside.ensures ∙ ap (λ n. max n c.args.input.now.seconds) stands.latest in
       let before = subst (λ n. flows.StandsFor (plain_settings c.self.inside.settings) c.expire.new.self (expiry_of (plain_settings c.self.inside.settings) calls n ∷ calls)) now (c.expire.ensures.stands (plain_settings c.self.inside.settings) calls stands.flows) in
+      let gone = subst (λ n. fragments.StandsFor (plain_settings c.self.inside.settings) c.expire-_forgotten.new.self (reassembly.expiry n ∷ piece_calls (plain_settings c.self.inside.settings) c.self.inside.link history)) now (c.expire-_forgotten.ensures.stands (plain_settings c.self.inside.settings) (piece_calls (plain_settings c.self.inside.settings) c.self.inside.link history) stands.pieces) in
       let past = past_of (plain_settings c.self.inside.settings) c.self.inside.link history (shown c.args.input.now) in
       let read = read_after (plain_settings c.self.inside.settings) c.self.inside.link history (shown c.args.input.now) in
       let idle : c.expire.new.entry.ended.items ≡ past.idle = c.expire.ensures.entry (plain_settings c.self.inside.settings) calls stands.flows ∙ ap (λ n. idled (λ number. segments number calls) (idle_at (plain_settings c.self.inside.settings) n calls)) now in
-      let j = c.judge.ensures.rows past before in
+      let j = c.judge.ensures.rows past before gone in
       let none = no_segment (plain_settings c.self.inside.settings) c.self.inside.link read (shown c.args.input.now) c.judge.result j other in
       c.send.ensures ∙ other_frames (plain_settings c.self.inside.settings) c.self.inside.link read (shown c.args.input.now) c.judge.result j none);
   stands = subst (λ (e : Engaged). (history : List Item) → StandsFor e history
-      → StandsFor (record { settings = (plain_settings c.self.inside.settings); link = c.self.inside.link; records = c.self.inside.records + 1; latest = c.max-self-inside.result; norm = c.expire.new.self }) (item_of e.settings e.link history (shown c.args.input.now) ∷ history)) c.self.view_is (λ history stands.
+      → StandsFor (record { settings = (plain_settings c.self.inside.settings); link = c.self.inside.link; records = c.self.inside.records + 1; latest = c.max-self-inside.result; norm = c.expire.new.self; pieces = c.judge.new.pieces }) (item_of e.settings e.link history (shown c.args.input.now) ∷ history)) c.self.view_is (λ history stands.
       let calls = flow_calls (plain_settings c.self.inside.settings) c.self.inside.link history in
       let now : c.max-self-inside.result ≡ now_with history (shown c.args.input.now) = c.max-self-inside.ensures ∙ ap (λ n. max n c.args.input.now.seconds) stands.latest in
       let before = subst (λ n. flows.StandsFor (plain_settings c.self.inside.settings) c.expire.new.self (expiry_of (plain_settings c.self.inside.settings) calls n ∷ calls)) now (c.expire.ensures.stands (plain_settings c.self.inside.settings) calls stands.flows) in
+      let gone = subst (λ n. fragments.StandsFor (plain_settings c.self.inside.settings) c.expire-_forgotten.new.self (reassembly.expiry n ∷ piece_calls (plain_settings c.self.inside.settings) c.self.inside.link history)) now (c.expire-_forgotten.ensures.stands (plain_settings c.self.inside.settings) (piece_calls (plain_settings c.self.inside.settings) c.self.inside.link history) stands.pieces) in
       let past = past_of (plain_settings c.self.inside.settings) c.self.inside.link history (shown c.args.input.now) in
       let read = read_after (plain_settings c.self.inside.settings) c.self.inside.link history (shown c.args.input.now) in
       let idle : c.expire.new.entry.ended.items ≡ past.idle = c.expire.ensures.entry (plain_settings c.self.inside.settings) calls stands.flows ∙ ap (λ n. idled (λ number. segments number calls) (idle_at (plain_settings c.self.inside.settings) n calls)) now in
-      let j = c.judge.ensures.rows past before in
+      let j = c.judge.ensures.rows past before gone in
       let none = no_segment (plain_settings c.self.inside.settings) c.self.inside.link read (shown c.args.input.now) c.judge.result j other in
-      other_stands (record { settings = (plain_settings c.self.inside.settings); link = c.self.inside.link; records = c.self.inside.records; latest = c.self.inside.latest; norm = c.self.inside.norm }) (record { settings = (plain_settings c.self.inside.settings); link = c.self.inside.link; records = c.self.inside.records + 1; latest = c.max-self-inside.result; norm = c.expire.new.self }) history (shown c.args.input.now)
-      none stands refl refl refl now before);
+      other_stands (record { settings = (plain_settings c.self.inside.settings); link = c.self.inside.link; records = c.self.inside.records; latest = c.self.inside.latest; norm = c.self.inside.norm; pieces = c.self.inside.pieces }) (record { settings = (plain_settings c.self.inside.settings); link = c.self.inside.link; records = c.self.inside.records + 1; latest = c.max-self-inside.result; norm = c.expire.new.self; pieces = c.judge.new.pieces }) history (shown c.args.input.now)
+      none stands refl refl refl now before
+      (pieces_stand (plain_settings c.self.inside.settings) c.self.inside.link history (shown c.args.input.now) c.judge.new.pieces c.max-self-inside.result now (c.judge.ensures.pieces (reassembly.expiry c.max-self-inside.result ∷ piece_calls (plain_settings c.self.inside.settings) c.self.inside.link history) (c.expire-_forgotten.ensures.stands (plain_settings c.self.inside.settings) (piece_calls (plain_settings c.self.inside.settings) c.self.inside.link history) stands.pieces))));
 }
   where
     other : (packet : IpPacket) (head : Tcp) → c.judge.result ≡ Segment packet head → ⊥
