@@ -1,5 +1,6 @@
 pub mod Entries
 pub mod Lines
+pub mod Loads
 pub mod Reports
 pub mod Rules
 pub mod Text

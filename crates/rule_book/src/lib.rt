@@ -8,6 +8,7 @@ mod found;
 pub mod last;
 pub mod laws;
 mod line;
+pub mod load;
 pub mod report;
 pub mod rule;
 #[cfg(test)]
@@ -17,5 +18,6 @@ mod words;
 pub use entry::{Ended, Entry, Reason, Verdict, entry_line};
 pub use fault::LineFault;
 pub use last::{Last, StopKind, last_line};
+pub use load::{LoadLine, load_line};
 pub use report::{Report, read_report};
 pub use rule::Rule;
