@@ -1,5 +1,5 @@
 -- What words ask for (this project's profile). A word is the list of its octets.
-use Rattle.std.specs.Prelude.{ℕ, ◌+◌, ◌&&◌, ◌||◌, not, nat_lt, nat_le, Bool, false, List, [], ◌∷◌, ◌++◌, length, Option, Some, None, is_some, Result, Ok, Err, codes, string_bytes, if◌then◌else◌}
+use Rattle.std.specs.Prelude.{ℕ, ◌+◌, ◌&&◌, ◌||◌, not, nat_lt, nat_le, Bool, List, [], ◌∷◌, ◌++◌, length, Option, Some, None, is_some, Result, Ok, Err, codes, string_bytes, if◌then◌else◌}
 use Rattle.std.specs.List.{list_all}
 use Rattle.std.specs.Str.{bytes_eq}
 use Rattle.wire_base.specs.declared.prefix.Prefix as wire
@@ -69,10 +69,6 @@ abbrev pub asked_run : Option PlainLine → Result PlainCommand WordFault
 asked_run None = Err Refused
 asked_run (Some line) = if is_whole line then run_of line else Err Refused
 
--- whether a load may be asked for
-abbrev pub is_load_built : Bool
-is_load_built = false
-
 -- the load that words ask for: a seed and a number of records
 abbrev pub load_by : Option ℕ → Option ℕ → Result PlainCommand WordFault
 load_by (Some seed) (Some count) = Ok (load seed count)
@@ -88,13 +84,8 @@ abbrev pub asked : List Text → Result PlainCommand WordFault
 asked [] = Err Refused
 asked (verb ∷ words) =
     if bytes_eq verb (codes "run") then asked_run (line_of words)
-    else if is_load_built && bytes_eq verb (codes "load") then asked_load words
+    else if bytes_eq verb (codes "load") then asked_load words
     else Err Refused
-
--- a run
-abbrev pub IsRun : Command → Type 0
-IsRun (Run names settings) = Unit {0}
-IsRun (Load seed count) = ⊥
 
 -- the settings of a run are in their ranges
 abbrev pub SettingsAreInRange : Command → Type 0

@@ -9,9 +9,10 @@ use thiserror::Error;
 /// Why words are no command.
 #[derive(Clone, Copy, Debug, PartialEq, Eq, Error)]
 pub enum WordFault {
-    /// Another form than `run OPTION* IN OUT PREFIX+`: an option that is unknown, stands twice, has no value or one that
-    /// does not fit, or does not go with another; or a name that is empty or begins with `-`.
-    #[error("not the words `run [OPTION..] IN OUT PREFIX..`")]
+    /// Another form than `run OPTION* IN OUT PREFIX+` and `load SEED COUNT`: an option that is unknown, stands twice, has
+    /// no value or one that does not fit, or does not go with another; a name that is empty or begins with `-`; or a seed
+    /// or a count that is no number, or one out of its range.
+    #[error("not the words `run [OPTION..] IN OUT PREFIX..` or `load SEED COUNT`")]
     Refused,
     /// The prefix at this place, counted from 1, is no prefix.
     #[error("prefix {0} is faulty")]

@@ -4,7 +4,7 @@ ghost use Rattle.std.specs.List.{list_all};
 ghost use Rattle.clap.specs.Values.{kind_of};
 ghost use Rattle.command_line.specs.Line.{PlainLine, plain_use, plain_line};
 ghost use Rattle.command_line.specs.Line as spec;
-ghost use Rattle.norm_settings.specs.Asked.{asked, asked_run, asked_load, run_of, prefixes_from, plain_command, IsRun, SettingsAreInRange, SettingsAreBuilt};
+ghost use Rattle.norm_settings.specs.Asked.{asked, asked_run, asked_load, run_of, prefixes_from, plain_command, SettingsAreInRange, SettingsAreBuilt};
 ghost use Rattle.norm_settings.specs.Asked.{is_whole as is_whole_line, go_together as do_go_together};
 ghost use Rattle.command_line.specs.Options.{is_name as is_name_of};
 ghost use Rattle.norm_settings.specs.Found.{ReadsAs};
@@ -20,16 +20,11 @@ use command_line::{Line, Use, is_given, line_of, number_within};
 use std::alloc::Global;
 use wire_base::{Prefix, read_prefix};
 
-// Whether a load may be asked for.
-const LOAD_IS_BUILT: bool = false;
-
-/// The command that the words are: `run OPTION* IN OUT PREFIX+`, or, once it is built, `load SEED COUNT`.
+/// The command that the words are: `run OPTION* IN OUT PREFIX+`, or `load SEED COUNT`.
 pub fn read_words(alloc: Global, words: &[String]) -> Result<Command, WordFault>
     ensures ok { IfOk result (λ command. asked (map string_bytes words.now) ≡ Ok (plain_command command)) }
     ensures in_range { IfOk result SettingsAreInRange }
     ensures built { IfOk result SettingsAreBuilt }
-    // A load is not asked for yet.
-    ensures run { IfOk result IsRun }
     ensures err { IfErr result (λ fault. (fault ≡ WordFault.NoMemory) ⊎ (asked (map string_bytes words.now) ≡ Err fault)) }
 {
     let [verb, words @ ..] = words else {
@@ -38,7 +33,7 @@ pub fn read_words(alloc: Global, words: &[String]) -> Result<Command, WordFault>
     if verb.as_str() == "run" {
         return read_run(alloc, words);
     }
-    if LOAD_IS_BUILT && verb.as_str() == "load" {
+    if verb.as_str() == "load" {
         return read_load(words);
     }
     Err(WordFault::Refused)
@@ -71,7 +66,6 @@ fn read_run(alloc: Global, words: &[String]) -> Result<Command, WordFault>
     ensures ok { IfOk result (λ command. asked_run (spec.line_of (map string_bytes words.now)) ≡ Ok (plain_command command)) }
     ensures in_range { IfOk result SettingsAreInRange }
     ensures built { IfOk result SettingsAreBuilt }
-    ensures run { IfOk result IsRun }
     ensures err { IfErr result (λ fault. (fault ≡ WordFault.NoMemory) ⊎ (asked_run (spec.line_of (map string_bytes words.now)) ≡ Err fault)) }
 {
     lines_are_those_written();
@@ -95,7 +89,6 @@ fn read_run(alloc: Global, words: &[String]) -> Result<Command, WordFault>
 fn run_found(alloc: Global, matches: &ArgMatches<'_>) -> Result<Command, WordFault>
     ensures ok { IfOk result (λ command. (line : PlainLine) → ReadsAs matches.now line → run_of line ≡ Ok (plain_command command)) }
     ensures in_range { IfOk result SettingsAreInRange }
-    ensures run { IfOk result IsRun }
     ensures err { IfErr result (λ fault. (line : PlainLine) → ReadsAs matches.now line → (fault ≡ WordFault.NoMemory) ⊎ (run_of line ≡ Err fault)) }
 {
     let Some(input) = matches.get_str("in") else {
@@ -222,7 +215,7 @@ mod tests {
 
     #[test]
     fn words_are_refused_by_number(rt: HostRuntime) -> Result<(), Fail> {
-        let rows: [(&[&str], u8); 25] = [
+        let rows: [(&[&str], u8); 24] = [
             (&[], 1),
             (&["run"], 1),
             (&["run", "a"], 1),
@@ -237,7 +230,6 @@ mod tests {
             (&["run", "a", "b", "10.0.0.0/8", "--offload"], 1),
             (&["run", "a", "--hops", "5", "b", "10.0.0.0/8"], 1),
             (&["run", "a", "a", "--", "10.0.0.0/8"], 1),
-            (&["load", "1", "1"], 1),
             (&["run", "a", "a", "10.0.0.0/8"], 5),
             (&["run", "a", "a", "10.0.0/8"], 5),
             (&["run", "a", "a", "-10.0.0.0/8"], 1),
@@ -348,6 +340,49 @@ mod tests {
         };
         drop(names);
         assert_eq!(rt; settings.prefixes.len(), 16);
+        Ok(())
+    }
+
+    // Exactly two numbers stand behind `load`, the second of them from 1 to 1,000,000.
+    #[test]
+    fn loads_are_refused(rt: HostRuntime) -> Result<(), Fail> {
+        let rows: [&[&str]; 12] = [
+            &["load"],
+            &["load", "1"],
+            &["load", "1", "1", "1"],
+            &["load", "1", "0"],
+            &["load", "1", "1000001"],
+            &["load", "18446744073709551616", "1"],
+            &["load", "", "1"],
+            &["load", "-1", "1"],
+            &["load", "1", "+1"],
+            &["load", "000000000000000000001", "1"],
+            &["load", "--seed=1", "1"],
+            &["Load", "1", "1"],
+        ];
+        for words in rows {
+            let line = line(rt.alloc(), words)?;
+            let fault = read_words(rt.alloc(), line.as_slice()).err();
+            assert_eq!(rt; fault, Some(WordFault::Refused), "{words:?}");
+        }
+        Ok(())
+    }
+
+    #[test]
+    fn loads_are_read(rt: HostRuntime) -> Result<(), Fail> {
+        let rows: [(&[&str], u64, u32); 3] = [
+            (&["load", "0", "1"], 0, 1),
+            (&["load", "00007", "000001000000"], 7, 1_000_000),
+            (&["load", "18446744073709551615", "2"], u64::MAX, 2),
+        ];
+        for (words, number, records) in rows {
+            let line = line(rt.alloc(), words)?;
+            let command = read_words(rt.alloc(), line.as_slice())?;
+            let Command::Load { seed, count } = command else {
+                return Err(Fail::new("a run"));
+            };
+            assert_eq!(rt; (seed, count), (number, records));
+        }
         Ok(())
     }
 
