@@ -21,7 +21,6 @@ use Rattle.rule_book.specs.Rules.{datagram_rows, fragment_rows, segment_rows}
 use Rattle.norm_settings.specs.Settings.{PlainSettings}
 use Rattle.ip_rules.specs.declared.judged.IpPacket.{IpPacket}
 use Rattle.ip_rules.specs.Rows.{l_snap, l_short, l_type, carries_ip, carries_arp, packet_in, link_octets, side_in, tells_side, holds_ip, holds_in, ip_drop_rows, packet_drop_rows, whole_fix_rows, piece_fix_rows, ip_dropped_by, ip_fixes}
-use Rattle.ipv4_codec.specs.declared.header.Ipv4.{Ipv4}
 use Rattle.ipv4_codec.specs.Header.{fields_of}
 use Rattle.ip_rules.specs.Datagrams.{Datagram, DatagramsAreKnown, AreOctets, HasSizes, IsDatagram, IsKnown, datagram_of, datagram_in, datagram_with, goes_in}
 use Rattle.ip_rules.specs.Judged.{IsKept, IsRead, where_holds}

@@ -1,5 +1,5 @@
 -- The calls of a lawful trace are those that the rules make of its segments.
-use Rattle.std.proofs.Common.{◌≡◌, ℕ, ◌≤◌, Bool, true, false, cond, ◌&&◌, ◌||◌, not, nat_lt, List, [], ◌∷◌, ◌++◌, length, take, find, Option, Some, None, is_none, refl, sym, ap, subst, ◌∙◌, arith}
+use Rattle.std.proofs.Common.{◌≡◌, ℕ, ◌≤◌, Bool, true, false, cond, ◌&&◌, ◌||◌, not, nat_lt, List, [], ◌∷◌, length, take, find, Option, Some, None, is_none, refl, sym, ap, subst, ◌∙◌, arith}
 use Rattle.std.proofs.lemmas.Bool.{eqb-true}
 use Rattle.std.proofs.lemmas.Bool.Decides.{nat_tests}
 use Rattle.std.specs.List.{AllByRecursion}
@@ -10,7 +10,6 @@ use Rattle.wire_base.specs.Sums.{sum_is_right, pseudo_sum}
 use Rattle.wire_base.specs.Tcp as tcp
 use Rattle.wire_base.specs.Options.{are_well_formed}
 use Rattle.pcap_file.specs.Records as records
-use Rattle.rule_book.specs.declared.rule.Rule.{Rule}
 use Rattle.rule_book.specs.declared.rule.Rule.TheVariants as rules
 use Rattle.rule_book.specs.Rules.{segment_rows}
 use Rattle.norm_settings.specs.Settings.{PlainSettings}
@@ -21,7 +20,7 @@ use Rattle.ip_rules.proofs.Known.{packet_octets, sizes}
 use Rattle.ip_rules.proofs.Octets.{taken, dropped}
 use Rattle.reassembly.specs.Pieces.{Fragment}
 use Rattle.reassembly.specs.Calls as reassembly
-use Rattle.reassembly.specs.Rows.{AreAnswered, answer_at, is_done}
+use Rattle.reassembly.specs.Rows.{AreAnswered, is_done}
 use Rattle.reassembly.specs.Laws.{IsSized, AreSized}
 use Rattle.reassembly.proofs.Sizes.{wholes_are_sized}
 use Rattle.dgram_rules.specs.Rows as dgram

@@ -1,5 +1,5 @@
 -- That T_ROOM drops nothing where there are cells for all.
-use Rattle.std.proofs.Common.{◌≡◌, ◌≢◌, ℕ, ◌≤◌, ◌*◌, Bool, true, false, cond, ◌&&◌, ◌||◌, List, [], ◌∷◌, ◌++◌, find, filter, Option, Some, None, refl, sym, ap, ◌∙◌, subst}
+use Rattle.std.proofs.Common.{◌≡◌, ◌≢◌, ℕ, ◌≤◌, ◌*◌, Bool, true, false, cond, ◌||◌, List, [], ◌∷◌, ◌++◌, find, filter, Option, Some, None, refl, sym, ap, ◌∙◌, subst}
 use Rattle.std.specs.Option.{option_or}
 use Rattle.std.specs.List.{AllByRecursion, list_any}
 use Rattle.wire_base.specs.declared.address.Link.{Link}
@@ -13,7 +13,6 @@ use Rattle.ip_rules.specs.Rows.{holds_ip, ip_drop_rows, ip_dropped_by}
 use Rattle.dgram_rules.specs.Rows.{holds_dgram, dgram_dropped_by}
 use Rattle.icmp_codec.specs.Quote.{quoted_in}
 use Rattle.tcp_norm.specs.Calls.{Call}
-use Rattle.tcp_norm.specs.Views.{view_of}
 use Rattle.tcp_norm.specs.Segments.{AreOfSegments, QuotaLeavesRoom}
 use Rattle.norm_engine.specs.Items.{Item}
 use Rattle.reassembly.specs.Rows.{holds_fragment}

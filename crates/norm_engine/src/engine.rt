@@ -28,7 +28,7 @@ pub struct Engine {
     /// The datagrams of which fragments are held.
     pieces: Assembly,
     /// Room for the datagram that fragments make.
-    whole: Vec<u8>,
+    whole: Box<[u8; MAX_PAYLOAD]>,
     /// Room for the payload whose checksum is mended.
     scratch: Vec<u8>,
 }
@@ -42,7 +42,7 @@ impl Model for Engine {
 
     ghost view = { λ e. record { settings = plain_settings e.settings; link = e.link; records = e.records; latest = e.latest; norm = e.norm; pieces = e.pieces } };
 
-    ghost invariant = { λ e. AreInRange (plain_settings e.settings) × (vec_len e.whole ≡ 65515) × (vec_len e.scratch ≡ 65515) × ∥ Kept (plain_settings e.settings) e.norm e.pieces e.records e.latest ∥₁ };
+    ghost invariant = { λ e. AreInRange (plain_settings e.settings) × (vec_len e.scratch ≡ 65515) × ∥ Kept (plain_settings e.settings) e.norm e.pieces e.records e.latest ∥₁ };
 }
 
 impl Engine {
@@ -67,7 +67,7 @@ impl Engine {
         ensures link { IfOk result (λ engine. engine.link ≡ Raw) }
         ensures stands { IfOk result (λ engine. StandsFor engine []) }
     {
-        let whole = vec![in alloc; 0u8; MAX_PAYLOAD]?;
+        let whole = Box::new(alloc, [0u8; MAX_PAYLOAD])?;
         let scratch = vec![in alloc; 0u8; MAX_PAYLOAD]?;
         let pieces = Assembly::open(alloc, &settings)?;
         let norm = TcpNorm::open(alloc, &settings)?;
@@ -167,7 +167,7 @@ impl Engine {
             self.link,
             &self.norm,
             &mut self.pieces,
-            &mut self.whole,
+            &mut self.whole[..],
             self.latest,
             &record,
         ) {

@@ -1,4 +1,4 @@
-use Rattle.std.proofs.Common.{rules, ◌≡◌, ◌<◌, ◌≤◌, ◌==◌, ◌||◌, true, false, [], length, Some, None, refl, sym, ap, subst, ◌∙◌, arith}
+use Rattle.std.proofs.Common.{rules, ◌≡◌, ◌<◌, ◌≤◌, ◌==◌, ◌||◌, true, false, [], length, Some, None, refl, sym, subst, arith}
 use Rattle.norm_settings.specs.Settings.{plain_settings}
 use Rattle.pcap_file.specs.Reads.{shown}
 use Rattle.wire_base.specs.Ipv4 as ip

@@ -1,4 +1,4 @@
-use Rattle.std.proofs.Common.{rules, ◌<◌, ◌^◌, [], ◌∷◌, sym, subst}
+use Rattle.std.proofs.Common.{rules, [], ◌∷◌, subst}
 use Rattle.norm_settings.specs.Settings.{plain_settings}
 use Rattle.ip_rules.specs.Datagrams.{HasSizes}
 use Rattle.reassembly.specs.Pieces.{Fragment}

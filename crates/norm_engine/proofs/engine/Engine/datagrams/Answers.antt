@@ -18,4 +18,4 @@ returns-clause-number c = λ history stands.
 pub returns-clause-bounded : goal.returns-clause-bounded
 returns-clause-bounded c =
     subst (λ (e : Engaged). c.datagrams.result ≤ e.settings.frags) c.self.view_is
-    (∥∥₁_elim c.self.invariant.3 le_prop (λ k. c.datagrams.ensures.bounded (plain_settings c.self.inside.settings) k.offers k.holds))
+    (∥∥₁_elim c.self.invariant.2 le_prop (λ k. c.datagrams.ensures.bounded (plain_settings c.self.inside.settings) k.offers k.holds))

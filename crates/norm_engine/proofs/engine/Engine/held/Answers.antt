@@ -18,4 +18,4 @@ returns-clause-number c = λ history stands.
 pub returns-clause-bounded : goal.returns-clause-bounded
 returns-clause-bounded c =
     subst (λ (e : Engaged). c.held.result ≤ e.settings.cells) c.self.view_is
-    (∥∥₁_elim c.self.invariant.3 le_prop (λ k. c.held.ensures.bounded (plain_settings c.self.inside.settings) k.calls k.stands))
+    (∥∥₁_elim c.self.invariant.2 le_prop (λ k. c.held.ensures.bounded (plain_settings c.self.inside.settings) k.calls k.stands))

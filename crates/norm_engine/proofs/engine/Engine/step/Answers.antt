@@ -1,4 +1,4 @@
-use Rattle.std.proofs.Common.{rules, ◌≡◌, ◌<◌, ◌≤◌, ◌+◌, ◌-◌, ◌^◌, List, [], ◌∷◌, length, max, Some, refl, sym, ap, subst, ◌∙◌, arith}
+use Rattle.std.proofs.Common.{rules, ◌≡◌, ◌<◌, ◌≤◌, ◌+◌, ◌-◌, ◌^◌, List, ◌∷◌, length, max, Some, refl, sym, ap, subst, ◌∙◌, arith}
 use Rattle.std.proofs.Math.Logic.{∥∥₁_map, ∥∥₁_elim}
 use Rattle.std.specs.Coded.{le_prop}
 use Rattle.std.proofs.Math.Nat.{ℕ_set}
@@ -31,34 +31,34 @@ use Rattle.norm_engine.proofs.Stepped.{past_with, few_idle, room_for, no_segment
 use Rattle.norm_engine.proofs.engine.Engine.step.Goals as goal
 
 pub expire-requires-clause-later : goal.expire-requires-clause-later
-expire-requires-clause-later c = ∥∥₁_elim c.self.invariant.3 le_prop (λ k. let now = c.max-self-inside.ensures in let later = k.later in omega (arith, now, later))
+expire-requires-clause-later c = ∥∥₁_elim c.self.invariant.2 le_prop (λ k. let now = c.max-self-inside.ensures in let later = k.later in omega (arith, now, later))
 
-pub expire-_forgotten-requires : goal.expire-_forgotten-requires
-expire-_forgotten-requires c = ∥∥₁_elim c.self.invariant.3 le_prop (λ k. let now = c.max-self-inside.ensures in let passed = k.passed in omega (arith, now, passed))
+pub expire-forgotten-requires : goal.expire-forgotten-requires
+expire-forgotten-requires c = ∥∥₁_elim c.self.invariant.2 le_prop (λ k. let now = c.max-self-inside.ensures in let passed = k.passed in omega (arith, now, passed))
 
 pub take-requires-clause-short : goal.take-requires-clause-short
-take-requires-clause-short c = ∥∥₁_elim c.self.invariant.3 le_prop (λ k. (c.in-Segment.ensures.rows (past_with (plain_settings c.self.inside.settings) c.max-self-inside.result k.calls k.offers) (c.expire.ensures.stands (plain_settings c.self.inside.settings) k.calls k.stands) (c.expire-_forgotten.ensures.stands (plain_settings c.self.inside.settings) k.offers k.holds)).fits)
+take-requires-clause-short c = ∥∥₁_elim c.self.invariant.2 le_prop (λ k. (c.in-Segment.ensures.rows (past_with (plain_settings c.self.inside.settings) c.max-self-inside.result k.calls k.offers) (c.expire.ensures.stands (plain_settings c.self.inside.settings) k.calls k.stands) (c.expire-forgotten.ensures.stands (plain_settings c.self.inside.settings) k.offers k.holds)).fits)
 
 pub take-requires-clause-fields : goal.take-requires-clause-fields
 take-requires-clause-fields c =
-    let six : c.in-Segment.packet.head.protocol ≡ 6 = ∥∥₁_elim c.self.invariant.3 (hlevel ℕ_set) (λ k.
-    let t = (c.in-Segment.ensures.rows (past_with (plain_settings c.self.inside.settings) c.max-self-inside.result k.calls k.offers) (c.expire.ensures.stands (plain_settings c.self.inside.settings) k.calls k.stands) (c.expire-_forgotten.ensures.stands (plain_settings c.self.inside.settings) k.offers k.holds)) in
+    let six : c.in-Segment.packet.head.protocol ≡ 6 = ∥∥₁_elim c.self.invariant.2 (hlevel ℕ_set) (λ k.
+    let t = (c.in-Segment.ensures.rows (past_with (plain_settings c.self.inside.settings) c.max-self-inside.result k.calls k.offers) (c.expire.ensures.stands (plain_settings c.self.inside.settings) k.calls k.stands) (c.expire-forgotten.ensures.stands (plain_settings c.self.inside.settings) k.offers k.holds)) in
     sym (ap (λ (h : Ipv4). h.protocol) t.is.head) ∙ t.protocol) in
     c.in-Segment.ensures.read.fields
     ∙ ap (λ n. fields_of (pseudo_sum c.in-Segment.packet.head.src.0 c.in-Segment.packet.head.dst.0 n (length c.in-Segment.packet.payload.now)) c.in-Segment.packet.payload.now) six
 
 pub take-requires-clause-frame : goal.take-requires-clause-frame
-take-requires-clause-frame c = λ none. ∥∥₁_elim c.self.invariant.3 le_prop (λ k. (c.in-Segment.ensures.rows (past_with (plain_settings c.self.inside.settings) c.max-self-inside.result k.calls k.offers) (c.expire.ensures.stands (plain_settings c.self.inside.settings) k.calls k.stands) (c.expire-_forgotten.ensures.stands (plain_settings c.self.inside.settings) k.offers k.holds)).short none)
+take-requires-clause-frame c = λ none. ∥∥₁_elim c.self.invariant.2 le_prop (λ k. (c.in-Segment.ensures.rows (past_with (plain_settings c.self.inside.settings) c.max-self-inside.result k.calls k.offers) (c.expire.ensures.stands (plain_settings c.self.inside.settings) k.calls k.stands) (c.expire-forgotten.ensures.stands (plain_settings c.self.inside.settings) k.offers k.holds)).short none)
 
 pub take-requires-clause-fixes : goal.take-requires-clause-fixes
-take-requires-clause-fixes c = ∥∥₁_elim c.self.invariant.3 le_prop (λ k. (c.in-Segment.ensures.rows (past_with (plain_settings c.self.inside.settings) c.max-self-inside.result k.calls k.offers) (c.expire.ensures.stands (plain_settings c.self.inside.settings) k.calls k.stands) (c.expire-_forgotten.ensures.stands (plain_settings c.self.inside.settings) k.offers k.holds)).few)
+take-requires-clause-fixes c = ∥∥₁_elim c.self.invariant.2 le_prop (λ k. (c.in-Segment.ensures.rows (past_with (plain_settings c.self.inside.settings) c.max-self-inside.result k.calls k.offers) (c.expire.ensures.stands (plain_settings c.self.inside.settings) k.calls k.stands) (c.expire-forgotten.ensures.stands (plain_settings c.self.inside.settings) k.offers k.holds)).few)
 
 pub take-requires-clause-ended : goal.take-requires-clause-ended
-take-requires-clause-ended c = ∥∥₁_elim c.self.invariant.3 le_prop (λ k.
+take-requires-clause-ended c = ∥∥₁_elim c.self.invariant.2 le_prop (λ k.
     subst (λ es. length es ≤ 2) (sym (c.expire.ensures.entry (plain_settings c.self.inside.settings) k.calls k.stands)) (few_idle (plain_settings c.self.inside.settings) c.max-self-inside.result k.calls (λ number. segments number k.calls)))
 
 pub take-requires-clause-few : goal.take-requires-clause-few
-take-requires-clause-few c = ∥∥₁_elim c.self.invariant.3 le_prop (λ k.
+take-requires-clause-few c = ∥∥₁_elim c.self.invariant.2 le_prop (λ k.
     let new = (c.expire.ensures.stands (plain_settings c.self.inside.settings) k.calls k.stands).calls_is in
     let old = k.stands.calls_is in
     let few = k.few in
@@ -66,7 +66,7 @@ take-requires-clause-few c = ∥∥₁_elim c.self.invariant.3 le_prop (λ k.
     omega (arith, new, old, few, records))
 
 pub take-requires-clause-later : goal.take-requires-clause-later
-take-requires-clause-later c = ∥∥₁_elim c.self.invariant.3 le_prop (λ k.
+take-requires-clause-later c = ∥∥₁_elim c.self.invariant.2 le_prop (λ k.
     let new = (c.expire.ensures.stands (plain_settings c.self.inside.settings) k.calls k.stands).latest_is in
     let old = k.stands.latest_is in
     let later = k.later in
@@ -77,9 +77,8 @@ pub invariant_of-self : goal.invariant_of-self
 invariant_of-self c = (
   c.self.invariant.0,
   c.self.invariant.1,
-  c.self.invariant.2,
-  ∥∥₁_map c.self.invariant.3 (λ k.
-      let t = (c.in-Segment.ensures.rows (past_with (plain_settings c.self.inside.settings) c.max-self-inside.result k.calls k.offers) (c.expire.ensures.stands (plain_settings c.self.inside.settings) k.calls k.stands) (c.expire-_forgotten.ensures.stands (plain_settings c.self.inside.settings) k.offers k.holds)) in
+  ∥∥₁_map c.self.invariant.2 (λ k.
+      let t = (c.in-Segment.ensures.rows (past_with (plain_settings c.self.inside.settings) c.max-self-inside.result k.calls k.offers) (c.expire.ensures.stands (plain_settings c.self.inside.settings) k.calls k.stands) (c.expire-forgotten.ensures.stands (plain_settings c.self.inside.settings) k.offers k.holds)) in
       let before = (c.expire.ensures.stands (plain_settings c.self.inside.settings) k.calls k.stands) in
       let calls = expiry_of (plain_settings c.self.inside.settings) k.calls c.max-self-inside.result ∷ k.calls in
       let is = subst (λ link. IsDatagram c.in-Segment.packet link t.own) (sym c.link_octets-link.ensures.octets) t.is in
@@ -91,7 +90,7 @@ invariant_of-self c = (
       let later = k.later in
       let few = k.few in
       let now = c.max-self-inside.ensures in
-      record { calls = call_of (plain_settings c.self.inside.settings) calls c.max-self-inside.result t.own ∷ calls; stands = stands; later = omega (arith, latest, old_latest, later, now); few = omega (arith, asked, old, few); offers = with_offered (plain_settings c.self.inside.settings) (fragment_in (plain_settings c.self.inside.settings) c.self.inside.link (shown c.args.input.now)) c.max-self-inside.result (reassembly.expiry c.max-self-inside.result ∷ k.offers); holds = c.judge.ensures.pieces (reassembly.expiry c.max-self-inside.result ∷ k.offers) (c.expire-_forgotten.ensures.stands (plain_settings c.self.inside.settings) k.offers k.holds); passed = c.judge.ensures.passed }),
+      record { calls = call_of (plain_settings c.self.inside.settings) calls c.max-self-inside.result t.own ∷ calls; stands = stands; later = omega (arith, latest, old_latest, later, now); few = omega (arith, asked, old, few); offers = with_offered (plain_settings c.self.inside.settings) (fragment_in (plain_settings c.self.inside.settings) c.self.inside.link (shown c.args.input.now)) c.max-self-inside.result (reassembly.expiry c.max-self-inside.result ∷ k.offers); holds = c.judge.ensures.pieces (reassembly.expiry c.max-self-inside.result ∷ k.offers) (c.expire-forgotten.ensures.stands (plain_settings c.self.inside.settings) k.offers k.holds); passed = c.judge.ensures.passed }),
 )
 
 pub send-requires : goal.send-requires
@@ -99,15 +98,14 @@ send-requires c = record {
   empty = c.clear.ensures;
   room = search rules;
   hops = c.self.invariant.0.hops;
-  fits = room_for (plain_settings c.self.inside.settings) c.self.inside.link (shown c.args.input.now) c.judge.result (∥∥₁_map c.self.invariant.3 (λ k. (read_with (plain_settings c.self.inside.settings) c.self.inside.link (past_with (plain_settings c.self.inside.settings) c.max-self-inside.result k.calls k.offers) (shown c.args.input.now), c.judge.ensures.rows (past_with (plain_settings c.self.inside.settings) c.max-self-inside.result k.calls k.offers) (c.expire.ensures.stands (plain_settings c.self.inside.settings) k.calls k.stands) (c.expire-_forgotten.ensures.stands (plain_settings c.self.inside.settings) k.offers k.holds))));
+  fits = room_for (plain_settings c.self.inside.settings) c.self.inside.link (shown c.args.input.now) c.judge.result (∥∥₁_map c.self.invariant.2 (λ k. (read_with (plain_settings c.self.inside.settings) c.self.inside.link (past_with (plain_settings c.self.inside.settings) c.max-self-inside.result k.calls k.offers) (shown c.args.input.now), c.judge.ensures.rows (past_with (plain_settings c.self.inside.settings) c.max-self-inside.result k.calls k.offers) (c.expire.ensures.stands (plain_settings c.self.inside.settings) k.calls k.stands) (c.expire-forgotten.ensures.stands (plain_settings c.self.inside.settings) k.offers k.holds))));
 }
 
 pub invariant_of-self-in_default : goal.invariant_of-self-in_default
 invariant_of-self-in_default c = (
   c.self.invariant.0,
   c.self.invariant.1,
-  c.self.invariant.2,
-  ∥∥₁_map c.self.invariant.3 (λ k.
+  ∥∥₁_map c.self.invariant.2 (λ k.
       let stands = (c.expire.ensures.stands (plain_settings c.self.inside.settings) k.calls k.stands) in
       let latest = stands.latest_is in
       let asked = stands.calls_is in
@@ -116,7 +114,7 @@ invariant_of-self-in_default c = (
       let later = k.later in
       let few = k.few in
       let now = c.max-self-inside.ensures in
-      record { calls = expiry_of (plain_settings c.self.inside.settings) k.calls c.max-self-inside.result ∷ k.calls; stands = stands; later = omega (arith, latest, old_latest, later, now); few = omega (arith, asked, old, few); offers = with_offered (plain_settings c.self.inside.settings) (fragment_in (plain_settings c.self.inside.settings) c.self.inside.link (shown c.args.input.now)) c.max-self-inside.result (reassembly.expiry c.max-self-inside.result ∷ k.offers); holds = c.judge.ensures.pieces (reassembly.expiry c.max-self-inside.result ∷ k.offers) (c.expire-_forgotten.ensures.stands (plain_settings c.self.inside.settings) k.offers k.holds); passed = c.judge.ensures.passed }),
+      record { calls = expiry_of (plain_settings c.self.inside.settings) k.calls c.max-self-inside.result ∷ k.calls; stands = stands; later = omega (arith, latest, old_latest, later, now); few = omega (arith, asked, old, few); offers = with_offered (plain_settings c.self.inside.settings) (fragment_in (plain_settings c.self.inside.settings) c.self.inside.link (shown c.args.input.now)) c.max-self-inside.result (reassembly.expiry c.max-self-inside.result ∷ k.offers); holds = c.judge.ensures.pieces (reassembly.expiry c.max-self-inside.result ∷ k.offers) (c.expire-forgotten.ensures.stands (plain_settings c.self.inside.settings) k.offers k.holds); passed = c.judge.ensures.passed }),
 )
 
 pub returns-in-Segment-clause-entry : goal.returns-in-Segment-clause-entry
@@ -124,7 +122,7 @@ returns-in-Segment-clause-entry c = subst (λ (e : Engaged). (history : List Ite
     let calls = flow_calls (plain_settings c.self.inside.settings) c.self.inside.link history in
     let now : c.max-self-inside.result ≡ now_with history (shown c.args.input.now) = c.max-self-inside.ensures ∙ ap (λ n. max n c.args.input.now.seconds) stands.latest in
     let before = subst (λ n. flows.StandsFor (plain_settings c.self.inside.settings) c.expire.new.self (expiry_of (plain_settings c.self.inside.settings) calls n ∷ calls)) now (c.expire.ensures.stands (plain_settings c.self.inside.settings) calls stands.flows) in
-    let gone = subst (λ n. fragments.StandsFor (plain_settings c.self.inside.settings) c.expire-_forgotten.new.self (reassembly.expiry n ∷ piece_calls (plain_settings c.self.inside.settings) c.self.inside.link history)) now (c.expire-_forgotten.ensures.stands (plain_settings c.self.inside.settings) (piece_calls (plain_settings c.self.inside.settings) c.self.inside.link history) stands.pieces) in
+    let gone = subst (λ n. fragments.StandsFor (plain_settings c.self.inside.settings) c.expire-forgotten.new.self (reassembly.expiry n ∷ piece_calls (plain_settings c.self.inside.settings) c.self.inside.link history)) now (c.expire-forgotten.ensures.stands (plain_settings c.self.inside.settings) (piece_calls (plain_settings c.self.inside.settings) c.self.inside.link history) stands.pieces) in
     let past = past_of (plain_settings c.self.inside.settings) c.self.inside.link history (shown c.args.input.now) in
     let read = read_after (plain_settings c.self.inside.settings) c.self.inside.link history (shown c.args.input.now) in
     let idle : c.expire.new.entry.ended.items ≡ past.idle = c.expire.ensures.entry (plain_settings c.self.inside.settings) calls stands.flows ∙ ap (λ n. idled (λ number. segments number calls) (idle_at (plain_settings c.self.inside.settings) n calls)) now in
@@ -140,7 +138,7 @@ returns-in-Segment-clause-frames c = subst (λ (e : Engaged). (history : List It
     let calls = flow_calls (plain_settings c.self.inside.settings) c.self.inside.link history in
     let now : c.max-self-inside.result ≡ now_with history (shown c.args.input.now) = c.max-self-inside.ensures ∙ ap (λ n. max n c.args.input.now.seconds) stands.latest in
     let before = subst (λ n. flows.StandsFor (plain_settings c.self.inside.settings) c.expire.new.self (expiry_of (plain_settings c.self.inside.settings) calls n ∷ calls)) now (c.expire.ensures.stands (plain_settings c.self.inside.settings) calls stands.flows) in
-    let gone = subst (λ n. fragments.StandsFor (plain_settings c.self.inside.settings) c.expire-_forgotten.new.self (reassembly.expiry n ∷ piece_calls (plain_settings c.self.inside.settings) c.self.inside.link history)) now (c.expire-_forgotten.ensures.stands (plain_settings c.self.inside.settings) (piece_calls (plain_settings c.self.inside.settings) c.self.inside.link history) stands.pieces) in
+    let gone = subst (λ n. fragments.StandsFor (plain_settings c.self.inside.settings) c.expire-forgotten.new.self (reassembly.expiry n ∷ piece_calls (plain_settings c.self.inside.settings) c.self.inside.link history)) now (c.expire-forgotten.ensures.stands (plain_settings c.self.inside.settings) (piece_calls (plain_settings c.self.inside.settings) c.self.inside.link history) stands.pieces) in
     let past = past_of (plain_settings c.self.inside.settings) c.self.inside.link history (shown c.args.input.now) in
     let read = read_after (plain_settings c.self.inside.settings) c.self.inside.link history (shown c.args.input.now) in
     let idle : c.expire.new.entry.ended.items ≡ past.idle = c.expire.ensures.entry (plain_settings c.self.inside.settings) calls stands.flows ∙ ap (λ n. idled (λ number. segments number calls) (idle_at (plain_settings c.self.inside.settings) n calls)) now in
@@ -156,7 +154,7 @@ returns-in-Segment-clause-stands c = subst (λ (e : Engaged). (history : List It
     let calls = flow_calls (plain_settings c.self.inside.settings) c.self.inside.link history in
     let now : c.max-self-inside.result ≡ now_with history (shown c.args.input.now) = c.max-self-inside.ensures ∙ ap (λ n. max n c.args.input.now.seconds) stands.latest in
     let before = subst (λ n. flows.StandsFor (plain_settings c.self.inside.settings) c.expire.new.self (expiry_of (plain_settings c.self.inside.settings) calls n ∷ calls)) now (c.expire.ensures.stands (plain_settings c.self.inside.settings) calls stands.flows) in
-    let gone = subst (λ n. fragments.StandsFor (plain_settings c.self.inside.settings) c.expire-_forgotten.new.self (reassembly.expiry n ∷ piece_calls (plain_settings c.self.inside.settings) c.self.inside.link history)) now (c.expire-_forgotten.ensures.stands (plain_settings c.self.inside.settings) (piece_calls (plain_settings c.self.inside.settings) c.self.inside.link history) stands.pieces) in
+    let gone = subst (λ n. fragments.StandsFor (plain_settings c.self.inside.settings) c.expire-forgotten.new.self (reassembly.expiry n ∷ piece_calls (plain_settings c.self.inside.settings) c.self.inside.link history)) now (c.expire-forgotten.ensures.stands (plain_settings c.self.inside.settings) (piece_calls (plain_settings c.self.inside.settings) c.self.inside.link history) stands.pieces) in
     let past = past_of (plain_settings c.self.inside.settings) c.self.inside.link history (shown c.args.input.now) in
     let read = read_after (plain_settings c.self.inside.settings) c.self.inside.link history (shown c.args.input.now) in
     let idle : c.expire.new.entry.ended.items ≡ past.idle = c.expire.ensures.entry (plain_settings c.self.inside.settings) calls stands.flows ∙ ap (λ n. idled (λ number. segments number calls) (idle_at (plain_settings c.self.inside.settings) n calls)) now in
@@ -166,7 +164,7 @@ returns-in-Segment-clause-stands c = subst (λ (e : Engaged). (history : List It
     (record { settings = (plain_settings c.self.inside.settings); link = c.self.inside.link; records = c.self.inside.records + 1; latest = c.max-self-inside.result; norm = c.take.new.norm; pieces = c.judge.new.pieces }) history (shown c.args.input.now) c.in-Segment.packet c.in-Segment.head
     c.self.invariant.0.hops t stands refl refl refl now
     (subst (λ n. flows.StandsFor (plain_settings c.self.inside.settings) c.take.new.norm (call_of (plain_settings c.self.inside.settings) past.calls n t.own ∷ past.calls)) now (c.take.ensures.stands (plain_settings c.self.inside.settings) past.calls t.own before is))
-    (pieces_stand (plain_settings c.self.inside.settings) c.self.inside.link history (shown c.args.input.now) c.judge.new.pieces c.max-self-inside.result now (c.judge.ensures.pieces (reassembly.expiry c.max-self-inside.result ∷ piece_calls (plain_settings c.self.inside.settings) c.self.inside.link history) (c.expire-_forgotten.ensures.stands (plain_settings c.self.inside.settings) (piece_calls (plain_settings c.self.inside.settings) c.self.inside.link history) stands.pieces))))
+    (pieces_stand (plain_settings c.self.inside.settings) c.self.inside.link history (shown c.args.input.now) c.judge.new.pieces c.max-self-inside.result now (c.judge.ensures.pieces (reassembly.expiry c.max-self-inside.result ∷ piece_calls (plain_settings c.self.inside.settings) c.self.inside.link history) (c.expire-forgotten.ensures.stands (plain_settings c.self.inside.settings) (piece_calls (plain_settings c.self.inside.settings) c.self.inside.link history) stands.pieces))))
 
 pub returns-in_default : goal.returns-in_default
 returns-in_default c = record {
@@ -176,7 +174,7 @@ returns-in_default c = record {
       let calls = flow_calls (plain_settings c.self.inside.settings) c.self.inside.link history in
       let now : c.max-self-inside.result ≡ now_with history (shown c.args.input.now) = c.max-self-inside.ensures ∙ ap (λ n. max n c.args.input.now.seconds) stands.latest in
       let before = subst (λ n. flows.StandsFor (plain_settings c.self.inside.settings) c.expire.new.self (expiry_of (plain_settings c.self.inside.settings) calls n ∷ calls)) now (c.expire.ensures.stands (plain_settings c.self.inside.settings) calls stands.flows) in
-      let gone = subst (λ n. fragments.StandsFor (plain_settings c.self.inside.settings) c.expire-_forgotten.new.self (reassembly.expiry n ∷ piece_calls (plain_settings c.self.inside.settings) c.self.inside.link history)) now (c.expire-_forgotten.ensures.stands (plain_settings c.self.inside.settings) (piece_calls (plain_settings c.self.inside.settings) c.self.inside.link history) stands.pieces) in
+      let gone = subst (λ n. fragments.StandsFor (plain_settings c.self.inside.settings) c.expire-forgotten.new.self (reassembly.expiry n ∷ piece_calls (plain_settings c.self.inside.settings) c.self.inside.link history)) now (c.expire-forgotten.ensures.stands (plain_settings c.self.inside.settings) (piece_calls (plain_settings c.self.inside.settings) c.self.inside.link history) stands.pieces) in
       let past = past_of (plain_settings c.self.inside.settings) c.self.inside.link history (shown c.args.input.now) in
       let read = read_after (plain_settings c.self.inside.settings) c.self.inside.link history (shown c.args.input.now) in
       let idle : c.expire.new.entry.ended.items ≡ past.idle = c.expire.ensures.entry (plain_settings c.self.inside.settings) calls stands.flows ∙ ap (λ n. idled (λ number. segments number calls) (idle_at (plain_settings c.self.inside.settings) n calls)) now in
@@ -189,7 +187,7 @@ returns-in_default c = record {
       let calls = flow_calls (plain_settings c.self.inside.settings) c.self.inside.link history in
       let now : c.max-self-inside.result ≡ now_with history (shown c.args.input.now) = c.max-self-inside.ensures ∙ ap (λ n. max n c.args.input.now.seconds) stands.latest in
       let before = subst (λ n. flows.StandsFor (plain_settings c.self.inside.settings) c.expire.new.self (expiry_of (plain_settings c.self.inside.settings) calls n ∷ calls)) now (c.expire.ensures.stands (plain_settings c.self.inside.settings) calls stands.flows) in
-      let gone = subst (λ n. fragments.StandsFor (plain_settings c.self.inside.settings) c.expire-_forgotten.new.self (reassembly.expiry n ∷ piece_calls (plain_settings c.self.inside.settings) c.self.inside.link history)) now (c.expire-_forgotten.ensures.stands (plain_settings c.self.inside.settings) (piece_calls (plain_settings c.self.inside.settings) c.self.inside.link history) stands.pieces) in
+      let gone = subst (λ n. fragments.StandsFor (plain_settings c.self.inside.settings) c.expire-forgotten.new.self (reassembly.expiry n ∷ piece_calls (plain_settings c.self.inside.settings) c.self.inside.link history)) now (c.expire-forgotten.ensures.stands (plain_settings c.self.inside.settings) (piece_calls (plain_settings c.self.inside.settings) c.self.inside.link history) stands.pieces) in
       let past = past_of (plain_settings c.self.inside.settings) c.self.inside.link history (shown c.args.input.now) in
       let read = read_after (plain_settings c.self.inside.settings) c.self.inside.link history (shown c.args.input.now) in
       let idle : c.expire.new.entry.ended.items ≡ past.idle = c.expire.ensures.entry (plain_settings c.self.inside.settings) calls stands.flows ∙ ap (λ n. idled (λ number. segments number calls) (idle_at (plain_settings c.self.inside.settings) n calls)) now in
@@ -201,7 +199,7 @@ returns-in_default c = record {
       let calls = flow_calls (plain_settings c.self.inside.settings) c.self.inside.link history in
       let now : c.max-self-inside.result ≡ now_with history (shown c.args.input.now) = c.max-self-inside.ensures ∙ ap (λ n. max n c.args.input.now.seconds) stands.latest in
       let before = subst (λ n. flows.StandsFor (plain_settings c.self.inside.settings) c.expire.new.self (expiry_of (plain_settings c.self.inside.settings) calls n ∷ calls)) now (c.expire.ensures.stands (plain_settings c.self.inside.settings) calls stands.flows) in
-      let gone = subst (λ n. fragments.StandsFor (plain_settings c.self.inside.settings) c.expire-_forgotten.new.self (reassembly.expiry n ∷ piece_calls (plain_settings c.self.inside.settings) c.self.inside.link history)) now (c.expire-_forgotten.ensures.stands (plain_settings c.self.inside.settings) (piece_calls (plain_settings c.self.inside.settings) c.self.inside.link history) stands.pieces) in
+      let gone = subst (λ n. fragments.StandsFor (plain_settings c.self.inside.settings) c.expire-forgotten.new.self (reassembly.expiry n ∷ piece_calls (plain_settings c.self.inside.settings) c.self.inside.link history)) now (c.expire-forgotten.ensures.stands (plain_settings c.self.inside.settings) (piece_calls (plain_settings c.self.inside.settings) c.self.inside.link history) stands.pieces) in
       let past = past_of (plain_settings c.self.inside.settings) c.self.inside.link history (shown c.args.input.now) in
       let read = read_after (plain_settings c.self.inside.settings) c.self.inside.link history (shown c.args.input.now) in
       let idle : c.expire.new.entry.ended.items ≡ past.idle = c.expire.ensures.entry (plain_settings c.self.inside.settings) calls stands.flows ∙ ap (λ n. idled (λ number. segments number calls) (idle_at (plain_settings c.self.inside.settings) n calls)) now in
@@ -209,7 +207,7 @@ returns-in_default c = record {
       let none = no_segment (plain_settings c.self.inside.settings) c.self.inside.link read (shown c.args.input.now) c.judge.result j other in
       other_stands (record { settings = (plain_settings c.self.inside.settings); link = c.self.inside.link; records = c.self.inside.records; latest = c.self.inside.latest; norm = c.self.inside.norm; pieces = c.self.inside.pieces }) (record { settings = (plain_settings c.self.inside.settings); link = c.self.inside.link; records = c.self.inside.records + 1; latest = c.max-self-inside.result; norm = c.expire.new.self; pieces = c.judge.new.pieces }) history (shown c.args.input.now)
       none stands refl refl refl now before
-      (pieces_stand (plain_settings c.self.inside.settings) c.self.inside.link history (shown c.args.input.now) c.judge.new.pieces c.max-self-inside.result now (c.judge.ensures.pieces (reassembly.expiry c.max-self-inside.result ∷ piece_calls (plain_settings c.self.inside.settings) c.self.inside.link history) (c.expire-_forgotten.ensures.stands (plain_settings c.self.inside.settings) (piece_calls (plain_settings c.self.inside.settings) c.self.inside.link history) stands.pieces))));
+      (pieces_stand (plain_settings c.self.inside.settings) c.self.inside.link history (shown c.args.input.now) c.judge.new.pieces c.max-self-inside.result now (c.judge.ensures.pieces (reassembly.expiry c.max-self-inside.result ∷ piece_calls (plain_settings c.self.inside.settings) c.self.inside.link history) (c.expire-forgotten.ensures.stands (plain_settings c.self.inside.settings) (piece_calls (plain_settings c.self.inside.settings) c.self.inside.link history) stands.pieces))));
 }
   where
     other : (packet : IpPacket) (head : Tcp) → c.judge.result ≡ Segment packet head → ⊥
