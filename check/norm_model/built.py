@@ -29,4 +29,4 @@ def built(options, prefixes, load, report_version):
 WHOLE = built(RANGES, 16, True, 2)
 
 # What the program of this repository has today.
-BUILT = built(RANGES, 16, False, 2)
+BUILT = built(RANGES, 16, True, 2)
