@@ -6,3 +6,4 @@ pub mod Statuses
 pub mod Telling
 pub mod Broken
 pub mod Rows
+pub mod Tallying

@@ -1,5 +1,5 @@
 -- What stands when a run has stopped, read row by row.
-use Rattle.std.proofs.Common.{◌≡◌, ℕ, ◌<◌, ◌==◌, List, [], ◌∷◌, ◌++◌, length, take, Option, None, Some, refl, sym, ap, ◌∙◌, subst, append-nil, append_assoc, arith, inl, inr, false, true}
+use Rattle.std.proofs.Common.{◌≡◌, ℕ, ◌<◌, ◌==◌, List, [], ◌∷◌, ◌++◌, length, take, Option, None, Some, refl, sym, ap, ◌∙◌, subst, append-nil, append_assoc, arith, inl, inr, ◌⊎◌, ◌≤◌, false, true}
 use Rattle.std.proofs.Math.Seq.{take-nil}
 use Rattle.std.proofs.KnownBytes.{Appends-trans}
 use Rattle.std.specs.Io.KnownBytes.{Appends}
@@ -24,8 +24,8 @@ use Rattle.bridge_run.specs.Moments.{Seen, Moment}
 use Rattle.bridge_run.specs.Outputs.{to_capture, to_report, capture_hands_on, report_hands_on, heading, first_outputs, outputs_of, capture_part, report_part}
 use Rattle.bridge_run.specs.Run.{Took, TakenWhole}
 use Rattle.bridge_run.specs.Stops.{FirstFault, Told, status_of, stop_line, memory_line}
-use Rattle.bridge_run.specs.Stopped.{Stands, Flawed, Unread, Unwritten, StopsAtHead, StopsAtRecord, Stopped, Finishes, SaysOnly}
-use Rattle.bridge_run.specs.Rows.{Says, GivenUpTo, stop_of, flaw_kind, capture_octets, report_octets, EndsAtHead, EndsAtRecord, EndsAtFlaw, EndsFaulty, EndsCut, EndsUnread, EndsUnwritten, EndsUntold, EndsRefused, UnderWords}
+use Rattle.bridge_run.specs.Stopped.{Stands, Flawed, Unread, Unwritten, StopsAtHead, StopsAtRecord, Stopped, StoppedUnder, LoadStopped, Finishes, SaysOnly}
+use Rattle.bridge_run.specs.Rows.{Says, GivenUpTo, stop_of, flaw_kind, capture_octets, report_octets, EndsAtHead, EndsAtRecord, EndsAtFlaw, EndsFaulty, EndsCut, EndsUnread, EndsUnwritten, EndsUntold, EndsRefused, EndsSummed, EndsSummedInPart, UnderWords, UnderLoad}
 use Rattle.bridge_run.proofs.Outputs.{capture_is, report_is}
 use Rattle.bridge_run.proofs.Broken.{no_capture, capture_fails, first_fails, handing_fails, no_report, line_fails, nothing, handing}
 use Rattle.bridge_run.proofs.Statuses.{known_of}
@@ -225,35 +225,91 @@ module _ (settings : PlainSettings) (b a n : Moment) where
       → Told a.sinks.report.octets n.sinks.report.octets a.sinks.report.faults n.sinks.report.faults (stop_line stop) → RowAt status
   row_at status stop answered p first behind told = subst RowAt (sym answered) (row_of stop p first behind told)
 
+-- what stands between the ends under given settings
+under_row : (status : ℕ) → (status ≡ 0 → ⊥) → (status ≡ 8 → ⊥) → (settings : PlainSettings) (b n : Moment) → StoppedUnder settings status b n → RowAt settings b n n status
+under_row status not_0 not_8 settings b n (inl finished) = absurd (not_0 finished.0)
+under_row status not_0 not_8 settings b n (inr (inl wanting)) = absurd (not_8 wanting.0)
+under_row status not_0 not_8 settings b n (inr (inr p)) =
+    row_at settings b p.at n status p.stop p.answered p.stands p.first (record { source = p.source_stays; capture = p.capture_stays.octets }) p.told
+
+-- a load that neither finished nor wanted memory
+load_row : (status : ℕ) → (status ≡ 0 → ⊥) → (status ≡ 8 → ⊥) → (seed count : ℕ) (b n : Moment) → LoadStopped seed count status b n → (status ≡ 7) × EndsSummedInPart seed count b n
+load_row status not_0 not_8 seed count b n p =
+    elim p.leaves [
+      | inl summed ↦ absurd (not_0 summed.0)
+      | inr (inl part) ↦ (part.0, record { touches = record { source_stays = p.source_stays; capture_stays = p.capture_stays }; summed = part.1 })
+      | inr (inr wanting) ↦ absurd (not_8 wanting.0)
+    ]
+
 -- a run that was not refused, and had its memory, and did not finish
-pub stopped_row : (status : ℕ) → (status ≡ 0 → ⊥) → (status ≡ 2 → ⊥) → (status ≡ 8 → ⊥) → (words : List (List ℕ)) (b n : Moment) → Stopped words status b n → UnderWords words (λ settings. RowAt settings b n n status)
-stopped_row status not_0 not_2 not_8 words b n (inl refused) = absurd (not_2 refused.1)
-stopped_row status not_0 not_2 not_8 words b n (inr (inl wanting)) = absurd (not_8 wanting.0)
-stopped_row status not_0 not_2 not_8 words b n (inr (inr (settings, asks, inl finished))) = absurd (not_0 finished.0)
-stopped_row status not_0 not_2 not_8 words b n (inr (inr (settings, asks, inr (inl wanting)))) = absurd (not_8 wanting.0)
-stopped_row status not_0 not_2 not_8 words b n (inr (inr (settings, asks, inr (inr p)))) =
-    (settings, asks, row_at settings b p.at n status p.stop p.answered p.stands p.first (record { source = p.source_stays; capture = p.capture_stays.octets }) p.told)
+pub stopped_row : (status : ℕ) → (status ≡ 0 → ⊥) → (status ≡ 2 → ⊥) → (status ≡ 7 → ⊥) → (status ≡ 8 → ⊥) → (words : List (List ℕ)) (b n : Moment) → Stopped words status b n → UnderWords words (λ settings. RowAt settings b n n status)
+stopped_row status not_0 not_2 not_7 not_8 words b n (inl refused) = absurd (not_2 refused.1)
+stopped_row status not_0 not_2 not_7 not_8 words b n (inr (inl wanting)) = absurd (not_8 wanting.0)
+stopped_row status not_0 not_2 not_7 not_8 words b n (inr (inr (inl (settings, asks, p)))) = (settings, asks, under_row status not_0 not_8 settings b n p)
+stopped_row status not_0 not_2 not_7 not_8 words b n (inr (inr (inr (seed, count, asks, p)))) = absurd (not_7 (load_row status not_0 not_8 seed count b n p).0)
+
+-- a run whose report failed
+pub failed_row : (words : List (List ℕ)) (b n : Moment) → Stopped words 7 b n
+    → UnderWords words (λ settings. EndsUntold settings b n) ⊎ UnderLoad words (λ seed count. EndsSummedInPart seed count b n)
+failed_row words b n (inl refused) = absurd (let e = refused.1 in omega (arith, e))
+failed_row words b n (inr (inl wanting)) = absurd (let e = wanting.0 in omega (arith, e))
+failed_row words b n (inr (inr (inl (settings, asks, p)))) = inl (settings, asks, under_row 7 (λ e. omega (arith, e)) (λ e. omega (arith, e)) settings b n p)
+failed_row words b n (inr (inr (inr (seed, count, asks, p)))) = inr (seed, count, asks, (load_row 7 (λ e. omega (arith, e)) (λ e. omega (arith, e)) seed count b n p).1)
+
+-- a load that finished
+summed_row : (seed count : ℕ) (b n : Moment) → LoadStopped seed count 0 b n → EndsSummed seed count b n
+summed_row seed count b n p =
+    elim p.leaves [
+      | inl summed ↦ record { touches = record { source_stays = p.source_stays; capture_stays = p.capture_stays }; summed = summed.1; none_rose = summed.2 }
+      | inr (inl part) ↦ absurd (let e = part.0 in omega (arith, e))
+      | inr (inr wanting) ↦ absurd (let e = wanting.0 in omega (arith, e))
+    ]
 
 -- a run that finished
-pub finished_row : (words : List (List ℕ)) (b n : Moment) → Stopped words 0 b n → UnderWords words (λ settings. Finishes settings b n)
+pub finished_row : (words : List (List ℕ)) (b n : Moment) → Stopped words 0 b n
+    → UnderWords words (λ settings. Finishes settings b n) ⊎ UnderLoad words (λ seed count. EndsSummed seed count b n)
 finished_row words b n (inl refused) = absurd (let e = refused.1 in omega (arith, e))
 finished_row words b n (inr (inl wanting)) = absurd (let e = wanting.0 in omega (arith, e))
-finished_row words b n (inr (inr (settings, asks, inl finished))) = (settings, asks, finished.1)
-finished_row words b n (inr (inr (settings, asks, inr (inl wanting)))) = absurd (let e = wanting.0 in omega (arith, e))
-finished_row words b n (inr (inr (settings, asks, inr (inr p)))) = absurd (let least = (known_of settings p.stop b p.at p.stands).0 in let e = p.answered in omega (arith, least, e))
+finished_row words b n (inr (inr (inl (settings, asks, inl finished)))) = inl (settings, asks, finished.1)
+finished_row words b n (inr (inr (inl (settings, asks, inr (inl wanting))))) = absurd (let e = wanting.0 in omega (arith, e))
+finished_row words b n (inr (inr (inl (settings, asks, inr (inr p))))) = absurd (let least = (known_of settings p.stop b p.at p.stands).0 in let e = p.answered in omega (arith, least, e))
+finished_row words b n (inr (inr (inr (seed, count, asks, p)))) = inr (seed, count, asks, summed_row seed count b n p)
+
+-- a load answers 0, 7 or 8
+load_answers : (seed count status : ℕ) (b n : Moment) → LoadStopped seed count status b n → (status ≡ 0) ⊎ (7 ≤ status)
+load_answers seed count status b n p =
+    elim p.leaves [
+      | inl summed ↦ inl summed.0
+      | inr (inl part) ↦ inr (let e = part.0 in omega (arith, e))
+      | inr (inr wanting) ↦ inr (let e = wanting.0 in omega (arith, e))
+    ]
+
+no_load : (seed count : ℕ) (b n : Moment) → LoadStopped seed count 2 b n → ⊥
+no_load seed count b n p = elim (load_answers seed count 2 b n p) [ inl none ↦ omega (arith, none) | inr most ↦ omega (arith, most) ]
 
 -- words that were refused
 pub refused_row : (words : List (List ℕ)) (b n : Moment) → Stopped words 2 b n → EndsRefused words b n
 refused_row words b n (inl refused) = record { fault = refused.0; refused = refused.2; says = refused.3 }
 refused_row words b n (inr (inl wanting)) = absurd (let e = wanting.0 in omega (arith, e))
-refused_row words b n (inr (inr (settings, asks, inl finished))) = absurd (let e = finished.0 in omega (arith, e))
-refused_row words b n (inr (inr (settings, asks, inr (inl wanting)))) = absurd (let e = wanting.0 in omega (arith, e))
-refused_row words b n (inr (inr (settings, asks, inr (inr p)))) = absurd (let least = (known_of settings p.stop b p.at p.stands).0 in let e = p.answered in omega (arith, least, e))
+refused_row words b n (inr (inr (inl (settings, asks, inl finished)))) = absurd (let e = finished.0 in omega (arith, e))
+refused_row words b n (inr (inr (inl (settings, asks, inr (inl wanting))))) = absurd (let e = wanting.0 in omega (arith, e))
+refused_row words b n (inr (inr (inl (settings, asks, inr (inr p))))) = absurd (let least = (known_of settings p.stop b p.at p.stands).0 in let e = p.answered in omega (arith, least, e))
+refused_row words b n (inr (inr (inr (seed, count, asks, p)))) = absurd (no_load seed count b n p)
+
+-- a load that wanted memory
+wanted : (seed count : ℕ) (b n : Moment) → LoadStopped seed count 8 b n → SaysOnly memory_line b n
+wanted seed count b n p =
+    elim p.leaves [
+      | inl summed ↦ absurd (let e = summed.0 in omega (arith, e))
+      | inr (inl part) ↦ absurd (let e = part.0 in omega (arith, e))
+      | inr (inr wanting) ↦ record { source_stays = p.source_stays; capture_stays = p.capture_stays; told = wanting.1 }
+    ]
 
 -- memory was wanting
 pub wanting_row : (words : List (List ℕ)) (b n : Moment) → Stopped words 8 b n → SaysOnly memory_line b n
 wanting_row words b n (inl refused) = absurd (let e = refused.1 in omega (arith, e))
 wanting_row words b n (inr (inl wanting)) = wanting.1
-wanting_row words b n (inr (inr (settings, asks, inl finished))) = absurd (let e = finished.0 in omega (arith, e))
-wanting_row words b n (inr (inr (settings, asks, inr (inl wanting)))) = wanting.1
-wanting_row words b n (inr (inr (settings, asks, inr (inr p)))) = absurd (let most = (known_of settings p.stop b p.at p.stands).1 in let e = p.answered in omega (arith, most, e))
+wanting_row words b n (inr (inr (inl (settings, asks, inl finished)))) = absurd (let e = finished.0 in omega (arith, e))
+wanting_row words b n (inr (inr (inl (settings, asks, inr (inl wanting))))) = wanting.1
+wanting_row words b n (inr (inr (inl (settings, asks, inr (inr p))))) = absurd (let most = (known_of settings p.stop b p.at p.stands).1 in let e = p.answered in omega (arith, most, e))
+wanting_row words b n (inr (inr (inr (seed, count, asks, p)))) = wanted seed count b n p

@@ -2,6 +2,9 @@ pub mod Frames
 pub mod Moments
 pub mod Outputs
 pub mod Stops
+pub mod Summary
+pub mod Counting
+pub mod Loads
 pub mod Run
 pub mod Stopped
 pub mod Rows

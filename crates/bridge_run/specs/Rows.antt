@@ -27,6 +27,7 @@ use Rattle.bridge_run.specs.Outputs.{heading}
 use Rattle.bridge_run.specs.Run.{Took, TookAll, TakenWhole, AsksRun}
 use Rattle.bridge_run.specs.Stops.{is_cut, words_line}
 use Rattle.bridge_run.specs.Stopped.{Stopped, SaysOnly}
+use Rattle.bridge_run.specs.Summary.{Summed, SummedInPart, AsksLoad}
 
 -- what the capture is given for a head and the items of a trace
 abbrev pub capture_octets : Head → List Item → List ℕ
@@ -164,6 +165,26 @@ EndsUntold settings before now = ReportEndsInFirst before now ⊎ (ReportEndsInL
 -- The words ask for a run, and this holds under its settings.
 abbrev pub UnderWords : List (List ℕ) → (PlainSettings → Type 0) → Type 0
 UnderWords words Row = (settings : PlainSettings) × AsksRun words settings × Row settings
+
+-- The words ask for a load, and this holds of its seed and its number of records.
+abbrev pub UnderLoad : List (List ℕ) → (ℕ → ℕ → Type 0) → Type 0
+UnderLoad words Row = (seed : ℕ) × (count : ℕ) × AsksLoad words seed count × Row seed count
+
+-- Neither the source nor the capture was touched.
+pub record TouchesReport (before now : Moment) : Type 0 where
+  pub source_stays : now.source ≡ before.source
+  pub capture_stays : now.sinks.capture ≡ before.sinks.capture
+
+-- Status 0 of a load: the report was given its summary, nothing failed, and nothing else was touched.
+pub record EndsSummed (seed count : ℕ) (before now : Moment) : Type 0 where
+  pub touches : TouchesReport before now
+  pub summed : Summed seed count before.sinks.report.octets now.sinks.report.octets
+  pub none_rose : now.sinks.report.faults ≡ before.sinks.report.faults
+
+-- Status 7 of a load: the report was given a prefix of its summary, and nothing else was touched.
+pub record EndsSummedInPart (seed count : ℕ) (before now : Moment) : Type 0 where
+  pub touches : TouchesReport before now
+  pub summed : SummedInPart seed count before.sinks.report.octets now.sinks.report.octets
 
 -- Status 2: the report was given the line that refuses the words, and nothing else happened.
 pub record EndsRefused (words : List (List ℕ)) (before now : Moment) : Type 0 where

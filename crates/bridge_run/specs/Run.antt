@@ -1,5 +1,5 @@
 -- What stands in the course of a run, and at its end. Where an object does not tell its octets nothing is claimed of them.
-use Rattle.std.specs.Prelude.{◌≡◌, ℕ, ◌*◌, ◌≤◌, List, [], ◌++◌, length, drop, Option, Some, None, Ok, Err}
+use Rattle.std.specs.Prelude.{◌≡◌, ℕ, ◌*◌, ◌≤◌, ◌⊎◌, List, [], ◌++◌, length, drop, Option, Some, None, Ok, Err}
 use Rattle.std.specs.Io.KnownBytes.{Appends}
 use Rattle.pcap_file.specs.declared.head.Head.{Head}
 use Rattle.pcap_file.specs.declared.order.Order.{Order}
@@ -22,6 +22,7 @@ use Rattle.bridge_run.specs.Frames.{frames_octets, frame_count}
 use Rattle.bridge_run.specs.Moments.{Moment, Sinks, NoneRose, NoSinkRose}
 use Rattle.bridge_run.specs.Outputs.{Given, outputs_of, item_outputs, end_outputs}
 use Rattle.bridge_run.specs.Stops.{Told, words_line}
+use Rattle.bridge_run.specs.Summary.{Summed, AsksLoad}
 
 -- Where the source tells its octets, those that it had left are a capture with this head, read to its end as the trace's records.
 abbrev pub TookAll : Option (List ℕ) → Head → List Item → Type 0
@@ -53,13 +54,29 @@ pub record Normalized (settings : PlainSettings) (source source' capture capture
   pub within : IsAlwaysWithin settings head.link trace
   pub agree : Agree settings.hops head.link trace
 
--- A finished run: the words ask for a run, and under their settings the capture was normalized.
-pub record Finished (words : List (List ℕ)) (source source' capture capture' report report' : Option (List ℕ)) : Type 0 where
+-- A finished run over a capture: the words ask for a run, and under their settings the capture was normalized.
+pub record FinishedRun (words : List (List ℕ)) (source source' capture capture' report report' : Option (List ℕ)) : Type 0 where
   pub settings : PlainSettings
   pub accepted : AsksRun words settings
   pub normalized : Normalized settings source source' capture capture' report report'
 
--- The words are accepted.
+-- A finished load: the words ask for a load, and the report was given its summary.
+pub record FinishedLoad (words : List (List ℕ)) (report report' : Option (List ℕ)) : Type 0 where
+  pub seed : ℕ
+  pub count : ℕ
+  pub accepted : AsksLoad words seed count
+  pub summed : Summed seed count report report'
+
+-- A finished run: over a capture, or over a load, as the words ask.
+abbrev pub Finished : (words : List (List ℕ)) → (source source' capture capture' report report' : Option (List ℕ)) → Type 0
+Finished words source source' capture capture' report report' =
+    FinishedRun words source source' capture capture' report report' ⊎ FinishedLoad words report report'
+
+-- The words ask for a load.
+abbrev pub IsLoad : List (List ℕ) → Type 0
+IsLoad words = (seed : ℕ) × (count : ℕ) × AsksLoad words seed count
+
+-- The words ask for a run.
 abbrev pub IsAccepted : List (List ℕ) → Type 0
 IsAccepted words = (settings : PlainSettings) × AsksRun words settings
 

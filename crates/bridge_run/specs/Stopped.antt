@@ -23,6 +23,7 @@ use Rattle.bridge_run.specs.Moments.{Moment, NoneRose}
 use Rattle.bridge_run.specs.Outputs.{BreaksOff, Given, first_outputs, head_outputs, item_outputs, outputs_of, end_outputs}
 use Rattle.bridge_run.specs.Run.{Took, TookAll, TakenWhole, Normalized, AsksRun}
 use Rattle.bridge_run.specs.Stops.{FirstFault, Kept, Told, status_of, stop_line, words_line, memory_line}
+use Rattle.bridge_run.specs.Summary.{LoadLeaves, AsksLoad}
 
 -- The head could not be read: this is what was found there, and what was taken of it. The first line of the report stands alone.
 pub record StopsAtHead (InHead : (old new : Option (List ℕ)) → Type 0) (offset : ℕ) (before now : Moment) : Type 0 where
@@ -129,8 +130,16 @@ abbrev pub StoppedUnder : PlainSettings → (status : ℕ) → (before now : Mom
 StoppedUnder settings status before now =
     ((status ≡ 0) × Finishes settings before now) ⊎ (((status ≡ 8) × SaysOnly memory_line before now) ⊎ StoppedShort settings status before now)
 
--- the same of words: 2 where they are refused, 8 where they found no memory, and otherwise by the settings that they ask for
+-- A load touches neither the source nor the capture; what it leaves in the report goes by its status.
+pub record LoadStopped (seed count status : ℕ) (before now : Moment) : Type 0 where
+  pub source_stays : now.source ≡ before.source
+  pub capture_stays : now.sinks.capture ≡ before.sinks.capture
+  pub leaves : LoadLeaves seed count status before.sinks.report now.sinks.report
+
+-- the same of words: 2 where they are refused, 8 where they found no memory, and otherwise by the settings or the load that they ask for
 abbrev pub Stopped : (words : List (List ℕ)) → (status : ℕ) → (before now : Moment) → Type 0
 Stopped words status before now =
     ((fault : WordFault) × (status ≡ 2) × (asked words ≡ Err fault) × SaysOnly (words_line (number_of fault)) before now)
-    ⊎ (((status ≡ 8) × SaysOnly memory_line before now) ⊎ ((settings : PlainSettings) × AsksRun words settings × StoppedUnder settings status before now))
+    ⊎ (((status ≡ 8) × SaysOnly memory_line before now)
+    ⊎ (((settings : PlainSettings) × AsksRun words settings × StoppedUnder settings status before now)
+    ⊎ ((seed : ℕ) × (count : ℕ) × AsksLoad words seed count × LoadStopped seed count status before now)))

@@ -1,11 +1,13 @@
 //! What each status says, row by row: laws over what stands when a run has stopped.
-ghost use Rattle.bridge_run.specs.Rows.{Leaves, UnderWords, EndsRefused, EndsFaulty, EndsCut, EndsUnread, EndsUnwritten, EndsUntold};
+ghost use Rattle.std.specs.Prelude.{◌⊎◌};
+ghost use Rattle.bridge_run.specs.Rows.{Leaves, UnderWords, UnderLoad, EndsSummed, EndsSummedInPart, EndsRefused, EndsFaulty, EndsCut, EndsUnread, EndsUnwritten, EndsUntold};
 ghost use Rattle.bridge_run.specs.Stopped.{Finishes, SaysOnly};
 ghost use Rattle.bridge_run.specs.Stops.{memory_line};
 
-/// At 0 the capture was normalized, and no count of faults rose.
+/// At 0 the capture was normalized, or the report was given the summary of a load, and no count of faults rose.
 pub fn finished_runs_leave_all()
-    ensures { Leaves 0 (λ words before now. UnderWords words (λ settings. Finishes settings before now)) }
+    ensures { Leaves 0 (λ words before now.
+        UnderWords words (λ settings. Finishes settings before now) ⊎ UnderLoad words (λ seed count. EndsSummed seed count before now)) }
 {}
 
 /// At 2 the report was given the line that refuses the words, and nothing else happened.
@@ -36,9 +38,10 @@ pub fn failed_outputs_leave_a_prefix()
 {}
 
 /// At 7 the report holds all lines but the last, and a prefix of that one; the capture has the head and the frames of all records that were taken, or nothing
-/// where the first line failed.
+/// where the first line failed. Of a load it holds a prefix of the summary.
 pub fn failed_reports_leave_a_prefix()
-    ensures { Leaves 7 (λ words before now. UnderWords words (λ settings. EndsUntold settings before now)) }
+    ensures { Leaves 7 (λ words before now.
+        UnderWords words (λ settings. EndsUntold settings before now) ⊎ UnderLoad words (λ seed count. EndsSummedInPart seed count before now)) }
 {}
 
 /// At 8 the report was given `stop memory 0`, and nothing else happened.

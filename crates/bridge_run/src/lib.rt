@@ -2,9 +2,12 @@
 #![tactic(auto)]
 
 pub mod laws;
+mod load;
 mod runner;
 mod stop;
+mod tally;
 
+pub use load::run_load;
 pub use runner::{run, run_capture};
 
 #[cfg(test)]

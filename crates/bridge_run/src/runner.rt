@@ -7,7 +7,6 @@ ghost use Rattle.pcap_file.specs.Reads.{shown};
 ghost use Rattle.rule_book.specs.Entries.{plain, IsOfVersion};
 ghost use Rattle.rule_book.specs.Text.{entry_text, last_text};
 ghost use Rattle.rule_book.specs.declared.last.Last.TheVariants.{End};
-ghost use Rattle.norm_settings.specs.Asked.{asked};
 ghost use Rattle.norm_settings.specs.Settings.{PlainSettings, plain_settings, AreInRange, AreBuilt};
 ghost use Rattle.norm_engine.specs.Items.{Item};
 ghost use Rattle.norm_engine.specs.Trace.{item_of};
@@ -21,6 +20,7 @@ ghost use Rattle.bridge_run.specs.Stopped as stopped;
 ghost use Rattle.bridge_run.specs.Stops as stops;
 ghost use Rattle.bridge_run.specs.Run as spec;
 
+use crate::load::run_load;
 use crate::stop::{
     Stop, stop_at_capture, stop_at_head, stop_at_record, tell_memory, tell_stop, tell_words,
 };
@@ -33,9 +33,10 @@ use pcap_file::{Head, MAX_CAPTURED, Reader, Record, read_head, write_head, write
 use rule_book::{Entry, Last, entry_line, last_line};
 use std::alloc::Global;
 
-/// Normalizes a capture as the words say, writes the report, and answers the status:
+/// Normalizes a capture as the words say, or puts a load through that they ask for, writes the report, and answers the
+/// status:
 ///
-/// - 0 where the source was read to its end;
+/// - 0 where the source was read to its end, or the load was put through;
 /// - 2 where the words are refused;
 /// - 3 for a flaw of the head, a captured length above 262,144 octets, or a record after 2^32 - 1 others;
 /// - 4 for a capture that ends inside its head or a record;
@@ -43,7 +44,7 @@ use std::alloc::Global;
 /// - 8 for want of memory at opening.
 ///
 /// The words do not hold the program's own name. Nothing is read before they are accepted, a fault stops the run, and
-/// what was written before it stays.
+/// what was written before it stays. A load touches neither the source nor the capture; its statuses are 0, 7 and 8.
 pub fn run<S: Source, K: Sink, R: Sink>(
     alloc: Global,
     words: &[String],
@@ -77,6 +78,11 @@ pub fn run<S: Source, K: Sink, R: Sink>(
     ensures source_untouched { (result ≡ 2) ⊎ (result ≡ 8) → source.new ≡ source.old }
     ensures capture_untouched { (result ≡ 2) ⊎ (result ≡ 8) → capture.new ≡ capture.old }
 
+    // A load leaves the source and the capture as they were, and ends but for a fault of the report and want of memory.
+    ensures load_source { spec.IsLoad (map string_bytes words.now) → source.new ≡ source.old }
+    ensures load_capture { spec.IsLoad (map string_bytes words.now) → capture.new ≡ capture.old }
+    ensures load_complete { spec.IsLoad (map string_bytes words.now) → (result ≡ 0) ⊎ (7 ≤ result) }
+
     // Statuses 3 and 4 say what stands in the source, 5 to 7 that a count of faults rose.
     ensures faulty { result ≡ 3 → stops.WasFaulty (S.left source.old) }
     ensures cut { result ≡ 4 → stops.WasCut (S.left source.old) }
@@ -97,34 +103,19 @@ pub fn run<S: Source, K: Sink, R: Sink>(
     ensures capture_later { K.fault_count capture.old ≤ K.fault_count capture.new }
     ensures report_later { R.fault_count report.old ≤ R.fault_count report.new }
 {
-    let settings = match settings_of(alloc, words) {
-        Ok(settings) => settings,
+    match read_words(alloc, words) {
+        Ok(Command::Run { names: _, settings }) => {
+            run_capture(alloc, &settings, source, capture, report)
+        }
+        Ok(Command::Load { seed, count }) => run_load(alloc, seed, count, report),
         Err(WordFault::NoMemory) => {
             tell_memory(report);
-            return 8;
+            8
         }
         Err(fault) => {
             tell_words(&fault, report);
-            return 2;
+            2
         }
-    };
-    run_capture(alloc, &settings, source, capture, report)
-}
-
-// The settings that the words ask for.
-fn settings_of(alloc: Global, words: &[String]) -> Result<Settings, WordFault>
-    ensures asked { IfOk result (λ settings. spec.AsksRun (map string_bytes words.now) (plain_settings settings)) }
-    ensures range { IfOk result (λ settings. AreInRange (plain_settings settings)) }
-    ensures built { IfOk result (λ settings. AreBuilt (plain_settings settings)) }
-    ensures refused { IfErr result (λ fault.
-        (fault ≡ WordFault.NoMemory) ⊎ (asked (map string_bytes words.now) ≡ Err fault)) }
-{
-    match read_words(alloc, words)? {
-        Command::Run {
-            names: _names,
-            settings,
-        } => Ok(settings),
-        Command::Load { .. } => unreachable!(),
     }
 }
 

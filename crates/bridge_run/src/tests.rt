@@ -10,6 +10,7 @@ mod connections;
 mod evasions;
 mod forms;
 mod fragments;
+mod loads;
 mod packets;
 mod stopped;
 
@@ -177,7 +178,7 @@ const REFUSED: [(&[&str], &str); 9] = [
     (&["run", "--both", "a", "b", "10.0.0.0/8"], "stop words 1\n"),
     (&["run", "--inside", "eth0", "a", "b", "10.0.0.0/8"], "stop words 1\n"),
     (&["run", "--mtu", "1500", "a", "b", "10.0.0.0/8"], "stop words 1\n"),
-    (&["load", "1", "1"], "stop words 1\n"),
+    (&["load", "1", "0"], "stop words 1\n"),
 ];
 
 #[test]

@@ -1,6 +1,5 @@
-use Rattle.std.proofs.Common.{arith}
-use Rattle.bridge_run.proofs.Rows.{stopped_row}
+use Rattle.bridge_run.proofs.Rows.{failed_row}
 use Rattle.bridge_run.proofs.laws.failed_reports_leave_a_prefix.Goals as goal
 
 pub returns : goal.returns
-returns c = stopped_row 7 (λ e. omega (arith, e)) (λ e. omega (arith, e)) (λ e. omega (arith, e))
+returns c = failed_row

@@ -1,0 +1,55 @@
+-- What stands in the course of a load.
+use Rattle.std.specs.Prelude.{◌≡◌, ℕ, ◌*◌, ◌≤◌, List, [], ◌∷◌, ◌++◌, length, map, take, reverse, Option}
+use Rattle.wire_base.specs.declared.address.Link.TheVariants.{Raw}
+use Rattle.rule_book.specs.declared.load.LoadLine.{LoadLine}
+use Rattle.rule_book.specs.declared.load.LoadLine.TheVariants as lines
+use Rattle.norm_engine.specs.Items.{Item, packets}
+use Rattle.norm_engine.specs.Trace.{Lawful}
+use Rattle.norm_engine.specs.Engine.{Engaged, StandsFor}
+use Rattle.load_make.specs.Generated.{Generated}
+use Rattle.load_make.specs.Loads.{Making}
+use Rattle.bridge_run.specs.declared.tally.Tally.{Tally}
+use Rattle.bridge_run.specs.Frames.{frame_count}
+use Rattle.bridge_run.specs.Moments.{Seen}
+use Rattle.bridge_run.specs.Summary.{load_settings, eras_begun, rules_named, rule_counts, rule_line, summary_lines, IsTraceOf}
+
+abbrev pub seen_of : Option (List ℕ) → (faults : ℕ) → Seen
+seen_of octets faults = record { octets = octets; faults = faults }
+
+-- The tally counts what came of a trace: an item has two frames at the most, and names at most 16 rules.
+pub record Counts (tally : Tally) (trace : List Item) : Type 0 where
+  pub packets : tally.packets ≡ frame_count trace
+  pub eras : tally.eras ≡ eras_begun trace
+  pub rules : tally.rules.items ≡ rule_counts (rules_named trace)
+  pub few_packets : frame_count trace ≤ 2 * length trace
+  pub few_eras : eras_begun trace ≤ length trace
+  pub few_rules : length (rules_named trace) ≤ 16 * length trace
+
+-- So far: a lawful trace of the records that were made, for which the engine stands, and which the tally counts.
+pub record Going (seed count : ℕ) (load : Making) (engine : Engaged) (tally : Tally) : Type 0 where
+  pub trace : List Item
+  pub lawful : Lawful load_settings Raw trace
+  pub made : load ≡ record { seed = seed; count = count; made = length trace }
+  pub records : packets trace ≡ reverse (take (length trace) (Generated seed count))
+  pub settings : engine.settings ≡ load_settings
+  pub link : engine.link ≡ Raw
+  pub stands : StandsFor engine trace
+  pub counts : Counts tally trace
+
+-- All records were made and judged, and the tally counts what came of them.
+pub record IsTallied (seed count records : ℕ) (tally : Tally) : Type 0 where
+  pub trace : List Item
+  pub of_load : IsTraceOf seed count trace
+  pub records_are : records ≡ length trace
+  pub counts : Counts tally trace
+
+-- the lines that say what the tally counts
+abbrev pub lines_of : (seed count records : ℕ) → Tally → List LoadLine
+lines_of seed count records tally =
+    lines.Load seed count ∷ lines.Records records ∷ lines.Packets tally.packets ∷ lines.Eras tally.eras ∷ (map rule_line tally.rules.items ++ lines.End ∷ [])
+
+-- The lines are the summary of the load's trace.
+pub record SumsUp (seed count : ℕ) (lines : List LoadLine) : Type 0 where
+  pub trace : List Item
+  pub of_load : IsTraceOf seed count trace
+  pub are : lines ≡ summary_lines seed count trace
