@@ -7,3 +7,4 @@ pub mod Telling
 pub mod Broken
 pub mod Rows
 pub mod Tallying
+pub mod Loading

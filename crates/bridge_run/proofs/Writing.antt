@@ -4,6 +4,7 @@ use Rattle.std.proofs.Math.Seq.{take-suc}
 use Rattle.std.proofs.lemmas.Grind.{flat_map-append}
 use Rattle.std.proofs.lemmas.Option.{slice_get_within, get_or_from_slice_get}
 use Rattle.std.proofs.lemmas.List.{length-append}
+use Rattle.std.specs.List.{flat_map}
 use Rattle.std.specs.Result.{is_err}
 use Rattle.std.specs.Io.KnownBytes.{Appends}
 use Rattle.edge_io.specs.Octets.{AppendsPart}
@@ -16,29 +17,36 @@ use Rattle.pcap_file.specs.Heads.{head_octets}
 use Rattle.pcap_file.specs.Records.{Packet, record_head, record_octets}
 use Rattle.bridge_run.specs.Frames.{frame_octets}
 
+-- one piece more
+piece_more : {X : Type 0} (octets : X → List ℕ) (xs : List X) (i : ℕ) (x : X) → slice_get xs i ≡ Some x
+    → flat_map octets (take (i + 1) xs) ≡ flat_map octets (take i xs) ++ octets x
+piece_more octets xs i x here =
+    ap (λ n. flat_map octets (take n xs)) (add-one i)
+    ∙ ap (flat_map octets) (take-suc xs i x (slice_get_within xs i x here) ∙ ap (λ f. take i xs ++ f ∷ []) (get_or_from_slice_get xs i x x here))
+    ∙ flat_map-append octets (take i xs) (x ∷ [])
+    ∙ ap (λ l. flat_map octets (take i xs) ++ l) (append-nil (octets x))
+
+-- the pieces before one, and a prefix of it
+pub part_of_pieces : {X : Type 0} (octets : X → List ℕ) (xs : List X) (i : ℕ) (x : X) (a b c : Option (List ℕ)) → slice_get xs i ≡ Some x
+    → Appends a b (flat_map octets (take i xs)) → AppendsPart b c (octets x) → AppendsPart a c (flat_map octets xs)
+part_of_pieces octets xs i x a b c here before part =
+    let rest = flat_map octets (drop (i + 1) xs) in
+    let whole : flat_map octets xs ≡ (flat_map octets (take i xs) ++ octets x) ++ rest =
+    ap (flat_map octets) (sym (take-append-drop (i + 1) xs))
+    ∙ flat_map-append octets (take (i + 1) xs) (drop (i + 1) xs)
+    ∙ ap (λ l. l ++ rest) (piece_more octets xs i x here) in
+    subst (AppendsPart a c) (sym whole)
+    (part_of_first a c (flat_map octets (take i xs) ++ octets x) rest (part_behind a b c (flat_map octets (take i xs)) (octets x) before part))
+
 -- the records of one frame more
 pub one_more : (order : Order) (r : Packet) (frames : List (List ℕ)) (i : ℕ) (frame : List ℕ) → slice_get frames i ≡ Some frame
     → frame_octets order r (take (i + 1) frames) ≡ frame_octets order r (take i frames) ++ record_octets order r.seconds r.fraction frame
-one_more order r frames i frame here =
-    let octets = λ (frame : List ℕ). record_octets order r.seconds r.fraction frame in
-    ap (λ n. frame_octets order r (take n frames)) (add-one i)
-    ∙ ap (frame_octets order r) (take-suc frames i [] (slice_get_within frames i frame here) ∙ ap (λ f. take i frames ++ f ∷ []) (get_or_from_slice_get frames i frame [] here))
-    ∙ flat_map-append octets (take i frames) (frame ∷ [])
-    ∙ ap (λ xs. frame_octets order r (take i frames) ++ xs) (append-nil (octets frame))
+one_more order r frames i frame here = piece_more (λ frame. record_octets order r.seconds r.fraction frame) frames i frame here
 
 -- the frames before one, and a prefix of its record
 pub part_of_frames : (order : Order) (r : Packet) (frames : List (List ℕ)) (i : ℕ) (frame : List ℕ) (a b c : Option (List ℕ)) → slice_get frames i ≡ Some frame
     → Appends a b (frame_octets order r (take i frames)) → AppendsPart b c (record_octets order r.seconds r.fraction frame) → AppendsPart a c (frame_octets order r frames)
-part_of_frames order r frames i frame a b c here before part =
-    let octets = λ (frame : List ℕ). record_octets order r.seconds r.fraction frame in
-    let rest = frame_octets order r (drop (i + 1) frames) in
-    let whole : frame_octets order r frames ≡ (frame_octets order r (take i frames) ++ record_octets order r.seconds r.fraction frame) ++ rest =
-    ap (frame_octets order r) (sym (take-append-drop (i + 1) frames))
-    ∙ flat_map-append octets (take (i + 1) frames) (drop (i + 1) frames)
-    ∙ ap (λ l. l ++ rest) (one_more order r frames i frame here) in
-    subst (AppendsPart a c) (sym whole)
-    (part_of_first a c (frame_octets order r (take i frames) ++ record_octets order r.seconds r.fraction frame) rest
-    (part_behind a b c (frame_octets order r (take i frames)) (record_octets order r.seconds r.fraction frame) before part))
+part_of_frames order r frames i frame a b c here before part = part_of_pieces (λ frame. record_octets order r.seconds r.fraction frame) frames i frame a b c here before part
 
 -- some octets are written for a head
 head_size : (order : Order) (nano : Bool) (link : Link) → length (head_octets (record { order = order; nano = nano; link = link })) ≡ 24

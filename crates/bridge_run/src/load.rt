@@ -140,7 +140,9 @@ fn put_lines<R: Sink>(lines: &[LoadLine], report: &mut R) -> Result<(), Failed>
     for line in lines {
         let mut text = [0u8; 64];
         let size = load_line(*line, &mut text);
-        report.put(&text[..size])?;
+        if report.put(&text[..size]).is_err() {
+            return Err(Failed);
+        }
     }
     report.flush()
 }

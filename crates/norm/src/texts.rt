@@ -8,6 +8,7 @@ pub const HELP: &str =
     "norm: an inline traffic normalizer for IPv4, from capture file to capture file
 
 usage: norm run [OPTION..] IN OUT PREFIX..
+       norm load SEED COUNT
        norm --help | -h | --version
 
   IN      the capture to read: classic pcap of Ethernet or raw IP
@@ -15,6 +16,8 @@ usage: norm run [OPTION..] IN OUT PREFIX..
           but neither IN by another name nor the file of another run
   PREFIX  trusted addresses, as 10.0.0.0/8: four numbers, a slash, a length;
           from 1 to 16 prefixes
+  SEED    0 to 18446744073709551615: the number that a load is made from
+  COUNT   1 to 1000000: how many records it has
 
 Options stand before IN, each at most once, as --name=N or --name N, where N is
 1 to 20 decimal digits:
@@ -35,6 +38,12 @@ verdict, the number of frames written and the rules behind the verdict, and a
 last line that says how the run ended. O is the offset of the first octet of the
 head or record at which it stopped.
 
+A load reads and writes no file: its records are made from SEED, and judged with
+the standard options and the prefix 10.0.0.0/8. Its report comes at its end and
+has the lines load SEED COUNT, records R, packets P and eras E, a line rule NAME N
+for each rule that was named, in the order of first use, and the line end. Its
+statuses are 0, 2, 7 and 8.
+
 Status and last line:
 
   0  end R P: IN was read to its end; R records were read, P frames written
@@ -54,9 +63,10 @@ Refused words, in the order in which they are tested, each N with an example:
   3  over 16 prefixes: norm run a b 10.{0..16}.0.0/16
   2  the first faulty prefix stops the reading: norm run a b 10.0.0/8
 
-Example:
+Examples:
 
   norm run --hops 12 --offload in.pcap out.pcap 10.0.0.0/8 192.168.0.0/16
+  norm load 7 200000
 ";
 
 #[cfg(test)]
@@ -165,17 +175,19 @@ mod tests {
         Ok(())
     }
 
-    // The example of a run is accepted.
+    // The examples of a run and of a load are accepted.
     #[test]
-    fn the_example_is_accepted(rt: HostRuntime) -> Result<(), Fail> {
-        let mut is_told = false;
+    fn the_examples_are_accepted(rt: HostRuntime) -> Result<(), Fail> {
+        let mut is_run_told = false;
+        let mut is_load_told = false;
         for line in HELP.lines() {
             if let Some(example) = line.strip_prefix("  norm ") {
                 assert_eq!(rt; fault_of(rt.alloc(), example)?, None, "{line}");
-                is_told = true;
+                is_run_told = is_run_told || example.starts_with("run ");
+                is_load_told = is_load_told || example.starts_with("load ");
             }
         }
-        assert!(rt; is_told);
+        assert!(rt; is_run_told && is_load_told);
         Ok(())
     }
 }
