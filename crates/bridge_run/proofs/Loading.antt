@@ -1,5 +1,5 @@
 -- How a load goes on from record to record, and what it comes to.
-use Rattle.std.proofs.Common.{◌≡◌, ℕ, ◌+◌, ◌-◌, ◌*◌, ◌<◌, ◌≤◌, ◌^◌, List, [], ◌∷◌, ◌++◌, length, map, take, reverse, Option, Some, None, Result, Ok, Err, refl, sym, ap, ap₂, subst, ◌∙◌, arith, add-one, append_assoc, length-append}
+use Rattle.std.proofs.Common.{◌≡◌, ℕ, ◌+◌, ◌-◌, ◌*◌, ◌<◌, ◌≤◌, ◌^◌, List, [], ◌∷◌, ◌++◌, length, map, take, reverse, Option, Some, None, Result, Ok, Err, refl, sym, ap, ap₂, subst, ◌∙◌, arith, add-one, append_assoc, length-append, inl, inr}
 use Rattle.std.proofs.lemmas.List.{reverse-append, take_all, take_more}
 use Rattle.std.proofs.lemmas.List.FromFn.{length-map-range_with_len}
 use Rattle.std.proofs.lemmas.Option.{slice_get_cases, slice_get_within, get_or_from_slice_get}
@@ -102,6 +102,15 @@ module _ (seed count : ℕ) (load : Making) (engine : Engaged) (tally : Tally) (
   -- the engine has counted the records
   pub counted_few : (p : Packet) → Some p ≡ slice_get (Generated load.seed load.count) load.made → count < 2 ^ 32 → engine.records < 2 ^ 32 - 1
   counted_few p found most = let few = made_few p found in omega (arith, few, going.stands.counted, most)
+
+  -- fewer are left behind another one
+  pub falls : (load' : Making) (p : Packet) → Some p ≡ slice_get (Generated load.seed load.count) load.made → load' ≡ record load { made = load.made + 1 }
+      → count - load'.made < count - load.made
+  falls load' p found next =
+      let few = made_few p found in
+      let one : load'.made ≡ load.made + 1 = ap (λ (l : Making). l.made) next in
+      let here : load.made ≡ length going.trace = ap (λ (l : Making). l.made) going.made in
+      omega (arith, few, one, here)
 
   -- all records were made
   pub tallied : None ≡ slice_get (Generated load.seed load.count) load.made → IsTallied seed count engine.records tally

@@ -103,19 +103,23 @@ pub fn run<S: Source, K: Sink, R: Sink>(
     ensures capture_later { K.fault_count capture.old ≤ K.fault_count capture.new }
     ensures report_later { R.fault_count report.old ≤ R.fault_count report.new }
 {
-    match read_words(alloc, words) {
-        Ok(Command::Run { names: _, settings }) => {
-            run_capture(alloc, &settings, source, capture, report)
-        }
-        Ok(Command::Load { seed, count }) => run_load(alloc, seed, count, report),
+    let command = match read_words(alloc, words) {
+        Ok(command) => command,
         Err(WordFault::NoMemory) => {
             tell_memory(report);
-            8
+            return 8;
         }
         Err(fault) => {
             tell_words(&fault, report);
-            2
+            return 2;
         }
+    };
+    match command {
+        Command::Run {
+            names: _names,
+            settings,
+        } => run_capture(alloc, &settings, source, capture, report),
+        Command::Load { seed, count } => run_load(alloc, seed, count, report),
     }
 }
 

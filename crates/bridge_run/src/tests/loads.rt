@@ -43,7 +43,7 @@ fn made_of(seed: u64, count: u32) -> Made {
         calls: 0,
         changed: 0,
     };
-    for _ in 0..count {
+    for _place in 0..count {
         if let Some(record) = load.next(&mut buf) {
             if record.bytes.get(33) == Some(&2) {
                 made.calls += 1;
