@@ -1,10 +1,9 @@
 -- How a load goes on from record to record, and what it comes to.
-use Rattle.std.proofs.Common.{◌≡◌, ℕ, ◌+◌, ◌-◌, ◌*◌, ◌<◌, ◌≤◌, ◌^◌, List, [], ◌∷◌, ◌++◌, length, map, take, reverse, Option, Some, None, Result, Ok, Err, refl, sym, ap, ap₂, subst, ◌∙◌, arith, add-one, append_assoc, length-append, inl, inr}
+use Rattle.std.proofs.Common.{◌≡◌, ℕ, ◌+◌, ◌-◌, ◌<◌, ◌≤◌, ◌^◌, List, [], ◌∷◌, ◌++◌, length, map, take, reverse, Option, Some, None, refl, sym, ap, ap₂, subst, ◌∙◌, arith, add-one, length-append, inl, inr}
 use Rattle.std.proofs.lemmas.List.{reverse-append, take_all, take_more}
 use Rattle.std.proofs.lemmas.List.FromFn.{length-map-range_with_len}
 use Rattle.std.proofs.lemmas.Option.{slice_get_cases, slice_get_within, get_or_from_slice_get}
-use Rattle.std.specs.List.{flat_map, slice_get}
-use Rattle.std.specs.Option.{is_some}
+use Rattle.std.specs.List.{slice_get}
 use Rattle.wire_base.specs.declared.address.Link.TheVariants.{Raw}
 use Rattle.pcap_file.specs.Records.{Packet}
 use Rattle.rule_book.specs.declared.rule.Rule.{Rule}
@@ -19,7 +18,7 @@ use Rattle.load_make.specs.Generated.{Generated, record_at}
 use Rattle.load_make.specs.Loads.{Making}
 use Rattle.bridge_run.specs.declared.tally.Tally.{Tally}
 use Rattle.bridge_run.specs.Frames.{frame_count}
-use Rattle.bridge_run.specs.Summary.{load_settings, eras_of, eras_begun, rules_named, rule_counts, rule_line, summary_lines, IsTraceOf}
+use Rattle.bridge_run.specs.Summary.{load_settings, eras_of, eras_begun, rules_named, rule_counts, rule_line}
 use Rattle.bridge_run.specs.Loads.{Counts, Going, IsTallied, SumsUp, lines_of}
 
 -- one more of the first records

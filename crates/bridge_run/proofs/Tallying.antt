@@ -1,6 +1,6 @@
 -- One use more of a rule: how it changes the counts, and how many rules there are to count.
-use Rattle.std.proofs.Common.{◌≡◌, ◌==◌, ◌&&◌, ◌||◌, not, ℕ, zero, suc, ◌+◌, ◌<◌, ◌≤◌, nat_lt, Bool, true, false, cond, All, List, [], ◌∷◌, ◌++◌, length, get_or, map, take, drop, set, refl, sym, ap, ap₂, ◌∙◌, subst, arith, add-one, if◌then◌else◌}
-use Rattle.std.specs.List.{AllByRecursion, IsDistinct, count_by, filter, list_any, refill, sum_by}
+use Rattle.std.proofs.Common.{◌≡◌, ◌==◌, ◌||◌, not, ℕ, zero, suc, ◌+◌, ◌<◌, ◌≤◌, nat_lt, Bool, true, false, cond, All, List, [], ◌∷◌, ◌++◌, length, get_or, map, take, drop, set, refl, sym, ap, ap₂, ◌∙◌, arith, add-one, if◌then◌else◌}
+use Rattle.std.specs.List.{AllByRecursion, IsDistinct, count_by, filter, list_any, refill}
 use Rattle.std.proofs.lemmas.Bool.Decides.{nat_tests}
 use Rattle.std.proofs.lemmas.Grind.{common_steps}
 use Rattle.std.proofs.lemmas.List.{append-nil, map-append, length-map, take_more}

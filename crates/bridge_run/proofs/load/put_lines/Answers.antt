@@ -1,4 +1,4 @@
-use Rattle.std.proofs.Common.{sym, subst}
+use Rattle.std.proofs.Common.{subst}
 use Rattle.std.proofs.lemmas.Option.{slice_get-get_or}
 use Rattle.edge_io.specs.Octets.{AppendsPart}
 use Rattle.rule_book.specs.Loads.{load_text}

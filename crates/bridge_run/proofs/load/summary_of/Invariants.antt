@@ -1,4 +1,4 @@
-use Rattle.std.proofs.Common.{◌≡◌, ◌∷◌, ◌++◌, map, take}
+use Rattle.std.proofs.Common.{◌≡◌, ◌∷◌, map, take}
 use Rattle.rule_book.specs.declared.load.LoadLine.TheVariants as lines
 use Rattle.bridge_run.specs.Summary.{rule_line}
 use Rattle.bridge_run.proofs.load.summary_of.Given as goal
