@@ -1,0 +1,49 @@
+-- Frames that are cut.
+use Rattle.std.proofs.Common.{◌≡◌, ℕ, ◌<◌, ◌==◌, ◌&&◌, not, nat_lt, Bool, true, false, List, length, ⊎_elim, refl, ap, ◌∙◌, arith}
+use Rattle.std.proofs.lemmas.Bool.{eqb-true, not-true}
+use Rattle.std.proofs.lemmas.Bool.Decides.{nat_tests}
+use Rattle.wire_base.specs.declared.address.Link.{Link}
+use Rattle.wire_base.specs.Frames.{kind_of}
+use Rattle.wire_base.specs.Ipv4 as ip
+use Rattle.wire_base.specs.Tcp as tcp
+use Rattle.emit_mtu.specs.declared.long.LongKind.TheVariants.{Fits, Cut, Drop}
+use Rattle.emit_mtu.specs.Frames.{IsSent, IsWhole, packet_in}
+use Rattle.emit_mtu.specs.Long.{e_cut, e_mtu, is_ip, is_marked, long_kind, may_be_cut}
+
+-- what is known of the packet of a frame that is cut
+pub record IsCut (mtu : ℕ) (p : List ℕ) : Type 0 where
+  pub long : mtu < ip.total_length p
+  pub protocol : ip.protocol p ≡ 6
+  pub unmarked : is_marked (tcp.flags (ip.payload p)) ≡ false
+  pub some : 0 < length (tcp.payload (ip.payload p))
+
+both : (a b : Bool) → (a && b) ≡ true → (a ≡ true) × (b ≡ true)
+both true b e = (refl, e)
+both false b e = cc
+
+less : (a b : ℕ) → nat_lt a b ≡ true → a < b
+less a b e = grind (arith, nat_tests)
+
+cut : (link : Link) (mtu : ℕ) (frame : List ℕ) (c d : Bool) → e_cut link mtu frame ≡ c → e_mtu link mtu frame ≡ d → long_kind link mtu frame ≡ Cut → c ≡ true
+cut link mtu frame true d e f h = refl
+cut link mtu frame false true e f h = absurd (let g = rw (e, f) at h in cc)
+cut link mtu frame false false e f h = absurd (let g = rw (e, f) at h in cc)
+
+pub is_cut : (link : Link) (mtu : ℕ) (frame : List ℕ) → long_kind link mtu frame ≡ Cut → IsCut mtu (packet_in link frame)
+is_cut link mtu frame h =
+    let p = packet_in link frame in
+    let holds = both _ _ (cut link mtu frame _ _ refl refl h) in
+    let long = both (is_ip (kind_of link frame)) _ holds.0 in
+    let may = both _ _ holds.1 in
+    let tests = both _ _ may.0 in
+    record {
+      long = less _ _ long.1;
+      protocol = eqb-true _ _ tests.0;
+      unmarked = not-true _ tests.1;
+      some = less _ _ may.1;
+    }
+
+-- it carries a whole datagram
+pub is_whole : (link : Link) (mtu : ℕ) (frame : List ℕ) → IsSent link frame → long_kind link mtu frame ≡ Cut → IsWhole (packet_in link frame)
+is_whole link mtu frame sent h =
+    ⊎_elim (λ arp. absurd (let long = (both (is_ip (kind_of link frame)) _ (both _ _ (cut link mtu frame _ _ refl refl h)).0).0 in let none = ap is_ip arp in cc)) (λ carried. carried.1) sent

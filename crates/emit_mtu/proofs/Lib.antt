@@ -1,0 +1,5 @@
+pub mod Twenty
+pub mod Lengths
+pub mod Sent
+pub mod Counts
+pub mod Cuts

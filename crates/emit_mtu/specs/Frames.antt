@@ -1,0 +1,68 @@
+-- The frames that go out, and their parts (RFC 791 section 3.1, RFC 894, RFC 9293 section 3.1).
+use Rattle.std.specs.Prelude.{◌≡◌, ℕ, ◌+◌, ◌^◌, ◌≤◌, ◌<◌, ◌⊎◌, false, List, [], length, take, drop, slice_index, None}
+use Rattle.wire_base.specs.declared.address.Link.{Link}
+use Rattle.wire_base.specs.declared.address.Link.TheVariants.{Ethernet, Raw}
+use Rattle.wire_base.specs.declared.frame.FrameKind.TheVariants.{Ip, Arp}
+use Rattle.wire_base.specs.Frames.{kind_of}
+use Rattle.wire_base.specs.Ipv4 as ip
+use Rattle.wire_base.specs.Tcp as tcp
+use Rattle.ipv4_codec.specs.Header as ip_header
+use Rattle.tcp_codec.specs.declared.header.SumRule.TheVariants.{Skip}
+use Rattle.tcp_codec.specs.Header as tcp_header
+
+-- how many octets stand before the packet: those of an Ethernet header (RFC 894), or none
+abbrev pub link_size : Link → ℕ
+link_size Ethernet = 14
+link_size Raw = 0
+
+-- those octets
+abbrev pub link_octets : Link → (frame : List ℕ) → List ℕ
+link_octets Ethernet frame = take 14 frame
+link_octets Raw frame = []
+
+-- the packet of a frame
+abbrev pub packet_in : Link → (frame : List ℕ) → List ℕ
+packet_in Ethernet frame = drop 14 frame
+packet_in Raw frame = frame
+
+-- a whole datagram with a header of its 20 octets and nothing behind it, in which no fault is found; that its segment sums right is not asked
+pub record IsWhole (packet : List ℕ) : Type 0 where
+  pub header : ip.header_length packet ≡ 20
+  pub whole : ip.is_fragment packet ≡ false
+  pub ends : ip.total_length packet ≡ length packet
+  pub datagram : ip_header.fault_of packet ≡ None
+  pub segment : ip.protocol packet ≡ 6 → tcp_header.fault_of Skip 0 (ip.payload packet) ≡ None
+
+-- a frame that goes out carries ARP, or such a datagram (this project's profile)
+abbrev pub IsSent : Link → (frame : List ℕ) → Type 0
+IsSent link frame = (kind_of link frame ≡ Arp) ⊎ ((kind_of link frame ≡ Ip (link_size link)) × IsWhole (packet_in link frame))
+
+-- a frame that carries TCP: its link octets, its IPv4 header, its TCP header with the options, and its payload
+pub record Parts : Type 0 where
+  pub link : List ℕ
+  pub ip : List ℕ
+  pub tcp : List ℕ
+  pub payload : List ℕ
+
+-- the parts of a frame
+abbrev pub parts_of : Link → (frame : List ℕ) → Parts
+parts_of link frame =
+    let p = packet_in link frame in
+    record {
+      link = link_octets link frame;
+      ip = ip.header p;
+      tcp = take (tcp.header_length (ip.payload p)) (ip.payload p);
+      payload = tcp.payload (ip.payload p);
+    }
+
+-- they have the sizes of such a frame, in octets
+pub record AreSized (parts : Parts) : Type 0 where
+  pub link : length parts.link ≤ 14
+  pub ip : length parts.ip ≡ 20
+  pub tcp : 20 ≤ length parts.tcp
+  pub options : length parts.tcp ≤ 60
+  pub packet : length parts.ip + length parts.tcp + length parts.payload ≤ 65535
+
+-- each of these is a number below 256
+abbrev pub AreOctets : List ℕ → Type 0
+AreOctets octets = (at : ℕ) → slice_index octets at < 2 ^ 8

@@ -1,0 +1,66 @@
+//! A frame cut, segment by segment.
+ghost use Rattle.std.specs.Prelude.{◌≡◌, ◌≤◌, ◌++◌, length, drop, option_map, slice_get, IfSome};
+ghost use Rattle.emit_mtu.specs.declared.long.LongKind.TheVariants as kinds;
+ghost use Rattle.emit_mtu.specs.Frames.{IsSent};
+ghost use Rattle.emit_mtu.specs.Long.{long_kind};
+ghost use Rattle.emit_mtu.specs.Segments.{first_of, segments};
+
+use crate::parts::{HEADER, Parts, parts_of};
+use crate::piece::write_segment;
+use std::marker::Model;
+use wire_base::Link;
+
+/// The segments of a frame that are still to be written, seen as the list of their frames. It takes no memory.
+#[derive(Drop)]
+pub struct Cutter<'a> {
+    parts: Parts<'a>,
+    // The octets of the payload that each segment has, but for the last.
+    room: usize,
+    // How many segments were written.
+    index: u16,
+}
+
+impl<'a> Model for Cutter<'a> {
+    ghost use Rattle.std.specs.Prelude.{ℕ, List};
+    ghost use Rattle.emit_mtu.specs.Segments.{IsCutting, segments_from};
+
+    ghost Value = { List (List ℕ) };
+
+    ghost view = { λ c. segments_from c.index c.room c.parts };
+
+    ghost invariant = { λ c. IsCutting c.index c.room c.parts };
+}
+
+impl<'a> Cutter<'a> {
+    /// All segments of a frame that is to be cut, for packets of at most `mtu` octets.
+    pub fn new(link: Link, mtu: u16, frame: &'a [u8]) -> Cutter<'a>
+        requires sent { IsSent link frame.now }
+        requires cut { long_kind link mtu frame.now ≡ kinds.Cut }
+        requires least { 576 ≤ mtu }
+        ensures { result ≡ segments link mtu frame.now }
+    {
+        let parts = parts_of(link, frame);
+        let room = usize::from(mtu) - HEADER - parts.tcp.len();
+        Cutter {
+            parts,
+            room,
+            index: 0,
+        }
+    }
+
+    /// Writes the next segment's frame at the front of the buffer, and answers its length in octets; None after the last.
+    pub fn next(&mut self, buf: &mut [u8]) -> Option<usize>
+        requires room { 65549 ≤ length buf.old }
+        ensures size { result ≡ option_map length (slice_get self.old 0) }
+        ensures written { buf.new ≡ first_of self.old ++ drop (length (first_of self.old)) buf.old }
+        ensures left { self.new ≡ drop 1 self.old }
+        ensures most { IfSome result (λ size. size ≤ 65549) }
+    {
+        if self.parts.payload_size() <= self.room * usize::from(self.index) {
+            return None;
+        }
+        let size = write_segment(&self.parts, self.room, self.index, buf);
+        self.index += 1;
+        Some(size)
+    }
+}
