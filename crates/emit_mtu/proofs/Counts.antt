@@ -1,10 +1,11 @@
 -- Pieces counted.
 use Rattle.std.proofs.Common.{◌≡◌, ℕ, zero, suc, ◌+◌, ◌-◌, ◌*◌, ◌<◌, ◌≤◌, List, [], ◌∷◌, length, map, refl, sym, ap, ⊎_elim, ◌∙◌, arith}
+use Rattle.std.specs.List.{range_with_len}
 use Rattle.std.proofs.Math.Nat.{mul-le-mul_left}
 use Rattle.std.proofs.lemmas.Bool.{cases_lt}
 use Rattle.std.proofs.lemmas.Grind.{div_ceil_times}
 use Rattle.emit_mtu.specs.Frames.{Parts}
-use Rattle.emit_mtu.specs.Segments.{count_of, numbers_from, segment_of, segments_from}
+use Rattle.emit_mtu.specs.Segments.{count_of, segment_of, segments_from}
 
 below : (size room index n : ℕ) → size ≤ n * room → room * index < size → index < n
 below size room index n bound begins =
@@ -27,11 +28,11 @@ pub none-left : (room index : ℕ) (parts : Parts) → 0 < room → length parts
 none-left room index parts some ended =
     let bound = past room index parts some ended in
     let none : count_of room parts - index ≡ 0 = omega arith in
-    ap (λ n. map (segment_of room parts) (numbers_from index n)) none
+    ap (λ n. map (segment_of room parts) (range_with_len index n)) none
 
 -- else that of the piece is the next
 pub next-left : (room index : ℕ) (parts : Parts) → 0 < room → room * index < length parts.payload → segments_from index room parts ≡ segment_of room parts index ∷ segments_from (index + 1) room parts
 next-left room index parts some begins =
     let bound = within room index parts some begins in
     let more : count_of room parts - index ≡ suc (count_of room parts - (index + 1)) = omega arith in
-    ap (λ n. map (segment_of room parts) (numbers_from index n)) more
+    ap (λ n. map (segment_of room parts) (range_with_len index n)) more

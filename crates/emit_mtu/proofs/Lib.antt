@@ -3,3 +3,9 @@ pub mod Lengths
 pub mod Sent
 pub mod Counts
 pub mod Cuts
+pub mod Headers
+pub mod Own
+pub mod Flags
+pub mod Fields
+pub mod PlainPieces
+pub mod Each

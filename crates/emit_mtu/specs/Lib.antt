@@ -1,3 +1,4 @@
 pub mod Frames
 pub mod Long
 pub mod Segments
+pub mod Laws

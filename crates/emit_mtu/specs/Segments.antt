@@ -1,6 +1,7 @@
 -- The segments that a TCP frame is cut into (this project's profile, over RFC 791 section 3.1 and RFC 9293 section 3.1). `room` is how many octets of the
 -- payload a segment has, and segments are counted from 0.
-use Rattle.std.specs.Prelude.{◌≡◌, ℕ, zero, suc, ◌+◌, ◌-◌, ◌*◌, ◌/◌, ◌%◌, ◌^◌, ◌==◌, ◌&&◌, ◌<◌, ◌≤◌, nat_le, min, not, Bool, List, [], ◌∷◌, ◌++◌, length, map, take, drop, slice_set, if◌then◌else◌}
+use Rattle.std.specs.Prelude.{◌≡◌, ℕ, ◌+◌, ◌-◌, ◌*◌, ◌/◌, ◌%◌, ◌^◌, ◌==◌, ◌&&◌, ◌<◌, ◌≤◌, nat_le, min, not, Bool, List, [], ◌∷◌, ◌++◌, length, map, take, drop, slice_set, if◌then◌else◌}
+use Rattle.std.specs.List.{range_with_len}
 use Rattle.wire_base.specs.declared.address.Link.{Link}
 use Rattle.wire_base.specs.Numbers.{with_u16, with_u32}
 use Rattle.wire_base.specs.Sums.{word_sum, checksum_for, pseudo_sum}
@@ -61,14 +62,9 @@ segment_of room parts index =
     let message = message_of room index parts in
     parts.link ++ (ip_header (length message) index parts ++ message)
 
--- so many numbers, from one on
-abbrev pub numbers_from : (first count : ℕ) → List ℕ
-numbers_from first zero = []
-numbers_from first (suc count) = first ∷ numbers_from (first + 1) count
-
 -- the frames of the pieces from one on, in order
 abbrev pub segments_from : (first : ℕ) → (room : ℕ) → Parts → List (List ℕ)
-segments_from first room parts = map (segment_of room parts) (numbers_from first (count_of room parts - first))
+segments_from first room parts = map (segment_of room parts) (range_with_len first (count_of room parts - first))
 
 -- the frames of all pieces, in order
 abbrev pub segments : Link → (mtu : ℕ) → (frame : List ℕ) → List (List ℕ)

@@ -2,6 +2,7 @@
 #![tactic(auto)]
 
 pub mod cutter;
+pub mod laws;
 pub mod long;
 mod parts;
 mod piece;

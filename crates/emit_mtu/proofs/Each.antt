@@ -1,0 +1,169 @@
+-- What holds of each segment of a frame.
+use Rattle.std.proofs.Common.{◌≡◌, ℕ, ◌+◌, ◌-◌, ◌*◌, ◌%◌, ◌^◌, ◌<◌, ◌≤◌, ◌&&◌, nat_lt, zero, suc, Bool, true, false, List, [], ◌∷◌, ◌++◌, length, map, take, drop, All, min, Some, refl, sym, ap, subst, ◌∙◌, arith, length-drop, ⊎_elim}
+use Rattle.std.specs.List.{flat_map, range_with_len}
+use Rattle.std.specs.Prelude.{slice_get}
+use Rattle.std.proofs.Math.Nat.{mul-le-mul_left}
+use Rattle.std.proofs.lemmas.Bool.{cases_lt}
+use Rattle.std.proofs.lemmas.Bool.Decides.{nat_tests}
+use Rattle.std.proofs.lemmas.Grind.{div_ceil_times}
+use Rattle.std.proofs.lemmas.List.{drop-drop, drop_all, take-append-drop}
+use Rattle.std.proofs.lemmas.List.FromFn.{get_or-map-range_with_len, length-map-range_with_len}
+use Rattle.std.proofs.lemmas.Option.{get_or_from_slice_get, slice_get_within}
+use Rattle.wire_base.specs.declared.address.Link.{Link}
+use Rattle.wire_base.specs.declared.address.Link.TheVariants.{Ethernet, Raw}
+use Rattle.wire_base.specs.Frames.{kind_of}
+use Rattle.wire_base.specs.Ipv4 as ip
+use Rattle.wire_base.specs.Tcp as tcp
+use Rattle.wire_base.specs.Plain.{Plain}
+use Rattle.wire_base.specs.Segments.{fields_of}
+use Rattle.emit_mtu.specs.Frames.{Parts, link_octets, link_size, packet_in, parts_of}
+use Rattle.emit_mtu.specs.Long.{is_ip, is_long}
+use Rattle.emit_mtu.specs.Segments.{count_of, piece_of, room_of, segment_of, segments, segments_from}
+use Rattle.emit_mtu.specs.Laws.{AreFew, ArePlain, AreReadAsPieces, CarryThePayload, IsToBeCut, NoneIsLong, payload_in}
+use Rattle.emit_mtu.specs.Laws as laws
+use Rattle.emit_mtu.proofs.Cuts.{IsCut, is_cut, is_whole}
+use Rattle.emit_mtu.proofs.Fields.{fields_of-packet_of, room_is}
+use Rattle.emit_mtu.proofs.Headers.{behind-own, header-front, identification-front, identification-own}
+use Rattle.emit_mtu.proofs.Lengths.{length-piece_of}
+use Rattle.emit_mtu.proofs.Own.{AreJoined, are_joined, is_own, link_octets-segment_of, packet_in-segment_of, packet_of}
+use Rattle.emit_mtu.proofs.PlainPieces.{plain_packet}
+use Rattle.emit_mtu.proofs.Sent.{is_inside, payload_is}
+
+-- a frame that is cut, with its parts, and the octets of a segment
+pub record Cutting (link : Link) (mtu : ℕ) (frame : List ℕ) : Type 0 where
+  pub joined : AreJoined (packet_in link frame) (parts_of link frame)
+  pub cut : IsCut mtu (packet_in link frame)
+  pub long : link_size link ≤ length frame
+  pub room : 20 + length (parts_of link frame).tcp + room_of mtu (parts_of link frame) ≡ mtu
+  pub some : 0 < room_of mtu (parts_of link frame)
+
+long_enough : (link : Link) (frame : List ℕ) → 20 ≤ length (ip.payload (packet_in link frame)) → ip.payload (packet_in link frame) ≡ drop 20 (packet_in link frame) → link_size link ≤ length frame
+long_enough Ethernet frame long e =
+    let a = ap length e in
+    let b = length-drop 20 (drop 14 frame) in
+    let c = length-drop 14 frame in
+    omega arith
+long_enough Raw frame long e = omega arith
+
+pub cutting : (link : Link) (mtu : ℕ) (frame : List ℕ) → IsToBeCut link mtu frame → Cutting link mtu frame
+cutting link mtu frame h =
+    let p = packet_in link frame in
+    let cut = is_cut link mtu frame h.cut in
+    let whole = is_whole link mtu frame h.sent h.cut in
+    let joined = are_joined link frame whole cut.protocol h.octets in
+    let inside = is_inside p whole cut.protocol in
+    record {
+      joined = joined;
+      cut = cut;
+      long = long_enough link frame inside.whole (payload_is p whole.header whole.ends);
+      room = omega (arith, joined.sized.ip, joined.sized.options, h.least);
+      some = omega (arith, joined.sized.ip, joined.sized.options, h.least);
+    }
+
+-- a property of each piece's frame is one of all segments
+all_segments : (P : List ℕ → Type 0) (room : ℕ) (parts : Parts) → ((index : ℕ) → P (segment_of room parts index)) → All P (segments_from 0 room parts)
+all_segments P room parts each k d inside =
+    let count : k < count_of room parts - 0 = omega (arith, length-map-range_with_len (segment_of room parts) 0 (count_of room parts - 0)) in
+    subst P (sym (get_or-map-range_with_len (segment_of room parts) 0 (count_of room parts - 0) k k d count (omega arith))) (each k)
+
+-- one of the segments is that of its piece
+pub segment_at : (room : ℕ) (parts : Parts) (index : ℕ) (segment : List ℕ) → slice_get (segments_from 0 room parts) index ≡ Some segment → segment ≡ segment_of room parts index
+segment_at room parts index segment stands =
+    let inside = slice_get_within (segments_from 0 room parts) index segment stands in
+    let count : index < count_of room parts - 0 = omega (arith, inside, length-map-range_with_len (segment_of room parts) 0 (count_of room parts - 0)) in
+    sym (get_or_from_slice_get (segments_from 0 room parts) index segment [] stands)
+    ∙ get_or-map-range_with_len (segment_of room parts) 0 (count_of room parts - 0) index index [] count (omega arith)
+
+and_false : (a b : Bool) → b ≡ false → (a && b) ≡ false
+and_false true b e = e
+and_false false b e = refl
+
+at_most : (a b : ℕ) → b ≤ a → nat_lt a b ≡ false
+at_most a b h = grind (arith, nat_tests)
+
+pub none_is_long : NoneIsLong
+none_is_long link mtu frame h =
+    let parts = parts_of link frame in
+    let c = cutting link mtu frame h in
+    let room = room_of mtu parts in
+    all_segments (λ segment. is_long link mtu segment ≡ false) room parts (λ index.
+    let own = is_own room index parts c.joined.sized c.joined.words in
+    let there = ap ip.total_length (packet_in-segment_of link frame room index c.long) in
+    let few : ip.total_length (packet_in link (segment_of room parts index)) ≤ mtu = omega (arith, there, own.total, own.size, length-piece_of room index parts, c.room) in
+    and_false (is_ip (kind_of link (segment_of room parts index))) _ (at_most mtu _ few))
+
+pub are_few : AreFew
+are_few link mtu frame h =
+    let parts = parts_of link frame in
+    let c = cutting link mtu frame h in
+    let room = room_of mtu parts in
+    let n = count_of room parts in
+    let count = length-map-range_with_len (segment_of room parts) 0 (n - 0) in
+    let bound = (div_ceil_times (length parts.payload) room c.some).1 in
+    ⊎_elim (λ many. let more : room * 133 ≤ room * n = mul-le-mul_left room many in absurd (few (length parts.payload) (length parts.tcp) room mtu n bound more c.room h.least c.joined.sized.options (omega (arith, c.joined.sized.packet, c.joined.sized.ip))))
+    (λ less. omega (arith, count, less)) (cases_lt 132 n)
+  where
+    few : (size tcp room mtu n : ℕ) → n * room < size + room → room * 133 ≤ room * n → 20 + tcp + room ≡ mtu → 576 ≤ mtu → tcp ≤ 60 → 20 + tcp + size ≤ 65535 → ⊥
+    few size tcp room mtu n a b c d e f = omega arith
+
+-- the payload of a segment is its piece
+payload_is_piece : (link : Link) (mtu : ℕ) (frame : List ℕ) → Cutting link mtu frame → (index : ℕ) → payload_in link (segment_of (room_of mtu (parts_of link frame)) (parts_of link frame) index) ≡ piece_of (room_of mtu (parts_of link frame)) index (parts_of link frame)
+payload_is_piece link mtu frame c index =
+    let parts = parts_of link frame in
+    let room = room_of mtu parts in
+    let own = is_own room index parts c.joined.sized c.joined.words in
+    ap (λ p. tcp.payload (ip.payload p)) (packet_in-segment_of link frame room index c.long)
+    ∙ ap tcp.payload own.carried.payload
+    ∙ (behind-own room index parts c.joined.sized.tcp c.joined.data_offset).payload
+
+-- pieces one after another, from one on to the end
+pieces : (link : Link) (room : ℕ) (parts : Parts) (n first : ℕ) → ((index : ℕ) → payload_in link (segment_of room parts index) ≡ piece_of room index parts) → length parts.payload ≤ room * (first + n) → flat_map (payload_in link) (map (segment_of room parts) (range_with_len first n)) ≡ drop (room * first) parts.payload
+pieces link room parts zero first each ended =
+    sym (drop_all (room * first) parts.payload (let e : first + 0 ≡ first = omega arith in subst (λ n. length parts.payload ≤ room * n) e ended))
+pieces link room parts (suc n) first each ended =
+    let e : first + suc n ≡ first + 1 + n = omega arith in
+    let rest = pieces link room parts n (first + 1) each (subst (λ n. length parts.payload ≤ room * n) e ended) in
+    let next : room * (first + 1) ≡ room * first + room = omega arith in
+    let behind : drop (room * (first + 1)) parts.payload ≡ drop room (drop (room * first) parts.payload) = ap (λ n. drop n parts.payload) next ∙ sym (drop-drop room (room * first) parts.payload) in
+    (λ i. each first i ++ (rest ∙ behind) i) ∙ take-append-drop room (drop (room * first) parts.payload)
+
+pub carry_the_payload : CarryThePayload
+carry_the_payload link mtu frame h =
+    let parts = parts_of link frame in
+    let c = cutting link mtu frame h in
+    let room = room_of mtu parts in
+    let n = count_of room parts in
+    let all = (div_ceil_times (length parts.payload) room c.some).0 in
+    pieces link room parts (n - 0) 0 (payload_is_piece link mtu frame c) (reaches (length parts.payload) room n all)
+    ∙ ap (λ n. drop n parts.payload) (nothing room)
+  where
+    reaches : (size room n : ℕ) → size ≤ n * room → size ≤ room * (0 + (n - 0))
+    reaches size room n h = let e : 0 + (n - 0) ≡ n = omega arith in rw e (omega arith)
+
+    nothing : (room : ℕ) → room * 0 ≡ 0
+    nothing room = omega arith
+
+pub are_plain : ArePlain
+are_plain link mtu frame hops h plain =
+    let parts = parts_of link frame in
+    let c = cutting link mtu frame h in
+    let room = room_of mtu parts in
+    all_segments (λ segment. Plain hops (packet_in link segment)) room parts (λ index. subst (Plain hops) (sym (packet_in-segment_of link frame room index c.long)) (plain_packet hops (packet_in link frame) room index parts c.joined c.cut.protocol c.cut.unmarked plain))
+
+pub are_read_as_pieces : AreReadAsPieces
+are_read_as_pieces link mtu frame index segment h stands =
+    let p = packet_in link frame in
+    let parts = parts_of link frame in
+    let c = cutting link mtu frame h in
+    let room = room_of mtu parts in
+    let e : segment ≡ segment_of room parts index = segment_at room parts index segment stands in
+    let own = is_own room index parts c.joined.sized c.joined.words in
+    let packet : packet_in link segment ≡ packet_of room parts index = ap (packet_in link) e ∙ packet_in-segment_of link frame room index c.long in
+    let whole = header-front parts.ip (parts.tcp ++ parts.payload) c.joined.sized.ip in
+    let identification : ip.identification parts.ip ≡ ip.identification p = sym (identification-front parts.ip (parts.tcp ++ parts.payload) c.joined.sized.ip) ∙ ap ip.identification (sym c.joined.joined) in
+    record {
+      link_octets = ap (link_octets link) e ∙ link_octets-segment_of link frame room index c.long;
+      identification = ap ip.identification packet ∙ identification-own _ index parts _ c.joined.sized.ip ∙ ap (λ n. (n + index) % 2 ^ 16) identification;
+      protocol = ap ip.protocol packet ∙ own.header.protocol ∙ sym whole.protocol ∙ ap ip.protocol (sym c.joined.joined) ∙ c.cut.protocol;
+      fields = ap fields_of packet ∙ fields_of-packet_of p room index parts c.joined refl ∙ ap (λ r. laws.piece_of r index (fields_of p)) (room_is p mtu parts c.joined);
+    }

@@ -1,0 +1,68 @@
+-- What holds of the segments of a frame (RFC 791 section 3.1, RFC 9293 sections 3.1 and 3.4, and this project's profile).
+use Rattle.std.specs.Prelude.{◌≡◌, ℕ, ◌+◌, ◌-◌, ◌*◌, ◌%◌, ◌^◌, ◌≤◌, ◌<◌, nat_le, false, List, length, take, drop, Some, slice_get, All}
+use Rattle.std.specs.List.{flat_map}
+use Rattle.wire_base.specs.declared.address.Link.{Link}
+use Rattle.wire_base.specs.Ipv4 as ip
+use Rattle.wire_base.specs.Tcp as tcp
+use Rattle.wire_base.specs.Plain.{Plain}
+use Rattle.wire_base.specs.Segments.{Segment, fields_of}
+use Rattle.emit_mtu.specs.declared.long.LongKind.TheVariants.{Cut}
+use Rattle.emit_mtu.specs.Frames.{AreOctets, IsSent, link_octets, packet_in}
+use Rattle.emit_mtu.specs.Long.{is_long, long_kind}
+use Rattle.emit_mtu.specs.Segments.{flags_of, is_first, segments}
+
+-- a frame that is to be cut for an MTU
+pub record IsToBeCut (link : Link) (mtu : ℕ) (frame : List ℕ) : Type 0 where
+  pub sent : IsSent link frame
+  pub octets : AreOctets frame
+  pub cut : long_kind link mtu frame ≡ Cut
+  pub least : 576 ≤ mtu
+  pub most : mtu < 2 ^ 16
+
+-- none of its segments is long
+abbrev pub NoneIsLong : Type 0
+NoneIsLong = (link : Link) (mtu : ℕ) (frame : List ℕ) → IsToBeCut link mtu frame → All (λ segment. is_long link mtu segment ≡ false) (segments link mtu frame)
+
+-- they are at most 132: each has at most 80 octets of headers
+abbrev pub AreFew : Type 0
+AreFew = (link : Link) (mtu : ℕ) (frame : List ℕ) → IsToBeCut link mtu frame → length (segments link mtu frame) ≤ 132
+
+-- the octets behind the TCP header of a frame
+abbrev pub payload_in : Link → (frame : List ℕ) → List ℕ
+payload_in link frame = tcp.payload (ip.payload (packet_in link frame))
+
+-- they carry its payload, in order and once
+abbrev pub CarryThePayload : Type 0
+CarryThePayload = (link : Link) (mtu : ℕ) (frame : List ℕ) → IsToBeCut link mtu frame → flat_map (payload_in link) (segments link mtu frame) ≡ payload_in link frame
+
+-- each is plain for every host for which the frame is
+abbrev pub ArePlain : Type 0
+ArePlain =
+    (link : Link) (mtu : ℕ) (frame : List ℕ) (hops : ℕ) → IsToBeCut link mtu frame → Plain hops (packet_in link frame)
+    → All (λ segment. Plain hops (packet_in link segment)) (segments link mtu frame)
+
+-- what the headers of a segment leave of the MTU
+abbrev pub room_for : (mtu : ℕ) → Segment → ℕ
+room_for mtu s = mtu - (20 + (20 + length s.options))
+
+-- a piece of a segment: its octets, its sequence number and its flags are its own
+abbrev pub piece_of : (room index : ℕ) → Segment → Segment
+piece_of room index s =
+    record s {
+      sequence = (s.sequence + room * index) % 2 ^ 32;
+      flags = flags_of (is_first index) (nat_le (length s.octets) (room * (index + 1))) s.flags;
+      octets = take room (drop (room * index) s.octets);
+    }
+
+-- how one segment of a frame is read
+pub record IsPiece (link : Link) (mtu index : ℕ) (frame segment : List ℕ) : Type 0 where
+  pub link_octets : link_octets link segment ≡ link_octets link frame
+  pub identification : ip.identification (packet_in link segment) ≡ (ip.identification (packet_in link frame) + index) % 2 ^ 16
+  pub protocol : ip.protocol (packet_in link segment) ≡ 6
+  pub fields : let s = fields_of (packet_in link frame) in fields_of (packet_in link segment) ≡ piece_of (room_for mtu s) index s
+
+-- each is read as its piece
+abbrev pub AreReadAsPieces : Type 0
+AreReadAsPieces =
+    (link : Link) (mtu : ℕ) (frame : List ℕ) (index : ℕ) (segment : List ℕ) → IsToBeCut link mtu frame → slice_get (segments link mtu frame) index ≡ Some segment
+    → IsPiece link mtu index frame segment
