@@ -1,5 +1,7 @@
 //! Frames that were cut by hand.
-ghost use Rattle.std.specs.Prelude.{◌≤◌, length, IsTrue};
+ghost use Rattle.std.specs.Prelude.{◌≡◌, ◌≤◌, ◌==◌, ◌&&◌, not, length, drop, IsTrue, IfOk, None};
+ghost use Rattle.tcp_codec.specs.declared.header.SumRule.TheVariants.{Skip};
+ghost use Rattle.tcp_codec.specs.Header.{fault_of};
 ghost use Rattle.emit_mtu.specs.Frames.{IsSent, IsWhole};
 
 use crate::parts::{HEADER, packet_in};
@@ -15,6 +17,9 @@ const ETHERNET: [u8; 14] = [2, 0, 0, 0, 0, 2, 2, 0, 0, 0, 0, 1, 0x08, 0x00];
 
 // Timestamps between no-operations (RFC 7323 section 3.2).
 const TIMESTAMPS: [u8; 12] = [1, 1, 8, 10, 0, 0, 0, 1, 0, 0, 0, 2];
+
+// The room of the longest frame.
+const ROOM: usize = 65_549;
 
 // The payload is octets that count up modulo 251.
 const LONGEST: usize = 1300;
@@ -90,10 +95,7 @@ fn head_of(protocol: u8, ident: u16) -> Ipv4 {
 fn frame_of(row: &Row, buf: &mut [u8; 1400]) -> Result<usize, Fail>
     ensures { IfOk result (λ size. size ≤ 1400) }
 {
-    let at = match row.link {
-        Link::Ethernet => ETHERNET.len(),
-        Link::Raw => 0,
-    };
+    let at = link_size(row.link);
     buf[..at].copy_from_slice(&ETHERNET[..at]);
     let mut parts = SegmentParts {
         src: Addr(0xc633_6407),
@@ -131,14 +133,32 @@ fn is_whole(packet: &[u8]) -> bool
     ensures { IsTrue result → IsWhole packet.now }
 {
     match ipv4_codec::parse(packet) {
-        Ok(head) => {
-            let whole = head.header == HEADER && !head.more && head.offset == 0;
-            let ends = usize::from(head.total) == packet.len();
-            let tcp = head.protocol != 6
-                || tcp_codec::parse(&packet[HEADER..], 0, SumRule::Skip).is_ok();
-            whole && ends && tcp
-        }
+        Ok(head) => is_single(&head, packet.len()) && is_segment(&head, packet),
         Err(_) => false,
+    }
+}
+
+fn is_single(head: &Ipv4, len: usize) -> bool
+    ensures { result ≡ ((head.now.header == 20) && not head.now.more && (head.now.offset == 0) && (head.now.total == len)) }
+{
+    head.header == HEADER && !head.more && head.offset == 0 && usize::from(head.total) == len
+}
+
+fn is_segment(head: &Ipv4, packet: &[u8]) -> bool
+    requires { 20 ≤ length packet.now }
+    ensures { IsTrue result → head.now.protocol ≡ 6 → fault_of Skip 0 (drop 20 packet.now) ≡ None }
+{
+    head.protocol != 6 || tcp_codec::parse(&packet[HEADER..], 0, SumRule::Skip).is_ok()
+}
+
+// The segments of a frame, cut for packets of 576 octets.
+fn cut_of(link: Link, frame: &[u8]) -> Result<Cutter<'_>, Fail> {
+    if !is_sent(link, frame) {
+        return Err("the frame is not one that goes out")?;
+    }
+    match long_kind(link, frame, 576) {
+        LongKind::Cut => Ok(Cutter::new(link, 576, frame)),
+        _ => Err("the frame is not cut")?,
     }
 }
 
@@ -146,24 +166,30 @@ fn is_whole(packet: &[u8]) -> bool
 #[test]
 fn frames_are_cut(rt: HostRuntime) -> Result<(), Fail> {
     let mut frame = [0; 1400];
-    let mut buf = vec![in rt.alloc(); 0xee; 65_549]?;
+    let mut buf = vec![in rt.alloc(); 0xee; ROOM]?;
     for row in ROWS {
         let size = frame_of(row, &mut frame)?;
-        let frame = &frame[..size];
-        let sent = is_sent(row.link, frame);
-        assert!(rt; sent);
-        assert!(rt; long_kind(row.link, frame, 576) == LongKind::Cut);
-        let mut cutter = Cutter::new(row.link, 576, frame);
-        let mut before = 0;
-        for cut in row.segments {
-            let size = cutter.next(&mut buf).ok_or("a segment is missing")?;
-            let segment = &buf[..size];
-            before = follows(row.link, frame, segment, cut, before)?;
-        }
+        let before = check_cut(row, &frame[..size], &mut buf)?;
         assert_eq!(rt; before, row.len);
-        assert_eq!(rt; cutter.next(&mut buf), None);
     }
     Ok(())
+}
+
+// Cuts the frame of a row, and answers how many octets its segments have.
+fn check_cut(row: &Row, frame: &[u8], buf: &mut [u8]) -> Result<usize, Fail> {
+    if buf.len() < ROOM {
+        return Err("the buffer is short")?;
+    }
+    let mut cutter = cut_of(row.link, frame)?;
+    let mut before = 0;
+    for cut in row.segments {
+        let size = cutter.next(buf).ok_or("a segment is missing")?;
+        before = follows(row.link, frame, &buf[..size], cut, before)?;
+    }
+    match cutter.next(buf) {
+        None => Ok(before),
+        Some(_) => Err("a segment too many")?,
+    }
 }
 
 // A segment of the frame, `before` octets of whose payload stand in segments before it; answers how many stand in this one too.
@@ -174,37 +200,61 @@ fn follows(
     cut: &Cut,
     before: usize,
 ) -> Result<usize, Fail> {
-    let (old, new) = (packet_in(link, frame), packet_in(link, segment));
-    if old.len() < 100 || new.len() < 40 {
-        return Err("a packet is short")?;
+    let size = link_size(link);
+    if frame.len() < 100 || segment.len() < size + 40 || segment[..size] != frame[..size] {
+        return Err("the link octets changed")?;
     }
-    let at = HEADER + 4 * usize::from(old[32] / 16);
-    if new.len() <= at || usize::from(cut.total) != new.len() {
-        return Err("a length is wrong")?;
+    let (old, new) = (&frame[size..], &segment[size..]);
+    if (u16_at(new, 2), u16_at(new, 4)) != (cut.total, cut.ident)
+        || usize::from(cut.total) != new.len()
+    {
+        return Err("a field of the IPv4 header is wrong")?;
     }
-    let told = (u16_at(new, 2), u16_at(new, 4), u32_at(new, 24), new[33]);
-    if told != (cut.total, cut.ident, cut.seq, cut.flags) {
-        return Err("a field is wrong")?;
+    if (u32_at(new, 24), new[33]) != (cut.seq, cut.flags) {
+        return Err("a field of the TCP header is wrong")?;
     }
     if !sum_right(&new[..HEADER], 0) || !sum_right(&new[HEADER..], pseudo_of(new)) {
         return Err("a sum is wrong")?;
     }
-    // Between the fields that are a segment's own: total length and identification, the checksum, sequence number, flags, checksum.
-    for (from, to) in [(0, 2), (6, 10), (12, 24), (28, 33), (34, 36), (38, at)] {
+    // Between the fields that are a segment's own.
+    for (from, to) in [(0, 2), (6, 10), (12, 24), (28, 33), (34, 36), (38, 40)] {
         if new[from..to] != old[from..to] {
             return Err("another field changed")?;
         }
     }
-    if frame.len() - old.len() != segment.len() - new.len()
-        || frame[..frame.len() - old.len()] != segment[..segment.len() - new.len()]
+    same_octets(old, new, before)
+}
+
+// The options are the same, and the octets behind them stand in the frame's payload behind `before` others.
+fn same_octets(old: &[u8], new: &[u8], before: usize) -> Result<usize, Fail>
+    requires old { 40 ≤ length old.now }
+    requires new { 40 ≤ length new.now }
+{
+    let header = HEADER + 4 * usize::from(old[32] / 16);
+    if new.len() < header
+        || old.len() < header
+        || new[40.min(header)..header] != old[40.min(header)..header]
     {
-        return Err("the link octets changed")?;
+        return Err("the options changed")?;
     }
-    let octets = new.len() - at;
-    if old.len() < at + before + octets || new[at..] != old[at + before..at + before + octets] {
+    let (octets, payload) = (&new[header..], &old[header..]);
+    if payload.len() < before || payload.len() - before < octets.len() {
+        return Err("an octet too many")?;
+    }
+    let there = &payload[before..];
+    if there[..octets.len()] != octets[..] {
         return Err("an octet changed")?;
     }
-    Ok(before + octets)
+    Ok(before + octets.len())
+}
+
+fn link_size(link: Link) -> usize
+    ensures { result ≤ 14 }
+{
+    match link {
+        Link::Ethernet => ETHERNET.len(),
+        Link::Raw => 0,
+    }
 }
 
 // What is summed before the segment of a packet.
@@ -213,7 +263,8 @@ fn pseudo_of(packet: &[u8]) -> u32
 {
     let source = Addr(u32_at(packet, 12));
     let destination = Addr(u32_at(packet, 16));
-    pseudo_sum(source, destination, 6, (packet.len() - HEADER) as u16)
+    let size = packet.len() - HEADER;
+    pseudo_sum(source, destination, 6, (size % 65536) as u16)
 }
 
 // A datagram of another protocol does not go out; what fits does, and ARP always.
