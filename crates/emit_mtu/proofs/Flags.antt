@@ -4,36 +4,76 @@ use Rattle.std.proofs.lemmas.Bool.Decides.{nat_tests}
 use Rattle.wire_base.specs.Tcp as tcp
 use Rattle.emit_mtu.specs.Long.{is_marked}
 use Rattle.emit_mtu.specs.Segments.{flags_of, lost}
+use Rattle.emit_mtu.specs.Laws.{FlagsAreKept, KeepsFlags}
 
--- what is lost is nothing, or a flag that is set
-lost_is : (weight flags : ℕ) (kept : Bool) → (lost weight flags kept ≡ 0) ⊎ ((lost weight flags kept ≡ weight) × (flags / weight % 2 ≡ 1))
-lost_is weight flags true = grind (arith, nat_tests)
-lost_is weight flags false = grind (arith, nat_tests)
+-- what a piece loses of a flag that it keeps, and of one that it does not
+none_lost : (weight flags : ℕ) → lost weight flags true ≡ 0
+none_lost weight flags = pick (tcp.has_flag weight flags)
+  where
+    pick : (set : Bool) → (if set && false then weight else 0) ≡ 0
+    pick true = refl
+    pick false = refl
 
--- a flag that no piece loses
-record Kept (a b : ℕ) : Type 0 where
-  urg : a / 32 % 2 ≡ b / 32 % 2
-  ack : a / 16 % 2 ≡ b / 16 % 2
-  rst : a / 4 % 2 ≡ b / 4 % 2
-  syn : a / 2 % 2 ≡ b / 2 % 2
+fin_lost : (flags : ℕ) → lost 1 flags false ≡ flags / 1 % 2
+fin_lost flags = grind (arith, nat_tests)
 
-kept : (flags a b c : ℕ) → (a ≡ 0) ⊎ ((a ≡ 1) × (flags / 1 % 2 ≡ 1)) → (b ≡ 0) ⊎ ((b ≡ 8) × (flags / 8 % 2 ≡ 1)) → (c ≡ 0) ⊎ ((c ≡ 128) × (flags / 128 % 2 ≡ 1)) → Kept (flags - (a + b + c)) flags
-kept flags a b c p q r = record { urg = omega arith; ack = omega arith; rst = omega arith; syn = omega arith }
+psh_lost : (flags : ℕ) → lost 8 flags false ≡ 8 * (flags / 8 % 2)
+psh_lost flags = grind (arith, nat_tests)
 
-kept_of : (first last : Bool) (flags : ℕ) → Kept (flags_of first last flags) flags
-kept_of first last flags = kept flags (lost 1 flags last) (lost 8 flags last) (lost 128 flags first) (lost_is 1 flags last) (lost_is 8 flags last) (lost_is 128 flags first)
+cwr_lost : (flags : ℕ) → lost 128 flags false ≡ 128 * (flags / 128 % 2)
+cwr_lost flags = grind (arith, nat_tests)
 
--- SYN, RST, URG and ACK are those of the segment on each piece
-pub record SameMarks (a b : ℕ) : Type 0 where
-  pub urg : tcp.has_urg a ≡ tcp.has_urg b
-  pub ack : tcp.has_ack a ≡ tcp.has_ack b
-  pub rst : tcp.has_rst a ≡ tcp.has_rst b
-  pub syn : tcp.has_syn a ≡ tcp.has_syn b
+-- the bits of a number that may have lost the lowest, the fourth and the eighth of the flags
+record Bits (n flags low fourth eighth : ℕ) : Type 0 where
+  fin : n / 1 % 2 ≡ low
+  syn : n / 2 % 2 ≡ flags / 2 % 2
+  rst : n / 4 % 2 ≡ flags / 4 % 2
+  psh : n / 8 % 2 ≡ fourth
+  ack : n / 16 % 2 ≡ flags / 16 % 2
+  urg : n / 32 % 2 ≡ flags / 32 % 2
+  ece : n / 64 % 2 ≡ flags / 64 % 2
+  cwr : n / 128 % 2 ≡ eighth
 
-pub same_marks : (first last : Bool) (flags : ℕ) → SameMarks (flags_of first last flags) flags
-same_marks first last flags =
-    let k = kept_of first last flags in
-    record { urg = ap (λ n. n == 1) k.urg; ack = ap (λ n. n == 1) k.ack; rst = ap (λ n. n == 1) k.rst; syn = ap (λ n. n == 1) k.syn }
+bits : (first last : Bool) (flags : ℕ) → Bits (flags_of first last flags) flags (if last then flags / 1 % 2 else 0) (if last then flags / 8 % 2 else 0) (if first then flags / 128 % 2 else 0)
+bits true true flags =
+    let a = none_lost 1 flags in
+    let b = none_lost 8 flags in
+    let d = none_lost 128 flags in
+    record { fin = omega arith; syn = omega arith; rst = omega arith; psh = omega arith; ack = omega arith; urg = omega arith; ece = omega arith; cwr = omega arith }
+bits true false flags =
+    let a = fin_lost flags in
+    let b = psh_lost flags in
+    let d = none_lost 128 flags in
+    record { fin = omega arith; syn = omega arith; rst = omega arith; psh = omega arith; ack = omega arith; urg = omega arith; ece = omega arith; cwr = omega arith }
+bits false true flags =
+    let a = none_lost 1 flags in
+    let b = none_lost 8 flags in
+    let d = cwr_lost flags in
+    record { fin = omega arith; syn = omega arith; rst = omega arith; psh = omega arith; ack = omega arith; urg = omega arith; ece = omega arith; cwr = omega arith }
+bits false false flags =
+    let a = fin_lost flags in
+    let b = psh_lost flags in
+    let d = cwr_lost flags in
+    record { fin = omega arith; syn = omega arith; rst = omega arith; psh = omega arith; ack = omega arith; urg = omega arith; ece = omega arith; cwr = omega arith }
+
+-- a bit that is kept where this is so
+kept_where : (kept : Bool) (n bit : ℕ) → n ≡ (if kept then bit else 0) → (n == 1) ≡ (kept && (bit == 1))
+kept_where true n bit e = ap (λ m. m == 1) e
+kept_where false n bit e = ap (λ m. m == 1) e
+
+pub flags_are_kept : FlagsAreKept
+flags_are_kept first last flags =
+    let b = bits first last flags in
+    record {
+      fin = kept_where last _ (flags / 1 % 2) b.fin;
+      psh = kept_where last _ (flags / 8 % 2) b.psh;
+      cwr = kept_where first _ (flags / 128 % 2) b.cwr;
+      syn = ap (λ n. n == 1) b.syn;
+      rst = ap (λ n. n == 1) b.rst;
+      ack = ap (λ n. n == 1) b.ack;
+      urg = ap (λ n. n == 1) b.urg;
+      ece = ap (λ n. n == 1) b.ece;
+    }
 
 -- a segment with none of SYN, RST and URG
 pub record IsUnmarked (flags : ℕ) : Type 0 where
@@ -59,7 +99,7 @@ legal_by_ack false fin false ack e f = refl
 -- so those of its pieces are legal where its own are
 pub legal_pieces : (first last : Bool) (flags : ℕ) → IsUnmarked flags → tcp.are_legal flags ≡ true → tcp.are_legal (flags_of first last flags) ≡ true
 legal_pieces first last flags none legal =
-    let same = same_marks first last flags in
+    let same = flags_are_kept first last flags in
     let mine = flags_of first last flags in
     legal_by_ack (tcp.has_syn mine) (tcp.has_fin mine) (tcp.has_rst mine) (tcp.has_ack mine) (same.syn ∙ none.syn) (same.rst ∙ none.rst)
     ∙ same.ack

@@ -9,3 +9,6 @@ pub mod Flags
 pub mod Fields
 pub mod PlainPieces
 pub mod Each
+pub mod PlainSent
+pub mod PartsOfStreams
+pub mod Streams

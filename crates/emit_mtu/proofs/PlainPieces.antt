@@ -10,7 +10,7 @@ use Rattle.tcp_codec.proofs.Mended.{sum_is_right-mended}
 use Rattle.emit_mtu.specs.Frames.{Parts}
 use Rattle.emit_mtu.specs.Long.{is_marked}
 use Rattle.emit_mtu.specs.Segments as spec
-use Rattle.emit_mtu.proofs.Flags.{is_unmarked, legal_pieces, same_marks}
+use Rattle.emit_mtu.proofs.Flags.{is_unmarked, legal_pieces, flags_are_kept}
 use Rattle.emit_mtu.proofs.Headers.{behind-front, behind-own, flags-own, header-front, numbers-front, segment-front, segment-own, sum-own}
 use Rattle.emit_mtu.proofs.Lengths.{length-message_of, length-tcp_header}
 use Rattle.emit_mtu.proofs.Own.{AreJoined, is_own, packet_of}
@@ -51,7 +51,7 @@ plain_tcp p room index parts joined protocol unmarked plain =
     let size : length (ip.payload (packet_of room parts index)) ≡ length octets = ap length here ∙ omega (arith, count, header, both) in
     let six : ip.protocol (packet_of room parts index) ≡ 6 = own.header.protocol ∙ sym whole.protocol ∙ ap ip.protocol (sym joined.joined) ∙ protocol in
     let words : tcp.header_length (ip.payload (packet_of room parts index)) ≡ length parts.tcp = ap tcp.header_length here ∙ mine.header_length ∙ joined.data_offset in
-    let marks = same_marks (spec.is_first index) (spec.is_last room index parts) (tcp.flags (ip.payload p)) in
+    let marks = flags_are_kept (spec.is_first index) (spec.is_last room index parts) (tcp.flags (ip.payload p)) in
     let none = is_unmarked (tcp.flags (ip.payload p)) unmarked in
     let flags : tcp.flags (ip.payload (packet_of room parts index)) ≡ spec.flags_of (spec.is_first index) (spec.is_last room index parts) (tcp.flags (ip.payload p)) = ap tcp.flags here ∙ flags-own room index parts joined.sized.tcp ∙ ap (spec.flags_of (spec.is_first index) (spec.is_last room index parts)) (sym (numbers-front parts.tcp parts.payload joined.sized.tcp).flags ∙ ap tcp.flags there) in
     let options : tcp.options (ip.payload (packet_of room parts index)) ≡ tcp.options (ip.payload p) = ap tcp.options here ∙ (behind-own room index parts joined.sized.tcp joined.data_offset).options ∙ sym (behind-front parts.tcp parts.payload joined.sized.tcp joined.data_offset).options ∙ ap tcp.options there in

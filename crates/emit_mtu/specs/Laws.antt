@@ -1,5 +1,5 @@
 -- What holds of the segments of a frame (RFC 791 section 3.1, RFC 9293 sections 3.1 and 3.4, and this project's profile).
-use Rattle.std.specs.Prelude.{◌≡◌, ℕ, ◌+◌, ◌-◌, ◌*◌, ◌%◌, ◌^◌, ◌≤◌, ◌<◌, nat_le, false, List, length, take, drop, Some, slice_get, All}
+use Rattle.std.specs.Prelude.{◌≡◌, ℕ, ◌+◌, ◌-◌, ◌*◌, ◌%◌, ◌^◌, ◌≤◌, ◌<◌, ◌&&◌, nat_le, Bool, false, List, length, take, drop, Some, slice_get, All}
 use Rattle.std.specs.List.{flat_map}
 use Rattle.wire_base.specs.declared.address.Link.{Link}
 use Rattle.wire_base.specs.Ipv4 as ip
@@ -18,6 +18,21 @@ pub record IsToBeCut (link : Link) (mtu : ℕ) (frame : List ℕ) : Type 0 where
   pub cut : long_kind link mtu frame ≡ Cut
   pub least : 576 ≤ mtu
   pub most : mtu < 2 ^ 16
+
+-- FIN and PSH are kept on the last piece alone, CWR on the first alone, and the other five flags on each
+pub record KeepsFlags (first last : Bool) (flags : ℕ) : Type 0 where
+  pub fin : tcp.has_fin (flags_of first last flags) ≡ (last && tcp.has_fin flags)
+  pub psh : tcp.has_psh (flags_of first last flags) ≡ (last && tcp.has_psh flags)
+  pub cwr : tcp.has_flag 128 (flags_of first last flags) ≡ (first && tcp.has_flag 128 flags)
+  pub syn : tcp.has_syn (flags_of first last flags) ≡ tcp.has_syn flags
+  pub rst : tcp.has_rst (flags_of first last flags) ≡ tcp.has_rst flags
+  pub ack : tcp.has_ack (flags_of first last flags) ≡ tcp.has_ack flags
+  pub urg : tcp.has_urg (flags_of first last flags) ≡ tcp.has_urg flags
+  pub ece : tcp.has_flag 64 (flags_of first last flags) ≡ tcp.has_flag 64 flags
+
+-- whatever the flags of the frame
+abbrev pub FlagsAreKept : Type 0
+FlagsAreKept = (first last : Bool) (flags : ℕ) → KeepsFlags first last flags
 
 -- none of its segments is long
 abbrev pub NoneIsLong : Type 0

@@ -1,5 +1,6 @@
 //! Laws over the definitions alone.
-ghost use Rattle.emit_mtu.specs.Laws.{AreFew, ArePlain, AreReadAsPieces, CarryThePayload, NoneIsLong};
+ghost use Rattle.emit_mtu.specs.Laws.{AreFew, ArePlain, AreReadAsPieces, CarryThePayload, FlagsAreKept, NoneIsLong};
+ghost use Rattle.emit_mtu.specs.Streams.{CutTellsOneStream, PacketsGoOutAlike, PlainIsSent};
 
 /// No segment of a frame that is cut is long, and there are at most 132.
 pub fn segments_fit()
@@ -20,4 +21,20 @@ pub fn segments_are_plain()
 /// Each segment is read as the piece of the frame's own segment that it stands for.
 pub fn segments_are_read_as_pieces()
     ensures { AreReadAsPieces }
+{}
+
+/// A piece keeps the flags that are its own.
+pub fn pieces_keep_flags()
+    ensures { FlagsAreKept }
+{}
+
+/// A frame with a plain packet is one that goes out, and what goes out in its place is alike on each link.
+pub fn plain_packets_go_out()
+    ensures sent { PlainIsSent }
+    ensures alike { PacketsGoOutAlike }
+{}
+
+/// Packets that tell of one stream still do so after the long ones were cut or left out.
+pub fn cut_packets_tell_one_stream()
+    ensures { CutTellsOneStream }
 {}

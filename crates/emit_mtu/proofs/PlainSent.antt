@@ -1,0 +1,86 @@
+-- Plain packets go out, and a packet goes out alike on each link.
+use Rattle.std.proofs.Common.{◌≡◌, inr, ℕ, ◌+◌, ◌-◌, ◌≤◌, ◌==◌, ◌&&◌, ◌||◌, not, nat_lt, Bool, true, false, List, [], ◌∷◌, length, map, take, drop, Some, None, if◌then◌else◌, refl, sym, ap, subst, ◌∙◌, arith, eq-eqb, length-drop}
+use Rattle.std.specs.List.{range_with_len}
+use Rattle.std.proofs.lemmas.Bool.Decides.{nat_tests}
+use Rattle.std.proofs.lemmas.List.{map-id}
+use Rattle.std.proofs.lemmas.Simd.{map-map}
+use Rattle.wire_base.specs.declared.address.Link.{Link}
+use Rattle.wire_base.specs.declared.address.Link.TheVariants.{Ethernet, Raw}
+use Rattle.wire_base.specs.declared.frame.FrameKind.{FrameKind}
+use Rattle.wire_base.specs.declared.frame.FrameKind.TheVariants.{Ip, Arp, Short, Other}
+use Rattle.wire_base.specs.Frames.{ethertype, kind_of}
+use Rattle.wire_base.specs.Ipv4 as ip
+use Rattle.wire_base.specs.Plain.{IsPlainHeader, Plain}
+use Rattle.ipv4_codec.specs.Header as ip_header
+use Rattle.tcp_codec.specs.declared.header.SumRule.TheVariants.{Skip}
+use Rattle.tcp_codec.proofs.Faults.{fault_of-options}
+use Rattle.emit_mtu.specs.declared.long.LongKind.{LongKind}
+use Rattle.emit_mtu.specs.declared.long.LongKind.TheVariants.{Fits, Cut, Drop}
+use Rattle.emit_mtu.specs.Frames.{IsSent, IsWhole, link_size, packet_in, parts_of}
+use Rattle.emit_mtu.specs.Long.{is_ip, long_kind, may_be_cut}
+use Rattle.emit_mtu.specs.Segments.{count_of, room_of, segment_of, segments}
+use Rattle.emit_mtu.specs.Streams.{PacketsGoOutAlike, PlainIsSent, frames_for, frames_of}
+use Rattle.emit_mtu.proofs.Own.{packet_in-segment_of}
+
+not_one : (a : Bool) (n : ℕ) → a ≡ false → n ≡ 0 → (a || nat_lt 0 n) ≡ false
+not_one a n e f = rw (e, f) refl
+
+no_fault : (p : List ℕ) → IsPlainHeader p → ip_header.fault_of p ≡ None
+no_fault p h =
+    let short : nat_lt (length p) 20 ≡ false = let a = h.whole_header in grind (arith, nat_tests) in
+    let version : not (ip.version p == 4) ≡ false = ap not (eq-eqb _ _ h.version) in
+    let header : (nat_lt (ip.header_length p) 20 || nat_lt (length p) (ip.header_length p)) ≡ false = let a = h.whole_header in let b = h.header_length in grind (arith, nat_tests) in
+    let total : (nat_lt (ip.total_length p) (ip.header_length p) || nat_lt (length p) (ip.total_length p)) ≡ false = let a = h.whole_header in let b = h.header_length in let d = h.total_length in grind (arith, nat_tests) in
+    let sum : not _ ≡ false = ap not h.sum in
+    rw (short, version, header, total, sum) refl
+
+pub whole-plain : (hops : ℕ) (p : List ℕ) → Plain hops p → IsWhole p
+whole-plain hops p plain = record {
+  header = plain.header.header_length;
+  whole = not_one _ _ plain.header.more_fragments plain.header.fragment_offset;
+  ends = plain.header.total_length;
+  datagram = no_fault p plain.header;
+  segment = λ six. let t = plain.message.tcp six in fault_of-options Skip 0 (ip.payload p) true t.whole_header t.data_offset t.inside refl t.flags t.options;
+}
+
+pub plain_is_sent : PlainIsSent
+plain_is_sent link hops frame kind plain = inr (kind, whole-plain hops (packet_in link frame) plain)
+
+not_short : (a b c : Bool) → (if a then Short else if b then Ip 14 else if c then Arp else Other) ≡ Ip 14 → a ≡ false
+not_short true b c e = cc
+not_short false b c e = refl
+
+at_least : (a b : ℕ) → nat_lt a b ≡ false → b ≤ a
+at_least a b h = grind (arith, nat_tests)
+
+-- an Ethernet frame that carries IPv4 has an Ethernet header
+pub long_enough : (link : Link) (frame : List ℕ) → kind_of link frame ≡ Ip (link_size link) → link_size link ≤ length frame
+long_enough Ethernet frame kind = at_least (length frame) 14 (not_short _ (ethertype frame == 2048) (ethertype frame == 2054) kind)
+long_enough Raw frame kind = omega arith
+
+long_kind-packet : (link : Link) (mtu : ℕ) (frame : List ℕ) → kind_of link frame ≡ Ip (link_size link) → long_kind link mtu frame ≡ long_kind Raw mtu (packet_in link frame)
+long_kind-packet Ethernet mtu frame kind =
+    let carries : is_ip (kind_of Ethernet frame) ≡ true = ap is_ip kind in
+    let long = nat_lt mtu (ip.total_length (drop 14 frame)) in
+    let may = may_be_cut (drop 14 frame) in
+    ap (λ b. if (b && long) && may then Cut else if (b && long) && not may then Drop else Fits) carries
+long_kind-packet Raw mtu frame kind = refl
+
+map_alike : (f g : ℕ → List ℕ) (xs : List ℕ) → ((x : ℕ) → f x ≡ g x) → map f xs ≡ map g xs
+map_alike f g [] each = refl
+map_alike f g (x ∷ xs) each = λ i. each x i ∷ map_alike f g xs each i
+
+by_kind : (kind : LongKind) (link : Link) (mtu : ℕ) (frame : List ℕ) → link_size link ≤ length frame → map (packet_in link) (frames_of kind link mtu frame) ≡ frames_of kind Raw mtu (packet_in link frame)
+by_kind Fits link mtu frame long = refl
+by_kind Drop link mtu frame long = refl
+by_kind Cut link mtu frame long =
+    let parts = parts_of link frame in
+    let room = room_of mtu parts in
+    let n = count_of room parts - 0 in
+    map-map (packet_in link) (segment_of room parts) (range_with_len 0 n)
+    ∙ map_alike (λ index. packet_in link (segment_of room parts index)) (segment_of room (parts_of Raw (packet_in link frame))) (range_with_len 0 n) (λ index. packet_in-segment_of link frame room index long)
+
+pub packets_go_out_alike : PacketsGoOutAlike
+packets_go_out_alike link mtu frame kind =
+    by_kind (long_kind link mtu frame) link mtu frame (long_enough link frame kind)
+    ∙ ap (λ k. frames_of k Raw mtu (packet_in link frame)) (long_kind-packet link mtu frame kind)

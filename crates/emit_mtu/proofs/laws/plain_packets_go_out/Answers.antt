@@ -1,0 +1,8 @@
+use Rattle.emit_mtu.proofs.PlainSent.{packets_go_out_alike, plain_is_sent}
+use Rattle.emit_mtu.proofs.laws.plain_packets_go_out.Goals as goal
+
+pub returns-clause-sent : goal.returns-clause-sent
+returns-clause-sent c = plain_is_sent
+
+pub returns-clause-alike : goal.returns-clause-alike
+returns-clause-alike c = packets_go_out_alike

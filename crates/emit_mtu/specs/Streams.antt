@@ -1,0 +1,59 @@
+-- What goes out in place of a frame, and where the octets of a stream stand in it (this project's profile).
+use Rattle.std.specs.Prelude.{◌≡◌, ℕ, ◌*◌, ◌^◌, ◌≤◌, ◌<◌, List, [], ◌∷◌, ◌++◌, map, ℤ, pos, ◌+ℤ◌, All}
+use Rattle.std.specs.List.{flat_map, range_with_len}
+use Rattle.wire_base.specs.declared.address.Link.{Link}
+use Rattle.wire_base.specs.declared.address.Link.TheVariants.{Raw}
+use Rattle.wire_base.specs.declared.frame.FrameKind.TheVariants.{Ip}
+use Rattle.wire_base.specs.Frames.{kind_of}
+use Rattle.wire_base.specs.Plain.{Plain}
+use Rattle.receiver_model.specs.Agreement.{TellOneStream}
+use Rattle.emit_mtu.specs.declared.long.LongKind.{LongKind}
+use Rattle.emit_mtu.specs.declared.long.LongKind.TheVariants.{Fits, Cut, Drop}
+use Rattle.emit_mtu.specs.Frames.{AreOctets, IsSent, link_size, packet_in, parts_of}
+use Rattle.emit_mtu.specs.Long.{long_kind}
+use Rattle.emit_mtu.specs.Segments.{count_of, room_of, segments}
+
+-- the frame itself, its segments, or nothing
+abbrev pub frames_of : LongKind → Link → (mtu : ℕ) → (frame : List ℕ) → List (List ℕ)
+frames_of Fits link mtu frame = frame ∷ []
+frames_of Cut link mtu frame = segments link mtu frame
+frames_of Drop link mtu frame = []
+
+-- what goes out in place of a frame
+abbrev pub frames_for : Link → (mtu : ℕ) → (frame : List ℕ) → List (List ℕ)
+frames_for link mtu frame = frames_of (long_kind link mtu frame) link mtu frame
+
+-- a packet alone is a frame of a raw link: the same packets go out in its place
+abbrev pub PacketsGoOutAlike : Type 0
+PacketsGoOutAlike =
+    (link : Link) (mtu : ℕ) (frame : List ℕ) → kind_of link frame ≡ Ip (link_size link)
+    → map (packet_in link) (frames_for link mtu frame) ≡ frames_for Raw mtu (packet_in link frame)
+
+-- a frame with a packet that is plain is one that goes out
+abbrev pub PlainIsSent : Type 0
+PlainIsSent = (link : Link) (hops : ℕ) (frame : List ℕ) → kind_of link frame ≡ Ip (link_size link) → Plain hops (packet_in link frame) → IsSent link frame
+
+-- the packets that go out in place of these, in order
+abbrev pub packets_for : (mtu : ℕ) → (packets : List (List ℕ)) → List (List ℕ)
+packets_for mtu packets = flat_map (frames_for Raw mtu) packets
+
+-- the place of the first octet of each packet that goes out in place of one with its first octet here: so far behind it as the piece in the payload
+abbrev pub places_of : LongKind → (mtu : ℕ) → (packet : List ℕ) → (place : ℤ) → List ℤ
+places_of Fits mtu packet place = place ∷ []
+places_of Cut mtu packet place =
+    let parts = parts_of Raw packet in
+    let room = room_of mtu parts in
+    map (λ index. place +ℤ pos (room * index)) (range_with_len 0 (count_of room parts))
+places_of Drop mtu packet place = []
+
+-- the places of those that go out in place of these, in order
+abbrev pub places_for : (mtu : ℕ) → (places : List ℤ) → (packets : List (List ℕ)) → List ℤ
+places_for mtu [] packets = []
+places_for mtu (place ∷ places) [] = []
+places_for mtu (place ∷ places) (packet ∷ packets) = places_of (long_kind Raw mtu packet) mtu packet place ++ places_for mtu places packets
+
+-- packets that tell of one stream still do so after the long ones were cut or left out
+abbrev pub CutTellsOneStream : Type 0
+CutTellsOneStream =
+    (hops base mtu : ℕ) (places : List ℤ) (packets : List (List ℕ)) → 576 ≤ mtu → mtu < 2 ^ 16 → All AreOctets packets → TellOneStream hops base places packets
+    → TellOneStream hops base (places_for mtu places packets) (packets_for mtu packets)
