@@ -1,14 +1,14 @@
 -- Frames that are cut.
-use Rattle.std.proofs.Common.{◌≡◌, ℕ, ◌<◌, ◌==◌, ◌&&◌, not, nat_lt, Bool, true, false, List, length, ⊎_elim, refl, ap, ◌∙◌, arith}
+use Rattle.std.proofs.Common.{◌≡◌, ℕ, ◌<◌, ◌&&◌, nat_lt, Bool, true, false, List, length, ⊎_elim, refl, ap, arith}
 use Rattle.std.proofs.lemmas.Bool.{eqb-true, not-true}
 use Rattle.std.proofs.lemmas.Bool.Decides.{nat_tests}
 use Rattle.wire_base.specs.declared.address.Link.{Link}
 use Rattle.wire_base.specs.Frames.{kind_of}
 use Rattle.wire_base.specs.Ipv4 as ip
 use Rattle.wire_base.specs.Tcp as tcp
-use Rattle.emit_mtu.specs.declared.long.LongKind.TheVariants.{Fits, Cut, Drop}
+use Rattle.emit_mtu.specs.declared.long.LongKind.TheVariants.{Cut}
 use Rattle.emit_mtu.specs.Frames.{IsSent, IsWhole, packet_in}
-use Rattle.emit_mtu.specs.Long.{e_cut, e_mtu, is_ip, is_marked, long_kind, may_be_cut}
+use Rattle.emit_mtu.specs.Long.{e_cut, e_mtu, is_ip, is_marked, long_kind}
 
 -- what is known of the packet of a frame that is cut
 pub record IsCut (mtu : ℕ) (p : List ℕ) : Type 0 where

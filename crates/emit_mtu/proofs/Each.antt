@@ -1,5 +1,5 @@
 -- What holds of each segment of a frame.
-use Rattle.std.proofs.Common.{◌≡◌, ℕ, ◌+◌, ◌-◌, ◌*◌, ◌%◌, ◌^◌, ◌<◌, ◌≤◌, ◌&&◌, nat_lt, zero, suc, Bool, true, false, List, [], ◌∷◌, ◌++◌, length, map, take, drop, All, min, Some, refl, sym, ap, subst, ◌∙◌, arith, length-drop, ⊎_elim}
+use Rattle.std.proofs.Common.{◌≡◌, ℕ, ◌+◌, ◌-◌, ◌*◌, ◌%◌, ◌^◌, ◌<◌, ◌≤◌, ◌&&◌, nat_lt, zero, suc, Bool, true, false, List, [], ◌++◌, length, map, drop, All, Some, refl, sym, ap, subst, ◌∙◌, arith, length-drop, ⊎_elim}
 use Rattle.std.specs.List.{flat_map, range_with_len}
 use Rattle.std.specs.Prelude.{slice_get}
 use Rattle.std.proofs.Math.Nat.{mul-le-mul_left}
@@ -18,7 +18,7 @@ use Rattle.wire_base.specs.Plain.{Plain}
 use Rattle.wire_base.specs.Segments.{fields_of}
 use Rattle.emit_mtu.specs.Frames.{Parts, link_octets, link_size, packet_in, parts_of}
 use Rattle.emit_mtu.specs.Long.{is_ip, is_long}
-use Rattle.emit_mtu.specs.Segments.{count_of, piece_of, room_of, segment_of, segments, segments_from}
+use Rattle.emit_mtu.specs.Segments.{count_of, piece_of, room_of, segment_of, segments_from}
 use Rattle.emit_mtu.specs.Laws.{AreFew, ArePlain, AreReadAsPieces, CarryThePayload, IsToBeCut, NoneIsLong, payload_in}
 use Rattle.emit_mtu.specs.Laws as laws
 use Rattle.emit_mtu.proofs.Cuts.{IsCut, is_cut, is_whole}

@@ -1,8 +1,8 @@
 -- A segment of a frame, read.
-use Rattle.std.proofs.Common.{◌≡◌, ℕ, ◌+◌, ◌-◌, ◌*◌, ◌%◌, ◌^◌, ◌≤◌, List, ◌++◌, length, take, drop, sym, ap, ◌∙◌, arith, length-drop}
+use Rattle.std.proofs.Common.{◌≡◌, ℕ, ◌+◌, ◌-◌, ◌*◌, ◌%◌, ◌^◌, List, ◌++◌, length, take, drop, sym, ap, ◌∙◌, arith, length-drop}
 use Rattle.wire_base.specs.Ipv4 as ip
 use Rattle.wire_base.specs.Tcp as tcp
-use Rattle.wire_base.specs.Segments.{Segment, fields_of}
+use Rattle.wire_base.specs.Segments.{fields_of}
 use Rattle.emit_mtu.specs.Frames.{Parts}
 use Rattle.emit_mtu.specs.Segments as spec
 use Rattle.emit_mtu.specs.Laws.{piece_of, room_for}

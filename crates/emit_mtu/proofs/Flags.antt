@@ -1,10 +1,10 @@
 -- The flags of a piece.
-use Rattle.std.proofs.Common.{◌≡◌, ◌⊎◌, inl, inr, ℕ, ◌+◌, ◌-◌, ◌*◌, ◌/◌, ◌%◌, ◌==◌, ◌&&◌, ◌||◌, not, Bool, true, false, if◌then◌else◌, refl, sym, ap, ◌∙◌, arith}
+use Rattle.std.proofs.Common.{◌≡◌, ℕ, ◌*◌, ◌/◌, ◌%◌, ◌==◌, ◌&&◌, ◌||◌, Bool, true, false, if◌then◌else◌, refl, sym, ap, ◌∙◌, arith}
 use Rattle.std.proofs.lemmas.Bool.Decides.{nat_tests}
 use Rattle.wire_base.specs.Tcp as tcp
 use Rattle.emit_mtu.specs.Long.{is_marked}
 use Rattle.emit_mtu.specs.Segments.{flags_of, lost}
-use Rattle.emit_mtu.specs.Laws.{FlagsAreKept, KeepsFlags}
+use Rattle.emit_mtu.specs.Laws.{FlagsAreKept}
 
 -- what a piece loses of a flag that it keeps, and of one that it does not
 none_lost : (weight flags : ℕ) → lost weight flags true ≡ 0

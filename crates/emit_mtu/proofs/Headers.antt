@@ -9,7 +9,6 @@ use Rattle.wire_base.proofs.Mending.{word_sum-with_u16, checksum_for-below, is_r
 use Rattle.emit_mtu.specs.Frames.{Parts}
 use Rattle.emit_mtu.specs.Segments as spec
 use Rattle.emit_mtu.proofs.Twenty.{by_twenty, by_exactly_twenty}
-use Rattle.emit_mtu.proofs.Lengths.{length-ip_header}
 
 -- a packet has the fields of this IPv4 header, but for its total length, its identification and its checksum
 pub record SameHeader (p header : List ℕ) : Type 0 where

@@ -1,5 +1,5 @@
 -- How many octets the parts of a segment have.
-use Rattle.std.proofs.Common.{◌≡◌, ℕ, ◌+◌, ◌-◌, ◌*◌, ◌≤◌, ◌<◌, List, [], ◌∷◌, ◌++◌, length, take, drop, min, refl, ap, arith, length-drop}
+use Rattle.std.proofs.Common.{◌≡◌, ℕ, ◌+◌, ◌-◌, ◌*◌, ◌≤◌, ◌++◌, length, drop, min, refl, arith, length-drop}
 use Rattle.std.proofs.lemmas.List.{length-append, length-take}
 use Rattle.emit_mtu.specs.Frames.{AreSized, Parts}
 use Rattle.emit_mtu.specs.Segments as spec

@@ -1,19 +1,15 @@
 -- The packet of a segment.
-use Rattle.std.proofs.Common.{◌≡◌, ℕ, ◌+◌, ◌-◌, ◌*◌, ◌%◌, ◌^◌, ◌≤◌, ◌<◌, List, [], ◌∷◌, ◌++◌, length, take, drop, min, refl, sym, ap, ◌∙◌, arith, length-drop}
-use Rattle.std.proofs.lemmas.List.{drop_at, take_at, take-append-drop, length-take, length-take-le}
+use Rattle.std.proofs.Common.{◌≡◌, ℕ, ◌+◌, ◌≤◌, ◌<◌, List, ◌++◌, length, take, refl, sym, ap, ◌∙◌, arith}
+use Rattle.std.proofs.lemmas.List.{drop_at, take_at, take-append-drop, length-take-le}
 use Rattle.wire_base.specs.declared.address.Link.{Link}
 use Rattle.wire_base.specs.declared.address.Link.TheVariants.{Ethernet, Raw}
-use Rattle.wire_base.specs.declared.frame.FrameKind.TheVariants.{Ip}
-use Rattle.wire_base.specs.Frames.{kind_of}
 use Rattle.wire_base.specs.Ipv4 as ip
 use Rattle.wire_base.specs.Tcp as tcp
 use Rattle.emit_mtu.specs.Frames.{AreOctets, AreSized, IsWhole, Parts, link_octets, link_size, packet_in, parts_of}
 use Rattle.emit_mtu.specs.Segments as spec
-use Rattle.emit_mtu.specs.Laws.{IsToBeCut}
-use Rattle.emit_mtu.proofs.Headers.{Behind, Carried, Numbered, SameHeader, SameSegment, behind-front, behind-own, carried, flags-own, header-front, header-own, numbers-front, segment-front, segment-own, sequence-own, total-own}
+use Rattle.emit_mtu.proofs.Headers.{Carried, SameHeader, carried, header-front, header-own, segment-front, total-own}
 use Rattle.emit_mtu.proofs.Lengths.{length-ip_header, length-message_of, length-piece_of}
 use Rattle.emit_mtu.proofs.Sent.{are_sized, is_inside, payload_is}
-use Rattle.emit_mtu.proofs.Cuts.{is_cut, is_whole}
 
 -- the parts of a packet: their sizes, and how they are joined
 pub record AreJoined (p : List ℕ) (parts : Parts) : Type 0 where

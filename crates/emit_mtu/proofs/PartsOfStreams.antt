@@ -1,7 +1,6 @@
 -- What packets that go out in place of others say.
-use Rattle.std.proofs.Common.{◌≡◌, ◌⊎◌, inl, inr, ℕ, zero, suc, ◌+◌, ◌-◌, ◌*◌, ◌/◌, ◌%◌, ◌^◌, ◌<◌, ◌≤◌, ◌==◌, ◌&&◌, not, nat_le, Bool, true, false, List, [], ◌∷◌, ◌++◌, length, map, take, drop, min, Option, Some, None, if◌then◌else◌, refl, sym, ap, subst, ⊎_elim, ◌∙◌, arith}
-use Rattle.std.specs.Prelude.{ℤ, pos, ◌+ℤ◌, ◌-ℤ◌, ◌*ℤ◌, IsTrue, slice_get}
-use Rattle.std.specs.List.{range_with_len}
+use Rattle.std.proofs.Common.{◌≡◌, ℕ, zero, suc, ◌+◌, ◌*◌, ◌/◌, ◌%◌, ◌^◌, ◌<◌, ◌≤◌, ◌==◌, ◌&&◌, nat_le, Bool, true, false, List, [], ◌∷◌, ◌++◌, length, take, drop, Some, None, if◌then◌else◌, refl, sym, ap, subst, ⊎_elim, ◌∙◌, arith}
+use Rattle.std.specs.Prelude.{ℤ, pos, ◌+ℤ◌, IsTrue, slice_get}
 use Rattle.std.proofs.lemmas.Int.{ints}
 use Rattle.std.proofs.lemmas.Bool.{cases_lt}
 use Rattle.std.proofs.lemmas.Bool.Decides.{nat_tests}
@@ -9,13 +8,13 @@ use Rattle.wire_base.specs.declared.address.Link.TheVariants.{Raw}
 use Rattle.wire_base.specs.Ipv4 as ip
 use Rattle.wire_base.specs.Tcp as tcp
 use Rattle.wire_base.specs.Plain.{Plain}
-use Rattle.wire_base.specs.Segments.{Segment, fields_of, segment_of}
+use Rattle.wire_base.specs.Segments.{fields_of, segment_of}
 use Rattle.receiver_model.specs.Offsets.{IsPlace}
 use Rattle.emit_mtu.specs.Frames.{parts_of}
 use Rattle.emit_mtu.specs.Segments as spec
 use Rattle.emit_mtu.specs.Laws.{IsToBeCut, piece_of}
 use Rattle.emit_mtu.proofs.Counts.{past}
-use Rattle.emit_mtu.proofs.Each.{Cutting, cutting}
+use Rattle.emit_mtu.proofs.Each.{cutting}
 use Rattle.emit_mtu.proofs.Fields.{fields_of-packet_of}
 use Rattle.emit_mtu.proofs.Flags.{flags_are_kept, is_unmarked}
 use Rattle.emit_mtu.proofs.Headers.{header-front}

@@ -1,11 +1,11 @@
 -- The segments of a plain frame are plain.
-use Rattle.std.proofs.Common.{◌≡◌, inl, inr, ℕ, ◌+◌, ◌*◌, ◌≤◌, ◌<◌, ◌||◌, Bool, true, false, List, [], ◌++◌, length, take, drop, sym, ap, ◌∙◌, arith}
+use Rattle.std.proofs.Common.{◌≡◌, inl, inr, ℕ, ◌||◌, Bool, true, false, List, ◌++◌, length, sym, ap, ◌∙◌, arith}
 use Rattle.std.proofs.lemmas.List.{length-append}
 use Rattle.wire_base.specs.Ipv4 as ip
 use Rattle.wire_base.specs.Tcp as tcp
 use Rattle.wire_base.specs.Sums.{pseudo_sum, sum_is_right}
 use Rattle.wire_base.specs.Options.{are_well_formed, cleaned}
-use Rattle.wire_base.specs.Plain.{IsPlainHeader, IsPlainTcp, Plain, pseudo_of}
+use Rattle.wire_base.specs.Plain.{IsPlainHeader, IsPlainTcp, Plain}
 use Rattle.tcp_codec.proofs.Mended.{sum_is_right-mended}
 use Rattle.emit_mtu.specs.Frames.{Parts}
 use Rattle.emit_mtu.specs.Long.{is_marked}

@@ -1,12 +1,10 @@
 -- Plain packets go out, and a packet goes out alike on each link.
-use Rattle.std.proofs.Common.{◌≡◌, inr, ℕ, ◌+◌, ◌-◌, ◌≤◌, ◌==◌, ◌&&◌, ◌||◌, not, nat_lt, Bool, true, false, List, [], ◌∷◌, length, map, take, drop, Some, None, if◌then◌else◌, refl, sym, ap, subst, ◌∙◌, arith, eq-eqb, length-drop}
+use Rattle.std.proofs.Common.{◌≡◌, inr, ℕ, ◌-◌, ◌≤◌, ◌==◌, ◌&&◌, ◌||◌, not, nat_lt, Bool, true, false, List, [], ◌∷◌, length, map, drop, None, if◌then◌else◌, refl, ap, ◌∙◌, arith, eq-eqb}
 use Rattle.std.specs.List.{range_with_len}
 use Rattle.std.proofs.lemmas.Bool.Decides.{nat_tests}
-use Rattle.std.proofs.lemmas.List.{map-id}
 use Rattle.std.proofs.lemmas.Simd.{map-map}
 use Rattle.wire_base.specs.declared.address.Link.{Link}
 use Rattle.wire_base.specs.declared.address.Link.TheVariants.{Ethernet, Raw}
-use Rattle.wire_base.specs.declared.frame.FrameKind.{FrameKind}
 use Rattle.wire_base.specs.declared.frame.FrameKind.TheVariants.{Ip, Arp, Short, Other}
 use Rattle.wire_base.specs.Frames.{ethertype, kind_of}
 use Rattle.wire_base.specs.Ipv4 as ip
@@ -16,10 +14,10 @@ use Rattle.tcp_codec.specs.declared.header.SumRule.TheVariants.{Skip}
 use Rattle.tcp_codec.proofs.Faults.{fault_of-options}
 use Rattle.emit_mtu.specs.declared.long.LongKind.{LongKind}
 use Rattle.emit_mtu.specs.declared.long.LongKind.TheVariants.{Fits, Cut, Drop}
-use Rattle.emit_mtu.specs.Frames.{IsSent, IsWhole, link_size, packet_in, parts_of}
+use Rattle.emit_mtu.specs.Frames.{IsWhole, link_size, packet_in, parts_of}
 use Rattle.emit_mtu.specs.Long.{is_ip, long_kind, may_be_cut}
-use Rattle.emit_mtu.specs.Segments.{count_of, room_of, segment_of, segments}
-use Rattle.emit_mtu.specs.Streams.{PacketsGoOutAlike, PlainIsSent, frames_for, frames_of}
+use Rattle.emit_mtu.specs.Segments.{count_of, room_of, segment_of}
+use Rattle.emit_mtu.specs.Streams.{PacketsGoOutAlike, PlainIsSent, frames_of}
 use Rattle.emit_mtu.proofs.Own.{packet_in-segment_of}
 
 not_one : (a : Bool) (n : ℕ) → a ≡ false → n ≡ 0 → (a || nat_lt 0 n) ≡ false

@@ -8,8 +8,6 @@ use Rattle.wire_base.specs.declared.address.Link.{Link}
 use Rattle.wire_base.specs.declared.address.Link.TheVariants.{Ethernet, Raw}
 use Rattle.wire_base.specs.Ipv4 as ip
 use Rattle.wire_base.specs.Tcp as tcp
-use Rattle.tcp_codec.specs.declared.header.SumRule.TheVariants.{Skip}
-use Rattle.tcp_codec.specs.Header as tcp_header
 use Rattle.emit_mtu.specs.Frames.{AreOctets, AreSized, IsWhole, link_octets, packet_in, parts_of}
 
 -- where no fault is found the header lies inside the segment

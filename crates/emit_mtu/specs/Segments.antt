@@ -1,6 +1,6 @@
 -- The segments that a TCP frame is cut into (this project's profile, over RFC 791 section 3.1 and RFC 9293 section 3.1). `room` is how many octets of the
 -- payload a segment has, and segments are counted from 0.
-use Rattle.std.specs.Prelude.{◌≡◌, ℕ, ◌+◌, ◌-◌, ◌*◌, ◌/◌, ◌%◌, ◌^◌, ◌==◌, ◌&&◌, ◌<◌, ◌≤◌, nat_le, min, not, Bool, List, [], ◌∷◌, ◌++◌, length, map, take, drop, slice_set, if◌then◌else◌}
+use Rattle.std.specs.Prelude.{ℕ, ◌+◌, ◌-◌, ◌*◌, ◌/◌, ◌%◌, ◌^◌, ◌==◌, ◌&&◌, ◌<◌, ◌≤◌, nat_le, min, not, Bool, List, [], ◌∷◌, ◌++◌, length, map, take, drop, slice_set, if◌then◌else◌}
 use Rattle.std.specs.List.{range_with_len}
 use Rattle.wire_base.specs.declared.address.Link.{Link}
 use Rattle.wire_base.specs.Numbers.{with_u16, with_u32}

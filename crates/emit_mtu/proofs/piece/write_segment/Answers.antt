@@ -1,4 +1,4 @@
-use Rattle.std.proofs.Common.{◌≡◌, ◌+◌, ◌≤◌, length, sym, ap, ◌∙◌, arith}
+use Rattle.std.proofs.Common.{length, ap, arith}
 use Rattle.emit_mtu.specs.Frames.{Parts}
 use Rattle.emit_mtu.proofs.Lengths.{length-segment_of}
 use Rattle.emit_mtu.proofs.piece.write_segment.Goals as goal

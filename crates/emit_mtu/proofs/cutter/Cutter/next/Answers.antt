@@ -1,6 +1,6 @@
-use Rattle.std.proofs.Common.{◌≡◌, ◌+◌, ◌*◌, ◌≤◌, ◌<◌, ◌∷◌, ◌++◌, [], length, drop, option_map, Some, ℕ, List, refl, sym, ap, ◌∙◌, arith}
+use Rattle.std.proofs.Common.{◌≡◌, ◌*◌, ◌++◌, [], length, drop, option_map, Some, sym, ap, ◌∙◌, arith}
 use Rattle.std.specs.Prelude.{slice_get}
-use Rattle.emit_mtu.specs.Segments.{first_of, segment_of, segments_from}
+use Rattle.emit_mtu.specs.Segments.{first_of, segment_of}
 use Rattle.emit_mtu.proofs.Counts.{next-left, none-left, within}
 use Rattle.emit_mtu.proofs.cutter.Cutter.next.Goals as goal
 
