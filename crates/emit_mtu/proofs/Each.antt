@@ -14,7 +14,8 @@ use Rattle.wire_base.specs.declared.address.Link.TheVariants.{Ethernet, Raw}
 use Rattle.wire_base.specs.Frames.{kind_of}
 use Rattle.wire_base.specs.Ipv4 as ip
 use Rattle.wire_base.specs.Tcp as tcp
-use Rattle.wire_base.specs.Plain.{Plain}
+use Rattle.wire_base.specs.Sums.{sum_is_right}
+use Rattle.wire_base.specs.Plain.{Plain, pseudo_of}
 use Rattle.wire_base.specs.Segments.{fields_of}
 use Rattle.emit_mtu.specs.Frames.{Parts, link_octets, link_size, packet_in, parts_of}
 use Rattle.emit_mtu.specs.Long.{is_ip, is_long}
@@ -26,7 +27,7 @@ use Rattle.emit_mtu.proofs.Fields.{fields_of-packet_of, room_is}
 use Rattle.emit_mtu.proofs.Headers.{behind-own, header-front, identification-front, identification-own}
 use Rattle.emit_mtu.proofs.Lengths.{length-piece_of}
 use Rattle.emit_mtu.proofs.Own.{AreJoined, are_joined, is_own, link_octets-segment_of, packet_in-segment_of, packet_of}
-use Rattle.emit_mtu.proofs.PlainPieces.{plain_packet}
+use Rattle.emit_mtu.proofs.PlainPieces.{header_sum, plain_packet, segment_sum}
 use Rattle.emit_mtu.proofs.Sent.{is_inside, payload_is}
 
 -- a frame that is cut, with its parts, and the octets of a segment
@@ -161,9 +162,13 @@ are_read_as_pieces link mtu frame index segment h stands =
     let packet : packet_in link segment ≡ packet_of room parts index = ap (packet_in link) e ∙ packet_in-segment_of link frame room index c.long in
     let whole = header-front parts.ip (parts.tcp ++ parts.payload) c.joined.sized.ip in
     let identification : ip.identification parts.ip ≡ ip.identification p = sym (identification-front parts.ip (parts.tcp ++ parts.payload) c.joined.sized.ip) ∙ ap ip.identification (sym c.joined.joined) in
+    let six : ip.protocol (packet_of room parts index) ≡ 6 = own.header.protocol ∙ sym whole.protocol ∙ ap ip.protocol (sym c.joined.joined) ∙ c.cut.protocol in
     record {
       link_octets = ap (link_octets link) e ∙ link_octets-segment_of link frame room index c.long;
       identification = ap ip.identification packet ∙ identification-own _ index parts _ c.joined.sized.ip ∙ ap (λ n. (n + index) % 2 ^ 16) identification;
-      protocol = ap ip.protocol packet ∙ own.header.protocol ∙ sym whole.protocol ∙ ap ip.protocol (sym c.joined.joined) ∙ c.cut.protocol;
+      protocol = ap ip.protocol packet ∙ six;
+      total_length = ap ip.total_length packet ∙ own.total ∙ ap length (sym packet);
+      header_sum = ap (λ q. sum_is_right (ip.header q) 0) packet ∙ header_sum room index parts c.joined.sized c.joined.words;
+      sum = ap (λ q. sum_is_right (ip.payload q) (pseudo_of q)) packet ∙ segment_sum room index parts c.joined.sized c.joined.words six;
       fields = ap fields_of packet ∙ fields_of-packet_of p room index parts c.joined refl ∙ ap (λ r. laws.piece_of r index (fields_of p)) (room_is p mtu parts c.joined);
     }

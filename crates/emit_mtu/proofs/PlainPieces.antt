@@ -5,15 +5,31 @@ use Rattle.wire_base.specs.Ipv4 as ip
 use Rattle.wire_base.specs.Tcp as tcp
 use Rattle.wire_base.specs.Sums.{pseudo_sum, sum_is_right}
 use Rattle.wire_base.specs.Options.{are_well_formed, cleaned}
-use Rattle.wire_base.specs.Plain.{IsPlainHeader, IsPlainTcp, Plain}
+use Rattle.wire_base.specs.Plain.{IsPlainHeader, IsPlainTcp, Plain, pseudo_of}
 use Rattle.tcp_codec.proofs.Mended.{sum_is_right-mended}
-use Rattle.emit_mtu.specs.Frames.{Parts}
+use Rattle.emit_mtu.specs.Frames.{AreSized, Parts}
 use Rattle.emit_mtu.specs.Long.{is_marked}
 use Rattle.emit_mtu.specs.Segments as spec
 use Rattle.emit_mtu.proofs.Flags.{is_unmarked, legal_pieces, flags_are_kept}
 use Rattle.emit_mtu.proofs.Headers.{behind-front, behind-own, flags-own, header-front, numbers-front, segment-front, segment-own, sum-own}
 use Rattle.emit_mtu.proofs.Lengths.{length-message_of, length-tcp_header}
 use Rattle.emit_mtu.proofs.Own.{AreJoined, is_own, packet_of}
+
+-- the sums of a segment are right
+pub header_sum : (room index : ℕ) (parts : Parts) → AreSized parts → ip.header_length parts.ip ≡ 20 → sum_is_right (ip.header (packet_of room parts index)) 0 ≡ true
+header_sum room index parts sized words =
+    ap (λ h. sum_is_right h 0) (is_own room index parts sized words).carried.header ∙ sum-own (length (spec.message_of room index parts)) index parts sized.ip
+
+pub segment_sum : (room index : ℕ) (parts : Parts) → AreSized parts → ip.header_length parts.ip ≡ 20 → ip.protocol (packet_of room parts index) ≡ 6 → sum_is_right (ip.payload (packet_of room parts index)) (pseudo_of (packet_of room parts index)) ≡ true
+segment_sum room index parts sized words six =
+    let own = is_own room index parts sized words in
+    let octets = spec.tcp_header room index parts ++ spec.piece_of room index parts in
+    let count = length-message_of room index parts sized.tcp in
+    let header = length-tcp_header room index parts sized.tcp in
+    let both = length-append (spec.tcp_header room index parts) (spec.piece_of room index parts) in
+    let size : length (ip.payload (packet_of room parts index)) ≡ length octets = ap length own.carried.payload ∙ omega (arith, count, header, both) in
+    (λ i. sum_is_right (own.carried.payload i) (pseudo_sum (own.header.source i) (own.header.destination i) (six i) (size i)))
+    ∙ sum_is_right-mended (pseudo_sum (ip.source parts.ip) (ip.destination parts.ip) 6 (length octets)) octets (omega (arith, header, both, sized.tcp))
 
 plain_header : (p : List ℕ) (room index : ℕ) (parts : Parts) → AreJoined p parts → IsPlainHeader p → IsPlainHeader (packet_of room parts index)
 plain_header p room index parts joined plain =
@@ -28,7 +44,7 @@ plain_header p room index parts joined plain =
       reserved = own.header.reserved ∙ sym whole.reserved ∙ ap ip.has_reserved (sym e) ∙ plain.reserved;
       more_fragments = own.header.more ∙ sym whole.more ∙ ap ip.has_more_fragments (sym e) ∙ plain.more_fragments;
       fragment_offset = own.header.offset ∙ sym whole.offset ∙ ap ip.fragment_offset (sym e) ∙ plain.fragment_offset;
-      sum = ap (λ h. sum_is_right h 0) own.carried.header ∙ sum-own (length (spec.message_of room index parts)) index parts joined.sized.ip;
+      sum = header_sum room index parts joined.sized joined.words;
     }
 
 no_mark : (syn rst : Bool) {A : Type 0} → syn ≡ false → rst ≡ false → (syn || rst) ≡ true → A
@@ -60,7 +76,7 @@ plain_tcp p room index parts joined protocol unmarked plain =
       whole_header = omega (arith, size, header, both, joined.sized.tcp);
       data_offset = omega (arith, words, joined.sized.tcp);
       inside = omega (arith, words, size, header, both);
-      sum = (λ i. sum_is_right (here i) (pseudo_sum (own.header.source i) (own.header.destination i) (six i) (size i))) ∙ sum_is_right-mended (pseudo_sum (ip.source parts.ip) (ip.destination parts.ip) 6 (length octets)) octets (omega (arith, header, both, joined.sized.tcp));
+      sum = segment_sum room index parts joined.sized joined.words six;
       flags = ap tcp.are_legal flags ∙ legal_pieces (spec.is_first index) (spec.is_last room index parts) (tcp.flags (ip.payload p)) none plain.flags;
       reserved = ap tcp.reserved here ∙ mine.reserved ∙ sym its.reserved ∙ ap tcp.reserved there ∙ plain.reserved;
       urgent = ap tcp.has_urg flags ∙ marks.urg ∙ none.urg;

@@ -17,7 +17,7 @@ use Rattle.emit_mtu.specs.declared.long.LongKind.TheVariants.{Fits, Cut, Drop}
 use Rattle.emit_mtu.specs.Frames.{IsWhole, link_size, packet_in, parts_of}
 use Rattle.emit_mtu.specs.Long.{is_ip, long_kind, may_be_cut}
 use Rattle.emit_mtu.specs.Segments.{count_of, room_of, segment_of}
-use Rattle.emit_mtu.specs.Streams.{PacketsGoOutAlike, PlainIsSent, frames_of}
+use Rattle.emit_mtu.specs.Streams.{PacketsGoOutAlike, PlainHeadersAreWhole, PlainIsSent, frames_of}
 use Rattle.emit_mtu.proofs.Own.{packet_in-segment_of}
 
 not_one : (a : Bool) (n : ℕ) → a ≡ false → n ≡ 0 → (a || nat_lt 0 n) ≡ false
@@ -32,14 +32,17 @@ no_fault p h =
     let sum : not _ ≡ false = ap not h.sum in
     rw (short, version, header, total, sum) refl
 
-pub whole-plain : (hops : ℕ) (p : List ℕ) → Plain hops p → IsWhole p
-whole-plain hops p plain = record {
-  header = plain.header.header_length;
-  whole = not_one _ _ plain.header.more_fragments plain.header.fragment_offset;
-  ends = plain.header.total_length;
-  datagram = no_fault p plain.header;
-  segment = λ six. let t = plain.message.tcp six in fault_of-options Skip 0 (ip.payload p) true t.whole_header t.data_offset t.inside refl t.flags t.options;
+pub plain_headers_are_whole : PlainHeadersAreWhole
+plain_headers_are_whole p header segment = record {
+  header = header.header_length;
+  whole = not_one _ _ header.more_fragments header.fragment_offset;
+  ends = header.total_length;
+  datagram = no_fault p header;
+  segment = segment;
 }
+
+pub whole-plain : (hops : ℕ) (p : List ℕ) → Plain hops p → IsWhole p
+whole-plain hops p plain = plain_headers_are_whole p plain.header (λ six. let t = plain.message.tcp six in fault_of-options Skip 0 (ip.payload p) true t.whole_header t.data_offset t.inside refl t.flags t.options)
 
 pub plain_is_sent : PlainIsSent
 plain_is_sent link hops frame kind plain = inr (kind, whole-plain hops (packet_in link frame) plain)

@@ -1,10 +1,11 @@
 -- What holds of the segments of a frame (RFC 791 section 3.1, RFC 9293 sections 3.1 and 3.4, and this project's profile).
-use Rattle.std.specs.Prelude.{◌≡◌, ℕ, ◌+◌, ◌-◌, ◌*◌, ◌%◌, ◌^◌, ◌≤◌, ◌<◌, ◌&&◌, nat_le, Bool, false, List, length, take, drop, Some, slice_get, All}
+use Rattle.std.specs.Prelude.{◌≡◌, ℕ, ◌+◌, ◌-◌, ◌*◌, ◌%◌, ◌^◌, ◌≤◌, ◌<◌, ◌&&◌, nat_le, Bool, true, false, List, length, take, drop, Some, slice_get, All}
 use Rattle.std.specs.List.{flat_map}
 use Rattle.wire_base.specs.declared.address.Link.{Link}
 use Rattle.wire_base.specs.Ipv4 as ip
 use Rattle.wire_base.specs.Tcp as tcp
-use Rattle.wire_base.specs.Plain.{Plain}
+use Rattle.wire_base.specs.Sums.{sum_is_right}
+use Rattle.wire_base.specs.Plain.{Plain, pseudo_of}
 use Rattle.wire_base.specs.Segments.{Segment, fields_of}
 use Rattle.emit_mtu.specs.declared.long.LongKind.TheVariants.{Cut}
 use Rattle.emit_mtu.specs.Frames.{AreOctets, IsSent, link_octets, packet_in}
@@ -74,6 +75,9 @@ pub record IsPiece (link : Link) (mtu index : ℕ) (frame segment : List ℕ) : 
   pub link_octets : link_octets link segment ≡ link_octets link frame
   pub identification : ip.identification (packet_in link segment) ≡ (ip.identification (packet_in link frame) + index) % 2 ^ 16
   pub protocol : ip.protocol (packet_in link segment) ≡ 6
+  pub total_length : ip.total_length (packet_in link segment) ≡ length (packet_in link segment)
+  pub header_sum : sum_is_right (ip.header (packet_in link segment)) 0 ≡ true
+  pub sum : sum_is_right (ip.payload (packet_in link segment)) (pseudo_of (packet_in link segment)) ≡ true
   pub fields : let s = fields_of (packet_in link frame) in fields_of (packet_in link segment) ≡ piece_of (room_for mtu s) index s
 
 -- each is read as its piece

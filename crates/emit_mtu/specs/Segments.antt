@@ -1,6 +1,6 @@
 -- The segments that a TCP frame is cut into (this project's profile, over RFC 791 section 3.1 and RFC 9293 section 3.1). `room` is how many octets of the
 -- payload a segment has, and segments are counted from 0.
-use Rattle.std.specs.Prelude.{ℕ, ◌+◌, ◌-◌, ◌*◌, ◌/◌, ◌%◌, ◌^◌, ◌==◌, ◌&&◌, ◌<◌, ◌≤◌, nat_le, min, not, Bool, List, [], ◌∷◌, ◌++◌, length, map, take, drop, slice_set, if◌then◌else◌}
+use Rattle.std.specs.Prelude.{ℕ, ◌+◌, ◌-◌, ◌*◌, ◌/◌, ◌%◌, ◌^◌, ◌==◌, ◌&&◌, ◌<◌, ◌≤◌, nat_le, min, not, Bool, List, ◌++◌, length, map, take, drop, slice_set, if◌then◌else◌}
 use Rattle.std.specs.List.{range_with_len}
 use Rattle.wire_base.specs.declared.address.Link.{Link}
 use Rattle.wire_base.specs.Numbers.{with_u16, with_u32}
@@ -69,11 +69,6 @@ segments_from first room parts = map (segment_of room parts) (range_with_len fir
 -- the frames of all pieces, in order
 abbrev pub segments : Link → (mtu : ℕ) → (frame : List ℕ) → List (List ℕ)
 segments link mtu frame = let parts = parts_of link frame in segments_from 0 (room_of mtu parts) parts
-
--- the first of these frames, and no octet where there is none
-abbrev pub first_of : List (List ℕ) → List ℕ
-first_of [] = []
-first_of (frame ∷ frames) = frame
 
 -- a frame of these sizes is being cut, and so many segments are written
 pub record IsCutting (index room : ℕ) (parts : Parts) : Type 0 where

@@ -1,15 +1,18 @@
 -- What goes out in place of a frame, and where the octets of a stream stand in it (this project's profile).
-use Rattle.std.specs.Prelude.{◌≡◌, ℕ, ◌*◌, ◌^◌, ◌≤◌, ◌<◌, List, [], ◌∷◌, ◌++◌, map, ℤ, pos, ◌+ℤ◌, All}
+use Rattle.std.specs.Prelude.{◌≡◌, ℕ, ◌*◌, ◌^◌, ◌≤◌, ◌<◌, List, [], ◌∷◌, ◌++◌, map, ℤ, pos, ◌+ℤ◌, All, None}
 use Rattle.std.specs.List.{flat_map, range_with_len}
 use Rattle.wire_base.specs.declared.address.Link.{Link}
 use Rattle.wire_base.specs.declared.address.Link.TheVariants.{Raw}
 use Rattle.wire_base.specs.declared.frame.FrameKind.TheVariants.{Ip}
 use Rattle.wire_base.specs.Frames.{kind_of}
-use Rattle.wire_base.specs.Plain.{Plain}
+use Rattle.wire_base.specs.Ipv4 as ip
+use Rattle.wire_base.specs.Plain.{IsPlainHeader, Plain}
+use Rattle.tcp_codec.specs.declared.header.SumRule.TheVariants.{Skip}
+use Rattle.tcp_codec.specs.Header.{fault_of}
 use Rattle.receiver_model.specs.Agreement.{TellOneStream}
 use Rattle.emit_mtu.specs.declared.long.LongKind.{LongKind}
 use Rattle.emit_mtu.specs.declared.long.LongKind.TheVariants.{Fits, Cut, Drop}
-use Rattle.emit_mtu.specs.Frames.{AreOctets, IsSent, link_size, packet_in, parts_of}
+use Rattle.emit_mtu.specs.Frames.{AreOctets, IsSent, IsWhole, link_size, packet_in, parts_of}
 use Rattle.emit_mtu.specs.Long.{long_kind}
 use Rattle.emit_mtu.specs.Segments.{count_of, room_of, segments}
 
@@ -28,6 +31,10 @@ abbrev pub PacketsGoOutAlike : Type 0
 PacketsGoOutAlike =
     (link : Link) (mtu : ℕ) (frame : List ℕ) → kind_of link frame ≡ Ip (link_size link)
     → map (packet_in link) (frames_for link mtu frame) ≡ frames_for Raw mtu (packet_in link frame)
+
+-- a packet with a plain header, and a TCP segment in which no fault is found if it carries one, is whole
+abbrev pub PlainHeadersAreWhole : Type 0
+PlainHeadersAreWhole = (packet : List ℕ) → IsPlainHeader packet → (ip.protocol packet ≡ 6 → fault_of Skip 0 (ip.payload packet) ≡ None) → IsWhole packet
 
 -- a frame with a packet that is plain is one that goes out
 abbrev pub PlainIsSent : Type 0

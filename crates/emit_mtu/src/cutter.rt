@@ -1,9 +1,9 @@
 //! A frame cut, segment by segment.
-ghost use Rattle.std.specs.Prelude.{◌≡◌, ◌≤◌, ◌++◌, length, drop, option_map, slice_get, IfSome};
+ghost use Rattle.std.specs.Prelude.{◌≡◌, ◌≤◌, [], ◌∷◌, length, take, drop, IfSome, IfNone};
 ghost use Rattle.emit_mtu.specs.declared.long.LongKind.TheVariants as kinds;
 ghost use Rattle.emit_mtu.specs.Frames.{IsSent};
 ghost use Rattle.emit_mtu.specs.Long.{long_kind};
-ghost use Rattle.emit_mtu.specs.Segments.{first_of, segments};
+ghost use Rattle.emit_mtu.specs.Segments.{segments};
 
 use crate::parts::{HEADER, Parts, parts_of};
 use crate::piece::write_segment;
@@ -51,10 +51,12 @@ impl<'a> Cutter<'a> {
     /// Writes the next segment's frame at the front of the buffer, and answers its length in octets; None after the last.
     pub fn next(&mut self, buf: &mut [u8]) -> Option<usize>
         requires room { 65549 ≤ length buf.old }
-        ensures size { result ≡ option_map length (slice_get self.old 0) }
-        ensures written { buf.new ≡ first_of self.old ++ drop (length (first_of self.old)) buf.old }
-        ensures left { self.new ≡ drop 1 self.old }
+        ensures next { IfSome result (λ size. self.old ≡ take size buf.new ∷ self.new) }
+        ensures behind { IfSome result (λ size. drop size buf.new ≡ drop size buf.old) }
         ensures most { IfSome result (λ size. size ≤ 65549) }
+        ensures last { IfNone result (self.old ≡ []) }
+        ensures stays { IfNone result (self.new ≡ []) }
+        ensures unwritten { IfNone result (buf.new ≡ buf.old) }
     {
         if self.parts.payload_size() <= self.room * usize::from(self.index) {
             return None;

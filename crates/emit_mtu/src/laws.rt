@@ -1,6 +1,6 @@
 //! Laws over the definitions alone.
 ghost use Rattle.emit_mtu.specs.Laws.{AreFew, ArePlain, AreReadAsPieces, CarryThePayload, FlagsAreKept, NoneIsLong};
-ghost use Rattle.emit_mtu.specs.Streams.{CutTellsOneStream, PacketsGoOutAlike, PlainIsSent};
+ghost use Rattle.emit_mtu.specs.Streams.{CutTellsOneStream, PacketsGoOutAlike, PlainHeadersAreWhole, PlainIsSent};
 
 /// No segment of a frame that is cut is long, and there are at most 132.
 pub fn segments_fit()
@@ -30,6 +30,7 @@ pub fn pieces_keep_flags()
 
 /// A frame with a plain packet is one that goes out, and what goes out in its place is alike on each link.
 pub fn plain_packets_go_out()
+    ensures whole { PlainHeadersAreWhole }
     ensures sent { PlainIsSent }
     ensures alike { PacketsGoOutAlike }
 {}
