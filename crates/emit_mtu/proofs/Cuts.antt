@@ -9,6 +9,7 @@ use Rattle.wire_base.specs.Tcp as tcp
 use Rattle.emit_mtu.specs.declared.long.LongKind.TheVariants.{Cut}
 use Rattle.emit_mtu.specs.Frames.{IsSent, IsWhole, packet_in}
 use Rattle.emit_mtu.specs.Long.{e_cut, e_mtu, is_ip, is_marked, long_kind}
+use Rattle.emit_mtu.proofs.Facts.{both, less}
 
 -- what is known of the packet of a frame that is cut
 pub record IsCut (mtu : ℕ) (p : List ℕ) : Type 0 where
@@ -16,13 +17,6 @@ pub record IsCut (mtu : ℕ) (p : List ℕ) : Type 0 where
   pub protocol : ip.protocol p ≡ 6
   pub unmarked : is_marked (tcp.flags (ip.payload p)) ≡ false
   pub some : 0 < length (tcp.payload (ip.payload p))
-
-both : (a b : Bool) → (a && b) ≡ true → (a ≡ true) × (b ≡ true)
-both true b e = (refl, e)
-both false b e = cc
-
-less : (a b : ℕ) → nat_lt a b ≡ true → a < b
-less a b e = grind (arith, nat_tests)
 
 cut : (link : Link) (mtu : ℕ) (frame : List ℕ) (c d : Bool) → e_cut link mtu frame ≡ c → e_mtu link mtu frame ≡ d → long_kind link mtu frame ≡ Cut → c ≡ true
 cut link mtu frame true d e f h = refl

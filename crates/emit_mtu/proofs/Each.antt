@@ -19,7 +19,7 @@ use Rattle.wire_base.specs.Plain.{Plain, pseudo_of}
 use Rattle.wire_base.specs.Segments.{fields_of}
 use Rattle.emit_mtu.specs.Frames.{Parts, link_octets, link_size, packet_in, parts_of}
 use Rattle.emit_mtu.specs.Long.{is_ip, is_long}
-use Rattle.emit_mtu.specs.Segments.{count_of, piece_of, room_of, segment_of, segments_from}
+use Rattle.emit_mtu.specs.Segments.{count_of, piece_of, room_of, segment_of, segments, segments_from}
 use Rattle.emit_mtu.specs.Laws.{AreFew, ArePlain, AreReadAsPieces, CarryThePayload, IsToBeCut, NoneIsLong, payload_in}
 use Rattle.emit_mtu.specs.Laws as laws
 use Rattle.emit_mtu.proofs.Cuts.{IsCut, is_cut, is_whole}
@@ -28,7 +28,8 @@ use Rattle.emit_mtu.proofs.Headers.{behind-own, header-front, identification-fro
 use Rattle.emit_mtu.proofs.Lengths.{length-piece_of}
 use Rattle.emit_mtu.proofs.Own.{AreJoined, are_joined, is_own, link_octets-segment_of, packet_in-segment_of, packet_of}
 use Rattle.emit_mtu.proofs.PlainPieces.{header_sum, plain_packet, segment_sum}
-use Rattle.emit_mtu.proofs.Sent.{is_inside, payload_is}
+use Rattle.emit_mtu.proofs.Sent.{is_faultless, payload_is}
+use Rattle.emit_mtu.proofs.Facts.{and_false, at_most}
 
 -- a frame that is cut, with its parts, and the octets of a segment
 pub record Cutting (link : Link) (mtu : ℕ) (frame : List ℕ) : Type 0 where
@@ -52,7 +53,7 @@ cutting link mtu frame h =
     let cut = is_cut link mtu frame h.cut in
     let whole = is_whole link mtu frame h.sent h.cut in
     let joined = are_joined link frame whole cut.protocol h.octets in
-    let inside = is_inside p whole cut.protocol in
+    let inside = is_faultless p whole cut.protocol in
     record {
       joined = joined;
       cut = cut;
@@ -75,23 +76,31 @@ segment_at room parts index segment stands =
     sym (get_or_from_slice_get (segments_from 0 room parts) index segment [] stands)
     ∙ get_or-map-range_with_len (segment_of room parts) 0 (count_of room parts - 0) index index [] count (omega arith)
 
-and_false : (a b : Bool) → b ≡ false → (a && b) ≡ false
-and_false true b e = e
-and_false false b e = refl
-
-at_most : (a b : ℕ) → b ≤ a → nat_lt a b ≡ false
-at_most a b h = grind (arith, nat_tests)
+-- the packet of a segment has at most the MTU's octets, and its total length says how many
+pub small : (link : Link) (mtu : ℕ) (frame : List ℕ) → Cutting link mtu frame → (index : ℕ) → let p = packet_in link (segment_of (room_of mtu (parts_of link frame)) (parts_of link frame) index) in (length p ≤ mtu) × (ip.total_length p ≡ length p)
+small link mtu frame c index =
+    let parts = parts_of link frame in
+    let room = room_of mtu parts in
+    let own = is_own room index parts c.joined.sized c.joined.words in
+    let e = packet_in-segment_of link frame room index c.long in
+    let size = ap length e in
+    (omega (arith, size, own.size, length-piece_of room index parts, c.room), ap ip.total_length e ∙ own.total ∙ ap length (sym e))
 
 pub none_is_long : NoneIsLong
 none_is_long link mtu frame h =
+    let c = cutting link mtu frame h in
+    all_segments (λ segment. length (packet_in link segment) ≤ mtu) (room_of mtu (parts_of link frame)) (parts_of link frame) (λ index. (small link mtu frame c index).0)
+
+-- so none is long
+pub none_too_long : (link : Link) (mtu : ℕ) (frame : List ℕ) → IsToBeCut link mtu frame → All (λ segment. is_long link mtu segment ≡ false) (segments link mtu frame)
+none_too_long link mtu frame h =
     let parts = parts_of link frame in
     let c = cutting link mtu frame h in
     let room = room_of mtu parts in
     all_segments (λ segment. is_long link mtu segment ≡ false) room parts (λ index.
-    let own = is_own room index parts c.joined.sized c.joined.words in
-    let there = ap ip.total_length (packet_in-segment_of link frame room index c.long) in
-    let few : ip.total_length (packet_in link (segment_of room parts index)) ≤ mtu = omega (arith, there, own.total, own.size, length-piece_of room index parts, c.room) in
-    and_false (is_ip (kind_of link (segment_of room parts index))) _ (at_most mtu _ few))
+        let fits = small link mtu frame c index in
+        let few : ip.total_length (packet_in link (segment_of room parts index)) ≤ mtu = omega (arith, fits.0, fits.1) in
+        and_false (is_ip (kind_of link (segment_of room parts index))) _ (at_most mtu _ few))
 
 pub are_few : AreFew
 are_few link mtu frame h =

@@ -12,3 +12,5 @@ pub mod Each
 pub mod PlainSent
 pub mod PartsOfStreams
 pub mod Streams
+pub mod Facts
+pub mod Outgoing

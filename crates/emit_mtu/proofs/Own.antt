@@ -9,7 +9,7 @@ use Rattle.emit_mtu.specs.Frames.{AreOctets, AreSized, IsWhole, Parts, link_octe
 use Rattle.emit_mtu.specs.Segments as spec
 use Rattle.emit_mtu.proofs.Headers.{Carried, SameHeader, carried, header-front, header-own, segment-front, total-own}
 use Rattle.emit_mtu.proofs.Lengths.{length-ip_header, length-message_of, length-piece_of}
-use Rattle.emit_mtu.proofs.Sent.{are_sized, is_inside, payload_is}
+use Rattle.emit_mtu.proofs.Sent.{are_sized, is_faultless, payload_is}
 
 -- the parts of a packet: their sizes, and how they are joined
 pub record AreJoined (p : List ℕ) (parts : Parts) : Type 0 where
@@ -25,7 +25,7 @@ are_joined link frame whole protocol octets =
     let m = ip.payload p in
     let parts = parts_of link frame in
     let sized = are_sized link frame whole protocol octets in
-    let inside = is_inside p whole protocol in
+    let inside = is_faultless p whole protocol in
     let message : m ≡ parts.tcp ++ parts.payload = sym (take-append-drop (tcp.header_length m) m) in
     let front : parts.ip ≡ take 20 p = ap (λ n. take n p) whole.header in
     let joined : p ≡ parts.ip ++ (parts.tcp ++ parts.payload) = sym (take-append-drop 20 p) ∙ (λ i. sym front i ++ (sym (payload_is p whole.header whole.ends) ∙ message) i) in

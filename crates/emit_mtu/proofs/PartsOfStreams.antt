@@ -21,6 +21,7 @@ use Rattle.emit_mtu.proofs.Headers.{header-front}
 use Rattle.emit_mtu.proofs.Lengths.{length-piece_of}
 use Rattle.emit_mtu.proofs.Own.{is_own, packet_of}
 use Rattle.emit_mtu.proofs.PlainPieces.{plain_packet}
+use Rattle.emit_mtu.proofs.Facts.{both, covers}
 
 -- how many octets each segment of a packet has
 abbrev pub room_in : (mtu : ℕ) → (packet : List ℕ) → ℕ
@@ -89,13 +90,6 @@ pub part_placed : (base sequence behind : ℕ) (place own : ℤ) → own ≡ pla
 part_placed base sequence behind place own e h = record { turns = h.turns +ℤ pos ((sequence + behind) / 2 ^ 32); is = let f = h.is in omega (arith, ints, e, f) }
 
 -- where it has a FIN, so has the packet, and its octets end with the packet's
-both : (a b : Bool) → (a && b) ≡ true → (a ≡ true) × (b ≡ true)
-both true b e = (refl, e)
-both false b e = cc
-
-covers : (a b : ℕ) → nat_le a b ≡ true → a ≤ b
-covers a b e = grind (arith, nat_tests)
-
 pub record EndsWith (mtu : ℕ) (packet : List ℕ) (index : ℕ) : Type 0 where
   pub has : IsTrue (tcp.has_fin (fields_of packet).flags)
   pub size : room_in mtu packet * index + length (piece_of (room_in mtu packet) index (fields_of packet)).octets ≡ length (fields_of packet).octets

@@ -10,7 +10,9 @@ use Rattle.wire_base.specs.Frames.{ethertype, kind_of}
 use Rattle.wire_base.specs.Ipv4 as ip
 use Rattle.wire_base.specs.Plain.{IsPlainHeader, Plain}
 use Rattle.ipv4_codec.specs.Header as ip_header
+use Rattle.wire_base.specs.Sums.{sum_is_right}
 use Rattle.tcp_codec.specs.declared.header.SumRule.TheVariants.{Skip}
+use Rattle.tcp_codec.specs.Header.{fault_of}
 use Rattle.tcp_codec.proofs.Faults.{fault_of-options}
 use Rattle.emit_mtu.specs.declared.long.LongKind.{LongKind}
 use Rattle.emit_mtu.specs.declared.long.LongKind.TheVariants.{Fits, Cut, Drop}
@@ -19,27 +21,20 @@ use Rattle.emit_mtu.specs.Long.{is_ip, long_kind, may_be_cut}
 use Rattle.emit_mtu.specs.Segments.{count_of, room_of, segment_of}
 use Rattle.emit_mtu.specs.Streams.{PacketsGoOutAlike, PlainHeadersAreWhole, PlainIsSent, frames_of}
 use Rattle.emit_mtu.proofs.Own.{packet_in-segment_of}
+use Rattle.emit_mtu.proofs.Facts.{at_least, not_one}
 
-not_one : (a : Bool) (n : ℕ) → a ≡ false → n ≡ 0 → (a || nat_lt 0 n) ≡ false
-not_one a n e f = rw (e, f) refl
-
-no_fault : (p : List ℕ) → IsPlainHeader p → ip_header.fault_of p ≡ None
-no_fault p h =
-    let short : nat_lt (length p) 20 ≡ false = let a = h.whole_header in grind (arith, nat_tests) in
-    let version : not (ip.version p == 4) ≡ false = ap not (eq-eqb _ _ h.version) in
-    let header : (nat_lt (ip.header_length p) 20 || nat_lt (length p) (ip.header_length p)) ≡ false = let a = h.whole_header in let b = h.header_length in grind (arith, nat_tests) in
-    let total : (nat_lt (ip.total_length p) (ip.header_length p) || nat_lt (length p) (ip.total_length p)) ≡ false = let a = h.whole_header in let b = h.header_length in let d = h.total_length in grind (arith, nat_tests) in
-    let sum : not _ ≡ false = ap not h.sum in
-    rw (short, version, header, total, sum) refl
+-- a packet of these fields is whole
+pub whole_by : (p : List ℕ) → 20 ≤ length p → ip.version p ≡ 4 → ip.header_length p ≡ 20 → ip.has_more_fragments p ≡ false → ip.fragment_offset p ≡ 0 → ip.total_length p ≡ length p → sum_is_right (ip.header p) 0 ≡ true → (ip.protocol p ≡ 6 → fault_of Skip 0 (ip.payload p) ≡ None) → IsWhole p
+whole_by p long version header more offset ends sum segment =
+    let short : nat_lt (length p) 20 ≡ false = grind (arith, nat_tests) in
+    let four : not (ip.version p == 4) ≡ false = ap not (eq-eqb _ _ version) in
+    let words : (nat_lt (ip.header_length p) 20 || nat_lt (length p) (ip.header_length p)) ≡ false = grind (arith, nat_tests) in
+    let total : (nat_lt (ip.total_length p) (ip.header_length p) || nat_lt (length p) (ip.total_length p)) ≡ false = grind (arith, nat_tests) in
+    let right : not (sum_is_right (ip.header p) 0) ≡ false = ap not sum in
+    record { header = header; whole = not_one _ _ more offset; ends = ends; datagram = rw (short, four, words, total, right) refl; segment = segment }
 
 pub plain_headers_are_whole : PlainHeadersAreWhole
-plain_headers_are_whole p header segment = record {
-  header = header.header_length;
-  whole = not_one _ _ header.more_fragments header.fragment_offset;
-  ends = header.total_length;
-  datagram = no_fault p header;
-  segment = segment;
-}
+plain_headers_are_whole p h segment = whole_by p h.whole_header h.version h.header_length h.more_fragments h.fragment_offset h.total_length h.sum segment
 
 pub whole-plain : (hops : ℕ) (p : List ℕ) → Plain hops p → IsWhole p
 whole-plain hops p plain = plain_headers_are_whole p plain.header (λ six. let t = plain.message.tcp six in fault_of-options Skip 0 (ip.payload p) true t.whole_header t.data_offset t.inside refl t.flags t.options)
@@ -50,9 +45,6 @@ plain_is_sent link hops frame kind plain = inr (kind, whole-plain hops (packet_i
 not_short : (a b c : Bool) → (if a then Short else if b then Ip 14 else if c then Arp else Other) ≡ Ip 14 → a ≡ false
 not_short true b c e = cc
 not_short false b c e = refl
-
-at_least : (a b : ℕ) → nat_lt a b ≡ false → b ≤ a
-at_least a b h = grind (arith, nat_tests)
 
 -- an Ethernet frame that carries IPv4 has an Ethernet header
 pub long_enough : (link : Link) (frame : List ℕ) → kind_of link frame ≡ Ip (link_size link) → link_size link ≤ length frame

@@ -3,34 +3,42 @@ use Rattle.std.proofs.Common.{◌≡◌, ℕ, ◌+◌, ◌-◌, ◌≤◌, ◌<�
 use Rattle.std.specs.Prelude.{slice_index}
 use Rattle.std.proofs.Math.Seq.{take-length}
 use Rattle.std.proofs.lemmas.List.{get_or-drop, length-take, length-take-le}
-use Rattle.std.proofs.lemmas.Bool.Decides.{nat_tests}
+use Rattle.std.proofs.lemmas.Bool.{eqb-true}
 use Rattle.wire_base.specs.declared.address.Link.{Link}
 use Rattle.wire_base.specs.declared.address.Link.TheVariants.{Ethernet, Raw}
 use Rattle.wire_base.specs.Ipv4 as ip
 use Rattle.wire_base.specs.Tcp as tcp
+use Rattle.wire_base.specs.Options.{are_well_formed}
+use Rattle.tcp_codec.specs.declared.header.TcpFault.TheVariants.{Sum}
 use Rattle.emit_mtu.specs.Frames.{AreOctets, AreSized, IsWhole, link_octets, packet_in, parts_of}
+use Rattle.emit_mtu.proofs.Facts.{all_false, at_least, neither, not_false}
 
--- where no fault is found the header lies inside the segment
-pub record IsInside (m : List ℕ) : Type 0 where
+-- where no fault is found in a segment its header lies inside, and its flags and options are well formed
+pub record IsFaultless (m : List ℕ) : Type 0 where
   pub whole : 20 ≤ length m
   pub some : 20 ≤ tcp.header_length m
   pub inside : tcp.header_length m ≤ length m
+  pub legal : tcp.are_legal (tcp.flags m) ≡ true
+  pub formed : are_well_formed 0 (tcp.options m) ≡ true
 
--- the first two faults do not hold
-no_fault : {T : Type 0} (x y : T) (rest : Option T) (a b c : Bool) → (if a then Some x else if b || c then Some y else rest) ≡ None → (a ≡ false) × (b ≡ false) × (c ≡ false)
-no_fault x y rest true b c h = cc
-no_fault x y rest false true c h = cc
-no_fault x y rest false false true h = cc
-no_fault x y rest false false false h = (refl, refl, refl)
-
-at_least : (a b : ℕ) → nat_lt a b ≡ false → b ≤ a
-at_least a b h = grind (arith, nat_tests)
-
-pub is_inside : (p : List ℕ) → IsWhole p → ip.protocol p ≡ 6 → IsInside (ip.payload p)
-is_inside p whole protocol =
+pub is_faultless : (p : List ℕ) → IsWhole p → ip.protocol p ≡ 6 → IsFaultless (ip.payload p)
+is_faultless p whole protocol =
     let m = ip.payload p in
-    let none = no_fault _ _ _ (tcp.is_short m) (nat_lt (tcp.header_length m) 20) (nat_lt (length m) (tcp.header_length m)) (whole.segment protocol) in
-    record { whole = at_least _ _ none.0; some = at_least _ _ none.1; inside = at_least _ _ none.2 }
+    let none = all_false _ _ Sum _ _ (tcp.is_short m) (tcp.has_bad_header_length m) false (tcp.has_illegal_flags m) (tcp.has_bad_options m) (whole.segment protocol) in
+    let header = neither _ _ none.second in
+    record {
+      whole = at_least _ _ none.first;
+      some = at_least _ _ header.0;
+      inside = at_least _ _ header.1;
+      legal = not_false _ none.fourth;
+      formed = not_false _ none.fifth;
+    }
+
+-- of a packet in which none is found, that its version is 4
+pub version_is : (p : List ℕ) → IsWhole p → ip.version p ≡ 4
+version_is p whole =
+    let none = all_false _ _ _ _ _ (ip.is_short p) (ip.has_other_version p) (ip.has_bad_header_length p) (ip.has_bad_total_length p) (ip.has_wrong_sum p) whole.datagram in
+    eqb-true _ _ (not_false _ none.second)
 
 -- the packet carries what stands after the 20 octets of its header
 pub payload_is : (p : List ℕ) → ip.header_length p ≡ 20 → ip.total_length p ≡ length p → ip.payload p ≡ drop 20 p
@@ -51,7 +59,7 @@ short Raw frame = omega arith
 packets_sized : (link : List ℕ) (p : List ℕ) → length link ≤ 14 → IsWhole p → ip.protocol p ≡ 6 → AreOctets p → AreSized (record { link = link; ip = ip.header p; tcp = take (tcp.header_length (ip.payload p)) (ip.payload p); payload = tcp.payload (ip.payload p) })
 packets_sized link p few whole protocol octets =
     let m = ip.payload p in
-    let inside = is_inside p whole protocol in
+    let inside = is_faultless p whole protocol in
     let e = payload_is p whole.header whole.ends in
     let size : length m ≡ length p - 20 = ap length e ∙ length-drop 20 p in
     let total : length p ≤ 65535 = let a = octets 2 in let b = octets 3 in let t = whole.ends in omega arith in

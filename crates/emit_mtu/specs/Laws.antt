@@ -9,7 +9,7 @@ use Rattle.wire_base.specs.Plain.{Plain, pseudo_of}
 use Rattle.wire_base.specs.Segments.{Segment, fields_of}
 use Rattle.emit_mtu.specs.declared.long.LongKind.TheVariants.{Cut}
 use Rattle.emit_mtu.specs.Frames.{AreOctets, IsSent, link_octets, packet_in}
-use Rattle.emit_mtu.specs.Long.{is_long, long_kind}
+use Rattle.emit_mtu.specs.Long.{long_kind}
 use Rattle.emit_mtu.specs.Segments.{flags_of, is_first, segments}
 
 -- a frame that is to be cut for an MTU
@@ -35,13 +35,17 @@ pub record KeepsFlags (first last : Bool) (flags : ℕ) : Type 0 where
 abbrev pub FlagsAreKept : Type 0
 FlagsAreKept = (first last : Bool) (flags : ℕ) → KeepsFlags first last flags
 
--- none of its segments is long
+-- the packet of each of its segments has at most the MTU's octets
 abbrev pub NoneIsLong : Type 0
-NoneIsLong = (link : Link) (mtu : ℕ) (frame : List ℕ) → IsToBeCut link mtu frame → All (λ segment. is_long link mtu segment ≡ false) (segments link mtu frame)
+NoneIsLong = (link : Link) (mtu : ℕ) (frame : List ℕ) → IsToBeCut link mtu frame → All (λ segment. length (packet_in link segment) ≤ mtu) (segments link mtu frame)
 
 -- they are at most 132: each has at most 80 octets of headers
 abbrev pub AreFew : Type 0
 AreFew = (link : Link) (mtu : ℕ) (frame : List ℕ) → IsToBeCut link mtu frame → length (segments link mtu frame) ≤ 132
+
+-- each is itself a frame that goes out
+abbrev pub AreSent : Type 0
+AreSent = (link : Link) (mtu : ℕ) (frame : List ℕ) → IsToBeCut link mtu frame → All (IsSent link) (segments link mtu frame)
 
 -- the octets behind the TCP header of a frame
 abbrev pub payload_in : Link → (frame : List ℕ) → List ℕ

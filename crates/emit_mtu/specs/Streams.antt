@@ -1,5 +1,5 @@
 -- What goes out in place of a frame, and where the octets of a stream stand in it (this project's profile).
-use Rattle.std.specs.Prelude.{◌≡◌, ℕ, ◌*◌, ◌^◌, ◌≤◌, ◌<◌, List, [], ◌∷◌, ◌++◌, map, ℤ, pos, ◌+ℤ◌, All, None}
+use Rattle.std.specs.Prelude.{◌≡◌, ℕ, ◌*◌, ◌^◌, ◌≤◌, ◌<◌, List, [], ◌∷◌, ◌++◌, map, ℤ, pos, ◌+ℤ◌, All, false, None}
 use Rattle.std.specs.List.{flat_map, range_with_len}
 use Rattle.wire_base.specs.declared.address.Link.{Link}
 use Rattle.wire_base.specs.declared.address.Link.TheVariants.{Raw}
@@ -13,7 +13,7 @@ use Rattle.receiver_model.specs.Agreement.{TellOneStream}
 use Rattle.emit_mtu.specs.declared.long.LongKind.{LongKind}
 use Rattle.emit_mtu.specs.declared.long.LongKind.TheVariants.{Fits, Cut, Drop}
 use Rattle.emit_mtu.specs.Frames.{AreOctets, IsSent, IsWhole, link_size, packet_in, parts_of}
-use Rattle.emit_mtu.specs.Long.{long_kind}
+use Rattle.emit_mtu.specs.Long.{is_long, long_kind}
 use Rattle.emit_mtu.specs.Segments.{count_of, room_of, segments}
 
 -- the frame itself, its segments, or nothing
@@ -25,6 +25,12 @@ frames_of Drop link mtu frame = []
 -- what goes out in place of a frame
 abbrev pub frames_for : Link → (mtu : ℕ) → (frame : List ℕ) → List (List ℕ)
 frames_for link mtu frame = frames_of (long_kind link mtu frame) link mtu frame
+
+-- no frame that goes out is long
+abbrev pub NothingLongGoesOut : Type 0
+NothingLongGoesOut =
+    (link : Link) (mtu : ℕ) (frame : List ℕ) → IsSent link frame → AreOctets frame → 576 ≤ mtu → mtu < 2 ^ 16
+    → All (λ out. is_long link mtu out ≡ false) (frames_for link mtu frame)
 
 -- a packet alone is a frame of a raw link: the same packets go out in its place
 abbrev pub PacketsGoOutAlike : Type 0

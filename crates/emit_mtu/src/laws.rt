@@ -1,11 +1,17 @@
 //! Laws over the definitions alone.
-ghost use Rattle.emit_mtu.specs.Laws.{AreFew, ArePlain, AreReadAsPieces, CarryThePayload, FlagsAreKept, NoneIsLong};
-ghost use Rattle.emit_mtu.specs.Streams.{CutTellsOneStream, PacketsGoOutAlike, PlainHeadersAreWhole, PlainIsSent};
+ghost use Rattle.emit_mtu.specs.Laws.{AreFew, ArePlain, AreReadAsPieces, AreSent, CarryThePayload, FlagsAreKept, NoneIsLong};
+ghost use Rattle.emit_mtu.specs.Streams.{CutTellsOneStream, NothingLongGoesOut, PacketsGoOutAlike, PlainHeadersAreWhole, PlainIsSent};
 
-/// No segment of a frame that is cut is long, and there are at most 132.
+/// The segments of a frame that is cut have at most the MTU's octets, and there are at most 132; so nothing long goes out.
 pub fn segments_fit()
     ensures fit { NoneIsLong }
     ensures few { AreFew }
+    ensures all { NothingLongGoesOut }
+{}
+
+/// They are themselves frames that go out.
+pub fn segments_are_sent()
+    ensures { AreSent }
 {}
 
 /// The segments of a frame carry its payload, in order and once.

@@ -1,4 +1,5 @@
 use Rattle.emit_mtu.proofs.Each.{are_few, none_is_long}
+use Rattle.emit_mtu.proofs.Outgoing.{nothing_long_goes_out}
 use Rattle.emit_mtu.proofs.laws.segments_fit.Goals as goal
 
 pub returns-clause-fit : goal.returns-clause-fit
@@ -6,3 +7,6 @@ returns-clause-fit c = none_is_long
 
 pub returns-clause-few : goal.returns-clause-few
 returns-clause-few c = are_few
+
+pub returns-clause-all : goal.returns-clause-all
+returns-clause-all c = nothing_long_goes_out

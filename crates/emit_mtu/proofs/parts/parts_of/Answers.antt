@@ -2,13 +2,13 @@ use Rattle.std.proofs.Common.{◌≡◌, length, take, drop, ap, sym, ◌∙◌,
 use Rattle.wire_base.specs.Ipv4 as ip
 use Rattle.wire_base.specs.Tcp as tcp
 use Rattle.emit_mtu.specs.Frames.{AreSized, packet_in}
-use Rattle.emit_mtu.proofs.Sent.{are_sized, is_inside, payload_is}
+use Rattle.emit_mtu.proofs.Sent.{are_sized, is_faultless, payload_is}
 use Rattle.emit_mtu.proofs.parts.parts_of.Goals as goal
 
 pub split_at-requires-2 : goal.split_at-requires-2
 split_at-requires-2 c =
     let p = packet_in c.args.link c.args.frame.now in
-    let inside = is_inside p c.requires.whole c.requires.tcp in
+    let inside = is_faultless p c.requires.whole c.requires.tcp in
     let e : c.split_at.result.1.now ≡ ip.payload p = c.split_at.ensures.back ∙ ap (drop 20) c.packet_in-packet.ensures ∙ sym (payload_is p c.requires.whole.header c.requires.whole.ends) in
     let header = c.header_length.ensures ∙ ap tcp.header_length e in
     let size = ap length e in

@@ -8,18 +8,12 @@ use Rattle.tcp_codec.specs.declared.header.SumRule.TheVariants.{Skip}
 use Rattle.tcp_codec.specs.Header as tcp_header
 use Rattle.emit_mtu.specs.Frames.{IsWhole}
 use Rattle.emit_mtu.proofs.Sent.{payload_is}
+use Rattle.emit_mtu.proofs.Facts.{both, not_one}
 use Rattle.emit_mtu.proofs.tests.is_whole.Goals as goal
 
 accepted : (fields head : Ipv4) (fault : Option IpFault) → Ok head ≡ ip_header.result_of fields fault → (head ≡ fields) × (fault ≡ None)
 accepted fields head None e = (cc, refl)
 accepted fields head (Some f) e = cc
-
-both : (a b : Bool) → (a && b) ≡ true → (a ≡ true) × (b ≡ true)
-both true b e = (refl, e)
-both false b e = cc
-
-not_one : (a : Bool) (n : ℕ) → a ≡ false → n ≡ 0 → (a || nat_lt 0 n) ≡ false
-not_one a n e f = rw (e, f) refl
 
 whole_by : (p : List ℕ) (head : Ipv4) → Ok head ≡ ip_header.parsed p → ((head.header == 20) && not head.more && (head.offset == 0) && (head.total == length p)) ≡ true → (head.protocol ≡ 6 → tcp_header.fault_of Skip 0 (drop 20 p) ≡ None) → IsWhole p
 whole_by p head read single segment =
