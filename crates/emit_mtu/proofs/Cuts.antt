@@ -1,13 +1,13 @@
 -- Frames that are cut.
-use Rattle.std.proofs.Common.{◌≡◌, ℕ, ◌<◌, ◌&&◌, nat_lt, Bool, true, false, List, length, ⊎_elim, refl, ap, arith}
+use Rattle.std.proofs.Common.{◌≡◌, ℕ, ◌<◌, Bool, true, false, List, length, ⊎_elim, refl, ap}
 use Rattle.std.proofs.lemmas.Bool.{eqb-true, not-true}
-use Rattle.std.proofs.lemmas.Bool.Decides.{nat_tests}
 use Rattle.wire_base.specs.declared.address.Link.{Link}
+use Rattle.wire_base.specs.declared.frame.FrameKind.TheVariants.{Ip}
 use Rattle.wire_base.specs.Frames.{kind_of}
 use Rattle.wire_base.specs.Ipv4 as ip
 use Rattle.wire_base.specs.Tcp as tcp
 use Rattle.emit_mtu.specs.declared.long.LongKind.TheVariants.{Cut}
-use Rattle.emit_mtu.specs.Frames.{IsSent, IsWhole, packet_in}
+use Rattle.emit_mtu.specs.Frames.{IsSent, IsWhole, link_size, packet_in}
 use Rattle.emit_mtu.specs.Long.{e_cut, e_mtu, is_ip, is_marked, long_kind}
 use Rattle.emit_mtu.proofs.Facts.{both, less}
 
@@ -38,6 +38,6 @@ is_cut link mtu frame h =
     }
 
 -- it carries a whole datagram
-pub is_whole : (link : Link) (mtu : ℕ) (frame : List ℕ) → IsSent link frame → long_kind link mtu frame ≡ Cut → IsWhole (packet_in link frame)
-is_whole link mtu frame sent h =
-    ⊎_elim (λ arp. absurd (let long = (both (is_ip (kind_of link frame)) _ (both _ _ (cut link mtu frame _ _ refl refl h)).0).0 in let none = ap is_ip arp in cc)) (λ carried. carried.1) sent
+pub carried : (link : Link) (mtu : ℕ) (frame : List ℕ) → IsSent link frame → long_kind link mtu frame ≡ Cut → (kind_of link frame ≡ Ip (link_size link)) × IsWhole (packet_in link frame)
+carried link mtu frame sent h =
+    ⊎_elim (λ arp. absurd (let long = (both (is_ip (kind_of link frame)) _ (both _ _ (cut link mtu frame _ _ refl refl h)).0).0 in let none = ap is_ip arp in cc)) (λ found. found) sent

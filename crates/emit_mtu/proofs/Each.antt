@@ -1,10 +1,9 @@
 -- What holds of each segment of a frame.
-use Rattle.std.proofs.Common.{◌≡◌, ℕ, ◌+◌, ◌-◌, ◌*◌, ◌%◌, ◌^◌, ◌<◌, ◌≤◌, ◌&&◌, nat_lt, zero, suc, Bool, true, false, List, [], ◌++◌, length, map, drop, All, Some, refl, sym, ap, subst, ◌∙◌, arith, length-drop, ⊎_elim}
+use Rattle.std.proofs.Common.{◌≡◌, ℕ, ◌+◌, ◌-◌, ◌*◌, ◌%◌, ◌^◌, ◌<◌, ◌≤◌, zero, suc, false, List, [], ◌++◌, length, map, drop, All, Some, refl, sym, ap, subst, ◌∙◌, arith, length-drop, ⊎_elim}
 use Rattle.std.specs.List.{flat_map, range_with_len}
 use Rattle.std.specs.Prelude.{slice_get}
 use Rattle.std.proofs.Math.Nat.{mul-le-mul_left}
 use Rattle.std.proofs.lemmas.Bool.{cases_lt}
-use Rattle.std.proofs.lemmas.Bool.Decides.{nat_tests}
 use Rattle.std.proofs.lemmas.Grind.{div_ceil_times}
 use Rattle.std.proofs.lemmas.List.{drop-drop, drop_all, take-append-drop}
 use Rattle.std.proofs.lemmas.List.FromFn.{get_or-map-range_with_len, length-map-range_with_len}
@@ -22,7 +21,7 @@ use Rattle.emit_mtu.specs.Long.{is_ip, is_long}
 use Rattle.emit_mtu.specs.Segments.{count_of, piece_of, room_of, segment_of, segments, segments_from}
 use Rattle.emit_mtu.specs.Laws.{AreFew, ArePlain, AreReadAsPieces, CarryThePayload, IsToBeCut, NoneIsLong, payload_in}
 use Rattle.emit_mtu.specs.Laws as laws
-use Rattle.emit_mtu.proofs.Cuts.{IsCut, is_cut, is_whole}
+use Rattle.emit_mtu.proofs.Cuts.{IsCut, carried, is_cut}
 use Rattle.emit_mtu.proofs.Fields.{fields_of-packet_of, room_is}
 use Rattle.emit_mtu.proofs.Headers.{behind-own, header-front, identification-front, identification-own}
 use Rattle.emit_mtu.proofs.Lengths.{length-piece_of}
@@ -51,7 +50,7 @@ pub cutting : (link : Link) (mtu : ℕ) (frame : List ℕ) → IsToBeCut link mt
 cutting link mtu frame h =
     let p = packet_in link frame in
     let cut = is_cut link mtu frame h.cut in
-    let whole = is_whole link mtu frame h.sent h.cut in
+    let whole = (carried link mtu frame h.sent h.cut).1 in
     let joined = are_joined link frame whole cut.protocol h.octets in
     let inside = is_faultless p whole cut.protocol in
     record {
@@ -63,7 +62,7 @@ cutting link mtu frame h =
     }
 
 -- a property of each piece's frame is one of all segments
-all_segments : (P : List ℕ → Type 0) (room : ℕ) (parts : Parts) → ((index : ℕ) → P (segment_of room parts index)) → All P (segments_from 0 room parts)
+pub all_segments : (P : List ℕ → Type 0) (room : ℕ) (parts : Parts) → ((index : ℕ) → P (segment_of room parts index)) → All P (segments_from 0 room parts)
 all_segments P room parts each k d inside =
     let count : k < count_of room parts - 0 = omega (arith, length-map-range_with_len (segment_of room parts) 0 (count_of room parts - 0)) in
     subst P (sym (get_or-map-range_with_len (segment_of room parts) 0 (count_of room parts - 0) k k d count (omega arith))) (each k)
@@ -98,9 +97,9 @@ none_too_long link mtu frame h =
     let c = cutting link mtu frame h in
     let room = room_of mtu parts in
     all_segments (λ segment. is_long link mtu segment ≡ false) room parts (λ index.
-        let fits = small link mtu frame c index in
-        let few : ip.total_length (packet_in link (segment_of room parts index)) ≤ mtu = omega (arith, fits.0, fits.1) in
-        and_false (is_ip (kind_of link (segment_of room parts index))) _ (at_most mtu _ few))
+    let fits = small link mtu frame c index in
+    let few : ip.total_length (packet_in link (segment_of room parts index)) ≤ mtu = omega (arith, fits.0, fits.1) in
+    and_false (is_ip (kind_of link (segment_of room parts index))) _ (at_most mtu _ few))
 
 pub are_few : AreFew
 are_few link mtu frame h =

@@ -8,8 +8,7 @@ use Rattle.wire_base.specs.declared.address.Link.TheVariants.{Ethernet, Raw}
 use Rattle.wire_base.specs.declared.frame.FrameKind.TheVariants.{Ip, Arp, Short, Other}
 use Rattle.wire_base.specs.Frames.{ethertype, kind_of}
 use Rattle.wire_base.specs.Ipv4 as ip
-use Rattle.wire_base.specs.Plain.{IsPlainHeader, Plain}
-use Rattle.ipv4_codec.specs.Header as ip_header
+use Rattle.wire_base.specs.Plain.{Plain}
 use Rattle.wire_base.specs.Sums.{sum_is_right}
 use Rattle.tcp_codec.specs.declared.header.SumRule.TheVariants.{Skip}
 use Rattle.tcp_codec.specs.Header.{fault_of}
@@ -42,13 +41,16 @@ whole-plain hops p plain = plain_headers_are_whole p plain.header (λ six. let t
 pub plain_is_sent : PlainIsSent
 plain_is_sent link hops frame kind plain = inr (kind, whole-plain hops (packet_in link frame) plain)
 
-not_short : (a b c : Bool) → (if a then Short else if b then Ip 14 else if c then Arp else Other) ≡ Ip 14 → a ≡ false
-not_short true b c e = cc
-not_short false b c e = refl
+-- what an Ethernet frame with IPv4 begins with
+pub carries : (a b c : Bool) → (if a then Short else if b then Ip 14 else if c then Arp else Other) ≡ Ip 14 → (a ≡ false) × (b ≡ true)
+carries true b c e = cc
+carries false true c e = (refl, refl)
+carries false false true e = cc
+carries false false false e = cc
 
 -- an Ethernet frame that carries IPv4 has an Ethernet header
 pub long_enough : (link : Link) (frame : List ℕ) → kind_of link frame ≡ Ip (link_size link) → link_size link ≤ length frame
-long_enough Ethernet frame kind = at_least (length frame) 14 (not_short _ (ethertype frame == 2048) (ethertype frame == 2054) kind)
+long_enough Ethernet frame kind = at_least (length frame) 14 (carries _ (ethertype frame == 2048) (ethertype frame == 2054) kind).0
 long_enough Raw frame kind = omega arith
 
 long_kind-packet : (link : Link) (mtu : ℕ) (frame : List ℕ) → kind_of link frame ≡ Ip (link_size link) → long_kind link mtu frame ≡ long_kind Raw mtu (packet_in link frame)
