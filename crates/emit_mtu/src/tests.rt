@@ -286,23 +286,29 @@ fn other_frames_stay_whole(rt: HostRuntime) -> Result<(), Fail> {
     Ok(())
 }
 
-// SYN, RST and URG stay whole, and so does a segment without octets: it does not go out where it is too long.
+// A segment is cut from one octet above the MTU on; one with SYN, RST or URG does not go out.
 #[test]
 fn marked_segments_do_not_go_out(rt: HostRuntime) -> Result<(), Fail> {
     let mut frame = [0; 1400];
     for (flags, len, kind) in [
         (0x18, 600, LongKind::Cut),
-        (0x02, 600, LongKind::Drop),
-        (0x14, 600, LongKind::Drop),
         (0x10, 536, LongKind::Fits),
         (0x10, 537, LongKind::Cut),
+        (0x02, 536, LongKind::Fits),
+        (0x02, 537, LongKind::Drop),
+        (0x12, 600, LongKind::Drop),
+        (0x04, 600, LongKind::Drop),
+        (0x14, 600, LongKind::Drop),
+        (0x30, 600, LongKind::Drop),
     ] {
         let row = Row {
-            flags,
+            flags: 0x18,
             len,
             ..ROWS[0]
         };
         let size = frame_of(&row, &mut frame)?;
+        // The checksum is not judged.
+        frame[33] = flags;
         let frame = &frame[..size];
         let sent = is_sent(Link::Raw, frame);
         assert!(rt; sent);
