@@ -77,8 +77,8 @@ abbrev pub IsLoad : List (List ℕ) → Type 0
 IsLoad words = (seed : ℕ) × (count : ℕ) × AsksLoad words seed count
 
 -- The words ask for a run.
-abbrev pub IsAccepted : List (List ℕ) → Type 0
-IsAccepted words = (settings : PlainSettings) × AsksRun words settings
+abbrev pub IsRun : List (List ℕ) → Type 0
+IsRun words = (settings : PlainSettings) × AsksRun words settings
 
 -- The words are refused.
 abbrev pub IsRefused : List (List ℕ) → Type 0

@@ -91,11 +91,11 @@ pub fn run<S: Source, K: Sink, R: Sink>(
     ensures report { result ≡ 7 → Rose (R.fault_count report.old) (R.fault_count report.new) }
 
     // What stands in the source is answered, unless a count rises or memory is wanting.
-    ensures faulty_exactly { spec.IsAccepted (map string_bytes words.now) →
+    ensures faulty_exactly { spec.IsRun (map string_bytes words.now) →
         stops.IsFaulty (S.left source.old) → (result ≡ 3) ⊎ (5 ≤ result) }
-    ensures cut_exactly { spec.IsAccepted (map string_bytes words.now) →
+    ensures cut_exactly { spec.IsRun (map string_bytes words.now) →
         stops.IsCutShort (S.left source.old) → (result ≡ 4) ⊎ (5 ≤ result) }
-    ensures complete { spec.IsAccepted (map string_bytes words.now) →
+    ensures complete { spec.IsRun (map string_bytes words.now) →
         stops.IsWhole (S.left source.old) → (result ≡ 0) ⊎ (5 ≤ result) }
 
     ensures known { (result ≡ 0) ⊎ ((2 ≤ result) × (result ≤ 8)) }
