@@ -1,4 +1,4 @@
-//! A capture is read, each of its records judged, and the normalized capture written with its report.
+//! A capture is read, each of its records judged, and the normalized capture written with its report; or a load is judged and summed up.
 #![tactic(auto)]
 
 pub mod laws;
