@@ -104,9 +104,8 @@ class Connection:
         self.sport = 1024 + number % 60000
         self.inside = 0x0A000001 + number % 200
         self.base = number * 2654435761 % 2**32
-        self.begun = 0
         self.end = self.acked = 0
-        self.again = None
+        self.latest = None
 
     def inward(self, seq, ack, flags, payload=b"", payload_sum=0):
         return tcp_packet(self.outside, self.sport, self.inside, 80, seq % 2**32, ack, flags, 65535, payload, payload_sum)
@@ -155,27 +154,39 @@ def ethernet(path, records, chance, _size):
     capture.close()
 
 
+def turn_of(connection, draw):
+    """The kinds of the next records of a connection: data, a fifth of it twice, and half of it acknowledged at once."""
+    again = ["again"] if draw() < 0.2 else []
+    acked = ["ack"] if draw() < 0.5 or connection.end - connection.acked > 20000 else []
+    return [*acked, *again, "data"]
+
+
 def tcp(path, records, chance, flows):
-    """TCP: data inwards in segments of up to 1,000 octets, a fifth sent twice, a hundredth of that changed; acknowledgments outwards."""
+    """TCP: connections begin, then data inwards in segments of up to 1,000 octets, a fifth sent twice, a hundredth of that changed, and acknowledgments."""
     capture = Capture(path)
     connections = [Connection(number) for number in range(flows)]
+    for connection in connections:
+        capture.add(connection.syn())
+        capture.add(connection.answer())
     draw = chance.random
-    while capture.records < records:
-        connection = connections[int(draw() * flows)]
-        if connection.begun < 2:
-            capture.add(connection.syn() if connection.begun == 0 else connection.answer())
-            connection.begun += 1
-        elif connection.again:
-            capture.add(connection.data(*connection.again, draw() < 0.01))
-            connection.again = None
-        elif connection.end - connection.acked > 20000 or (connection.end > connection.acked and draw() < 0.5):
+    # Those under way, so that records of many connections stand in turn, and are of the same kinds however many connections there are.
+    under_way = [(connections[0], [])] * 64
+    for _ in range(records):
+        place = int(draw() * 64)
+        connection, turn = under_way[place]
+        if not turn:
+            connection = connections[place + 64 * int(draw() * (flows // 64))]
+            turn = turn_of(connection, draw)
+            under_way[place] = (connection, turn)
+        kind = turn.pop()
+        if kind == "ack":
             capture.add(connection.ack())
+        elif kind == "again":
+            capture.add(connection.data(*connection.latest, draw() < 0.01))
         else:
-            size = 1 + int(draw() * 1000)
-            capture.add(connection.data(connection.end, size))
-            if draw() < 0.2:
-                connection.again = (connection.end, size)
-            connection.end += size
+            connection.latest = (connection.end, 1 + int(draw() * 1000))
+            capture.add(connection.data(*connection.latest))
+            connection.end += connection.latest[1]
     capture.close()
 
 
@@ -218,6 +229,29 @@ def syns(path, records, chance, _flows):
     capture = Capture(path)
     for _ in range(records):
         capture.add(stray_syn(chance))
+    capture.close()
+
+
+def ports_in_one_chain(outside, inside, dport):
+    """The ports with which an address is in the first chain of a table of 4,096 connections under the seed 0 (`crates/tcp_norm/src/key.rt`)."""
+    factor = 11400714819323198485
+    first = ((outside << 16) * factor + (inside << 16 | dport)) * factor
+    step = factor * factor % 2**64
+    return [port for port in range(1024, 61024) if ((first + port * step) % 2**64 >> 16) % 4097 == 0]
+
+
+def chains(path, records, chance, count):
+    """SYNs, again and again, of connections that the table of 4,096 keeps in one chain, where its seed is 0."""
+    capture = Capture(path)
+    ends = []
+    while len(ends) < count:
+        outside = 0x66000000 + len(ends)
+        ends += [(outside, port) for port in ports_in_one_chain(outside, 0x0A000001, 80)]
+    packets = [tcp_packet(outside, port, 0x0A000001, 80, 1, 0, SYN) for outside, port in ends[:count]]
+    for packet in packets:
+        capture.add(packet)
+    for _ in range(records):
+        capture.add(packets[chance.randrange(count)])
     capture.close()
 
 
@@ -269,20 +303,21 @@ def resets(path, records, chance, flows):
     for connection in connections:
         capture.add(connection.syn())
         capture.add(connection.answer())
-        connection.begun = 2
-    while capture.records < records:
-        connection = connections[chance.randrange(flows)]
+    ended = None
+    for _ in range(records):
+        connection = ended or connections[chance.randrange(flows)]
         kind = chance.random()
-        if connection.begun < 2:
-            capture.add(connection.syn() if connection.begun == 0 else connection.answer())
-            connection.begun += 1
+        if ended:
+            capture.add(connection.syn())
+            capture.add(connection.answer())
+            ended = None
         elif kind < 0.6:
             capture.add(connection.inward(connection.base + chance.randrange(1, 2**32), 0, RST))
         elif kind < 0.9:
             capture.add(connection.inward(connection.base, 0, RST))
         else:
             capture.add(connection.outward(5001, connection.base, RST | ACK))
-            connection.begun = 0
+            ended = connection
     capture.close()
 
 
@@ -339,6 +374,7 @@ KINDS = {
     "fragments": (fragments, 4, 0, 0, []),
     "syns": (syns, 2, 4096, 256, ["--flows", "{size}"]),
     "held-syns": (held_syns, 20, 4096, 256, ["--flows", "{size}"]),
+    "chains": (chains, 20, 1024, 64, []),
     "pool-one": (pool_one, 50, 65536, 2048, ["--cells", "{size}"]),
     "pool-many": (pool_many, 5, 65536, 2048, ["--cells", "{size}"]),
     "lone-fragments": (lone, 2, 0, 0, []),

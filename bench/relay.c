@@ -8,6 +8,7 @@
    in microseconds, of Ethernet or raw IP. It drops fragments and packets with IP options, cleans no TCP options, and does not
    answer as norm does for every odd segment; for plain traffic the capture that it writes is norm's. */
 #define _POSIX_C_SOURCE 200809L
+#include <arpa/inet.h>
 #include <fcntl.h>
 #include <stdbool.h>
 #include <stdint.h>
@@ -76,13 +77,15 @@ static void put32(uint8_t *p, uint32_t v) { put16(p, v >> 16); put16(p + 2, v); 
 static uint32_t low32(const uint8_t *p) { return p[0] | (uint32_t)p[1] << 8 | (uint32_t)p[2] << 16 | (uint32_t)p[3] << 24; }
 static void put_low32(uint8_t *p, uint32_t v) { for (int i = 0; i < 4; i++) p[i] = (uint8_t)(v >> (8 * i)); }
 
-/* The sum of the words of these octets and of `extra`, in 16 bits. */
+/* The sum of the words of these octets and of `extra`, in 16 bits. The words are added as the machine reads them (RFC 1071 section 2). */
 static uint32_t sum_of(const uint8_t *p, size_t n, uint64_t extra) {
-    uint64_t sum = extra;
+    uint64_t sum = 0;
+    uint32_t word;
     size_t i = 0;
-    for (; i + 4 <= n; i += 4) sum += get32(p + i);
-    if (i + 2 <= n) { sum += get16(p + i); i += 2; }
-    if (i < n) sum += (uint64_t)p[i] << 8;
+    for (; i + 4 <= n; i += 4) { memcpy(&word, p + i, 4); sum += word; }
+    if (i < n) { word = 0; memcpy(&word, p + i, n - i); sum += word; }
+    while (sum >> 16) sum = (sum & 0xffff) + (sum >> 16);
+    sum = ntohs((uint16_t)sum) + extra;
     while (sum >> 16) sum = (sum & 0xffff) + (sum >> 16);
     return (uint32_t)sum;
 }
