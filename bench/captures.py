@@ -59,8 +59,10 @@ class Capture:
         self.parts.clear()
 
     def close(self):
+        """Answers how many records the capture has."""
         self.flush()
         self.file.close()
+        return self.records
 
 
 def ip_head(source, target, protocol, size, number=0, fragment=0, ttl=64):
@@ -138,7 +140,7 @@ def udp(path, records, chance, _size):
         outside, inside = 0xC6336400 + chance.randrange(256), 0x0A000001 + chance.randrange(0xFFFFF)
         source, target = (inside, outside) if chance.random() < 0.5 else (outside, inside)
         capture.add(udp_packet(source, 4000 + number % 1000, target, 53, number * 31, 72, number % 65536))
-    capture.close()
+    return capture.close()
 
 
 def ethernet(path, records, chance, _size):
@@ -151,7 +153,7 @@ def ethernet(path, records, chance, _size):
         source, target = (inside, outside) if not low and chance.random() < 0.5 else (outside, inside)
         size = chance.randrange(36, 1373)
         capture.add(link + udp_packet(source, 4000, target, 53, number * 31, size, number % 65536, chance.randrange(1, 31) if low else 64))
-    capture.close()
+    return capture.close()
 
 
 def turn_of(connection, draw):
@@ -187,7 +189,7 @@ def tcp(path, records, chance, flows):
             connection.latest = (connection.end, 1 + int(draw() * 1000))
             capture.add(connection.data(*connection.latest))
             connection.end += connection.latest[1]
-    capture.close()
+    return capture.close()
 
 
 def fragments(path, records, chance, _size):
@@ -207,7 +209,7 @@ def fragments(path, records, chance, _size):
         for turn in range(3):
             for pieces in waiting:
                 capture.add(pieces[turn])
-    capture.close()
+    return capture.close()
 
 
 def lone(path, records, chance, _size):
@@ -216,7 +218,7 @@ def lone(path, records, chance, _size):
     payload, _ = octets_at(0, 80)
     for _ in range(records):
         capture.add(ip_head(0x64400000 + chance.randrange(2**20), 0x0A000001, UDP, 80, chance.randrange(65536), MORE) + payload)
-    capture.close()
+    return capture.close()
 
 
 def stray_syn(chance):
@@ -224,12 +226,12 @@ def stray_syn(chance):
                       chance.randrange(2**32), 0, SYN)
 
 
-def syns(path, records, chance, _flows):
-    """SYNs of connections that are never answered, each in the place of the oldest one."""
+def syns(path, records, chance, flows):
+    """SYNs of connections that are never answered: the table fills, and then each comes in the place of the oldest one."""
     capture = Capture(path)
-    for _ in range(records):
+    for _ in range(flows + records):
         capture.add(stray_syn(chance))
-    capture.close()
+    return capture.close()
 
 
 def ports_in_one_chain(outside, inside, dport):
@@ -252,7 +254,7 @@ def chains(path, records, chance, count):
         capture.add(packet)
     for _ in range(records):
         capture.add(packets[chance.randrange(count)])
-    capture.close()
+    return capture.close()
 
 
 def held_syns(path, records, chance, flows):
@@ -264,7 +266,7 @@ def held_syns(path, records, chance, flows):
             capture.add(packet)
     for _ in range(records):
         capture.add(stray_syn(chance))
-    capture.close()
+    return capture.close()
 
 
 def pool(path, records, chance, cells, flows):
@@ -283,17 +285,17 @@ def pool(path, records, chance, cells, flows):
             capture.add(connection.data(256 * block, 1))
     for _ in range(records):
         capture.add(connections[chance.randrange(flows)].data(256 * chance.randrange(2 * each), 1))
-    capture.close()
+    return capture.close()
 
 
 def pool_one(path, records, chance, cells):
     """Segments of one octet over a full pool, all cells held by one connection."""
-    pool(path, records, chance, cells, 1)
+    return pool(path, records, chance, cells, 1)
 
 
 def pool_many(path, records, chance, cells):
     """Segments of one octet over a full pool, sixteen cells held by each connection."""
-    pool(path, records, chance, cells, cells // 16)
+    return pool(path, records, chance, cells, cells // 16)
 
 
 def resets(path, records, chance, flows):
@@ -318,7 +320,7 @@ def resets(path, records, chance, flows):
         else:
             capture.add(connection.outward(5001, connection.base, RST | ACK))
             ended = connection
-    capture.close()
+    return capture.close()
 
 
 def drops(path, records, chance, _size):
@@ -347,7 +349,7 @@ def drops(path, records, chance, _size):
         else:
             good = tcp_packet(outside, 4000, inside, 80, number, 0, RST, 65535, payload, payload_sum)
         capture.add(good)
-    capture.close()
+    return capture.close()
 
 
 def wrong_sums(path, records, chance, _size):
@@ -361,10 +363,11 @@ def wrong_sums(path, records, chance, _size):
         else:
             packet = tcp_packet(outside, 4000, inside, 80, number, 0, ACK, 65535, payload, payload_sum)
         capture.add(packet[:-1] + bytes([packet[-1] ^ 1]))
-    capture.close()
+    return capture.close()
 
 
-# What kinds there are: the maker, by what the number of records is divided, the number that it takes in a whole run and in a small one, and the options.
+# The kinds: the maker, by what the number of records is divided, the number of connections, cells or packets that it takes in a whole run and in a small
+# one, and norm's options.
 KINDS = {
     "udp": (udp, 1, 0, 0, []),
     "ethernet": (ethernet, 5, 0, 0, []),
@@ -385,7 +388,5 @@ KINDS = {
 
 
 def make(kind, path, records, seed, size):
-    """Makes a capture of this kind with about so many records, and answers what it holds."""
-    maker = KINDS[kind][0]
-    maker(path, records, random.Random(seed), size)
-    return maker.__doc__
+    """Makes a capture of this kind with so many records beside those with which it begins, and answers how many it has in all."""
+    return KINDS[kind][0](path, records, random.Random(seed), size)
