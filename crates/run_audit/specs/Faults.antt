@@ -1,0 +1,109 @@
+-- What may be wrong with a frame, after those before it (this project's profile). Base, Acked, First, Top, End and the place of a number are the words of
+-- `era_state`: `ws` are the segments written in the frame's era before it, and `w` is its own.
+use Rattle.std.specs.Prelude.{◌≡◌, ◌≢◌, ◌⊎◌, ℕ, ◌==◌, ◌&&◌, ◌||◌, not, Bool, true, false, List, [], ◌∷◌, ◌++◌, length, ℤ, pos, ◌+ℤ◌, int_le, int_lt, Option, Some, None, IsSome, is_none, is_ok}
+use Rattle.std.specs.Ordering.{int_eq}
+use Rattle.std.specs.List.{AllByRecursion}
+use Rattle.wire_base.specs.declared.address.Side.{Side}
+use Rattle.wire_base.specs.declared.address.Side.TheVariants.{Inward, Outward}
+use Rattle.wire_base.specs.Ipv4 as ip
+use Rattle.wire_base.specs.Tcp as tcp
+use Rattle.wire_base.specs.Plain.{Plain}
+use Rattle.wire_base.specs.Segments.{Segment, Written, segment_of, written_of}
+use Rattle.ipv4_codec.specs.Header as header
+use Rattle.tcp_codec.specs.Header as segment
+use Rattle.tcp_codec.specs.declared.header.SumRule.TheVariants.{Skip}
+use Rattle.era_state.specs.Offsets.{off}
+use Rattle.era_state.specs.Marks.{has_octets}
+use Rattle.era_state.specs.Quantities.{base_of, base_at, acked, top, first, end_of}
+use Rattle.era_state.specs.Rules.{precedes}
+use Rattle.era_agreement.specs.Sent.{Sent, written_in}
+use Rattle.run_audit.specs.declared.answer.Reason.{Reason}
+use Rattle.run_audit.specs.declared.answer.Reason.TheVariants.{Count, Plain as Misread, Base, Syn, Octet, Fin}
+use Rattle.run_audit.specs.Frames.{Frame}
+
+-- the packet is a TCP segment whose headers have no fault, its TCP checksum not being judged
+abbrev pub is_segment : List ℕ → Bool
+is_segment p = is_ok (header.parsed p) && (ip.protocol p == 6) && is_ok (segment.parsed Skip 0 (ip.payload p))
+
+-- plain: a frame that went inwards is not plain for so many routers, or its entry names an era and it is not TCP; one that went outwards in an era is no
+-- segment; or the entry names an era and no side
+abbrev pub IsMisreadAs : (hops : ℕ) → List ℕ → Option Side → (era : Option ℕ) → Type 0
+IsMisreadAs hops p (Some Inward) era = (Plain hops p → ⊥) ⊎ (IsSome era × (ip.protocol p ≢ 6))
+IsMisreadAs hops p (Some Outward) era = IsSome era × (is_segment p ≡ false)
+IsMisreadAs hops p None era = IsSome era
+
+-- base: octets or a FIN, and no base is fixed up to and with the segment
+abbrev pub lacks_base : List Written → Written → Bool
+lacks_base ws w = is_none (base_of (ws ++ w ∷ [])) && (has_octets w || tcp.has_fin w.flags)
+
+-- syn: a SYN whose number is not the one before the base
+abbrev pub has_other_syn : List Written → Written → Bool
+has_other_syn ws w = tcp.has_syn w.flags && not (precedes (base_of (ws ++ w ∷ [])) w.seq)
+
+-- an octet is another one than the first at its place
+abbrev pub is_other : Option ℕ → (octet : ℕ) → Bool
+is_other None octet = false
+is_other (Some first) octet = not (first == octet)
+
+-- a place is at or past the end, where this is pinned
+abbrev pub is_past : (end : Option ℤ) → (place : ℤ) → Bool
+is_past None place = false
+is_past (Some end) place = int_le end place
+
+-- of octets that stand from this place on, one is another than the first at its place, or stands at or past the end
+abbrev pub some_strays : (first : ℤ → Option ℕ) → (end : Option ℤ) → (place : ℤ) → List ℕ → Bool
+some_strays first end place [] = false
+some_strays first end place (octet ∷ octets) =
+    (is_other (first place) octet || is_past end place) || some_strays first end (place +ℤ pos 1) octets
+
+-- octet: one that is another than the first at its place, or stands at or past the end that was pinned before
+abbrev pub has_other_octet : List Written → Written → Bool
+has_other_octet ws w =
+    let base = base_at (ws ++ w ∷ []) in
+    some_strays (first base ws) (end_of base ws) (off base (acked base ws) w.seq) w.octets
+
+-- a FIN's place is another than the end; where none is pinned, it is below the place behind all octets
+abbrev pub fin_strays : (end : Option ℤ) → (top : ℕ) → (place : ℤ) → Bool
+fin_strays None top place = int_lt place (pos top)
+fin_strays (Some end) top place = not (int_eq place end)
+
+-- fin: one at another place than the end that was pinned before, or, where none was, below Top up to and with the segment
+abbrev pub has_other_fin : List Written → Written → Bool
+has_other_fin ws w =
+    let base = base_at (ws ++ w ∷ []) in
+    tcp.has_fin w.flags && fin_strays (end_of base ws) (top base (ws ++ w ∷ [])) (off base (acked base ws) w.seq +ℤ pos (length w.octets))
+
+-- the frame went inwards in an era, and this holds of its segment after those written in the era before it
+abbrev pub in_stream_as : (List Written → Written → Bool) → List Sent → Option Side → (era : Option ℕ) → Option Segment → Bool
+in_stream_as test older (Some Inward) (Some era) (Some s) = test (written_in era older) (written_of true s)
+in_stream_as test older _ _ _ = false
+
+abbrev pub in_stream : (List Written → Written → Bool) → List Sent → Frame → Bool
+in_stream test older f = in_stream_as test older f.side f.era (segment_of f.packet)
+
+-- the reason holds of the frame, after what was sent before it; that a frame is missing in the capture or in the report is said of no frame
+abbrev pub Holds : (hops : ℕ) → List Sent → Frame → Reason → Type 0
+Holds hops older f Count = ⊥
+Holds hops older f Misread = IsMisreadAs hops f.packet f.side f.era
+Holds hops older f Base = in_stream lacks_base older f ≡ true
+Holds hops older f Syn = in_stream has_other_syn older f ≡ true
+Holds hops older f Octet = in_stream has_other_octet older f ≡ true
+Holds hops older f Fin = in_stream has_other_fin older f ≡ true
+
+-- the reasons before one, in the order in which they are asked
+abbrev pub earlier : Reason → List Reason
+earlier Count = []
+earlier Misread = Count ∷ []
+earlier Base = Count ∷ Misread ∷ []
+earlier Syn = Count ∷ Misread ∷ Base ∷ []
+earlier Octet = Count ∷ Misread ∷ Base ∷ Syn ∷ []
+earlier Fin = Count ∷ Misread ∷ Base ∷ Syn ∷ Octet ∷ []
+
+-- this is the first reason that holds of the frame
+pub record IsFirstReason (hops : ℕ) (older : List Sent) (f : Frame) (reason : Reason) : Type 0 where
+  pub holds : Holds hops older f reason
+  pub none_before : AllByRecursion (λ other. Holds hops older f other → ⊥) (earlier reason)
+
+-- no reason holds of it
+abbrev pub IsFaultless : (hops : ℕ) → List Sent → Frame → Type 0
+IsFaultless hops older f = (reason : Reason) → Holds hops older f reason → ⊥

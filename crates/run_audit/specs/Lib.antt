@@ -1,0 +1,12 @@
+pub mod Words
+pub mod Frames
+pub mod Faults
+pub mod FirstFault
+pub mod Named
+pub mod Sound
+pub mod Answers
+pub mod Audits
+pub mod Offsets
+pub mod Kept
+pub mod Ledgers
+pub mod Laws

@@ -1,0 +1,23 @@
+-- The eras that a report names (this project's profile).
+use Rattle.std.specs.Prelude.{ℕ, ◌==◌, List, [], ◌∷◌, ◌++◌, length, map, Option, if◌then◌else◌}
+use Rattle.std.specs.List.{flat_map, list_any}
+use Rattle.std.specs.Option.{option_to_list}
+use Rattle.rule_book.specs.Entries.{PlainEntry}
+use Rattle.rule_book.specs.declared.entry.Ended.{Ended}
+
+-- those that an entry names behind `@`, `+` and `-`, in the order of the line
+abbrev pub named_in : PlainEntry → List ℕ
+named_in entry = option_to_list entry.era ++ option_to_list entry.begun ++ map (λ (e : Ended). e.era) entry.ended
+
+-- one more number behind others, where it is not among them
+abbrev pub noted : List ℕ → ℕ → List ℕ
+noted numbers number = if list_any (λ other. number == other) numbers then numbers else numbers ++ number ∷ []
+
+-- more numbers behind others, each once
+abbrev pub all_noted : List ℕ → List ℕ → List ℕ
+all_noted numbers [] = numbers
+all_noted numbers (number ∷ more) = all_noted (noted numbers number) more
+
+-- the different eras that entries name, in the order in which they are named first
+abbrev pub eras_named : List PlainEntry → List ℕ
+eras_named entries = all_noted [] (flat_map named_in entries)

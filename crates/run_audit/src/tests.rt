@@ -1,0 +1,294 @@
+//! Audits of captures and reports that were worked out by hand.
+ghost use Rattle.std.specs.Prelude.{◌<◌, ◌≤◌, ◌+◌, length};
+
+use crate::audit;
+use arrayvec::ArrayVec;
+use edge_io::{MemSink, MemSource, NoMemory};
+use ipv4_codec::{Ipv4, write_plain};
+use std::alloc::{AllocError, Global};
+use std::test::Fail;
+use tcp_codec::{SegmentParts, write_segment};
+use wire_base::{Addr, Flags};
+
+/// Little-endian, microseconds, raw IP.
+const HEAD: [u8; 24] = [
+    0xd4, 0xc3, 0xb2, 0xa1, 2, 0, 4, 0, 0, 0, 0, 0, 0, 0, 0, 0, 0, 0, 4, 0, 101, 0, 0, 0,
+];
+
+/// The address of the host outside, and of the one inside.
+const OUTSIDE: Addr = Addr(0xc633_6407);
+
+const INSIDE: Addr = Addr(0x0a00_0001);
+
+const FIN: u8 = 1;
+
+const SYN: u8 = 2;
+
+const RST: u8 = 4;
+
+const PSH: u8 = 8;
+
+const ACK: u8 = 16;
+
+/// A TCP packet with a TTL of 64: whether it goes inwards, its sequence number, acknowledgment, flags and payload.
+type Packet = (bool, u32, u32, u8, &'static [u8]);
+
+/// What opens a connection: SYN 999, SYN ACK 5000 and ACK 1000.
+const CALL: Packet = (true, 999, 0, SYN, b"");
+
+const ANSWER: Packet = (false, 5000, 1000, SYN | ACK, b"");
+
+const OPENED: Packet = (true, 1000, 5001, ACK, b"");
+
+/// Octets at 1000, and the same with another third one.
+const ABCD: Packet = (true, 1000, 5001, PSH | ACK, b"abcd");
+
+const ABXD: Packet = (true, 1000, 5001, PSH | ACK, b"abXd");
+
+/// The report of a connection with two segments behind its opening.
+const REPORT: &str =
+    "norm 2\n1 in pass 1 @1 +1\n2 out pass 1 @1\n3 in pass 1 @1\n4 in pass 1 @1\n5 in fix 1 T_CLASH @1\nend 5 5\n";
+
+/// The octets of a packet.
+fn packet_octets(alloc: Global, packet: Packet) -> Result<Vec<u8>, AllocError> {
+    let (inward, seq, ack, flags, payload) = packet;
+    let (src, dst) = if inward {
+        (OUTSIDE, INSIDE)
+    } else {
+        (INSIDE, OUTSIDE)
+    };
+    let (sport, dport) = if inward { (40000, 80) } else { (80, 40000) };
+    let mut octets = [0; 100];
+    let payload = &payload[..payload.len().min(60)];
+    let parts = SegmentParts {
+        src,
+        dst,
+        sport,
+        dport,
+        seq,
+        ack,
+        flags: Flags(flags & 31),
+        window: 8192,
+        options: ArrayVec::new(),
+    };
+    let size = write_segment(&parts, payload, &mut octets[20..]);
+    let head = Ipv4 {
+        header: 20,
+        tos: 0,
+        total: 0,
+        ident: 1,
+        reserved: false,
+        df: false,
+        more: false,
+        offset: 0,
+        ttl: 64,
+        protocol: 6,
+        sum: 0,
+        src,
+        dst,
+    };
+    write_plain(&head, size as u16, &mut octets);
+    Vec::from_slice(alloc, &octets[..20 + size])
+}
+
+/// A capture of these packets, all at time 0.
+fn capture_file(alloc: Global, packets: &[Packet]) -> Result<Vec<u8>, AllocError> {
+    let mut file = Vec::from_slice(alloc, &HEAD)?;
+    for packet in packets {
+        let octets = packet_octets(alloc, *packet)?;
+        let size = octets.len().min(255) as u8;
+        file.extend_from_slice(&[0, 0, 0, 0, 0, 0, 0, 0, size, 0, 0, 0, size, 0, 0, 0])?;
+        file.extend_from_slice(&octets)?;
+    }
+    Ok(file)
+}
+
+/// The list of this one call, and no call for 0.
+fn only(alloc: Global, call: u32) -> Result<Vec<u32>, AllocError> {
+    let mut calls = Vec::new(alloc);
+    if call > 0 {
+        calls.push(call)?;
+    }
+    Ok(calls)
+}
+
+fn line(alloc: Global, words: &[&str]) -> Result<Vec<String>, AllocError> {
+    let mut line = Vec::new(alloc);
+    for word in words {
+        line.push(String::from_str(alloc, word)?)?;
+    }
+    Ok(line)
+}
+
+/// Audits a capture and a report, in pieces of 7 octets, and answers the status and what the output holds. Of the capture, the report and the
+/// output the call of the given number fails; 0 is none.
+fn audited(
+    alloc: Global,
+    words: &[&str],
+    capture: Vec<u8>,
+    report: &[u8],
+    failing: (u32, u32, u32),
+) -> Result<(u8, Vec<u8>), Fail> {
+    let words = line(alloc, words)?;
+    let mut capture = MemSource::new(capture, 7, only(alloc, failing.0)?);
+    let mut report = MemSource::new(Vec::from_slice(alloc, report)?, 7, only(alloc, failing.1)?);
+    let mut out = MemSink::new(alloc, 100, only(alloc, failing.2)?)?;
+    let status = audit(alloc, &words, &mut capture, &mut report, &mut out);
+    Ok((status, Vec::from_slice(alloc, out.held())?))
+}
+
+/// The packets of a capture, its report, and the line and the status of their audit for 30 routers.
+type Row = (&'static [Packet], &'static str, &'static str, u8);
+
+const ROWS: [Row; 14] = [
+    (&[CALL, ANSWER, OPENED, ABCD, ABCD], REPORT, "yes 1 5\n", 0),
+    (
+        &[CALL, ANSWER, OPENED, ABCD, ABXD],
+        REPORT,
+        "no 5 octet\n",
+        1,
+    ),
+    (
+        &[CALL, ANSWER, OPENED, ABCD, ABCD],
+        "norm 2\n1 in pass 1 @1 +1\n2 out pass 1 @1\n3 in pass 1 @1\n4 in pass 1 @1\n5 in fix 1 T_CLASH @1\n",
+        "stop report 7\n",
+        9,
+    ),
+    (&[CALL, ANSWER, OPENED, ABCD], REPORT, "no 5 count\n", 1),
+    (
+        &[CALL, ANSWER, OPENED, ABCD, ABCD, ABCD],
+        REPORT,
+        "no 6 count\n",
+        1,
+    ),
+    (
+        &[ABCD],
+        "norm 2\n1 in pass 1 @1 +1\nend 1 1\n",
+        "no 1 base\n",
+        1,
+    ),
+    (
+        &[CALL, (true, 1500, 0, SYN, b"")],
+        "norm 2\n1 in pass 1 @1 +1\n2 in pass 1 @1\nend 2 2\n",
+        "no 2 syn\n",
+        1,
+    ),
+    (
+        &[
+            CALL,
+            ANSWER,
+            (true, 1004, 5001, FIN | ACK, b""),
+            (true, 1005, 5001, FIN | ACK, b""),
+        ],
+        "norm 2\n1 in pass 1 @1 +1\n2 out pass 1 @1\n3 in pass 1 @1\n4 in pass 1 @1\nend 4 4\n",
+        "no 4 fin\n",
+        1,
+    ),
+    (
+        &[CALL, ANSWER, ABCD, (true, 1003, 5001, FIN | ACK, b"")],
+        "norm 1\n1 in pass 1 @1 +1\n2 out pass 1 @1\n3 in pass 1 @1\n4 in pass 1 @1 -1:idle\nend 4 4\n",
+        "no 4 fin\n",
+        1,
+    ),
+    (
+        &[CALL, ANSWER, (true, 1003, 5001, FIN | ACK, b""), ABCD],
+        "norm 2\n1 in pass 1 @1 +1\n2 out pass 1 @1\n3 in pass 1 @1\n4 in pass 1 @1\nend 4 4\n",
+        "no 4 octet\n",
+        1,
+    ),
+    (
+        &[CALL],
+        "norm 2\n1 - pass 1 @1\nend 1 1\n",
+        "no 1 plain\n",
+        1,
+    ),
+    (
+        &[],
+        "norm 2\n1 in hold 0 F_HELD\n2 in drop 0 T_FULL -7:reset:0 -9:idle:0\nend 2 0\n",
+        "yes 2 0\n",
+        0,
+    ),
+    (&[], "norm 3\nend 0 0\n", "stop report 1\n", 9),
+    (
+        &[],
+        "norm 2\n1 in hold 0 F_HELD\nstop cut 24\n",
+        "stop report 3\n",
+        9,
+    ),
+];
+
+#[test]
+fn each_reason_is_told(rt: HostRuntime) -> Result<(), Fail> {
+    for (packets, report, expected, status) in ROWS {
+        let capture = capture_file(rt.alloc(), packets)?;
+        let (answer, text) = audited(
+            rt.alloc(),
+            &["a", "b", "30"],
+            capture,
+            report.as_bytes(),
+            (0, 0, 0),
+        )?;
+        assert_eq!(rt; text.as_slice(), expected.as_bytes(), "{report}");
+        assert_eq!(rt; answer, status, "{report}");
+    }
+    Ok(())
+}
+
+// A ACK of 2^31 - 1 and one of 2^32 - 2 more octets move the places by a turn: the same numbers then name other octets.
+#[test]
+fn numbers_are_read_from_what_is_acknowledged(rt: HostRuntime) -> Result<(), Fail> {
+    let packets = [
+        CALL,
+        ANSWER,
+        ABCD,
+        (false, 5001, 2147484647, ACK, b"".as_slice()),
+        (false, 5001, 998, ACK, b"".as_slice()),
+        (true, 998, 5001, PSH | ACK, b"wxyz".as_slice()),
+        ABCD,
+    ];
+    let report =
+        b"norm 2\n1 in pass 1 @1\n2 out pass 1 @1\n3 in pass 1 @1\n4 out pass 1 @1\n5 out pass 1 @1\n6 in pass 1 @1\n7 in pass 1 @1\nend 7 7\n";
+    let capture = capture_file(rt.alloc(), &packets)?;
+    let (answer, text) = audited(rt.alloc(), &["a", "b", "0"], capture, report, (0, 0, 0))?;
+    assert_eq!(rt; text.as_slice(), b"no 7 octet\n".as_slice());
+    assert_eq!(rt; answer, 1);
+    Ok(())
+}
+
+/// Words, how many octets of the capture of an opening there are, which calls fail, and the line and the status.
+type Stop = (
+    &'static [&'static str],
+    usize,
+    (u32, u32, u32),
+    &'static str,
+    u8,
+);
+
+const STOPS: [Stop; 14] = [
+    (&["a", "b", "254"], 24, (0, 0, 0), "yes 0 0\n", 0),
+    (&["a", "b", "000"], 24, (0, 0, 0), "yes 0 0\n", 0),
+    (&["a", "b"], 24, (0, 0, 0), "stop words\n", 2),
+    (&["", "b", "30"], 24, (0, 0, 0), "stop words\n", 2),
+    (&["a", "", "30"], 24, (0, 0, 0), "stop words\n", 2),
+    (&["a", "b", "255"], 24, (0, 0, 0), "stop words\n", 2),
+    (&["a", "b", "0030"], 24, (0, 0, 0), "stop words\n", 2),
+    (&["a", "b", "x"], 24, (0, 0, 0), "stop words\n", 2),
+    (&["a", "b", "30"], 23, (0, 0, 0), "stop cut 0\n", 4),
+    (&["a", "b", "30"], 70, (0, 0, 0), "stop cut 24\n", 4),
+    (&["a", "b", "30"], 80, (0, 0, 0), "no 1 count\n", 1),
+    (&["a", "b", "30"], 24, (5, 0, 0), "stop read\n", 5),
+    (&["a", "b", "30"], 24, (0, 3, 0), "stop read\n", 5),
+    (&["a", "b", "30"], 24, (0, 0, 1), "", 7),
+];
+
+#[test]
+fn each_stop_is_told(rt: HostRuntime) -> Result<(), Fail> {
+    for (words, size, failing, expected, status) in STOPS {
+        let mut capture = capture_file(rt.alloc(), &[CALL, ANSWER])?;
+        capture.truncate(size);
+        let (answer, text) = audited(rt.alloc(), words, capture, b"norm 2\nend 0 0\n", failing)?;
+        assert_eq!(rt; text.as_slice(), expected.as_bytes(), "{words:?} {size}");
+        assert_eq!(rt; answer, status, "{words:?} {size}");
+    }
+    Ok(())
+}
