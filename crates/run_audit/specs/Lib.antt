@@ -5,8 +5,6 @@ pub mod FirstFault
 pub mod Named
 pub mod Sound
 pub mod Answers
-pub mod Audits
 pub mod Offsets
 pub mod Kept
 pub mod Ledgers
-pub mod Laws

@@ -1,8 +1,12 @@
 //! What is known of an era from the segments that were written in it.
+ghost use Rattle.std.specs.Prelude.{◌≡◌, ℕ, ◌+◌, ◌^◌, ◌<◌, ◌≤◌, ◌++◌, ◌∷◌, ◌==◌, ◌&&◌, ◌||◌, not, nat_lt, max, [], List, length, Some, None, IfOk, vec_len};
+ghost use Rattle.wire_base.specs.Segments.{Written};
+ghost use Rattle.wire_base.specs.Tcp.{has_fin};
+ghost use Rattle.era_state.specs.Offsets.{natural, number_in, off};
 
 use crate::Reason;
 use crate::octets::Octets;
-use crate::offset::{Offset, number_after};
+use crate::offset::{Offset, begin, number_after};
 use edge_io::NoMemory;
 use std::alloc::Global;
 use wire_base::Flags;
@@ -13,6 +17,15 @@ pub(crate) struct Inward<'a> {
     pub(crate) seq: u32,
     pub(crate) flags: Flags,
     pub(crate) octets: &'a [u8],
+}
+
+impl Inward<'_> {
+    // Octets or a FIN.
+    fn brings_something(&self) -> bool
+        ensures { result ≡ (nat_lt 0 (length self.now.octets.now) || has_fin self.now.flags.0) }
+    {
+        !self.octets.is_empty() || self.flags.fin()
+    }
 }
 
 /// What is known of an era: its base, once it is fixed; what resets acknowledged before; what is acknowledged; the place behind all
@@ -28,71 +41,115 @@ pub(crate) struct Ledger {
 }
 
 impl Ledger {
+    ghost use Rattle.run_audit.specs.Ledgers.{HasRoom, IsInward, IsOutward, IsVerdict, IsVerdictAt, StandsFor, acked_with as acked_with_number, end_with, fixed, may_end, settled, top_with};
+
     /// That of an era without segments.
-    pub(crate) fn new(alloc: Global) -> Ledger {
+    pub(crate) fn new(alloc: Global) -> Ledger
+        ensures { StandsFor result [] }
+    {
         Ledger {
             base: None,
             resets: Vec::new(alloc),
             acked: 0,
-            top: Offset::BEGIN,
+            top: begin(),
             end: None,
             octets: Octets::new(alloc),
         }
     }
 
     /// Takes a segment that went outwards, with these flags and this acknowledgment.
-    pub(crate) fn acknowledge(&mut self, flags: Flags, number: u32) -> Result<(), NoMemory> {
+    pub(crate) fn acknowledge(&mut self, flags: Flags, number: u32) -> Result<(), NoMemory>
+        requires { HasRoom self.old }
+        ensures { IfOk result (λ _. (ws : List Written) (w : Written) → StandsFor self.old ws → IsOutward flags.0 number w → StandsFor self.new (ws ++ w ∷ [])) }
+    {
         if !flags.ack() {
             return Ok(());
         }
-        match self.base {
-            Some(base) => self.acked = acked_with(base, self.acked, number),
-            None => {
-                if flags.rst() {
-                    self.resets.push(number)?;
-                } else {
-                    self.fix(number);
-                    self.acked = acked_with(number, self.acked, number);
-                }
-            }
+        if let Some(base) = self.base {
+            self.reach(base, number);
+            return Ok(());
         }
+        if flags.rst() {
+            self.resets.push(number)?;
+            return Ok(());
+        }
+        self.fix(number);
+        self.reach(number, number);
         Ok(())
     }
 
     /// Takes a segment that went inwards, and answers what is wrong with it.
-    pub(crate) fn judge(&mut self, segment: Inward<'_>) -> Result<Option<Reason>, NoMemory> {
+    pub(crate) fn judge(&mut self, segment: Inward<'_>) -> Result<Option<Reason>, NoMemory>
+        requires room { HasRoom self.old }
+        requires short { length segment.octets.now < 2 ^ 16 }
+        ensures { IfOk result (λ verdict. (ws : List Written) (w : Written) → StandsFor self.old ws → IsInward segment.entry w → IsVerdict self.new ws w verdict) }
+    {
         let behind = number_after(segment.seq);
-        if self.base.is_none() && segment.flags.syn() {
-            self.fix(behind);
-        }
-        let Some(base) = self.base else {
-            let silent = segment.octets.is_empty() && !segment.flags.fin();
-            return Ok(if silent { None } else { Some(Reason::Base) });
+        let syn = segment.flags.syn();
+        let Some(base) = self.base_with(syn, behind) else {
+            if segment.brings_something() {
+                return Ok(Some(Reason::Base));
+            }
+            return Ok(None);
         };
-        if segment.flags.syn() && behind != base {
+        if is_another(syn, behind, base) {
             return Ok(Some(Reason::Syn));
         }
         self.judge_octets(base, segment)
     }
 
+    // The base, which a SYN fixes by the number behind it, where none is fixed.
+    fn base_with(&mut self, syn: bool, behind: u32) -> Option<u32>
+        requires { HasRoom self.old }
+        ensures changes { self.new ≡ settled self.old syn behind }
+        ensures base { result ≡ self.new.base }
+        ensures near { self.new.acked < 2 ^ 63 }
+    {
+        if syn && self.base.is_none() {
+            self.fix(behind);
+        }
+        self.base
+    }
+
     // Takes the octets and the FIN of a segment that went inwards, where this base is fixed.
-    fn judge_octets(&mut self, base: u32, segment: Inward<'_>) -> Result<Option<Reason>, NoMemory> {
+    fn judge_octets(&mut self, base: u32, segment: Inward<'_>) -> Result<Option<Reason>, NoMemory>
+        requires room { self.old.acked < 2 ^ 63 }
+        requires short { length segment.octets.now < 2 ^ 16 }
+        ensures same_base { IfOk result (λ _. self.new.base ≡ self.old.base) }
+        ensures same_resets { IfOk result (λ _. self.new.resets ≡ self.old.resets) }
+        ensures verdict { IfOk result (λ verdict. (ws : List Written) (w : Written) → IsInward segment.entry w → IsVerdictAt base self.old self.new ws w verdict) }
+    {
         let place = Offset::of(base, self.acked, segment.seq);
+        let behind = place.after(segment.octets.len());
         if !self.octets.add(place, segment.octets, self.end)? {
             return Ok(Some(Reason::Octet));
         }
-        let behind = place.after(segment.octets.len());
-        if !segment.octets.is_empty() && self.top.raised < behind.raised {
-            self.top = behind;
-        }
-        if segment.flags.fin() && !self.ends_at(behind) {
+        self.rise(segment.octets.len(), behind);
+        if !self.ends_at(segment.flags.fin(), behind) {
             return Ok(Some(Reason::Fin));
         }
         Ok(None)
     }
 
-    // Whether a FIN may stand at this offset; it is the end from then on.
-    fn ends_at(&mut self, place: Offset) -> bool {
+    // So many octets stand before this offset.
+    fn rise(&mut self, octets: usize, behind: Offset)
+        ensures { self.new ≡ record self.old { top = top_with self.old.top octets behind } }
+    {
+        if octets > 0 {
+            self.top = Offset {
+                raised: self.top.raised.max(behind.raised),
+            };
+        }
+    }
+
+    // Whether a FIN, where there is one, may stand at this offset: at the end, or behind all octets; it is the end from then on.
+    fn ends_at(&mut self, fin: bool, place: Offset) -> bool
+        ensures right { result ≡ may_end fin self.old.end self.old.top place }
+        ensures changes { self.new ≡ record self.old { end = end_with fin self.old.end place } }
+    {
+        if !fin {
+            return true;
+        }
         match self.end {
             Some(end) => place == end,
             None => {
@@ -103,17 +160,40 @@ impl Ledger {
     }
 
     // The base is fixed: what resets acknowledged before is read by it.
-    fn fix(&mut self, base: u32) {
+    fn fix(&mut self, base: u32)
+        requires { vec_len self.old.resets < 2 ^ 32 }
+        ensures changes { self.new ≡ fixed self.old base }
+        ensures near { self.new.acked < 2 ^ 63 }
+    {
         let mut acked = 0;
-        for number in self.resets.iter() {
+        for number in self.resets.as_slice() {
             acked = acked_with(base, acked, *number);
         }
         self.acked = acked;
         self.base = Some(base);
     }
+
+    // A number is acknowledged.
+    fn reach(&mut self, base: u32, number: u32)
+        requires { self.old.acked < 2 ^ 63 }
+        ensures { self.new ≡ record self.old { acked = acked_with_number base self.old.acked number } }
+    {
+        self.acked = acked_with(base, self.acked, number);
+    }
+}
+
+// A SYN, where there is one, has another number than the one before the base.
+fn is_another(syn: bool, behind: u32, base: u32) -> bool
+    ensures { result ≡ (syn && not (behind == base)) }
+{
+    syn && behind != base
 }
 
 // What is acknowledged, with one more number that is acknowledged.
-fn acked_with(base: u32, acked: u64, number: u32) -> u64 {
-    Offset::of(base, acked, number).or_zero().max(acked)
+fn acked_with(base: u32, acked: u64, number: u32) -> u64
+    requires { acked < 2 ^ 63 }
+    ensures value { result ≡ max acked (number_in (natural (off base acked number))) }
+    ensures near { result < acked + 2 ^ 31 }
+{
+    acked.max(Offset::of(base, acked, number).or_zero())
 }

@@ -2,7 +2,7 @@
 #![tactic(auto)]
 
 mod answer;
-mod audit;
+mod examine;
 mod frame;
 pub mod laws;
 mod ledger;
@@ -14,7 +14,7 @@ mod report;
 mod words;
 
 pub use answer::{Answer, Flaw, Reason};
-pub use audit::audit;
+pub use examine::audit;
 
 #[cfg(test)]
 mod tests;

@@ -1,4 +1,7 @@
 //! Offsets in the stream of an era.
+ghost use Rattle.std.specs.Prelude.{◌≡◌, ◌+◌, ◌%◌, ◌^◌, ◌<◌};
+ghost use Rattle.receiver_model.specs.Offsets as receiver;
+ghost use Rattle.era_state.specs.Offsets.{off, nat_of};
 
 // Half a turn of sequence numbers, and a turn.
 const HALF: u64 = 2147483648;
@@ -6,17 +9,25 @@ const HALF: u64 = 2147483648;
 const TURN: u64 = 4294967296;
 
 /// An offset in a stream, which may lie below 0: it is counted from half a turn below 0.
-#[derive(Clone, Copy, Debug, PartialEq, Eq, PartialOrd, Ord)]
+#[derive(Clone, Copy, Debug, PartialEq, Eq)]
 pub(crate) struct Offset {
     pub(crate) raised: u64,
 }
 
-impl Offset {
-    /// The begin of the stream.
-    pub(crate) const BEGIN: Offset = Offset { raised: HALF };
+/// The begin of the stream.
+pub(crate) fn begin() -> Offset
+    ensures { result.raised ≡ 2 ^ 31 }
+{
+    Offset { raised: HALF }
+}
 
+impl Offset {
     /// The offset of a sequence number, where so much is acknowledged.
-    pub(crate) fn of(base: u32, acked: u64, number: u32) -> Offset {
+    pub(crate) fn of(base: u32, acked: u64, number: u32) -> Offset
+        requires { acked < 2 ^ 63 }
+        ensures value { receiver.offset_in result.raised ≡ off base acked number }
+        ensures near { result.raised < acked + 2 ^ 32 }
+    {
         let from = (u64::from(base) + acked) % TURN;
         let past = (u64::from(number) + TURN - from) % TURN;
         if past < HALF {
@@ -31,19 +42,26 @@ impl Offset {
     }
 
     /// The offset so many octets further.
-    pub(crate) fn after(self, octets: usize) -> Offset {
+    pub(crate) fn after(self, octets: usize) -> Offset
+        requires { self.raised + octets < 2 ^ 64 }
+        ensures { result.raised ≡ self.raised + octets }
+    {
         Offset {
             raised: self.raised + octets as u64,
         }
     }
 
     /// The offset, and 0 in place of one below 0.
-    pub(crate) fn or_zero(self) -> u64 {
+    pub(crate) fn or_zero(self) -> u64
+        ensures { result ≡ nat_of (receiver.offset_in self.raised) }
+    {
         self.raised.saturating_sub(HALF)
     }
 }
 
 /// The sequence number behind this one.
-pub(crate) fn number_after(number: u32) -> u32 {
+pub(crate) fn number_after(number: u32) -> u32
+    ensures { result ≡ (number + 1) % 2 ^ 32 }
+{
     ((u64::from(number) + 1) % TURN) as u32
 }
