@@ -1,13 +1,10 @@
 -- What is known of an era, as the words of `era_state` have it of the segments that were written in it.
-use Rattle.std.specs.Prelude.{◌≡◌, ℕ, ◌^◌, ◌<◌, ◌≤◌, ◌==◌, ◌&&◌, ◌||◌, not, max, Bool, false, true, List, [], ◌∷◌, ◌++◌, length, fold, pos, Option, Some, None, vec_len, is_none, nat_le, nat_lt, if◌then◌else◌}
+use Rattle.std.specs.Prelude.{◌≡◌, ℕ, ◌^◌, ◌<◌, ◌≤◌, ◌==◌, ◌&&◌, ◌||◌, not, max, Bool, false, true, List, [], ◌∷◌, ◌++◌, length, fold, pos, Option, Some, None, vec_len, is_none, IsSome, nat_le, nat_lt, if◌then◌else◌}
 use Rattle.wire_base.specs.Segments.{Written}
 use Rattle.receiver_model.specs.Offsets as receiver
-use Rattle.indexmap.specs.IndexMap.{get}
-use Rattle.std.specs.Prelude.{nat_eq}
 use Rattle.era_state.specs.Offsets.{off, natural, number_in}
 use Rattle.era_state.specs.Quantities.{base_of, acked, top, first, end_of}
 use Rattle.era_state.specs.Emitted.{HasNoOtherBase}
-use Rattle.era_agreement.specs.Sent.{Sent, written_in}
 use Rattle.run_audit.specs.declared.answer.Reason.{Reason}
 use Rattle.run_audit.specs.declared.answer.Reason.TheVariants as reasons
 use Rattle.run_audit.specs.declared.ledger.Inward.{Inward}
@@ -39,15 +36,10 @@ pub record StandsFor (l : Ledger) (ws : List Written) : Type 0 where
   pub resets_are : base_of ws ≡ None → (base : ℕ) → acked base ws ≡ acked_by base l.resets.items
   pub few : vec_len l.resets ≤ length ws
 
--- the same of an era that may not be there: then no segment was written in it
-abbrev pub EraStands : Option Ledger → List Written → Type 0
-EraStands None ws = ws ≡ []
-EraStands (Some l) ws = StandsFor l ws
-
 -- the numbers of the fields stay in their types whatever segment comes next
 pub record HasRoom (l : Ledger) : Type 0 where
   pub resets : vec_len l.resets < 2 ^ 32
-  pub acked : l.acked < 2 ^ 63
+  pub acked : IsSome l.base → l.acked < 2 ^ 63
 
 -- read by this base, what is acknowledged, the octets, Top and End are those of these segments
 pub record ReadBy (base : ℕ) (l : Ledger) (ws : List Written) : Type 0 where

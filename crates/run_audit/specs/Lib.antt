@@ -8,3 +8,5 @@ pub mod Answers
 pub mod Offsets
 pub mod Kept
 pub mod Ledgers
+pub mod Eras
+pub mod Read

@@ -82,14 +82,7 @@ fn judge_capture<C: Source>(
             Err(fault) => return Err(flawed_record(fault, reader.offset())),
         };
         frames += 1;
-        if let Some(reason) = judge_next(
-            alloc,
-            eras,
-            hops,
-            head.link,
-            owners.next(),
-            record.bytes,
-        )? {
+        if let Some(reason) = judge_next(eras, hops, head.link, owners.next(), record.bytes)? {
             return Err(Answer::No {
                 frame: frames,
                 reason,
@@ -107,7 +100,6 @@ fn judge_capture<C: Source>(
 
 // What is wrong with a frame that belongs to this entry, if to one.
 fn judge_next(
-    alloc: Global,
     eras: &mut Eras,
     hops: u8,
     link: Link,
@@ -117,7 +109,7 @@ fn judge_next(
     let Some(entry) = owner else {
         return Ok(Some(Reason::Count));
     };
-    Ok(judge(alloc, eras, hops, entry, packet_in(link, octets))?)
+    Ok(judge(eras, hops, entry, packet_in(link, octets))?)
 }
 
 // The answer to a fault of the head.

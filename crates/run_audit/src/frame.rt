@@ -1,36 +1,54 @@
 //! A frame is judged by the entry that it belongs to and by what is known of its era.
 
+ghost use Rattle.std.specs.Prelude.{◌≡◌, ℕ, Some, ◌^◌, ◌<◌, List, false, length, nat_eq, IfOk, IfNone, IfSome, IsSome};
+ghost use Rattle.indexmap.specs.IndexMap.{get};
+ghost use Rattle.wire_base.specs.Plain.{Plain};
+ghost use Rattle.wire_base.specs.Segments.{Written};
+ghost use Rattle.wire_base.specs.declared.address.Side.{Side};
+ghost use Rattle.run_audit.specs.Faults.{is_segment};
+ghost use Rattle.run_audit.specs.Frames.{Frame, sent};
+ghost use Rattle.run_audit.specs.Frames as frames;
+ghost use Rattle.run_audit.specs.Ledgers.{IsInward, IsOutward};
+ghost use Rattle.run_audit.specs.Eras.{AllStandFor, EraHasRoom, EraStands, IsJudged, IsTaken, StandsForFew, Takes};
+ghost use Rattle.run_audit.specs.Read.{IsSegment};
+
 use crate::Reason;
-use crate::ledger::{Inward, Ledger};
+use crate::ledger::Inward;
 use crate::named::Eras;
 use edge_io::NoMemory;
+use era_state::laws::acked_grows_near;
 use receiver_model::{plain, read_plain};
 use rule_book::Entry;
-use std::alloc::Global;
 use tcp_codec::{SumRule, Tcp};
-use wire_base::{Link, Side};
+use wire_base::{Flags, Link, Side};
 
 const TCP: u8 = 6;
 
 /// The packet of a frame: behind 14 octets on Ethernet, and the whole frame on raw IP.
-pub(crate) fn packet_in(link: Link, octets: &[u8]) -> &[u8] {
+pub(crate) fn packet_in(link: Link, octets: &[u8]) -> &[u8]
+    ensures { result.now ≡ frames.packet_in link octets.now }
+{
     match link {
         Link::Ethernet => octets.get(14..).unwrap_or(&[]),
         Link::Raw => octets,
     }
 }
 
-/// What is wrong with a packet that belongs to this entry; it is noted in its era.
+/// What is wrong with a packet that belongs to this entry; where nothing is, it is noted in its era.
 pub(crate) fn judge(
-    alloc: Global,
     eras: &mut Eras,
     hops: u8,
     entry: &Entry,
     packet: &[u8],
-) -> Result<Option<Reason>, NoMemory> {
+) -> Result<Option<Reason>, NoMemory>
+    requires few { StandsForFew eras.old }
+    requires named { IfSome entry.now.era (λ era. IsSome (get nat_eq eras.old era)) }
+    ensures { IfOk result (λ verdict. (before : List Frame) → AllStandFor eras.old (sent before) →
+        IsJudged hops before (record { packet = packet.now; side = entry.now.side; era = entry.now.era }) eras.old eras.new verdict) }
+{
     match (entry.side, entry.era) {
-        (Some(Side::Inward), era) => judge_inward(alloc, eras, hops, era, packet),
-        (Some(Side::Outward), Some(era)) => judge_outward(alloc, eras, era, packet),
+        (Some(Side::Inward), era) => judge_inward(eras, hops, era, packet),
+        (Some(Side::Outward), Some(era)) => judge_outward(eras, era, packet),
         (None, Some(_)) => Ok(Some(Reason::Plain)),
         (_, None) => Ok(None),
     }
@@ -38,18 +56,39 @@ pub(crate) fn judge(
 
 // A packet that went inwards.
 fn judge_inward(
-    alloc: Global,
     eras: &mut Eras,
     hops: u8,
     era: Option<u32>,
     packet: &[u8],
-) -> Result<Option<Reason>, NoMemory> {
+) -> Result<Option<Reason>, NoMemory>
+    requires few { StandsForFew eras.old }
+    requires named { IfSome era (λ number. IsSome (get nat_eq eras.old number)) }
+    ensures { IfOk result (λ verdict. (before : List Frame) → AllStandFor eras.old (sent before) →
+        IsJudged hops before (record { packet = packet.now; side = Some Side.Inward; era = era }) eras.old eras.new verdict) }
+{
     if !plain(hops, packet) {
         return Ok(Some(Reason::Plain));
     }
-    let Some(era) = era else {
-        return Ok(None);
-    };
+    match era {
+        Some(era) => judge_in_stream(eras, hops, era, packet),
+        None => Ok(None),
+    }
+}
+
+// A plain packet that went inwards in an era.
+fn judge_in_stream(
+    eras: &mut Eras,
+    hops: u8,
+    era: u32,
+    packet: &[u8],
+) -> Result<Option<Reason>, NoMemory>
+    requires plain { Plain hops packet.now }
+    requires few { StandsForFew eras.old }
+    requires named { IsSome (get nat_eq eras.old era) }
+    ensures { IfOk result (λ verdict. (before : List Frame) → AllStandFor eras.old (sent before) →
+        IsJudged hops before (record { packet = packet.now; side = Some Side.Inward; era = Some era }) eras.old eras.new verdict) }
+{
+    acked_grows_near();
     if packet[9] != TCP {
         return Ok(Some(Reason::Plain));
     }
@@ -59,38 +98,65 @@ fn judge_inward(
         flags: fields.flags,
         octets: &packet[fields.start..],
     };
-    ledger_of(alloc, eras, era)?.judge(segment)
+    take_inward(eras, era, segment)
 }
 
 // A packet that went outwards in an era.
-fn judge_outward(
-    alloc: Global,
-    eras: &mut Eras,
-    era: u32,
-    packet: &[u8],
-) -> Result<Option<Reason>, NoMemory> {
+fn judge_outward(eras: &mut Eras, era: u32, packet: &[u8]) -> Result<Option<Reason>, NoMemory>
+    requires few { StandsForFew eras.old }
+    requires named { IsSome (get nat_eq eras.old era) }
+    ensures { (hops : ℕ) → IfOk result (λ verdict. (before : List Frame) → AllStandFor eras.old (sent before) →
+        IsJudged hops before (record { packet = packet.now; side = Some Side.Outward; era = Some era }) eras.old eras.new verdict) }
+{
+    acked_grows_near();
     let Some(head) = segment_in(packet) else {
         return Ok(Some(Reason::Plain));
     };
-    ledger_of(alloc, eras, era)?.acknowledge(head.flags, head.ack)?;
+    take_outward(eras, era, head.flags, head.ack)?;
     Ok(None)
 }
 
 // The header of the TCP segment that a packet carries; its checksum is not judged.
-fn segment_in(packet: &[u8]) -> Option<Tcp> {
-    let head = ipv4_codec::parse(packet).ok()?;
+fn segment_in(packet: &[u8]) -> Option<Tcp>
+    ensures none { IfNone result (is_segment packet.now ≡ false) }
+    ensures some { IfSome result (λ head. IsSegment packet.now head) }
+{
+    let Ok(head) = ipv4_codec::parse(packet) else {
+        return None;
+    };
     if head.protocol != TCP {
         return None;
     }
-    tcp_codec::parse(
-        &packet[head.header..usize::from(head.total)],
-        0,
-        SumRule::Skip,
-    )
-    .ok()
+    let segment = &packet[head.header..usize::from(head.total)];
+    match tcp_codec::parse(segment, 0, SumRule::Skip) {
+        Ok(head) => Some(head),
+        Err(_) => None,
+    }
 }
 
-// What is known of an era.
-fn ledger_of(alloc: Global, eras: &mut Eras, era: u32) -> Result<&mut Ledger, NoMemory> {
-    Ok(eras.entry(era)?.or_insert(Ledger::new(alloc)))
+// A segment that went inwards is taken in its era.
+fn take_inward(eras: &mut Eras, era: u32, segment: Inward<'_>) -> Result<Option<Reason>, NoMemory>
+    requires there { IsSome (get nat_eq eras.old era) }
+    requires room { EraHasRoom (get nat_eq eras.old era) }
+    requires short { length segment.octets.now < 2 ^ 16 }
+    ensures { IfOk result (λ verdict. (ws : List Written) (w : Written) → EraStands (get nat_eq eras.old era) ws →
+        IsInward segment.entry w → IsTaken eras.old eras.new era ws w verdict) }
+{
+    match eras.get_mut(&era) {
+        Some(ledger) => ledger.judge(segment),
+        None => unreachable!(),
+    }
+}
+
+// A segment that went outwards is taken in its era.
+fn take_outward(eras: &mut Eras, era: u32, flags: Flags, number: u32) -> Result<(), NoMemory>
+    requires there { IsSome (get nat_eq eras.old era) }
+    requires room { EraHasRoom (get nat_eq eras.old era) }
+    ensures { IfOk result (λ _. (ws : List Written) (w : Written) → EraStands (get nat_eq eras.old era) ws →
+        IsOutward flags.0 number w → Takes eras.old eras.new era ws w) }
+{
+    match eras.get_mut(&era) {
+        Some(ledger) => ledger.acknowledge(flags, number),
+        None => unreachable!(),
+    }
 }

@@ -1,5 +1,5 @@
 //! What is known of an era from the segments that were written in it.
-ghost use Rattle.std.specs.Prelude.{◌≡◌, ℕ, ◌+◌, ◌^◌, ◌<◌, ◌≤◌, ◌++◌, ◌∷◌, ◌==◌, ◌&&◌, ◌||◌, not, nat_lt, max, [], List, length, Some, None, IfOk, vec_len};
+ghost use Rattle.std.specs.Prelude.{◌≡◌, ℕ, ◌+◌, ◌^◌, ◌<◌, ◌≤◌, ◌++◌, ◌∷◌, ◌==◌, ◌&&◌, ◌||◌, not, nat_lt, max, [], List, length, Some, None, IfOk, IsSome, vec_len};
 ghost use Rattle.wire_base.specs.Segments.{Written};
 ghost use Rattle.wire_base.specs.Tcp.{has_fin};
 ghost use Rattle.era_state.specs.Offsets.{natural, number_in, off};
@@ -103,7 +103,7 @@ impl Ledger {
         requires { HasRoom self.old }
         ensures changes { self.new ≡ settled self.old syn behind }
         ensures base { result ≡ self.new.base }
-        ensures near { self.new.acked < 2 ^ 63 }
+        ensures near { IsSome result → self.new.acked < 2 ^ 63 }
     {
         if syn && self.base.is_none() {
             self.fix(behind);

@@ -1,0 +1,57 @@
+-- There is room for the numbers of each era, since the frames are few.
+use Rattle.std.proofs.Common.{◌≡◌, ℕ, suc, ◌+◌, ◌*◌, ◌^◌, ◌<◌, ◌≤◌, ◌==◌, ◌&&◌, List, [], ◌∷◌, ◌++◌, length, length-append, append-nil, Option, Some, None, Bool, true, false, refl, sym, ap, ◌∙◌, subst, arith, if◌then◌else◌, nat_eq, vec_len}
+use Rattle.std.specs.Prelude.{IsSome}
+use Rattle.std.specs.Option.{option_or}
+use Rattle.indexmap.specs.IndexMap.{get}
+use Rattle.wire_base.specs.Segments.{Segment, Written, segment_of}
+use Rattle.era_state.specs.Quantities.{base_of, acked}
+use Rattle.era_state.specs.Laws.{AckedGrowsNear}
+use Rattle.era_state.proofs.Remaining.{pushed}
+use Rattle.era_agreement.specs.Sent.{is_era, written_as, segments_in, written_in}
+use Rattle.run_audit.specs.declared.ledger.Ledger.{Ledger}
+use Rattle.run_audit.specs.Frames.{Frame, is_inward, sent_of, sent}
+use Rattle.run_audit.specs.Ledgers.{HasRoom, StandsFor}
+use Rattle.run_audit.specs.Eras.{Eras, EraHasRoom, EraStands, AllStandFor, StandsForFew}
+
+acked_from : AckedGrowsNear → (base : ℕ) (before ws : List Written) → acked base (before ++ ws) ≤ acked base before + length ws * 2 ^ 31
+acked_from near base before [] = let e = ap (acked base) (append-nil before) in omega (arith, e)
+acked_from near base before (w ∷ ws) =
+    let e = ap (acked base) (pushed before w ws) in
+    let h = acked_from near base (before ++ w ∷ []) ws in
+    let k = near base before w in
+    omega (arith, e, h, k)
+
+-- what is acknowledged grows by less than half a turn with each segment
+acked_small : AckedGrowsNear → (base : ℕ) (ws : List Written) → acked base ws ≤ length ws * 2 ^ 31
+acked_small near base ws = let h = acked_from near base [] ws in omega (arith, h)
+
+one_at_most : (inward : Bool) (o : Option Segment) → length (written_as inward o ++ []) ≤ 1
+one_at_most inward None = omega arith
+one_at_most inward (Some s) = omega arith
+
+-- an era has at most as many segments as there are frames
+written_few : (era : ℕ) (frames : List Frame) → length (written_in era (sent frames)) ≤ length frames
+written_few era [] = omega arith
+written_few era (f ∷ older) =
+    let h = written_few era older in
+    let e = length-append (written_in era (sent older)) (if is_era era f.era && true then segments_in (is_inward f.side) (f.packet ∷ []) else []) in
+    let k = by (is_era era f.era && true) in
+    omega (arith, h, e, k)
+  where
+    by : (b : Bool) → length (if b then segments_in (is_inward f.side) (f.packet ∷ []) else []) ≤ 1
+    by true = one_at_most (is_inward f.side) (segment_of f.packet)
+    by false = omega arith
+
+ledger_has_room : AckedGrowsNear → (l : Ledger) (ws : List Written) → StandsFor l ws → length ws < 2 ^ 32 → HasRoom l
+ledger_has_room near l ws st few = record { resets = let h = st.few in omega (arith, h, few); acked = λ some. by l.base refl some }
+  where
+    by : (o : Option ℕ) → l.base ≡ o → IsSome o → l.acked < 2 ^ 63
+    by None e some = absurd (cc some)
+    by (Some base) e some = let a = st.acked_is base (sym st.base_is ∙ e) in let b = acked_small near base ws in omega (arith, a, b, few)
+
+pub era_has_room : AckedGrowsNear → (eras : Eras) (era : ℕ) → StandsForFew eras → EraHasRoom (get nat_eq eras era)
+era_has_room near eras era s = by (get nat_eq eras era) (s.stand era)
+  where
+    by : (o : Option Ledger) → EraStands o (written_in era (sent s.frames)) → EraHasRoom o
+    by None h = tt
+    by (Some l) h = ledger_has_room near l (written_in era (sent s.frames)) h (let k = written_few era s.frames in let f = s.few in omega (arith, k, f))
