@@ -1,5 +1,5 @@
 -- The judgment on a frame, by what its era says of its segment.
-use Rattle.std.proofs.Common.{◌≡◌, ◌≢◌, ℕ, ◌-◌, ◌==◌, ◌&&◌, List, [], ◌∷◌, ◌++◌, length, take, drop, append-nil, Option, Some, None, Bool, true, false, refl, sym, ap, ap₂, ◌∙◌, subst, arith, if◌then◌else◌, nat_eq, ⊎_elim, ◌⊎◌}
+use Rattle.std.proofs.Common.{◌≡◌, ◌≢◌, ℕ, ◌-◌, ◌==◌, ◌&&◌, List, [], ◌∷◌, ◌++◌, length, take, drop, append-nil, Option, Some, None, Bool, true, false, refl, sym, ap, ap₂, ◌∙◌, subst, arith, if◌then◌else◌, nat_eq}
 use Rattle.std.specs.Prelude.{IsSome, IfOk, Result, Ok, Err}
 use Rattle.std.proofs.lemmas.List.{take_all, length-drop}
 use Rattle.std.proofs.lemmas.Bool.{eqb-true, eqb-false}
@@ -19,7 +19,7 @@ use Rattle.run_audit.specs.declared.answer.Reason.{Reason}
 use Rattle.run_audit.specs.declared.answer.Reason.TheVariants as reasons
 use Rattle.run_audit.specs.declared.ledger.Inward.{Inward as Came}
 use Rattle.run_audit.specs.declared.ledger.Ledger.{Ledger}
-use Rattle.run_audit.specs.Faults.{is_segment, IsMisreadAs, Holds, IsFirstReason, IsFaultless, in_stream, lacks_base, has_other_syn, has_other_octet, has_other_fin}
+use Rattle.run_audit.specs.Faults.{is_segment, IsWellRead, IsWellReadAs, Holds, IsFirstReason, IsFaultless, in_stream, lacks_base, has_other_syn, has_other_octet, has_other_fin}
 use Rattle.run_audit.specs.Frames.{Frame, is_inward, sent_of, sent}
 use Rattle.run_audit.specs.Ledgers.{IsInward, IsOutward, IsVerdict, StandsFor, stream_reason}
 use Rattle.run_audit.specs.Eras.{Eras, EraStands, AllStandFor, AreThere, IsTaken, Takes, IsNoted, IsJudged}
@@ -34,27 +34,19 @@ abbrev pub FirstOrNone : (hops : ℕ) → List Sent → Frame → Option Reason 
 FirstOrNone hops older f None = IsFaultless hops older f
 FirstOrNone hops older f (Some reason) = IsFirstReason hops older f reason
 
-first_by : (hops : ℕ) (older : List Sent) (f : Frame) (a b c d : Bool) → in_stream lacks_base older f ≡ a → in_stream has_other_syn older f ≡ b → in_stream has_other_octet older f ≡ c → in_stream has_other_fin older f ≡ d → (IsMisreadAs hops f.packet f.side f.era → ⊥) → FirstOrNone hops older f (reason_by a b c d)
-first_by hops older f true b c d ea eb ec ed read = record { holds = ea; none_before = ((λ x. x), (read, tt)) }
-first_by hops older f false true c d ea eb ec ed read = record { holds = eb; none_before = ((λ x. x), (read, ((λ h. absurd (cc (h, ea))), tt))) }
-first_by hops older f false false true d ea eb ec ed read = record { holds = ec; none_before = ((λ x. x), (read, ((λ h. absurd (cc (h, ea))), ((λ h. absurd (cc (h, eb))), tt)))) }
-first_by hops older f false false false true ea eb ec ed read = record { holds = ed; none_before = ((λ x. x), (read, ((λ h. absurd (cc (h, ea))), ((λ h. absurd (cc (h, eb))), ((λ h. absurd (cc (h, ec))), tt))))) }
-first_by hops older f false false false false ea eb ec ed read = none
-  where
-    none : (reason : Reason) → Holds hops older f reason → ⊥
-    none reasons.Count h = h
-    none reasons.Plain h = read h
-    none reasons.Base h = absurd (cc (h, ea))
-    none reasons.Syn h = absurd (cc (h, eb))
-    none reasons.Octet h = absurd (cc (h, ec))
-    none reasons.Fin h = absurd (cc (h, ed))
+first_by : (hops : ℕ) (older : List Sent) (f : Frame) (a b c d : Bool) → in_stream lacks_base older f ≡ a → in_stream has_other_syn older f ≡ b → in_stream has_other_octet older f ≡ c → in_stream has_other_fin older f ≡ d → IsWellRead hops f → FirstOrNone hops older f (reason_by a b c d)
+first_by hops older f true b c d ea eb ec ed read = record { holds = ea; none_before = ((λ x. x), ((λ n. n read), tt)) }
+first_by hops older f false true c d ea eb ec ed read = record { holds = eb; none_before = ((λ x. x), ((λ n. n read), ((λ h. absurd (cc (h, ea))), tt))) }
+first_by hops older f false false true d ea eb ec ed read = record { holds = ec; none_before = ((λ x. x), ((λ n. n read), ((λ h. absurd (cc (h, ea))), ((λ h. absurd (cc (h, eb))), tt)))) }
+first_by hops older f false false false true ea eb ec ed read = record { holds = ed; none_before = ((λ x. x), ((λ n. n read), ((λ h. absurd (cc (h, ea))), ((λ h. absurd (cc (h, eb))), ((λ h. absurd (cc (h, ec))), tt))))) }
+first_by hops older f false false false false ea eb ec ed read = record { read = read; base = ea; syn = eb; octet = ec; fin = ed }
 
 -- the frame of a packet that went inwards in an era
 abbrev pub inward_frame : List ℕ → ℕ → Frame
 inward_frame p era = record { packet = p; side = Some Inward; era = Some era }
 
 -- what is first with its segment is first with it
-pub first_in_stream : (hops : ℕ) (older : List Sent) (p : List ℕ) (era : ℕ) (s : Segment) → segment_of p ≡ Some s → (IsMisreadAs hops p (Some Inward) (Some era) → ⊥) → FirstOrNone hops older (inward_frame p era) (stream_reason (written_in era older) (written_of true s))
+pub first_in_stream : (hops : ℕ) (older : List Sent) (p : List ℕ) (era : ℕ) (s : Segment) → segment_of p ≡ Some s → IsWellReadAs hops p (Some Inward) (Some era) → FirstOrNone hops older (inward_frame p era) (stream_reason (written_in era older) (written_of true s))
 first_in_stream hops older p era s is read =
     first_by hops older (inward_frame p era) (lacks_base ws w) (has_other_syn ws w) (has_other_octet ws w) (has_other_fin ws w) (at lacks_base) (at has_other_syn) (at has_other_octet) (at has_other_fin) read
   where
@@ -119,12 +111,7 @@ all_there old new era ws w takes q some = by (era == q) refl
 
 -- a packet that went outwards
 outward_faultless : (hops : ℕ) (older : List Sent) (p : List ℕ) (era : ℕ) → is_segment p ≡ true → IsFaultless hops older (record { packet = p; side = Some Outward; era = Some era })
-outward_faultless hops older p era is reasons.Count h = h
-outward_faultless hops older p era is reasons.Plain h = absurd (cc (h.1, is))
-outward_faultless hops older p era is reasons.Base h = absurd (cc h)
-outward_faultless hops older p era is reasons.Syn h = absurd (cc h)
-outward_faultless hops older p era is reasons.Octet h = absurd (cc h)
-outward_faultless hops older p era is reasons.Fin h = absurd (cc h)
+outward_faultless hops older p era is = record { read = λ _. is; base = refl; syn = refl; octet = refl; fin = refl }
 
 tcp_segment : (p : List ℕ) → ip.protocol p ≡ 6 → segment_of p ≡ Some (fields_of p)
 tcp_segment p six = ap (λ n. if n == 6 then Some (fields_of p) else None) six
@@ -143,8 +130,8 @@ noted_outward hops old new era p head frames is stand takes = record {
     taken = takes (written_in era (sent frames)) w (stand era) (record { inward_is = refl; flags_are = sym is.flags_are; number_is = sym is.number_is })
 
 -- a plain packet that went inwards in an era and is TCP
-well_read : (hops : ℕ) (p : List ℕ) (era : ℕ) → Plain hops p → ip.protocol p ≡ 6 → IsMisreadAs hops p (Some Inward) (Some era) → ⊥
-well_read hops p era plain six h = ⊎_elim (λ (n : Plain hops p → ⊥). n plain) (λ (n : IsSome (Some era) × (ip.protocol p ≢ 6)). n.1 six) h
+well_read : (hops : ℕ) (p : List ℕ) (era : ℕ) → Plain hops p → ip.protocol p ≡ 6 → IsWellReadAs hops p (Some Inward) (Some era)
+well_read hops p era plain six = (plain, λ _. six)
 
 judged_by : (hops : ℕ) (old new : Eras) (era : ℕ) (p : List ℕ) (frames : List Frame) (verdict : Option Reason) → Plain hops p → ip.protocol p ≡ 6 → AllStandFor old (sent frames) → IsTaken old new era (written_in era (sent frames)) (written_of true (fields_of p)) verdict → IsJudged hops frames (inward_frame p era) old new verdict
 judged_by hops old new era p frames None plain six stand taken = record {

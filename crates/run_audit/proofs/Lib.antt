@@ -6,3 +6,5 @@ pub mod Coming
 pub mod Reading
 pub mod Judged
 pub mod Rooms
+pub mod Telling
+pub mod Agreeing

@@ -1,6 +1,6 @@
 -- What may be wrong with a frame, after those before it (this project's profile). Base, Acked, First, Top, End and the place of a number are the words of
 -- `era_state`: `ws` are the segments written in the frame's era before it, and `w` is its own.
-use Rattle.std.specs.Prelude.{◌≡◌, ◌≢◌, ◌⊎◌, ℕ, ◌==◌, ◌&&◌, ◌||◌, not, Bool, true, false, List, [], ◌∷◌, ◌++◌, length, ℤ, pos, ◌+ℤ◌, int_le, int_lt, Option, Some, None, IsSome, is_none, is_ok}
+use Rattle.std.specs.Prelude.{◌≡◌, ℕ, ◌==◌, ◌&&◌, ◌||◌, not, Bool, true, false, List, [], ◌∷◌, ◌++◌, length, ℤ, pos, ◌+ℤ◌, int_le, int_lt, Option, Some, None, IsSome, is_none, is_ok}
 use Rattle.std.specs.Ordering.{int_eq}
 use Rattle.std.specs.List.{AllByRecursion}
 use Rattle.wire_base.specs.declared.address.Side.{Side}
@@ -25,12 +25,15 @@ use Rattle.run_audit.specs.Frames.{Frame}
 abbrev pub is_segment : List ℕ → Bool
 is_segment p = is_ok (header.parsed p) && (ip.protocol p == 6) && is_ok (segment.parsed Skip 0 (ip.payload p))
 
--- plain: a frame that went inwards is not plain for so many routers, or its entry names an era and it is not TCP; one that went outwards in an era is no
--- segment; or the entry names an era and no side
-abbrev pub IsMisreadAs : (hops : ℕ) → List ℕ → Option Side → (era : Option ℕ) → Type 0
-IsMisreadAs hops p (Some Inward) era = (Plain hops p → ⊥) ⊎ (IsSome era × (ip.protocol p ≢ 6))
-IsMisreadAs hops p (Some Outward) era = IsSome era × (is_segment p ≡ false)
-IsMisreadAs hops p None era = IsSome era
+-- What is read of a frame is certain: one that went inwards is plain for so many routers, and where its entry names an era, it is TCP; one that went
+-- outwards in an era is a segment; and where the entry names no side, it names no era.
+abbrev pub IsWellReadAs : (hops : ℕ) → List ℕ → Option Side → (era : Option ℕ) → Type 0
+IsWellReadAs hops p (Some Inward) era = Plain hops p × (IsSome era → ip.protocol p ≡ 6)
+IsWellReadAs hops p (Some Outward) era = IsSome era → is_segment p ≡ true
+IsWellReadAs hops p None era = era ≡ None
+
+abbrev pub IsWellRead : (hops : ℕ) → Frame → Type 0
+IsWellRead hops f = IsWellReadAs hops f.packet f.side f.era
 
 -- base: octets or a FIN, and no base is fixed up to and with the segment
 abbrev pub lacks_base : List Written → Written → Bool
@@ -84,7 +87,7 @@ in_stream test older f = in_stream_as test older f.side f.era (segment_of f.pack
 -- the reason holds of the frame, after what was sent before it; that a frame is missing in the capture or in the report is said of no frame
 abbrev pub Holds : (hops : ℕ) → List Sent → Frame → Reason → Type 0
 Holds hops older f Count = ⊥
-Holds hops older f Misread = IsMisreadAs hops f.packet f.side f.era
+Holds hops older f Misread = IsWellRead hops f → ⊥
 Holds hops older f Base = in_stream lacks_base older f ≡ true
 Holds hops older f Syn = in_stream has_other_syn older f ≡ true
 Holds hops older f Octet = in_stream has_other_octet older f ≡ true
@@ -105,5 +108,9 @@ pub record IsFirstReason (hops : ℕ) (older : List Sent) (f : Frame) (reason : 
   pub none_before : AllByRecursion (λ other. Holds hops older f other → ⊥) (earlier reason)
 
 -- no reason holds of it
-abbrev pub IsFaultless : (hops : ℕ) → List Sent → Frame → Type 0
-IsFaultless hops older f = (reason : Reason) → Holds hops older f reason → ⊥
+pub record IsFaultless (hops : ℕ) (older : List Sent) (f : Frame) : Type 0 where
+  pub read : IsWellRead hops f
+  pub base : in_stream lacks_base older f ≡ false
+  pub syn : in_stream has_other_syn older f ≡ false
+  pub octet : in_stream has_other_octet older f ≡ false
+  pub fin : in_stream has_other_fin older f ≡ false

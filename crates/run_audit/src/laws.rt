@@ -1,11 +1,22 @@
 //! Laws of what an audit looks at.
 ghost use Rattle.run_audit.specs.Sound.{FaultlessAgrees};
 
+use era_state::laws::{
+    emitted_is_told, emitted_joins, inwards_acknowledge_nothing, octets_are_below_top,
+    offsets_are_read, silence_changes_nothing, written_remains,
+};
 use receiver_model::laws::members_agree;
 
-/// Where no frame has a fault, all receivers agree on the frames that went inwards in each era.
+/// Where no frame has a fault, all receivers agree on the frames that went inwards in each era, whoever wrote them.
 pub fn faultless_agrees()
     ensures { FaultlessAgrees }
 {
+    offsets_are_read();
+    inwards_acknowledge_nothing();
+    written_remains();
+    emitted_joins();
+    emitted_is_told();
+    octets_are_below_top();
+    silence_changes_nothing();
     members_agree();
 }

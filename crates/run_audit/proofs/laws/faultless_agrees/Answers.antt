@@ -1,0 +1,12 @@
+use Rattle.run_audit.proofs.Agreeing.{faultless_agrees}
+use Rattle.run_audit.proofs.laws.faultless_agrees.Goals as goal
+
+pub returns : goal.returns
+returns c =
+    faultless_agrees
+    (record {
+      eras = record { read = c.offsets_are_read.ensures; same = c.inwards_acknowledge_nothing.ensures; remains = c.written_remains.ensures; joins = c.emitted_joins.ensures; told = c.emitted_is_told.ensures };
+      below = c.octets_are_below_top.ensures;
+      silence = c.silence_changes_nothing.ensures;
+    })
+    c.members_agree.ensures
