@@ -10,3 +10,4 @@ pub mod Kept
 pub mod Ledgers
 pub mod Eras
 pub mod Read
+pub mod Told

@@ -1,5 +1,6 @@
 //! What an audit answers, and the line that says so.
-ghost use Rattle.std.specs.Prelude.{◌≡◌, IfOk, string_bytes};
+ghost use Rattle.std.specs.Prelude.{◌≡◌, ◌⊎◌, ◌≤◌, IfOk, string_bytes};
+ghost use Rattle.run_audit.specs.Told.{Tells, TellsLine};
 ghost use Rattle.rule_book.specs.Text.{stop_word};
 
 use edge_io::{NoMemory, Sink};
@@ -161,7 +162,11 @@ impl Answer {
 
 /// Writes the line of an answer, and answers its status: 7 where the output failed. Where no memory is left for the line, it is that of
 /// want of memory.
-pub(crate) fn tell<K: Sink>(alloc: Global, answer: Answer, out: &mut K) -> u8 {
+pub(crate) fn tell<K: Sink>(alloc: Global, answer: Answer, out: &mut K) -> u8
+    ensures told { Tells answer (K.held out.old) (K.held out.new) (K.fault_count out.old) (K.fault_count out.new) result
+        ⊎ Tells Answer.Memory (K.held out.old) (K.held out.new) (K.fault_count out.old) (K.fault_count out.new) result }
+    ensures later { K.fault_count out.old ≤ K.fault_count out.new }
+{
     match answer.line(alloc) {
         Ok(line) => tell_line(line.as_bytes(), answer.status(), out),
         Err(_) => tell_line(b"stop memory\n", 8, out),
@@ -169,7 +174,10 @@ pub(crate) fn tell<K: Sink>(alloc: Global, answer: Answer, out: &mut K) -> u8 {
 }
 
 // Writes a line, and answers its status, or 7 where the output failed.
-fn tell_line<K: Sink>(line: &[u8], status: u8, out: &mut K) -> u8 {
+fn tell_line<K: Sink>(line: &[u8], status: u8, out: &mut K) -> u8
+    ensures told { TellsLine status line.now (K.held out.old) (K.held out.new) (K.fault_count out.old) (K.fault_count out.new) result }
+    ensures later { K.fault_count out.old ≤ K.fault_count out.new }
+{
     if out.put(line).is_err() {
         return 7;
     }
