@@ -8,3 +8,4 @@ pub mod Judged
 pub mod Rooms
 pub mod Telling
 pub mod Agreeing
+pub mod Naming

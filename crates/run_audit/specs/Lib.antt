@@ -11,3 +11,4 @@ pub mod Ledgers
 pub mod Eras
 pub mod Read
 pub mod Told
+pub mod Owned

@@ -5,9 +5,13 @@ use Rattle.std.specs.Option.{option_to_list}
 use Rattle.rule_book.specs.Entries.{PlainEntry}
 use Rattle.rule_book.specs.declared.entry.Ended.{Ended}
 
+-- those that ended
+abbrev pub numbers_of : List Ended → List ℕ
+numbers_of ended = map (λ (e : Ended). e.era) ended
+
 -- those that an entry names behind `@`, `+` and `-`, in the order of the line
 abbrev pub named_in : PlainEntry → List ℕ
-named_in entry = option_to_list entry.era ++ option_to_list entry.begun ++ map (λ (e : Ended). e.era) entry.ended
+named_in entry = option_to_list entry.era ++ option_to_list entry.begun ++ numbers_of entry.ended
 
 -- one more number behind others, where it is not among them
 abbrev pub noted : List ℕ → ℕ → List ℕ

@@ -1,4 +1,7 @@
 //! To which entry of a report each frame belongs.
+ghost use Rattle.std.specs.Prelude.{◌≡◌, [], ◌∷◌, map, MatchOption};
+ghost use Rattle.rule_book.specs.Entries.{plain};
+ghost use Rattle.run_audit.specs.Frames as frames;
 
 use rule_book::Entry;
 
@@ -11,14 +14,20 @@ pub(crate) struct Owners<'a> {
 }
 
 impl<'a> Owners<'a> {
+    ghost use Rattle.run_audit.specs.Owned.{left_of};
+
     /// Those of all frames.
-    pub(crate) fn new(entries: &'a [Entry]) -> Owners<'a> {
+    pub(crate) fn new(entries: &'a [Entry]) -> Owners<'a>
+        ensures { left_of result ≡ frames.owners (map plain entries.now) }
+    {
         Owners { entries, given: 0 }
     }
 
     /// The entry of the next frame, and none where no frame is left.
-    pub(crate) fn next(&mut self) -> Option<&'a Entry> {
-        while let [entry, rest @ ..] = self.entries {
+    pub(crate) fn next(&mut self) -> Option<&'a Entry>
+        ensures { MatchOption result (left_of self.old ≡ []) (λ entry. left_of self.old ≡ plain entry.now ∷ left_of self.new) }
+    {
+        'entries: while let [entry, rest @ ..] = self.entries {
             if self.given < entry.packets {
                 self.given += 1;
                 return Some(entry);
