@@ -9,3 +9,4 @@ pub mod Rooms
 pub mod Telling
 pub mod Agreeing
 pub mod Naming
+pub mod Framing

@@ -12,3 +12,4 @@ pub mod Eras
 pub mod Read
 pub mod Told
 pub mod Owned
+pub mod Audits

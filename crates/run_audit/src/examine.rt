@@ -1,5 +1,15 @@
 //! The audit of a capture and its report.
 
+ghost use Rattle.std.specs.Prelude.{◌≡◌, ◌+◌, ◌^◌, ◌<◌, ◌≤◌, [], map, length, IfOk, IfErr, IfSome};
+ghost use Rattle.std.specs.List.{AllByRecursion};
+ghost use Rattle.rule_book.specs.Entries.{plain};
+ghost use Rattle.run_audit.specs.Audits.{HasEra, IsSound, SoundFrames, WhyUnsound, WhyUnsoundWhole};
+ghost use Rattle.run_audit.specs.Eras.{AllStandFor};
+ghost use Rattle.run_audit.specs.Frames as frames;
+ghost use Rattle.run_audit.specs.Answers as spec;
+ghost use Rattle.run_audit.specs.declared.answer.Answer.{Answer};
+ghost use Rattle.run_audit.specs.declared.answer.Reason.{Reason};
+
 use crate::answer::tell;
 use crate::frame::{judge, packet_in};
 use crate::named::{Eras, eras_named};
@@ -8,10 +18,9 @@ use crate::report::entries_of;
 use crate::words::hops_asked;
 use crate::{Answer, Flaw, Reason};
 use edge_io::{Sink, Source};
-use pcap_file::{HeadFault, MAX_CAPTURED, Reader, RecordFault, read_head};
+use pcap_file::{Head, HeadFault, MAX_CAPTURED, Reader, RecordFault, read_head};
 use rule_book::Entry;
 use std::alloc::Global;
-use wire_base::Link;
 
 /// Audits a written capture and its report, writes one line to `out`, and answers the status:
 ///
@@ -52,7 +61,8 @@ fn examine<C: Source, R: Source>(
     let entries = entries_of(alloc, report)?;
     let mut eras = eras_named(alloc, &entries)?;
     let named = eras.len();
-    let frames = judge_capture(alloc, &mut eras, hops, &entries, capture)?;
+    let mut buffer = vec![in alloc; 0u8; MAX_CAPTURED as usize]?;
+    let frames = judge_capture(&mut eras, hops, &entries, &mut buffer, capture)?;
     Ok(Answer::Yes {
         eras: named,
         frames,
@@ -61,59 +71,86 @@ fn examine<C: Source, R: Source>(
 
 // Judges each frame of a capture, and answers how many there are.
 fn judge_capture<C: Source>(
-    alloc: Global,
     eras: &mut Eras,
     hops: u8,
     entries: &[Entry],
+    buffer: &mut [u8],
     capture: &mut C,
-) -> Result<u64, Answer> {
-    let mut buffer = vec![in alloc; 0u8; MAX_CAPTURED as usize]?;
+) -> Result<u64, Answer>
+    requires fresh { AllStandFor eras.old [] }
+    requires named { AllByRecursion (HasEra eras.old) (frames.owners (map plain entries.now)) }
+    requires room { 262144 ≤ length buffer.old }
+    ensures sound { IfOk result (λ count. IfSome (C.left capture.old) (λ octets. IsSound hops (map plain entries.now) octets count)) }
+    ensures why { IfErr result (λ answer. WhyUnsoundWhole hops (map plain entries.now) (C.left capture.old)
+        (C.fault_count capture.old) (C.fault_count capture.new) answer) }
+    ensures later { C.fault_count capture.old ≤ C.fault_count capture.new }
+{
     let head = match read_head(capture) {
         Ok(head) => head,
         Err(fault) => return Err(flawed_head(fault)),
     };
+    judge_frames(eras, hops, head, entries, buffer, capture)
+}
+
+// Judges each frame behind a head, and answers how many there are.
+fn judge_frames<C: Source>(
+    eras: &mut Eras,
+    hops: u8,
+    head: Head,
+    entries: &[Entry],
+    buffer: &mut [u8],
+    capture: &mut C,
+) -> Result<u64, Answer>
+    requires fresh { AllStandFor eras.old [] }
+    requires named { AllByRecursion (HasEra eras.old) (frames.owners (map plain entries.now)) }
+    requires room { 262144 ≤ length buffer.old }
+    ensures sound { IfOk result (λ count. IfSome (C.left capture.old) (λ all. SoundFrames hops head (map plain entries.now) all count)) }
+    ensures why { IfErr result (λ answer. WhyUnsound hops head (map plain entries.now) (C.left capture.old)
+        (C.fault_count capture.old) (C.fault_count capture.new) answer) }
+    ensures later { C.fault_count capture.old ≤ C.fault_count capture.new }
+{
     let mut reader = Reader::new(head);
     let mut owners = Owners::new(entries);
-    let mut frames = 0;
-    'frames: loop {
-        let record = match reader.next(capture, &mut buffer) {
+    let mut count = 0;
+    'records: loop {
+        let record = match reader.next(capture, buffer) {
             Ok(Some(record)) => record,
             Ok(None) => break,
             Err(fault) => return Err(flawed_record(fault, reader.offset())),
         };
-        frames += 1;
-        if let Some(reason) = judge_next(eras, hops, head.link, owners.next(), record.bytes)? {
+        let Some(entry) = owners.next() else {
+            return Err(missing(count));
+        };
+        let packet = packet_in(head.link, record.bytes);
+        if let Some(reason) = judge(eras, hops, entry, packet)? {
             return Err(Answer::No {
-                frame: frames,
+                frame: count + 1,
                 reason,
             });
         }
+        count += 1;
     }
     match owners.next() {
-        Some(_) => Err(Answer::No {
-            frame: frames + 1,
-            reason: Reason::Count,
-        }),
-        None => Ok(frames),
+        Some(_) => Err(missing(count)),
+        None => Ok(count),
     }
 }
 
-// What is wrong with a frame that belongs to this entry, if to one.
-fn judge_next(
-    eras: &mut Eras,
-    hops: u8,
-    link: Link,
-    owner: Option<&Entry>,
-    octets: &[u8],
-) -> Result<Option<Reason>, Answer> {
-    let Some(entry) = owner else {
-        return Ok(Some(Reason::Count));
-    };
-    Ok(judge(eras, hops, entry, packet_in(link, octets))?)
+// The frame behind so many others is missing in the capture or in the report.
+fn missing(count: u64) -> Answer
+    requires { count < 2 ^ 32 }
+    ensures { result ≡ Answer.No (count + 1) Reason.Count }
+{
+    Answer::No {
+        frame: count + 1,
+        reason: Reason::Count,
+    }
 }
 
 // The answer to a fault of the head.
-fn flawed_head(fault: HeadFault) -> Answer {
+fn flawed_head(fault: HeadFault) -> Answer
+    ensures { result ≡ spec.head_answer fault }
+{
     let flaw = match fault {
         HeadFault::Cut => Flaw::Cut,
         HeadFault::Magic => Flaw::Magic,
@@ -125,7 +162,9 @@ fn flawed_head(fault: HeadFault) -> Answer {
 }
 
 // The answer to a fault of the record at this offset.
-fn flawed_record(fault: RecordFault, offset: u64) -> Answer {
+fn flawed_record(fault: RecordFault, offset: u64) -> Answer
+    ensures { result ≡ spec.record_answer fault offset }
+{
     let flaw = match fault {
         RecordFault::Cut => Flaw::Cut,
         RecordFault::Long => Flaw::Long,

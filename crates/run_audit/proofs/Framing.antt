@@ -1,0 +1,265 @@
+-- How an audit goes on from frame to frame, and how it ends.
+use Rattle.std.proofs.Common.{◌≡◌, ℕ, zero, suc, ◌+◌, ◌^◌, ◌<◌, ◌≤◌, List, [], ◌∷◌, ◌++◌, length, drop, map, Option, Some, None, Ok, Err, Result, true, refl, sym, ap, ap₂, subst, ◌∙◌, arith, inl, inr}
+use Rattle.std.specs.Prelude.{IfSome, IsSome, slice_get, option_map, nat_eq}
+use Rattle.std.specs.List.{AllByRecursion}
+use Rattle.std.proofs.lemmas.Option.{slice_get_past}
+use Rattle.edge_io.specs.Faults.{Rose}
+use Rattle.wire_base.specs.declared.address.Link.{Link}
+use Rattle.pcap_file.specs.declared.head.Head.{Head}
+use Rattle.pcap_file.specs.declared.order.Order.{Order}
+use Rattle.pcap_file.specs.declared.reader.RecordFault.{RecordFault}
+use Rattle.pcap_file.specs.declared.reader.RecordFault.TheVariants as records
+use Rattle.pcap_file.specs.Flaws as found
+use Rattle.pcap_file.specs.Records.{Packet, front_of}
+use Rattle.pcap_file.specs.Capture.{ReadsTo, Took, size_of, offset_of}
+use Rattle.pcap_file.specs.Reads.{Leaves, HasEnd, HasFlaw, FailsWith, StopsAt, Advances}
+use Rattle.pcap_file.specs.Reading.{Reading}
+use Rattle.rule_book.specs.Entries.{PlainEntry}
+use Rattle.indexmap.specs.IndexMap.{get}
+use Rattle.era_agreement.specs.Sent.{Sent}
+use Rattle.run_audit.specs.declared.answer.Reason.{Reason}
+use Rattle.run_audit.specs.declared.answer.Reason.TheVariants as reasons
+use Rattle.run_audit.specs.declared.owners.Owners.{Owners}
+use Rattle.run_audit.specs.Answers.{record_answer}
+use Rattle.run_audit.specs.Audits.{frames_of, SoundFrames, FaultyFrame, FlawedFrame, WhyUnsound, HasEra, GoesOn}
+use Rattle.run_audit.specs.Eras.{Eras, AllStandFor, AreThere, IsJudged, IsNoted, StandsForFew}
+use Rattle.run_audit.specs.Faults.{IsFirstReason}
+use Rattle.run_audit.specs.FirstFault.{AreFaultless, FailsNext, FirstFault, NoFault}
+use Rattle.run_audit.specs.Frames.{Frame, frame_of, packet_in, owners, with_frame, owned, sent}
+use Rattle.run_audit.specs.Owned.{left_of}
+
+-- nothing is left behind so many
+left_none : (os : List PlainEntry) (n : ℕ) → drop n os ≡ [] → (slice_get os n ≡ None) × (length os ≤ n)
+left_none [] n e = (slice_get_past [] n (omega arith), omega arith)
+left_none (o ∷ os) zero e = absurd (cc e)
+left_none (o ∷ os) (suc n) e = let h = left_none os n e in (h.0, let k = h.1 in omega (arith, k))
+
+left_some : (os rest : List PlainEntry) (n : ℕ) (x : PlainEntry) → drop n os ≡ x ∷ rest → (slice_get os n ≡ Some x) × (rest ≡ drop (suc n) os) × (suc n ≤ length os)
+left_some [] rest zero x e = absurd (cc e)
+left_some [] rest (suc n) x e = absurd (cc e)
+left_some (o ∷ os) rest zero x e = (cc e, cc e, omega arith)
+left_some (o ∷ os) rest (suc n) x e = let h = left_some os rest n x e in (h.0, h.1, let k = h.2 in omega (arith, k))
+
+frames_long : (packets : List Packet) → length (frames_of packets) ≡ length packets
+frames_long [] = refl
+frames_long (p ∷ packets) = ap suc (frames_long packets)
+
+-- the next owner of the frames so far
+owner_at : (os : List PlainEntry) (packets : List Packet) (o : Option PlainEntry) → slice_get os (length packets) ≡ o → slice_get os (length (frames_of packets)) ≡ o
+owner_at os packets o e = ap (slice_get os) (frames_long packets) ∙ e
+
+owned_more : (link : Link) (os : List PlainEntry) (packets : List Packet) (octets : List ℕ) (e : PlainEntry) → slice_get os (length packets) ≡ Some e → owned link os (octets ∷ frames_of packets) ≡ frame_of link octets e ∷ owned link os (frames_of packets)
+owned_more link os packets octets e h = ap (λ o. with_frame link octets o (owned link os (frames_of packets))) (owner_at os packets (Some e) h)
+
+-- one more record was taken
+took_more : (order other : Order) (given : ℕ) (old mid new : Option (List ℕ)) (packets : List Packet) (p : Packet) → other ≡ order → given ≡ length packets → Took order old mid packets → Leaves other given mid new p → Took order old new (p ∷ packets)
+took_more order other given None mid new packets p same count took left = tt
+took_more order other given (Some all) None new packets p same count took left = absurd took
+took_more order other given (Some all) (Some xs) None packets p same count took left = absurd left
+took_more order other given (Some all) (Some xs) (Some ys) packets p same count took left = (xs, took, ap₂ (λ k n. front_of k n xs) (sym same) (sym count) ∙ left)
+
+still_named : (old new : Eras) (entries : List PlainEntry) → AreThere old new → AllByRecursion (HasEra old) entries → AllByRecursion (HasEra new) entries
+still_named old new [] there h = h
+still_named old new (e ∷ entries) there h = (by e.era h.0, still_named old new entries there h.1)
+  where
+    by : (o : Option ℕ) → IfSome o (λ era. IsSome (get nat_eq old era)) → IfSome o (λ era. IsSome (get nat_eq new era))
+    by None k = k
+    by (Some era) k = there era k
+
+pub goes_on : (hops : ℕ) (head : Head) (entries : List PlainEntry) (old mid new : Option (List ℕ)) (eras eras' : Eras) (left left' : Owners) (reader reader' : Reading) (frames : ℕ) (p : Packet) (e : PlainEntry)
+    → GoesOn hops head entries old mid eras left reader frames
+    → Leaves reader.head.order reader.given mid new p → Advances reader reader' (length p.octets) → reader'.head ≡ reader.head
+    → left_of left ≡ e ∷ left_of left'
+    → ((before : List Frame) → AllStandFor eras (sent before) → IsNoted hops before (frame_of head.link p.octets e) eras eras')
+    → GoesOn hops head entries old new eras' left' reader' (frames + 1)
+goes_on hops head entries old mid new eras eras' left left' reader reader' frames p e g leaves ahead same_head owner noted = record {
+  packets = p ∷ g.packets;
+  took = took_more head.order reader.head.order reader.given old mid new g.packets p (ap (λ (h : Head). h.order) g.head_is) g.given_is g.took leaves;
+  each_owned = at.2;
+  faultless = subst (AreFaultless hops) (sym more) (g.faultless, now.faultless);
+  left_is = at.1;
+  stand = subst (λ fs. AllStandFor eras' (sent fs)) (sym more) now.stand;
+  named = still_named eras eras' (left_of left') now.there (tail (subst (AllByRecursion (HasEra eras)) owner g.named));
+  frames_are = let h = g.frames_are in omega (arith, h);
+  given_is = let h = g.given_is in let k = ahead.given in omega (arith, h, k);
+  few = ahead.few;
+  place_is = let h = g.place_is in let k = ahead.place in omega (arith, h, k);
+  head_is = same_head ∙ g.head_is;
+}
+  where
+    os : List PlainEntry
+    os = owners entries
+
+    at : (slice_get os (length g.packets) ≡ Some e) × (left_of left' ≡ drop (suc (length g.packets)) os) × (suc (length g.packets) ≤ length os)
+    at = left_some os (left_of left') (length g.packets) e (sym g.left_is ∙ owner)
+
+    more : owned head.link os (p.octets ∷ frames_of g.packets) ≡ frame_of head.link p.octets e ∷ owned head.link os (frames_of g.packets)
+    more = owned_more head.link os g.packets p.octets e at.0
+
+    now : IsNoted hops (owned head.link os (frames_of g.packets)) (frame_of head.link p.octets e) eras eras'
+    now = noted (owned head.link os (frames_of g.packets)) g.stand
+
+    tail : AllByRecursion (HasEra eras) (e ∷ left_of left') → AllByRecursion (HasEra eras) (left_of left')
+    tail h = h.1
+
+-- the fault of the next frame
+first_fault : (hops : ℕ) (head : Head) (entries : List PlainEntry) (old now : Option (List ℕ)) (eras : Eras) (left : Owners) (reader : Reading) (frames : ℕ) (next : Option (List ℕ)) (owner : Option PlainEntry) (reason : Reason) (g : GoesOn hops head entries old now eras left reader frames)
+    → slice_get (owners entries) (length g.packets) ≡ owner
+    → FailsNext hops head.link (sent (owned head.link (owners entries) (frames_of g.packets))) next owner reason
+    → FirstFault hops head.link entries (frames_of g.packets) next (frames + 1) reason
+first_fault hops head entries old now eras left reader frames next owner reason g at fails = record {
+  each_owned = let h = g.each_owned in let k = frames_long g.packets in omega (arith, h, k);
+  faultless = g.faultless;
+  number_is = let h = g.frames_are in let k = frames_long g.packets in omega (arith, h, k);
+  fails =
+      let P : Option PlainEntry → Type 0 = λ o. FailsNext hops head.link (sent (owned head.link (owners entries) (frames_of g.packets))) next o reason in
+      subst P (sym (owner_at (owners entries) g.packets owner at)) fails;
+}
+
+-- a frame is read that has a fault
+at_frame : (hops : ℕ) (head : Head) (entries : List PlainEntry) (old mid new : Option (List ℕ)) (eras : Eras) (left : Owners) (reader : Reading) (frames : ℕ) (p : Packet) (owner : Option PlainEntry) (reason : Reason) (g : GoesOn hops head entries old mid eras left reader frames)
+    → Leaves reader.head.order reader.given mid new p → slice_get (owners entries) (length g.packets) ≡ owner
+    → FailsNext hops head.link (sent (owned head.link (owners entries) (frames_of g.packets))) (Some p.octets) owner reason
+    → IfSome old (λ all. FaultyFrame hops head entries all (frames + 1) reason)
+at_frame hops head entries old mid new eras left reader frames p owner reason g leaves at fails = by old mid new g.took leaves
+  where
+    first : FirstFault hops head.link entries (frames_of g.packets) (Some p.octets) (frames + 1) reason
+    first = first_fault hops head entries old mid eras left reader frames (Some p.octets) owner reason g at fails
+
+    by : (a b c : Option (List ℕ)) → Took head.order a b g.packets → Leaves reader.head.order reader.given b c p → IfSome a (λ all. FaultyFrame hops head entries all (frames + 1) reason)
+    by None b c took l = tt
+    by (Some all) None c took l = absurd took
+    by (Some all) (Some xs) None took l = absurd l
+    by (Some all) (Some xs) (Some ys) took l = record { packets = g.packets; left = xs; reads = took; next = Some (p, ys); stands = ap₂ (λ (h : Head) n. front_of h.order n xs) (sym g.head_is) (sym g.given_is) ∙ l; first = first }
+
+pub unowned : (hops : ℕ) (head : Head) (entries : List PlainEntry) (old mid new : Option (List ℕ)) (eras : Eras) (left : Owners) (reader : Reading) (frames : ℕ) (p : Packet) → GoesOn hops head entries old mid eras left reader frames
+    → Leaves reader.head.order reader.given mid new p → left_of left ≡ [] → IfSome old (λ all. FaultyFrame hops head entries all (frames + 1) reasons.Count)
+unowned hops head entries old mid new eras left reader frames p g leaves none =
+    at_frame hops head entries old mid new eras left reader frames p None reasons.Count g leaves (left_none (owners entries) (length g.packets) (sym g.left_is ∙ none)).0 refl
+
+pub faulty : (hops : ℕ) (head : Head) (entries : List PlainEntry) (old mid new : Option (List ℕ)) (eras : Eras) (left left' : Owners) (reader : Reading) (frames : ℕ) (p : Packet) (e : PlainEntry) (reason : Reason) → GoesOn hops head entries old mid eras left reader frames
+    → Leaves reader.head.order reader.given mid new p → left_of left ≡ e ∷ left_of left'
+    → ((before : List Frame) → AllStandFor eras (sent before) → IsFirstReason hops (sent before) (frame_of head.link p.octets e) reason)
+    → IfSome old (λ all. FaultyFrame hops head entries all (frames + 1) reason)
+faulty hops head entries old mid new eras left left' reader frames p e reason g leaves owner first =
+    at_frame hops head entries old mid new eras left reader frames p (Some e) reason g leaves (left_some (owners entries) (left_of left') (length g.packets) e (sym g.left_is ∙ owner)).0
+    (first (owned head.link (owners entries) (frames_of g.packets)) g.stand)
+
+nothing_left : (order : Order) (count : ℕ) → front_of order count [] ≡ Ok None
+unfolding front_of
+nothing_left order count = refl
+
+-- the capture has its end, and an entry wants another frame
+pub unwritten : (hops : ℕ) (head : Head) (entries : List PlainEntry) (old mid new : Option (List ℕ)) (eras : Eras) (left left' : Owners) (reader : Reading) (frames : ℕ) (e : PlainEntry) → GoesOn hops head entries old mid eras left reader frames
+    → HasEnd mid new → left_of left ≡ e ∷ left_of left' → IfSome old (λ all. FaultyFrame hops head entries all (frames + 1) reasons.Count)
+unwritten hops head entries old mid new eras left left' reader frames e g end owner = by old mid new g.took end
+  where
+    first : FirstFault hops head.link entries (frames_of g.packets) None (frames + 1) reasons.Count
+    first = first_fault hops head entries old mid eras left reader frames None (Some e) reasons.Count g (left_some (owners entries) (left_of left') (length g.packets) e (sym g.left_is ∙ owner)).0 refl
+
+    by : (a b c : Option (List ℕ)) → Took head.order a b g.packets → HasEnd b c → IfSome a (λ all. FaultyFrame hops head entries all (frames + 1) reasons.Count)
+    by None b c took l = tt
+    by (Some all) None c took l = absurd took
+    by (Some all) (Some xs) None took l = absurd l
+    by (Some all) (Some xs) (Some ys) took l = record { packets = g.packets; left = xs; reads = took; next = None; stands = ap (front_of head.order (length g.packets)) l.0 ∙ nothing_left head.order (length g.packets); first = first }
+
+-- both have their end
+pub sound : (hops : ℕ) (head : Head) (entries : List PlainEntry) (old mid new : Option (List ℕ)) (eras : Eras) (left : Owners) (reader : Reading) (frames : ℕ) → GoesOn hops head entries old mid eras left reader frames
+    → HasEnd mid new → left_of left ≡ [] → IfSome old (λ all. SoundFrames hops head entries all frames)
+sound hops head entries old mid new eras left reader frames g end none = by old mid new g.took end
+  where
+    by : (a b c : Option (List ℕ)) → Took head.order a b g.packets → HasEnd b c → IfSome a (λ all. SoundFrames hops head entries all frames)
+    by None b c took l = tt
+    by (Some all) None c took l = absurd took
+    by (Some all) (Some xs) None took l = absurd l
+    by (Some all) (Some xs) (Some ys) took l = record {
+      packets = g.packets;
+      reads = subst (ReadsTo head.order all g.packets) l.0 took;
+      none = record {
+        as_many = let h = (left_none (owners entries) (length g.packets) (sym g.left_is ∙ none)).1 in let k = g.each_owned in let n = frames_long g.packets in omega (arith, h, k, n);
+        faultless = g.faultless;
+      };
+      count = g.frames_are;
+    }
+
+-- a record has a flaw
+pub flawed : (fault : RecordFault) (hops : ℕ) (head : Head) (entries : List PlainEntry) (old mid new : Option (List ℕ)) (eras : Eras) (left : Owners) (reader : Reading) (frames asked before now : ℕ) → GoesOn hops head entries old mid eras left reader frames
+    → FailsWith reader.head.order reader.given mid new fault → asked ≡ reader.place → (◌≡◌ {A = RecordFault} fault records.ReadFault → Rose before now)
+    → WhyUnsound hops head entries old before now (record_answer fault asked)
+flawed fault hops head entries old mid new eras left reader frames asked before now g fails place rose = by fault fails rose
+  where
+    behind : (flaw : found.Flaw) → HasFlaw reader.head.order reader.given mid flaw → IfSome old (λ all. FlawedFrame hops head entries all flaw asked)
+    behind flaw has = go old mid g.took has
+      where
+        go : (a b : Option (List ℕ)) → Took head.order a b g.packets → HasFlaw reader.head.order reader.given b flaw → IfSome a (λ all. FlawedFrame hops head entries all flaw asked)
+        go None b took h = tt
+        go (Some all) None took h = absurd took
+        go (Some all) (Some xs) took h = record {
+          packets = g.packets;
+          left = xs;
+          reads = took;
+          stands = ap₂ (λ (k : Head) n. front_of k.order n xs) (sym g.head_is) (sym g.given_is) ∙ h;
+          place = place ∙ g.place_is;
+          each_owned = g.each_owned;
+          faultless = g.faultless;
+        }
+
+    by : (f : RecordFault) → FailsWith reader.head.order reader.given mid new f → (◌≡◌ {A = RecordFault} f records.ReadFault → Rose before now) → WhyUnsound hops head entries old before now (record_answer f asked)
+    by records.Cut fails rose = behind found.cut_short fails.flawed
+    by records.Long fails rose = behind found.too_long fails.flawed
+    by records.TooMany fails rose = behind found.too_many fails.flawed
+    by records.ReadFault fails rose = rose refl
+
+-- the frames are few
+pub few_frames : (hops : ℕ) (head : Head) (entries : List PlainEntry) (old now : Option (List ℕ)) (eras : Eras) (left : Owners) (reader : Reading) (frames : ℕ) → GoesOn hops head entries old now eras left reader frames → StandsForFew eras
+few_frames hops head entries old now eras left reader frames g = record {
+  frames = owned head.link (owners entries) (frames_of g.packets);
+  stand = g.stand;
+  few = let h = shorter (frames_of g.packets) in let k = frames_long g.packets in let n = g.given_is in let m = g.few in omega (arith, h, k, n, m);
+}
+  where
+    with_one : (octets : List ℕ) (o : Option PlainEntry) (older : List Frame) → length (with_frame head.link octets o older) ≤ suc (length older)
+    with_one octets None older = omega arith
+    with_one octets (Some e) older = omega arith
+
+    shorter : (fs : List (List ℕ)) → length (owned head.link (owners entries) fs) ≤ length fs
+    shorter [] = omega arith
+    shorter (f ∷ fs) = let h = shorter fs in let k = with_one f (slice_get (owners entries) (length fs)) (owned head.link (owners entries) fs) in omega (arith, h, k)
+
+-- nothing was judged yet
+pub begins : (hops : ℕ) (head : Head) (entries : List PlainEntry) (old : Option (List ℕ)) (eras : Eras) (left : Owners) (reader : Reading) → reader ≡ record { head = head; place = 24; asked = 24; given = 0; is_open = true } → left_of left ≡ owners entries → AllStandFor eras [] → AllByRecursion (HasEra eras) (owners entries) → GoesOn hops head entries old old eras left reader 0
+begins hops head entries old eras left reader fresh all stand named = record {
+  packets = [];
+  took = by old;
+  each_owned = omega arith;
+  faultless = tt;
+  left_is = all;
+  stand = stand;
+  named = subst (AllByRecursion (HasEra eras)) (sym all) named;
+  frames_are = refl;
+  given_is = ap (λ (r : Reading). r.given) fresh;
+  few = let h = ap (λ (r : Reading). r.given) fresh in omega (arith, h);
+  place_is = ap (λ (r : Reading). r.place) fresh;
+  head_is = ap (λ (r : Reading). r.head) fresh;
+}
+  where
+    by : (o : Option (List ℕ)) → Took head.order o o []
+    by None = tt
+    by (Some xs) = refl
+
+-- the judgment on a packet is that on its frame
+pub noted_by : (hops : ℕ) (old new : Eras) (link : Link) (packet octets : List ℕ) (e : PlainEntry) (verdict : Option Reason) → verdict ≡ None → packet ≡ packet_in link octets
+    → ((before : List Frame) → AllStandFor old (sent before) → IsJudged hops before (record { packet = packet; side = e.side; era = e.era }) old new verdict)
+    → (before : List Frame) → AllStandFor old (sent before) → IsNoted hops before (frame_of link octets e) old new
+noted_by hops old new link packet octets e verdict none is judged before stand =
+    let P : Option Reason → Type 0 = λ v. IsJudged hops before (record { packet = packet; side = e.side; era = e.era }) old new v in
+    let Q : List ℕ → Type 0 = λ p. IsNoted hops before (record { packet = p; side = e.side; era = e.era }) old new in
+    subst Q is (subst P none (judged before stand))
+
+pub faulty_by : (hops : ℕ) (old new : Eras) (link : Link) (packet octets : List ℕ) (e : PlainEntry) (verdict : Option Reason) (reason : Reason) → verdict ≡ Some reason → packet ≡ packet_in link octets
+    → ((before : List Frame) → AllStandFor old (sent before) → IsJudged hops before (record { packet = packet; side = e.side; era = e.era }) old new verdict)
+    → (before : List Frame) → AllStandFor old (sent before) → IsFirstReason hops (sent before) (frame_of link octets e) reason
+faulty_by hops old new link packet octets e verdict reason some is judged before stand =
+    let P : Option Reason → Type 0 = λ v. IsJudged hops before (record { packet = packet; side = e.side; era = e.era }) old new v in
+    let Q : List ℕ → Type 0 = λ p. IsFirstReason hops (sent before) (record { packet = p; side = e.side; era = e.era }) reason in
+    subst Q is (subst P some (judged before stand))
