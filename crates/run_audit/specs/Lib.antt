@@ -13,3 +13,4 @@ pub mod Read
 pub mod Told
 pub mod Owned
 pub mod Audits
+pub mod Reported

@@ -1,4 +1,11 @@
 //! The report of a run, read to its end.
+ghost use Rattle.std.specs.Prelude.{◌≡◌, ◌≤◌, length, map, IfErr, IfOk, IfSome};
+ghost use Rattle.edge_io.specs.Faults.{Rose};
+ghost use Rattle.rule_book.specs.Entries.{plain};
+ghost use Rattle.rule_book.specs.Reports.{HasFault, lines};
+ghost use Rattle.rule_book.specs.declared.fault.LineFault.{LineFault};
+ghost use Rattle.run_audit.specs.Reported.{IsFinished, WereLeft, WhyUnread, line_of_fault};
+ghost use Rattle.run_audit.specs.Reported as spec;
 
 use crate::Answer;
 use edge_io::Source;
@@ -6,12 +13,25 @@ use rule_book::{Entry, Last, LineFault, read_report};
 use std::alloc::Global;
 
 /// The most octets that a report may have.
-pub(crate) const MAX_REPORT: usize = 67_108_864;
+const MAX_REPORT: usize = 67_108_864;
 
 /// The entries of the report of a finished run.
-pub(crate) fn entries_of<R: Source>(alloc: Global, source: &mut R) -> Result<Vec<Entry>, Answer> {
+pub(crate) fn entries_of<R: Source>(alloc: Global, source: &mut R) -> Result<Vec<Entry>, Answer>
+    ensures finished { IfOk result (λ entries. IfSome (R.left source.old) (λ octets. IsFinished octets (map plain entries.items))) }
+    ensures why { IfErr result (λ answer. WhyUnread (R.left source.old) (R.fault_count source.old) (R.fault_count source.new) answer) }
+    ensures later { R.fault_count source.old ≤ R.fault_count source.new }
+{
     let octets = read_whole(alloc, source)?;
-    match read_report(alloc, &octets) {
+    entries_in(alloc, octets.as_slice())
+}
+
+// The entries of the report of a finished run that these octets are.
+fn entries_in(alloc: Global, octets: &[u8]) -> Result<Vec<Entry>, Answer>
+    requires { length octets.now ≤ 67108864 }
+    ensures finished { IfOk result (λ entries. IsFinished octets.now (map plain entries.items)) }
+    ensures why { IfErr result (λ answer. spec.WhyNone octets.now answer) }
+{
+    match read_report(alloc, octets) {
         Ok(report) => match report.last {
             Last::End { .. } => Ok(report.entries),
             Last::Stop { .. } => Err(Answer::Report {
@@ -23,7 +43,9 @@ pub(crate) fn entries_of<R: Source>(alloc: Global, source: &mut R) -> Result<Vec
 }
 
 // The answer to a fault of the report.
-fn at_line(fault: LineFault) -> Answer {
+fn at_line(fault: LineFault) -> Answer
+    ensures { result ≡ spec.fault_answer fault }
+{
     match fault {
         LineFault::First => Answer::Report { line: 1 },
         LineFault::Shape(line) | LineFault::Number(line) => Answer::Report { line },
@@ -32,7 +54,12 @@ fn at_line(fault: LineFault) -> Answer {
 }
 
 // All octets that the source has left.
-fn read_whole<R: Source>(alloc: Global, source: &mut R) -> Result<Vec<u8>, Answer> {
+fn read_whole<R: Source>(alloc: Global, source: &mut R) -> Result<Vec<u8>, Answer>
+    ensures whole { IfOk result (λ octets. WereLeft (R.left source.old) octets.items) }
+    ensures small { IfOk result (λ octets. length octets.items ≤ 67108864) }
+    ensures why { IfErr result (λ answer. WhyUnread (R.left source.old) (R.fault_count source.old) (R.fault_count source.new) answer) }
+    ensures later { R.fault_count source.old ≤ R.fault_count source.new }
+{
     let mut octets = Vec::new(alloc);
     let mut piece = [0u8; 4096];
     'pieces: loop {
@@ -45,8 +72,6 @@ fn read_whole<R: Source>(alloc: Global, source: &mut R) -> Result<Vec<u8>, Answe
         if octets.len() + count > MAX_REPORT {
             return Err(Answer::Report { line: 0 });
         }
-        if octets.extend_from_slice(&piece[..count]).is_err() {
-            return Err(Answer::Memory);
-        }
+        octets.extend_from_slice(&piece[..count])?;
     }
 }

@@ -1,0 +1,91 @@
+-- What an audit reads of a report (this project's profile).
+use Rattle.std.specs.Prelude.{◌≡◌, ◌⊎◌, ℕ, ◌+◌, ◌<◌, ◌≤◌, List, length, Option, Some, None, IfSome}
+use Rattle.edge_io.specs.Faults.{Rose}
+use Rattle.rule_book.specs.Entries.{PlainEntry}
+use Rattle.rule_book.specs.Reports.{PlainReport, HasFault, IsReport, lines, text_of}
+use Rattle.rule_book.specs.declared.fault.LineFault.{LineFault}
+use Rattle.rule_book.specs.declared.fault.LineFault.TheVariants as faults
+use Rattle.rule_book.specs.declared.last.Last.{Last}
+use Rattle.rule_book.specs.declared.last.Last.TheVariants.{End, Stop}
+use Rattle.run_audit.specs.declared.answer.Answer.{Answer}
+use Rattle.run_audit.specs.declared.answer.Answer.TheVariants as answers
+
+-- the last line tells that the run ended
+abbrev pub IsEnd : Last → Type 0
+IsEnd (End records packets) = Unit {0}
+IsEnd (Stop kind offset) = ⊥
+
+-- the last line tells why the run stopped
+abbrev pub IsStop : Last → Type 0
+IsStop (End records packets) = ⊥
+IsStop (Stop kind offset) = Unit {0}
+
+-- a report has at most 67,108,864 octets
+abbrev pub is_most : ℕ
+is_most = 67108864
+
+-- the octets are the report of a finished run, with these entries
+pub record IsFinished (octets : List ℕ) (entries : List PlainEntry) : Type 0 where
+  pub report : PlainReport
+  pub is : IsReport report
+  pub text : octets ≡ text_of report
+  pub ends : IsEnd report.last
+  pub entries_are : report.entries ≡ entries
+  pub small : length octets ≤ is_most
+
+-- the line of a fault: the first, or the one that the fault names; want of memory has none
+abbrev pub line_of_fault : LineFault → ℕ
+line_of_fault faults.First = 1
+line_of_fault (faults.Shape line) = line
+line_of_fault (faults.Number line) = line
+line_of_fault faults.NoMemory = 0
+
+-- the octets are the text of no report, and this is the line that shows it
+pub record HasFaultAt (octets : List ℕ) (line : ℕ) : Type 0 where
+  pub fault : LineFault
+  pub has : HasFault (lines octets) fault
+  pub line_is : line ≡ line_of_fault fault
+  pub small : length octets ≤ is_most
+
+-- the octets are a report whose last line, which this is, tells why the run stopped
+pub record TellsStop (octets : List ℕ) (line : ℕ) : Type 0 where
+  pub report : PlainReport
+  pub is : IsReport report
+  pub text : octets ≡ text_of report
+  pub stops : IsStop report.last
+  pub line_is : line ≡ length report.entries + 2
+  pub small : length octets ≤ is_most
+
+-- there are more octets than a report may have, which line 0 tells
+pub record IsTooLong (octets : List ℕ) (line : ℕ) : Type 0 where
+  pub long : is_most < length octets
+  pub line_is : line ≡ 0
+
+-- the octets are the report of no finished run, by this line
+abbrev pub IsUnfinished : List ℕ → (line : ℕ) → Type 0
+IsUnfinished octets line = IsTooLong octets line ⊎ HasFaultAt octets line ⊎ TellsStop octets line
+
+-- these are all octets that a source had left, where it tells them
+abbrev pub WereLeft : Option (List ℕ) → List ℕ → Type 0
+WereLeft None octets = Unit {0}
+WereLeft (Some xs) octets = xs ≡ octets
+
+-- why there are no entries, where the source tells its octets; `before` and `now` count its faults
+abbrev pub WhyUnread : Option (List ℕ) → (before now : ℕ) → Answer → Type 0
+WhyUnread left before now (answers.Report line) = IfSome left (λ octets. IsUnfinished octets line)
+WhyUnread left before now answers.Unread = Rose before now
+WhyUnread left before now answers.Memory = Unit {0}
+WhyUnread left before now _ = ⊥
+
+-- the answer to a fault of the report
+abbrev pub fault_answer : LineFault → Answer
+fault_answer faults.First = answers.Report 1
+fault_answer (faults.Shape line) = answers.Report line
+fault_answer (faults.Number line) = answers.Report line
+fault_answer faults.NoMemory = answers.Memory
+
+-- why these octets give no entries
+abbrev pub WhyNone : List ℕ → Answer → Type 0
+WhyNone octets (answers.Report line) = IsUnfinished octets line
+WhyNone octets answers.Memory = Unit {0}
+WhyNone octets _ = ⊥
