@@ -10,3 +10,4 @@ pub mod Telling
 pub mod Agreeing
 pub mod Naming
 pub mod Framing
+pub mod Saying

@@ -1,12 +1,19 @@
 -- Eras that are named one after the other.
-use Rattle.std.proofs.Common.{◌≡◌, ℕ, suc, ◌+◌, ◌<◌, ◌==◌, ◌||◌, List, [], ◌∷◌, ◌++◌, map, length, drop, drop-cons, get_or, add-one, Option, Some, None, Bool, true, false, refl, sym, ap, ap₂, ◌∙◌, nat_eq, if◌then◌else◌}
-use Rattle.std.specs.Prelude.{is_some}
-use Rattle.std.specs.List.{list_any, flat_map}
+use Rattle.std.proofs.Common.{◌≡◌, ℕ, zero, suc, ◌+◌, ◌<◌, ◌==◌, ◌||◌, List, [], ◌∷◌, ◌++◌, map, length, drop, drop-cons, get_or, add-one, Option, Some, None, Bool, true, false, refl, sym, ap, ap₂, ◌∙◌, subst, nat_eq, if◌then◌else◌}
+use Rattle.std.specs.Prelude.{is_some, IfSome, IsSome, replicate}
+use Rattle.std.specs.Option.{option_to_list}
+use Rattle.std.proofs.lemmas.Bool.{eq-eqb}
+use Rattle.std.proofs.lemmas.List.Folds.{list_any-append}
+use Rattle.indexmap.specs.IndexMap.{get}
+use Rattle.std.specs.List.{AllByRecursion, list_any, flat_map}
 use Rattle.std.specs.Map.{keys_of, lookup}
 use Rattle.rule_book.specs.Entries.{PlainEntry, plain}
 use Rattle.rule_book.specs.declared.entry.Entry.{Entry}
 use Rattle.rule_book.specs.declared.entry.Ended.{Ended}
-use Rattle.run_audit.specs.Named.{noted, all_noted, numbers_of, named_in}
+use Rattle.run_audit.specs.Audits.{HasEra}
+use Rattle.run_audit.specs.Eras.{Eras}
+use Rattle.run_audit.specs.Frames.{owners}
+use Rattle.run_audit.specs.Named.{noted, all_noted, numbers_of, named_in, eras_named}
 
 -- a key is among the keys where it is found
 keys_found : {X : Type 0} (test : ℕ → Bool) (es : List (ℕ × X)) → list_any test (keys_of es) ≡ is_some (lookup test es)
@@ -51,3 +58,70 @@ entry_on ns more entries i entry whole less is named so_far =
 pub none_of : {X : Type 0} (o : Option X) → is_some o ≡ false → o ≡ None
 none_of None e = refl
 none_of (Some x) e = absurd (cc e)
+
+-- what is named is there
+noted_keeps : (n : ℕ) (ns : List ℕ) (x : ℕ) → list_any (λ other. n == other) ns ≡ true → list_any (λ other. n == other) (noted ns x) ≡ true
+noted_keeps n ns x h = by (list_any (λ other. x == other) ns)
+  where
+    by : (b : Bool) → list_any (λ other. n == other) (if b then ns else ns ++ x ∷ []) ≡ true
+    by true = h
+    by false = list_any-append (λ other. n == other) ns (x ∷ []) ∙ ap (λ b. b || list_any (λ other. n == other) (x ∷ [])) h
+
+noted_has : (n : ℕ) (ns : List ℕ) → list_any (λ other. n == other) (noted ns n) ≡ true
+noted_has n ns = by (list_any (λ other. n == other) ns) refl
+  where
+    self : (n == n) ≡ true
+    self = eq-eqb n n refl
+
+    last : (b : Bool) → (b || true) ≡ true
+    last true = refl
+    last false = refl
+
+    by : (b : Bool) → list_any (λ other. n == other) ns ≡ b → list_any (λ other. n == other) (if b then ns else ns ++ n ∷ []) ≡ true
+    by true e = e
+    by false e = list_any-append (λ other. n == other) ns (n ∷ []) ∙ ap (λ b. list_any (λ other. n == other) ns || (b || false)) self ∙ last (list_any (λ other. n == other) ns)
+
+all_keeps : (n : ℕ) (ns xs : List ℕ) → list_any (λ other. n == other) ns ≡ true → list_any (λ other. n == other) (all_noted ns xs) ≡ true
+all_keeps n ns [] h = h
+all_keeps n ns (x ∷ xs) h = all_keeps n (noted ns x) xs (noted_keeps n ns x h)
+
+-- the era of an entry is among those that are named
+abbrev Names : List ℕ → PlainEntry → Type 0
+Names ns e = IfSome e.era (λ n. list_any (λ other. n == other) ns ≡ true)
+
+all_named : (ns : List ℕ) (entries : List PlainEntry) → AllByRecursion (Names (all_noted ns (flat_map named_in entries))) entries
+all_named ns [] = tt
+all_named ns (e ∷ entries) = (by e.era refl, subst (λ ms. AllByRecursion (Names ms) entries) (sym parts) (all_named (all_noted ns (named_in e)) entries))
+  where
+    parts : all_noted ns (named_in e ++ flat_map named_in entries) ≡ all_noted (all_noted ns (named_in e)) (flat_map named_in entries)
+    parts = all_noted-append ns (named_in e) (flat_map named_in entries)
+
+    rest : List ℕ
+    rest = option_to_list e.begun
+
+    by : (o : Option ℕ) → e.era ≡ o → IfSome o (λ n. list_any (λ other. n == other) (all_noted ns (named_in e ++ flat_map named_in entries)) ≡ true)
+    by None is = tt
+    by (Some n) is =
+        let here : all_noted ns (named_in e) ≡ all_noted (noted ns n) (rest ++ numbers_of e.ended) =
+        ap (λ o. all_noted ns ((option_to_list o ++ rest) ++ numbers_of e.ended)) is in
+        ap (list_any (λ other. n == other)) (parts ∙ ap (λ ms. all_noted ms (flat_map named_in entries)) here)
+        ∙ all_keeps n (all_noted (noted ns n) (rest ++ numbers_of e.ended)) (flat_map named_in entries) (all_keeps n (noted ns n) (rest ++ numbers_of e.ended) (noted_has n ns))
+
+-- so it is for each frame's owner
+each_has : (eras : Eras) (ns : List ℕ) (e : PlainEntry) → keys_of eras.entries ≡ ns → Names ns e → HasEra eras e
+each_has eras ns e keys named = by e.era named
+  where
+    by : (o : Option ℕ) → IfSome o (λ n. list_any (λ other. n == other) ns ≡ true) → IfSome o (λ n. IsSome (get nat_eq eras n))
+    by None h = h
+    by (Some n) h = sym (keys_found (nat_eq n) eras.entries) ∙ ap (list_any (λ other. n == other)) keys ∙ h
+
+all_same : (P : PlainEntry → Type 0) (n : ℕ) (e : PlainEntry) (rest : List PlainEntry) → P e → AllByRecursion P rest → AllByRecursion P (replicate n e ++ rest)
+all_same P zero e rest h k = k
+all_same P (suc n) e rest h k = (h, all_same P n e rest h k)
+
+pub owners_named : (eras : Eras) (ns : List ℕ) (entries : List PlainEntry) → keys_of eras.entries ≡ ns → AllByRecursion (Names ns) entries → AllByRecursion (HasEra eras) (owners entries)
+owners_named eras ns [] keys h = tt
+owners_named eras ns (e ∷ entries) keys h = all_same (HasEra eras) e.packets e (owners entries) (each_has eras ns e keys h.0) (owners_named eras ns entries keys h.1)
+
+pub all_owners_named : (eras : Eras) (entries : List PlainEntry) → keys_of eras.entries ≡ eras_named entries → AllByRecursion (HasEra eras) (owners entries)
+all_owners_named eras entries keys = owners_named eras (eras_named entries) entries keys (all_named [] entries)

@@ -14,3 +14,4 @@ pub mod Told
 pub mod Owned
 pub mod Audits
 pub mod Reported
+pub mod Audited

@@ -1,17 +1,20 @@
 //! The audit of a capture and its report.
 
-ghost use Rattle.std.specs.Prelude.{◌≡◌, ◌+◌, ◌^◌, ◌<◌, ◌≤◌, [], map, length, IfOk, IfErr, IfSome};
+ghost use Rattle.std.specs.Prelude.{◌≡◌, ◌+◌, ◌^◌, ◌<◌, ◌≤◌, ◌⊎◌, [], map, length, string_bytes, IfOk, IfErr, IfSome};
 ghost use Rattle.std.specs.List.{AllByRecursion};
 ghost use Rattle.rule_book.specs.Entries.{plain};
+ghost use Rattle.run_audit.specs.Audited.{AllAgree, Answered, Says, WhereTold, seen};
 ghost use Rattle.run_audit.specs.Audits.{HasEra, IsSound, SoundFrames, WhyUnsound, WhyUnsoundWhole};
 ghost use Rattle.run_audit.specs.Eras.{AllStandFor};
 ghost use Rattle.run_audit.specs.Frames as frames;
+ghost use Rattle.run_audit.specs.Named.{eras_named};
 ghost use Rattle.run_audit.specs.Answers as spec;
 ghost use Rattle.run_audit.specs.declared.answer.Answer.{Answer};
 ghost use Rattle.run_audit.specs.declared.answer.Reason.{Reason};
 
 use crate::answer::tell;
 use crate::frame::{judge, packet_in};
+use crate::laws::faultless_agrees;
 use crate::named::{Eras, eras_named};
 use crate::owners::Owners;
 use crate::report::entries_of;
@@ -41,32 +44,97 @@ pub fn audit<C: Source, R: Source, K: Sink>(
     capture: &mut C,
     report: &mut R,
     out: &mut K,
-) -> u8 {
+) -> u8
+    ensures answered { Answered (map string_bytes words.now)
+        (seen (C.left capture.old) (C.fault_count capture.old) (C.fault_count capture.new))
+        (seen (R.left report.old) (R.fault_count report.old) (R.fault_count report.new))
+        (K.held out.old) (K.held out.new) (K.fault_count out.old) (K.fault_count out.new) result }
+
+    // At 0 all receivers agree, whoever wrote the two files.
+    ensures agreement { result ≡ 0 → WhereTold (map string_bytes words.now)
+        (seen (C.left capture.old) (C.fault_count capture.old) (C.fault_count capture.new))
+        (seen (R.left report.old) (R.fault_count report.old) (R.fault_count report.new))
+        (λ hops c r. AllAgree hops r c) }
+    ensures known { (result ≤ 5) ⊎ ((7 ≤ result) × (result ≤ 9)) }
+    ensures capture_later { C.fault_count capture.old ≤ C.fault_count capture.new }
+    ensures report_later { R.fault_count report.old ≤ R.fault_count report.new }
+    ensures out_later { K.fault_count out.old ≤ K.fault_count out.new }
+{
+    faultless_agrees();
     match examine(alloc, words, capture, report) {
-        Ok(answer) => tell(alloc, answer, out),
+        Ok(counts) => tell(alloc, counts.answer(), out),
         Err(answer) => tell(alloc, answer, out),
     }
 }
 
-// The answer, as far as it is not the output that fails.
+/// How many different eras a report names, and how many frames were written.
+#[derive(Clone, Copy)]
+struct Counts {
+    eras: usize,
+    frames: u64,
+}
+
+impl Counts {
+    // That nothing is wrong.
+    fn answer(self) -> Answer
+        ensures { result ≡ Answer.Yes self.eras self.frames }
+    {
+        Answer::Yes {
+            eras: self.eras,
+            frames: self.frames,
+        }
+    }
+}
+
+// The counts of a report and a capture in which nothing is wrong, or another answer.
 fn examine<C: Source, R: Source>(
     alloc: Global,
     words: &[String],
     capture: &mut C,
     report: &mut R,
-) -> Result<Answer, Answer> {
+) -> Result<Counts, Answer>
+    ensures yes { IfOk result (λ counts. Says (map string_bytes words.now)
+        (seen (C.left capture.old) (C.fault_count capture.old) (C.fault_count capture.new))
+        (seen (R.left report.old) (R.fault_count report.old) (R.fault_count report.new))
+        (Answer.Yes counts.eras counts.frames)) }
+    ensures other { IfErr result (λ answer. Says (map string_bytes words.now)
+        (seen (C.left capture.old) (C.fault_count capture.old) (C.fault_count capture.new))
+        (seen (R.left report.old) (R.fault_count report.old) (R.fault_count report.new)) answer) }
+    ensures capture_later { C.fault_count capture.old ≤ C.fault_count capture.new }
+    ensures report_later { R.fault_count report.old ≤ R.fault_count report.new }
+{
     let Some(hops) = hops_asked(words) else {
         return Err(Answer::Words);
     };
-    let entries = entries_of(alloc, report)?;
-    let mut eras = eras_named(alloc, &entries)?;
+    match entries_of(alloc, report) {
+        Ok(entries) => examine_capture(alloc, hops, entries.as_slice(), capture),
+        Err(answer) => Err(answer),
+    }
+}
+
+// The counts of a capture in which nothing is wrong by the entries of its report, or another answer.
+fn examine_capture<C: Source>(
+    alloc: Global,
+    hops: u8,
+    entries: &[Entry],
+    capture: &mut C,
+) -> Result<Counts, Answer>
+    ensures named { IfOk result (λ counts. counts.eras ≡ length (eras_named (map plain entries.now))) }
+    ensures sound { IfOk result (λ counts. IfSome (C.left capture.old) (λ octets. IsSound hops (map plain entries.now) octets counts.frames)) }
+    ensures why { IfErr result (λ answer. WhyUnsoundWhole hops (map plain entries.now) (C.left capture.old)
+        (C.fault_count capture.old) (C.fault_count capture.new) answer) }
+    ensures later { C.fault_count capture.old ≤ C.fault_count capture.new }
+{
+    let mut eras = eras_named(alloc, entries)?;
     let named = eras.len();
     let mut buffer = vec![in alloc; 0u8; MAX_CAPTURED as usize]?;
-    let frames = judge_capture(&mut eras, hops, &entries, &mut buffer, capture)?;
-    Ok(Answer::Yes {
-        eras: named,
-        frames,
-    })
+    match judge_capture(&mut eras, hops, entries, buffer.as_mut_slice(), capture) {
+        Ok(frames) => Ok(Counts {
+            eras: named,
+            frames,
+        }),
+        Err(answer) => Err(answer),
+    }
 }
 
 // Judges each frame of a capture, and answers how many there are.
