@@ -1,0 +1,68 @@
+//! The program `normaudit`: it opens the files that its words name, audits them, and ends with the status.
+#![tactic(auto)]
+
+mod texts;
+
+use edge_io::{FileSource, LineOut};
+use run_audit::audit;
+use std::fs::File;
+use std::process::ExitCode;
+use std::{env, io};
+
+fn main(rt: HostRuntime) -> ExitCode {
+    let words = match words_after_name(&rt) {
+        Ok(words) => words,
+        Err(error) if error.kind() == io::ErrorKind::OutOfMemory => return without_memory(&rt),
+        // A word that is not UTF-8 is a faulty command line, as one of no words is.
+        Err(_) => Vec::new(rt.alloc()),
+    };
+    if let Some(text) = asked_text(&words) {
+        let _ = rt.print(text);
+        return ExitCode::SUCCESS;
+    }
+    let (capture, report) = opened(&rt, &words);
+    ExitCode::from(audit(
+        rt.alloc(),
+        &words,
+        &mut FileSource::over(capture),
+        &mut FileSource::over(report),
+        &mut LineOut::over(Some(rt.stdout())),
+    ))
+}
+
+// The words of the command line without the program's own name.
+fn words_after_name(rt: &HostRuntime) -> io::Result<Vec<String>> {
+    let mut words = env::args(rt)?;
+    let _ = words.next();
+    Ok(words.collect(rt.alloc())?)
+}
+
+// The text that the words ask for, where they ask for one alone.
+fn asked_text(words: &[String]) -> Option<&'static str> {
+    let [word] = words else {
+        return None;
+    };
+    match word.as_str() {
+        "--help" | "-h" => Some(texts::HELP),
+        "--version" => Some(texts::VERSION),
+        _ => None,
+    }
+}
+
+// The capture and the report that three words name. A file that cannot be opened is a source whose every call fails.
+fn opened(rt: &HostRuntime, words: &[String]) -> (Option<File>, Option<File>) {
+    let [capture, report, _] = words else {
+        return (None, None);
+    };
+    (read(rt, capture.as_str()), read(rt, report.as_str()))
+}
+
+// The file to read.
+fn read(rt: &HostRuntime, name: &str) -> Option<File> {
+    File::open(rt, name).ok()
+}
+
+fn without_memory(rt: &HostRuntime) -> ExitCode {
+    let _ = rt.print("stop memory\n");
+    ExitCode::from(8)
+}
