@@ -40,15 +40,15 @@ left_some [] rest (suc n) x e = absurd (cc e)
 left_some (o ∷ os) rest zero x e = (cc e, cc e, omega arith)
 left_some (o ∷ os) rest (suc n) x e = let h = left_some os rest n x e in (h.0, h.1, let k = h.2 in omega (arith, k))
 
-frames_long : (packets : List Packet) → length (frames_of packets) ≡ length packets
+pub frames_long : (packets : List Packet) → length (frames_of packets) ≡ length packets
 frames_long [] = refl
 frames_long (p ∷ packets) = ap suc (frames_long packets)
 
 -- the next owner of the frames so far
-owner_at : (os : List PlainEntry) (packets : List Packet) (o : Option PlainEntry) → slice_get os (length packets) ≡ o → slice_get os (length (frames_of packets)) ≡ o
+pub owner_at : (os : List PlainEntry) (packets : List Packet) (o : Option PlainEntry) → slice_get os (length packets) ≡ o → slice_get os (length (frames_of packets)) ≡ o
 owner_at os packets o e = ap (slice_get os) (frames_long packets) ∙ e
 
-owned_more : (link : Link) (os : List PlainEntry) (packets : List Packet) (octets : List ℕ) (e : PlainEntry) → slice_get os (length packets) ≡ Some e → owned link os (octets ∷ frames_of packets) ≡ frame_of link octets e ∷ owned link os (frames_of packets)
+pub owned_more : (link : Link) (os : List PlainEntry) (packets : List Packet) (octets : List ℕ) (e : PlainEntry) → slice_get os (length packets) ≡ Some e → owned link os (octets ∷ frames_of packets) ≡ frame_of link octets e ∷ owned link os (frames_of packets)
 owned_more link os packets octets e h = ap (λ o. with_frame link octets o (owned link os (frames_of packets))) (owner_at os packets (Some e) h)
 
 -- one more record was taken

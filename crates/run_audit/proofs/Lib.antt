@@ -11,3 +11,6 @@ pub mod Agreeing
 pub mod Naming
 pub mod Framing
 pub mod Saying
+pub mod OneReport
+pub mod OneCapture
+pub mod OneAnswer

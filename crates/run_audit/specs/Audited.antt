@@ -69,3 +69,28 @@ pub record AllAgree (hops : ℕ) (report capture : List ℕ) : Type 0 where
   pub packets : List Packet
   pub is : IsCapture capture head packets
   pub agree : Agree hops (sent (owned head.link (owners entries) (frames_of packets)))
+
+-- the answer is neither that a source failed nor that memory was wanting: then it is one of the two files and the words alone
+abbrev pub IsExact : Answer → Type 0
+IsExact answers.Unread = ⊥
+IsExact answers.Memory = ⊥
+IsExact _ = Unit {0}
+
+-- Where both sources tell their octets, one such answer holds at most.
+abbrev pub AnswersAreOne : Type 0
+AnswersAreOne =
+    (words : List (List ℕ)) (capture report : Seen) (c r : List ℕ) (one other : Answer) → capture.left ≡ Some c → report.left ≡ Some r
+    → IsExact one → IsExact other → Says words capture report one → Says words capture report other → one ≡ other
+
+-- this answer is told, or that memory was wanting, or that a source failed, which it did
+abbrev pub ToldUnless : (words : List (List ℕ)) → (capture report : Seen) → Answer → (old new : Option (List ℕ)) → (before now answered : ℕ) → Type 0
+ToldUnless words capture report answer old new before now answered =
+    Tells answer old new before now answered
+    ⊎ Tells answers.Memory old new before now answered
+    ⊎ ((Rose report.before report.now ⊎ Rose capture.before capture.now) × Tells answers.Unread old new before now answered)
+
+-- Where both sources tell their octets, and this answer holds, it is told, unless memory is wanting or a source fails.
+abbrev pub TellsExactly : (words : List (List ℕ)) → (capture report : Seen) → (old new : Option (List ℕ)) → (before now answered : ℕ) → Type 0
+TellsExactly words capture report old new before now answered =
+    (c r : List ℕ) (answer : Answer) → capture.left ≡ Some c → report.left ≡ Some r → IsExact answer → Says words capture report answer
+    → ToldUnless words capture report answer old new before now answered

@@ -1,4 +1,5 @@
 //! Laws of what an audit looks at.
+ghost use Rattle.run_audit.specs.Audited.{AnswersAreOne};
 ghost use Rattle.run_audit.specs.Sound.{FaultlessAgrees};
 
 use era_state::laws::{
@@ -20,3 +21,8 @@ pub fn faultless_agrees()
     silence_changes_nothing();
     members_agree();
 }
+
+/// Where a capture and a report tell their octets, one answer holds of them and of words, but that a source failed or memory was wanting.
+pub fn answers_are_one()
+    ensures { AnswersAreOne }
+{}

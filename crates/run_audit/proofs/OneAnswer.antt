@@ -1,0 +1,200 @@
+-- One answer holds of words, a capture and a report.
+use Rattle.std.proofs.Common.{◌≡◌, ◌⊎◌, ℕ, List, length, drop, Option, Some, None, Result, Ok, Err, refl, sym, ap, ap₂, ◌∙◌, subst, inl, inr}
+use Rattle.std.specs.Prelude.{IfSome}
+use Rattle.edge_io.specs.Faults.{Rose}
+use Rattle.pcap_file.specs.declared.head.Head.{Head}
+use Rattle.pcap_file.specs.Flaws as found
+use Rattle.pcap_file.specs.Heads.{head_of}
+use Rattle.rule_book.specs.Entries.{PlainEntry}
+use Rattle.run_audit.specs.declared.answer.Answer.{Answer}
+use Rattle.run_audit.specs.declared.answer.Answer.TheVariants as answers
+use Rattle.run_audit.specs.declared.answer.Flaw.{Flaw}
+use Rattle.run_audit.specs.declared.answer.Flaw.TheVariants as flaws
+use Rattle.run_audit.specs.declared.answer.Reason.{Reason}
+use Rattle.run_audit.specs.Answers.{flaw_of}
+use Rattle.run_audit.specs.Audited.{Seen, IsYes, OfFinished, WhereTold, Says, IsExact, AnswersAreOne, Answered, ToldUnless, TellsExactly}
+use Rattle.run_audit.specs.Audits.{SoundFrames, FaultyFrame, FlawedFrame, IsSound, IsFaulty, IsFlawed, IsFlawedBehind}
+use Rattle.run_audit.specs.Named.{eras_named}
+use Rattle.run_audit.specs.Reported.{IsFinished, IsUnfinished}
+use Rattle.run_audit.specs.Told.{Tells}
+use Rattle.run_audit.specs.Words.{asked}
+use Rattle.run_audit.proofs.OneReport.{finished_one, finished_no_other, unfinished_one}
+use Rattle.run_audit.proofs.OneCapture.{sound_one, sound_no_fault, sound_no_flaw, fault_no_flaw, flaw_one, fault_one}
+
+-- the flaws of the code are those of the grammar
+flaw_from : found.Flaw → Flaw
+flaw_from found.bad_magic = flaws.Magic
+flaw_from found.bad_version = flaws.Version
+flaw_from found.bad_link = flaws.Link
+flaw_from found.too_long = flaws.Long
+flaw_from found.too_many = flaws.Many
+flaw_from found.cut_short = flaws.Cut
+
+flaw_back : (f : Flaw) → flaw_from (flaw_of f) ≡ f
+unfolding flaw_from
+flaw_back flaws.Magic = refl
+flaw_back flaws.Version = refl
+flaw_back flaws.Link = refl
+flaw_back flaws.Long = refl
+flaw_back flaws.Many = refl
+flaw_back flaws.Cut = refl
+
+same_flaw : (f g : Flaw) → flaw_of f ≡ flaw_of g → f ≡ g
+same_flaw f g e = sym (flaw_back f) ∙ ap flaw_from e ∙ flaw_back g
+
+-- a capture has one head
+one_head : (c : List ℕ) (h k : Head) → head_of c ≡ Ok h → head_of c ≡ Ok k → h ≡ k
+one_head c h k e f = let g = sym e ∙ f in cc g
+
+-- the same capture, by the same entries
+module _ (hops : ℕ) (c : List ℕ) (es : List PlainEntry) where
+  sounds : (n m : ℕ) → IsSound hops es c n → IsSound hops es c m → n ≡ m
+  sounds n m a b =
+      let P : Head → Type 0 = λ h. SoundFrames hops h es (drop 24 c) n in
+      sound_one hops b.head es (drop 24 c) n m (subst P (one_head c a.head b.head a.accepted b.accepted) a.behind) b.behind
+
+  sound_fault : (n k : ℕ) (r : Reason) → IsSound hops es c n → IsFaulty hops es c k r → ⊥
+  sound_fault n k r a b =
+      let P : Head → Type 0 = λ h. SoundFrames hops h es (drop 24 c) n in
+      sound_no_fault hops b.head es (drop 24 c) n k r (subst P (one_head c a.head b.head a.accepted b.accepted) a.behind) b.behind
+
+  sound_flaw : (n : ℕ) (f : found.Flaw) (o : ℕ) → IsSound hops es c n → IsFlawed hops es c f o → ⊥
+  sound_flaw n f o a (inl b) = let e = a.accepted in let g = b.0 in absurd (cc (e, g))
+  sound_flaw n f o a (inr b) =
+      let P : Head → Type 0 = λ h. SoundFrames hops h es (drop 24 c) n in
+      sound_no_flaw hops b.head es (drop 24 c) n f o (subst P (one_head c a.head b.head a.accepted b.accepted) a.behind) b.behind
+
+  faults : (n m : ℕ) (r s : Reason) → IsFaulty hops es c n r → IsFaulty hops es c m s → (n ≡ m) × (r ≡ s)
+  faults n m r s a b =
+      let P : Head → Type 0 = λ h. FaultyFrame hops h es (drop 24 c) n r in
+      fault_one hops b.head es (drop 24 c) n m r s (subst P (one_head c a.head b.head a.accepted b.accepted) a.behind) b.behind
+
+  fault_flaw : (n : ℕ) (r : Reason) (f : found.Flaw) (o : ℕ) → IsFaulty hops es c n r → IsFlawed hops es c f o → ⊥
+  fault_flaw n r f o a (inl b) = let e = a.accepted in let g = b.0 in absurd (cc (e, g))
+  fault_flaw n r f o a (inr b) =
+      let P : Head → Type 0 = λ h. FaultyFrame hops h es (drop 24 c) n r in
+      fault_no_flaw hops b.head es (drop 24 c) n r f o (subst P (one_head c a.head b.head a.accepted b.accepted) a.behind) b.behind
+
+  all_flaws : (f g : found.Flaw) (o p : ℕ) → IsFlawed hops es c f o → IsFlawed hops es c g p → (f ≡ g) × (o ≡ p)
+  all_flaws f g o p (inl a) (inl b) = ((let e = sym a.0 ∙ b.0 in cc e), a.1 ∙ sym b.1)
+  all_flaws f g o p (inl a) (inr b) = let e = a.0 in let h = b.accepted in absurd (cc (e, h))
+  all_flaws f g o p (inr a) (inl b) = let e = b.0 in let h = a.accepted in absurd (cc (e, h))
+  all_flaws f g o p (inr a) (inr b) =
+      let P : Head → Type 0 = λ h. FlawedFrame hops h es (drop 24 c) f o in
+      flaw_one hops b.head es (drop 24 c) f g o p (subst P (one_head c a.head b.head a.accepted b.accepted) a.behind) b.behind
+
+-- what an answer says of words and octets that are told
+Told : (words : List (List ℕ)) → (c r : List ℕ) → Answer → Type 0
+Told words c r (answers.Yes eras frames) = (hops : ℕ) × (asked words ≡ Some hops) × IsYes hops r c eras frames
+Told words c r (answers.No number reason) = (hops : ℕ) × (asked words ≡ Some hops) × OfFinished r (λ es. IsFaulty hops es c number reason)
+Told words c r answers.Words = asked words ≡ None
+Told words c r (answers.Flawed flaw offset) = (hops : ℕ) × (asked words ≡ Some hops) × OfFinished r (λ es. IsFlawed hops es c (flaw_of flaw) offset)
+Told words c r answers.Unread = ⊥
+Told words c r answers.Memory = ⊥
+Told words c r (answers.Report line) = (hops : ℕ) × (asked words ≡ Some hops) × IsUnfinished r line
+
+both_told : (left right : Option (List ℕ)) (x y : List ℕ) (P : List ℕ → List ℕ → Type 0) → left ≡ Some x → right ≡ Some y → IfSome left (λ r. IfSome right (λ c. P c r)) → P y x
+both_told left right x y P e f h =
+    let Q : Option (List ℕ) → Type 0 = λ o. IfSome o (λ r. IfSome right (λ c. P c r)) in
+    let R : Option (List ℕ) → Type 0 = λ o. IfSome o (λ c. P c x) in
+    subst R f (subst Q e h)
+
+told_of : (words : List (List ℕ)) (capture report : Seen) (c r : List ℕ) (a : Answer) → capture.left ≡ Some c → report.left ≡ Some r → IsExact a → Says words capture report a → Told words c r a
+unfolding Told
+told_of words capture report c r (answers.Yes eras frames) e f exact s = (s.0, s.1, both_told report.left capture.left r c (λ x y. IsYes s.0 y x eras frames) f e s.2)
+told_of words capture report c r (answers.No number reason) e f exact s = (s.0, s.1, both_told report.left capture.left r c (λ x y. OfFinished y (λ es. IsFaulty s.0 es x number reason)) f e s.2)
+told_of words capture report c r answers.Words e f exact s = s
+told_of words capture report c r (answers.Flawed flaw offset) e f exact s = (s.0, s.1, both_told report.left capture.left r c (λ x y. OfFinished y (λ es. IsFlawed s.0 es x (flaw_of flaw) offset)) f e s.2)
+told_of words capture report c r answers.Unread e f exact s = absurd exact
+told_of words capture report c r answers.Memory e f exact s = absurd exact
+told_of words capture report c r (answers.Report line) e f exact s = (s.0, s.1, let P : Option (List ℕ) → Type 0 = λ o. IfSome o (λ x. IsUnfinished x line) in subst P f s.2)
+
+-- the words ask for one number
+one_number : (words : List (List ℕ)) (h k : ℕ) → asked words ≡ Some h → asked words ≡ Some k → h ≡ k
+one_number words h k e f = let g = sym e ∙ f in cc g
+
+refused : (words : List (List ℕ)) (h : ℕ) → asked words ≡ None → asked words ≡ Some h → ⊥
+refused words h e f = absurd (cc (e, f))
+
+-- facts of a finished report, by the number and the entries of another one
+moved : (words : List (List ℕ)) (r : List ℕ) (h k : ℕ) (P : ℕ → List PlainEntry → Type 0) → asked words ≡ Some h → asked words ≡ Some k → OfFinished r (P h) → (es : List PlainEntry) → IsFinished r es → P k es
+moved words r h k P e f a es fin =
+    let Q : ℕ → Type 0 = λ n. P n a.entries in
+    let R : List PlainEntry → Type 0 = P k in
+    subst R (finished_one r a.entries es a.finished fin) (subst Q (one_number words h k e f) a.fact)
+
+of_yes : (hops : ℕ) (r c : List ℕ) (eras frames : ℕ) → IsYes hops r c eras frames → OfFinished r (λ es. IsSound hops es c frames)
+of_yes hops r c eras frames y = record { entries = y.entries; finished = y.finished; fact = y.sound }
+
+told_one : (words : List (List ℕ)) (c r : List ℕ) (a b : Answer) → Told words c r a → Told words c r b → a ≡ b
+unfolding Told
+told_one words c r answers.Unread b s t = absurd s
+told_one words c r answers.Memory b s t = absurd s
+told_one words c r answers.Words answers.Words s t = refl
+told_one words c r answers.Words answers.Unread s t = absurd t
+told_one words c r answers.Words answers.Memory s t = absurd t
+told_one words c r answers.Words (answers.Yes eras frames) s t = absurd (refused words t.0 s t.1)
+told_one words c r answers.Words (answers.No number reason) s t = absurd (refused words t.0 s t.1)
+told_one words c r answers.Words (answers.Flawed flaw offset) s t = absurd (refused words t.0 s t.1)
+told_one words c r answers.Words (answers.Report line) s t = absurd (refused words t.0 s t.1)
+told_one words c r (answers.Yes eras frames) answers.Unread s t = absurd t
+told_one words c r (answers.Yes eras frames) answers.Memory s t = absurd t
+told_one words c r (answers.Yes eras frames) answers.Words s t = absurd (refused words s.0 t s.1)
+told_one words c r (answers.Yes eras frames) (answers.Yes other more) s t =
+    let here = moved words r s.0 t.0 (λ h es. IsSound h es c frames) s.1 t.1 (of_yes s.0 r c eras frames s.2) t.2.entries t.2.finished in
+    let same : eras ≡ other = s.2.eras_are ∙ ap (λ (es : List PlainEntry). length (eras_named es)) (finished_one r s.2.entries t.2.entries s.2.finished t.2.finished) ∙ sym t.2.eras_are in
+    ap₂ answers.Yes same (sounds t.0 c t.2.entries frames more here t.2.sound)
+told_one words c r (answers.Yes eras frames) (answers.No number reason) s t =
+    absurd (sound_fault t.0 c t.2.entries frames number reason (moved words r s.0 t.0 (λ h es. IsSound h es c frames) s.1 t.1 (of_yes s.0 r c eras frames s.2) t.2.entries t.2.finished) t.2.fact)
+told_one words c r (answers.Yes eras frames) (answers.Flawed flaw offset) s t =
+    absurd (sound_flaw t.0 c t.2.entries frames (flaw_of flaw) offset (moved words r s.0 t.0 (λ h es. IsSound h es c frames) s.1 t.1 (of_yes s.0 r c eras frames s.2) t.2.entries t.2.finished) t.2.fact)
+told_one words c r (answers.Yes eras frames) (answers.Report line) s t = absurd (finished_no_other r s.2.entries line s.2.finished t.2)
+told_one words c r (answers.No number reason) answers.Unread s t = absurd t
+told_one words c r (answers.No number reason) answers.Memory s t = absurd t
+told_one words c r (answers.No number reason) answers.Words s t = absurd (refused words s.0 t s.1)
+told_one words c r (answers.No number reason) (answers.Yes eras frames) s t =
+    absurd (sound_fault s.0 c s.2.entries frames number reason (moved words r t.0 s.0 (λ h es. IsSound h es c frames) t.1 s.1 (of_yes t.0 r c eras frames t.2) s.2.entries s.2.finished) s.2.fact)
+told_one words c r (answers.No number reason) (answers.No other cause) s t =
+    let same = faults t.0 c t.2.entries number other reason cause (moved words r s.0 t.0 (λ h es. IsFaulty h es c number reason) s.1 t.1 s.2 t.2.entries t.2.finished) t.2.fact in
+    ap₂ answers.No same.0 same.1
+told_one words c r (answers.No number reason) (answers.Flawed flaw offset) s t =
+    absurd (fault_flaw t.0 c t.2.entries number reason (flaw_of flaw) offset (moved words r s.0 t.0 (λ h es. IsFaulty h es c number reason) s.1 t.1 s.2 t.2.entries t.2.finished) t.2.fact)
+told_one words c r (answers.No number reason) (answers.Report line) s t = absurd (finished_no_other r s.2.entries line s.2.finished t.2)
+told_one words c r (answers.Flawed flaw offset) answers.Unread s t = absurd t
+told_one words c r (answers.Flawed flaw offset) answers.Memory s t = absurd t
+told_one words c r (answers.Flawed flaw offset) answers.Words s t = absurd (refused words s.0 t s.1)
+told_one words c r (answers.Flawed flaw offset) (answers.Yes eras frames) s t =
+    absurd (sound_flaw s.0 c s.2.entries frames (flaw_of flaw) offset (moved words r t.0 s.0 (λ h es. IsSound h es c frames) t.1 s.1 (of_yes t.0 r c eras frames t.2) s.2.entries s.2.finished) s.2.fact)
+told_one words c r (answers.Flawed flaw offset) (answers.No number reason) s t =
+    absurd (fault_flaw s.0 c s.2.entries number reason (flaw_of flaw) offset (moved words r t.0 s.0 (λ h es. IsFaulty h es c number reason) t.1 s.1 t.2 s.2.entries s.2.finished) s.2.fact)
+told_one words c r (answers.Flawed flaw offset) (answers.Flawed other place) s t =
+    let same = all_flaws t.0 c t.2.entries (flaw_of flaw) (flaw_of other) offset place (moved words r s.0 t.0 (λ h es. IsFlawed h es c (flaw_of flaw) offset) s.1 t.1 s.2 t.2.entries t.2.finished) t.2.fact in
+    ap₂ answers.Flawed (same_flaw flaw other same.0) same.1
+told_one words c r (answers.Flawed flaw offset) (answers.Report line) s t = absurd (finished_no_other r s.2.entries line s.2.finished t.2)
+told_one words c r (answers.Report line) answers.Unread s t = absurd t
+told_one words c r (answers.Report line) answers.Memory s t = absurd t
+told_one words c r (answers.Report line) answers.Words s t = absurd (refused words s.0 t s.1)
+told_one words c r (answers.Report line) (answers.Yes eras frames) s t = absurd (finished_no_other r t.2.entries line t.2.finished s.2)
+told_one words c r (answers.Report line) (answers.No number reason) s t = absurd (finished_no_other r t.2.entries line t.2.finished s.2)
+told_one words c r (answers.Report line) (answers.Flawed flaw offset) s t = absurd (finished_no_other r t.2.entries line t.2.finished s.2)
+told_one words c r (answers.Report line) (answers.Report other) s t = ap answers.Report (unfinished_one r line other s.2 t.2)
+
+pub answers_are_one : AnswersAreOne
+answers_are_one words capture report c r a b e f exact same_exact s t =
+    told_one words c r a b (told_of words capture report c r a e f exact s) (told_of words capture report c r b e f same_exact t)
+
+-- the answer that is told is the one that holds
+pub tells_exactly : AnswersAreOne → (words : List (List ℕ)) (capture report : Seen) (old new : Option (List ℕ)) (before now status : ℕ) → Answered words capture report old new before now status → TellsExactly words capture report old new before now status
+tells_exactly one words capture report old new before now status told c r answer e f exact says = by told.answer told.says told.told
+  where
+    same : (a : Answer) → IsExact a → Says words capture report a → Tells a old new before now status → ToldUnless words capture report answer old new before now status
+    same a a_exact s t = inl (subst (λ b. Tells b old new before now status) (one words capture report c r a answer e f a_exact exact s says) t)
+
+    by : (a : Answer) → Says words capture report a → Tells a old new before now status → ToldUnless words capture report answer old new before now status
+    by answers.Unread s t = inr (inr (s, t))
+    by answers.Memory s t = inr (inl t)
+    by (answers.Yes eras frames) s t = same (answers.Yes eras frames) tt s t
+    by (answers.No number reason) s t = same (answers.No number reason) tt s t
+    by answers.Words s t = same answers.Words tt s t
+    by (answers.Flawed flaw offset) s t = same (answers.Flawed flaw offset) tt s t
+    by (answers.Report line) s t = same (answers.Report line) tt s t
