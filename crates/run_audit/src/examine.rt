@@ -3,7 +3,7 @@
 ghost use Rattle.std.specs.Prelude.{◌≡◌, ◌+◌, ◌^◌, ◌<◌, ◌≤◌, ◌⊎◌, [], map, length, string_bytes, IfOk, IfErr, IfSome};
 ghost use Rattle.std.specs.List.{AllByRecursion};
 ghost use Rattle.rule_book.specs.Entries.{plain};
-ghost use Rattle.run_audit.specs.Audited.{AllAgree, Answered, Says, WhereTold, seen};
+ghost use Rattle.run_audit.specs.Audited.{AllAgree, Answered, Says, TellsExactly, WhereTold, seen};
 ghost use Rattle.run_audit.specs.Audits.{HasEra, IsSound, SoundFrames, WhyUnsound, WhyUnsoundWhole};
 ghost use Rattle.run_audit.specs.Eras.{AllStandFor};
 ghost use Rattle.run_audit.specs.Frames as frames;
@@ -14,7 +14,7 @@ ghost use Rattle.run_audit.specs.declared.answer.Reason.{Reason};
 
 use crate::answer::tell;
 use crate::frame::{judge, packet_in};
-use crate::laws::faultless_agrees;
+use crate::laws::{answers_are_one, faultless_agrees};
 use crate::named::{Eras, eras_named};
 use crate::owners::Owners;
 use crate::report::entries_of;
@@ -55,12 +55,19 @@ pub fn audit<C: Source, R: Source, K: Sink>(
         (seen (C.left capture.old) (C.fault_count capture.old) (C.fault_count capture.new))
         (seen (R.left report.old) (R.fault_count report.old) (R.fault_count report.new))
         (λ hops c r. AllAgree hops r c) }
+
+    // The one answer that holds is told, unless memory is wanting or a source fails.
+    ensures exactly { TellsExactly (map string_bytes words.now)
+        (seen (C.left capture.old) (C.fault_count capture.old) (C.fault_count capture.new))
+        (seen (R.left report.old) (R.fault_count report.old) (R.fault_count report.new))
+        (K.held out.old) (K.held out.new) (K.fault_count out.old) (K.fault_count out.new) result }
     ensures known { (result ≤ 5) ⊎ ((7 ≤ result) × (result ≤ 9)) }
     ensures capture_later { C.fault_count capture.old ≤ C.fault_count capture.new }
     ensures report_later { R.fault_count report.old ≤ R.fault_count report.new }
     ensures out_later { K.fault_count out.old ≤ K.fault_count out.new }
 {
     faultless_agrees();
+    answers_are_one();
     match examine(alloc, words, capture, report) {
         Ok(counts) => tell(alloc, counts.answer(), out),
         Err(answer) => tell(alloc, answer, out),
