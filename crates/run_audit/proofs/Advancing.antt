@@ -1,27 +1,20 @@
 -- A ledger with one more segment.
-use Rattle.std.proofs.Common.{◌≡◌, ℕ, ◌+◌, ◌%◌, ◌^◌, ◌<◌, ◌≤◌, ◌==◌, ◌&&◌, ◌||◌, not, List, [], ◌∷◌, ◌++◌, length, length-append, Option, Some, None, Bool, true, false, refl, sym, ap, ap₂, ◌∙◌, subst, arith, if◌then◌else◌, nat_lt, is_none, vec_len}
-use Rattle.std.specs.Prelude.{ℤ, pos, ◌+ℤ◌, ◌-ℤ◌, max, fold, IfOk, Result, Ok, Err}
+use Rattle.std.proofs.Common.{◌≡◌, ℕ, ◌+◌, ◌%◌, ◌^◌, ◌≤◌, ◌&&◌, not, List, [], ◌∷◌, ◌++◌, length, length-append, Option, Some, None, Bool, true, false, sym, ap, ap₂, ◌∙◌, subst, arith, if◌then◌else◌, vec_len}
+use Rattle.std.specs.Prelude.{ℤ, pos, ◌+ℤ◌, ◌-ℤ◌, max}
 use Rattle.std.specs.Option.{option_or}
 use Rattle.std.proofs.Math.Nat.{max-zero}
 use Rattle.wire_base.specs.Tcp as tcp
 use Rattle.wire_base.specs.Segments.{Written}
 use Rattle.era_state.specs.Offsets.{off, nat_of, natural, number_in}
-use Rattle.era_state.specs.Marks.{acknowledges, has_octets, get_at, octet_at, fin_place, top_place, fixes, ack_of}
+use Rattle.era_state.specs.Marks.{has_octets, get_at, octet_at, fin_place, top_place, fixes, ack_of}
 use Rattle.era_state.specs.Quantities.{base_of, acked, top, first, end_of}
-use Rattle.era_state.specs.Rules.{precedes}
 use Rattle.era_state.specs.Emitted.{HasNoOtherBase}
-use Rattle.era_state.specs.Silence.{IsSilent, Same}
 use Rattle.era_state.proofs.Pushes.{or_none, or_kept, fold_push}
 use Rattle.era_state.proofs.Steps.{base_push, acked_push, octet_push, end_push, top_push}
-use Rattle.era_state.proofs.Inwards.{silence_changes_nothing}
-use Rattle.run_audit.specs.declared.answer.Reason.{Reason}
-use Rattle.run_audit.specs.declared.answer.Reason.TheVariants as reasons
-use Rattle.run_audit.specs.declared.ledger.Inward.{Inward}
 use Rattle.run_audit.specs.declared.ledger.Ledger.{Ledger}
 use Rattle.run_audit.specs.Kept.{kept_at}
 use Rattle.run_audit.specs.Offsets.{offset_in, some_offset}
-use Rattle.run_audit.specs.Faults.{lacks_base, has_other_syn, has_other_octet, has_other_fin}
-use Rattle.run_audit.specs.Ledgers.{IsInward, IsOutward, ReadBy, Tells, StandsFor, IsRightAt, IsVerdict, IsVerdictAt, octets_reason, stream_reason, acked_with, acked_by, fixed, settled}
+use Rattle.run_audit.specs.Ledgers.{IsOutward, Tells, StandsFor, acked_with, acked_by, fixed}
 
 -- what an outward segment says
 fixes_out : (f n : ℕ) (w : Written) → IsOutward f n w → fixes w ≡ (if tcp.has_ack f && not (tcp.has_rst f) then Some n else None)

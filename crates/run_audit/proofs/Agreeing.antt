@@ -1,6 +1,6 @@
 -- Frames without a fault tell one stream in each era, so that all receivers agree.
 use Rattle.std.proofs.Common.{◌≡◌, ℕ, zero, suc, ◌+◌, ◌%◌, ◌^◌, ◌==◌, ◌&&◌, List, [], ◌∷◌, ◌++◌, map, length, Option, Some, None, Bool, true, false, refl, sym, ap, ◌∙◌, subst, if◌then◌else◌, append-nil}
-use Rattle.std.specs.Prelude.{ℤ, pos, ◌<ℤ◌, All, IfSome, IsTrue, slice_get}
+use Rattle.std.specs.Prelude.{ℤ, All, IfSome, IsTrue, slice_get}
 use Rattle.std.proofs.lemmas.Bool.{eqb-true}
 use Rattle.std.proofs.lemmas.List.Elements.{All-nil, All-cons, All-append}
 use Rattle.wire_base.specs.declared.address.Side.{Side}
@@ -16,12 +16,12 @@ use Rattle.era_state.specs.Emitted.{HasNoOtherBase}
 use Rattle.era_state.specs.Silence.{IsSilent, SilenceChangesNothing}
 use Rattle.receiver_model.specs.Agreement.{OctetAt, FinAt, HasSynBefore, TellOneStream, MembersAgree}
 use Rattle.era_agreement.specs.Sent.{is_era, inward_packets, written_as, segments_in, written_in, place_of, placed_at, inward_places}
-use Rattle.era_agreement.specs.Agreement.{IsSilentPacket, EraIsSound, Agree}
+use Rattle.era_agreement.specs.Agreement.{IsSilentPacket, EraIsSound}
 use Rattle.era_agreement.proofs.Facts.{EraLaws, IsTold, told_still, other_before}
 use Rattle.era_agreement.proofs.Told.{Each, Told}
 use Rattle.run_audit.specs.Faults.{in_stream, lacks_base, has_other_syn, has_other_octet, has_other_fin, IsWellReadAs, IsFaultless}
 use Rattle.run_audit.specs.FirstFault.{AreFaultless}
-use Rattle.run_audit.specs.Frames.{Frame, is_inward, sent_of, sent}
+use Rattle.run_audit.specs.Frames.{Frame, is_inward, sent}
 use Rattle.run_audit.specs.Sound.{FaultlessAgrees}
 use Rattle.run_audit.proofs.Telling.{IsRight, EndsBehind, told, silent_unbased, ends_on, ends_silent, ends_outward}
 

@@ -1,6 +1,6 @@
 -- A ledger with one more segment that went inwards.
 use Rattle.std.proofs.Common.{◌≡◌, ℕ, ◌+◌, ◌%◌, ◌^◌, ◌≤◌, ◌==◌, ◌&&◌, ◌||◌, not, List, [], ◌∷◌, ◌++◌, length, Option, Some, None, Bool, true, false, refl, sym, ap, ap₂, ◌∙◌, subst, arith, if◌then◌else◌, nat_lt, is_none, vec_len}
-use Rattle.std.specs.Prelude.{ℤ, pos, ◌+ℤ◌, IfOk, Result, Ok, Err}
+use Rattle.std.specs.Prelude.{pos, ◌+ℤ◌, IfOk, Result, Ok, Err}
 use Rattle.std.specs.Option.{option_or}
 use Rattle.std.proofs.lemmas.Bool.{or_parts, ltb-false}
 use Rattle.edge_io.specs.declared.faults.NoMemory.{NoMemory}
@@ -10,7 +10,6 @@ use Rattle.era_state.specs.Offsets.{off}
 use Rattle.era_state.specs.Marks.{has_octets, fixes}
 use Rattle.era_state.specs.Quantities.{base_of, base_at, acked, top, first, end_of}
 use Rattle.era_state.specs.Rules.{precedes}
-use Rattle.era_state.specs.Emitted.{HasNoOtherBase}
 use Rattle.era_state.specs.Silence.{IsSilent, Same}
 use Rattle.era_state.proofs.Steps.{base_push}
 use Rattle.era_state.proofs.Inwards.{silence_changes_nothing}
@@ -20,7 +19,7 @@ use Rattle.run_audit.specs.declared.ledger.Inward.{Inward}
 use Rattle.run_audit.specs.declared.ledger.Ledger.{Ledger}
 use Rattle.run_audit.specs.Faults.{lacks_base, has_other_syn, has_other_octet, has_other_fin, some_strays, fin_strays}
 use Rattle.run_audit.specs.Ledgers.{IsInward, ReadBy, Tells, StandsFor, IsRightAt, IsVerdict, IsVerdictAt, octets_reason, stream_reason, acked_by, fixed, settled}
-use Rattle.run_audit.proofs.Advancing.{longer, other_before, one_base, none_or}
+use Rattle.run_audit.proofs.Advancing.{longer, other_before, one_base}
 
 fixes_in : (s : Inward) (w : Written) → IsInward s w → fixes w ≡ (if tcp.has_syn s.flags.0 then Some ((s.seq + 1) % 2 ^ 32) else None)
 fixes_in s w is =

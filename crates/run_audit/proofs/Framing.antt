@@ -1,30 +1,24 @@
 -- How an audit goes on from frame to frame, and how it ends.
-use Rattle.std.proofs.Common.{◌≡◌, ℕ, zero, suc, ◌+◌, ◌^◌, ◌<◌, ◌≤◌, List, [], ◌∷◌, ◌++◌, length, drop, map, Option, Some, None, Ok, Err, Result, true, refl, sym, ap, ap₂, subst, ◌∙◌, arith, inl, inr}
-use Rattle.std.specs.Prelude.{IfSome, IsSome, slice_get, option_map, nat_eq}
+use Rattle.std.proofs.Common.{◌≡◌, ℕ, zero, suc, ◌+◌, ◌≤◌, List, [], ◌∷◌, length, drop, Option, Some, None, Ok, refl, sym, ap, ap₂, subst, ◌∙◌, arith}
+use Rattle.std.specs.Prelude.{IfSome, IsSome, slice_get, nat_eq}
 use Rattle.std.specs.List.{AllByRecursion}
 use Rattle.std.proofs.lemmas.Option.{slice_get_past}
-use Rattle.edge_io.specs.Faults.{Rose}
 use Rattle.wire_base.specs.declared.address.Link.{Link}
 use Rattle.pcap_file.specs.declared.head.Head.{Head}
 use Rattle.pcap_file.specs.declared.order.Order.{Order}
-use Rattle.pcap_file.specs.declared.reader.RecordFault.{RecordFault}
-use Rattle.pcap_file.specs.declared.reader.RecordFault.TheVariants as records
-use Rattle.pcap_file.specs.Flaws as found
 use Rattle.pcap_file.specs.Records.{Packet, front_of}
-use Rattle.pcap_file.specs.Capture.{ReadsTo, Took, size_of, offset_of}
-use Rattle.pcap_file.specs.Reads.{Leaves, HasEnd, HasFlaw, FailsWith, StopsAt, Advances}
+use Rattle.pcap_file.specs.Capture.{ReadsTo, Took}
+use Rattle.pcap_file.specs.Reads.{Leaves, HasEnd, Advances}
 use Rattle.pcap_file.specs.Reading.{Reading}
 use Rattle.rule_book.specs.Entries.{PlainEntry}
 use Rattle.indexmap.specs.IndexMap.{get}
-use Rattle.era_agreement.specs.Sent.{Sent}
 use Rattle.run_audit.specs.declared.answer.Reason.{Reason}
 use Rattle.run_audit.specs.declared.answer.Reason.TheVariants as reasons
 use Rattle.run_audit.specs.declared.owners.Owners.{Owners}
-use Rattle.run_audit.specs.Answers.{record_answer}
-use Rattle.run_audit.specs.Audits.{frames_of, SoundFrames, FaultyFrame, FlawedFrame, WhyUnsound, HasEra, GoesOn}
+use Rattle.run_audit.specs.Audits.{frames_of, SoundFrames, FaultyFrame, HasEra, GoesOn}
 use Rattle.run_audit.specs.Eras.{Eras, AllStandFor, AreThere, IsJudged, IsNoted, StandsForFew}
 use Rattle.run_audit.specs.Faults.{IsFirstReason}
-use Rattle.run_audit.specs.FirstFault.{AreFaultless, FailsNext, FirstFault, NoFault}
+use Rattle.run_audit.specs.FirstFault.{AreFaultless, FailsNext, FirstFault}
 use Rattle.run_audit.specs.Frames.{Frame, frame_of, packet_in, owners, with_frame, owned, sent}
 use Rattle.run_audit.specs.Owned.{left_of}
 
@@ -182,34 +176,6 @@ sound hops head entries old mid new eras left reader frames g end none = by old 
       count = g.frames_are;
     }
 
--- a record has a flaw
-pub flawed : (fault : RecordFault) (hops : ℕ) (head : Head) (entries : List PlainEntry) (old mid new : Option (List ℕ)) (eras : Eras) (left : Owners) (reader : Reading) (frames asked before now : ℕ) → GoesOn hops head entries old mid eras left reader frames
-    → FailsWith reader.head.order reader.given mid new fault → asked ≡ reader.place → (◌≡◌ {A = RecordFault} fault records.ReadFault → Rose before now)
-    → WhyUnsound hops head entries old before now (record_answer fault asked)
-flawed fault hops head entries old mid new eras left reader frames asked before now g fails place rose = by fault fails rose
-  where
-    behind : (flaw : found.Flaw) → HasFlaw reader.head.order reader.given mid flaw → IfSome old (λ all. FlawedFrame hops head entries all flaw asked)
-    behind flaw has = go old mid g.took has
-      where
-        go : (a b : Option (List ℕ)) → Took head.order a b g.packets → HasFlaw reader.head.order reader.given b flaw → IfSome a (λ all. FlawedFrame hops head entries all flaw asked)
-        go None b took h = tt
-        go (Some all) None took h = absurd took
-        go (Some all) (Some xs) took h = record {
-          packets = g.packets;
-          left = xs;
-          reads = took;
-          stands = ap₂ (λ (k : Head) n. front_of k.order n xs) (sym g.head_is) (sym g.given_is) ∙ h;
-          place = place ∙ g.place_is;
-          each_owned = g.each_owned;
-          faultless = g.faultless;
-        }
-
-    by : (f : RecordFault) → FailsWith reader.head.order reader.given mid new f → (◌≡◌ {A = RecordFault} f records.ReadFault → Rose before now) → WhyUnsound hops head entries old before now (record_answer f asked)
-    by records.Cut fails rose = behind found.cut_short fails.flawed
-    by records.Long fails rose = behind found.too_long fails.flawed
-    by records.TooMany fails rose = behind found.too_many fails.flawed
-    by records.ReadFault fails rose = rose refl
-
 -- the frames are few
 pub few_frames : (hops : ℕ) (head : Head) (entries : List PlainEntry) (old now : Option (List ℕ)) (eras : Eras) (left : Owners) (reader : Reading) (frames : ℕ) → GoesOn hops head entries old now eras left reader frames → StandsForFew eras
 few_frames hops head entries old now eras left reader frames g = record {
@@ -225,27 +191,6 @@ few_frames hops head entries old now eras left reader frames g = record {
     shorter : (fs : List (List ℕ)) → length (owned head.link (owners entries) fs) ≤ length fs
     shorter [] = omega arith
     shorter (f ∷ fs) = let h = shorter fs in let k = with_one f (slice_get (owners entries) (length fs)) (owned head.link (owners entries) fs) in omega (arith, h, k)
-
--- nothing was judged yet
-pub begins : (hops : ℕ) (head : Head) (entries : List PlainEntry) (old : Option (List ℕ)) (eras : Eras) (left : Owners) (reader : Reading) → reader ≡ record { head = head; place = 24; asked = 24; given = 0; is_open = true } → left_of left ≡ owners entries → AllStandFor eras [] → AllByRecursion (HasEra eras) (owners entries) → GoesOn hops head entries old old eras left reader 0
-begins hops head entries old eras left reader fresh all stand named = record {
-  packets = [];
-  took = by old;
-  each_owned = omega arith;
-  faultless = tt;
-  left_is = all;
-  stand = stand;
-  named = subst (AllByRecursion (HasEra eras)) (sym all) named;
-  frames_are = refl;
-  given_is = ap (λ (r : Reading). r.given) fresh;
-  few = let h = ap (λ (r : Reading). r.given) fresh in omega (arith, h);
-  place_is = ap (λ (r : Reading). r.place) fresh;
-  head_is = ap (λ (r : Reading). r.head) fresh;
-}
-  where
-    by : (o : Option (List ℕ)) → Took head.order o o []
-    by None = tt
-    by (Some xs) = refl
 
 -- the judgment on a packet is that on its frame
 pub noted_by : (hops : ℕ) (old new : Eras) (link : Link) (packet octets : List ℕ) (e : PlainEntry) (verdict : Option Reason) → verdict ≡ None → packet ≡ packet_in link octets

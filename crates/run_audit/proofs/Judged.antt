@@ -1,5 +1,5 @@
 -- The judgment on a frame, by what its era says of its segment.
-use Rattle.std.proofs.Common.{◌≡◌, ◌≢◌, ℕ, ◌-◌, ◌==◌, ◌&&◌, List, [], ◌∷◌, ◌++◌, length, take, drop, append-nil, Option, Some, None, Bool, true, false, refl, sym, ap, ap₂, ◌∙◌, subst, arith, if◌then◌else◌, nat_eq}
+use Rattle.std.proofs.Common.{◌≡◌, ◌≢◌, ℕ, ◌-◌, ◌==◌, ◌&&◌, List, [], ◌∷◌, ◌++◌, length, take, drop, append-nil, Option, Some, None, Bool, true, false, refl, sym, ap, ◌∙◌, subst, arith, if◌then◌else◌, nat_eq}
 use Rattle.std.specs.Prelude.{IsSome, IfOk, Result, Ok, Err}
 use Rattle.std.proofs.lemmas.List.{take_all, length-drop}
 use Rattle.std.proofs.lemmas.Bool.{eqb-true, eqb-false}
@@ -8,19 +8,18 @@ use Rattle.edge_io.specs.declared.faults.NoMemory.{NoMemory}
 use Rattle.wire_base.specs.declared.address.Side.{Side}
 use Rattle.wire_base.specs.declared.address.Side.TheVariants.{Inward, Outward}
 use Rattle.wire_base.specs.Ipv4 as ip
-use Rattle.wire_base.specs.Tcp as tcp
 use Rattle.wire_base.specs.Plain.{Plain}
 use Rattle.wire_base.specs.Segments.{Segment, Written, fields_of, segment_of, written_of}
 use Rattle.receiver_model.specs.declared.segment.Segment.{Segment as Fields}
 use Rattle.receiver_model.specs.Fields.{segment_in}
 use Rattle.tcp_codec.specs.declared.header.Tcp.{Tcp}
-use Rattle.era_agreement.specs.Sent.{Sent, is_era, written_as, segments_in, written_in}
+use Rattle.era_agreement.specs.Sent.{Sent, written_as, segments_in, written_in}
 use Rattle.run_audit.specs.declared.answer.Reason.{Reason}
 use Rattle.run_audit.specs.declared.answer.Reason.TheVariants as reasons
 use Rattle.run_audit.specs.declared.ledger.Inward.{Inward as Came}
 use Rattle.run_audit.specs.declared.ledger.Ledger.{Ledger}
-use Rattle.run_audit.specs.Faults.{is_segment, IsWellRead, IsWellReadAs, Holds, IsFirstReason, IsFaultless, in_stream, lacks_base, has_other_syn, has_other_octet, has_other_fin}
-use Rattle.run_audit.specs.Frames.{Frame, is_inward, sent_of, sent}
+use Rattle.run_audit.specs.Faults.{is_segment, IsWellRead, IsWellReadAs, IsFirstReason, IsFaultless, in_stream, lacks_base, has_other_syn, has_other_octet, has_other_fin}
+use Rattle.run_audit.specs.Frames.{Frame, is_inward, sent}
 use Rattle.run_audit.specs.Ledgers.{IsInward, IsOutward, IsVerdict, StandsFor, stream_reason}
 use Rattle.run_audit.specs.Eras.{Eras, EraStands, AllStandFor, AreThere, IsTaken, Takes, IsNoted, IsJudged}
 use Rattle.run_audit.specs.Read.{IsSegment}

@@ -1,7 +1,6 @@
 -- What the fields of a ledger say of a segment that went inwards.
-use Rattle.std.proofs.Common.{◌≡◌, ℕ, ◌+◌, ◌-◌, ◌==◌, ◌^◌, ◌<◌, ◌≤◌, ◌&&◌, ◌||◌, not, List, [], ◌∷◌, ◌++◌, length, Option, Some, None, Bool, true, false, refl, sym, ap, ap₂, ◌∙◌, subst, arith, slice_get, if◌then◌else◌, nat_le, nat_lt}
-use Rattle.std.specs.Prelude.{ℤ, pos, negsuc, ◌+ℤ◌, ◌-ℤ◌, max, int_le, int_lt}
-use Rattle.std.specs.Ordering.{int_eq}
+use Rattle.std.proofs.Common.{◌≡◌, ℕ, ◌+◌, ◌-◌, ◌^◌, ◌&&◌, ◌||◌, not, List, [], ◌∷◌, ◌++◌, length, Option, Some, None, Bool, true, false, refl, sym, ap, ap₂, ◌∙◌, arith, slice_get, if◌then◌else◌, nat_le, nat_lt}
+use Rattle.std.specs.Prelude.{ℤ, pos, negsuc, ◌+ℤ◌, ◌-ℤ◌, max}
 use Rattle.std.specs.Option.{option_or}
 use Rattle.std.proofs.lemmas.Int.{ints}
 use Rattle.std.proofs.lemmas.Bool.{leb-true, leb-false}
@@ -9,20 +8,19 @@ use Rattle.wire_base.specs.Tcp as tcp
 use Rattle.wire_base.specs.Segments.{Written}
 use Rattle.receiver_model.specs.Offsets as receiver
 use Rattle.era_state.specs.Offsets.{off, nat_of, natural, number_in}
-use Rattle.era_state.specs.Marks.{has_octets, get_at, octet_at, fin_place, top_place}
-use Rattle.era_state.specs.Quantities.{base_of, base_at, acked, top, first, end_of}
+use Rattle.era_state.specs.Marks.{has_octets, get_at, octet_at}
+use Rattle.era_state.specs.Quantities.{base_of, acked, top, first, end_of}
 use Rattle.era_state.proofs.Steps.{octet_push, end_push, top_push}
 use Rattle.era_state.proofs.Remaining.{acked_same}
-use Rattle.run_audit.specs.declared.answer.Reason.{Reason}
 use Rattle.run_audit.specs.declared.answer.Reason.TheVariants as reasons
 use Rattle.run_audit.specs.declared.ledger.Inward.{Inward}
 use Rattle.run_audit.specs.declared.ledger.Ledger.{Ledger}
 use Rattle.run_audit.specs.declared.octets.Octets.{Octets}
 use Rattle.run_audit.specs.declared.offset.Offset.{Offset}
 use Rattle.run_audit.specs.Faults.{is_other, is_past, some_strays, fin_strays, has_other_octet, has_other_fin}
-use Rattle.run_audit.specs.Kept.{AreKeptWith, kept_at, is_at_end, some_stray, brought, kept_with}
+use Rattle.run_audit.specs.Kept.{AreKeptWith, kept_at, is_at_end, some_stray, brought}
 use Rattle.run_audit.specs.Offsets.{offset_in, some_offset}
-use Rattle.run_audit.specs.Ledgers.{IsInward, ReadBy, Tells, IsRightAt, octets_reason, top_with, fin_fits, may_end, end_with}
+use Rattle.run_audit.specs.Ledgers.{IsInward, ReadBy, octets_reason, top_with, fin_fits, may_end, end_with}
 use Rattle.run_audit.proofs.Raised.{int_le-raised, int_lt-raised, int_eq-raised, nat_of-raised, raised_on}
 
 past : (end : Option Offset) (place : ℕ) → is_past (some_offset end) (receiver.offset_in place) ≡ is_at_end end place

@@ -1,5 +1,5 @@
 -- Octets that are added one after the other.
-use Rattle.std.proofs.Common.{◌≡◌, ℕ, suc, ◌+◌, ◌-◌, ◌==◌, ◌||◌, ◌≤◌, nat_le, List, [], ◌∷◌, ◌<◌, length, drop, drop-cons, get_or, add-one, Option, Some, None, Bool, true, false, not, refl, sym, ap, ap₂, ◌∙◌, subst, arith, slice_get, if◌then◌else◌}
+use Rattle.std.proofs.Common.{◌≡◌, ℕ, suc, ◌+◌, ◌-◌, ◌==◌, ◌||◌, ◌≤◌, nat_le, List, [], ◌∷◌, ◌<◌, length, drop, drop-cons, get_or, add-one, Option, Some, None, Bool, true, false, refl, sym, ap, ap₂, ◌∙◌, subst, arith, slice_get, if◌then◌else◌}
 use Rattle.std.specs.Option.{option_or}
 use Rattle.std.proofs.lemmas.Bool.{eqb-true, eqb-false, ne_eqb, leb-true, leb-false, le-leb, lt-leb, not-false}
 use Rattle.run_audit.specs.Faults.{is_other}

@@ -1,7 +1,6 @@
 -- One answer holds of words, a capture and a report.
-use Rattle.std.proofs.Common.{◌≡◌, ◌⊎◌, ℕ, List, length, drop, Option, Some, None, Result, Ok, Err, refl, sym, ap, ap₂, ◌∙◌, subst, inl, inr}
+use Rattle.std.proofs.Common.{◌≡◌, ℕ, List, length, drop, Option, Some, None, Ok, refl, sym, ap, ap₂, ◌∙◌, subst, inl, inr}
 use Rattle.std.specs.Prelude.{IfSome}
-use Rattle.edge_io.specs.Faults.{Rose}
 use Rattle.pcap_file.specs.declared.head.Head.{Head}
 use Rattle.pcap_file.specs.Flaws as found
 use Rattle.pcap_file.specs.Heads.{head_of}
@@ -12,8 +11,8 @@ use Rattle.run_audit.specs.declared.answer.Flaw.{Flaw}
 use Rattle.run_audit.specs.declared.answer.Flaw.TheVariants as flaws
 use Rattle.run_audit.specs.declared.answer.Reason.{Reason}
 use Rattle.run_audit.specs.Answers.{flaw_of}
-use Rattle.run_audit.specs.Audited.{Seen, IsYes, OfFinished, WhereTold, Says, IsExact, AnswersAreOne, Answered, ToldUnless, TellsExactly}
-use Rattle.run_audit.specs.Audits.{SoundFrames, FaultyFrame, FlawedFrame, IsSound, IsFaulty, IsFlawed, IsFlawedBehind}
+use Rattle.run_audit.specs.Audited.{Seen, IsYes, OfFinished, Says, IsExact, AnswersAreOne, Answered, ToldUnless, TellsExactly}
+use Rattle.run_audit.specs.Audits.{SoundFrames, FaultyFrame, FlawedFrame, IsSound, IsFaulty, IsFlawed}
 use Rattle.run_audit.specs.Named.{eras_named}
 use Rattle.run_audit.specs.Reported.{IsFinished, IsUnfinished}
 use Rattle.run_audit.specs.Told.{Tells}

@@ -1,12 +1,10 @@
 -- The octets of a capture are sound, or have one first fault or flaw, by the entries of a report.
-use Rattle.std.proofs.Common.{◌≡◌, ◌⊎◌, ℕ, suc, ◌+◌, ◌<◌, ◌≤◌, List, [], ◌∷◌, length, drop, Option, Some, None, Result, Ok, Err, false, true, refl, sym, ap, ap₂, ◌∙◌, subst, arith, inl, inr, ⊎_elim}
+use Rattle.std.proofs.Common.{◌≡◌, ◌⊎◌, ℕ, ◌<◌, ◌≤◌, List, [], ◌∷◌, length, Option, Some, None, Ok, Err, refl, sym, ap, ap₂, ◌∙◌, subst, arith, inl, inr, ⊎_elim}
 use Rattle.std.specs.Prelude.{slice_get, option_map}
-use Rattle.std.specs.List.{AllByRecursion}
 use Rattle.std.proofs.lemmas.Bool.{cases_order}
 use Rattle.std.proofs.lemmas.Option.{slice_get_past, slice_get_cases}
 use Rattle.pcap_file.specs.declared.head.Head.{Head}
 use Rattle.pcap_file.specs.Flaws as found
-use Rattle.pcap_file.specs.Heads.{head_of}
 use Rattle.pcap_file.specs.Records.{Packet, front_of}
 use Rattle.pcap_file.specs.Capture.{ReadsTo, offset_of}
 use Rattle.pcap_file.proofs.Unique.{same_records, front_of_nothing}
@@ -14,7 +12,7 @@ use Rattle.rule_book.specs.Entries.{PlainEntry}
 use Rattle.era_agreement.specs.Sent.{Sent}
 use Rattle.run_audit.specs.declared.answer.Reason.{Reason}
 use Rattle.run_audit.specs.declared.answer.Reason.TheVariants as reasons
-use Rattle.run_audit.specs.Audits.{frames_of, SoundFrames, FaultyFrame, FlawedFrame, IsSound, IsFaulty, IsFlawed, IsFlawedBehind}
+use Rattle.run_audit.specs.Audits.{frames_of, SoundFrames, FaultyFrame, FlawedFrame}
 use Rattle.run_audit.specs.Faults.{Holds, IsFirstReason, IsFaultless}
 use Rattle.run_audit.specs.FirstFault.{AreFaultless, FailsNext}
 use Rattle.run_audit.specs.Frames.{Frame, frame_of, owners, owned, sent}

@@ -1,7 +1,7 @@
 -- Octets are one report, or have one first fault.
-use Rattle.std.proofs.Common.{◌≡◌, ◌⊎◌, ℕ, ◌+◌, ◌<◌, ◌≤◌, List, [], ◌∷◌, ◌++◌, length, map, Result, Ok, Err, refl, sym, ap, ◌∙◌, subst, arith, inl, inr, ⊎_elim}
+use Rattle.std.proofs.Common.{◌≡◌, ◌⊎◌, ℕ, ◌+◌, List, [], ◌∷◌, ◌++◌, length, map, Err, refl, sym, ap, ◌∙◌, subst, arith, inl, inr, ⊎_elim}
 use Rattle.rule_book.specs.Entries.{PlainEntry}
-use Rattle.rule_book.specs.Reports.{IsVersion, PlainReport, HasFault, IsReport, lines, lines_of, text_of}
+use Rattle.rule_book.specs.Reports.{IsVersion, PlainReport, HasFault, IsReport, lines, text_of}
 use Rattle.rule_book.specs.Text.{entry_text, first_line, last_text}
 use Rattle.rule_book.specs.declared.fault.LineFault.{LineFault}
 use Rattle.rule_book.specs.declared.fault.LineFault.TheVariants.{First, Shape, Number, NoMemory}
@@ -9,7 +9,7 @@ use Rattle.rule_book.specs.declared.last.Last.{Last}
 use Rattle.rule_book.specs.declared.last.Last.TheVariants.{End, Stop}
 use Rattle.rule_book.proofs.Outcomes.{Gives, gives_fault, gives_one, gives_report, text_one}
 use Rattle.rule_book.proofs.Whole.{lines-text}
-use Rattle.run_audit.specs.Reported.{IsEnd, IsStop, IsFinished, IsUnfinished, IsTooLong, HasFaultAt, TellsStop, line_of_fault, is_most}
+use Rattle.run_audit.specs.Reported.{IsEnd, IsStop, IsFinished, IsUnfinished, IsTooLong, HasFaultAt, TellsStop, line_of_fault}
 
 -- the first line is another, or it is known and the lines give this fault
 record Known (all : List (List ℕ)) (fault : LineFault) : Type 0 where

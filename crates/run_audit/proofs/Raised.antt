@@ -1,10 +1,10 @@
 -- Offsets that are counted from half a turn below 0 are compared as whole numbers are.
-use Rattle.std.proofs.Common.{◌≡◌, ℕ, ◌+◌, ◌-◌, ◌==◌, ◌^◌, nat_le, not, Bool, true, false, refl, sym, ◌∙◌, ap, arith}
-use Rattle.std.specs.Prelude.{ℤ, pos, negsuc, ◌+ℤ◌, ◌-ℤ◌, int_le, int_lt}
+use Rattle.std.proofs.Common.{◌≡◌, ℕ, ◌+◌, ◌-◌, ◌==◌, ◌^◌, nat_le, not, arith}
+use Rattle.std.specs.Prelude.{pos, ◌+ℤ◌, int_le, int_lt}
 use Rattle.std.specs.Ordering.{int_eq}
 use Rattle.std.proofs.lemmas.Int.{ints}
 use Rattle.std.proofs.lemmas.Bool.Decides.{nat_tests}
-use Rattle.era_state.specs.Offsets.{nat_of, natural, number_in}
+use Rattle.era_state.specs.Offsets.{nat_of}
 use Rattle.receiver_model.specs.Offsets.{offset_in}
 
 pub int_le-raised : (a b : ℕ) → int_le (offset_in a) (offset_in b) ≡ nat_le a b

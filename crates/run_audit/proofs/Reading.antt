@@ -1,6 +1,6 @@
 -- What the codecs read of a packet that went outwards.
-use Rattle.std.proofs.Common.{◌≡◌, ℕ, ◌+◌, ◌-◌, ◌==◌, ◌&&◌, ◌≤◌, List, length, take, drop, Option, Some, None, Bool, true, false, refl, sym, ap, ap₂, ◌∙◌, subst, arith}
-use Rattle.std.specs.Prelude.{Result, Ok, Err, is_ok}
+use Rattle.std.proofs.Common.{◌≡◌, ℕ, ◌+◌, ◌-◌, ◌==◌, ◌&&◌, ◌≤◌, List, take, drop, Option, Some, None, Bool, true, false, refl, sym, ap, ap₂, ◌∙◌, arith}
+use Rattle.std.specs.Prelude.{Ok, Err, is_ok}
 use Rattle.std.proofs.lemmas.List.{drop-take}
 use Rattle.wire_base.specs.Ipv4 as ip
 use Rattle.wire_base.specs.Tcp as tcp

@@ -1,17 +1,16 @@
 -- There is room for the numbers of each era, since the frames are few.
-use Rattle.std.proofs.Common.{◌≡◌, ℕ, suc, ◌+◌, ◌*◌, ◌^◌, ◌<◌, ◌≤◌, ◌==◌, ◌&&◌, List, [], ◌∷◌, ◌++◌, length, length-append, append-nil, Option, Some, None, Bool, true, false, refl, sym, ap, ◌∙◌, subst, arith, if◌then◌else◌, nat_eq, vec_len}
+use Rattle.std.proofs.Common.{◌≡◌, ℕ, ◌+◌, ◌*◌, ◌^◌, ◌<◌, ◌≤◌, ◌&&◌, List, [], ◌∷◌, ◌++◌, length, length-append, append-nil, Option, Some, None, Bool, true, false, refl, sym, ap, ◌∙◌, arith, if◌then◌else◌, nat_eq}
 use Rattle.std.specs.Prelude.{IsSome}
-use Rattle.std.specs.Option.{option_or}
 use Rattle.indexmap.specs.IndexMap.{get}
 use Rattle.wire_base.specs.Segments.{Segment, Written, segment_of}
-use Rattle.era_state.specs.Quantities.{base_of, acked}
+use Rattle.era_state.specs.Quantities.{acked}
 use Rattle.era_state.specs.Laws.{AckedGrowsNear}
 use Rattle.era_state.proofs.Remaining.{pushed}
 use Rattle.era_agreement.specs.Sent.{is_era, written_as, segments_in, written_in}
 use Rattle.run_audit.specs.declared.ledger.Ledger.{Ledger}
-use Rattle.run_audit.specs.Frames.{Frame, is_inward, sent_of, sent}
+use Rattle.run_audit.specs.Frames.{Frame, is_inward, sent}
 use Rattle.run_audit.specs.Ledgers.{HasRoom, StandsFor}
-use Rattle.run_audit.specs.Eras.{Eras, EraHasRoom, EraStands, AllStandFor, StandsForFew}
+use Rattle.run_audit.specs.Eras.{Eras, EraHasRoom, EraStands, StandsForFew}
 
 acked_from : AckedGrowsNear → (base : ℕ) (before ws : List Written) → acked base (before ++ ws) ≤ acked base before + length ws * 2 ^ 31
 acked_from near base before [] = let e = ap (acked base) (append-nil before) in omega (arith, e)

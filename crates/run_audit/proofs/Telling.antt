@@ -1,15 +1,15 @@
 -- What a segment without a fault tells of its era.
-use Rattle.std.proofs.Common.{◌≡◌, ◌⊎◌, ℕ, zero, suc, ◌+◌, ◌%◌, ◌^◌, ◌==◌, ◌&&◌, ◌||◌, not, List, [], ◌∷◌, ◌++◌, length, Option, Some, None, Bool, true, false, refl, sym, ap, ap₂, ◌∙◌, subst, arith, if◌then◌else◌, nat_lt, is_none}
-use Rattle.std.specs.Prelude.{ℤ, pos, negsuc, ◌+ℤ◌, ◌-ℤ◌, ◌≤ℤ◌, ◌<ℤ◌, int_le, int_lt, IsTrue, slice_get}
+use Rattle.std.proofs.Common.{◌≡◌, ℕ, zero, suc, ◌+◌, ◌%◌, ◌^◌, ◌==◌, ◌&&◌, ◌||◌, not, List, [], ◌∷◌, ◌++◌, length, Option, Some, None, Bool, true, false, refl, sym, ap, ap₂, ◌∙◌, subst, arith, if◌then◌else◌, nat_lt, is_none}
+use Rattle.std.specs.Prelude.{ℤ, pos, negsuc, ◌+ℤ◌, ◌-ℤ◌, ◌<ℤ◌, int_le, int_lt, slice_get}
 use Rattle.std.specs.Ordering.{int_eq}
 use Rattle.std.specs.Option.{option_or}
 use Rattle.std.proofs.lemmas.Int.{ints}
-use Rattle.std.proofs.lemmas.Bool.{or_parts, and_parts, eqb-true, not-false, ltb-false}
+use Rattle.std.proofs.lemmas.Bool.{or_parts, eqb-true, not-false, ltb-false}
 use Rattle.wire_base.specs.Tcp as tcp
 use Rattle.wire_base.specs.Segments.{Segment, Written, written_of}
 use Rattle.era_state.specs.Offsets.{off, natural, number_in}
 use Rattle.era_state.specs.Marks.{has_octets, get_at, octet_at, fin_place, fixes}
-use Rattle.era_state.specs.Quantities.{base_of, base_at, acked, top, first, end_of}
+use Rattle.era_state.specs.Quantities.{base_of, acked, top, first, end_of}
 use Rattle.era_state.specs.Rules.{precedes}
 use Rattle.era_state.specs.Laws.{OctetsAreBelowTop}
 use Rattle.era_state.specs.Emitted.{HasNoOtherBase}

@@ -1,5 +1,5 @@
 -- What an audit finds in the octets of a capture (this project's profile). Records are a list with the last one at the head.
-use Rattle.std.specs.Prelude.{◌≡◌, ◌⊎◌, ℕ, ◌^◌, ◌<◌, ◌≤◌, List, [], length, drop, map, Option, Some, None, option_map, Ok, Err, IfSome, IsSome, nat_eq}
+use Rattle.std.specs.Prelude.{◌≡◌, ◌⊎◌, ℕ, ◌^◌, ◌<◌, ◌≤◌, List, [], length, drop, map, Option, option_map, Ok, Err, IfSome, IsSome, nat_eq}
 use Rattle.std.specs.List.{AllByRecursion}
 use Rattle.edge_io.specs.Faults.{Rose}
 use Rattle.pcap_file.specs.declared.head.Head.{Head}

@@ -1,5 +1,5 @@
 -- What the words of an audit ask for (this project's profile). A word is the list of its octets.
-use Rattle.std.specs.Prelude.{ℕ, ◌&&◌, nat_lt, nat_le, List, [], ◌∷◌, length, Option, Some, None, if◌then◌else◌}
+use Rattle.std.specs.Prelude.{ℕ, ◌&&◌, nat_lt, nat_le, List, [], ◌∷◌, length, Option, None, if◌then◌else◌}
 use Rattle.command_line.specs.Options.{number_within}
 
 -- a number of 1 to 3 digits, at most 254

@@ -1,4 +1,4 @@
-use Rattle.std.proofs.Common.{sym, ◌∙◌, ap, subst, map}
+use Rattle.std.proofs.Common.{map}
 use Rattle.rule_book.specs.Entries.{plain}
 use Rattle.run_audit.proofs.Naming.{all_owners_named}
 use Rattle.run_audit.proofs.examine.examine_capture.Goals as goal

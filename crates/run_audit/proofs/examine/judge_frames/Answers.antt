@@ -1,4 +1,4 @@
-use Rattle.std.proofs.Common.{rules, map, sym, ◌∙◌, ap, subst}
+use Rattle.std.proofs.Common.{rules, map, sym, subst}
 use Rattle.pcap_file.specs.Reads.{shown}
 use Rattle.rule_book.specs.Entries.{plain}
 use Rattle.run_audit.specs.declared.answer.Answer.{Answer}

@@ -1,4 +1,3 @@
-use Rattle.std.proofs.Common.{ap, ◌∙◌}
 use Rattle.indexmap.specs.IndexMap.{keys}
 use Rattle.run_audit.proofs.Naming.{entry_on}
 use Rattle.run_audit.proofs.named.eras_named.Goals as goal

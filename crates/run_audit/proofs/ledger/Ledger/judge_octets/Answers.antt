@@ -1,6 +1,5 @@
-use Rattle.std.proofs.Common.{◌≡◌, Bool, true, false, Some, None, ◌++◌, ◌∷◌, [], length, sym, ◌∙◌, ap, ap₂, not}
+use Rattle.std.proofs.Common.{◌≡◌, length, sym, ◌∙◌, ap, ap₂}
 use Rattle.std.proofs.lemmas.Bool.{not-false, not-true, not_from_false, not_from_true}
-use Rattle.wire_base.specs.Segments.{Written}
 use Rattle.wire_base.specs.Tcp as tcp
 use Rattle.run_audit.specs.declared.ledger.Ledger.{Ledger}
 use Rattle.run_audit.specs.Kept.{kept_at}

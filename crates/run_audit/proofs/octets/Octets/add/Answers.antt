@@ -1,7 +1,6 @@
-use Rattle.std.proofs.Common.{refl, sym, ap, ◌∙◌, not, get_or, ◌||◌, Bool}
-use Rattle.std.proofs.lemmas.Bool.{or_right, not-true, not_from_true}
-use Rattle.run_audit.specs.Faults.{is_other}
-use Rattle.run_audit.specs.Kept.{kept_at, is_at_end}
+use Rattle.std.proofs.Common.{sym, ap, ◌∙◌, not}
+use Rattle.std.proofs.lemmas.Bool.{or_right, not-true}
+use Rattle.run_audit.specs.Kept.{kept_at}
 use Rattle.run_audit.proofs.Keeps.{stray_on, kept_on, strays_here}
 use Rattle.run_audit.proofs.octets.Octets.add.Goals as goal
 
