@@ -123,4 +123,4 @@ def make_audit(number):
             written = changed_capture(rng, written) if status != 3 and not isinstance(read_head(written), str) else written
         else:
             text = changed_report(rng, text)
-    return written, text, hops if rng.random() < 0.9 else rng.randrange(256)
+    return written, text, hops if rng.random() < 0.9 else rng.randrange(255)
