@@ -117,7 +117,8 @@ def make_audit(number):
     rng = random.Random("audit " + number)
     words, octets, _ = make_capture(number, WHOLE)
     status, written, text = run(words, octets, WHOLE)
-    hops = read_words(words, WHOLE).settings.hops if status != 2 else 30
+    command = read_words(words, WHOLE) if status != 2 else None
+    hops = command.settings.hops if command is not None and command.kind == "run" else 30
     for _ in range(rng.choice([0, 1, 1, 1, 2])):
         if written and rng.random() < 0.8:
             written = changed_capture(rng, written) if status != 3 and not isinstance(read_head(written), str) else written
