@@ -163,13 +163,19 @@ def turn_of(connection, draw):
     return [*acked, *again, "data"]
 
 
-def tcp(path, records, chance, flows):
-    """TCP: connections begin, then data inwards in segments of up to 1,000 octets, a fifth sent twice, a hundredth of that changed, and acknowledgments."""
-    capture = Capture(path)
+def begun(capture, flows):
+    """So many connections, each of which begins in the capture."""
     connections = [Connection(number) for number in range(flows)]
     for connection in connections:
         capture.add(connection.syn())
         capture.add(connection.answer())
+    return connections
+
+
+def tcp(path, records, chance, flows):
+    """TCP: connections begin, then data inwards in segments of up to 1,000 octets, a fifth sent twice, a hundredth of that changed, and acknowledgments."""
+    capture = Capture(path)
+    connections = begun(capture, flows)
     draw = chance.random
     # Those under way, so that records of many connections stand in turn, and are of the same kinds however many connections there are.
     under_way = [(connections[0], [])] * 64
@@ -301,10 +307,7 @@ def pool_many(path, records, chance, cells):
 def resets(path, records, chance, flows):
     """Resets of live connections: most outside of what is awaited, others awaited; now and then one outwards, and the connection begins again."""
     capture = Capture(path)
-    connections = [Connection(number) for number in range(flows)]
-    for connection in connections:
-        capture.add(connection.syn())
-        capture.add(connection.answer())
+    connections = begun(capture, flows)
     ended = None
     for _ in range(records):
         connection = ended or connections[chance.randrange(flows)]

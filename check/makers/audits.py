@@ -58,6 +58,13 @@ def changed_frame(rng, link, frame):
     return frame[:front] + change(rng, frame[front:])
 
 
+def leave_out_or_double(items, at, out):
+    if out:
+        items.pop(at)
+    else:
+        items.insert(at, items[at])
+
+
 def changed_capture(rng, octets):
     """The capture with a frame changed, left out, twice or moved, or with a fault."""
     head = read_head(octets)
@@ -65,10 +72,8 @@ def changed_capture(rng, octets):
     if not frames:
         return octets[:rng.randrange(len(octets) + 1)]
     at, kind = rng.randrange(len(frames)), rng.randrange(12)
-    if kind == 0:
-        frames.pop(at)
-    elif kind == 1:
-        frames.insert(at, frames[at])
+    if kind < 2:
+        leave_out_or_double(frames, at, kind == 0)
     elif kind == 2:
         frames.insert(rng.randrange(len(frames)), frames.pop(at))
     elif kind == 3:
@@ -99,10 +104,8 @@ def changed_report(rng, text):
     """The report with a line changed, left out or twice, or with an octet changed."""
     lines = text.split("\n")
     at, kind = rng.randrange(len(lines)), rng.randrange(8)
-    if kind == 0:
-        lines.pop(at)
-    elif kind == 1:
-        lines.insert(at, lines[at])
+    if kind < 2:
+        leave_out_or_double(lines, at, kind == 0)
     elif kind == 2:
         lines[-2:-1] = ["stop cut 24"]
     elif kind == 3:
