@@ -87,7 +87,7 @@ whole_packet p room index parts joined whole six unmarked =
     let flags : tcp.flags m ≡ spec.flags_of (spec.is_first index) (spec.is_last room index parts) (tcp.flags (ip.payload p)) = flags-own room index parts joined.sized.tcp ∙ ap (spec.flags_of (spec.is_first index) (spec.is_last room index parts)) (sym (numbers-front parts.tcp parts.payload joined.sized.tcp).flags ∙ ap tcp.flags (sym joined.message)) in
     let options : tcp.options m ≡ tcp.options (ip.payload p) = (behind-own room index parts joined.sized.tcp joined.data_offset).options ∙ sym (behind-front parts.tcp parts.payload joined.sized.tcp joined.data_offset).options ∙ ap tcp.options (sym joined.message) in
     let legal = ap tcp.are_legal flags ∙ legal_pieces (spec.is_first index) (spec.is_last room index parts) (tcp.flags (ip.payload p)) (is_unmarked _ unmarked) faultless.legal in
-    let none : fault_of Skip 0 m ≡ None = fault_of-options Skip 0 m true (omega (arith, count, joined.sized.tcp)) (omega (arith, words, joined.sized.tcp)) (omega (arith, words, count)) refl legal (ap (are_well_formed 0) options ∙ faultless.formed) in
+    let none : fault_of Skip 0 m ≡ None = fault_of-options Skip 0 m true (omega (arith, count, joined.sized.tcp)) (omega (arith, words, joined.sized.tcp)) (omega (arith, words, count)) refl legal (ap are_well_formed options ∙ faultless.formed) in
     whole_by (packet_of room parts index)
     (omega (arith, own.size))
     (own.header.version ∙ sym its.version ∙ ap ip.version e ∙ version_is p whole)

@@ -81,7 +81,7 @@ plain_tcp p room index parts joined protocol unmarked plain =
       reserved = ap tcp.reserved here ∙ mine.reserved ∙ sym its.reserved ∙ ap tcp.reserved there ∙ plain.reserved;
       urgent = ap tcp.has_urg flags ∙ marks.urg ∙ none.urg;
       pointer = ap tcp.urgent_pointer here ∙ mine.urgent_pointer ∙ sym its.urgent_pointer ∙ ap tcp.urgent_pointer there ∙ plain.pointer;
-      options = ap (are_well_formed 0) options ∙ plain.options;
+      options = ap are_well_formed options ∙ plain.options;
       kept = (λ i. cleaned (syn i) (options i)) ∙ plain.kept ∙ sym options;
       bare = no_mark _ _ (syn ∙ none.syn) (ap tcp.has_rst flags ∙ marks.rst ∙ none.rst);
     }

@@ -19,7 +19,7 @@ pub record IsFaultless (m : List ℕ) : Type 0 where
   pub some : 20 ≤ tcp.header_length m
   pub inside : tcp.header_length m ≤ length m
   pub legal : tcp.are_legal (tcp.flags m) ≡ true
-  pub formed : are_well_formed 0 (tcp.options m) ≡ true
+  pub formed : are_well_formed (tcp.options m) ≡ true
 
 pub is_faultless : (p : List ℕ) → IsWhole p → ip.protocol p ≡ 6 → IsFaultless (ip.payload p)
 is_faultless p whole protocol =

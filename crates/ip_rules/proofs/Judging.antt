@@ -56,27 +56,27 @@ addresses_next false true told rest = refl
 addresses_next false false (Some side) rest = refl
 addresses_next false false None rest = refl
 
-by_groups : (settings : PlainSettings) (p : List ℕ)
-    → packet_row settings p ≡ by_fault (fault_of p) (by_side (side_or_row settings (ip.source p) (ip.destination p)) (content_row p))
+by_groups : (settings : PlainSettings) (given : Option Side) (p : List ℕ)
+    → packet_row settings given p ≡ by_fault (fault_of p) (by_side (side_or_row settings given (ip.source p) (ip.destination p)) (content_row p))
 unfolding packet_row
-by_groups settings p =
+by_groups settings given p =
     header_first (ip.is_short p) (ip.has_other_version p) (ip.has_bad_header_length p) (ip.has_bad_total_length p) (ip.has_wrong_sum p) _
-    ∙ ap (by_fault (fault_of p)) (addresses_next (ip.has_bad_source p) (ip.has_bad_destination p) (side_in settings p) (content_row p))
+    ∙ ap (by_fault (fault_of p)) (addresses_next (ip.has_bad_source p) (ip.has_bad_destination p) (side_in settings given p) (content_row p))
 
 -- the side or the row of a header that is read
-abbrev pub addressed : PlainSettings → Ipv4 → Result Side Rule
-addressed settings head = side_or_row settings head.src.0 head.dst.0
+abbrev pub addressed : PlainSettings → (given : Option Side) → Ipv4 → Result Side Rule
+addressed settings given head = side_or_row settings given head.src.0 head.dst.0
 
-pub faulty_row : (settings : PlainSettings) (p : List ℕ) (fault : IpFault) → parsed p ≡ Err fault → packet_row settings p ≡ Some (rule_of fault)
-faulty_row settings p fault h =
-    by_groups settings p ∙ ap (λ f. by_fault f (by_side (side_or_row settings (ip.source p) (ip.destination p)) (content_row p))) (refused_is_fault (fields_of p) (fault_of p) fault h)
+pub faulty_row : (settings : PlainSettings) (given : Option Side) (p : List ℕ) (fault : IpFault) → parsed p ≡ Err fault → packet_row settings given p ≡ Some (rule_of fault)
+faulty_row settings given p fault h =
+    by_groups settings given p ∙ ap (λ f. by_fault f (by_side (side_or_row settings given (ip.source p) (ip.destination p)) (content_row p))) (refused_is_fault (fields_of p) (fault_of p) fault h)
 
-pub late_row : (settings : PlainSettings) (p : List ℕ) (head : Ipv4) (told : Result Side Rule) → parsed p ≡ Ok head → told ≡ addressed settings head
-    → packet_row settings p ≡ by_side told (content_row p)
-late_row settings p head told read is =
-    by_groups settings p
-    ∙ ap (λ f. by_fault f (by_side (side_or_row settings (ip.source p) (ip.destination p)) (content_row p))) (read_is_faultless (fields_of p) head (fault_of p) read)
-    ∙ ap (λ s. by_side s (content_row p)) (sym (is ∙ ap (addressed settings) (read_is_fields (fields_of p) head (fault_of p) read)))
+pub late_row : (settings : PlainSettings) (given : Option Side) (p : List ℕ) (head : Ipv4) (told : Result Side Rule) → parsed p ≡ Ok head → told ≡ addressed settings given head
+    → packet_row settings given p ≡ by_side told (content_row p)
+late_row settings given p head told read is =
+    by_groups settings given p
+    ∙ ap (λ f. by_fault f (by_side (side_or_row settings given (ip.source p) (ip.destination p)) (content_row p))) (read_is_faultless (fields_of p) head (fault_of p) read)
+    ∙ ap (λ s. by_side s (content_row p)) (sym (is ∙ ap (addressed settings given) (read_is_fields (fields_of p) head (fault_of p) read)))
 
 -- where the addresses are judged, the side is that of the packet
 side_by : (src dst : Bool) (told : Option Side) (side : Side)
@@ -86,9 +86,9 @@ side_by false true told side h = absurd (cc)
 side_by false false None side h = absurd (cc)
 side_by false false (Some other) side h = cc
 
-pub side_told : (settings : PlainSettings) (p : List ℕ) (head : Ipv4) (side : Side) → parsed p ≡ Ok head → Ok side ≡ addressed settings head → side_in settings p ≡ Some side
-side_told settings p head side read is =
-    side_by _ _ _ side (sym (is ∙ ap (addressed settings) (read_is_fields (fields_of p) head (fault_of p) read)))
+pub side_told : (settings : PlainSettings) (given : Option Side) (p : List ℕ) (head : Ipv4) (side : Side) → parsed p ≡ Ok head → Ok side ≡ addressed settings given head → side_in settings given p ≡ Some side
+side_told settings given p head side read is =
+    side_by _ _ _ side (sym (is ∙ ap (addressed settings given) (read_is_fields (fields_of p) head (fault_of p) read)))
 
 -- the side is told of the rows on options and protocol, and of none before
 pub fault_is_early : (fault : IpFault) → tells_side (rule_of fault) ≡ false
@@ -105,8 +105,8 @@ address_by false true told rule h = let is : rule ≡ rules.IDst = cc in ap tell
 address_by false false None rule h = let is : rule ≡ rules.ISide = cc in ap tells_side is
 address_by false false (Some side) rule h = absurd (cc)
 
-pub address_is_early : (settings : PlainSettings) (head : Ipv4) (rule : Rule) → Err rule ≡ addressed settings head → tells_side rule ≡ false
-address_is_early settings head rule h = address_by _ _ _ rule (sym h)
+pub address_is_early : (settings : PlainSettings) (given : Option Side) (head : Ipv4) (rule : Rule) → Err rule ≡ addressed settings given head → tells_side rule ≡ false
+address_is_early settings given head rule h = address_by _ _ _ rule (sym h)
 
 content_by : (bad route proto : Bool) (rule : Rule)
     → (if bad then Some rules.IOptBad else if route then Some rules.IRoute else if proto then Some rules.PProto else None) ≡ Some rule → tells_side rule ≡ true
@@ -179,15 +179,15 @@ whole_by false false true false = refl
 whole_by false false false true = refl
 whole_by false false false false = refl
 
-pub piece_fixes : (settings : PlainSettings) (p : List ℕ) → header_fixes p ≡ packet_fixes settings p piece_fix_rows
+pub piece_fixes : (settings : PlainSettings) (given : Option Side) (p : List ℕ) → header_fixes p ≡ packet_fixes settings given p piece_fix_rows
 unfolding packet_fixes
-piece_fixes settings p = piece_by (i_trail p) (i_opt p) (i_res p)
+piece_fixes settings given p = piece_by (i_trail p) (i_opt p) (i_res p)
 
-pub whole_fixes : (settings : PlainSettings) (p : List ℕ) (head : Ipv4) (told : Side) (low : Bool) → head ≡ fields_of p → side_in settings p ≡ Some told
-    → low ≡ (is_inward (Some told) && nat_le head.ttl settings.hops) → header_fixes p ++ where_holds low rules.ITtl ≡ packet_fixes settings p whole_fix_rows
+pub whole_fixes : (settings : PlainSettings) (given : Option Side) (p : List ℕ) (head : Ipv4) (told : Side) (low : Bool) → head ≡ fields_of p → side_in settings given p ≡ Some told
+    → low ≡ (is_inward (Some told) && nat_le head.ttl settings.hops) → header_fixes p ++ where_holds low rules.ITtl ≡ packet_fixes settings given p whole_fix_rows
 unfolding packet_fixes
-whole_fixes settings p head told low fields side is =
-    let same : low ≡ i_ttl settings p =
+whole_fixes settings given p head told low fields side is =
+    let same : low ≡ i_ttl settings given p =
     is ∙ ap (λ (h : Ipv4). is_inward (Some told) && nat_le h.ttl settings.hops) fields
     ∙ ap (λ s. is_inward s && nat_le (ip.time_to_live p) settings.hops) (sym side) in
-    ap (λ ttl. header_fixes p ++ where_holds ttl rules.ITtl) same ∙ whole_by (i_trail p) (i_opt p) (i_res p) (i_ttl settings p)
+    ap (λ ttl. header_fixes p ++ where_holds ttl rules.ITtl) same ∙ whole_by (i_trail p) (i_opt p) (i_res p) (i_ttl settings given p)

@@ -1,5 +1,5 @@
 -- What is known of a datagram that no row on its header drops.
-use Rattle.std.proofs.Common.{◌≡◌, ℕ, ◌<◌, ◌≤◌, ◌&&◌, ◌||◌, ◌==◌, Bool, true, false, List, [], ◌++◌, length, take, drop, Some, None, refl, sym, ap, ap₂, subst, ◌∙◌, filter, arith}
+use Rattle.std.proofs.Common.{◌≡◌, ℕ, ◌<◌, ◌≤◌, ◌&&◌, ◌||◌, ◌==◌, Bool, true, false, List, [], ◌++◌, length, take, drop, Option, Some, None, refl, sym, ap, ap₂, subst, ◌∙◌, filter, arith}
 use Rattle.std.specs.Prelude.{nat_lt, nat_le}
 use Rattle.std.specs.List.{AllByRecursion}
 use Rattle.std.proofs.Math.Seq.{take-length}
@@ -39,8 +39,8 @@ pub record IsSound (p : List ℕ) : Type 0 where
   pub sum : ip.has_wrong_sum p ≡ false
   pub known : ((ip.protocol p == 1) || (ip.protocol p == 6) || (ip.protocol p == 17)) ≡ true
 
-sound : (settings : PlainSettings) (p : List ℕ) → AllByRecursion (λ rule. holds_in settings p rule ≡ false) packet_drop_rows → IsSound p
-sound settings p rows =
+sound : (settings : PlainSettings) (given : Option Side) (p : List ℕ) → AllByRecursion (λ rule. holds_in settings given p rule ≡ false) packet_drop_rows → IsSound p
+sound settings given p rows =
     let header = or_false (nat_lt (ip.header_length p) 20) (nat_lt (length p) (ip.header_length p)) rows.1.1.0 in
     let total = or_false (nat_lt (ip.total_length p) (ip.header_length p)) (nat_lt (length p) (ip.total_length p)) rows.1.1.1.0 in
     record {
@@ -72,22 +72,22 @@ carried_short p each s =
     omega (arith, most, total, least)
 
 -- no row mends the header
-pub record IsUnmended (settings : PlainSettings) (p : List ℕ) : Type 0 where
+pub record IsUnmended (settings : PlainSettings) (given : Option Side) (p : List ℕ) : Type 0 where
   pub trailer : ip.has_trailer p ≡ false
   pub options : ip.has_options p ≡ false
   pub reserved : ip.has_reserved p ≡ false
-  pub ttl : (is_inward (side_in settings p) && nat_le (ip.time_to_live p) settings.hops) ≡ false
+  pub ttl : (is_inward (side_in settings given p) && nat_le (ip.time_to_live p) settings.hops) ≡ false
 
-unmended : (settings : PlainSettings) (p : List ℕ) → filter (holds_in settings p) whole_fix_rows ≡ [] → IsUnmended settings p
-unmended settings p none =
-    let rows = none_named (holds_in settings p) whole_fix_rows none in
+unmended : (settings : PlainSettings) (given : Option Side) (p : List ℕ) → filter (holds_in settings given p) whole_fix_rows ≡ [] → IsUnmended settings given p
+unmended settings given p none =
+    let rows = none_named (holds_in settings given p) whole_fix_rows none in
     record { trailer = rows.0; options = rows.1.0; reserved = rows.1.1.0; ttl = rows.1.1.1.0 }
 
 no_offset : (n : ℕ) → nat_lt 0 n ≡ false → n ≡ 0
 no_offset n e = grind (arith, nat_tests, e)
 
-plain : (settings : PlainSettings) (p : List ℕ) → IsSound p → IsUnmended settings p → ip.is_fragment p ≡ false → IsPlainHeader p
-plain settings p s u whole =
+plain : (settings : PlainSettings) (given : Option Side) (p : List ℕ) → IsSound p → IsUnmended settings given p → ip.is_fragment p ≡ false → IsPlainHeader p
+plain settings given p s u whole =
     let parts = or_false (ip.has_more_fragments p) (nat_lt 0 (ip.fragment_offset p)) whole in
     let most = not_less 20 (ip.header_length p) u.options in
     let least = s.least in
@@ -113,9 +113,9 @@ passes true ttl hops e is = grind (arith, nat_tests, e)
 passes false ttl hops e is = cc
 
 -- a datagram that nothing mends is a packet of it, as it was read
-whole_packet : (settings : PlainSettings) (p : List ℕ) (fixes : List Rule) (side : Side) → side_in settings p ≡ Some side → IsSound p → IsUnmended settings p → IsPlainHeader p
+whole_packet : (settings : PlainSettings) (given : Option Side) (p : List ℕ) (fixes : List Rule) (side : Side) → side_in settings given p ≡ Some side → IsSound p → IsUnmended settings given p → IsPlainHeader p
     → IsPacketOf settings (datagram_of p fixes side) (as_read (datagram_of p fixes side))
-whole_packet settings p fixes side told s u h =
+whole_packet settings given p fixes side told s u h =
     let header : ip.header p ≡ take 20 p = ap (λ n. take n p) h.header_length in
     let carries : ip.payload p ≡ drop 20 p = (λ k. drop (h.header_length k) (take (h.total_length k) p)) ∙ ap (drop 20) (take-length p) in
     let joined : ip.header p ++ ip.payload p ≡ p = ap₂ (λ a b. a ++ b) header carries ∙ take-append-drop 20 p in
@@ -138,29 +138,29 @@ packet_octets Raw frame each = each
 
 -- no row on the packet drops the record, and those that mend it are those on the packet
 undropped_packet : (settings : PlainSettings) (link : Link) (r : Packet) → carries_ip link r.octets ≡ true → ip_dropped_by settings link r ≡ None
-    → AllByRecursion (λ rule. holds_in settings (packet_in link r.octets) rule ≡ false) packet_drop_rows
+    → AllByRecursion (λ rule. holds_in settings r.side (packet_in link r.octets) rule ≡ false) packet_drop_rows
 unfolding ip_dropped_by
 undropped_packet settings link r carried none =
-    subst (λ b. AllByRecursion (λ rule. (b && holds_in settings (packet_in link r.octets) rule) ≡ false) packet_drop_rows) carried
+    subst (λ b. AllByRecursion (λ rule. (b && holds_in settings r.side (packet_in link r.octets) rule) ≡ false) packet_drop_rows) carried
     (none_found (holds_ip settings link r) ip_drop_rows none).1.1.1
 
 unmended_packet : (settings : PlainSettings) (link : Link) (r : Packet) → carries_ip link r.octets ≡ true → ip_fixes settings link r whole_fix_rows ≡ []
-    → filter (holds_in settings (packet_in link r.octets)) whole_fix_rows ≡ []
+    → filter (holds_in settings r.side (packet_in link r.octets)) whole_fix_rows ≡ []
 unfolding ip_fixes
-unmended_packet settings link r carried none = sym (ap (λ b. filter (λ rule. b && holds_in settings (packet_in link r.octets) rule) whole_fix_rows) carried) ∙ none
+unmended_packet settings link r carried none = sym (ap (λ b. filter (λ rule. b && holds_in settings r.side (packet_in link r.octets) rule) whole_fix_rows) carried) ∙ none
 
 pub datagrams_are_known : DatagramsAreKnown
 datagrams_are_known settings link r d each taken_up =
     let p = packet_in link r.octets in
     let fixes = ip_fixes settings link r whole_fix_rows in
-    let m : Made (ip_dropped_by settings link r) (carries_ip link r.octets) (ip.is_fragment p) (side_in settings p) (datagram_of p fixes) d =
-    made_by (ip_dropped_by settings link r) (carries_ip link r.octets) (ip.is_fragment p) (side_in settings p) (datagram_of p fixes) d taken_up in
+    let m : Made (ip_dropped_by settings link r) (carries_ip link r.octets) (ip.is_fragment p) (side_in settings r.side p) (datagram_of p fixes) d =
+    made_by (ip_dropped_by settings link r) (carries_ip link r.octets) (ip.is_fragment p) (side_in settings r.side p) (datagram_of p fixes) d taken_up in
     let octets = packet_octets link r.octets each in
-    let s = sound settings p (undropped_packet settings link r m.carried m.undropped) in
+    let s = sound settings r.side p (undropped_packet settings link r m.carried m.undropped) in
     subst (IsKnown settings) m.made (record {
       sizes = sizes p octets;
       known = s.known;
       short = carried_short p octets s;
       each = dropped (ip.header_length p) (take (ip.total_length p) p) (taken (ip.total_length p) p octets);
-      whole = λ none. let u = unmended settings p (unmended_packet settings link r m.carried none) in whole_packet settings p fixes m.side m.told_is s u (plain settings p s u m.whole);
+      whole = λ none. let u = unmended settings r.side p (unmended_packet settings link r m.carried none) in whole_packet settings r.side p fixes m.side m.told_is s u (plain settings r.side p s u m.whole);
     })

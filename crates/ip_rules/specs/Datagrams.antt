@@ -41,7 +41,7 @@ abbrev pub datagram_in : PlainSettings → Link → records.Packet → Option Da
 datagram_in settings link r =
     let p = packet_in link r.octets in
     if is_none (ip_dropped_by settings link r) && carries_datagram link r.octets
-    then option_map (datagram_of p (ip_fixes settings link r whole_fix_rows)) (side_in settings p)
+    then option_map (datagram_of p (ip_fixes settings link r whole_fix_rows)) (side_in settings r.side p)
     else None
 
 -- a packet that goes out: its header, and what it carries

@@ -19,8 +19,8 @@ use Rattle.ip_rules.specs.declared.rows.Linked.TheVariants as linked
 use Rattle.ip_rules.specs.Rows.{carries_ip, carries_arp, packet_in, side_in, l_snap, l_short, l_type, i_opt_bad, i_route, p_proto, i_trail, i_opt, i_res, holds_in, packet_drop_rows, whole_fix_rows, piece_fix_rows, ip_dropped_by, ip_fixes, tells_side}
 
 -- the packet of a frame: its side, the fields of its header, the whole frame, the payload up to the total length, and these fix rows
-pub record IsRead (settings : PlainSettings) (octets p : List ℕ) (named : List Rule) (packet : IpPacket) : Type 0 where
-  pub side : side_in settings p ≡ Some packet.side
+pub record IsRead (settings : PlainSettings) (given : Option Side) (octets p : List ℕ) (named : List Rule) (packet : IpPacket) : Type 0 where
+  pub side : side_in settings given p ≡ Some packet.side
   pub head : packet.head ≡ fields_of p
   pub frame : packet.frame.now ≡ octets
   pub payload : packet.payload.now ≡ ip.payload p
@@ -36,13 +36,13 @@ pub record IsKept (settings : PlainSettings) (link : Link) (r : Packet) : Type 0
 abbrev pub IsJudged : PlainSettings → Link → Packet → IpJudged → Type 0
 IsJudged settings link r Arp = (ip_dropped_by settings link r ≡ None) × (carries_arp link r.octets ≡ true)
 IsJudged settings link r (Drop side rule) =
-    (ip_dropped_by settings link r ≡ Some rule) × (side ≡ (if tells_side rule then side_in settings (packet_in link r.octets) else None))
+    (ip_dropped_by settings link r ≡ Some rule) × (side ≡ (if tells_side rule then side_in settings r.side (packet_in link r.octets) else None))
 IsJudged settings link r (Piece packet) =
     IsKept settings link r × (ip.is_fragment (packet_in link r.octets) ≡ true)
-    × IsRead settings r.octets (packet_in link r.octets) (ip_fixes settings link r piece_fix_rows) packet
+    × IsRead settings r.side r.octets (packet_in link r.octets) (ip_fixes settings link r piece_fix_rows) packet
 IsJudged settings link r (Whole packet) =
     IsKept settings link r × (ip.is_fragment (packet_in link r.octets) ≡ false)
-    × IsRead settings r.octets (packet_in link r.octets) (ip_fixes settings link r whole_fix_rows) packet
+    × IsRead settings r.side r.octets (packet_in link r.octets) (ip_fixes settings link r whole_fix_rows) packet
 
 -- the first row on the link that holds, if there is one
 unfoldable pub link_row : Link → Packet → Option Rule
@@ -63,12 +63,12 @@ rule_of faults.HeaderLength = rules.IHlen
 rule_of faults.Length = rules.ILen
 rule_of faults.Sum = rules.ISum
 
--- the side from the one address to the other, or the first row on addresses that holds
-abbrev pub side_or_row : PlainSettings → (source destination : ℕ) → Result Side Rule
-side_or_row settings source destination =
+-- the side from the one address to the other, in a record that has this side, or the first row on addresses that holds
+abbrev pub side_or_row : PlainSettings → (given : Option Side) → (source destination : ℕ) → Result Side Rule
+side_or_row settings given source destination =
     if ip.is_bad_source source destination then Err rules.ISrc
     else if ip.is_bad_destination destination then Err rules.IDst
-    else elim (side settings None source destination) [ Some side ↦ Ok side | None ↦ Err rules.ISide ]
+    else elim (side settings given source destination) [ Some side ↦ Ok side | None ↦ Err rules.ISide ]
 
 -- the first row on the options and the protocol that holds, if there is one
 abbrev pub content_row : (packet : List ℕ) → Option Rule
@@ -82,19 +82,19 @@ where_holds holds rule = if holds then rule ∷ [] else []
 abbrev pub header_fixes : (packet : List ℕ) → List Rule
 header_fixes p = where_holds (i_trail p) rules.ITrail ++ where_holds (i_opt p) rules.IOpt ++ where_holds (i_res p) rules.IRes
 
--- the first row on the packet that drops it, if there is one
-unfoldable pub packet_row : PlainSettings → (packet : List ℕ) → Option Rule
-packet_row settings p = find (holds_in settings p) packet_drop_rows
+-- the first row that drops a packet whose record has this side, if there is one
+unfoldable pub packet_row : PlainSettings → (given : Option Side) → (packet : List ℕ) → Option Rule
+packet_row settings given p = find (holds_in settings given p) packet_drop_rows
 
 -- the fix rows that hold of a packet
-unfoldable pub packet_fixes : PlainSettings → (packet : List ℕ) → List Rule → List Rule
-packet_fixes settings p rows = filter (holds_in settings p) rows
+unfoldable pub packet_fixes : PlainSettings → (given : Option Side) → (packet : List ℕ) → List Rule → List Rule
+packet_fixes settings given p rows = filter (holds_in settings given p) rows
 
--- what the rows on the packet say, where it stands in this frame
-abbrev pub IsJudgedIn : PlainSettings → (frame packet : List ℕ) → IpJudged → Type 0
-IsJudgedIn settings frame p Arp = ⊥
-IsJudgedIn settings frame p (Drop side rule) = (packet_row settings p ≡ Some rule) × (side ≡ (if tells_side rule then side_in settings p else None))
-IsJudgedIn settings frame p (Piece packet) =
-    (packet_row settings p ≡ None) × (ip.is_fragment p ≡ true) × IsRead settings frame p (packet_fixes settings p piece_fix_rows) packet
-IsJudgedIn settings frame p (Whole packet) =
-    (packet_row settings p ≡ None) × (ip.is_fragment p ≡ false) × IsRead settings frame p (packet_fixes settings p whole_fix_rows) packet
+-- what the rows on the packet say, where it stands in this frame and its record has this side
+abbrev pub IsJudgedIn : PlainSettings → (given : Option Side) → (frame packet : List ℕ) → IpJudged → Type 0
+IsJudgedIn settings given frame p Arp = ⊥
+IsJudgedIn settings given frame p (Drop side rule) = (packet_row settings given p ≡ Some rule) × (side ≡ (if tells_side rule then side_in settings given p else None))
+IsJudgedIn settings given frame p (Piece packet) =
+    (packet_row settings given p ≡ None) × (ip.is_fragment p ≡ true) × IsRead settings given frame p (packet_fixes settings given p piece_fix_rows) packet
+IsJudgedIn settings given frame p (Whole packet) =
+    (packet_row settings given p ≡ None) × (ip.is_fragment p ≡ false) × IsRead settings given frame p (packet_fixes settings given p whole_fix_rows) packet

@@ -35,9 +35,9 @@ abbrev pub link_octets : Link → (frame : List ℕ) → List ℕ
 link_octets Ethernet frame = take 14 frame
 link_octets Raw frame = []
 
--- the side of a packet: outward from a trusted source to a destination that is not, inward the other way, and otherwise none
-abbrev pub side_in : PlainSettings → (packet : List ℕ) → Option Side
-side_in settings p = side settings None (ip.source p) (ip.destination p)
+-- the side of a packet: that which its record has from its capture, and where it has none that by its addresses
+abbrev pub side_in : PlainSettings → (given : Option Side) → (packet : List ℕ) → Option Side
+side_in settings given p = side settings given (ip.source p) (ip.destination p)
 
 abbrev pub is_inward : Option Side → Bool
 is_inward (Some Inward) = true
@@ -85,13 +85,13 @@ i_src p = ip.has_bad_source p
 abbrev pub i_dst : (packet : List ℕ) → Bool
 i_dst p = ip.has_bad_destination p
 
--- I_SIDE: both addresses are trusted, or neither
-abbrev pub i_side : PlainSettings → (packet : List ℕ) → Bool
-i_side settings p = is_none (side_in settings p)
+-- I_SIDE: the record has no side, and both addresses are trusted, or neither
+abbrev pub i_side : PlainSettings → (given : Option Side) → (packet : List ℕ) → Bool
+i_side settings given p = is_none (side_in settings given p)
 
 -- I_OPT_BAD: before the end option or the end of the area an option has no length octet, a length below 2, or reaches past the area
 abbrev pub i_opt_bad : (packet : List ℕ) → Bool
-i_opt_bad p = not (are_well_formed 0 (ip.options p))
+i_opt_bad p = not (are_well_formed (ip.options p))
 
 -- I_ROUTE: a source route stands before the end option
 abbrev pub i_route : (packet : List ℕ) → Bool
@@ -114,34 +114,34 @@ abbrev pub i_res : (packet : List ℕ) → Bool
 i_res p = ip.has_reserved p
 
 -- I_TTL: inbound, and the packet would not pass `hops` routers
-abbrev pub i_ttl : PlainSettings → (packet : List ℕ) → Bool
-i_ttl settings p = is_inward (side_in settings p) && nat_le (ip.time_to_live p) settings.hops
+abbrev pub i_ttl : PlainSettings → (given : Option Side) → (packet : List ℕ) → Bool
+i_ttl settings given p = is_inward (side_in settings given p) && nat_le (ip.time_to_live p) settings.hops
 
--- whether the condition of a row on the packet holds of it; the rows of other layers hold of none
-abbrev pub holds_in : PlainSettings → (packet : List ℕ) → Rule → Bool
-holds_in settings p rules.IShort = i_short p
-holds_in settings p rules.IVersion = i_version p
-holds_in settings p rules.IHlen = i_hlen p
-holds_in settings p rules.ILen = i_len p
-holds_in settings p rules.ISum = i_sum p
-holds_in settings p rules.ISrc = i_src p
-holds_in settings p rules.IDst = i_dst p
-holds_in settings p rules.ISide = i_side settings p
-holds_in settings p rules.IOptBad = i_opt_bad p
-holds_in settings p rules.IRoute = i_route p
-holds_in settings p rules.PProto = p_proto p
-holds_in settings p rules.ITrail = i_trail p
-holds_in settings p rules.IOpt = i_opt p
-holds_in settings p rules.IRes = i_res p
-holds_in settings p rules.ITtl = i_ttl settings p
-holds_in settings p _ = false
+-- whether the condition of a row on the packet holds of it, whose record has this side; the rows of other layers hold of none
+abbrev pub holds_in : PlainSettings → (given : Option Side) → (packet : List ℕ) → Rule → Bool
+holds_in settings given p rules.IShort = i_short p
+holds_in settings given p rules.IVersion = i_version p
+holds_in settings given p rules.IHlen = i_hlen p
+holds_in settings given p rules.ILen = i_len p
+holds_in settings given p rules.ISum = i_sum p
+holds_in settings given p rules.ISrc = i_src p
+holds_in settings given p rules.IDst = i_dst p
+holds_in settings given p rules.ISide = i_side settings given p
+holds_in settings given p rules.IOptBad = i_opt_bad p
+holds_in settings given p rules.IRoute = i_route p
+holds_in settings given p rules.PProto = p_proto p
+holds_in settings given p rules.ITrail = i_trail p
+holds_in settings given p rules.IOpt = i_opt p
+holds_in settings given p rules.IRes = i_res p
+holds_in settings given p rules.ITtl = i_ttl settings given p
+holds_in settings given p _ = false
 
 -- whether the condition of a row on the link, the header or the protocol holds of a record; those on the packet hold only where there is one
 abbrev pub holds_ip : PlainSettings → Link → Packet → Rule → Bool
 holds_ip settings link r rules.LSnap = l_snap r
 holds_ip settings link r rules.LShort = l_short link r.octets
 holds_ip settings link r rules.LType = l_type link r.octets
-holds_ip settings link r rule = carries_ip link r.octets && holds_in settings (packet_in link r.octets) rule
+holds_ip settings link r rule = carries_ip link r.octets && holds_in settings r.side (packet_in link r.octets) rule
 
 -- the rows on a packet that drop it, in the order of testing
 abbrev pub packet_drop_rows : List Rule

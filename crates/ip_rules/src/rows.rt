@@ -1,5 +1,5 @@
 //! The rows on the link, the IPv4 header and the protocol, in the order of their numbers.
-ghost use Rattle.std.specs.Prelude.{◌≡◌, ◌+◌, ◌<◌, ◌≤◌, ◌++◌, ◌&&◌, ◌||◌, ◌==◌, nat_lt, nat_le, All, length, Some, None};
+ghost use Rattle.std.specs.Prelude.{◌≡◌, ◌+◌, ◌<◌, ◌≤◌, ◌++◌, ◌&&◌, ◌||◌, ◌==◌, nat_lt, nat_le, All, length, Option, Some, None};
 ghost use Rattle.wire_base.specs.Ipv4 as ip;
 ghost use Rattle.ipv4_codec.specs.Header.{fields_of};
 ghost use Rattle.norm_settings.specs.Settings.{plain_settings};
@@ -25,7 +25,7 @@ pub fn judge_ip<'a>(settings: &Settings, link: Link, input: &Record<'a>) -> IpJu
     match judge_link(link, input) {
         Linked::Row(rule) => IpJudged::Drop(None, rule),
         Linked::Arp => IpJudged::Arp,
-        Linked::Packet(packet) => judge_packet(settings, input.bytes, packet),
+        Linked::Packet(packet) => judge_packet(settings, input.side, input.bytes, packet),
     }
 }
 
@@ -61,16 +61,21 @@ fn is_snapped(input: &Record<'_>) -> bool
     (input.bytes.len() as u64) < u64::from(input.original)
 }
 
-// Judges the packet in a frame by the rows on it.
-fn judge_packet<'a>(settings: &Settings, frame: &'a [u8], packet: &'a [u8]) -> IpJudged<'a>
+// Judges the packet in a frame, whose record has this side, by the rows on it.
+fn judge_packet<'a>(
+    settings: &Settings,
+    given: Option<Side>,
+    frame: &'a [u8],
+    packet: &'a [u8],
+) -> IpJudged<'a>
     requires { All (λ prefix. prefix.len ≤ 32) settings.now.prefixes.items }
-    ensures { spec.IsJudgedIn (plain_settings settings.now) frame.now packet.now result }
+    ensures { spec.IsJudgedIn (plain_settings settings.now) given frame.now packet.now result }
 {
     let head = match parse(packet) {
         Ok(head) => head,
         Err(fault) => return IpJudged::Drop(None, rule_of(fault)),
     };
-    let side = match side_or_row(settings, head.src, head.dst) {
+    let side = match side_or_row(settings, given, head.src, head.dst) {
         Ok(side) => side,
         Err(rule) => return IpJudged::Drop(None, rule),
     };
@@ -88,12 +93,11 @@ fn read_packet<'a>(
     frame: &'a [u8],
     packet: &'a [u8],
 ) -> IpJudged<'a>
-    requires undropped { spec.packet_row (plain_settings settings.now) packet.now ≡ None }
-    requires side { table.side_in (plain_settings settings.now) packet.now ≡ Some side }
     requires fields { head ≡ fields_of packet.now }
     requires order { head.header ≤ head.total }
     requires inside { head.total ≤ length packet.now }
-    ensures { spec.IsJudgedIn (plain_settings settings.now) frame.now packet.now result }
+    ensures { (given : Option Side) → spec.packet_row (plain_settings settings.now) given packet.now ≡ None → table.side_in (plain_settings settings.now) given packet.now ≡ Some side →
+        spec.IsJudgedIn (plain_settings settings.now) given frame.now packet.now result }
 {
     let piece = is_fragment(&head);
     let payload = payload_of(&head, packet);
@@ -137,10 +141,10 @@ fn rule_of(fault: IpFault) -> Rule
     }
 }
 
-// The side of a packet from the one address to the other, or the row on addresses that drops it.
-fn side_or_row(settings: &Settings, src: Addr, dst: Addr) -> Result<Side, Rule>
+// The side of a packet from the one address to the other, whose record has this side, or the row on addresses that drops it.
+fn side_or_row(settings: &Settings, given: Option<Side>, src: Addr, dst: Addr) -> Result<Side, Rule>
     requires { All (λ prefix. prefix.len ≤ 32) settings.now.prefixes.items }
-    ensures { result ≡ spec.side_or_row (plain_settings settings.now) src.0 dst.0 }
+    ensures { result ≡ spec.side_or_row (plain_settings settings.now) given src.0 dst.0 }
 {
     if is_bad_source(src, dst) {
         return Err(Rule::ISrc);
@@ -148,7 +152,10 @@ fn side_or_row(settings: &Settings, src: Addr, dst: Addr) -> Result<Side, Rule>
     if is_bad_destination(dst) {
         return Err(Rule::IDst);
     }
-    side_of(settings, src, dst).ok_or(Rule::ISide)
+    match given {
+        Some(side) => Ok(side),
+        None => side_of(settings, src, dst).ok_or(Rule::ISide),
+    }
 }
 
 // Whether no packet comes from this address, or none to that one.

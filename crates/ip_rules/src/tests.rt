@@ -184,8 +184,13 @@ fn frame_of(alloc: Global, row: &Row) -> Result<Vec<u8>, AllocError> {
     Ok(frame)
 }
 
-/// What is answered on the row's frame.
-fn answer_on(alloc: Global, settings: &Settings, row: &Row) -> Result<String, AllocError>
+/// What is answered on the row's frame, in a record that has this side.
+fn answer_on(
+    alloc: Global,
+    settings: &Settings,
+    given: Option<Side>,
+    row: &Row,
+) -> Result<String, AllocError>
     requires { All (λ prefix. prefix.len ≤ 32) settings.now.prefixes.items }
 {
     let frame = frame_of(alloc, row)?;
@@ -197,7 +202,10 @@ fn answer_on(alloc: Global, settings: &Settings, row: &Row) -> Result<String, Al
     let original = u32::try_from(frame.len())
         .unwrap_or(0)
         .saturating_add(row.missing);
-    let record = Record::new(0, 0, original, 24, &frame);
+    let record = Record {
+        side: given,
+        ..Record::new(0, 0, original, 24, &frame)
+    };
     let judged = judge_ip(settings, link, &record);
     answer_text(alloc, &judged)
 }
@@ -206,7 +214,29 @@ fn answer_on(alloc: Global, settings: &Settings, row: &Row) -> Result<String, Al
 fn each_row_holds_of_its_packet_and_not_of_its_neighbour(rt: HostRuntime) -> Result<(), Fail> {
     let settings = settings();
     for (number, row) in ROWS.iter().enumerate() {
-        let text = answer_on(rt.alloc(), &settings, row)?;
+        let text = answer_on(rt.alloc(), &settings, None, row)?;
+        assert_eq!(rt; text.as_str(), row.says, "row {number}");
+    }
+    Ok(())
+}
+
+/// Records that have a side of their own: the addresses say the other side, or none since both are trusted or neither is; a source that no packet has.
+#[rattlefmt::skip]
+const GIVEN: &[(Side, Row)] = &[
+    (Side::Outward, Row { front: RAW, packet: &DATAGRAM, changes: &[(8, 0x1e), (10, 0x68)], size: 30, missing: 0, says: "out whole 10" }),
+    (Side::Inward, Row { front: RAW, packet: &DATAGRAM, changes: &[(8, 0x01), (10, 0x85), (12, 0x0a), (13, 0x00), (14, 0x00), (15, 0x01), (16, 0xc6), (17, 0x33), (18, 0x64), (19, 0x07)], size: 30, missing: 0, says: "in whole 10 I_TTL" }),
+    (Side::Inward, Row { front: RAW, packet: &DATAGRAM, changes: &[(10, 0x66), (11, 0xcc), (12, 0x0a), (13, 0x00), (14, 0x00), (15, 0x02)], size: 30, missing: 0, says: "in whole 10" }),
+    (Side::Outward, Row { front: RAW, packet: &DATAGRAM, changes: &[(10, 0x45), (11, 0x94), (16, 0x0b), (19, 0x00)], size: 30, missing: 0, says: "out whole 10" }),
+    (Side::Outward, Row { front: RAW, packet: &DATAGRAM, changes: &[(6, 0x20), (10, 0x26)], size: 30, missing: 0, says: "out piece 10" }),
+    (Side::Outward, Row { front: RAW, packet: &DATAGRAM, changes: &[(9, 0x02), (11, 0xa2)], size: 30, missing: 0, says: "out drop P_PROTO" }),
+    (Side::Inward, Row { front: RAW, packet: &DATAGRAM, changes: &[(10, 0x66), (11, 0xcd), (12, 0x0a), (13, 0x00), (14, 0x00), (15, 0x01)], size: 30, missing: 0, says: "- drop I_SRC" }),
+];
+
+#[test]
+fn a_side_of_its_own_wins_over_the_addresses(rt: HostRuntime) -> Result<(), Fail> {
+    let settings = settings();
+    for (number, (given, row)) in GIVEN.iter().enumerate() {
+        let text = answer_on(rt.alloc(), &settings, Some(*given), row)?;
         assert_eq!(rt; text.as_str(), row.says, "row {number}");
     }
     Ok(())

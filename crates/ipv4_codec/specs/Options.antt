@@ -7,5 +7,5 @@ use Rattle.ipv4_codec.specs.declared.option_area.BadOption.{BadOption}
 -- BadOption exactly where the options are not well formed; else whether octets stand in the area, and a source route before the end option
 abbrev pub facts_of : List ℕ → Result OptionFacts BadOption
 facts_of area =
-    if are_well_formed 0 area then Ok (record { some = nat_lt 0 (length area); route = has_route area })
+    if are_well_formed area then Ok (record { some = nat_lt 0 (length area); route = has_route area })
     else Err (record {})

@@ -1,5 +1,5 @@
 -- The records of a load (this project's profile).
-use Rattle.std.specs.Prelude.{ℕ, ◌*◌, ◌/◌, ◌%◌, List, length, map}
+use Rattle.std.specs.Prelude.{ℕ, ◌*◌, ◌/◌, ◌%◌, List, length, map, None}
 use Rattle.std.specs.List.{range_with_len}
 use Rattle.wire_base.specs.Segments.{Segment}
 use Rattle.pcap_file.specs.Records.{Packet}
@@ -7,9 +7,9 @@ use Rattle.load_make.specs.Sequence.{number_at, flow_of, action_of, actions_befo
 use Rattle.load_make.specs.Flows.{flow_after, turn_of}
 use Rattle.load_make.specs.Packets.{segment_for, packet_octets}
 
--- the record at a place with these octets: one each millisecond, in seconds and microseconds
+-- the record at a place with these octets: one each millisecond, in seconds and microseconds, without a side
 abbrev pub record_with : (place : ℕ) → (octets : List ℕ) → Packet
-record_with place octets = record { seconds = place / 1000; fraction = place % 1000 * 1000; original = length octets; octets = octets }
+record_with place octets = record { seconds = place / 1000; fraction = place % 1000 * 1000; original = length octets; side = None; octets = octets }
 
 -- the segment of the record at a place, where its number is this: what comes next in its flow
 abbrev pub segment_numbered : (seed place number : ℕ) → Segment

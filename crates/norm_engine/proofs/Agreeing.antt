@@ -21,7 +21,7 @@ use Rattle.tcp_norm.specs.Calls.{Call, Outcome, expiry, datagram, read, segments
 use Rattle.tcp_norm.specs.Views.{view_of}
 use Rattle.tcp_norm.specs.Segments.{IsSegment, PacketsAreItsOwn, PacketsArePlain, ProbesAreSilent, CallsAreEmitted, IsSilentPacket as Silent}
 use Rattle.norm_engine.specs.Items.{Item, now_with}
-use Rattle.norm_engine.specs.Rows.{is_segment, side_of_frame}
+use Rattle.norm_engine.specs.Rows.{is_segment, side_of_record}
 use Rattle.norm_engine.specs.Calls.{segment_after, datagram_after, past_of, flow_calls}
 use Rattle.norm_engine.specs.Trace.{item_of, read_after, dropped_by, outcome_of, era_by}
 use Rattle.norm_engine.specs.Clean.{HasOctets, HaveOctets}
@@ -137,8 +137,8 @@ sent_is : (settings : PlainSettings) (link : Link) (history : List Item) (r : re
 sent_is settings link history r d h rows =
     let read = read_after settings link history r in
     let o = outcome_of settings read d in
-    let frame_side = side_of_frame settings link r.octets in
-    let told = sides (dropped_by settings link read r) frame_side (λ rule dropped. era_told settings read.past.calls d rule (sym rows.dropped ∙ dropped)) in
+    let record_side = side_of_record settings link r in
+    let told = sides (dropped_by settings link read r) record_side (λ rule dropped. era_told settings read.past.calls d rule (sym rows.dropped ∙ dropped)) in
     let side = (made_of settings link (past_of settings link history r) r d (both_of (is_segment settings) (datagram_after settings link history r) d h).0).told in
     λ i. record {
       inward = (ap is_inward (told ∙ side) ∙ inward_is d.side) i;

@@ -31,7 +31,7 @@ use Rattle.reassembly.specs.Pieces.{Fragment, is_whole, whole_of, datagram_octet
 use Rattle.reassembly.specs.Rows as fragments
 use Rattle.reassembly.specs.Calls as reassembly
 use Rattle.reassembly.proofs.Deciding.{first_row_drops}
-use Rattle.norm_engine.specs.Rows.{side_of_frame, is_tcp, holds_tcp, is_segment}
+use Rattle.norm_engine.specs.Rows.{side_of_record, is_tcp, holds_tcp, is_segment}
 use Rattle.norm_engine.specs.Fragments.{Offering, fragment_with, fragment_in, offering_of, offering_in, holds_offered, pieces_with, completes, i_ttl, head_of_whole, datagram_made, joined_in}
 use Rattle.norm_engine.specs.Calls.{Past, where_passes, datagram_by}
 use Rattle.norm_engine.specs.Trace.{Read, is_quoted_live, is_held, holds, drops, dropped_by, noted_rows, named_rows}
@@ -213,13 +213,13 @@ pub record IsCarried (settings : PlainSettings) (link : Link) (r : Packet) (d : 
   pub undropped : ip_dropped_by settings link r ≡ None
   pub carried : carries_ip link r.octets ≡ true
   pub whole : ip.is_fragment (packet_in link r.octets) ≡ false
-  pub told : side_in settings (packet_in link r.octets) ≡ Some d.side
+  pub told : side_in settings r.side (packet_in link r.octets) ≡ Some d.side
   pub is : datagram_of (packet_in link r.octets) (ip_fixes settings link r whole_fix_rows) d.side ≡ d
 
 pub carried_in : (settings : PlainSettings) (link : Link) (r : Packet) (d : Datagram) → datagram_in settings link r ≡ Some d → IsCarried settings link r d
 carried_in settings link r d made =
     let make = datagram_of (packet_in link r.octets) (ip_fixes settings link r whole_fix_rows) in
-    let m = made_by (ip_dropped_by settings link r) (carries_ip link r.octets) (ip.is_fragment (packet_in link r.octets)) (side_in settings (packet_in link r.octets)) make d made in
+    let m = made_by (ip_dropped_by settings link r) (carries_ip link r.octets) (ip.is_fragment (packet_in link r.octets)) (side_in settings r.side (packet_in link r.octets)) make d made in
     let side : m.side ≡ d.side = ap (λ (e : Datagram). e.side) m.made in
     record { undropped = m.undropped; carried = m.carried; whole = m.whole; told = m.told_is ∙ ap Some side; is = sym (ap make side) ∙ m.made }
 
@@ -231,7 +231,7 @@ inward_is Outward = refl
 life_is : (settings : PlainSettings) (link : Link) (r : Packet) (d : Datagram) → IsCarried settings link r d → holds_ip settings link r rules.ITtl ≡ i_ttl settings d
 life_is settings link r d c =
     let p = packet_in link r.octets in
-    ap (λ b. b && holds_in settings p rules.ITtl) c.carried
+    ap (λ b. b && holds_in settings r.side p rules.ITtl) c.carried
     ∙ (ap (λ s. is_inward s && nat_le (ip.time_to_live p) settings.hops) c.told
     ∙ ap₂ (λ b (head : Ipv4). b && nat_le head.ttl settings.hops) (inward_is d.side) (ap (λ (e : Datagram). e.head) c.is))
 
@@ -278,7 +278,7 @@ pub record IsJoined (settings : PlainSettings) (link : Link) (calls : List reass
   pub piece : Fragment
   pub offered : fragment_in settings link r ≡ Some piece
   pub done : completes (offering_of settings calls piece) ≡ true
-  pub told : side_in settings (packet_in link r.octets) ≡ Some d.side
+  pub told : side_in settings r.side (packet_in link r.octets) ≡ Some d.side
   pub is : datagram_made settings (ip_fixes settings link r piece_fix_rows)
       (head_of_whole (fields_of (packet_in link r.octets)) (whole_of (pieces_with (offering_of settings calls piece)))) (datagram_octets (pieces_with (offering_of settings calls piece))) d.side ≡ d
 
@@ -291,7 +291,7 @@ joined_of settings link calls r d h = by (fragment_in settings link r) refl h
         let ps = pieces_with (offering_of settings calls piece) in
         datagram_made settings (ip_fixes settings link r piece_fix_rows) (head_of_whole (fields_of (packet_in link r.octets)) (whole_of ps)) (datagram_octets ps) side
 
-    made : (piece : Fragment) (whole : Bool) (told : Option Side) → completes (offering_of settings calls piece) ≡ whole → side_in settings (packet_in link r.octets) ≡ told
+    made : (piece : Fragment) (whole : Bool) (told : Option Side) → completes (offering_of settings calls piece) ≡ whole → side_in settings r.side (packet_in link r.octets) ≡ told
         → fragment_in settings link r ≡ Some piece → cond whole (option_map (make piece) told) None ≡ Some d → IsJoined settings link calls r d
     made piece false told w s f h = absurd (cc)
     made piece true None w s f h = absurd (cc)
@@ -302,7 +302,7 @@ joined_of settings link calls r d h = by (fragment_in settings link r) refl h
 
     by : (x : Option Fragment) → fragment_in settings link r ≡ x → joined_in settings link r (option_map (offering_of settings calls) x) ≡ Some d → IsJoined settings link calls r d
     by None f h = absurd (cc)
-    by (Some piece) f h = made piece (completes (offering_of settings calls piece)) (side_in settings (packet_in link r.octets)) refl refl f h
+    by (Some piece) f h = made piece (completes (offering_of settings calls piece)) (side_in settings r.side (packet_in link r.octets)) refl refl f h
 
 -- no row drops a piece that makes its datagram whole, and it is not held back
 done_drops : (row : Option Rule) (whole : Bool) → fragments.is_done (fragments.answer_by row whole) ≡ true → row ≡ None
@@ -318,7 +318,7 @@ done_holds (reassembly.dropped rule) h = absurd (cc)
 pub record IsMade (settings : PlainSettings) (link : Link) (read : Read) (r : Packet) (d : Datagram) : Type 0 where
   pub datagram : read.datagram ≡ Some d
   pub undropped : ip_dropped_by settings link r ≡ None
-  pub told : side_of_frame settings link r.octets ≡ Some d.side
+  pub told : side_of_record settings link r ≡ Some d.side
   pub stays : row_of_piece read.piece ≡ None
   pub held : is_held read ≡ false
   pub fixes : ip_fixes settings link r piece_fix_rows ++ (where_holds (i_ttl settings d) rules.ITtl ++ named_of_piece read.piece) ≡ d.fixes
@@ -330,7 +330,7 @@ carried_is_made settings link past r d h c =
     record {
       datagram = h;
       undropped = c.undropped;
-      told = ap (λ b. cond b (side_in settings (packet_in link r.octets)) None) c.carried ∙ c.told;
+      told = ap (λ b. cond b (side_in settings r.side (packet_in link r.octets)) None) c.carried ∙ c.told;
       stays = ap row_of_piece bare;
       held = ap (λ o. holds_offered o rules.FHeld) bare;
       fixes = ap (λ o. ip_fixes settings link r piece_fix_rows ++ (where_holds (i_ttl settings d) rules.ITtl ++ named_of_piece o)) bare ∙ carried_fixes settings link r d c;
@@ -350,7 +350,7 @@ joined_is_made settings link past r d h j =
     record {
       datagram = h;
       undropped = f.undropped;
-      told = ap (λ b. cond b (side_in settings (packet_in link r.octets)) None) f.carried ∙ j.told;
+      told = ap (λ b. cond b (side_in settings r.side (packet_in link r.octets)) None) f.carried ∙ j.told;
       stays = ap row_of_piece is ∙ done_drops (fragments.dropped_by o.view o.piece) (is_whole (o.piece ∷ o.view.pieces)) j.done;
       held = ap (λ x. holds_offered x rules.FHeld) is ∙ held;
       fixes = ap (λ x. fixes ++ (where_holds (i_ttl settings d) rules.ITtl ++ named_of_piece x)) is

@@ -38,7 +38,7 @@ use Rattle.reassembly.specs.Calls.{Answer, held, done, dropped, Call}
 use Rattle.reassembly.specs.Rows as fragments
 use Rattle.reassembly.specs.Rows.{answer_by, answer_at, view_of, call_of, offered, offered_at, is_held, is_done, holds_fragment}
 use Rattle.reassembly.proofs.Deciding.{first_row_drops}
-use Rattle.norm_engine.specs.Rows.{side_of_frame, holds_tcp, is_segment}
+use Rattle.norm_engine.specs.Rows.{side_of_record, holds_tcp, is_segment}
 use Rattle.norm_engine.specs.Fragments.{Offering, fragment_with, fragment_in, with_offered, offering_of, offering_in, holds_offered, pieces_with, completes, i_ttl, head_of_whole, datagram_made, joined_in}
 use Rattle.norm_engine.specs.Calls.{Past, where_passes, datagram_by}
 use Rattle.norm_engine.specs.Trace.{Read, is_quoted_live, named_rows}
@@ -59,14 +59,14 @@ pub record IsSized (p : List ℕ) : Type 0 where
   pub inside : ip.total_length p ≤ length p
   pub known : ((ip.protocol p == 1) || (ip.protocol p == 6) || (ip.protocol p == 17)) ≡ true
 
-packet_rows : (settings : PlainSettings) (link : Link) (r : Packet) → IsKept settings link r → AllByRecursion (λ rule. holds_in settings (packet_in link r.octets) rule ≡ false) packet_drop_rows
+packet_rows : (settings : PlainSettings) (link : Link) (r : Packet) → IsKept settings link r → AllByRecursion (λ rule. holds_in settings r.side (packet_in link r.octets) rule ≡ false) packet_drop_rows
 unfolding ip_dropped_by
 packet_rows settings link r kept =
-    subst (λ b. AllByRecursion (λ rule. (b && holds_in settings (packet_in link r.octets) rule) ≡ false) packet_drop_rows) kept.carries
+    subst (λ b. AllByRecursion (λ rule. (b && holds_in settings r.side (packet_in link r.octets) rule) ≡ false) packet_drop_rows) kept.carries
     (none_found (holds_ip settings link r) ip_drop_rows kept.undropped).1.1.1
 
-sized : (settings : PlainSettings) (p : List ℕ) → AllByRecursion (λ rule. holds_in settings p rule ≡ false) packet_drop_rows → IsSized p
-sized settings p rows =
+sized : (settings : PlainSettings) (given : Option Side) (p : List ℕ) → AllByRecursion (λ rule. holds_in settings given p rule ≡ false) packet_drop_rows → IsSized p
+sized settings given p rows =
     let header = or_parts (nat_lt (ip.header_length p) 20) (nat_lt (length p) (ip.header_length p)) rows.1.1.0 in
     let total = or_parts (nat_lt (ip.total_length p) (ip.header_length p)) (nat_lt (length p) (ip.total_length p)) rows.1.1.1.0 in
     record {
@@ -78,7 +78,7 @@ sized settings p rows =
 
 -- the packet of a record that is kept
 pub kept_packet : (settings : PlainSettings) (link : Link) (r : Packet) → IsKept settings link r → IsSized (packet_in link r.octets)
-kept_packet settings link r kept = sized settings (packet_in link r.octets) (packet_rows settings link r kept)
+kept_packet settings link r kept = sized settings r.side (packet_in link r.octets) (packet_rows settings link r kept)
 
 payload_fits : (p : List ℕ) → IsSized p → ip.total_length p < 65536 → length (ip.payload p) ≤ 65515
 payload_fits p s small =
@@ -145,7 +145,7 @@ few_parts settings link r = filter_shorter (holds_ip settings link r) piece_fix_
 abbrev datagram_if : PlainSettings → Link → Packet → (row : Option Rule) (carried piece : Bool) → Option Datagram
 datagram_if settings link r row carried piece =
     let p = packet_in link r.octets in
-    cond (is_none row && (carried && not piece)) (option_map (datagram_of p (ip_fixes settings link r whole_fix_rows)) (side_in settings p)) None
+    cond (is_none row && (carried && not piece)) (option_map (datagram_of p (ip_fixes settings link r whole_fix_rows)) (side_in settings r.side p)) None
 
 pub kept_as : (settings : PlainSettings) (link : Link) (r : Packet) (row : Option Rule) (carried piece : Bool) → ip_dropped_by settings link r ≡ row → carries_ip link r.octets ≡ carried
     → ip.is_fragment (packet_in link r.octets) ≡ piece → datagram_in settings link r ≡ datagram_if settings link r row carried piece
@@ -179,7 +179,7 @@ type_row settings link r none = (none_found (holds_ip settings link r) ip_drop_r
 
 nothing_fixed : (settings : PlainSettings) (link : Link) (r : Packet) → carries_ip link r.octets ≡ false → ip_fixes settings link r piece_fix_rows ≡ []
 unfolding ip_fixes
-nothing_fixed settings link r none = ap (λ carried. filter (λ rule. carried && holds_in settings (packet_in link r.octets) rule) piece_fix_rows) none
+nothing_fixed settings link r none = ap (λ carried. filter (λ rule. carried && holds_in settings r.side (packet_in link r.octets) rule) piece_fix_rows) none
 
 pub arp_passes : (settings : PlainSettings) (link : Link) (past : Past) (r : Packet) → ip_dropped_by settings link r ≡ None → carries_arp link r.octets ≡ true
     → IsArp settings link (read_with settings link past r) r
@@ -195,37 +195,37 @@ arp_passes settings link past r none arp =
       undropped = bare_row settings link past r empty ∙ (λ i. option_or (none i) (row_of_piece (offering i)));
       held = ap (λ o. holds_offered o rules.FHeld) offering;
       named = bare_named settings link past r empty ∙ (λ i. nothing_fixed settings link r no_ip i ++ named_of_piece (offering i));
-      side = ap (λ carried. cond carried (side_in settings (packet_in link r.octets)) None) no_ip;
+      side = ap (λ carried. cond carried (side_in settings r.side (packet_in link r.octets)) None) no_ip;
       short = within_by (length r.octets) (short_by (carries_ip link r.octets) (carries_arp link r.octets) (nat_le (length r.octets) 65549) (type_row settings link r none) no_ip);
     }
 
 -- a record that a row on the link, the header or the protocol drops
 
-abbrev ip_row : (carried snap short other : Bool) → PlainSettings → List ℕ → Option Rule
-ip_row carried snap short other settings p =
-    cond snap (Some rules.LSnap) (cond short (Some rules.LShort) (cond other (Some rules.LType) (find (λ rule. carried && holds_in settings p rule) packet_drop_rows)))
+abbrev ip_row : (carried snap short other : Bool) → PlainSettings → (given : Option Side) → List ℕ → Option Rule
+ip_row carried snap short other settings given p =
+    cond snap (Some rules.LSnap) (cond short (Some rules.LShort) (cond other (Some rules.LType) (find (λ rule. carried && holds_in settings given p rule) packet_drop_rows)))
 
 ip_row_is : (settings : PlainSettings) (link : Link) (r : Packet)
-    → ip_dropped_by settings link r ≡ ip_row (carries_ip link r.octets) (l_snap r) (l_short link r.octets) (l_type link r.octets) settings (packet_in link r.octets)
+    → ip_dropped_by settings link r ≡ ip_row (carries_ip link r.octets) (l_snap r) (l_short link r.octets) (l_type link r.octets) settings r.side (packet_in link r.octets)
 unfolding ip_dropped_by
 ip_row_is settings link r = refl
 
-early : (snap short other : Bool) (settings : PlainSettings) (p : List ℕ) (rule : Rule) → ip_row false snap short other settings p ≡ Some rule → tells_side rule ≡ false
-early true short other settings p rule h = let is : rule ≡ rules.LSnap = cc in ap tells_side is
-early false true other settings p rule h = let is : rule ≡ rules.LShort = cc in ap tells_side is
-early false false true settings p rule h = let is : rule ≡ rules.LType = cc in ap tells_side is
-early false false false settings p rule h = absurd (cc)
+early : (snap short other : Bool) (settings : PlainSettings) (given : Option Side) (p : List ℕ) (rule : Rule) → ip_row false snap short other settings given p ≡ Some rule → tells_side rule ≡ false
+early true short other settings given p rule h = let is : rule ≡ rules.LSnap = cc in ap tells_side is
+early false true other settings given p rule h = let is : rule ≡ rules.LShort = cc in ap tells_side is
+early false false true settings given p rule h = let is : rule ≡ rules.LType = cc in ap tells_side is
+early false false false settings given p rule h = absurd (cc)
 
 sides_by : (carried : Bool) (settings : PlainSettings) (link : Link) (r : Packet) (rule : Rule) → carries_ip link r.octets ≡ carried → ip_dropped_by settings link r ≡ Some rule
-    → cond (tells_side rule) (side_in settings (packet_in link r.octets)) None ≡ cond (tells_side rule) (side_of_frame settings link r.octets) None
-sides_by true settings link r rule c h = sym (ap (λ b. cond (tells_side rule) (cond b (side_in settings (packet_in link r.octets)) None) None) c)
+    → cond (tells_side rule) (side_in settings r.side (packet_in link r.octets)) None ≡ cond (tells_side rule) (side_of_record settings link r) None
+sides_by true settings link r rule c h = sym (ap (λ b. cond (tells_side rule) (cond b (side_in settings r.side (packet_in link r.octets)) None) None) c)
 sides_by false settings link r rule c h =
-    let untold = early (l_snap r) (l_short link r.octets) (l_type link r.octets) settings (packet_in link r.octets) rule
-    (ap (λ b. ip_row b (l_snap r) (l_short link r.octets) (l_type link r.octets) settings (packet_in link r.octets)) (sym c) ∙ sym (ip_row_is settings link r) ∙ h) in
-    ap (λ t. cond t (side_in settings (packet_in link r.octets)) None) untold ∙ sym (ap (λ t. cond t (side_of_frame settings link r.octets) None) untold)
+    let untold = early (l_snap r) (l_short link r.octets) (l_type link r.octets) settings r.side (packet_in link r.octets) rule
+    (ap (λ b. ip_row b (l_snap r) (l_short link r.octets) (l_type link r.octets) settings r.side (packet_in link r.octets)) (sym c) ∙ sym (ip_row_is settings link r) ∙ h) in
+    ap (λ t. cond t (side_in settings r.side (packet_in link r.octets)) None) untold ∙ sym (ap (λ t. cond t (side_of_record settings link r) None) untold)
 
 pub row_drops : (settings : PlainSettings) (link : Link) (past : Past) (r : Packet) (side : Option Side) (rule : Rule) → ip_dropped_by settings link r ≡ Some rule
-    → side ≡ cond (tells_side rule) (side_in settings (packet_in link r.octets)) None → Judges settings link (read_with settings link past r) r (Drop side rule)
+    → side ≡ cond (tells_side rule) (side_in settings r.side (packet_in link r.octets)) None → Judges settings link (read_with settings link past r) r (Drop side rule)
 row_drops settings link past r side rule h told =
     let carried = carries_ip link r.octets in
     let part = ip.is_fragment (packet_in link r.octets) in
@@ -245,8 +245,8 @@ piece_is_told o rule h =
     found_of (λ x. tells_side x ≡ true) (holds_fragment o.view o.piece) fragment_rows rule (refl, (refl, (refl, (refl, (refl, (refl, (refl, (refl, tt))))))))
     (sym (first_row_drops o.view o.piece) ∙ h)
 
-side_here : (settings : PlainSettings) (link : Link) (r : Packet) (side : Side) → IsKept settings link r → side_in settings (packet_in link r.octets) ≡ Some side → side_of_frame settings link r.octets ≡ Some side
-side_here settings link r side kept told = ap (λ c. cond c (side_in settings (packet_in link r.octets)) None) kept.carries ∙ told
+side_here : (settings : PlainSettings) (link : Link) (r : Packet) (side : Side) → IsKept settings link r → side_in settings r.side (packet_in link r.octets) ≡ Some side → side_of_record settings link r ≡ Some side
+side_here settings link r side kept told = ap (λ c. cond c (side_in settings r.side (packet_in link r.octets)) None) kept.carries ∙ told
 
 -- the fragment of a record that is kept
 pub record IsOffered (settings : PlainSettings) (link : Link) (past : Past) (r : Packet) (o : Offering) : Type 0 where
@@ -260,7 +260,7 @@ unmade settings link past r o is other =
     let p = packet_in link r.octets in
     let make = datagram_made settings (ip_fixes settings link r piece_fix_rows) (head_of_whole (fields_of p) (whole_of (pieces_with o))) (datagram_octets (pieces_with o)) in
     (λ i. option_or (kept_as settings link r None true true is.kept.undropped is.kept.carries is.part i) (joined_in settings link r (is.offering i)))
-    ∙ ap (λ b. cond b (option_map make (side_in settings p)) None) other
+    ∙ ap (λ b. cond b (option_map make (side_in settings r.side p)) None) other
 
 -- a piece that a row drops
 dropped_is : (row : Option Rule) (whole : Bool) (rule : Rule) → answer_by row whole ≡ dropped rule → row ≡ Some rule
@@ -273,7 +273,7 @@ held_is None whole h = refl
 held_is (Some rule) whole h = absurd (cc)
 
 pub piece_drops : (settings : PlainSettings) (link : Link) (past : Past) (r : Packet) (side : Side) (rule : Rule) (o : Offering) → IsOffered settings link past r o
-    → answer_at o.view o.piece ≡ dropped rule → side_in settings (packet_in link r.octets) ≡ Some side
+    → answer_at o.view o.piece ≡ dropped rule → side_in settings r.side (packet_in link r.octets) ≡ Some side
     → Judges settings link (read_with settings link past r) r (Drop (Some side) rule)
 piece_drops settings link past r side rule o is answer told =
     let empty = unmade settings link past r o is (ap is_done answer) in
@@ -281,11 +281,11 @@ piece_drops settings link past r side rule o is answer told =
     record {
       segment = ap (where_passes (is_segment settings)) empty;
       dropped = bare_row settings link past r empty ∙ ((λ i. option_or (is.kept.undropped i) (row_of_piece (is.offering i))) ∙ row);
-      side = sym (ap (λ t. cond t (side_of_frame settings link r.octets) None) (piece_is_told o rule row) ∙ side_here settings link r side is.kept told);
+      side = sym (ap (λ t. cond t (side_of_record settings link r) None) (piece_is_told o rule row) ∙ side_here settings link r side is.kept told);
     }
 
 pub piece_holds : (settings : PlainSettings) (link : Link) (past : Past) (r : Packet) (side : Side) (o : Offering) → IsOffered settings link past r o
-    → answer_at o.view o.piece ≡ held → side_in settings (packet_in link r.octets) ≡ Some side
+    → answer_at o.view o.piece ≡ held → side_in settings r.side (packet_in link r.octets) ≡ Some side
     → Judges settings link (read_with settings link past r) r (Hold side)
 piece_holds settings link past r side o is answer told =
     let empty = unmade settings link past r o is (ap is_done answer) in
@@ -358,7 +358,7 @@ module _ (settings : PlainSettings) (link : Link) (past : Past) (r : Packet) (d 
   same : datagram_with d.header packet ≡ d
   same = λ i. record { side = sym stands.is.side i; head = sym stands.is.head i; header = d.header; octets = sym stands.is.octets i; fixes = sym stands.is.fixes i }
 
-  told : side_of_frame settings link r.octets ≡ Some packet.side
+  told : side_of_record settings link r ≡ Some packet.side
   told = made.told ∙ ap Some stands.is.side
 
   other : is_segment settings d ≡ false → read.segment ≡ None
@@ -373,7 +373,7 @@ module _ (settings : PlainSettings) (link : Link) (past : Past) (r : Packet) (d 
   by_answer (judged.Drop rule) follows = record {
     segment = other follows.0;
     dropped = datagram_row_is settings link past r d made follows.0 ∙ follows.1;
-    side = sym (ap (λ t. cond t (side_of_frame settings link r.octets) None) (side_is_told settings (is_quoted_live past.calls (quoted_in d.octets)) d rule follows.1) ∙ told);
+    side = sym (ap (λ t. cond t (side_of_record settings link r) None) (side_is_told settings (is_quoted_live past.calls (quoted_in d.octets)) d rule follows.1) ∙ told);
   }
   by_answer judged.Mend follows = record {
     own = d;
@@ -438,7 +438,7 @@ module _ (settings : PlainSettings) (link : Link) (past : Past) (r : Packet) (d 
 
 module _ (settings : PlainSettings) (link : Link) (r : Packet) (packet : IpPacket)
     (kept : IsKept settings link r) (whole : ip.is_fragment (packet_in link r.octets) ≡ false)
-    (read : IsRead settings r.octets (packet_in link r.octets) (ip_fixes settings link r whole_fix_rows) packet)
+    (read : IsRead settings r.side r.octets (packet_in link r.octets) (ip_fixes settings link r whole_fix_rows) packet)
     (small : ip.total_length (packet_in link r.octets) < 65536) where
   abbrev pub own : Datagram
   own = datagram_of (packet_in link r.octets) (ip_fixes settings link r whole_fix_rows) packet.side
@@ -512,7 +512,7 @@ few_made settings link r low =
 -- a fragment of a record that is kept
 module _ (settings : PlainSettings) (link : Link) (past : Past) (r : Packet) (packet : IpPacket)
     (kept : IsKept settings link r) (part : ip.is_fragment (packet_in link r.octets) ≡ true)
-    (read : IsRead settings r.octets (packet_in link r.octets) (ip_fixes settings link r piece_fix_rows) packet) where
+    (read : IsRead settings r.side r.octets (packet_in link r.octets) (ip_fixes settings link r piece_fix_rows) packet) where
   abbrev o : Offering
   o = offering_of settings past.pieces (fragment_with packet.head packet.payload.now)
 

@@ -103,7 +103,7 @@ segment_known settings d known is =
       least = sizes.0;
       inside = sizes.1;
       legal = stands (tcp.are_legal (tcp.flags d.octets)) none.is_flags;
-      formed = stands (are_well_formed 0 (tcp.options d.octets)) none.is_opts;
+      formed = stands (are_well_formed (tcp.options d.octets)) none.is_opts;
       sum = λ inward.
           let right = right_inward (tcp.has_wrong_sum (dgram.pseudo_of d) d.octets) (goes_in d.side) settings.offload inward none.is_wrong in
           subst (λ n. sum_is_right d.octets (pseudo_sum d.head.src.0 d.head.dst.0 n (length d.octets)) ≡ true) six (stands (sum_is_right d.octets (dgram.pseudo_of d)) right);

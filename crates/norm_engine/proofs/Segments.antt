@@ -64,7 +64,7 @@ refused fields (Some fault) told h = let same : fault ≡ told = cc in ap (λ f.
 -- the header of a segment is read where no row on it holds
 pub read_row : (settings : PlainSettings) (d : Datagram) (rule : SumRule) (pseudo : ℕ) (head : Tcp) → is_judged rule ≡ not (is_offloaded settings d) → pseudo ≡ pseudo_of d
     → parsed rule pseudo d.octets ≡ Ok head → (20 ≤ head.header) × (head.header ≤ 60) → head.header ≤ length d.octets → tcp.are_legal head.flags.0 ≡ true
-    → are_well_formed 0 (tcp.options d.octets) ≡ true → slice_range d.octets 20 head.header ≡ tcp.options d.octets → IsReadSegment settings d (judged.Segment head)
+    → are_well_formed (tcp.options d.octets) ≡ true → slice_range d.octets 20 head.header ≡ tcp.options d.octets → IsReadSegment settings d (judged.Segment head)
 read_row settings d rule pseudo head sums summed read sizes inside legal formed area =
     let no = faultless (fields_of pseudo d.octets) head (fault_of rule pseudo d.octets) read in (
       sym (row_by_fault settings d rule pseudo sums summed) ∙ no.0,

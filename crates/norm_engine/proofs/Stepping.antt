@@ -29,7 +29,7 @@ use Rattle.tcp_norm.specs.Passing.{Reports}
 use Rattle.norm_engine.specs.declared.judge.Judgment.{Judgment}
 use Rattle.norm_engine.specs.declared.judge.Judgment.TheVariants.{Arp, Drop, Hold, Send, Segment}
 use Rattle.norm_engine.specs.Items.{Item, now_with}
-use Rattle.norm_engine.specs.Rows.{side_of_frame}
+use Rattle.norm_engine.specs.Rows.{side_of_record}
 use Rattle.norm_engine.specs.Calls.{past_of, outcome_in, with_asked, flow_calls, is_idle, packet_of}
 use Rattle.norm_engine.specs.Trace.{Read, read_after, is_held, holds, holds_of, dropped_by, noted_rows, named_rows, outcome_of, frames_with, frames_by, emits, verdict_by, rules_by, side_by, era_by, begun_by, ended_by, item_by, item_of}
 use Rattle.norm_engine.specs.Frames.{frame_by}
@@ -94,8 +94,8 @@ segment_entry settings link read r packet head number old new t counted sided id
     let d = t.own in
     let rows = taken_rows settings link read r packet head t in
     let o = outcome_of settings read d in
-    let side : Some packet.side ≡ side_by (dropped_by settings link read r) (side_of_frame settings link r.octets) =
-    sym (sides (dropped_by settings link read r) (side_of_frame settings link r.octets) (λ rule h. era_told settings read.past.calls d rule (sym t.dropped ∙ h)) ∙ t.told) in
+    let side : Some packet.side ≡ side_by (dropped_by settings link read r) (side_of_record settings link r) =
+    sym (sides (dropped_by settings link read r) (side_of_record settings link r) (λ rule h. era_told settings read.past.calls d rule (sym t.dropped ∙ h)) ∙ t.told) in
     let packets : length o.packets ≡ length (emits settings link read r) =
     sym (ap length (segment_frames settings link read r d rows) ∙ length-map o.packets (frame_of (link_octets link r.octets))) in
     let told : Some o ≡ option_map (outcome_of settings read) read.segment = sym (ap (option_map (outcome_of settings read)) t.segment) in
@@ -126,13 +126,13 @@ plain_frames settings link read r none = ap (frames_with settings link read r) n
 
 -- the entry of a record that is no segment, by its row, whether it is held back, and the rows that mend it
 plain_entry : (settings : PlainSettings) (link : Link) (read : Read) (r : records.Packet) (number : ℕ) (dropped : Option Rule) (held : Bool) (named : List Rule) (side : Option Side)
-    → read.segment ≡ None → dropped_by settings link read r ≡ dropped → is_held read ≡ held → named_rows settings link read r ≡ named → side_by dropped (side_of_frame settings link r.octets) ≡ side
+    → read.segment ≡ None → dropped_by settings link read r ≡ dropped → is_held read ≡ held → named_rows settings link read r ≡ named → side_by dropped (side_of_record settings link r) ≡ side
     → (item_by settings link read r number).entry
     ≡ record { number = number; side = side; verdict = verdict_by dropped held named; packets = length (frames_by dropped held r.octets); rules = rules_by dropped held [] named; era = None; begun = None; ended = read.past.idle }
 plain_entry settings link read r number dropped held named side none d w n s =
     λ i. record {
       number = number;
-      side = (ap (λ x. side_by x (side_of_frame settings link r.octets)) d ∙ s) i;
+      side = (ap (λ x. side_by x (side_of_record settings link r)) d ∙ s) i;
       verdict = verdict_by (d i) (w i) (n i);
       packets = (ap length (plain_frames settings link read r none) ∙ (counts (dropped_by settings link read r) (is_held read) _ ∙ ap₂ (λ x y. length (frames_by x y r.octets)) d w)) i;
       rules = rules_by (d i) (w i) (nothing_noted settings link read r none i) (n i);

@@ -44,7 +44,7 @@ use Rattle.reassembly.specs.Calls as reassembly
 use Rattle.reassembly.specs.Assemblies as fragments
 use Rattle.norm_engine.specs.Items.{Item, now_at}
 use Rattle.norm_engine.specs.Fragments.{Offering, piece_calls, offering_in, pieces_with, head_of_whole}
-use Rattle.norm_engine.specs.Rows.{side_of_frame, t_short, t_hlen, t_sum, t_flags, t_opt_bad, holds_tcp, is_segment}
+use Rattle.norm_engine.specs.Rows.{side_of_record, t_short, t_hlen, t_sum, t_flags, t_opt_bad, holds_tcp, is_segment}
 use Rattle.norm_engine.specs.Calls.{Past, flow_calls, where_passes, datagram_by}
 use Rattle.norm_engine.specs.Trace.{Read, is_held, is_quoted_live, dropped_by, noted_rows, named_rows}
 
@@ -147,21 +147,21 @@ pub record IsArp (settings : PlainSettings) (link : Link) (read : Read) (r : Pac
   pub undropped : dropped_by settings link read r ≡ None
   pub held : is_held read ≡ false
   pub named : named_rows settings link read r ≡ []
-  pub side : side_of_frame settings link r.octets ≡ None
+  pub side : side_of_record settings link r ≡ None
   pub short : length r.octets ≤ 65549
 
 -- a record that this row drops, which is no segment
 pub record IsDropped (settings : PlainSettings) (link : Link) (read : Read) (r : Packet) (told : Option Side) (rule : Rule) : Type 0 where
   pub segment : read.segment ≡ None
   pub dropped : dropped_by settings link read r ≡ Some rule
-  pub side : told ≡ (if tells_side rule then side_of_frame settings link r.octets else None)
+  pub side : told ≡ (if tells_side rule then side_of_record settings link r else None)
 
 -- a record that is a fragment to this side which no row drops, and after which its datagram is not whole
 pub record IsHeldBack (settings : PlainSettings) (link : Link) (read : Read) (r : Packet) (side : Side) : Type 0 where
   pub segment : read.segment ≡ None
   pub undropped : dropped_by settings link read r ≡ None
   pub held : is_held read ≡ true
-  pub told : side_of_frame settings link r.octets ≡ Some side
+  pub told : side_of_record settings link r ≡ Some side
 
 -- a record whose datagram goes out and is no segment: no row drops it, the rows that mend it are named, and the packet is what stands in its frame
 pub record IsSent (settings : PlainSettings) (link : Link) (read : Read) (r : Packet) (packet : IpPacket) (mend : Bool) : Type 0 where
@@ -171,7 +171,7 @@ pub record IsSent (settings : PlainSettings) (link : Link) (read : Read) (r : Pa
   pub undropped : dropped_by settings link read r ≡ None
   pub held : is_held read ≡ false
   pub named : named_rows settings link read r ≡ packet.fixes.items
-  pub told : side_of_frame settings link r.octets ≡ Some packet.side
+  pub told : side_of_record settings link r ≡ Some packet.side
   pub side : own.side ≡ packet.side
   pub head : own.head ≡ packet.head
   pub octets : own.octets ≡ packet.payload.now
@@ -187,7 +187,7 @@ pub record IsTaken (settings : PlainSettings) (link : Link) (read : Read) (r : P
   pub segment : read.segment ≡ Some own
   pub is : IsDatagram packet (link_octets link r.octets) own
   pub known : IsKnown settings own
-  pub told : side_of_frame settings link r.octets ≡ Some packet.side
+  pub told : side_of_record settings link r ≡ Some packet.side
   pub protocol : own.head.protocol ≡ 6
   pub held : is_held read ≡ false
   pub dropped : dropped_by settings link read r ≡ era.dropped_by settings (view_of settings read.past.calls own) own

@@ -101,5 +101,5 @@ joined_in settings link r (Some o) =
     let p = packet_in link r.octets in
     let head = head_of_whole (fields_of p) (whole_of (pieces_with o)) in
     if completes o
-    then option_map (datagram_made settings (ip_fixes settings link r piece_fix_rows) head (datagram_octets (pieces_with o))) (side_in settings p)
+    then option_map (datagram_made settings (ip_fixes settings link r piece_fix_rows) head (datagram_octets (pieces_with o))) (side_in settings r.side p)
     else None

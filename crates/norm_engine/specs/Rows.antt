@@ -1,9 +1,10 @@
 -- The rows of the rule table on the header of a TCP segment, one definition each in the order of their numbers
 -- (RFC 9293 section 3.1; which segments are dropped is this project's profile).
-use Rattle.std.specs.Prelude.{ℕ, ◌==◌, ◌&&◌, not, Bool, false, List, Option, None, is_none, find, if◌then◌else◌}
+use Rattle.std.specs.Prelude.{◌==◌, ◌&&◌, not, Bool, false, Option, None, is_none, find, if◌then◌else◌}
 use Rattle.wire_base.specs.declared.address.Link.{Link}
 use Rattle.wire_base.specs.declared.address.Side.{Side}
 use Rattle.wire_base.specs.Tcp as tcp
+use Rattle.pcap_file.specs.Records.{Packet}
 use Rattle.rule_book.specs.declared.rule.Rule.{Rule}
 use Rattle.rule_book.specs.declared.rule.Rule.TheVariants as rules
 use Rattle.rule_book.specs.Rules.{segment_rows}
@@ -12,9 +13,9 @@ use Rattle.ip_rules.specs.Datagrams.{Datagram}
 use Rattle.ip_rules.specs.Rows.{carries_ip, packet_in, side_in}
 use Rattle.dgram_rules.specs.Rows.{pseudo_of, is_offloaded}
 
--- the side of a frame's packet, and none of a frame that carries no IPv4
-abbrev pub side_of_frame : PlainSettings → Link → (frame : List ℕ) → Option Side
-side_of_frame settings link frame = if carries_ip link frame then side_in settings (packet_in link frame) else None
+-- the side of a record's packet, and none of a record that carries no IPv4
+abbrev pub side_of_record : PlainSettings → Link → Packet → Option Side
+side_of_record settings link r = if carries_ip link r.octets then side_in settings r.side (packet_in link r.octets) else None
 
 -- the datagram carries TCP (protocol 6)
 abbrev pub is_tcp : Datagram → Bool

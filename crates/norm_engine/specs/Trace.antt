@@ -22,7 +22,7 @@ use Rattle.tcp_norm.specs.Views.{view_of}
 use Rattle.tcp_norm.specs.Rows.{holds_era}
 use Rattle.tcp_norm.specs.Outcomes.{outcome_at, verdict_of}
 use Rattle.norm_engine.specs.Items.{Item}
-use Rattle.norm_engine.specs.Rows.{side_of_frame, holds_tcp}
+use Rattle.norm_engine.specs.Rows.{side_of_record, holds_tcp}
 use Rattle.norm_engine.specs.Fragments.{Offering, i_ttl, holds_offered, offering_in, pieces_before}
 use Rattle.norm_engine.specs.Calls.{Past, past_of, datagram_after, segment_after}
 use Rattle.norm_engine.specs.Frames.{frame_by}
@@ -229,7 +229,7 @@ item_by settings link read r number =
       packet = r;
       entry = record {
         number = number;
-        side = side_by dropped (side_of_frame settings link r.octets);
+        side = side_by dropped (side_of_record settings link r);
         verdict = verdict_by dropped (is_held read) named;
         packets = length (emits settings link read r);
         rules = rules_by dropped (is_held read) (noted_rows settings link read r) named;

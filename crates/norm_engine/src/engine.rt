@@ -160,6 +160,7 @@ impl Engine {
             fraction: input.fraction,
             original: input.original,
             offset: input.offset,
+            side: input.side,
             bytes: input.bytes,
         };
         match judge(

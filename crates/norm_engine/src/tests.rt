@@ -82,6 +82,7 @@ fn step(engine: &mut Engine, packet: &[u8; 40], out: &mut Outbox) -> Option<Entr
         fraction: 0,
         original: 40,
         offset: 24,
+        side: None,
         bytes: packet,
     };
     Some(engine.step(&input, out))
@@ -148,6 +149,7 @@ fn becomes(
         fraction: 0,
         original: 0,
         offset: 24,
+        side: None,
         bytes: fragment,
     };
     let entry = engine.step(&input, out);

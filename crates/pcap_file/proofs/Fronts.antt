@@ -119,7 +119,7 @@ module _ (order : Order) (h : List ℕ) (size : ℕ) (sixteen : length h ≡ 16)
   -- the head and the octets that it says are left
   pub leaves_record : (count : ℕ) (a b d : Option (List ℕ)) (body : List ℕ) (packet : Packet) → Consumes a b h → size ≤ 262144 → count ≢ 4294967295
       → Consumes b d body → length body ≡ size
-      → packet ≡ record { seconds = u32_at order h 0; fraction = u32_at order h 4; original = u32_at order h 12; octets = body } → Leaves order count a d packet
+      → packet ≡ record { seconds = u32_at order h 0; fraction = u32_at order h 4; original = u32_at order h 12; side = None; octets = body } → Leaves order count a d packet
   leaves_record count None b d body packet p small room q sized is = tt
   leaves_record count (Some x) None d body packet p small room q sized is = absurd p
   leaves_record count (Some x) (Some y) None body packet p small room q sized is = absurd q

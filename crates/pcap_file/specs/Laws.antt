@@ -1,5 +1,5 @@
 -- Laws of the definitions of a capture file.
-use Rattle.std.specs.Prelude.{◌≡◌, ◌⊎◌, ℕ, ◌^◌, ◌<◌, ◌≤◌, List, ◌++◌, length, Some, Ok}
+use Rattle.std.specs.Prelude.{◌≡◌, ◌⊎◌, ℕ, ◌^◌, ◌<◌, ◌≤◌, List, ◌++◌, length, Some, None, Ok}
 use Rattle.pcap_file.specs.declared.order.Order.{Order}
 use Rattle.pcap_file.specs.declared.head.Head.{Head}
 use Rattle.pcap_file.specs.Flaws.{Flaw}
@@ -11,12 +11,12 @@ use Rattle.pcap_file.specs.Capture.{IsCapture, FailsAt, EndsWell, EndsBadly}
 abbrev pub HeadIsReadBack : Type 0
 HeadIsReadBack = (head : Head) (rest : List ℕ) → head_of (head_octets head ++ rest) ≡ Ok head
 
--- A written record is read as that record, with its own length as the original one, whatever follows.
+-- A written record is read as that record, with its own length as the original one and no side, whatever follows.
 abbrev pub RecordIsReadBack : Type 0
 RecordIsReadBack =
     (order : Order) (count seconds fraction : ℕ) (octets rest : List ℕ) → count < 4294967295 → seconds < 2 ^ 32 → fraction < 2 ^ 32 → length octets ≤ 262144
     → front_of order count (record_octets order seconds fraction octets ++ rest)
-    ≡ Ok (Some (record { seconds = seconds; fraction = fraction; original = length octets; octets = octets }, rest))
+    ≡ Ok (Some (record { seconds = seconds; fraction = fraction; original = length octets; side = None; octets = octets }, rest))
 
 -- Octets that are a capture have one head and one list of records.
 abbrev pub CaptureIsOne : Type 0

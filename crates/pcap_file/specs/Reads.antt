@@ -11,7 +11,7 @@ use Rattle.pcap_file.specs.Reading.{Reading}
 
 -- the record of the code as the definitions see it
 abbrev pub shown : Record → Packet
-shown r = record { seconds = r.seconds; fraction = r.fraction; original = r.original; octets = r.bytes.now }
+shown r = record { seconds = r.seconds; fraction = r.fraction; original = r.original; side = r.side; octets = r.bytes.now }
 
 -- this record stood at the front, and exactly its octets were taken
 abbrev pub Leaves : Order → (count : ℕ) → Option (List ℕ) → Option (List ℕ) → Packet → Type 0

@@ -1,24 +1,26 @@
 -- The records of a capture file (classic pcap): 16 octets with seconds, fraction, captured and original length, then the captured octets.
 use Rattle.std.specs.Prelude.{ℕ, ◌+◌, ◌==◌, nat_lt, List, ◌++◌, length, take, drop, Option, Some, None, Result, Ok, Err, if◌then◌else◌}
+use Rattle.wire_base.specs.declared.address.Side.{Side}
 use Rattle.pcap_file.specs.declared.order.Order.{Order}
 use Rattle.pcap_file.specs.Numbers.{u32_at, u32_octets}
 use Rattle.pcap_file.specs.Flaws.{Flaw, cut_short, too_long, too_many}
 
--- a record: its time, in seconds and a fraction of one, its original length and the octets captured
+-- a record: its time, in seconds and a fraction of one, its original length, the side that its capture tells, and the octets captured
 pub record Packet : Type 0 where
   pub seconds : ℕ
   pub fraction : ℕ
   pub original : ℕ
+  pub side : Option Side
   pub octets : List ℕ
 
 -- the captured length that stands in the head of the record at the front
 abbrev pub captured : Order → List ℕ → ℕ
 captured order octets = u32_at order octets 8
 
--- the record at the front with so many octets captured
+-- the record at the front with so many octets captured, which has no side
 abbrev pub packet_of : Order → List ℕ → (size : ℕ) → Packet
 packet_of order octets size =
-    record { seconds = u32_at order octets 0; fraction = u32_at order octets 4; original = u32_at order octets 12; octets = take size (drop 16 octets) }
+    record { seconds = u32_at order octets 0; fraction = u32_at order octets 4; original = u32_at order octets 12; side = None; octets = take size (drop 16 octets) }
 
 -- what stands at the front after so many records, where the head of a record is whole and says this captured length
 abbrev pub sized_at : Order → (count : ℕ) → List ℕ → (size : ℕ) → Result (Option (Packet × List ℕ)) Flaw

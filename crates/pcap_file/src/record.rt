@@ -1,5 +1,7 @@
 //! A record of a capture file.
-ghost use Rattle.std.specs.Prelude.{◌≡◌};
+ghost use Rattle.std.specs.Prelude.{◌≡◌, None};
+
+use wire_base::Side;
 
 /// One record, whose octets lie in the caller's buffer.
 #[derive(Clone, Copy, Debug)]
@@ -12,6 +14,8 @@ pub struct Record<'a> {
     pub original: u32,
     /// Where the record begins, in octets from the first of the file.
     pub offset: u64,
+    /// The way that the packet went, where its capture tells it. A classic capture file tells none.
+    pub side: Option<Side>,
     /// The octets captured, at most 262,144.
     pub bytes: &'a [u8],
 }
@@ -19,7 +23,7 @@ pub struct Record<'a> {
 impl<'a> Record<'a> {
     ghost use Rattle.pcap_file.specs.Reads.{shown};
 
-    /// A record of these octets.
+    /// A record of these octets, without a side of its own.
     pub fn new(
         seconds: u32,
         fraction: u32,
@@ -27,7 +31,7 @@ impl<'a> Record<'a> {
         offset: u64,
         bytes: &'a [u8],
     ) -> Record<'a>
-        ensures fields { shown result ≡ record { seconds = seconds; fraction = fraction; original = original; octets = bytes.now } }
+        ensures fields { shown result ≡ record { seconds = seconds; fraction = fraction; original = original; side = None; octets = bytes.now } }
         ensures offset { result.offset ≡ offset }
     {
         Record {
@@ -35,6 +39,7 @@ impl<'a> Record<'a> {
             fraction,
             original,
             offset,
+            side: None,
             bytes,
         }
     }

@@ -9,6 +9,7 @@ use Rattle.wire_base.specs.declared.address.Link.{Link}
 use Rattle.wire_base.specs.declared.address.Link.TheVariants.{Ethernet, Raw}
 use Rattle.pcap_file.specs.declared.order.Order.{Order}
 use Rattle.pcap_file.specs.Numbers.{u32_at}
+use Rattle.pcap_file.specs.Records.{Packet}
 use Rattle.pcapng_file.specs.declared.fault.NgFault.{NgFault}
 use Rattle.pcapng_file.specs.declared.fault.NgFault.TheVariants as faults
 use Rattle.pcapng_file.specs.declared.interface.Interface.{Interface}
@@ -20,7 +21,7 @@ use Rattle.pcapng_file.specs.Standing.{Sections, counted, no_section}
 use Rattle.pcapng_file.specs.Options.{options_of, described}
 use Rattle.pcapng_file.specs.Contents.{is_link, interface_found, found_of, content_of, IsPlaced}
 use Rattle.pcapng_file.proofs.Fields.{content_placed}
-use Rattle.pcapng_file.specs.Blocks.{Step, is_size, order_at, ordered_at, sized_at, block_at, end_by, told, before, after_found, step_of, whole_step, Sided}
+use Rattle.pcapng_file.specs.Blocks.{Step, is_size, order_at, ordered_at, sized_at, block_at, end_by, told, before, after_found, step_of, whole_step}
 use Rattle.pcapng_file.specs.Sections.{Walks, behind, size_of, packets_of, with_given, EndsWell, EndsBadly}
 use Rattle.pcapng_file.specs.Laws.{EachFileEnds, LinkStays, WalksOn}
 use Rattle.pcapng_file.proofs.Wholes.{at_nothing, at_short, at_many, at_ordered, sized_cut, sized_open, sized_closed, is_big}
@@ -143,9 +144,9 @@ link_stays inside s x step rest e l linked = elim (front_cases inside s x) [
       ap (λ (p : Step × List ℕ). p.0.after.link) (sym pairs) ∙ here.keeps l linked
 ]
 
-given_on : (given : Option Sided) (newer older : List Sided) → with_given given (newer ++ older) ≡ with_given given newer ++ older
+given_on : (given : Option Packet) (newer older : List Packet) → with_given given (newer ++ older) ≡ with_given given newer ++ older
 given_on None newer older = refl
-given_on (Some sided) newer older = refl
+given_on (Some packet) newer older = refl
 
 -- blocks behind blocks
 pub walks_on : WalksOn

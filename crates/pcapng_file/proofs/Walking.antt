@@ -6,13 +6,14 @@ use Rattle.std.specs.declared.option.Option.{Option}
 use Rattle.std.specs.declared.result.Result.{Result}
 use Rattle.wire_base.specs.declared.address.Link.{Link}
 use Rattle.pcap_file.specs.declared.order.Order.{Order}
+use Rattle.pcap_file.specs.Records.{Packet}
 use Rattle.pcapng_file.specs.declared.fault.NgFault.{NgFault}
 use Rattle.pcapng_file.specs.declared.fault.NgFault.TheVariants as faults
 use Rattle.pcapng_file.specs.declared.content.Stamp.{Stamp}
 use Rattle.pcapng_file.specs.declared.content.Found.{Found}
 use Rattle.pcapng_file.specs.declared.content.Found.TheVariants as is
 use Rattle.pcapng_file.specs.Standing.{Sections, counted, no_section}
-use Rattle.pcapng_file.specs.Blocks.{Sided, Step, block_at, step_of, whole_step, after_found, given_by, packet_of, before, end_by, IsPacket}
+use Rattle.pcapng_file.specs.Blocks.{Step, block_at, step_of, whole_step, after_found, given_by, packet_of, before, end_by, IsPacket}
 use Rattle.pcapng_file.specs.Sections.{Walks, behind, packets_of, size_of, with_given}
 use Rattle.pcapng_file.specs.Reading.{NgReading, first_reading, IsUnlinked}
 use Rattle.pcapng_file.proofs.Wholes.{at_nothing}
@@ -126,7 +127,7 @@ pub record Between (old now : NgReading) (a b : Option (List ℕ)) : Type 0 wher
 pub between_none : (old : NgReading) (a : Option (List ℕ)) → Between old old a a
 between_none old a = record { steps = []; taken = no_step old.inside old.sections a; silent = refl; inside = refl; sections = refl; place = omega arith }
 
-not_given : (found : Found) (buf : List ℕ) (given : Option Sided) → (IsPacket found → ⊥) → IsGiven found buf given → given ≡ None
+not_given : (found : Found) (buf : List ℕ) (given : Option Packet) → (IsPacket found → ⊥) → IsGiven found buf given → given ≡ None
 not_given (is.Fails fault) buf given n is = absurd is
 not_given is.Passed buf given n is = is
 not_given is.Section buf given n is = is

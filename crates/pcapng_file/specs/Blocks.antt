@@ -1,7 +1,6 @@
 -- The block at the front of the octets left (pcapng): its type, its size, its content and once more its size.
 use Rattle.std.specs.Prelude.{ℕ, ◌≡◌, true, ◌+◌, ◌-◌, ◌%◌, ◌==◌, ◌&&◌, not, nat_lt, Bool, List, [], ◌∷◌, ◌++◌, length, take, drop, Option, Some, None, Result, Ok, Err, if◌then◌else◌}
 use Rattle.wire_base.specs.declared.address.Link.{Link}
-use Rattle.wire_base.specs.declared.address.Side.{Side}
 use Rattle.pcap_file.specs.declared.order.Order.{Order}
 use Rattle.pcap_file.specs.declared.order.Order.TheVariants.{Little, Big}
 use Rattle.pcap_file.specs.Numbers.{u32_at}
@@ -15,23 +14,16 @@ use Rattle.pcapng_file.specs.declared.content.Found.TheVariants as is
 use Rattle.pcapng_file.specs.Standing.{Sections, counted}
 use Rattle.pcapng_file.specs.Contents.{section_type, interface_type, enhanced_type, simple_type, old_packet_type, content_of, found_of}
 
--- a packet, its fraction in nanoseconds, and the side that its interface tells
-pub record Sided : Type 0 where
-  pub packet : Packet
-  pub side : Option Side
-
 -- One block: what the file has said behind it, the packet in it, where it is a packet block, and how many octets it takes.
 pub record Step : Type 0 where
   pub after : Sections
-  pub given : Option Sided
+  pub given : Option Packet
   pub size : ℕ
 
--- the packet of this stamp with these octets
-abbrev pub packet_of : Stamp → List ℕ → Sided
-packet_of stamp octets = record {
-  packet = record { seconds = stamp.seconds; fraction = stamp.fraction; original = stamp.original; octets = octets };
-  side = stamp.side;
-}
+-- the packet of this stamp with these octets: its fraction is in nanoseconds, and its side is that which its interface tells
+abbrev pub packet_of : Stamp → List ℕ → Packet
+packet_of stamp octets =
+    record { seconds = stamp.seconds; fraction = stamp.fraction; original = stamp.original; side = stamp.side; octets = octets }
 
 -- a block that describes an interface
 abbrev pub IsInterface : Found → Type 0
@@ -52,7 +44,7 @@ after_found sections order (is.Interface link interface) = record sections { int
 after_found sections order (is.Packet stamp) = record sections { seconds = stamp.seconds; fraction = stamp.fraction }
 
 -- the packet of a block, where it is a packet block
-abbrev pub given_by : Found → (block : List ℕ) → Option Sided
+abbrev pub given_by : Found → (block : List ℕ) → Option Packet
 given_by (is.Fails fault) block = None
 given_by is.Passed block = None
 given_by is.Section block = None

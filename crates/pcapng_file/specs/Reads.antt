@@ -3,6 +3,7 @@ use Rattle.std.specs.Prelude.{◌≡◌, ℕ, ◌+◌, ◌-◌, ◌<◌, ◌≤�
 use Rattle.std.specs.Io.KnownBytes.{Consumes, IsAtEnd}
 use Rattle.wire_base.specs.declared.address.Side.{Side}
 use Rattle.pcap_file.specs.declared.order.Order.{Order}
+use Rattle.pcap_file.specs.declared.record.Record.{Record}
 use Rattle.pcap_file.specs.Records.{Packet}
 use Rattle.pcap_file.specs.Reads.{shown}
 use Rattle.pcapng_file.specs.declared.fault.NgFault.{NgFault}
@@ -14,11 +15,10 @@ use Rattle.pcapng_file.specs.declared.content.Content.TheVariants as says
 use Rattle.pcapng_file.specs.declared.content.Found.{Found}
 use Rattle.pcapng_file.specs.declared.content.Found.TheVariants as is
 use Rattle.pcapng_file.specs.declared.block.Block.{Block}
-use Rattle.pcapng_file.specs.declared.reader.NgRecord.{NgRecord}
 use Rattle.pcapng_file.specs.Standing.{Sections, counted, no_section}
 use Rattle.pcapng_file.specs.Options.{options_of, described}
 use Rattle.pcapng_file.specs.Contents.{found_of, interface_found, IsSound}
-use Rattle.pcapng_file.specs.Blocks.{Sided, Step, order_at, size_at, sized_at, block_at, step_of, packet_of, before, IsInterface, IsPacket}
+use Rattle.pcapng_file.specs.Blocks.{Step, order_at, size_at, sized_at, block_at, step_of, packet_of, before, IsInterface, IsPacket}
 use Rattle.pcapng_file.specs.Sections.{Walks, behind, packets_of, size_of}
 use Rattle.pcapng_file.specs.Reading.{NgReading, first_reading, IsUnlinked}
 use Rattle.pcapng_file.specs.Takes.{Short}
@@ -140,7 +140,7 @@ pub record Moves (old new : NgReading) (steps : List Step) (asked : ℕ) (is_ope
   pub goes_on : new.is_open ≡ is_open
 
 -- the packet that a block gives, its octets in the buffer
-abbrev pub IsGiven : Found → (buf : List ℕ) → Option Sided → Type 0
+abbrev pub IsGiven : Found → (buf : List ℕ) → Option Packet → Type 0
 IsGiven (is.Fails fault) buf given = ⊥
 IsGiven (is.Packet stamp) buf given = given ≡ Some (packet_of stamp (take stamp.size buf))
 IsGiven found buf given = given ≡ None
@@ -168,12 +168,12 @@ Looks old new before after buf (Ok (Some found)) = LooksAt old new before after 
 Looks old new before after buf (Err fault) = Halts old new (Stops old.inside old.sections before after fault)
 
 -- Blocks without a packet were passed over, and behind them a packet was taken: this one.
-pub record TakesPacket (old new : NgReading) (before after : Option (List ℕ)) (sided : Sided) : Type 0 where
+pub record TakesPacket (old new : NgReading) (before after : Option (List ℕ)) (packet : Packet) : Type 0 where
   pub step : Step
   pub older : List Step
   pub steps : TakesSteps old.inside old.sections before after (step ∷ older)
   pub silent : packets_of older ≡ []
-  pub given : step.given ≡ Some sided
+  pub given : step.given ≡ Some packet
   pub moves : Moves old new (step ∷ older) (old.place + size_of older) true
 
 -- Blocks without a packet were passed over.
@@ -202,13 +202,13 @@ IsSmall (Ok None) = Unit {0}
 IsSmall (Err fault) = Unit {0}
 
 -- the next packet was read, or there is none, or this is the fault
-abbrev pub Reads : (old new : NgReading) → (before after : Option (List ℕ)) → Result (Option NgRecord) NgFault → Type 0
+abbrev pub Reads : (old new : NgReading) → (before after : Option (List ℕ)) → Result (Option Record) NgFault → Type 0
 Reads old new before after (Ok None) = HaltsBehind old new before after (λ sections between. EndsHere old.inside sections between after)
-Reads old new before after (Ok (Some given)) = TakesPacket old new before after (record { packet = shown given.record; side = given.side })
+Reads old new before after (Ok (Some given)) = TakesPacket old new before after (shown given)
 Reads old new before after (Err fault) = HaltsBehind old new before after (λ sections between. Stops old.inside sections between after fault)
 
 -- a fact of the packet, where one was given
-abbrev pub IfPacket : Result (Option NgRecord) NgFault → (NgRecord → Type 0) → Type 0
+abbrev pub IfPacket : Result (Option Record) NgFault → (Record → Type 0) → Type 0
 IfPacket (Ok (Some given)) P = P given
 IfPacket (Ok None) P = Unit {0}
 IfPacket (Err fault) P = Unit {0}

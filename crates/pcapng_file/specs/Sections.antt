@@ -1,8 +1,9 @@
 -- A pcapng file as a whole: a list of blocks, and the end or a first fault at an offset.
 use Rattle.std.specs.Prelude.{◌≡◌, ℕ, ◌+◌, List, [], ◌∷◌, Option, Some, None, Ok, Err}
+use Rattle.pcap_file.specs.Records.{Packet}
 use Rattle.pcapng_file.specs.declared.fault.NgFault.{NgFault}
 use Rattle.pcapng_file.specs.Standing.{Sections, no_section}
-use Rattle.pcapng_file.specs.Blocks.{Sided, Step, block_at}
+use Rattle.pcapng_file.specs.Blocks.{Step, block_at}
 
 -- what the file has said behind these blocks, the newest first
 abbrev pub behind : Sections → List Step → Sections
@@ -16,12 +17,12 @@ Walks inside sections all (step ∷ older) rest =
     (left : List ℕ) × Walks inside sections all older left × (block_at inside (behind sections older) left ≡ Ok (Some (step, rest)))
 
 -- a packet before the others, where there is one
-abbrev pub with_given : Option Sided → List Sided → List Sided
+abbrev pub with_given : Option Packet → List Packet → List Packet
 with_given None older = older
-with_given (Some sided) older = sided ∷ older
+with_given (Some packet) older = packet ∷ older
 
 -- the packets of blocks, the newest first
-abbrev pub packets_of : List Step → List Sided
+abbrev pub packets_of : List Step → List Packet
 packets_of [] = []
 packets_of (step ∷ older) = with_given step.given (packets_of older)
 

@@ -15,7 +15,7 @@ mod take;
 
 pub use ahead::Ahead;
 pub use fault::NgFault;
-pub use reader::{NgReader, NgRecord};
+pub use reader::NgReader;
 
 #[cfg(test)]
 mod tests;

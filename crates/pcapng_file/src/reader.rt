@@ -13,15 +13,7 @@ use arrayvec::ArrayVec;
 use edge_io::Source;
 use pcap_file::{Head, Order, Record};
 use std::marker::Model;
-use wire_base::{Link, Side};
-
-/// The next packet, and the side that its interface tells where the name of the inside is given.
-#[derive(Clone, Copy, Debug)]
-pub struct NgRecord<'a> {
-    /// Its fraction counts nanoseconds; its offset is that of its block.
-    pub record: Record<'a>,
-    pub side: Option<Side>,
-}
+use wire_base::Link;
 
 /// Where reading stands in a pcapng file.
 #[derive(Debug, Drop)]
@@ -142,34 +134,32 @@ impl NgReader {
         Ok(None)
     }
 
-    /// The next packet, its octets in the buffer.
+    /// The next packet, its octets in the buffer. Its fraction counts nanoseconds, its offset is that of its block, and it has the side that its interface
+    /// tells where the name of the inside is given.
     pub fn next<'a, S: Source>(
         &mut self,
         source: &mut S,
         buf: &'a mut [u8],
-    ) -> Result<Option<NgRecord<'a>>, NgFault>
+    ) -> Result<Option<Record<'a>>, NgFault>
         requires open { self.old.is_open ≡ true }
         requires room { 262144 ≤ length buf.old }
         ensures octets { Reads self.old self.new (S.left source.old) (S.left source.new) result }
         ensures later { S.fault_count source.old ≤ S.fault_count source.new }
         ensures kept { is_read_fault result ≡ false → S.fault_count source.new ≡ S.fault_count source.old }
         ensures cause { is_read_fault result ≡ true → Rose (S.fault_count source.old) (S.fault_count source.new) }
-        ensures offset { IfPacket result (λ given. given.record.offset ≡ self.new.asked) }
+        ensures offset { IfPacket result (λ given. given.offset ≡ self.new.asked) }
     {
         let Some(stamp) = self.next_stamp(source, buf)? else {
             return Ok(None);
         };
         let bytes = &buf[..stamp.size as usize];
-        let record = Record::new(
-            stamp.seconds,
-            stamp.fraction,
-            stamp.original,
-            self.asked,
-            bytes,
-        );
-        Ok(Some(NgRecord {
-            record,
+        Ok(Some(Record {
+            seconds: stamp.seconds,
+            fraction: stamp.fraction,
+            original: stamp.original,
+            offset: self.asked,
             side: stamp.side,
+            bytes,
         }))
     }
 }

@@ -158,9 +158,8 @@ fn a_packet_has_the_side_of_its_interface(rt: HostRuntime) -> Result<(), Fail> {
             );
             assert_eq!(rt; reader.offset(), 28);
             let mut buf = vec![in rt.alloc(); 0u8; 262144]?;
-            let given = reader.next(&mut source, &mut buf)?.ok_or("a packet")?;
-            assert_eq!(rt; given.side, side);
-            let record = given.record;
+            let record = reader.next(&mut source, &mut buf)?.ok_or("a packet")?;
+            assert_eq!(rt; record.side, side);
             assert_eq!(rt;
                 (
                     record.seconds,
@@ -204,19 +203,13 @@ fn times_and_lengths_are_those_of_the_interface(rt: HostRuntime) -> Result<(), F
             let mut source = source(rt, &parts, piece)?;
             let mut reader = NgReader::open(None, &mut source)?;
             let mut buf = vec![in rt.alloc(); 0u8; 262144]?;
-            let stamped = reader
-                .next(&mut source, &mut buf)?
-                .ok_or("a packet")?
-                .record;
+            let stamped = reader.next(&mut source, &mut buf)?.ok_or("a packet")?;
             assert_eq!(rt;
                 (stamped.seconds, stamped.fraction, stamped.original),
                 (seconds, fraction, 4)
             );
             assert_eq!(rt; stamped.bytes, [7u8, 8, 9].as_slice());
-            let simple = reader
-                .next(&mut source, &mut buf)?
-                .ok_or("a packet")?
-                .record;
+            let simple = reader.next(&mut source, &mut buf)?.ok_or("a packet")?;
             assert_eq!(rt;
                 (simple.seconds, simple.fraction, simple.original),
                 (seconds, fraction, 5)
@@ -233,10 +226,7 @@ fn a_simple_packet_is_clipped_to_the_snap_length(rt: HostRuntime) -> Result<(), 
     let mut source = source(rt, &[&SECTION, &NANO, &CLIPPED], 7)?;
     let mut reader = NgReader::open(None, &mut source)?;
     let mut buf = vec![in rt.alloc(); 0u8; 262144]?;
-    let record = reader
-        .next(&mut source, &mut buf)?
-        .ok_or("a packet")?
-        .record;
+    let record = reader.next(&mut source, &mut buf)?.ok_or("a packet")?;
     assert_eq!(rt;
         (record.seconds, record.fraction, record.original),
         (0, 0, 9)
@@ -255,10 +245,7 @@ fn a_section_may_have_the_highest_octet_first(rt: HostRuntime) -> Result<(), Fai
     let mut reader = NgReader::open(None, &mut source)?;
     assert!(rt; reader.head().link == Link::Ethernet);
     let mut buf = vec![in rt.alloc(); 0u8; 262144]?;
-    let record = reader
-        .next(&mut source, &mut buf)?
-        .ok_or("a packet")?
-        .record;
+    let record = reader.next(&mut source, &mut buf)?.ok_or("a packet")?;
     assert_eq!(rt;
         (record.seconds, record.fraction, record.original),
         (2, 1000, 3)

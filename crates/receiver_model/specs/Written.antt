@@ -14,7 +14,7 @@ pub record IsPlainSegment (s : Segment) : Type 0 where
   pub fits : Fits s
   pub legal : are_legal s.flags ≡ true
   pub urgent : has_urg s.flags ≡ false
-  pub formed : are_well_formed 0 s.options ≡ true
+  pub formed : are_well_formed s.options ≡ true
   pub kept : cleaned (has_syn s.flags) s.options ≡ s.options
   pub bare : (has_syn s.flags || has_rst s.flags) ≡ true → s.octets ≡ []
 

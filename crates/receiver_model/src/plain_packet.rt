@@ -100,7 +100,7 @@ fn is_bare(head: &Tcp, len: usize) -> bool
 // Cleaning leaves the options alone.
 fn is_clean(options: &[u8], syn: bool) -> bool
     requires room { length options.now ≤ 40 }
-    requires formed { are_well_formed 0 options.now ≡ true }
+    requires formed { are_well_formed options.now ≡ true }
     ensures { IsTrue result ↔ (cleaned syn options.now ≡ options.now) }
 {
     let mut area = [0; OPTIONS];

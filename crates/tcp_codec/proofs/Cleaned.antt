@@ -1,12 +1,14 @@
 -- What cleaning leaves of an area: laws over all areas.
-use Rattle.std.proofs.Common.{◌≡◌, ℕ, zero, suc, ◌-◌, ◌≤◌, ◌<◌, ◌⊎◌, ◌==◌, inl, inr, Bool, true, false, List, [], ◌∷◌, length, get_or, replicate, refl, sym, ap, ◌∙◌, ⊎_elim, arith}
+use Rattle.std.proofs.Common.{◌≡◌, ℕ, zero, suc, ◌-◌, ◌≤◌, ◌<◌, ◌⊎◌, ◌==◌, ◌&&◌, inl, inr, Bool, true, false, List, [], ◌∷◌, length, get_or, replicate, not, min, Some, refl, sym, subst, ap, ◌∙◌, ⊎_elim, arith}
 use Rattle.std.proofs.lemmas.Bool.{cases_lt, ne_eqb}
 use Rattle.std.proofs.lemmas.Bool.Decides.{nat_tests}
 use Rattle.std.proofs.lemmas.List.{length-replicate}
-use Rattle.wire_base.specs.Options.{are_well_formed, cleaned_from, is_kept}
-use Rattle.wire_base.proofs.OptionWalk.{are_well_formed-size, are_well_formed-small}
-use Rattle.tcp_codec.specs.Cleaning.{CleansOctets, CleansOnce, StaysWellFormed, end_from}
-use Rattle.tcp_codec.proofs.Cleanings.{cleaned_from-first, cleaned_from-other}
+use Rattle.std.specs.List.{list_any}
+use Rattle.wire_base.specs.Options.{cleaned, end_of}
+use Rattle.wire_base.proofs.OptionWalk.{formed_from, formed_from-size, formed_from-small, scale_from, scale_from-size}
+use Rattle.wire_base.proofs.OptionLists.{are_well_formed-walk, has-first, scale_of-walk, scale_from-first, which}
+use Rattle.tcp_codec.specs.Cleaning.{CleansOctets, CleansOnce, KeepsScale, StaysWellFormed, is_kept_after}
+use Rattle.tcp_codec.proofs.CleanedWalk.{cleaned_from, cleaned_from-first, cleaned_from-other, cleaned-walk, end_from, end_from-sized, end_of-walk}
 
 -- the octets that still belong to an option where the cleaned area is walked: those of one that was kept
 abbrev pub again : Bool → ℕ → ℕ
@@ -17,12 +19,8 @@ again-zero : (keep : Bool) → again keep zero ≡ zero
 again-zero true = refl
 again-zero false = refl
 
-which : (b : Bool) → (b ≡ true) ⊎ (b ≡ false)
-which true = inl refl
-which false = inr refl
-
 -- an option that is kept has its length octet
-kept-size : (syn : Bool) (before : List ℕ) (kind size : ℕ) → is_kept syn before kind size ≡ true → 2 ≤ size
+kept-size : (syn : Bool) (before : List ℕ) (kind size : ℕ) → is_kept_after syn before kind size ≡ true → 2 ≤ size
 kept-size syn before kind size keep = grind (arith, nat_tests)
 
 -- which is kept
@@ -47,31 +45,29 @@ once syn before keep zero (suc (suc k) ∷ octets) =
     let left = cleaned_from syn (kind ∷ before) true (size - 1) octets in
     let first : get_or left 0 0 ≡ size = let two = kept-size syn before kind size kept in first-octet syn (kind ∷ before) (size - 1) octets (omega arith) in
     ap (cleaned_from syn before true 0) e
-    ∙ cleaned_from-first syn before kind left other (ap (is_kept syn before kind) first ∙ kept)
+    ∙ cleaned_from-first syn before kind left other (ap (is_kept_after syn before kind) first ∙ kept)
     ∙ ap (λ n. kind ∷ cleaned_from syn (kind ∷ before) true (n - 1) left) first
     ∙ ap (λ xs. kind ∷ xs) (once syn (kind ∷ before) true (size - 1) octets)
     ∙ sym e)
     (λ blank.
     let e = cleaned_from-other syn before kind octets other blank in
     ap (cleaned_from syn before true 0) e ∙ ap (λ xs. 1 ∷ xs) (once syn before false (size - 1) octets) ∙ sym e)
-    (which (is_kept syn before kind size)))
+    (which (is_kept_after syn before kind size)))
 
 pub cleans_once : CleansOnce
-cleans_once syn area = once syn [] true 0 area
+cleans_once syn area =
+    let e = cleaned-walk syn area in
+    ap (cleaned syn) e ∙ cleaned-walk syn (cleaned_from syn [] true 0 area) ∙ once syn [] true 0 area ∙ sym e
 
 -- what a well formed list says of an option at its front
-sized-some : (kind : ℕ) (octets : List ℕ) → 2 ≤ kind → are_well_formed 0 (kind ∷ octets) ≡ true → 2 ≤ get_or octets 0 0
+sized-some : (kind : ℕ) (octets : List ℕ) → 2 ≤ kind → formed_from 0 (kind ∷ octets) ≡ true → 2 ≤ get_or octets 0 0
 sized-some kind octets other formed =
-    ⊎_elim (λ small. let bad = are_well_formed-small kind octets other small in cc)
+    ⊎_elim (λ small. let bad = formed_from-small kind octets other small in cc)
     (λ some. some)
     (cases_lt (get_or octets 0 0) 2)
 
-has-first : (octets : List ℕ) → 2 ≤ get_or octets 0 0 → 1 ≤ length octets
-has-first [] some = absurd (omega arith)
-has-first (x ∷ octets) some = omega arith
-
 -- well formed options still are when they are cleaned
-formed : (syn : Bool) (before : List ℕ) (keep : Bool) (left : ℕ) (octets : List ℕ) → are_well_formed left octets ≡ true → are_well_formed (again keep left) (cleaned_from syn before keep left octets) ≡ true
+formed : (syn : Bool) (before : List ℕ) (keep : Bool) (left : ℕ) (octets : List ℕ) → formed_from left octets ≡ true → formed_from (again keep left) (cleaned_from syn before keep left octets) ≡ true
 formed syn before true left [] h = h
 formed syn before false left [] h = refl
 formed syn before true (suc left) (x ∷ octets) h = formed syn before true left octets h
@@ -83,20 +79,21 @@ formed syn before keep zero (suc (suc k) ∷ octets) h =
     let other : 2 ≤ kind = omega arith in
     let size = get_or octets 0 0 in
     let two = sized-some kind octets other h in
-    let left : are_well_formed (size - 1) octets ≡ true = sym (are_well_formed-size kind octets other (has-first octets two) two) ∙ h in
+    let left : formed_from (size - 1) octets ≡ true = sym (formed_from-size kind octets other (has-first octets two) two) ∙ h in
     rw (again-zero keep) (⊎_elim (λ kept.
     let behind = cleaned_from syn (kind ∷ before) true (size - 1) octets in
     let first : get_or behind 0 0 ≡ size = first-octet syn (kind ∷ before) (size - 1) octets (omega arith) in
     let some : 2 ≤ get_or behind 0 0 = omega arith in
-    ap (are_well_formed 0) (cleaned_from-first syn before kind octets other kept)
-    ∙ are_well_formed-size kind behind other (has-first behind some) some
-    ∙ ap (λ n. are_well_formed (n - 1) behind) first
+    ap (formed_from 0) (cleaned_from-first syn before kind octets other kept)
+    ∙ formed_from-size kind behind other (has-first behind some) some
+    ∙ ap (λ n. formed_from (n - 1) behind) first
     ∙ formed syn (kind ∷ before) true (size - 1) octets left)
-    (λ blank. ap (are_well_formed 0) (cleaned_from-other syn before kind octets other blank) ∙ formed syn before false (size - 1) octets left)
-    (which (is_kept syn before kind size)))
+    (λ blank. ap (formed_from 0) (cleaned_from-other syn before kind octets other blank) ∙ formed syn before false (size - 1) octets left)
+    (which (is_kept_after syn before kind size)))
 
 pub stays_well_formed : StaysWellFormed
-stays_well_formed syn area h = formed syn [] true 0 area h
+stays_well_formed syn area h =
+    are_well_formed-walk (cleaned syn area) ∙ ap (formed_from 0) (cleaned-walk syn area) ∙ formed syn [] true 0 area (sym (are_well_formed-walk area) ∙ h)
 
 -- an octet at a place: it stays or is a no-operation before the end option, and it is 0 from there on
 abbrev pub IsOctet : (end : ℕ) (area new : List ℕ) (place : ℕ) → Type 0
@@ -110,12 +107,6 @@ zeros-at : (n place : ℕ) → get_or {A = ℕ} (replicate n 0) place 0 ≡ 0
 zeros-at zero place = refl
 zeros-at (suc n) zero = refl
 zeros-at (suc n) (suc place) = zeros-at n place
-
-end_from-sized : (kind : ℕ) (octets : List ℕ) → 2 ≤ kind → end_from 0 (kind ∷ octets) ≡ suc (end_from (get_or octets 0 0 - 1) octets)
-end_from-sized kind octets other =
-    let a : (kind == 0) ≡ false = ne_eqb kind 0 (omega arith) in
-    let b : (kind == 1) ≡ false = ne_eqb kind 1 (omega arith) in
-    rw (a, b, end_from) refl
 
 octets_are : (syn : Bool) (before : List ℕ) (keep : Bool) (left : ℕ) (octets : List ℕ) (place : ℕ) → IsOctet (end_from left octets) octets (cleaned_from syn before keep left octets) place
 octets_are syn before keep left [] place = (λ inside. absurd (omega arith), λ past. refl)
@@ -134,7 +125,7 @@ octets_are syn before keep zero (suc (suc k) ∷ octets) place =
     (λ blank.
     let e = cleaned_from-other syn before kind octets other blank in
     rw (end, e) (one_more _ kind 1 octets _ (inr refl) (octets_are syn before false (size - 1) octets) place))
-    (which (is_kept syn before kind size))
+    (which (is_kept_after syn before kind size))
 
 -- cleaning keeps the number of octets
 cleaned_from-length : (syn : Bool) (before : List ℕ) (keep : Bool) (left : ℕ) (octets : List ℕ) → length (cleaned_from syn before keep left octets) ≡ length octets
@@ -148,11 +139,72 @@ cleaned_from-length syn before keep zero (suc (suc k) ∷ octets) =
     let size = get_or octets 0 0 in
     ⊎_elim (λ kept. ap length (cleaned_from-first syn before kind octets other kept) ∙ ap suc (cleaned_from-length syn (kind ∷ before) true (size - 1) octets))
     (λ blank. ap length (cleaned_from-other syn before kind octets other blank) ∙ ap suc (cleaned_from-length syn before false (size - 1) octets))
-    (which (is_kept syn before kind size))
+    (which (is_kept_after syn before kind size))
 
 pub cleans_octets : CleansOctets
 cleans_octets syn area = record {
-  size = cleaned_from-length syn [] true 0 area;
-  options = λ place. (octets_are syn [] true 0 area place).0;
-  behind = λ place. (octets_are syn [] true 0 area place).1;
+  size = ap length (cleaned-walk syn area) ∙ cleaned_from-length syn [] true 0 area;
+  options = λ place. (here place).0;
+  behind = λ place. (here place).1;
 }
+  where
+    here : (place : ℕ) → IsOctet (end_of area) area (cleaned syn area) place
+    here place = subst (λ end. IsOctet end area (cleaned syn area) place) (sym (end_of-walk area)) (subst (λ new. IsOctet (end_from 0 area) area new place) (sym (cleaned-walk syn area)) (octets_are syn [] true 0 area place))
+
+-- the second octet of a kept option of at least two
+second-octet : (syn : Bool) (before : List ℕ) (left : ℕ) (octets : List ℕ) → 2 ≤ left → get_or (cleaned_from syn before true left octets) 1 0 ≡ get_or octets 1 0
+second-octet syn before zero octets some = absurd (omega arith)
+second-octet syn before (suc zero) octets some = absurd (omega arith)
+second-octet syn before (suc (suc left)) [] some = refl
+second-octet syn before (suc (suc left)) (x ∷ []) some = refl
+second-octet syn before (suc (suc left)) (x ∷ y ∷ octets) some = refl
+
+-- the first window scale option of a SYN is kept, and another option of its kind before it is not
+first-scale : (before : List ℕ) (kind size : ℕ) → list_any (λ other. other == 3) before ≡ false → ((kind == 3) && (size == 3)) ≡ true → is_kept_after true before kind size ≡ true
+first-scale before kind size none e =
+    let k : kind ≡ 3 = grind (arith, nat_tests) in
+    let s : size ≡ 3 = grind (arith, nat_tests) in
+    (λ i. is_kept_after true before (k i) (s i)) ∙ ap not none
+
+other-kind : (before : List ℕ) (kind size : ℕ) → is_kept_after true before kind size ≡ true → ((kind == 3) && (size == 3)) ≡ false → (kind == 3) ≡ false
+other-kind before kind size kept another = grind (arith, nat_tests)
+
+-- the scale behind an option that is kept, or in it
+kept-scale : (before : List ℕ) (kind : ℕ) (octets : List ℕ) → list_any (λ other. other == 3) before ≡ false → 2 ≤ kind → is_kept_after true before kind (get_or octets 0 0) ≡ true
+    → (list_any (λ other. other == 3) (kind ∷ before) ≡ false → scale_from (get_or octets 0 0 - 1) (cleaned_from true (kind ∷ before) true (get_or octets 0 0 - 1) octets) ≡ scale_from (get_or octets 0 0 - 1) octets)
+    → scale_from 0 (kind ∷ cleaned_from true (kind ∷ before) true (get_or octets 0 0 - 1) octets) ≡ scale_from 0 (kind ∷ octets)
+kept-scale before kind octets none other kept behind =
+    let size = get_or octets 0 0 in
+    let left = cleaned_from true (kind ∷ before) true (size - 1) octets in
+    let first : get_or left 0 0 ≡ size = let two = kept-size true before kind size kept in first-octet true (kind ∷ before) (size - 1) octets (omega arith) in
+    let here = ap (λ n. (kind == 3) && (n == 3)) first in
+    ⊎_elim (λ scale.
+    let three : size ≡ 3 = grind (arith, nat_tests) in
+    scale_from-first kind left other (here ∙ scale)
+    ∙ ap (λ n. Some (min 14 n)) (second-octet true (kind ∷ before) (size - 1) octets (omega arith))
+    ∙ sym (scale_from-first kind octets other scale))
+    (λ another.
+    let others : list_any (λ other. other == 3) (kind ∷ before) ≡ false = rw (other-kind before kind size kept another) none in
+    scale_from-size kind left other (here ∙ another) ∙ ap (λ n. scale_from (n - 1) left) first ∙ behind others ∙ sym (scale_from-size kind octets other another))
+    (which ((kind == 3) && (size == 3)))
+
+-- the scale of what is left is that of what cleaning makes of it
+same-scale : (before : List ℕ) (keep : Bool) (left : ℕ) (octets : List ℕ) → list_any (λ other. other == 3) before ≡ false → scale_from (again keep left) (cleaned_from true before keep left octets) ≡ scale_from left octets
+same-scale before keep left [] none = refl
+same-scale before true (suc left) (x ∷ octets) none = same-scale before true left octets none
+same-scale before false (suc left) (x ∷ octets) none = same-scale before false left octets none
+same-scale before keep zero (zero ∷ octets) none = rw (again-zero keep) refl
+same-scale before keep zero (suc zero ∷ octets) none = rw (again-zero keep) (same-scale before true 0 octets none)
+same-scale before keep zero (suc (suc k) ∷ octets) none =
+    let kind = suc (suc k) in
+    let other : 2 ≤ kind = omega arith in
+    let size = get_or octets 0 0 in
+    rw (again-zero keep) (⊎_elim (λ kept. ap (scale_from 0) (cleaned_from-first true before kind octets other kept) ∙ kept-scale before kind octets none other kept (same-scale (kind ∷ before) true (size - 1) octets))
+    (λ blank.
+    let another : ((kind == 3) && (size == 3)) ≡ false = ⊎_elim (λ scale. let keeps = first-scale before kind size none scale in cc) (λ another. another) (which ((kind == 3) && (size == 3))) in
+    ap (scale_from 0) (cleaned_from-other true before kind octets other blank) ∙ same-scale before false (size - 1) octets none ∙ sym (scale_from-size kind octets other another))
+    (which (is_kept_after true before kind size)))
+
+pub keeps_scale : KeepsScale
+keeps_scale area =
+    scale_of-walk (cleaned true area) ∙ ap (scale_from 0) (cleaned-walk true area) ∙ same-scale [] true 0 area refl ∙ sym (scale_of-walk area)

@@ -5,23 +5,12 @@ use Rattle.std.proofs.Math.Dec.{eqb-suc-zero}
 use Rattle.std.proofs.lemmas.Bool.{cases_lt, ne_eqb}
 use Rattle.std.proofs.lemmas.List.{append_assoc, append-nil, drop_all, drop-drop, drop_at, take_at, take_more, take_rest, length-drop, length-take-le, length-replicate, length-append, get_or-append_right, take-append-drop}
 use Rattle.std.specs.List.{list_any}
-use Rattle.wire_base.specs.Options.{are_well_formed, cleaned, cleaned_from, is_kept}
-use Rattle.wire_base.proofs.OptionWalk.{drop-kind, drop-option, size-at, cleaned_from-kept, cleaned_from-blank, are_well_formed-none, are_well_formed-option}
+use Rattle.wire_base.specs.Options.{are_well_formed, cleaned}
+use Rattle.wire_base.proofs.OptionWalk.{drop-kind, drop-option, size-at}
+use Rattle.tcp_codec.proofs.Walks.{formed-none, formed-option}
+use Rattle.tcp_codec.proofs.CleanedWalk.{cleaned_from, cleaned_from-first, cleaned_from-other, cleaned_from-kept, cleaned_from-blank, cleaned-walk}
 use Rattle.tcp_codec.specs.declared.cleaning.Kept.{Kept}
-use Rattle.tcp_codec.specs.Cleaning.{StandsFor}
-
--- a kept option, and one that is not kept, at the front of what is left
-pub cleaned_from-first : (syn : Bool) (before : List ℕ) (kind : ℕ) (octets : List ℕ) → 2 ≤ kind → is_kept syn before kind (get_or octets 0 0) ≡ true → cleaned_from syn before true 0 (kind ∷ octets) ≡ kind ∷ cleaned_from syn (kind ∷ before) true (get_or octets 0 0 - 1) octets
-cleaned_from-first syn before kind octets other e =
-    let a : (kind == 0) ≡ false = ne_eqb kind 0 (omega arith) in
-    let b : (kind == 1) ≡ false = ne_eqb kind 1 (omega arith) in
-    rw (a, b, e, cleaned_from) refl
-
-pub cleaned_from-other : (syn : Bool) (before : List ℕ) (kind : ℕ) (octets : List ℕ) → 2 ≤ kind → is_kept syn before kind (get_or octets 0 0) ≡ false → cleaned_from syn before true 0 (kind ∷ octets) ≡ 1 ∷ cleaned_from syn before false (get_or octets 0 0 - 1) octets
-cleaned_from-other syn before kind octets other e =
-    let a : (kind == 0) ≡ false = ne_eqb kind 0 (omega arith) in
-    let b : (kind == 1) ≡ false = ne_eqb kind 1 (omega arith) in
-    rw (a, b, e, cleaned_from) refl
+use Rattle.tcp_codec.specs.Cleaning.{StandsFor, is_kept_after}
 
 -- the octets of an option begin with its kind
 take-option : (area : List ℕ) (at size : ℕ) → at < length area → 1 ≤ size → take size (drop at area) ≡ get_or area at 0 ∷ take (size - 1) (drop (at + 1) area)
@@ -30,20 +19,20 @@ take-option area at size begins some =
     ap (take size) (drop-kind area at _ begins refl) ∙ ap (λ n. take n (get_or area at 0 ∷ drop (at + 1) area)) e
 
 -- cleaning at a place: an option that is kept, one that is not, a no-operation, and the end
-cleaned_from-keep : (syn : Bool) (before area : List ℕ) (at size : ℕ) → get_or area (at + 1) 0 ≡ size → 2 ≤ size → at + size ≤ length area → 2 ≤ get_or area at 0 → is_kept syn before (get_or area at 0) size ≡ true → cleaned_from syn before true 0 (drop at area) ≡ take size (drop at area) ++ cleaned_from syn (get_or area at 0 ∷ before) true 0 (drop (at + size) area)
+cleaned_from-keep : (syn : Bool) (before area : List ℕ) (at size : ℕ) → get_or area (at + 1) 0 ≡ size → 2 ≤ size → at + size ≤ length area → 2 ≤ get_or area at 0 → is_kept_after syn before (get_or area at 0) size ≡ true → cleaned_from syn before true 0 (drop at area) ≡ take size (drop at area) ++ cleaned_from syn (get_or area at 0 ∷ before) true 0 (drop (at + size) area)
 cleaned_from-keep syn before area at size e two inside other keep =
     let kind = get_or area at 0 in
     let octets = drop (at + 1) area in
     let count : length octets ≡ length area - (at + 1) = length-drop (at + 1) area in
     let known : get_or octets 0 0 ≡ size = size-at area at size e in
     ap (cleaned_from syn before true 0) (drop-kind area at _ (omega arith) refl)
-    ∙ cleaned_from-first syn before kind octets other (ap (is_kept syn before kind) known ∙ keep)
+    ∙ cleaned_from-first syn before kind octets other (ap (is_kept_after syn before kind) known ∙ keep)
     ∙ ap (λ n. kind ∷ cleaned_from syn (kind ∷ before) true (n - 1) octets) known
-    ∙ ap (λ xs. kind ∷ xs) (cleaned_from-kept syn (kind ∷ before) (size - 1) octets (omega arith))
+    ∙ ap (λ xs. kind ∷ xs) (cleaned_from-kept syn (kind ∷ before) (size - 1) octets)
     ∙ ap (λ rest. kind ∷ take (size - 1) octets ++ cleaned_from syn (kind ∷ before) true 0 rest) (drop-option area at size (omega arith))
     ∙ ap (λ xs. xs ++ cleaned_from syn (kind ∷ before) true 0 (drop (at + size) area)) (sym (take-option area at size (omega arith) (omega arith)))
 
-cleaned_from-drop : (syn : Bool) (before area : List ℕ) (at size : ℕ) → get_or area (at + 1) 0 ≡ size → 2 ≤ size → at + size ≤ length area → 2 ≤ get_or area at 0 → is_kept syn before (get_or area at 0) size ≡ false → cleaned_from syn before true 0 (drop at area) ≡ replicate size 1 ++ cleaned_from syn before true 0 (drop (at + size) area)
+cleaned_from-drop : (syn : Bool) (before area : List ℕ) (at size : ℕ) → get_or area (at + 1) 0 ≡ size → 2 ≤ size → at + size ≤ length area → 2 ≤ get_or area at 0 → is_kept_after syn before (get_or area at 0) size ≡ false → cleaned_from syn before true 0 (drop at area) ≡ replicate size 1 ++ cleaned_from syn before true 0 (drop (at + size) area)
 cleaned_from-drop syn before area at size e two inside other keep =
     let kind = get_or area at 0 in
     let octets = drop (at + 1) area in
@@ -51,7 +40,7 @@ cleaned_from-drop syn before area at size e two inside other keep =
     let known : get_or octets 0 0 ≡ size = size-at area at size e in
     let more : suc (size - 1) ≡ size = omega arith in
     ap (cleaned_from syn before true 0) (drop-kind area at _ (omega arith) refl)
-    ∙ cleaned_from-other syn before kind octets other (ap (is_kept syn before kind) known ∙ keep)
+    ∙ cleaned_from-other syn before kind octets other (ap (is_kept_after syn before kind) known ∙ keep)
     ∙ ap (λ n. 1 ∷ cleaned_from syn before false (n - 1) octets) known
     ∙ ap (λ xs. 1 ∷ xs) (cleaned_from-blank syn before (size - 1) octets (omega arith))
     ∙ ap (λ rest. 1 ∷ replicate (size - 1) 1 ++ cleaned_from syn before true 0 rest) (drop-option area at size (omega arith))
@@ -72,7 +61,7 @@ pub record SoFar (syn : Bool) (old now : List ℕ) (at : ℕ) (kept : Kept) (cha
   pub before : List ℕ
   pub stands : StandsFor kept before
   pub inside : at ≤ length now
-  pub formed : are_well_formed 0 (drop at now) ≡ true
+  pub formed : are_well_formed (drop at now) ≡ true
   pub front : cleaned syn old ≡ take at now ++ cleaned_from syn before true 0 (drop at now)
   pub untouched : drop at now ≡ drop at old
   pub same : (changed ≡ false) ↔ (now ≡ old)
@@ -81,23 +70,35 @@ pub record SoFar (syn : Bool) (old now : List ℕ) (at : ℕ) (kept : Kept) (cha
 passed : (at n : ℕ) (old now : List ℕ) → drop at now ≡ drop at old → drop (at + n) now ≡ drop (at + n) old
 passed at n old now e = sym (drop-drop n at now) ∙ ap (drop n) e ∙ drop-drop n at old
 
+-- nothing is cleaned yet
+pub SoFar-start : (syn : Bool) (area : List ℕ) (kept : Kept) → StandsFor kept [] → are_well_formed area ≡ true → SoFar syn area area 0 kept false
+SoFar-start syn area kept stands formed = record {
+  before = [];
+  stands = stands;
+  inside = omega arith;
+  formed = formed;
+  front = cleaned-walk syn area;
+  untouched = refl;
+  same = (λ none. refl, λ same. refl);
+}
+
 pub SoFar-none : (syn : Bool) (old now : List ℕ) (at : ℕ) (kept : Kept) (changed : Bool) → SoFar syn old now at kept changed → at < length now → get_or now at 0 ≡ 1 → SoFar syn old now (at + 1) kept changed
 SoFar-none syn old now at kept changed s begins kind = record {
   before = s.before;
   stands = s.stands;
   inside = omega arith;
-  formed = sym (are_well_formed-none now at begins kind) ∙ s.formed;
+  formed = sym (formed-none now at begins kind) ∙ s.formed;
   front = s.front ∙ ap (λ xs. take at now ++ xs) (cleaned_from-none syn s.before now at begins kind) ∙ sym (append_assoc (take at now) (get_or now at 0 ∷ []) _) ∙ ap (λ xs. xs ++ cleaned_from syn s.before true 0 (drop (at + 1) now)) (sym (take_more now at 0 begins));
   untouched = passed at 1 old now s.untouched;
   same = s.same;
 }
 
-pub SoFar-kept : (syn : Bool) (old now : List ℕ) (at size : ℕ) (kept new : Kept) (changed : Bool) (s : SoFar syn old now at kept changed) → get_or now (at + 1) 0 ≡ size → 2 ≤ size → at + size ≤ length now → 2 ≤ get_or now at 0 → is_kept syn s.before (get_or now at 0) size ≡ true → StandsFor new (get_or now at 0 ∷ s.before) → SoFar syn old now (at + size) new changed
+pub SoFar-kept : (syn : Bool) (old now : List ℕ) (at size : ℕ) (kept new : Kept) (changed : Bool) (s : SoFar syn old now at kept changed) → get_or now (at + 1) 0 ≡ size → 2 ≤ size → at + size ≤ length now → 2 ≤ get_or now at 0 → is_kept_after syn s.before (get_or now at 0) size ≡ true → StandsFor new (get_or now at 0 ∷ s.before) → SoFar syn old now (at + size) new changed
 SoFar-kept syn old now at size kept new changed s e two inside other keep stands = record {
   before = get_or now at 0 ∷ s.before;
   stands = stands;
   inside = inside;
-  formed = sym (are_well_formed-option now at size e two inside other) ∙ s.formed;
+  formed = sym (formed-option now at size e two inside other) ∙ s.formed;
   front = s.front ∙ ap (λ xs. take at now ++ xs) (cleaned_from-keep syn s.before now at size e two inside other keep) ∙ sym (append_assoc (take at now) (take size (drop at now)) _) ∙ ap (λ xs. xs ++ cleaned_from syn (get_or now at 0 ∷ s.before) true 0 (drop (at + size) now)) (sym (take-add at size now));
   untouched = passed at size old now s.untouched;
   same = s.same;
@@ -119,7 +120,7 @@ same-first old now at e = from_drop now at ∙ ap (λ xs. get_or xs 0 0) e ∙ s
     from_drop [] (suc at) = refl
     from_drop (x ∷ xs) (suc at) = from_drop xs at
 
-pub SoFar-blanked : (syn : Bool) (old now new : List ℕ) (at size : ℕ) (kept noted : Kept) (changed : Bool) (s : SoFar syn old now at kept changed) → get_or now (at + 1) 0 ≡ size → 2 ≤ size → at + size ≤ length now → 2 ≤ get_or now at 0 → is_kept syn s.before (get_or now at 0) size ≡ false → StandsFor noted s.before → new ≡ take at now ++ (replicate size 1 ++ drop (at + size) now) → SoFar syn old new (at + size) noted true
+pub SoFar-blanked : (syn : Bool) (old now new : List ℕ) (at size : ℕ) (kept noted : Kept) (changed : Bool) (s : SoFar syn old now at kept changed) → get_or now (at + 1) 0 ≡ size → 2 ≤ size → at + size ≤ length now → 2 ≤ get_or now at 0 → is_kept_after syn s.before (get_or now at 0) size ≡ false → StandsFor noted s.before → new ≡ take at now ++ (replicate size 1 ++ drop (at + size) now) → SoFar syn old new (at + size) noted true
 SoFar-blanked syn old now new at size kept noted changed s e two inside other keep stands written =
     let taken : length (take at now) ≡ at = length-take-le at now (omega arith) in
     let blank : List ℕ = replicate size 1 in
@@ -133,7 +134,7 @@ SoFar-blanked syn old now new at size kept noted changed s e two inside other ke
       before = s.before;
       stands = stands;
       inside = omega arith;
-      formed = ap (are_well_formed 0) left ∙ sym (are_well_formed-option now at size e two inside other) ∙ s.formed;
+      formed = ap are_well_formed left ∙ sym (formed-option now at size e two inside other) ∙ s.formed;
       front = s.front ∙ ap (λ xs. take at now ++ xs) (cleaned_from-drop syn s.before now at size e two inside other keep) ∙ sym (append_assoc (take at now) (replicate size 1) _) ∙ (λ i. sym done i ++ cleaned_from syn s.before true 0 (sym left i));
       untouched = left ∙ passed at size old now s.untouched;
       same = (λ no. cc, λ same. let one = blanked-first now new at size written two inside in let first = same-first old now at s.untouched in let there = ap (λ xs. get_or xs at 0) same in absurd (omega (arith, one, first, there)));

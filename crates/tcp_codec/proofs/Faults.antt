@@ -16,7 +16,7 @@ area_is m header e some =
     sym (drop-take 20 (header - 20) m) ∙ ap (λ n. drop 20 (take n m)) sum
 
 -- with a whole header, a sum that is let through and legal flags, the options decide
-pub fault_of-options : (rule : SumRule) (pseudo : ℕ) (m : List ℕ) (formed : Bool) → 20 ≤ length m → 20 ≤ tcp.header_length m → tcp.header_length m ≤ length m → (is_judged rule && tcp.has_wrong_sum pseudo m) ≡ false → tcp.are_legal (tcp.flags m) ≡ true → are_well_formed 0 (tcp.options m) ≡ formed → fault_of rule pseudo m ≡ (if not formed then Some Options else None)
+pub fault_of-options : (rule : SumRule) (pseudo : ℕ) (m : List ℕ) (formed : Bool) → 20 ≤ length m → 20 ≤ tcp.header_length m → tcp.header_length m ≤ length m → (is_judged rule && tcp.has_wrong_sum pseudo m) ≡ false → tcp.are_legal (tcp.flags m) ≡ true → are_well_formed (tcp.options m) ≡ formed → fault_of rule pseudo m ≡ (if not formed then Some Options else None)
 fault_of-options rule pseudo m formed whole some inside judged legal e =
     let short : nat_lt (length m) 20 ≡ false = grind (arith, nat_tests) in
     let header : (nat_lt (tcp.header_length m) 20 || nat_lt (length m) (tcp.header_length m)) ≡ false = grind (arith, nat_tests) in
@@ -24,12 +24,12 @@ fault_of-options rule pseudo m formed whole some inside judged legal e =
     rw (short, header, judged, flags, e) refl
 
 -- the same of the fields as they were read
-pub parsed-options : (rule : SumRule) (pseudo : ℕ) (m : List ℕ) (head : Tcp) (formed : Bool) → head ≡ fields_of pseudo m → 20 ≤ length m → 20 ≤ head.header → head.header ≤ length m → (is_judged rule && not head.sum_right) ≡ false → tcp.are_legal head.flags.0 ≡ true → are_well_formed 0 (take (head.header - 20) (drop 20 m)) ≡ formed → parsed rule pseudo m ≡ (if formed then Ok head else Err Options)
+pub parsed-options : (rule : SumRule) (pseudo : ℕ) (m : List ℕ) (head : Tcp) (formed : Bool) → head ≡ fields_of pseudo m → 20 ≤ length m → 20 ≤ head.header → head.header ≤ length m → (is_judged rule && not head.sum_right) ≡ false → tcp.are_legal head.flags.0 ≡ true → are_well_formed (take (head.header - 20) (drop 20 m)) ≡ formed → parsed rule pseudo m ≡ (if formed then Ok head else Err Options)
 parsed-options rule pseudo m head formed e whole some inside judged legal area =
     let header : head.header ≡ tcp.header_length m = ap (λ h. h.header) e in
     let sum = ap (λ (h : Tcp). is_judged rule && not h.sum_right) (sym e) ∙ judged in
     let flags = ap (λ (h : Tcp). tcp.are_legal h.flags.0) (sym e) ∙ legal in
-    let options = ap (are_well_formed 0) (sym (area_is m head.header header some)) ∙ area in
+    let options = ap are_well_formed (sym (area_is m head.header header some)) ∙ area in
     let fault = fault_of-options rule pseudo m formed whole (omega arith) (omega arith) sum flags options in
     ap (result_of (fields_of pseudo m)) fault ∙ ap (λ h. result_of h (if not formed then Some Options else None)) (sym e) ∙ by_area head formed
   where

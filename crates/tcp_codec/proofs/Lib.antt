@@ -1,5 +1,6 @@
 pub mod Faults
 pub mod Walks
+pub mod CleanedWalk
 pub mod Cleanings
 pub mod Cleaned
 pub mod Written

@@ -77,7 +77,7 @@ read_back s fits = record {
       let m = segment_octets s in
       let header : tcp.header_length m ≡ 20 + length s.options = header-words (length s.options) fits.words fits.room in
       let count : length m ≡ 20 + length s.options + length s.octets = length-octets_with s (checksum_of s) in
-      let none = fault_of-options rule (pseudo_of s) m true (omega arith) (omega arith) (omega arith) (let_through rule (ap not (sum-written s))) legal (ap (are_well_formed 0) (options-written s (checksum_of s) fits) ∙ formed) in
+      let none = fault_of-options rule (pseudo_of s) m true (omega arith) (omega arith) (omega arith) (let_through rule (ap not (sum-written s))) legal (ap are_well_formed (options-written s (checksum_of s) fits) ∙ formed) in
       (λ i. result_of (fields-written s fits i) (none i));
 }
   where

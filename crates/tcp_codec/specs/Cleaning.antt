@@ -1,31 +1,22 @@
 -- What is kept in mind while options are cleaned, and what cleaning leaves of an area (this project's profile).
-use Rattle.std.specs.Prelude.{◌≡◌, ℕ, zero, suc, ◌-◌, ◌<◌, ◌≤◌, ◌⊎◌, ◌==◌, Bool, true, false, List, [], ◌∷◌, length, slice_index, slice_index_or}
+use Rattle.std.specs.Prelude.{◌≡◌, ℕ, ◌<◌, ◌≤◌, ◌⊎◌, ◌==◌, ◌&&◌, not, Bool, true, false, List, length, slice_index, slice_index_or}
 use Rattle.std.specs.List.{list_any}
-use Rattle.wire_base.specs.Options.{are_well_formed, cleaned}
+use Rattle.wire_base.specs.Options.{are_well_formed, may_be_kept, cleaned, scale_of, end_of}
 use Rattle.tcp_codec.specs.declared.cleaning.Kept.{Kept}
+
+-- an option of this kind and length is kept after options of these kinds were: it may be, and none of its kind was
+abbrev pub is_kept_after : (syn : Bool) (before : List ℕ) (kind size : ℕ) → Bool
+is_kept_after syn before kind size = may_be_kept syn kind size && not (list_any (λ other. other == kind) before)
 
 -- of these kinds one was kept, and of no other kind below 9
 abbrev pub StandsFor : Kept → (before : List ℕ) → Type 0
 StandsFor kept before = (kind : ℕ) → kind < 9 → slice_index_or kept.0 kind false ≡ list_any (λ other. other == kind) before
 
--- the place of the end option, or the area's length where none stands; it reads the octets that still belong to the option before
-abbrev pub end_from : ℕ → List ℕ → ℕ
-end_from left [] = 0
-end_from (suc left) (x ∷ octets) = suc (end_from left octets)
-end_from zero (kind ∷ octets) =
-    elim (kind == 0) [
-      | true ↦ 0
-      | false ↦ elim (kind == 1) [
-        | true ↦ suc (end_from 0 octets)
-        | false ↦ suc (end_from (slice_index octets 0 - 1) octets)
-      ]
-    ]
-
 -- an area that cleaning leaves of another: the octets before the end option stay or are no-operations, all from there on are 0
 pub record IsCleaned (area new : List ℕ) : Type 0 where
   pub size : length new ≡ length area
-  pub options : (place : ℕ) → place < end_from 0 area → (slice_index new place ≡ slice_index area place) ⊎ (slice_index new place ≡ 1)
-  pub behind : (place : ℕ) → end_from 0 area ≤ place → slice_index new place ≡ 0
+  pub options : (place : ℕ) → place < end_of area → (slice_index new place ≡ slice_index area place) ⊎ (slice_index new place ≡ 1)
+  pub behind : (place : ℕ) → end_of area ≤ place → slice_index new place ≡ 0
 
 -- cleaning leaves such an area
 abbrev pub CleansOctets : Type 0
@@ -37,4 +28,8 @@ CleansOnce = (syn : Bool) (area : List ℕ) → cleaned syn (cleaned syn area) �
 
 -- options that are well formed still are when they are cleaned
 abbrev pub StaysWellFormed : Type 0
-StaysWellFormed = (syn : Bool) (area : List ℕ) → are_well_formed 0 area ≡ true → are_well_formed 0 (cleaned syn area) ≡ true
+StaysWellFormed = (syn : Bool) (area : List ℕ) → are_well_formed area ≡ true → are_well_formed (cleaned syn area) ≡ true
+
+-- the window scale of a SYN stays when its options are cleaned
+abbrev pub KeepsScale : Type 0
+KeepsScale = (area : List ℕ) → scale_of (cleaned true area) ≡ scale_of area

@@ -88,7 +88,7 @@ pub record IsReadBack (s : Segment) : Type 0 where
   pub header : fields_of (pseudo_of s) (segment_octets s) ≡ header_of s
   pub options : tcp.options (segment_octets s) ≡ s.options
   pub octets : tcp.payload (segment_octets s) ≡ s.octets
-  pub parsed : are_legal s.flags ≡ true → are_well_formed 0 s.options ≡ true → (rule : SumRule) → parsed rule (pseudo_of s) (segment_octets s) ≡ Ok (header_of s)
+  pub parsed : are_legal s.flags ≡ true → are_well_formed s.options ≡ true → (rule : SumRule) → parsed rule (pseudo_of s) (segment_octets s) ≡ Ok (header_of s)
 
 abbrev pub AreReadBack : Type 0
 AreReadBack = (s : Segment) → Fits s → IsReadBack s

@@ -1,8 +1,8 @@
 //! The options of a TCP header, cleaned.
 ghost use Rattle.std.specs.Prelude.{◌≡◌, ◌↔◌, ◌<◌, ◌==◌, ℕ, List, IsFalse, IsTrue, true, not, length, replicate, if◌then◌else◌, ◌∷◌};
 ghost use Rattle.std.specs.List.{list_any};
-ghost use Rattle.wire_base.specs.Options.{are_well_formed, cleaned, is_kept, may_be_kept};
-ghost use Rattle.tcp_codec.specs.Cleaning.{StandsFor};
+ghost use Rattle.wire_base.specs.Options.{are_well_formed, cleaned, may_be_kept};
+ghost use Rattle.tcp_codec.specs.Cleaning.{StandsFor, is_kept_after};
 
 use crate::option_area::{END, NO_OPERATION, WINDOW_SCALE, size_at};
 
@@ -26,7 +26,7 @@ struct Kept([bool; KINDS]);
 impl Kept {
     // Whether an option of this kind and length is kept; it is the first of its kind that is, then.
     fn keeps(&mut self, syn: bool, kind: u8, size: usize) -> bool
-        ensures exact { (before : List ℕ) → StandsFor self.old before → result ≡ is_kept syn before kind size }
+        ensures exact { (before : List ℕ) → StandsFor self.old before → result ≡ is_kept_after syn before kind size }
         ensures stands { (before : List ℕ) → StandsFor self.old before → StandsFor self.new (if result then kind ∷ before else before) }
     {
         if !may_be_kept(syn, kind, size) {
@@ -59,7 +59,7 @@ fn may_be_kept(syn: bool, kind: u8, size: usize) -> bool
 /// blocks and timestamps, each with its length, and the first of its kind alone (this project's profile). Answers whether
 /// an octet changed.
 pub fn clean_options(options: &mut [u8], syn: bool) -> bool
-    requires { are_well_formed 0 options.old ≡ true }
+    requires { are_well_formed options.old ≡ true }
     ensures exact { options.new ≡ cleaned syn options.old }
     ensures changed { IsFalse result ↔ (options.new ≡ options.old) }
 {

@@ -77,7 +77,7 @@ pub fn parse(bytes: &[u8], pseudo: u32, rule: SumRule) -> Result<Tcp, TcpFault>
     ensures header { IfOk result (λ head. (20 ≤ head.header) × (head.header ≤ 60)) }
     ensures inside { IfOk result (λ head. head.header ≤ length bytes.now) }
     ensures flags { IfOk result (λ head. tcp.are_legal head.flags.0 ≡ true) }
-    ensures options { OnOk result (are_well_formed 0 (tcp.options bytes.now) ≡ true) }
+    ensures options { OnOk result (are_well_formed (tcp.options bytes.now) ≡ true) }
     ensures area { IfOk result (λ head. slice_range bytes.now 20 head.header ≡ tcp.options bytes.now) }
 {
     if bytes.len() < HEADER {

@@ -1,5 +1,5 @@
 //! Laws over the definitions alone.
-ghost use Rattle.tcp_codec.specs.Cleaning.{CleansOctets, CleansOnce, StaysWellFormed};
+ghost use Rattle.tcp_codec.specs.Cleaning.{CleansOctets, CleansOnce, KeepsScale, StaysWellFormed};
 ghost use Rattle.tcp_codec.specs.Mending.{MendedSayTheSame};
 ghost use Rattle.tcp_codec.specs.Write.{AreReadBack};
 
@@ -9,6 +9,11 @@ pub fn options_are_cleaned()
     ensures once { CleansOnce }
     ensures formed { StaysWellFormed }
     ensures octets { CleansOctets }
+{}
+
+/// A SYN with cleaned options has the window scale that it had.
+pub fn cleaned_keep_the_scale()
+    ensures { KeepsScale }
 {}
 
 /// A segment that was written is read as the parts that it was written from.

@@ -18,7 +18,7 @@ const LARGEST_SHIFT: u8 = 14;
 
 /// Whether each option before the end option or the area's end has a length of at least 2 and lies inside the area.
 pub fn are_well_formed(area: &[u8]) -> bool
-    ensures { result ≡ spec.are_well_formed 0 area.now }
+    ensures { result ≡ spec.are_well_formed area.now }
 {
     let mut at = 0;
     while at < area.len() && area[at] != END {
@@ -40,7 +40,7 @@ pub fn are_well_formed(area: &[u8]) -> bool
 
 /// The length in octets of the option at this place, which is neither the end option nor a no-operation.
 pub fn size_at(area: &[u8], at: usize) -> usize
-    requires formed { spec.are_well_formed 0 (drop at area.now) ≡ true }
+    requires formed { spec.are_well_formed (drop at area.now) ≡ true }
     requires begins { at < length area.now }
     requires sized { 2 ≤ slice_index area.now at }
     ensures exact { result ≡ slice_index area.now (at + 1) }
@@ -52,7 +52,7 @@ pub fn size_at(area: &[u8], at: usize) -> usize
 
 /// The shift, at most 14, of the first window scale option of length 3 before the end option (RFC 7323 section 2).
 pub fn scale_of(options: &[u8]) -> Option<u8>
-    requires { spec.are_well_formed 0 options.now ≡ true }
+    requires { spec.are_well_formed options.now ≡ true }
     ensures { result ≡ spec.scale_of options.now }
 {
     let mut at = 0;

@@ -34,7 +34,7 @@ pub record IsPlainSegment (d : Datagram) (m : List ℕ) : Type 0 where
   pub reserved : tcp.reserved m ≡ 0
   pub urgent : tcp.has_urg (tcp.flags m) ≡ false
   pub pointer : tcp.urgent_pointer m ≡ 0
-  pub options : are_well_formed 0 (tcp.options m) ≡ true
+  pub options : are_well_formed (tcp.options m) ≡ true
   pub kept : cleaned (tcp.has_syn (tcp.flags m)) (tcp.options m) ≡ tcp.options m
   pub bare : (tcp.has_syn (tcp.flags m) || tcp.has_rst (tcp.flags m)) ≡ true → tcp.payload m ≡ []
 
@@ -50,7 +50,7 @@ tcp_plain settings d p i six s =
       reserved = ap tcp.reserved i.carries ∙ s.reserved;
       urgent = ap (λ m. tcp.has_urg (tcp.flags m)) i.carries ∙ s.urgent;
       pointer = ap tcp.urgent_pointer i.carries ∙ s.pointer;
-      options = ap (λ m. are_well_formed 0 (tcp.options m)) i.carries ∙ s.options;
+      options = ap (λ m. are_well_formed (tcp.options m)) i.carries ∙ s.options;
       kept = subst (λ m. cleaned (tcp.has_syn (tcp.flags m)) (tcp.options m) ≡ tcp.options m) back s.kept;
       bare = λ marked. ap tcp.payload i.carries ∙ s.bare (ap (λ m. tcp.has_syn (tcp.flags m) || tcp.has_rst (tcp.flags m)) back ∙ marked);
     }
@@ -155,7 +155,7 @@ written_plain back once stays settings d sequence flags octets s fits legal syn 
       reserved = ap (λ (h : Tcp). h.reserved) it.header;
       urgent = ap tcp.has_urg sent ∙ no_urgent flags;
       pointer = ap (λ (h : Tcp). h.urgent) it.header;
-      options = ap (are_well_formed 0) it.options ∙ stays (tcp.has_syn (tcp.flags d.octets)) (tcp.options d.octets) s.formed;
+      options = ap are_well_formed it.options ∙ stays (tcp.has_syn (tcp.flags d.octets)) (tcp.options d.octets) s.formed;
       kept = (λ k. cleaned ((syn_sent ∙ syn) k) (it.options k)) ∙ (once (tcp.has_syn (tcp.flags d.octets)) (tcp.options d.octets) ∙ sym it.options);
       bare = λ marked. it.octets ∙ bare (ap₂ (λ a b. a || b) (sym syn_sent) (sym rst_sent) ∙ marked);
     }

@@ -14,7 +14,7 @@ pub record IsHead (octets : List ℕ) (head : Tcp) : Type 0 where
   pub most : head.header ≤ 60
   pub inside : head.header ≤ length octets
   pub legal : tcp.are_legal head.flags.0 ≡ true
-  pub formed : are_well_formed 0 (tcp.options octets) ≡ true
+  pub formed : are_well_formed (tcp.options octets) ≡ true
   pub area : slice_range octets 20 head.header ≡ tcp.options octets
 
 -- the addresses have 32 bits, and each octet has 8

@@ -26,7 +26,7 @@ pub record IsSegment (settings : PlainSettings) (d : Datagram) : Type 0 where
   pub least : 20 ≤ tcp.header_length d.octets
   pub inside : tcp.header_length d.octets ≤ length d.octets
   pub legal : tcp.are_legal (tcp.flags d.octets) ≡ true
-  pub formed : are_well_formed 0 (tcp.options d.octets) ≡ true
+  pub formed : are_well_formed (tcp.options d.octets) ≡ true
   pub sum : goes_in d.side ≡ true → sum_is_right d.octets (pseudo_of d) ≡ true
 
 -- the datagram of a call is one

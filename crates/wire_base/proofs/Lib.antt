@@ -1,5 +1,6 @@
 pub mod Mending
 pub mod OptionWalk
+pub mod OptionLists
 pub mod Places
 pub mod Separators
 pub mod Totals

@@ -4,6 +4,7 @@ pub mod Frames
 pub mod Prefixes
 pub mod Ipv4
 pub mod Options
+pub mod OptionLaws
 pub mod Udp
 pub mod Icmp
 pub mod Tcp

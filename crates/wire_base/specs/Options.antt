@@ -1,60 +1,75 @@
 -- Lists of options, which IP and TCP spell alike (RFC 791 section 3.1, RFC 9293 section 3.1): 0 ends the list, 1 is one octet that does nothing,
--- and every other option has a length octet that counts the whole option. Each recursion goes over the octets once, with the number of octets
--- that still belong to the option before.
-use Rattle.std.specs.Prelude.{ℕ, zero, suc, ◌-◌, ◌==◌, ◌&&◌, ◌||◌, nat_le, not, min, Bool, true, false, List, [], ◌∷◌, length, replicate, slice_index, Option, Some, None, if◌then◌else◌}
-use Rattle.std.specs.List.{list_any}
+-- and every other option has a length octet that counts the whole option.
+use Rattle.std.specs.Prelude.{ℕ, zero, suc, ◌-◌, ◌==◌, ◌&&◌, ◌||◌, nat_le, nat_lt, not, min, Bool, true, false, List, [], ◌∷◌, ◌++◌, length, take, replicate, slice_index, Option, option_map, if◌then◌else◌}
+use Rattle.std.specs.List.{find, flat_map, list_all, list_any}
+
+-- an option: its kind, its octets as far as they stand in the area, beginning with the kind, and the place in the area at which it begins
+pub record Listed : Type 0 where
+  pub kind : ℕ
+  pub octets : List ℕ
+  pub place : ℕ
+
+-- the options of an area in their order, and the octets from the end option on
+pub record OptionList : Type 0 where
+  pub options : List Listed
+  pub behind : List ℕ
+
+-- a list with one more option at its front
+abbrev pub with_first : Listed → OptionList → OptionList
+with_first option list = record { options = option ∷ list.options; behind = list.behind }
+
+-- how many of the octets after its kind belong to an option: none to a no-operation, and else one fewer than its length octet says, which is the first of them
+abbrev pub more_octets : (kind : ℕ) → List ℕ → ℕ
+more_octets kind octets = if kind == 1 then 0 else slice_index octets 0 - 1
+
+-- The options from a place on. It goes over the octets once, with the number of octets that still belong to the option before.
+abbrev pub options_from : (place left : ℕ) → List ℕ → OptionList
+options_from place left [] = record { options = []; behind = [] }
+options_from place (suc left) (x ∷ octets) = options_from (suc place) left octets
+options_from place zero (kind ∷ octets) =
+    elim (kind == 0) [
+      | true ↦ record { options = []; behind = kind ∷ octets }
+      | false ↦ with_first (record { kind = kind; octets = kind ∷ take (more_octets kind octets) octets; place = place }) (options_from (suc place) (more_octets kind octets) octets)
+    ]
+
+-- the options of an area
+abbrev pub options_of : List ℕ → OptionList
+options_of area = options_from 0 0 area
+
+-- the place of the end option, or the area's length where none stands
+abbrev pub end_of : List ℕ → ℕ
+end_of area = length area - length (options_of area).behind
+
+-- what an option's length octet says, which is the second of its octets; 0 where it says less than 2 or does not stand
+abbrev pub size_of : Listed → ℕ
+size_of option = slice_index option.octets 1
+
+-- a no-operation, or an option whose length octet says at least 2 and as many octets as stand
+abbrev pub is_whole : Listed → Bool
+is_whole option = (option.kind == 1) || (nat_le 2 (size_of option) && (length option.octets == size_of option))
 
 -- before the end option or the end of the area every option has a length octet of at least 2 and lies inside
-abbrev pub are_well_formed : ℕ → List ℕ → Bool
-are_well_formed left [] = left == 0
-are_well_formed (suc left) (x ∷ octets) = are_well_formed left octets
-are_well_formed zero (kind ∷ octets) =
-    elim (kind == 0) [
-      | true ↦ true
-      | false ↦ elim (kind == 1) [
-        | true ↦ are_well_formed 0 octets
-        | false ↦ elim (nat_le 1 (length octets) && nat_le 2 (slice_index octets 0)) [
-          | true ↦ are_well_formed (slice_index octets 0 - 1) octets
-          | false ↦ false
-        ]
-      ]
-    ]
-
--- an option other than a no-operation that passes the test, which reads its kind and the octets after it, stands before the end option
-abbrev pub has_option : (ℕ → List ℕ → Bool) → ℕ → List ℕ → Bool
-has_option test left [] = false
-has_option test (suc left) (x ∷ octets) = has_option test left octets
-has_option test zero (kind ∷ octets) =
-    elim (kind == 0) [
-      | true ↦ false
-      | false ↦ elim (kind == 1) [
-        | true ↦ has_option test 0 octets
-        | false ↦ test kind octets || has_option test (slice_index octets 0 - 1) octets
-      ]
-    ]
+abbrev pub are_well_formed : List ℕ → Bool
+are_well_formed area = list_all is_whole (options_of area).options
 
 -- a source route, loose or strict (RFC 791 section 3.1)
+abbrev pub is_route : (kind : ℕ) → Bool
+is_route kind = (kind == 131) || (kind == 137)
+
+-- a source route stands before the end option
 abbrev pub has_route : List ℕ → Bool
-has_route area = has_option (λ kind octets. (kind == 131) || (kind == 137)) 0 area
+has_route area = list_any (λ option. is_route option.kind) (options_of area).options
 
--- the shift, at most 14, of the first window scale option of length 3 before the end option (RFC 7323 section 2)
-abbrev pub scale_from : ℕ → List ℕ → Option ℕ
-scale_from left [] = None
-scale_from (suc left) (x ∷ octets) = scale_from left octets
-scale_from zero (kind ∷ octets) =
-    elim (kind == 0) [
-      | true ↦ None
-      | false ↦ elim (kind == 1) [
-        | true ↦ scale_from 0 octets
-        | false ↦ elim ((kind == 3) && (slice_index octets 0 == 3)) [
-          | true ↦ Some (min 14 (slice_index octets 1))
-          | false ↦ scale_from (slice_index octets 0 - 1) octets
-        ]
-      ]
-    ]
+-- a window scale option of length 3, and its shift, of which at most 14 counts (RFC 7323 section 2)
+abbrev pub is_scale : Listed → Bool
+is_scale option = (option.kind == 3) && (size_of option == 3)
 
+abbrev pub shift_of : Listed → ℕ
+shift_of option = min 14 (slice_index option.octets 2)
+
+-- the shift of the first window scale option before the end option
 abbrev pub scale_of : List ℕ → Option ℕ
-scale_of area = scale_from 0 area
+scale_of area = option_map shift_of (find is_scale (options_of area).options)
 
 -- a TCP option of this kind and length may be kept: on a SYN maximum segment size, window scale and SACK permitted; SACK of one to four blocks; timestamps
 -- (RFC 9293 section 3.2, RFC 7323, RFC 2018; which are kept is this project's profile)
@@ -64,26 +79,21 @@ may_be_kept syn kind size =
     || ((kind == 5) && ((size == 10) || (size == 18) || (size == 26) || (size == 34)))
     || ((kind == 8) && (size == 10))
 
--- the option is kept: it may be, and none of its kind was kept before
-abbrev pub is_kept : (syn : Bool) (before : List ℕ) (kind size : ℕ) → Bool
-is_kept syn before kind size = may_be_kept syn kind size && not (list_any (λ other. other == kind) before)
+-- an option that may be kept
+abbrev pub may_stay : (syn : Bool) → Listed → Bool
+may_stay syn option = may_be_kept syn option.kind (size_of option)
 
--- The cleaned area: the octets of an option that is not kept are 1, those after the end option are 0.
--- It reads the kinds kept before, whether the option before is kept, and the octets that still belong to it.
-abbrev pub cleaned_from : (syn : Bool) (before : List ℕ) (keep : Bool) → ℕ → List ℕ → List ℕ
-cleaned_from syn before keep left [] = []
-cleaned_from syn before keep (suc left) (x ∷ octets) = (if keep then x else 1) ∷ cleaned_from syn before keep left octets
-cleaned_from syn before keep zero (kind ∷ octets) =
-    elim (kind == 0) [
-      | true ↦ 0 ∷ replicate (length octets) 0
-      | false ↦ elim (kind == 1) [
-        | true ↦ 1 ∷ cleaned_from syn before true 0 octets
-        | false ↦ elim (is_kept syn before kind (slice_index octets 0)) [
-          | true ↦ kind ∷ cleaned_from syn (kind ∷ before) true (slice_index octets 0 - 1) octets
-          | false ↦ 1 ∷ cleaned_from syn before false (slice_index octets 0 - 1) octets
-        ]
-      ]
-    ]
+-- an option of these is kept: it may be, and none of its kind that may be stands before it
+abbrev pub is_kept : (syn : Bool) → List Listed → Listed → Bool
+is_kept syn options option = may_stay syn option && not (list_any (λ other. nat_lt other.place option.place && ((other.kind == option.kind) && may_stay syn other)) options)
+
+-- what cleaning leaves of an option of these: its octets where it is kept, else a no-operation for each
+abbrev pub cleaned_option : (syn : Bool) → List Listed → Listed → List ℕ
+cleaned_option syn options option = if is_kept syn options option then option.octets else replicate (length option.octets) 1
+
+-- the cleaned area: what cleaning leaves of each option, and 0 for each octet from the end option on
+abbrev pub cleaned_list : (syn : Bool) → OptionList → List ℕ
+cleaned_list syn list = flat_map (cleaned_option syn list.options) list.options ++ replicate (length list.behind) 0
 
 abbrev pub cleaned : (syn : Bool) → List ℕ → List ℕ
-cleaned syn area = cleaned_from syn [] true 0 area
+cleaned syn area = cleaned_list syn (options_of area)

@@ -21,7 +21,7 @@ pub record IsPlainTcp (p : List ℕ) : Type 0 where
   pub reserved : tcp.reserved (ip.payload p) ≡ 0
   pub urgent : tcp.has_urg (tcp.flags (ip.payload p)) ≡ false
   pub pointer : tcp.urgent_pointer (ip.payload p) ≡ 0
-  pub options : are_well_formed 0 (tcp.options (ip.payload p)) ≡ true
+  pub options : are_well_formed (tcp.options (ip.payload p)) ≡ true
   pub kept : cleaned (tcp.has_syn (tcp.flags (ip.payload p))) (tcp.options (ip.payload p)) ≡ tcp.options (ip.payload p)
   pub bare : (tcp.has_syn (tcp.flags (ip.payload p)) || tcp.has_rst (tcp.flags (ip.payload p))) ≡ true → tcp.payload (ip.payload p) ≡ []
 

@@ -92,4 +92,4 @@ has_illegal_flags m = not (are_legal (flags m))
 
 -- before the end option or the end of the area an option has no length octet, a length below 2, or reaches past the area
 abbrev pub has_bad_options : List ℕ → Bool
-has_bad_options m = not (are_well_formed 0 (options m))
+has_bad_options m = not (are_well_formed (options m))

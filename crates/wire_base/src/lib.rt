@@ -4,6 +4,7 @@
 pub mod address;
 pub mod flags;
 pub mod frame;
+pub mod laws;
 pub mod number;
 pub mod prefix;
 pub mod sums;

@@ -8,7 +8,7 @@ use Rattle.ip_rules.proofs.rows.judge_ip.Goals as goal
 pub returns-in-Row : goal.returns-in-Row
 returns-in-Row c = (
   dropped_early (plain_settings c.args.settings.now) c.args.link (shown c.args.input.now) c.in-Row.rule c.in-Row.ensures,
-  sym (ap (λ tells. if tells then side_in (plain_settings c.args.settings.now) (packet_in c.args.link c.args.input.now.bytes.now) else None)
+  sym (ap (λ tells. if tells then side_in (plain_settings c.args.settings.now) c.args.input.now.side (packet_in c.args.link c.args.input.now.bytes.now) else None)
       (link_is_early c.args.link (shown c.args.input.now) c.in-Row.rule c.in-Row.ensures)),
 )
 

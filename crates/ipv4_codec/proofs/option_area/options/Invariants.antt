@@ -1,12 +1,13 @@
 use Rattle.std.proofs.Common.{◌≡◌, ◌-◌, ◌||◌, length, drop}
-use Rattle.wire_base.specs.Options.{are_well_formed, has_route}
+use Rattle.wire_base.specs.Options.{are_well_formed, has_route, is_route}
+use Rattle.wire_base.proofs.OptionWalk.{formed_from, has_from}
 use Rattle.ipv4_codec.proofs.option_area.options.Given as goal
 
 -- what is left of the area is as well formed as the whole, and a route stands in the whole where one was seen or stands in what is left
 abbrev pub invariant-loop-at : goal.invariant-loop-at
 invariant-loop-at l = record {
-  formed : are_well_formed 0 l.bytes ≡ are_well_formed 0 (drop l.at l.bytes);
-  route : has_route l.bytes ≡ (l.route || has_route (drop l.at l.bytes));
+  formed : are_well_formed l.bytes ≡ formed_from 0 (drop l.at l.bytes);
+  route : has_route l.bytes ≡ (l.route || has_from is_route 0 (drop l.at l.bytes));
 }
 
 abbrev pub decreases-loop-at : goal.decreases-loop-at

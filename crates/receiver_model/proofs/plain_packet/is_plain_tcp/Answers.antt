@@ -7,7 +7,7 @@ use Rattle.receiver_model.proofs.plain_packet.is_plain_tcp.Goals as goal
 pub is_clean-clean-requires-clause-formed : goal.is_clean-clean-requires-clause-formed
 is_clean-clean-requires-clause-formed c =
     let m = c.args.message.now in
-    ap (are_well_formed 0) (area_is m _ (tcp-header m _ _ (sym c.in-Ok.is ∙ c.parse.ensures.exact)) c.in-Ok.ensures.header.0) ∙ c.in-Ok.ensures.options
+    ap are_well_formed (area_is m _ (tcp-header m _ _ (sym c.in-Ok.is ∙ c.parse.ensures.exact)) c.in-Ok.ensures.header.0) ∙ c.in-Ok.ensures.options
 
 pub returns-then-clean : goal.returns-then-clean
 returns-then-clean c =

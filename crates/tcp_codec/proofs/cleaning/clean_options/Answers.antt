@@ -1,8 +1,13 @@
-use Rattle.std.proofs.Common.{rules, ◌≡◌, ◌≤◌, ◌<◌, ◌+◌, ◌-◌, ◌∷◌, Bool, length, get_or, take, drop, replicate, if◌then◌else◌, sym, subst, ◌∙◌, arith}
+use Rattle.std.proofs.Common.{rules, ◌≡◌, ◌≤◌, ◌<◌, ◌+◌, ◌-◌, [], ◌∷◌, Bool, length, get_or, take, drop, replicate, if◌then◌else◌, sym, subst, ◌∙◌, arith}
 use Rattle.tcp_codec.specs.Cleaning.{StandsFor}
-use Rattle.tcp_codec.proofs.Cleanings.{SoFar-none, SoFar-kept, SoFar-blanked, SoFar-end, SoFar-changed, blanked, filled}
+use Rattle.tcp_codec.proofs.Cleanings.{SoFar-start, SoFar-none, SoFar-kept, SoFar-blanked, SoFar-end, SoFar-changed, blanked, filled}
 use Rattle.tcp_codec.proofs.cleaning.clean_options.Goals as goal
 use Rattle.tcp_codec.proofs.cleaning.clean_options.Goals.{then-not-keeps, else-not-keeps, then-loop-at-test+else-options-at-ne-END, else-loop-at-test}
+
+pub loop-at-init : goal.loop-at-init
+loop-at-init c =
+    let none : StandsFor c.default-kept.result [] = search rules in
+    SoFar-start c.args.syn c.args.options.now c.default-kept.result none c.requires
 
 pub loop-at-preserved-then-options-at-eq-NO_OPERATION : goal.loop-at-preserved-then-options-at-eq-NO_OPERATION
 loop-at-preserved-then-options-at-eq-NO_OPERATION c = SoFar-none _ _ _ _ _ _ c.loop-at.invariant c.loop-at-test.true c.if-options-at-eq-NO_OPERATION.true

@@ -31,7 +31,7 @@ returns-clause-exact c =
 pub returns-clause-options : goal.returns-clause-options
 returns-clause-options c =
     let header : c.fields-head.result.header ≡ tcp.header_length c.args.bytes.now = ap (λ h. h.header) c.fields-head.ensures in
-    ap (are_well_formed 0) (sym (area_is c.args.bytes.now _ header c.if-head-lt-HEADER.false)) ∙ sym c.are_well_formed.ensures ∙ c.if-not-are_well_formed.false
+    ap are_well_formed (sym (area_is c.args.bytes.now _ header c.if-head-lt-HEADER.false)) ∙ sym c.are_well_formed.ensures ∙ c.if-not-are_well_formed.false
 
 pub returns-clause-area : goal.returns-clause-area
 returns-clause-area c =

@@ -1,10 +1,11 @@
 use Rattle.std.proofs.Common.{◌≡◌, ◌-◌, length, drop}
 use Rattle.wire_base.specs.Options.{are_well_formed}
+use Rattle.wire_base.proofs.OptionWalk.{formed_from}
 use Rattle.tcp_codec.proofs.option_area.are_well_formed.Given as goal
 
 -- what is left of the area is as well formed as the whole
 abbrev pub invariant-loop-at : goal.invariant-loop-at
-invariant-loop-at l = are_well_formed 0 l.area ≡ are_well_formed 0 (drop l.at l.area)
+invariant-loop-at l = are_well_formed l.area ≡ formed_from 0 (drop l.at l.area)
 
 abbrev pub decreases-loop-at : goal.decreases-loop-at
 decreases-loop-at l = length l.area - l.at

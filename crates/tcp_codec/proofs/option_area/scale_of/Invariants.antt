@@ -1,11 +1,12 @@
 use Rattle.std.proofs.Common.{◌≡◌, ◌-◌, true, length, drop}
-use Rattle.wire_base.specs.Options.{are_well_formed, scale_of, scale_from}
+use Rattle.wire_base.specs.Options.{are_well_formed, scale_of}
+use Rattle.wire_base.proofs.OptionWalk.{scale_from}
 use Rattle.tcp_codec.proofs.option_area.scale_of.Given as goal
 
 -- what is left of the area is well formed, and has the scale of the whole
 abbrev pub invariant-loop-at : goal.invariant-loop-at
 invariant-loop-at l = record {
-  formed : are_well_formed 0 (drop l.at l.options) ≡ true;
+  formed : are_well_formed (drop l.at l.options) ≡ true;
   scale : scale_of l.options ≡ scale_from 0 (drop l.at l.options);
 }
 

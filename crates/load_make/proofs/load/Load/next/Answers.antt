@@ -1,4 +1,4 @@
-use Rattle.std.proofs.Common.{◌≡◌, ◌*◌, ◌/◌, ◌%◌, ◌<◌, Some, sym, ap, ◌∙◌, get_or, length, take, length-take, arith}
+use Rattle.std.proofs.Common.{◌≡◌, ◌*◌, ◌/◌, ◌%◌, ◌<◌, Some, None, sym, ap, ◌∙◌, get_or, length, take, length-take, arith}
 use Rattle.pcap_file.specs.Reads.{shown}
 use Rattle.load_make.specs.Generated.{record_with}
 use Rattle.load_make.specs.Sequence.{action_of}
@@ -29,7 +29,7 @@ returns-clause-record c =
     let size = c.write_packet-size.result in
     let buf = c.write_packet-size.new.buf in
     let whole : length (take size buf) ≡ size = omega (arith, length-take size buf) in
-    let made : shown c.new.result ≡ record_with i.made (take size buf) = c.new.ensures.fields ∙ ap (λ n. record { seconds = i.made / 1000; fraction = i.made % 1000 * 1000; original = n; octets = take size buf }) (sym whole) in
+    let made : shown c.new.result ≡ record_with i.made (take size buf) = c.new.ensures.fields ∙ ap (λ n. record { seconds = i.made / 1000; fraction = i.made % 1000 * 1000; original = n; side = None; octets = take size buf }) (sym whole) in
     let does : c.next-turn.result.0 ≡ turn_of (action_of c.following-number.result) (get_or i.flows c.flow_of-flow.result New) = c.next-turn.ensures.turn ∙ (λ k. turn_of (c.action_of.ensures k) (get_or i.flows (c.from-index.ensures k) New)) in
     let more : i.made < i.count = omega (arith, c.self.invariant.within, c.if-self.false) in
     let next = next-record i.seed i.count i.made i.number c.following-number.result c.flow_of-flow.result i.flows c.next-turn.result.0 (take size buf) c.self.invariant c.following-number.ensures
