@@ -31,7 +31,7 @@ unfolding octets_of
 length-octets_of values known = length-map-range_with_len (octet_at values known) 0 256
 
 -- a list of 256 places is the packed list if each place is
-octets_by : (values known : List ℕ) (xs : List (Option ℕ)) → length xs ≡ 256 →
+pub octets_by : (values known : List ℕ) (xs : List (Option ℕ)) → length xs ≡ 256 →
     ((i : ℕ) → i < 256 → get_or xs i None ≡ octet_at values known i) → octets_of values known ≡ xs
 unfolding octets_of
 octets_by values known xs long each = sym (fill_by_all (octet_at values known) xs 256 None long each)

@@ -3,9 +3,11 @@ pub mod FreeList
 pub mod GivesBack
 pub mod Laws
 pub mod Links
+pub mod Masks
 pub mod Opening
 pub mod Overwrites
 pub mod Rising
+pub mod Runs
 pub mod Steps
 pub mod Takes
 pub mod Updates

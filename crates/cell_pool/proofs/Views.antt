@@ -4,7 +4,7 @@ use Rattle.std.proofs.lemmas.List.{length-map, get_or-map, get_or_default}
 use Rattle.cell_pool.specs.declared.cells.Cell.{Cell}
 use Rattle.cell_pool.specs.declared.cells.Head.{Head}
 use Rattle.cell_pool.specs.declared.cells.CellId.{CellId}
-use Rattle.cell_pool.specs.Lists.{Lists, Held, IsRising, chain_at, Stands, IsHeld, IsPlace}
+use Rattle.cell_pool.specs.Lists.{Lists, Held, IsRising, chain_at, Stands, IsHeld, IsHeldWith, IsPlace}
 use Rattle.cell_pool.specs.Links.{cell_at, held_at, head_at, blank_cell, blank_head, cells_of, lists_of, owner_of, Leads, IsSound}
 use Rattle.cell_pool.proofs.Links.{FoundAt, found, last_found}
 
@@ -77,3 +77,7 @@ module _ {heads : List Head} {cells : List Cell} {spare : Option CellId} {free :
     -- what was read is the cell of this name
     pub cell_read : IsHeld pool name → {x : Cell} → x ≡ get_or cells name.0 x → x ≡ cell_at cells name.0
     cell_read held read = read ∙ get_or_default cells name.0 _ blank_cell (held_inside held)
+
+-- a cell of which something holds is in a chain
+pub just_held : {pool : Lists} {name : CellId} {P : List (Option ℕ) → Type 0} → IsHeldWith pool name P → IsHeld pool name
+just_held held = record { chain = held.chain; before = held.before; cell = held.cell; after = held.after; stands = held.stands }

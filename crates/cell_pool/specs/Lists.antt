@@ -1,5 +1,5 @@
 -- What contracts see of a pool (this project's profile): per chain a list of cells, and how many cells are free.
-use Rattle.std.specs.Prelude.{◌≡◌, ℕ, ◌+◌, ◌-◌, ◌<◌, List, [], ◌∷◌, ◌++◌, length, Option, Some, None, replicate, slice_index_or, slice_set, min, drop}
+use Rattle.std.specs.Prelude.{◌≡◌, ℕ, ◌+◌, ◌-◌, ◌<◌, List, [], ◌∷◌, ◌++◌, length, map, Option, Some, None, IsSome, replicate, slice_index, slice_index_or, slice_set, min, take, drop}
 use Rattle.cell_pool.specs.declared.cells.CellId.{CellId}
 
 -- A cell of a chain: its name, its block number, and at each of its 256 places an octet or nothing.
@@ -29,6 +29,22 @@ empty_cell id block = record { id = id; block = block; octets = replicate 256 No
 -- The octets without those before this place.
 abbrev pub without_below : ℕ → List (Option ℕ) → List (Option ℕ)
 without_below at octets = replicate (min at (length octets)) None ++ drop at octets
+
+-- The octets with these from this place on, whatever stood there.
+abbrev pub with_run : ℕ → List ℕ → List (Option ℕ) → List (Option ℕ)
+with_run at run octets = take at octets ++ map (λ octet. Some octet) run ++ drop (at + length run) octets
+
+-- None of so many places from this one on has an octet.
+abbrev pub IsBlank : ℕ → ℕ → List (Option ℕ) → Type 0
+IsBlank at len octets = (i : ℕ) → i < len → slice_index_or octets (at + i) None ≡ None
+
+-- Each of so many places from this one on has an octet.
+abbrev pub IsCovered : ℕ → ℕ → List (Option ℕ) → Type 0
+IsCovered at len octets = (i : ℕ) → i < len → IsSome (slice_index_or octets (at + i) None)
+
+-- These octets stand from this place on.
+abbrev pub StandsFrom : ℕ → List ℕ → List (Option ℕ) → Type 0
+StandsFrom at run octets = (i : ℕ) → i < length run → slice_index_or octets (at + i) None ≡ Some (slice_index run i)
 
 -- The name of the first cell.
 abbrev pub first_id : List Held → Option CellId
@@ -102,6 +118,15 @@ pub record IsHeld (pool : Lists) (name : CellId) : Type 0 where
   pub cell : Held
   pub after : List Held
   pub stands : Stands pool chain name before cell after
+
+-- The cell of this name is in a chain, and this holds of its octets.
+pub record IsHeldWith (pool : Lists) (name : CellId) (P : List (Option ℕ) → Type 0) : Type 0 where
+  pub chain : ℕ
+  pub before : List Held
+  pub cell : Held
+  pub after : List Held
+  pub stands : Stands pool chain name before cell after
+  pub holds : P cell.octets
 
 -- Wherever the cell of this name stands, this holds of it and of the cells after it.
 abbrev pub Wherever : Lists → CellId → (Held → List Held → Type 0) → Type 0

@@ -1,6 +1,6 @@
 -- How 256 places, each with an octet or nothing, are packed (this project's profile).
 -- There are 256 values, and four words with a bit for each place.
-use Rattle.std.specs.Prelude.{◌≡◌, ℕ, ◌<◌, nat_lt, ◌/◌, ◌%◌, List, map, Option, Some, None, slice_index, ◌==◌, if◌then◌else◌}
+use Rattle.std.specs.Prelude.{◌≡◌, ℕ, ◌<◌, ◌≤◌, nat_lt, ◌^◌, ◌/◌, ◌%◌, List, map, Option, Some, None, slice_index, ◌==◌, if◌then◌else◌}
 use Rattle.std.specs.Int.{bit_at}
 use Rattle.std.specs.List.{range_with_len}
 
@@ -16,3 +16,20 @@ octets_of values known = map (octet_at values known) (range_with_len 0 256)
 -- This word has no bit before the place, and from it on those of the old one.
 abbrev pub HasBitsFrom : ℕ → ℕ → ℕ → Type 0
 HasBitsFrom place old new = (i : ℕ) → i < 64 → bit_at new i ≡ (if nat_lt i place then 0 else bit_at old i)
+
+-- This word has a bit exactly at the places from `at` up to `end`.
+pub record HasOnesBetween (at end word : ℕ) : Type 0 where
+  pub inside : (i : ℕ) → i < 64 → at ≤ i → i < end → bit_at word i ≡ 1
+  pub before : (i : ℕ) → i < 64 → i < at → bit_at word i ≡ 0
+  pub behind : (i : ℕ) → i < 64 → end ≤ i → bit_at word i ≡ 0
+
+-- The bit of this place in words of 64 places each.
+abbrev pub bit_of : List ℕ → ℕ → ℕ
+bit_of words i = bit_at (slice_index words (i / 64)) (i % 64)
+
+-- These words of 64 bits have a bit exactly at the places from `at` up to `end`.
+pub record IsMask (at end : ℕ) (words : List ℕ) : Type 0 where
+  pub small : (j : ℕ) → j < 4 → slice_index words j < 2 ^ 64
+  pub inside : (i : ℕ) → i < 256 → at ≤ i → i < end → bit_of words i ≡ 1
+  pub before : (i : ℕ) → i < 256 → i < at → bit_of words i ≡ 0
+  pub behind : (i : ℕ) → i < 256 → end ≤ i → bit_of words i ≡ 0

@@ -1,8 +1,8 @@
 //! The octets of one cell, packed: 256 values, and a bit for each place that has one.
-ghost use Rattle.std.specs.Prelude.{◌≡◌, ◌↔◌, length, IsTrue, IsNone, None, Some, replicate, slice_index_or, slice_set};
+ghost use Rattle.std.specs.Prelude.{◌≡◌, ◌↔◌, ◌+◌, ◌≤◌, length, IsTrue, IsNone, None, Some, replicate, slice_index_or, slice_set};
 ghost use Rattle.std.specs.List.{All};
-ghost use Rattle.cell_pool.specs.Lists.{without_below};
-ghost use Rattle.cell_pool.specs.Packed.{HasBitsFrom};
+ghost use Rattle.cell_pool.specs.Lists.{without_below, with_run, IsBlank, IsCovered, StandsFrom};
+ghost use Rattle.cell_pool.specs.Packed.{HasBitsFrom, HasOnesBetween, IsMask};
 
 use std::marker::Model;
 
@@ -32,6 +32,27 @@ fn bits_from(word: u64, place: usize) -> u64
     } else {
         0
     }
+}
+
+// The word with a bit for each place from `at` up to `end`; both may be past its end.
+fn ones_between(at: usize, end: usize) -> u64
+    requires { at ≤ end }
+    ensures { HasOnesBetween at end result }
+{
+    bits_from(u64::MAX, at) ^ bits_from(u64::MAX, end)
+}
+
+// Four words with a bit for each of the 256 places from `at` up to `end`.
+fn mask(at: usize, end: usize) -> [u64; 4]
+    requires { at ≤ end }
+    ensures { IsMask at end result }
+{
+    [
+        ones_between(at, end),
+        ones_between(at.saturating_sub(64), end.saturating_sub(64)),
+        ones_between(at.saturating_sub(128), end.saturating_sub(128)),
+        ones_between(at.saturating_sub(192), end.saturating_sub(192)),
+    ]
 }
 
 impl Octets {
@@ -89,5 +110,75 @@ impl Octets {
         ensures { self.new ≡ replicate 256 None }
     {
         self.known = [0; 4];
+    }
+
+    /// Whether none of so many places from `at` on has an octet.
+    pub(crate) fn is_blank(&self, at: u8, len: usize) -> bool
+        requires { at + len ≤ 256 }
+        ensures value { IsTrue result ↔ IsBlank at len self.now }
+        ensures size { length self.now ≡ 256 }
+    {
+        let first = usize::from(at);
+        let places = mask(first, first + len);
+        [
+            self.known[0] & places[0],
+            self.known[1] & places[1],
+            self.known[2] & places[2],
+            self.known[3] & places[3],
+        ] == [0; 4]
+    }
+
+    /// Whether each of so many places from `at` on has an octet.
+    pub(crate) fn is_covered(&self, at: u8, len: usize) -> bool
+        requires { at + len ≤ 256 }
+        ensures { IsTrue result ↔ IsCovered at len self.now }
+    {
+        let first = usize::from(at);
+        let places = mask(first, first + len);
+        [
+            self.known[0] & places[0],
+            self.known[1] & places[1],
+            self.known[2] & places[2],
+            self.known[3] & places[3],
+        ] == [places[0], places[1], places[2], places[3]]
+    }
+
+    /// Whether these octets stand from `at` on, where each of the places has one.
+    pub(crate) fn has_run(&self, at: u8, octets: &[u8]) -> bool
+        requires fits { at + length octets.now ≤ 256 }
+        requires covered { IsCovered at (length octets.now) self.now }
+        ensures { IsTrue result ↔ StandsFrom at octets.now self.now }
+    {
+        let first = usize::from(at);
+        &self.values[first..first + octets.len()] == octets
+    }
+
+    /// Copies out the octets from `at` on, where each of the places has one.
+    pub(crate) fn copy_run(&self, at: u8, out: &mut [u8])
+        requires fits { at + length out.old ≤ 256 }
+        requires covered { IsCovered at (length out.old) self.now }
+        ensures { StandsFrom at out.new self.now }
+    {
+        let first = usize::from(at);
+        let end = first + out.len();
+        out.copy_from_slice(&self.values[first..end]);
+    }
+
+    /// Puts octets at the places from `at` on.
+    pub(crate) fn set_run(&mut self, at: u8, octets: &[u8])
+        requires { at + length octets.now ≤ 256 }
+        ensures { self.new ≡ with_run at octets.now self.old }
+    {
+        let first = usize::from(at);
+        let end = first + octets.len();
+        let places = mask(first, end);
+        let run = &mut self.values[first..end];
+        run.copy_from_slice(octets);
+        self.known = [
+            self.known[0] | places[0],
+            self.known[1] | places[1],
+            self.known[2] | places[2],
+            self.known[3] | places[3],
+        ];
     }
 }

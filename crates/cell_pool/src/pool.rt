@@ -1,7 +1,7 @@
 //! A pool of cells, with its chains and its free list.
-ghost use Rattle.std.specs.Prelude.{◌≡◌, ◌+◌, ◌-◌, ◌<◌, ◌^◌, ◌↔◌, [], ◌∷◌, length, replicate, IfOk, IfSome, IfNone, IsNone, IsTrue, Some, None, slice_index_or, slice_set};
+ghost use Rattle.std.specs.Prelude.{◌≡◌, ◌+◌, ◌-◌, ◌<◌, ◌≤◌, ◌^◌, ◌↔◌, [], ◌∷◌, length, replicate, IfOk, IfSome, IfNone, IsNone, IsTrue, Some, None, slice_index_or, slice_set};
 ghost use Rattle.std.specs.List.{All, sum_by};
-ghost use Rattle.cell_pool.specs.Lists.{chain_at, with_chain, empty_cell, without_below, first_id, BeginsAbove, IsRising, HasPlaceFor, HasCellAfter, TakesAfter, GivesBackAfter, IsHeld, Wherever, Writes, StandsOnce};
+ghost use Rattle.cell_pool.specs.Lists.{chain_at, with_chain, empty_cell, without_below, with_run, first_id, IsBlank, IsCovered, StandsFrom, BeginsAbove, IsRising, HasPlaceFor, HasCellAfter, TakesAfter, GivesBackAfter, IsHeld, IsHeldWith, Wherever, Writes, StandsOnce};
 
 use crate::cells::{Cell, CellId, ChainId, Head, empty_heads, set_next, spare_cells};
 use edge_io::NoMemory;
@@ -97,6 +97,43 @@ impl Pool {
         self.cells[cell.0 as usize].octets.get(at)
     }
 
+    /// Whether none of so many places of the cell from `at` on has an octet.
+    pub fn is_blank(&self, cell: CellId, at: u8, len: usize) -> bool
+        requires held { IsHeld self.now cell }
+        requires fits { at + len ≤ 256 }
+        ensures value { Wherever self.now cell (λ x after. IsTrue result ↔ IsBlank at len x.octets) }
+        ensures size { Wherever self.now cell (λ x after. length x.octets ≡ 256) }
+    {
+        self.cells[cell.0 as usize].octets.is_blank(at, len)
+    }
+
+    /// Whether each of so many places of the cell from `at` on has an octet.
+    pub fn is_covered(&self, cell: CellId, at: u8, len: usize) -> bool
+        requires held { IsHeld self.now cell }
+        requires fits { at + len ≤ 256 }
+        ensures { Wherever self.now cell (λ x after. IsTrue result ↔ IsCovered at len x.octets) }
+    {
+        self.cells[cell.0 as usize].octets.is_covered(at, len)
+    }
+
+    /// Whether these octets stand in the cell from `at` on, where each of the places has one.
+    pub fn has_run(&self, cell: CellId, at: u8, octets: &[u8]) -> bool
+        requires fits { at + length octets.now ≤ 256 }
+        requires covered { IsHeldWith self.now cell (IsCovered at (length octets.now)) }
+        ensures { Wherever self.now cell (λ x after. IsTrue result ↔ StandsFrom at octets.now x.octets) }
+    {
+        self.cells[cell.0 as usize].octets.has_run(at, octets)
+    }
+
+    /// Copies out the octets of the cell from `at` on, where each of the places has one.
+    pub fn copy_run(&self, cell: CellId, at: u8, out: &mut [u8])
+        requires fits { at + length out.old ≤ 256 }
+        requires covered { IsHeldWith self.now cell (IsCovered at (length out.old)) }
+        ensures { Wherever self.now cell (λ x after. StandsFrom at out.new x.octets) }
+    {
+        self.cells[cell.0 as usize].octets.copy_run(at, out);
+    }
+
     /// Takes a free cell into the chain, with no octet, after the given cell or at the front.
     pub fn take_after(
         &mut self,
@@ -136,6 +173,16 @@ impl Pool {
     {
         let cell = &mut self.cells[cell.0 as usize];
         cell.octets.set(at, octet);
+    }
+
+    /// Puts octets into the cell from `at` on, whatever stood there.
+    pub fn set_run(&mut self, cell: CellId, at: u8, octets: &[u8])
+        requires held { IsHeld self.old cell }
+        requires fits { at + length octets.now ≤ 256 }
+        ensures { Writes self.old self.new cell (with_run at octets.now) }
+    {
+        let cell = &mut self.cells[cell.0 as usize];
+        cell.octets.set_run(at, octets);
     }
 
     /// Forgets the octets of the cell before `at`, all of them where `at` is 256 or more, and answers whether none is

@@ -49,6 +49,14 @@ none_counted p a (suc n) e =
     let here : cond {A = ℕ} (p a) 1 0 ≡ 0 = ap (λ b. cond b 1 0) (e a (omega arith) (omega arith)) in
     omega (arith, here, rest, sum_by-cons (λ k. cond (p k) 1 0) a (range_with_len (a + 1) n))
 
+-- each of these numbers is counted
+pub all_counted : (p : ℕ → Bool) (a n : ℕ) → ((m : ℕ) → a ≤ m → m < a + n → p m ≡ true) → count_by p (range_with_len a n) ≡ n
+all_counted p a zero e = refl
+all_counted p a (suc n) e =
+    let rest = all_counted p (a + 1) n (λ m low high. e m (omega arith) (omega arith)) in
+    let here : cond {A = ℕ} (p a) 1 0 ≡ 1 = ap (λ b. cond b 1 0) (e a (omega arith) (omega arith)) in
+    omega (arith, here, rest, sum_by-cons (λ k. cond (p k) 1 0) a (range_with_len (a + 1) n))
+
 -- a count in two parts
 pub parts : (p : ℕ → Bool) (a m n : ℕ) → count_by p (range_with_len a (m + n)) ≡ count_by p (range_with_len a m) + count_by p (range_with_len (a + m) n)
 parts p a zero n =

@@ -48,3 +48,11 @@ held_on f held writes = record {
   after = held.after;
   stands = stands_on held.stands refl (writes _ _ _ _ held.stands);
 }
+
+-- what is written may be said in another way
+pub writes_same : {old new : Lists} {name : CellId} (f g : List (Option ℕ) → List (Option ℕ)) → Writes old new name f →
+    ((c : ℕ) (before : List Held) (x : Held) (after : List Held) → Stands old c name before x after → f x.octets ≡ g x.octets) →
+    Writes old new name g
+writes_same {old = old} f g writes same c before x after stands =
+    writes c before x after stands
+    ∙ ap (λ o. with_chain old c (before ++ record x { octets = o } ∷ after) old.free) (same c before x after stands)

@@ -1,11 +1,13 @@
 pub mod Blocks
 pub mod Counts
 pub mod Fills
+pub mod Found
 pub mod Fronts
 pub mod Holdings
 pub mod Kept
 pub mod Missing
 pub mod Opens
+pub mod Parts
 pub mod Pieces
 pub mod Segments
 pub mod Shown

@@ -1,12 +1,15 @@
 -- The octets that segments have at an offset.
-use Rattle.std.proofs.Common.{◌≡◌, ◌≢◌, ℕ, zero, suc, ◌+◌, ◌-◌, ◌<◌, ◌≤◌, inl, inr, nat_lt, if◌then◌else◌, List, [], ◌∷◌, ◌++◌, length, get_or, take, drop, slice_get, Option, Some, None, refl, sym, ap, ap₂, ◌∙◌, arith, lt-ltb, le-ltb, get_or-set_same, get_or-set_other}
+use Rattle.std.proofs.Common.{◌≡◌, ◌≢◌, ℕ, zero, suc, ◌+◌, ◌-◌, ◌<◌, ◌≤◌, inl, inr, nat_lt, if◌then◌else◌, List, [], ◌∷◌, ◌++◌, length, map, get_or, take, drop, slice_get, Option, Some, None, IsSome, refl, sym, ap, ap₂, ◌∙◌, arith, lt-ltb, le-ltb, get_or-set_same, get_or-set_other}
 use Rattle.std.specs.Option.{option_or}
 use Rattle.std.proofs.Math.Seq.{take-add}
 use Rattle.std.proofs.lemmas.Bool.{cases_lt, cases_eq}
 use Rattle.std.proofs.lemmas.Bool.Decides.{nat_tests}
-use Rattle.std.proofs.lemmas.List.{length-set, same_lists, take_more, length-take-le, get_or_default}
+use Rattle.std.proofs.lemmas.List.{length-set, length-map, get_or-map, same_lists, take_more, length-take-le, get_or_default}
 use Rattle.std.proofs.lemmas.List.FromFn.{get_or-map-range_with_len, length-map-range_with_len}
 use Rattle.std.proofs.lemmas.Option.{slice_get_past}
+use borrow.Rule.Slice.PartMut.{put_mid}
+use Rattle.cell_pool.specs.Lists.{with_run, IsBlank, IsCovered}
+use Rattle.cell_pool.proofs.Runs.{run_is, length-put, put_before, put_inside, put_behind}
 use Rattle.retain_store.specs.Maps.{Block, Places, octet_at, octet_in}
 use Rattle.retain_store.specs.Changes.{with_octet, with_octets}
 
@@ -133,3 +136,61 @@ pub pieces_join : (done end : ℕ) (xs : List ℕ) → done ≤ end → take end
 pieces_join done end xs le =
     let end_is : end ≡ done + (end - done) = omega arith in
     ap (λ n. take n xs) end_is ∙ take-add done (end - done) xs
+
+-- the octet of a segment at one of its places
+got_at : (xs : List ℕ) (j : ℕ) → j < length xs → slice_get xs j ≡ Some (get_or xs j 0)
+got_at [] j lt = absurd (omega arith)
+got_at (x ∷ xs) zero lt = refl
+got_at (x ∷ xs) (suc j) lt = got_at xs j (omega arith)
+
+octet_inside : (at : ℕ) (piece : List ℕ) (i : ℕ) → at ≤ i → i < at + length piece → octet_in at piece i ≡ Some (get_or piece (i - at) 0)
+octet_inside at piece i le lt = rw (le-ltb i at le) (got_at piece (i - at) (omega arith))
+
+or_some : (a b : Option ℕ) → IsSome a → option_or a b ≡ a
+or_some None b some = cc
+or_some (Some x) b some = refl
+
+-- where none stands, a run is what is added
+pub with_blank : (octets : List (Option ℕ)) (at : ℕ) (piece : List ℕ) → at + length piece ≤ length octets → IsBlank at (length piece) octets →
+    with_run at piece octets ≡ with_octets octets at piece
+with_blank octets at piece fits blank =
+    let some = map (λ octet. Some octet) piece in
+    let some_size : length some ≡ length piece = length-map piece (λ octet. Some octet) in
+    let long = length-put at (length piece) octets some some_size fits in
+    run_is at piece octets ∙ same_lists (put_mid at (length piece) octets some) (with_octets octets at piece) (long ∙ sym (length_with octets at piece))
+    (λ k d h.
+    let lt : k < length octets = omega arith in
+    elim (cases_lt k at) [
+      | inl before ↦ put_before at (length piece) octets some some_size fits d k before ∙ (get_or_default octets k d None lt
+          ∙ (sym (or_none (get_or octets k None)) ∙ (ap (option_or (get_or octets k None)) (sym (octet_before at piece k before))
+          ∙ sym (got_with octets at piece k d lt))))
+      | inr above ↦ elim (cases_lt k (at + length piece)) [
+        | inl inside ↦
+            let place : at + (k - at) ≡ k = omega arith in
+            let none : get_or octets k None ≡ None = ap (λ j. get_or octets j None) (sym place) ∙ blank (k - at) (omega arith) in
+            put_inside at (length piece) octets some some_size fits d k above inside
+            ∙ (get_or-map (λ octet. Some octet) piece (k - at) 0 d (omega arith)
+            ∙ (sym (octet_inside at piece k above inside) ∙ (ap (λ o. option_or o (octet_in at piece k)) (sym none)
+            ∙ sym (got_with octets at piece k d lt))))
+        | inr behind ↦ put_behind at (length piece) octets some some_size fits d k behind ∙ (get_or_default octets k d None lt
+            ∙ (sym (or_none (get_or octets k None)) ∙ (ap (option_or (get_or octets k None)) (sym (octet_past at piece k behind))
+            ∙ sym (got_with octets at piece k d lt))))
+      ]
+    ])
+
+-- where each place has an octet, none is added
+pub with_covered : (octets : List (Option ℕ)) (at : ℕ) (piece : List ℕ) → IsCovered at (length piece) octets → octets ≡ with_octets octets at piece
+with_covered octets at piece covered = same_lists octets (with_octets octets at piece) (sym (length_with octets at piece)) (λ k d lt.
+    let same : (o : Option ℕ) → option_or (get_or octets k None) o ≡ get_or octets k None → octet_in at piece k ≡ o →
+    get_or octets k d ≡ get_or (with_octets octets at piece) k d =
+    λ o kept is. get_or_default octets k d None lt ∙ (sym kept ∙ (ap (option_or (get_or octets k None)) (sym is) ∙ sym (got_with octets at piece k d lt))) in
+    elim (cases_lt k at) [
+      | inl before ↦ same None (or_none (get_or octets k None)) (octet_before at piece k before)
+      | inr above ↦ elim (cases_lt k (at + length piece)) [
+        | inl inside ↦
+            let place : at + (k - at) ≡ k = omega arith in
+            let some : IsSome (get_or octets k None) = rw place at (covered (k - at) (omega arith)) in
+            same (octet_in at piece k) (or_some (get_or octets k None) (octet_in at piece k) some) refl
+        | inr behind ↦ same None (or_none (get_or octets k None)) (octet_past at piece k behind)
+      ]
+    ])

@@ -1,8 +1,10 @@
 //! Octets by chain and offset: the first octet at an offset stays until it is forgotten.
 #![tactic(auto)]
 
+mod each;
 mod forgets;
 mod reads;
+mod runs;
 mod seat;
 mod store;
 mod writes;

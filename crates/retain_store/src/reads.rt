@@ -5,7 +5,8 @@ ghost use Rattle.cell_pool.specs.Lists.{chain_at, IsRising};
 ghost use Rattle.retain_store.specs.Maps.{holds, octet_at, touched, missing, fresh, Agrees, Covers, Settles};
 ghost use Rattle.retain_store.specs.Seats.{blocks_in, IsKept, IsNear};
 
-use crate::seat::{Seat, look, seek};
+use crate::runs::{agrees_piece, copy_piece, covers_piece, fresh_piece, piece_len, settle_piece};
+use crate::seat::{Seat, seek};
 use cell_pool::{CellId, ChainId, Pool};
 
 /// How many blocks of 256 offsets are touched by so many offsets from this one on: as many as a chain with no octet needs.
@@ -77,13 +78,14 @@ pub(crate) fn count_fresh(
 {
     let mut near = near;
     let mut count = 0;
-    for index in 0..len {
-        let (octet, next) = look(pool, chain, near, from + u64::from(index));
-        let none = octet.is_none();
-        if none {
-            count += 1;
-        }
+    let mut done = 0;
+    while done < len {
+        let at = from + u64::from(done);
+        let size = piece_len(at, (len - done) as usize) as u32;
+        let (none, next) = fresh_piece(pool, chain, near, at, size);
+        count += none;
         near = next;
+        done += size;
     }
     count
 }
@@ -103,12 +105,16 @@ pub(crate) fn covers_all(
     ensures { IsTrue result ↔ Covers (blocks_in pool.now chain.0) from len }
 {
     let mut near = near;
-    for index in 0..len {
-        let (octet, next) = look(pool, chain, near, from + u64::from(index));
-        if octet.is_none() {
+    let mut done = 0;
+    while done < len {
+        let at = from + u64::from(done);
+        let size = piece_len(at, (len - done) as usize);
+        let (covered, next) = covers_piece(pool, chain, near, at, size);
+        if !covered {
             return false;
         }
         near = next;
+        done += size as u32;
     }
     true
 }
@@ -128,12 +134,16 @@ pub(crate) fn agrees_all(
     ensures { IsTrue result ↔ Agrees (blocks_in pool.now chain.0) from bytes.now }
 {
     let mut near = near;
-    for (index, octet) in bytes.iter().enumerate() {
-        let (kept, next) = look(pool, chain, near, from + index as u64);
-        if kept.unwrap_or(*octet) != *octet {
+    let mut done = 0;
+    while done < bytes.len() {
+        let at = from + done as u64;
+        let end = done + piece_len(at, bytes.len() - done);
+        let (agrees, next) = agrees_piece(pool, chain, near, at, &bytes[done..end]);
+        if !agrees {
             return false;
         }
         near = next;
+        done = end;
     }
     true
 }
@@ -149,11 +159,12 @@ pub(crate) fn copy(pool: &Pool, chain: ChainId, near: Option<CellId>, from: u64,
         octet_at (blocks_in pool.now chain.0) (from + i) ≡ Some (slice_index out.new i) }
 {
     let mut near = near;
-    for (index, place) in out.iter_mut().enumerate() {
-        let (octet, next) = look(pool, chain, near, from + index as u64);
-        let Some(octet) = octet else { unreachable!() };
-        *place = octet;
-        near = next;
+    let mut done = 0;
+    while done < out.len() {
+        let at = from + done as u64;
+        let end = done + piece_len(at, out.len() - done);
+        near = copy_piece(pool, chain, near, at, &mut out[done..end]);
+        done = end;
     }
 }
 
@@ -174,12 +185,14 @@ pub(crate) fn settle_all(
 {
     let mut near = near;
     let mut changed = false;
-    for (index, place) in bytes.iter_mut().enumerate() {
-        let (kept, next) = look(pool, chain, near, from + index as u64);
-        let octet = kept.unwrap_or(*place);
-        changed |= octet != *place;
-        *place = octet;
+    let mut done = 0;
+    while done < bytes.len() {
+        let at = from + done as u64;
+        let end = done + piece_len(at, bytes.len() - done);
+        let (differs, next) = settle_piece(pool, chain, near, at, &mut bytes[done..end]);
+        changed |= differs;
         near = next;
+        done = end;
     }
     changed
 }

@@ -18,8 +18,8 @@ fn add(pool: &mut Pool, cell: CellId, at: u8, octet: u8)
     }
 }
 
-// Puts octets into a cell, from a place on, where there are none.
-fn fill(pool: &mut Pool, cell: CellId, at: u8, piece: &[u8])
+// Puts octets into a cell, one by one from a place on, where there are none.
+fn fill_each(pool: &mut Pool, cell: CellId, at: u8, piece: &[u8])
     requires held { IsHeld pool.old cell }
     requires fits { at + length piece.now ≤ 256 }
     ensures { Writes pool.old pool.new cell (λ octets. with_octets octets at piece.now) }
@@ -27,6 +27,22 @@ fn fill(pool: &mut Pool, cell: CellId, at: u8, piece: &[u8])
     for (index, octet) in piece.iter().enumerate() {
         add(pool, cell, at + index as u8, *octet);
     }
+}
+
+// Puts octets into a cell, from a place on, where there are none.
+fn fill(pool: &mut Pool, cell: CellId, at: u8, piece: &[u8])
+    requires held { IsHeld pool.old cell }
+    requires fits { at + length piece.now ≤ 256 }
+    ensures { Writes pool.old pool.new cell (λ octets. with_octets octets at piece.now) }
+{
+    if pool.is_blank(cell, at, piece.len()) {
+        pool.set_run(cell, at, piece);
+        return;
+    }
+    if pool.is_covered(cell, at, piece.len()) {
+        return;
+    }
+    fill_each(pool, cell, at, piece);
 }
 
 // The cell of a block, taken where there is none.

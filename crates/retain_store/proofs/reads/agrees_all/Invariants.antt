@@ -1,13 +1,15 @@
-use Rattle.std.proofs.Common.{◌≡◌, ◌+◌, ◌<◌, ℕ, get_or}
-use Rattle.std.specs.Option.{unwrap_or}
+use Rattle.std.proofs.Common.{◌≤◌, ◌-◌, length}
 use Rattle.cell_pool.specs.Lists.{chain_at}
-use Rattle.retain_store.specs.Maps.{octet_at}
 use Rattle.retain_store.specs.Seats.{blocks_in, IsNear}
+use Rattle.retain_store.proofs.Parts.{AgreesTo}
 use Rattle.retain_store.proofs.reads.agrees_all.Given as goal
 
-abbrev pub invariant-loop-index : goal.invariant-loop-index
-invariant-loop-index l = record {
+abbrev pub invariant-loop-done : goal.invariant-loop-done
+invariant-loop-done l = record {
+  within : l.done ≤ length l.fn.bytes;
   near : IsNear (chain_at l.pool l.fn.chain.0) l.near;
-  agreed : (i : ℕ) → i < l.index →
-      unwrap_or (octet_at (blocks_in l.pool l.fn.chain.0) (l.fn.from + i)) (get_or l.fn.bytes i 0) ≡ get_or l.fn.bytes i 0;
+  agreed : AgreesTo (blocks_in l.pool l.fn.chain.0) l.fn.from l.fn.bytes l.done;
 }
+
+abbrev pub decreases-loop-done : goal.decreases-loop-done
+decreases-loop-done l = length l.fn.bytes - l.done

@@ -1,10 +1,15 @@
+use Rattle.std.proofs.Common.{◌≤◌, ◌-◌}
 use Rattle.cell_pool.specs.Lists.{chain_at}
 use Rattle.retain_store.specs.Maps.{Covers}
 use Rattle.retain_store.specs.Seats.{blocks_in, IsNear}
 use Rattle.retain_store.proofs.reads.covers_all.Given as goal
 
-abbrev pub invariant-loop-index : goal.invariant-loop-index
-invariant-loop-index l = record {
+abbrev pub invariant-loop-done : goal.invariant-loop-done
+invariant-loop-done l = record {
+  within : l.done ≤ l.fn.len;
   near : IsNear (chain_at l.pool l.fn.chain.0) l.near;
-  covered : Covers (blocks_in l.pool l.fn.chain.0) l.fn.from l.index;
+  covered : Covers (blocks_in l.pool l.fn.chain.0) l.fn.from l.done;
 }
+
+abbrev pub decreases-loop-done : goal.decreases-loop-done
+decreases-loop-done l = l.fn.len - l.done

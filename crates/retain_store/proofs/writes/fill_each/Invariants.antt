@@ -1,7 +1,7 @@
 use Rattle.std.proofs.Common.{take}
 use Rattle.cell_pool.specs.Lists.{IsHeld, Writes}
 use Rattle.retain_store.specs.Changes.{with_octets}
-use Rattle.retain_store.proofs.writes.fill.Given as goal
+use Rattle.retain_store.proofs.writes.fill_each.Given as goal
 
 abbrev pub invariant-loop-index : goal.invariant-loop-index
 invariant-loop-index l = record {

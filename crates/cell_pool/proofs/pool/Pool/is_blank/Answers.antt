@@ -1,0 +1,20 @@
+use Rattle.std.proofs.Common.{◌↔◌, ℕ, List, Option, IsTrue, length, ◌∙◌, ap, sym, subst, arith}
+use Rattle.cell_pool.specs.declared.cells.Cell.{Cell}
+use Rattle.cell_pool.specs.Lists.{Held, IsBlank}
+use Rattle.cell_pool.proofs.Views.{shown, held_inside, cell_read, stands_is}
+use Rattle.cell_pool.proofs.pool.Pool.is_blank.Goals as goal
+
+pub index-requires : goal.index-requires
+index-requires c = omega (arith, held_inside (shown c.self.invariant c.self.view_is) c.requires.held)
+
+pub returns-clause-value : goal.returns-clause-value
+returns-clause-value c chain before x after stands =
+    let shows = shown c.self.invariant c.self.view_is in
+    let same = ap (λ (k : Cell). k.octets) (cell_read shows c.requires.held c.index.ensures) ∙ ap (λ (k : Held). k.octets) (stands_is shows stands) in
+    subst (λ (l : List (Option ℕ)). IsTrue c.is_blank.result ↔ IsBlank c.args.at c.args.len l) same c.is_blank.ensures.value
+
+pub returns-clause-size : goal.returns-clause-size
+returns-clause-size c chain before x after stands =
+    let shows = shown c.self.invariant c.self.view_is in
+    let same = ap (λ (k : Cell). k.octets) (cell_read shows c.requires.held c.index.ensures) ∙ ap (λ (k : Held). k.octets) (stands_is shows stands) in
+    ap length (sym same) ∙ c.is_blank.ensures.size

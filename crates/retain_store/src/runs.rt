@@ -1,0 +1,196 @@
+//! What is read of a piece, whose offsets are of one block.
+ghost use Rattle.std.specs.Prelude.{◌≡◌, ℕ, ◌+◌, ◌-◌, ◌<◌, ◌≤◌, ◌/◌, ◌%◌, ◌^◌, ◌↔◌, Some, false, length, slice_index, IsTrue};
+ghost use Rattle.cell_pool.specs.Lists.{chain_at, IsRising};
+ghost use Rattle.retain_store.specs.Maps.{octet_at, fresh, Agrees, Covers, Settles};
+ghost use Rattle.retain_store.specs.Seats.{blocks_in, IsCellOf, IsNear};
+
+use crate::each::{agrees_each, count_each, settle_each};
+use crate::seat::{Seat, place_of, seek};
+use cell_pool::{CellId, ChainId, Pool};
+
+/// How many of `left` offsets from this one on are of its block.
+pub(crate) fn piece_len(from: u64, left: usize) -> usize
+    ensures within { result ≤ left }
+    ensures fits { from % 256 + result ≤ 256 }
+    ensures some { 0 < left → 0 < result }
+{
+    left.min(256 - usize::from(place_of(from)))
+}
+
+// How many of the offsets have no octet, in the cell of their block.
+fn fresh_in(pool: &Pool, chain: ChainId, cell: CellId, from: u64, len: u32) -> u32
+    requires chain_in_range { chain.0 < length pool.now.chains }
+    requires cell { IsCellOf (chain_at pool.now chain.0) (from / 256) cell }
+    requires rising { IsRising (chain_at pool.now chain.0) }
+    requires fits { from % 256 + len ≤ 256 }
+    requires offsets { from + len ≤ 2 ^ 64 - 1 }
+    ensures { result ≡ fresh (blocks_in pool.now chain.0) from len }
+{
+    let at = place_of(from);
+    if pool.is_blank(cell, at, len as usize) {
+        return len;
+    }
+    if pool.is_covered(cell, at, len as usize) {
+        return 0;
+    }
+    count_each(pool, chain, Some(cell), from, len)
+}
+
+/// How many of the offsets have no octet, and a cell from which the next walk may begin.
+pub(crate) fn fresh_piece(
+    pool: &Pool,
+    chain: ChainId,
+    near: Option<CellId>,
+    from: u64,
+    len: u32,
+) -> (u32, Option<CellId>)
+    requires chain_in_range { chain.0 < length pool.now.chains }
+    requires near_in_chain { IsNear (chain_at pool.now chain.0) near }
+    requires rising { IsRising (chain_at pool.now chain.0) }
+    requires fits { from % 256 + len ≤ 256 }
+    requires offsets { from + len ≤ 2 ^ 64 - 1 }
+    ensures count { result.0 ≡ fresh (blocks_in pool.now chain.0) from len }
+    ensures near { IsNear (chain_at pool.now chain.0) result.1 }
+{
+    match seek(pool, chain, near, from / 256) {
+        Seat::Cell(cell) => (fresh_in(pool, chain, cell, from, len), Some(cell)),
+        Seat::After(after) => (len, after),
+    }
+}
+
+/// Whether each of the offsets, of which there are some, has its octet, and a cell from which the next walk may begin.
+pub(crate) fn covers_piece(
+    pool: &Pool,
+    chain: ChainId,
+    near: Option<CellId>,
+    from: u64,
+    len: usize,
+) -> (bool, Option<CellId>)
+    requires chain_in_range { chain.0 < length pool.now.chains }
+    requires near_in_chain { IsNear (chain_at pool.now chain.0) near }
+    requires rising { IsRising (chain_at pool.now chain.0) }
+    requires some { 0 < len }
+    requires fits { from % 256 + len ≤ 256 }
+    ensures covers { IsTrue result.0 ↔ Covers (blocks_in pool.now chain.0) from len }
+    ensures near { IsNear (chain_at pool.now chain.0) result.1 }
+{
+    match seek(pool, chain, near, from / 256) {
+        Seat::Cell(cell) => (pool.is_covered(cell, place_of(from), len), Some(cell)),
+        Seat::After(after) => (false, after),
+    }
+}
+
+// Whether none of the octets differs from the one kept at its offset, in the cell of their block.
+fn agrees_in(pool: &Pool, chain: ChainId, cell: CellId, from: u64, bytes: &[u8]) -> bool
+    requires chain_in_range { chain.0 < length pool.now.chains }
+    requires cell { IsCellOf (chain_at pool.now chain.0) (from / 256) cell }
+    requires rising { IsRising (chain_at pool.now chain.0) }
+    requires fits { from % 256 + length bytes.now ≤ 256 }
+    requires offsets { from + length bytes.now ≤ 2 ^ 64 - 1 }
+    ensures { IsTrue result ↔ Agrees (blocks_in pool.now chain.0) from bytes.now }
+{
+    let at = place_of(from);
+    if pool.is_blank(cell, at, bytes.len()) {
+        return true;
+    }
+    if pool.is_covered(cell, at, bytes.len()) {
+        return pool.has_run(cell, at, bytes);
+    }
+    agrees_each(pool, chain, Some(cell), from, bytes)
+}
+
+/// Whether none of the octets differs from the one kept at its offset, and a cell from which the next walk may begin.
+pub(crate) fn agrees_piece(
+    pool: &Pool,
+    chain: ChainId,
+    near: Option<CellId>,
+    from: u64,
+    bytes: &[u8],
+) -> (bool, Option<CellId>)
+    requires chain_in_range { chain.0 < length pool.now.chains }
+    requires near_in_chain { IsNear (chain_at pool.now chain.0) near }
+    requires rising { IsRising (chain_at pool.now chain.0) }
+    requires fits { from % 256 + length bytes.now ≤ 256 }
+    requires offsets { from + length bytes.now ≤ 2 ^ 64 - 1 }
+    ensures agrees { IsTrue result.0 ↔ Agrees (blocks_in pool.now chain.0) from bytes.now }
+    ensures near { IsNear (chain_at pool.now chain.0) result.1 }
+{
+    match seek(pool, chain, near, from / 256) {
+        Seat::Cell(cell) => (agrees_in(pool, chain, cell, from, bytes), Some(cell)),
+        Seat::After(after) => (true, after),
+    }
+}
+
+/// Copies octets out, where each of the offsets, of which there are some, has one, and answers a cell from which the next walk may begin.
+pub(crate) fn copy_piece(
+    pool: &Pool,
+    chain: ChainId,
+    near: Option<CellId>,
+    from: u64,
+    out: &mut [u8],
+) -> Option<CellId>
+    requires chain_in_range { chain.0 < length pool.now.chains }
+    requires near_in_chain { IsNear (chain_at pool.now chain.0) near }
+    requires rising { IsRising (chain_at pool.now chain.0) }
+    requires some { 0 < length out.old }
+    requires fits { from % 256 + length out.old ≤ 256 }
+    requires covered { Covers (blocks_in pool.now chain.0) from (length out.old) }
+    ensures octets { (i : ℕ) → i < length out.new →
+        octet_at (blocks_in pool.now chain.0) (from + i) ≡ Some (slice_index out.new i) }
+    ensures near { IsNear (chain_at pool.now chain.0) result }
+{
+    match seek(pool, chain, near, from / 256) {
+        Seat::Cell(cell) => {
+            pool.copy_run(cell, place_of(from), out);
+            Some(cell)
+        }
+        Seat::After(_) => unreachable!(),
+    }
+}
+
+// Puts kept octets in place of those that differ, in the cell of their block, and answers whether one did.
+fn settle_in(pool: &Pool, chain: ChainId, cell: CellId, from: u64, bytes: &mut [u8]) -> bool
+    requires chain_in_range { chain.0 < length pool.now.chains }
+    requires cell { IsCellOf (chain_at pool.now chain.0) (from / 256) cell }
+    requires rising { IsRising (chain_at pool.now chain.0) }
+    requires fits { from % 256 + length bytes.old ≤ 256 }
+    requires offsets { from + length bytes.old ≤ 2 ^ 64 - 1 }
+    ensures settled { Settles (blocks_in pool.now chain.0) from bytes.old bytes.new }
+    ensures same { (result ≡ false) ↔ (bytes.new ≡ bytes.old) }
+{
+    let at = place_of(from);
+    if pool.is_blank(cell, at, bytes.len()) {
+        return false;
+    }
+    if !pool.is_covered(cell, at, bytes.len()) {
+        return settle_each(pool, chain, Some(cell), from, bytes);
+    }
+    if pool.has_run(cell, at, bytes) {
+        return false;
+    }
+    pool.copy_run(cell, at, bytes);
+    true
+}
+
+/// Puts kept octets in place of those that differ, and answers whether one did and a cell from which the next walk may begin.
+pub(crate) fn settle_piece(
+    pool: &Pool,
+    chain: ChainId,
+    near: Option<CellId>,
+    from: u64,
+    bytes: &mut [u8],
+) -> (bool, Option<CellId>)
+    requires chain_in_range { chain.0 < length pool.now.chains }
+    requires near_in_chain { IsNear (chain_at pool.now chain.0) near }
+    requires rising { IsRising (chain_at pool.now chain.0) }
+    requires fits { from % 256 + length bytes.old ≤ 256 }
+    requires offsets { from + length bytes.old ≤ 2 ^ 64 - 1 }
+    ensures settled { Settles (blocks_in pool.now chain.0) from bytes.old bytes.new }
+    ensures same { (result.0 ≡ false) ↔ (bytes.new ≡ bytes.old) }
+    ensures near { IsNear (chain_at pool.now chain.0) result.1 }
+{
+    match seek(pool, chain, near, from / 256) {
+        Seat::Cell(cell) => (settle_in(pool, chain, cell, from, bytes), Some(cell)),
+        Seat::After(after) => (false, after),
+    }
+}
