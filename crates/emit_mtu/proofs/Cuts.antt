@@ -3,11 +3,11 @@ use Rattle.std.proofs.Common.{◌≡◌, ℕ, ◌<◌, Bool, true, false, List, 
 use Rattle.std.proofs.lemmas.Bool.{eqb-true, not-true}
 use Rattle.wire_base.specs.declared.address.Link.{Link}
 use Rattle.wire_base.specs.declared.frame.FrameKind.TheVariants.{Ip}
-use Rattle.wire_base.specs.Frames.{kind_of}
+use Rattle.wire_base.specs.Frames.{kind_of, packet_in}
 use Rattle.wire_base.specs.Ipv4 as ip
 use Rattle.wire_base.specs.Tcp as tcp
 use Rattle.emit_mtu.specs.declared.long.LongKind.TheVariants.{Cut}
-use Rattle.emit_mtu.specs.Frames.{IsSent, IsWhole, link_size, packet_in}
+use Rattle.emit_mtu.specs.Frames.{IsSent, IsWhole, link_size}
 use Rattle.emit_mtu.specs.Long.{e_cut, e_mtu, is_ip, is_marked, long_kind}
 use Rattle.emit_mtu.proofs.Facts.{both, less}
 

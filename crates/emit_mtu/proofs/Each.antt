@@ -10,13 +10,13 @@ use Rattle.std.proofs.lemmas.List.FromFn.{get_or-map-range_with_len, length-map-
 use Rattle.std.proofs.lemmas.Option.{get_or_from_slice_get, slice_get_within}
 use Rattle.wire_base.specs.declared.address.Link.{Link}
 use Rattle.wire_base.specs.declared.address.Link.TheVariants.{Ethernet, Raw}
-use Rattle.wire_base.specs.Frames.{kind_of}
+use Rattle.wire_base.specs.Frames.{kind_of, link_octets, packet_in}
 use Rattle.wire_base.specs.Ipv4 as ip
 use Rattle.wire_base.specs.Tcp as tcp
 use Rattle.wire_base.specs.Sums.{sum_is_right}
 use Rattle.wire_base.specs.Plain.{Plain, pseudo_of}
 use Rattle.wire_base.specs.Segments.{fields_of}
-use Rattle.emit_mtu.specs.Frames.{Parts, link_octets, link_size, packet_in, parts_of}
+use Rattle.emit_mtu.specs.Frames.{Parts, link_size, parts_of}
 use Rattle.emit_mtu.specs.Long.{is_ip, is_long}
 use Rattle.emit_mtu.specs.Segments.{count_of, piece_of, room_of, segment_of, segments, segments_from}
 use Rattle.emit_mtu.specs.Laws.{AreFew, ArePlain, AreReadAsPieces, CarryThePayload, IsToBeCut, NoneIsLong, payload_in}

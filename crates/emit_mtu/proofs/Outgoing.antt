@@ -6,7 +6,7 @@ use Rattle.std.proofs.lemmas.List.Elements.{All-nil, All-cons}
 use Rattle.wire_base.specs.declared.address.Link.{Link}
 use Rattle.wire_base.specs.declared.address.Link.TheVariants.{Ethernet, Raw}
 use Rattle.wire_base.specs.declared.frame.FrameKind.TheVariants.{Ip}
-use Rattle.wire_base.specs.Frames.{ethertype, kind_of}
+use Rattle.wire_base.specs.Frames.{ethertype, kind_of, packet_in}
 use Rattle.wire_base.specs.Ipv4 as ip
 use Rattle.wire_base.specs.Tcp as tcp
 use Rattle.wire_base.specs.Options.{are_well_formed}
@@ -15,7 +15,7 @@ use Rattle.tcp_codec.specs.Header.{fault_of}
 use Rattle.tcp_codec.proofs.Faults.{fault_of-options}
 use Rattle.emit_mtu.specs.declared.long.LongKind.{LongKind}
 use Rattle.emit_mtu.specs.declared.long.LongKind.TheVariants.{Fits, Cut, Drop}
-use Rattle.emit_mtu.specs.Frames.{IsSent, IsWhole, Parts, link_size, packet_in, parts_of}
+use Rattle.emit_mtu.specs.Frames.{IsSent, IsWhole, Parts, link_size, parts_of}
 use Rattle.emit_mtu.specs.Long.{is_long, is_marked, long_kind, may_be_cut}
 use Rattle.emit_mtu.specs.Segments as spec
 use Rattle.emit_mtu.specs.Segments.{room_of, segment_of}

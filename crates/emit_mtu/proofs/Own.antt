@@ -5,7 +5,8 @@ use Rattle.wire_base.specs.declared.address.Link.{Link}
 use Rattle.wire_base.specs.declared.address.Link.TheVariants.{Ethernet, Raw}
 use Rattle.wire_base.specs.Ipv4 as ip
 use Rattle.wire_base.specs.Tcp as tcp
-use Rattle.emit_mtu.specs.Frames.{AreOctets, AreSized, IsWhole, Parts, link_octets, link_size, packet_in, parts_of}
+use Rattle.wire_base.specs.Frames.{link_octets, packet_in}
+use Rattle.emit_mtu.specs.Frames.{AreOctets, AreSized, IsWhole, Parts, link_size, parts_of}
 use Rattle.emit_mtu.specs.Segments as spec
 use Rattle.emit_mtu.proofs.Headers.{Carried, SameHeader, carried, header-front, header-own, segment-front, total-own}
 use Rattle.emit_mtu.proofs.Lengths.{length-ip_header, length-message_of, length-piece_of}

@@ -6,7 +6,7 @@ use Rattle.std.proofs.lemmas.Simd.{map-map}
 use Rattle.wire_base.specs.declared.address.Link.{Link}
 use Rattle.wire_base.specs.declared.address.Link.TheVariants.{Ethernet, Raw}
 use Rattle.wire_base.specs.declared.frame.FrameKind.TheVariants.{Ip, Arp, Short, Other}
-use Rattle.wire_base.specs.Frames.{ethertype, kind_of}
+use Rattle.wire_base.specs.Frames.{ethertype, kind_of, packet_in}
 use Rattle.wire_base.specs.Ipv4 as ip
 use Rattle.wire_base.specs.Plain.{Plain}
 use Rattle.wire_base.specs.Sums.{sum_is_right}
@@ -15,7 +15,7 @@ use Rattle.tcp_codec.specs.Header.{fault_of}
 use Rattle.tcp_codec.proofs.Faults.{fault_of-options}
 use Rattle.emit_mtu.specs.declared.long.LongKind.{LongKind}
 use Rattle.emit_mtu.specs.declared.long.LongKind.TheVariants.{Fits, Cut, Drop}
-use Rattle.emit_mtu.specs.Frames.{IsWhole, link_size, packet_in, parts_of}
+use Rattle.emit_mtu.specs.Frames.{IsWhole, link_size, parts_of}
 use Rattle.emit_mtu.specs.Long.{is_ip, long_kind, may_be_cut}
 use Rattle.emit_mtu.specs.Segments.{count_of, room_of, segment_of}
 use Rattle.emit_mtu.specs.Streams.{PacketsGoOutAlike, PlainHeadersAreWhole, PlainIsSent, frames_of}

@@ -9,8 +9,9 @@ use Rattle.wire_base.specs.declared.address.Link.TheVariants.{Ethernet, Raw}
 use Rattle.wire_base.specs.Ipv4 as ip
 use Rattle.wire_base.specs.Tcp as tcp
 use Rattle.wire_base.specs.Options.{are_well_formed}
+use Rattle.wire_base.specs.Frames.{link_octets, packet_in}
 use Rattle.tcp_codec.specs.declared.header.TcpFault.TheVariants.{Sum}
-use Rattle.emit_mtu.specs.Frames.{AreOctets, AreSized, IsWhole, link_octets, packet_in, parts_of}
+use Rattle.emit_mtu.specs.Frames.{AreOctets, AreSized, IsWhole, parts_of}
 use Rattle.emit_mtu.proofs.Facts.{all_false, at_least, neither, not_false}
 
 -- where no fault is found in a segment its header lies inside, and its flags and options are well formed

@@ -15,16 +15,6 @@ abbrev pub link_size : Link → ℕ
 link_size Ethernet = 14
 link_size Raw = 0
 
--- those octets
-abbrev pub link_octets : Link → (frame : List ℕ) → List ℕ
-link_octets Ethernet frame = take 14 frame
-link_octets Raw frame = []
-
--- the packet of a frame
-abbrev pub packet_in : Link → (frame : List ℕ) → List ℕ
-packet_in Ethernet frame = drop 14 frame
-packet_in Raw frame = frame
-
 -- a whole datagram with a header of its 20 octets and nothing behind it, in which no fault is found; that its segment sums right is not asked
 pub record IsWhole (packet : List ℕ) : Type 0 where
   pub header : ip.header_length packet ≡ 20

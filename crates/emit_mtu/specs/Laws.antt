@@ -7,8 +7,9 @@ use Rattle.wire_base.specs.Tcp as tcp
 use Rattle.wire_base.specs.Sums.{sum_is_right}
 use Rattle.wire_base.specs.Plain.{Plain, pseudo_of}
 use Rattle.wire_base.specs.Segments.{Segment, fields_of}
+use Rattle.wire_base.specs.Frames.{link_octets, packet_in}
 use Rattle.emit_mtu.specs.declared.long.LongKind.TheVariants.{Cut}
-use Rattle.emit_mtu.specs.Frames.{AreOctets, IsSent, link_octets, packet_in}
+use Rattle.emit_mtu.specs.Frames.{AreOctets, IsSent}
 use Rattle.emit_mtu.specs.Long.{long_kind}
 use Rattle.emit_mtu.specs.Segments.{flags_of, is_first, segments}
 

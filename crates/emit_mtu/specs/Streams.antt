@@ -4,7 +4,7 @@ use Rattle.std.specs.List.{flat_map, range_with_len}
 use Rattle.wire_base.specs.declared.address.Link.{Link}
 use Rattle.wire_base.specs.declared.address.Link.TheVariants.{Raw}
 use Rattle.wire_base.specs.declared.frame.FrameKind.TheVariants.{Ip}
-use Rattle.wire_base.specs.Frames.{kind_of}
+use Rattle.wire_base.specs.Frames.{kind_of, packet_in}
 use Rattle.wire_base.specs.Ipv4 as ip
 use Rattle.wire_base.specs.Plain.{IsPlainHeader, Plain}
 use Rattle.tcp_codec.specs.declared.header.SumRule.TheVariants.{Skip}
@@ -12,7 +12,7 @@ use Rattle.tcp_codec.specs.Header.{fault_of}
 use Rattle.receiver_model.specs.Agreement.{TellOneStream}
 use Rattle.emit_mtu.specs.declared.long.LongKind.{LongKind}
 use Rattle.emit_mtu.specs.declared.long.LongKind.TheVariants.{Fits, Cut, Drop}
-use Rattle.emit_mtu.specs.Frames.{AreOctets, IsSent, IsWhole, link_size, packet_in, parts_of}
+use Rattle.emit_mtu.specs.Frames.{AreOctets, IsSent, IsWhole, link_size, parts_of}
 use Rattle.emit_mtu.specs.Long.{is_long, long_kind}
 use Rattle.emit_mtu.specs.Segments.{count_of, room_of, segments}
 

@@ -3,8 +3,8 @@ ghost use Rattle.std.specs.Prelude.{◌≡◌};
 ghost use Rattle.emit_mtu.specs.Frames.{IsSent, IsWhole};
 ghost use Rattle.emit_mtu.specs.Long as spec;
 
-use crate::parts::{HEADER, header_length, packet_in};
-use wire_base::{Flags, FrameKind, Link, frame_kind, u16_at};
+use crate::parts::{HEADER, header_length};
+use wire_base::{Flags, FrameKind, Link, frame_kind, packet_in, u16_at};
 
 // The number of the protocol.
 const TCP: u8 = 6;

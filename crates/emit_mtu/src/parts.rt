@@ -2,16 +2,14 @@
 ghost use Rattle.std.specs.Prelude.{◌≡◌, ◌≤◌, length};
 ghost use Rattle.wire_base.specs.Ipv4 as ip;
 ghost use Rattle.wire_base.specs.Tcp as tcp;
-ghost use Rattle.emit_mtu.specs.Frames.{AreSized, IsWhole, link_octets, packet_in, parts_of};
+ghost use Rattle.wire_base.specs.Frames.{link_octets, packet_in};
+ghost use Rattle.emit_mtu.specs.Frames.{AreSized, IsWhole, parts_of};
 
 use std::marker::Model;
-use wire_base::Link;
+use wire_base::{Link, link_octets, packet_in};
 
 /// The octets of an IPv4 header without options (RFC 791 section 3.1).
 pub(crate) const HEADER: usize = 20;
-
-// The octets of an Ethernet header (RFC 894).
-const ETHERNET: usize = 14;
 
 /// A frame's link octets, its IPv4 header, its TCP header with the options, and its payload.
 #[derive(Drop)]
@@ -54,26 +52,6 @@ pub(crate) fn parts_of<'a>(link: Link, frame: &'a [u8]) -> Parts<'a>
         ip,
         tcp,
         payload,
-    }
-}
-
-/// The packet of a frame.
-pub(crate) fn packet_in(link: Link, frame: &[u8]) -> &[u8]
-    ensures { result.now ≡ packet_in link frame.now }
-{
-    match link {
-        Link::Ethernet => &frame[frame.len().min(ETHERNET)..],
-        Link::Raw => frame,
-    }
-}
-
-// What stands before it.
-fn link_octets(link: Link, frame: &[u8]) -> &[u8]
-    ensures { result.now ≡ link_octets link frame.now }
-{
-    match link {
-        Link::Ethernet => &frame[..frame.len().min(ETHERNET)],
-        Link::Raw => &[],
     }
 }
 

@@ -51,8 +51,8 @@ placed_at base acked (Some s) = off base acked s.sequence
 abbrev pub place_of : (base acked : ℕ) → List ℕ → ℤ
 place_of base acked p = placed_at base acked (segment_of p)
 
--- The places of the packets that went inwards in an era, each read with what was acknowledged before its record. That is 0 for a packet that went before the
--- base was fixed, since no ACK goes outwards before but that of a RST, which ends the era.
+-- The places of the packets that went inwards in an era, each read with what was acknowledged before its record. Before the base is fixed that is 0 where
+-- no ACK has gone outwards, as in each era that norm runs: a RST with one ends the era there.
 abbrev pub inward_places : (era base : ℕ) → List Sent → List ℤ
 inward_places era base [] = []
 inward_places era base (s ∷ older) =

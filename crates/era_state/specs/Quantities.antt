@@ -16,8 +16,8 @@ base_of ws = first_of fixes ws
 abbrev pub base_at : List Written → ℕ
 base_at ws = number_in (base_of ws)
 
--- Acked: the greatest place that an outbound segment acknowledges, each read with what was acknowledged before it, and 0 where none does. Before a base is
--- fixed no ACK goes outwards but that of a RST, which ends the era; so the segment that fixes it is read with 0
+-- Acked: the greatest place that an outbound segment acknowledges, each read with what was acknowledged before it, and 0 where none does. In an era that
+-- norm runs no segment with an ACK goes outwards before a base is fixed but a RST, which ends the era; so the segment that fixes it is read with 0
 abbrev pub acked : ℕ → List Written → ℕ
 acked base ws = fold (λ a w. max a (number_in (ack_of base a w))) 0 ws
 

@@ -3,7 +3,7 @@ use Rattle.std.proofs.Common.{◌≡◌, ℕ, Bool, true, false, ◌&&◌, List,
 use Rattle.wire_base.specs.declared.address.Link.{Link}
 use Rattle.wire_base.specs.declared.address.Link.TheVariants.{Ethernet, Raw}
 use Rattle.wire_base.specs.declared.address.Side.{Side}
-use Rattle.wire_base.specs.Frames.{ethertype}
+use Rattle.wire_base.specs.Frames.{ethertype, packet_in}
 use Rattle.wire_base.specs.Ipv4 as ip
 use Rattle.pcap_file.specs.Records.{Packet}
 use Rattle.rule_book.specs.declared.rule.Rule.{Rule}
@@ -12,7 +12,7 @@ use Rattle.norm_settings.specs.Settings.{PlainSettings}
 use Rattle.ip_rules.specs.declared.judged.IpPacket.{IpPacket}
 use Rattle.ip_rules.specs.declared.judged.IpJudged.{IpJudged}
 use Rattle.ip_rules.specs.declared.judged.IpJudged.TheVariants.{Arp, Drop, Piece, Whole}
-use Rattle.ip_rules.specs.Rows.{l_snap, l_short, l_type, carries_ip, carries_arp, packet_in, side_in, tells_side, holds_in, packet_drop_rows, piece_fix_rows, whole_fix_rows, ip_dropped_by, ip_fixes}
+use Rattle.ip_rules.specs.Rows.{l_snap, l_short, l_type, carries_ip, carries_arp, side_in, tells_side, holds_in, packet_drop_rows, piece_fix_rows, whole_fix_rows, ip_dropped_by, ip_fixes}
 use Rattle.ip_rules.specs.Judged.{IsRead, IsJudged, IsJudgedIn, link_row, packet_row, packet_fixes}
 
 -- the first row on the link, or else on the packet where there is one

@@ -12,11 +12,12 @@ use Rattle.wire_base.specs.declared.address.Side.{Side}
 use Rattle.wire_base.specs.declared.address.Side.TheVariants.{Inward, Outward}
 use Rattle.wire_base.specs.Ipv4 as ip
 use Rattle.wire_base.specs.Plain.{IsPlainHeader}
+use Rattle.wire_base.specs.Frames.{packet_in}
 use Rattle.pcap_file.specs.Records.{Packet}
 use Rattle.ipv4_codec.specs.Header.{fields_of}
 use Rattle.rule_book.specs.declared.rule.Rule.{Rule}
 use Rattle.norm_settings.specs.Settings.{PlainSettings}
-use Rattle.ip_rules.specs.Rows.{carries_ip, packet_in, side_in, is_inward, holds_in, holds_ip, packet_drop_rows, ip_drop_rows, whole_fix_rows, ip_dropped_by, ip_fixes}
+use Rattle.ip_rules.specs.Rows.{carries_ip, side_in, is_inward, holds_in, holds_ip, packet_drop_rows, ip_drop_rows, whole_fix_rows, ip_dropped_by, ip_fixes}
 use Rattle.ip_rules.specs.Datagrams.{DatagramsAreKnown, AreOctets, HasSizes, IsKnown, IsPacketOf, goes_in, datagram_of, as_read}
 use Rattle.ip_rules.proofs.Octets.{two_below, four_below, taken, dropped, behind_long}
 use Rattle.ip_rules.proofs.Undropped.{none_found, none_named, Made, made_by}

@@ -8,11 +8,11 @@ use Rattle.wire_base.specs.declared.address.Link.{Link}
 use Rattle.wire_base.specs.declared.address.Link.TheVariants.{Ethernet, Raw}
 use Rattle.wire_base.specs.declared.frame.FrameKind.{FrameKind}
 use Rattle.wire_base.specs.declared.frame.FrameKind.TheVariants as kinds
-use Rattle.wire_base.specs.Frames.{kind_of}
+use Rattle.wire_base.specs.Frames.{kind_of, packet_in}
 use Rattle.pcap_file.specs.Records.{Packet}
 use Rattle.rule_book.specs.declared.rule.Rule.{Rule}
 use Rattle.rule_book.specs.declared.rule.Rule.TheVariants as rules
-use Rattle.ip_rules.specs.Rows.{l_snap, carries_ip, carries_arp, packet_in}
+use Rattle.ip_rules.specs.Rows.{l_snap, carries_ip, carries_arp}
 use Rattle.ip_rules.specs.Judged.{link_row}
 
 abbrev kind_by : (short ip arp : Bool) → FrameKind

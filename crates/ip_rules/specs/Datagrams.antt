@@ -7,12 +7,13 @@ use Rattle.wire_base.specs.Plain.{IsPlainHeader}
 use Rattle.pcap_file.specs.Records as records
 use Rattle.ipv4_codec.specs.Header.{fields_of}
 use Rattle.wire_base.specs.declared.address.Side.TheVariants.{Inward, Outward}
+use Rattle.wire_base.specs.Frames.{packet_in}
 use Rattle.ipv4_codec.specs.declared.header.Ipv4.{Ipv4}
 use Rattle.ipv4_codec.specs.Write.{plain_header}
 use Rattle.rule_book.specs.declared.rule.Rule.{Rule}
 use Rattle.norm_settings.specs.Settings.{PlainSettings}
 use Rattle.ip_rules.specs.declared.judged.IpPacket.{IpPacket}
-use Rattle.ip_rules.specs.Rows.{carries_ip, packet_in, side_in, whole_fix_rows, ip_dropped_by, ip_fixes}
+use Rattle.ip_rules.specs.Rows.{carries_ip, side_in, whole_fix_rows, ip_dropped_by, ip_fixes}
 
 -- a whole datagram, of one packet or put together from fragments: its side, the fields of its header, the header's octets as they were read (asked for
 -- only where nothing mends the datagram), what it carries, and the rows on its header that mend it

@@ -3,6 +3,7 @@ use Rattle.std.specs.Prelude.{◌≡◌, ℕ, Bool, true, false, List, [], ◌�
 use Rattle.wire_base.specs.declared.address.Link.{Link}
 use Rattle.wire_base.specs.declared.address.Side.{Side}
 use Rattle.wire_base.specs.Ipv4 as ip
+use Rattle.wire_base.specs.Frames.{packet_in}
 use Rattle.pcap_file.specs.Records.{Packet}
 use Rattle.ipv4_codec.specs.Header.{fields_of}
 use Rattle.ipv4_codec.specs.declared.header.IpFault.{IpFault}
@@ -16,7 +17,7 @@ use Rattle.ip_rules.specs.declared.judged.IpJudged.{IpJudged}
 use Rattle.ip_rules.specs.declared.judged.IpJudged.TheVariants.{Arp, Drop, Piece, Whole}
 use Rattle.ip_rules.specs.declared.rows.Linked.{Linked}
 use Rattle.ip_rules.specs.declared.rows.Linked.TheVariants as linked
-use Rattle.ip_rules.specs.Rows.{carries_ip, carries_arp, packet_in, side_in, l_snap, l_short, l_type, i_opt_bad, i_route, p_proto, i_trail, i_opt, i_res, holds_in, packet_drop_rows, whole_fix_rows, piece_fix_rows, ip_dropped_by, ip_fixes, tells_side}
+use Rattle.ip_rules.specs.Rows.{carries_ip, carries_arp, side_in, l_snap, l_short, l_type, i_opt_bad, i_route, p_proto, i_trail, i_opt, i_res, holds_in, packet_drop_rows, whole_fix_rows, piece_fix_rows, ip_dropped_by, ip_fixes, tells_side}
 
 -- the packet of a frame: its side, the fields of its header, the whole frame, the payload up to the total length, and these fix rows
 pub record IsRead (settings : PlainSettings) (given : Option Side) (octets p : List ℕ) (named : List Rule) (packet : IpPacket) : Type 0 where

@@ -25,16 +25,6 @@ abbrev pub carries_arp : Link → List ℕ → Bool
 carries_arp Ethernet frame = ethertype frame == 2054
 carries_arp Raw frame = false
 
--- the IPv4 packet in a frame: behind the Ethernet header of 14 octets, or the whole frame
-abbrev pub packet_in : Link → List ℕ → List ℕ
-packet_in Ethernet frame = drop 14 frame
-packet_in Raw frame = frame
-
--- what stands in a frame before the packet: the Ethernet header of 14 octets (RFC 894), and nothing on a raw link
-abbrev pub link_octets : Link → (frame : List ℕ) → List ℕ
-link_octets Ethernet frame = take 14 frame
-link_octets Raw frame = []
-
 -- the side of a packet: that which its record has from its capture, and where it has none that by its addresses
 abbrev pub side_in : PlainSettings → (given : Option Side) → (packet : List ℕ) → Option Side
 side_in settings given p = side settings given (ip.source p) (ip.destination p)

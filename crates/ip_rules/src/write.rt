@@ -1,27 +1,12 @@
 //! Frames put into the outbox: as they were read, or with a header anew (RFC 791 section 3.1).
 ghost use Rattle.std.specs.Prelude.{◌≡◌, ◌+◌, ◌≤◌, ◌<◌, [], ◌∷◌, ◌++◌, length};
 ghost use Rattle.ipv4_codec.specs.Write.{plain_header};
-ghost use Rattle.ip_rules.specs.Rows as table;
 ghost use Rattle.ip_rules.specs.Datagrams as spec;
 
 use crate::judged::IpPacket;
 use edge_io::Outbox;
 use ipv4_codec::{Ipv4, write_plain};
-use wire_base::{Link, Side};
-
-/// The octets of an Ethernet header (RFC 894).
-const ETHERNET: usize = 14;
-
-/// What stands in a frame before its packet: the Ethernet header, and nothing on a raw link.
-pub fn link_octets(link: Link, frame: &[u8]) -> &[u8]
-    ensures octets { result.now ≡ table.link_octets link frame.now }
-    ensures short { length result.now ≤ 14 }
-{
-    match link {
-        Link::Ethernet => &frame[..frame.len().min(ETHERNET)],
-        Link::Raw => &[],
-    }
-}
+use wire_base::Side;
 
 /// The header of a datagram as it goes out: an inbound one that would not pass all routers behind the bridge gets a TTL that does.
 pub fn head_sent(packet: &IpPacket<'_>, hops: u8) -> Ipv4

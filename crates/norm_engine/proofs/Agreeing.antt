@@ -9,9 +9,10 @@ use Rattle.wire_base.specs.declared.address.Link.TheVariants.{Ethernet}
 use Rattle.wire_base.specs.Tcp as tcp
 use Rattle.wire_base.specs.Plain.{Plain}
 use Rattle.wire_base.specs.Segments.{Segment, fields_of, segment_of}
+use Rattle.wire_base.specs.Frames.{link_octets, packet_in}
 use Rattle.pcap_file.specs.Records as records
 use Rattle.norm_settings.specs.Settings.{PlainSettings}
-use Rattle.ip_rules.specs.Rows.{packet_in, is_inward, link_octets}
+use Rattle.ip_rules.specs.Rows.{is_inward}
 use Rattle.ip_rules.specs.Datagrams.{Datagram, Packet, DatagramsAreKnown, IsPacketOf, goes_in, frames_of}
 use Rattle.era_state.specs.Emission.{AreEmitted}
 use Rattle.era_agreement.specs.Sent.{Sent, is_era, inward_packets, aside_packets, written_as, segments_in, written_in}

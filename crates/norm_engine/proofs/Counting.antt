@@ -6,6 +6,7 @@ use Rattle.std.specs.List.{AllByRecursion}
 use Rattle.wire_base.specs.declared.address.Link.{Link}
 use Rattle.wire_base.specs.Segments.{Written}
 use Rattle.wire_base.specs.Tcp as tcp
+use Rattle.wire_base.specs.Frames.{link_octets}
 use Rattle.pcap_file.specs.Records as records
 use Rattle.rule_book.specs.declared.rule.Rule.{Rule}
 use Rattle.rule_book.specs.declared.entry.Ended.{Ended}
@@ -13,7 +14,6 @@ use Rattle.rule_book.specs.declared.entry.Reason.{Reason}
 use Rattle.rule_book.specs.declared.entry.Reason.TheVariants as reasons
 use Rattle.rule_book.specs.Entries.{HasOctets}
 use Rattle.norm_settings.specs.Settings.{PlainSettings}
-use Rattle.ip_rules.specs.Rows.{link_octets}
 use Rattle.ip_rules.specs.Datagrams.{Datagram, Packet, frame_of}
 use Rattle.era_state.specs.declared.probe.Probe.{Probe}
 use Rattle.era_state.specs.Quantities.{octets_of}

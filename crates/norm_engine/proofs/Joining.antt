@@ -10,6 +10,7 @@ use Rattle.wire_base.specs.declared.address.Link.{Link}
 use Rattle.wire_base.specs.declared.address.Side.{Side}
 use Rattle.wire_base.specs.declared.address.Side.TheVariants.{Inward, Outward}
 use Rattle.wire_base.specs.Ipv4 as ip
+use Rattle.wire_base.specs.Frames.{packet_in}
 use Rattle.icmp_codec.specs.Quote.{quoted_in}
 use Rattle.ipv4_codec.specs.declared.header.Ipv4.{Ipv4}
 use Rattle.ipv4_codec.specs.Header.{fields_of}
@@ -19,7 +20,7 @@ use Rattle.rule_book.specs.declared.rule.Rule.TheVariants as rules
 use Rattle.rule_book.specs.Rules.{datagram_rows, drop_rows, era_rows, fragment_rows, segment_rows, step_rows}
 use Rattle.norm_settings.specs.Settings.{PlainSettings}
 use Rattle.ip_rules.specs.Datagrams.{Datagram, datagram_of, datagram_in, goes_in}
-use Rattle.ip_rules.specs.Rows.{carries_ip, packet_in, side_in, is_inward, holds_in, holds_ip, ip_drop_rows, whole_fix_rows, piece_fix_rows, ip_dropped_by, ip_fixes}
+use Rattle.ip_rules.specs.Rows.{carries_ip, side_in, is_inward, holds_in, holds_ip, ip_drop_rows, whole_fix_rows, piece_fix_rows, ip_dropped_by, ip_fixes}
 use Rattle.ip_rules.specs.Judged.{where_holds}
 use Rattle.ip_rules.proofs.Undropped.{made_by}
 use Rattle.dgram_rules.specs.Rows.{holds_dgram, dgram_dropped_by}

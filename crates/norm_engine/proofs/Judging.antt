@@ -10,7 +10,7 @@ use Rattle.std.proofs.lemmas.List.{append_assoc, append-nil, length-append, leng
 use Rattle.wire_base.specs.declared.address.Link.{Link}
 use Rattle.wire_base.specs.declared.address.Link.TheVariants.{Ethernet, Raw}
 use Rattle.wire_base.specs.declared.address.Side.{Side}
-use Rattle.wire_base.specs.Frames.{ethertype}
+use Rattle.wire_base.specs.Frames.{ethertype, link_octets, packet_in}
 use Rattle.wire_base.specs.Numbers.{u16_at}
 use Rattle.wire_base.specs.Ipv4 as ip
 use Rattle.icmp_codec.specs.Quote.{quoted_in}
@@ -20,7 +20,7 @@ use Rattle.rule_book.specs.declared.rule.Rule.TheVariants as rules
 use Rattle.rule_book.specs.Rules.{datagram_rows, fragment_rows, segment_rows}
 use Rattle.norm_settings.specs.Settings.{PlainSettings}
 use Rattle.ip_rules.specs.declared.judged.IpPacket.{IpPacket}
-use Rattle.ip_rules.specs.Rows.{l_snap, l_short, l_type, carries_ip, carries_arp, packet_in, link_octets, side_in, tells_side, holds_ip, holds_in, ip_drop_rows, packet_drop_rows, whole_fix_rows, piece_fix_rows, ip_dropped_by, ip_fixes}
+use Rattle.ip_rules.specs.Rows.{l_snap, l_short, l_type, carries_ip, carries_arp, side_in, tells_side, holds_ip, holds_in, ip_drop_rows, packet_drop_rows, whole_fix_rows, piece_fix_rows, ip_dropped_by, ip_fixes}
 use Rattle.ipv4_codec.specs.Header.{fields_of}
 use Rattle.ip_rules.specs.Datagrams.{Datagram, DatagramsAreKnown, AreOctets, HasSizes, IsDatagram, IsKnown, datagram_of, datagram_in, datagram_with, goes_in}
 use Rattle.ip_rules.specs.Judged.{IsKept, IsRead, where_holds}

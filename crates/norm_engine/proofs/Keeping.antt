@@ -14,6 +14,7 @@ use Rattle.wire_base.specs.declared.address.Link.TheVariants.{Ethernet, Raw}
 use Rattle.wire_base.specs.Numbers.{u16_octets, with_u16}
 use Rattle.wire_base.specs.Ipv4 as ip
 use Rattle.wire_base.specs.Tcp as tcp
+use Rattle.wire_base.specs.Frames.{link_octets, packet_in}
 use Rattle.icmp_codec.specs.Quote.{quoted_in}
 use Rattle.pcap_file.specs.Records as records
 use Rattle.udp_codec.specs.Checksum.{mended}
@@ -21,7 +22,7 @@ use Rattle.rule_book.specs.declared.rule.Rule.{Rule}
 use Rattle.rule_book.specs.declared.rule.Rule.TheVariants as rules
 use Rattle.rule_book.specs.declared.entry.Verdict.TheVariants as verdicts
 use Rattle.norm_settings.specs.Settings.{PlainSettings}
-use Rattle.ip_rules.specs.Rows.{carries_ip, packet_in, link_octets, piece_fix_rows, ip_fixes}
+use Rattle.ip_rules.specs.Rows.{carries_ip, piece_fix_rows, ip_fixes}
 use Rattle.ip_rules.specs.Datagrams.{Datagram, Packet, IsPacketOf, DatagramsAreKnown, AnewIsPacket, datagram_in, frame_of, frames_of, anew}
 use Rattle.dgram_rules.specs.Rows.{pseudo_of, holds_dgram, dgram_dropped_by, u_short, u_sum_out}
 use Rattle.tcp_norm.specs.Rows as era

@@ -14,7 +14,8 @@ use Rattle.rule_book.specs.declared.rule.Rule.TheVariants as rules
 use Rattle.rule_book.specs.Rules.{segment_rows}
 use Rattle.norm_settings.specs.Settings.{PlainSettings}
 use Rattle.wire_base.specs.Ipv4 as ip
-use Rattle.ip_rules.specs.Rows.{packet_in, l_snap, l_short, ip_dropped_by}
+use Rattle.wire_base.specs.Frames.{packet_in}
+use Rattle.ip_rules.specs.Rows.{l_snap, l_short, ip_dropped_by}
 use Rattle.ip_rules.specs.Datagrams.{Datagram, DatagramsAreKnown, IsKnown, datagram_in, goes_in}
 use Rattle.ip_rules.proofs.Known.{packet_octets, sizes}
 use Rattle.ip_rules.proofs.Octets.{taken, dropped}

@@ -8,12 +8,12 @@ use Rattle.wire_base.specs.declared.address.Link.TheVariants.{Ethernet, Raw}
 use Rattle.wire_base.specs.Ipv4 as ip
 use Rattle.wire_base.specs.Tcp as tcp
 use Rattle.wire_base.specs.Segments.{Written}
+use Rattle.wire_base.specs.Frames.{link_octets, packet_in}
 use Rattle.rule_book.specs.declared.rule.Rule.{Rule}
 use Rattle.rule_book.specs.declared.entry.Ended.{Ended}
 use Rattle.rule_book.specs.declared.entry.Reason.{Reason}
 use Rattle.rule_book.specs.declared.entry.Reason.TheVariants as reasons
 use Rattle.norm_settings.specs.Settings.{PlainSettings}
-use Rattle.ip_rules.specs.Rows.{packet_in, link_octets}
 use Rattle.ip_rules.specs.Datagrams.{Datagram, Packet, IsPacketOf, frame_of, frames_of}
 use Rattle.era_state.specs.Quantities.{octets_of}
 use Rattle.tcp_norm.specs.Calls.{segment_in}

@@ -5,13 +5,13 @@ use Rattle.std.specs.Coded.{le_prop}
 use Rattle.std.proofs.lemmas.List.{length-map}
 use Rattle.wire_base.specs.declared.address.Link.{Link}
 use Rattle.wire_base.specs.Segments.{Written}
+use Rattle.wire_base.specs.Frames.{link_octets}
 use Rattle.pcap_file.specs.Records as records
 use Rattle.tcp_codec.specs.declared.header.Tcp.{Tcp}
 use Rattle.udp_codec.specs.Checksum.{mended}
 use Rattle.rule_book.specs.declared.rule.Rule.{Rule}
 use Rattle.norm_settings.specs.Settings.{PlainSettings}
 use Rattle.ip_rules.specs.declared.judged.IpPacket.{IpPacket}
-use Rattle.ip_rules.specs.Rows.{link_octets}
 use Rattle.ip_rules.specs.Datagrams.{Datagram, datagram_with, head_at}
 use Rattle.ipv4_codec.specs.Write.{plain_header}
 use Rattle.dgram_rules.specs.Rows.{pseudo_of}

@@ -8,6 +8,7 @@ use Rattle.wire_base.specs.declared.address.Link.{Link}
 use Rattle.wire_base.specs.declared.address.Link.TheVariants.{Ethernet}
 use Rattle.wire_base.specs.declared.address.Side.{Side}
 use Rattle.wire_base.specs.Segments.{Written}
+use Rattle.wire_base.specs.Frames.{link_octets}
 use Rattle.pcap_file.specs.Records as records
 use Rattle.tcp_codec.specs.declared.header.Tcp.{Tcp}
 use Rattle.rule_book.specs.declared.rule.Rule.{Rule}
@@ -18,7 +19,7 @@ use Rattle.rule_book.specs.Entries.{plain}
 use Rattle.rule_book.specs.Rules.{era_rows}
 use Rattle.norm_settings.specs.Settings.{PlainSettings}
 use Rattle.ip_rules.specs.declared.judged.IpPacket.{IpPacket}
-use Rattle.ip_rules.specs.Rows.{link_octets, tells_side}
+use Rattle.ip_rules.specs.Rows.{tells_side}
 use Rattle.ip_rules.specs.Datagrams.{Datagram, IsPacketOf, frame_of, frames_of, goes_in}
 use Rattle.tcp_norm.specs.Calls.{Call, expiry, segments}
 use Rattle.tcp_norm.specs.Views.{view_of, idle_at}

@@ -1,7 +1,8 @@
 -- That receivers agree on what was written inwards in each era of a trace (this project's profile).
 use Rattle.std.specs.Prelude.{ℕ, List, map}
 use Rattle.wire_base.specs.declared.address.Link.{Link}
-use Rattle.ip_rules.specs.Rows.{packet_in, is_inward}
+use Rattle.wire_base.specs.Frames.{packet_in}
+use Rattle.ip_rules.specs.Rows.{is_inward}
 use Rattle.era_agreement.specs.Sent.{Sent}
 use Rattle.era_agreement.specs.Agreement as eras
 use Rattle.tcp_norm.specs.Calls.{is_written}

@@ -4,13 +4,13 @@ use Rattle.std.specs.Prelude.{ℕ, not, Bool, true, false, List, [], ◌∷◌, 
 use Rattle.std.specs.Option.{option_or}
 use Rattle.wire_base.specs.declared.address.Link.{Link}
 use Rattle.wire_base.specs.Ipv4 as ip
+use Rattle.wire_base.specs.Frames.{packet_in}
 use Rattle.pcap_file.specs.Records as records
 use Rattle.rule_book.specs.declared.entry.Ended.{Ended}
 use Rattle.rule_book.specs.declared.entry.Reason.{Reason}
 use Rattle.rule_book.specs.declared.entry.Reason.TheVariants as reasons
 use Rattle.norm_settings.specs.Settings.{PlainSettings}
 use Rattle.ip_rules.specs.Datagrams.{Datagram, Packet, datagram_in}
-use Rattle.ip_rules.specs.Rows.{packet_in}
 use Rattle.tcp_norm.specs.Calls.{Call, expiry, datagram, Outcome, segments}
 use Rattle.tcp_norm.specs.Views.{idle_at}
 use Rattle.tcp_norm.specs.Steps.{idled}

@@ -4,12 +4,13 @@ use Rattle.std.specs.List.{list_any}
 use Rattle.wire_base.specs.declared.address.Link.{Link}
 use Rattle.wire_base.specs.Ipv4 as ip
 use Rattle.wire_base.specs.Tcp as tcp
+use Rattle.wire_base.specs.Frames.{packet_in}
 use Rattle.pcap_file.specs.Records.{Packet}
 use Rattle.rule_book.specs.declared.rule.Rule.{Rule}
 use Rattle.rule_book.specs.declared.rule.Rule.TheVariants as rules
 use Rattle.rule_book.specs.declared.entry.Verdict.TheVariants as verdicts
 use Rattle.norm_settings.specs.Settings.{PlainSettings}
-use Rattle.ip_rules.specs.Rows.{carries_ip, packet_in}
+use Rattle.ip_rules.specs.Rows.{carries_ip}
 use Rattle.norm_engine.specs.Items.{Item}
 use Rattle.norm_engine.specs.Trace.{dropped_by, named_rows, read_after}
 

@@ -3,6 +3,7 @@ use Rattle.std.specs.Prelude.{◌≡◌, ℕ, ◌≤◌, ◌&&◌, nat_le, Bool,
 use Rattle.std.specs.Option.{option_or}
 use Rattle.wire_base.specs.declared.address.Link.{Link}
 use Rattle.wire_base.specs.declared.address.Side.{Side}
+use Rattle.wire_base.specs.Frames.{link_octets}
 use Rattle.pcap_file.specs.Records.{Packet}
 use Rattle.tcp_codec.specs.declared.header.Tcp.{Tcp}
 use Rattle.tcp_codec.specs.declared.header.TcpFault.{TcpFault}
@@ -19,7 +20,7 @@ use Rattle.rule_book.specs.Rules.{segment_rows}
 use Rattle.rule_book.specs.Entries.{PlainEntry}
 use Rattle.norm_settings.specs.Settings.{PlainSettings}
 use Rattle.ip_rules.specs.declared.judged.IpPacket.{IpPacket}
-use Rattle.ip_rules.specs.Rows.{link_octets, tells_side}
+use Rattle.ip_rules.specs.Rows.{tells_side}
 use Rattle.ip_rules.specs.Datagrams.{Datagram, datagram_with, goes_in, head_at, AreOctets, HasSizes, IsDatagram, IsKnown}
 use Rattle.ip_rules.specs.Judged.{where_holds}
 use Rattle.ipv4_codec.specs.Write.{plain_header}

@@ -4,6 +4,7 @@ use Rattle.std.specs.Prelude.{ℕ, ◌&&◌, nat_le, Bool, false, List, [], ◌�
 use Rattle.wire_base.specs.declared.address.Link.{Link}
 use Rattle.wire_base.specs.declared.address.Side.{Side}
 use Rattle.wire_base.specs.Ipv4 as ip
+use Rattle.wire_base.specs.Frames.{packet_in}
 use Rattle.pcap_file.specs.Records as records
 use Rattle.ipv4_codec.specs.declared.header.Ipv4.{Ipv4}
 use Rattle.ipv4_codec.specs.Header.{fields_of}
@@ -11,7 +12,7 @@ use Rattle.rule_book.specs.declared.rule.Rule.{Rule}
 use Rattle.rule_book.specs.declared.rule.Rule.TheVariants as rules
 use Rattle.norm_settings.specs.Settings.{PlainSettings}
 use Rattle.ip_rules.specs.Datagrams.{Datagram, goes_in}
-use Rattle.ip_rules.specs.Rows.{carries_ip, packet_in, side_in, piece_fix_rows, ip_dropped_by, ip_fixes}
+use Rattle.ip_rules.specs.Rows.{carries_ip, side_in, piece_fix_rows, ip_dropped_by, ip_fixes}
 use Rattle.ip_rules.specs.Judged.{where_holds}
 use Rattle.reassembly.specs.declared.piece.Whole.{Whole}
 use Rattle.reassembly.specs.Pieces.{Fragment, whole_of, datagram_octets}

@@ -4,13 +4,14 @@ use Rattle.std.specs.Prelude.{◌==◌, ◌&&◌, not, Bool, false, Option, None
 use Rattle.wire_base.specs.declared.address.Link.{Link}
 use Rattle.wire_base.specs.declared.address.Side.{Side}
 use Rattle.wire_base.specs.Tcp as tcp
+use Rattle.wire_base.specs.Frames.{packet_in}
 use Rattle.pcap_file.specs.Records.{Packet}
 use Rattle.rule_book.specs.declared.rule.Rule.{Rule}
 use Rattle.rule_book.specs.declared.rule.Rule.TheVariants as rules
 use Rattle.rule_book.specs.Rules.{segment_rows}
 use Rattle.norm_settings.specs.Settings.{PlainSettings}
 use Rattle.ip_rules.specs.Datagrams.{Datagram}
-use Rattle.ip_rules.specs.Rows.{carries_ip, packet_in, side_in}
+use Rattle.ip_rules.specs.Rows.{carries_ip, side_in}
 use Rattle.dgram_rules.specs.Rows.{pseudo_of, is_offloaded}
 
 -- the side of a record's packet, and none of a record that carries no IPv4

@@ -4,6 +4,7 @@ use Rattle.std.specs.Option.{is_some}
 use Rattle.wire_base.specs.declared.address.Link.{Link}
 use Rattle.wire_base.specs.declared.address.Side.{Side}
 use Rattle.wire_base.specs.declared.address.FlowKey.{FlowKey}
+use Rattle.wire_base.specs.Frames.{link_octets}
 use Rattle.icmp_codec.specs.declared.quote.QuotedKey.{QuotedKey}
 use Rattle.icmp_codec.specs.Quote.{quoted_in}
 use Rattle.pcap_file.specs.Records.{Packet}
@@ -15,7 +16,7 @@ use Rattle.rule_book.specs.declared.entry.Verdict.TheVariants as verdicts
 use Rattle.rule_book.specs.Rules.{drop_rows, fix_rows, step_rows}
 use Rattle.norm_settings.specs.Settings.{PlainSettings}
 use Rattle.ip_rules.specs.Datagrams.{Datagram, goes_in, frames_of}
-use Rattle.ip_rules.specs.Rows.{holds_ip, link_octets, tells_side}
+use Rattle.ip_rules.specs.Rows.{holds_ip, tells_side}
 use Rattle.dgram_rules.specs.Rows.{holds_dgram}
 use Rattle.tcp_norm.specs.Calls.{Call, Outcome, live}
 use Rattle.tcp_norm.specs.Views.{view_of}

@@ -4,7 +4,6 @@ use crate::judge::{Judgment, judge};
 use crate::segment::take;
 use crate::send::{MAX_PAYLOAD, send};
 use edge_io::{NoMemory, Outbox};
-use ip_rules::write::link_octets;
 use norm_settings::Settings;
 use pcap_file::Record;
 use reassembly::Assembly;
@@ -13,7 +12,7 @@ use std::alloc::Global;
 use std::marker::Model;
 use tcp_norm::TcpNorm;
 use tcp_norm::laws::packets_are_its_own;
-use wire_base::Link;
+use wire_base::{Link, link_octets};
 
 /// Judges the records of a capture, one after another. It takes all its memory when it is opened.
 #[derive(Drop)]

@@ -8,9 +8,9 @@ ghost use Rattle.norm_engine.specs.Engine as spec;
 use crate::judge::Judgment;
 use edge_io::Outbox;
 use ip_rules::IpPacket;
-use ip_rules::write::{head_sent, link_octets, put_anew, put_read};
+use ip_rules::write::{head_sent, put_anew, put_read};
 use udp_codec::mend;
-use wire_base::{Link, pseudo_sum};
+use wire_base::{Link, link_octets, pseudo_sum};
 
 /// The octets of the longest payload: those of the longest packet (RFC 791 section 3.1) without a header of 20.
 pub const MAX_PAYLOAD: usize = 65_515;

@@ -4,6 +4,7 @@ use Rattle.std.specs.Prelude.{IfSome, IsSome, slice_get, nat_eq}
 use Rattle.std.specs.List.{AllByRecursion}
 use Rattle.std.proofs.lemmas.Option.{slice_get_past}
 use Rattle.wire_base.specs.declared.address.Link.{Link}
+use Rattle.wire_base.specs.Frames.{packet_in}
 use Rattle.pcap_file.specs.declared.head.Head.{Head}
 use Rattle.pcap_file.specs.declared.order.Order.{Order}
 use Rattle.pcap_file.specs.Records.{Packet, front_of}
@@ -19,7 +20,7 @@ use Rattle.run_audit.specs.Audits.{frames_of, SoundFrames, FaultyFrame, HasEra, 
 use Rattle.run_audit.specs.Eras.{Eras, AllStandFor, AreThere, IsJudged, IsNoted, StandsForFew}
 use Rattle.run_audit.specs.Faults.{IsFirstReason}
 use Rattle.run_audit.specs.FirstFault.{AreFaultless, FailsNext, FirstFault}
-use Rattle.run_audit.specs.Frames.{Frame, frame_of, packet_in, owners, with_frame, owned, sent}
+use Rattle.run_audit.specs.Frames.{Frame, frame_of, owners, with_frame, owned, sent}
 use Rattle.run_audit.specs.Owned.{left_of}
 
 -- nothing is left behind so many

@@ -15,11 +15,6 @@ pub record Frame : Type 0 where
   pub side : Option Side
   pub era : Option ℕ
 
--- the packet of a frame: behind 14 octets on Ethernet, and the whole frame on raw IP
-abbrev pub packet_in : Link → List ℕ → List ℕ
-packet_in Ethernet octets = drop 14 octets
-packet_in Raw octets = octets
-
 -- the frame with these octets, which belongs to this entry
 abbrev pub frame_of : Link → List ℕ → PlainEntry → Frame
 frame_of link octets entry = record { packet = packet_in link octets; side = entry.side; era = entry.era }

@@ -13,7 +13,7 @@ ghost use Rattle.run_audit.specs.declared.answer.Answer.{Answer};
 ghost use Rattle.run_audit.specs.declared.answer.Reason.{Reason};
 
 use crate::answer::tell;
-use crate::frame::{judge, packet_in};
+use crate::frame::judge;
 use crate::laws::{answers_are_one, faultless_agrees};
 use crate::named::{Eras, eras_named};
 use crate::owners::Owners;
@@ -24,6 +24,7 @@ use edge_io::{Sink, Source};
 use pcap_file::{Head, HeadFault, MAX_CAPTURED, Reader, RecordFault, read_head};
 use rule_book::Entry;
 use std::alloc::Global;
+use wire_base::packet_in;
 
 /// Audits a written capture and its report, writes one line to `out`, and answers the status:
 ///

@@ -20,19 +20,9 @@ use era_state::laws::acked_grows_near;
 use receiver_model::{plain, read_plain};
 use rule_book::Entry;
 use tcp_codec::{SumRule, Tcp};
-use wire_base::{Flags, Link, Side};
+use wire_base::{Flags, Side};
 
 const TCP: u8 = 6;
-
-/// The packet of a frame: behind 14 octets on Ethernet, and the whole frame on raw IP.
-pub(crate) fn packet_in(link: Link, octets: &[u8]) -> &[u8]
-    ensures { result.now ≡ frames.packet_in link octets.now }
-{
-    match link {
-        Link::Ethernet => octets.get(14..).unwrap_or(&[]),
-        Link::Raw => octets,
-    }
-}
 
 /// What is wrong with a packet that belongs to this entry; where nothing is, it is noted in its era.
 pub(crate) fn judge(

@@ -1,5 +1,5 @@
 -- What a frame carries: an IPv4 packet alone or behind an Ethernet II header (RFC 894), or an ARP packet behind one (RFC 826).
-use Rattle.std.specs.Prelude.{ℕ, ◌==◌, nat_lt, List, length, if◌then◌else◌}
+use Rattle.std.specs.Prelude.{ℕ, ◌==◌, nat_lt, List, [], length, take, drop, if◌then◌else◌}
 use Rattle.wire_base.specs.Numbers.{u16_at}
 use Rattle.wire_base.specs.declared.address.Link.{Link}
 use Rattle.wire_base.specs.declared.address.Link.TheVariants.{Ethernet, Raw}
@@ -19,3 +19,13 @@ kind_of Ethernet frame =
     else if ethertype frame == 2054 then Arp
     else Other
 kind_of Raw frame = Ip 0
+
+-- the packet in a frame: what stands behind the header of 14 octets on Ethernet (RFC 894), and the whole frame on a raw link
+abbrev pub packet_in : Link → (frame : List ℕ) → List ℕ
+packet_in Ethernet frame = drop 14 frame
+packet_in Raw frame = frame
+
+-- what stands in a frame before the packet: the Ethernet header of 14 octets (RFC 894), and nothing on a raw link
+abbrev pub link_octets : Link → (frame : List ℕ) → List ℕ
+link_octets Ethernet frame = take 14 frame
+link_octets Raw frame = []

@@ -1,6 +1,6 @@
 //! What a frame carries.
-ghost use Rattle.std.specs.Prelude.{◌≡◌};
-ghost use Rattle.wire_base.specs.Frames.{kind_of};
+ghost use Rattle.std.specs.Prelude.{◌≡◌, ◌≤◌, length};
+ghost use Rattle.wire_base.specs.Frames as spec;
 
 use crate::{Link, u16_at};
 
@@ -27,7 +27,7 @@ pub enum FrameKind {
 
 /// What the frame carries: on Ethernet by its EtherType (RFC 894, RFC 826), on a raw link always IPv4.
 pub fn frame_kind(link: Link, bytes: &[u8]) -> FrameKind
-    ensures { result ≡ kind_of link bytes.now }
+    ensures { result ≡ spec.kind_of link bytes.now }
 {
     if link == Link::Raw {
         return FrameKind::Ip(0);
@@ -39,6 +39,27 @@ pub fn frame_kind(link: Link, bytes: &[u8]) -> FrameKind
         IPV4 => FrameKind::Ip(ETHERNET_HEADER),
         ARP => FrameKind::Arp,
         _ => FrameKind::Other,
+    }
+}
+
+/// The packet in a frame: what stands behind the Ethernet II header, and the whole frame on a raw link.
+pub fn packet_in(link: Link, frame: &[u8]) -> &[u8]
+    ensures { result.now ≡ spec.packet_in link frame.now }
+{
+    match link {
+        Link::Ethernet => &frame[frame.len().min(ETHERNET_HEADER)..],
+        Link::Raw => frame,
+    }
+}
+
+/// What stands in a frame before its packet: the Ethernet II header, as far as it is there, and nothing on a raw link.
+pub fn link_octets(link: Link, frame: &[u8]) -> &[u8]
+    ensures octets { result.now ≡ spec.link_octets link frame.now }
+    ensures short { length result.now ≤ 14 }
+{
+    match link {
+        Link::Ethernet => &frame[..frame.len().min(ETHERNET_HEADER)],
+        Link::Raw => &[],
     }
 }
 
@@ -69,5 +90,16 @@ mod tests {
         }
         assert_eq!(rt; frame_kind(Link::Ethernet, &[]), FrameKind::Short);
         assert_eq!(rt; frame_kind(Link::Raw, &[]), FrameKind::Ip(0));
+    }
+
+    #[test]
+    fn a_frame_is_its_link_octets_and_its_packet(rt: HostRuntime) {
+        let frame = [2, 0, 0, 0, 0, 2, 2, 0, 0, 0, 0, 1, 0x08, 0x00, 0x45, 0x46];
+        assert_eq!(rt; link_octets(Link::Ethernet, &frame), &HEADER);
+        assert_eq!(rt; packet_in(Link::Ethernet, &frame), &[0x45, 0x46]);
+        assert_eq!(rt; link_octets(Link::Ethernet, &frame[..3]), &frame[..3]);
+        assert_eq!(rt; packet_in(Link::Ethernet, &frame[..3]), &[]);
+        assert_eq!(rt; link_octets(Link::Raw, &frame), &[]);
+        assert_eq!(rt; packet_in(Link::Raw, &frame), &frame);
     }
 }

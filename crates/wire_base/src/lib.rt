@@ -11,7 +11,7 @@ pub mod sums;
 
 pub use address::{Addr, FlowKey, Link, Side};
 pub use flags::Flags;
-pub use frame::{FrameKind, frame_kind};
+pub use frame::{FrameKind, frame_kind, link_octets, packet_in};
 pub use number::{put_u16, put_u32, u16_at, u32_at};
 pub use prefix::{Prefix, PrefixFault, read_prefix};
 pub use sums::{pseudo_sum, sum_for, sum_right};

@@ -1,7 +1,8 @@
 use Rattle.std.proofs.Common.{◌≡◌, length, take, drop, ap, sym, ◌∙◌, subst, arith}
 use Rattle.wire_base.specs.Ipv4 as ip
 use Rattle.wire_base.specs.Tcp as tcp
-use Rattle.emit_mtu.specs.Frames.{AreSized, packet_in}
+use Rattle.wire_base.specs.Frames.{packet_in}
+use Rattle.emit_mtu.specs.Frames.{AreSized}
 use Rattle.emit_mtu.proofs.Sent.{are_sized, is_faultless, payload_is}
 use Rattle.emit_mtu.proofs.parts.parts_of.Goals as goal
 
@@ -23,4 +24,4 @@ returns-clause-sized c =
     let size : c.header_length.result ≡ tcp.header_length (ip.payload p) = c.header_length.ensures ∙ ap tcp.header_length e in
     let front : c.split_at-2.result.0.now ≡ take (tcp.header_length (ip.payload p)) (ip.payload p) = c.split_at-2.ensures.front ∙ (λ i. take (size i) (e i)) in
     let back : c.split_at-2.result.1.now ≡ tcp.payload (ip.payload p) = c.split_at-2.ensures.back ∙ (λ i. drop (size i) (e i)) in
-    subst AreSized (λ i. record { link = sym c.link_octets.ensures i; ip = sym header i; tcp = sym front i; payload = sym back i }) sized
+    subst AreSized (λ i. record { link = sym c.link_octets.ensures.octets i; ip = sym header i; tcp = sym front i; payload = sym back i }) sized

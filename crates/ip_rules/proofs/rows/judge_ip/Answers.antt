@@ -1,7 +1,8 @@
 use Rattle.std.proofs.Common.{sym, ap, None, if◌then◌else◌}
+use Rattle.wire_base.specs.Frames.{packet_in}
 use Rattle.pcap_file.specs.Reads.{shown}
 use Rattle.norm_settings.specs.Settings.{plain_settings}
-use Rattle.ip_rules.specs.Rows.{side_in, packet_in}
+use Rattle.ip_rules.specs.Rows.{side_in}
 use Rattle.ip_rules.proofs.Joining.{dropped_early, link_is_early, arp_passes, judged_here}
 use Rattle.ip_rules.proofs.rows.judge_ip.Goals as goal
 

@@ -2,7 +2,7 @@ use Rattle.std.proofs.Common.{rules, ◌≡◌, ◌<◌, ◌≤◌, ◌==◌, �
 use Rattle.norm_settings.specs.Settings.{plain_settings}
 use Rattle.pcap_file.specs.Reads.{shown}
 use Rattle.wire_base.specs.Ipv4 as ip
-use Rattle.ip_rules.specs.Rows.{packet_in}
+use Rattle.wire_base.specs.Frames.{packet_in}
 use Rattle.ipv4_codec.specs.declared.header.Ipv4.{Ipv4}
 use Rattle.reassembly.specs.Assemblies as fragments
 use Rattle.norm_engine.proofs.Judging.{arp_is_no_ip, arp_passes, row_drops, none_called, kept_packet, few_fixes, few_parts, own, stands_in, carried_made, whole_judged, piece_judged, piece_called, is_piece}
