@@ -95,11 +95,13 @@ mod tests {
     #[test]
     fn a_frame_is_its_link_octets_and_its_packet(rt: HostRuntime) {
         let frame = [2, 0, 0, 0, 0, 2, 2, 0, 0, 0, 0, 1, 0x08, 0x00, 0x45, 0x46];
-        assert_eq!(rt; link_octets(Link::Ethernet, &frame), &HEADER);
-        assert_eq!(rt; packet_in(Link::Ethernet, &frame), &[0x45, 0x46]);
-        assert_eq!(rt; link_octets(Link::Ethernet, &frame[..3]), &frame[..3]);
-        assert_eq!(rt; packet_in(Link::Ethernet, &frame[..3]), &[]);
-        assert_eq!(rt; link_octets(Link::Raw, &frame), &[]);
-        assert_eq!(rt; packet_in(Link::Raw, &frame), &frame);
+        let frame = frame.as_slice();
+        for (size, link) in [(0, 0), (3, 3), (14, 14), (16, 14)] {
+            let short = &frame[..size];
+            assert_eq!(rt; link_octets(Link::Ethernet, short), &frame[..link]);
+            assert_eq!(rt; packet_in(Link::Ethernet, short), &frame[link..size]);
+            assert_eq!(rt; link_octets(Link::Raw, short).len(), 0);
+            assert_eq!(rt; packet_in(Link::Raw, short), short);
+        }
     }
 }
