@@ -213,6 +213,7 @@ module _ (settings : PlainSettings) (b a n : Moment) where
   row_of (stops.At kinds.Magic offset) p first behind told = record { flaw = bad_magic; other = refl; ends = flawed_row bad_magic offset behind p first.sinks.report told }
   row_of (stops.At kinds.Version offset) p first behind told = record { flaw = bad_version; other = refl; ends = flawed_row bad_version offset behind p first.sinks.report told }
   row_of (stops.At kinds.Link offset) p first behind told = record { flaw = bad_link; other = refl; ends = flawed_row bad_link offset behind p first.sinks.report told }
+  row_of (stops.At kinds.Block offset) p first behind told = absurd p
   row_of (stops.At kinds.Long offset) p first behind told = record { flaw = too_long; other = refl; ends = flawed_row too_long offset behind p first.sinks.report told }
   row_of (stops.At kinds.Many offset) p first behind told = record { flaw = too_many; other = refl; ends = flawed_row too_many offset behind p first.sinks.report told }
   row_of (stops.At kinds.Cut offset) p first behind told = flawed_row cut_short offset behind p first.sinks.report told

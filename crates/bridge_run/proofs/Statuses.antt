@@ -58,6 +58,7 @@ sorts : (settings : PlainSettings) (stop : Stop) (a b : Moment) → Stands setti
 sorts settings (stops.At kinds.Magic offset) a b p = inl (record { flaw = bad_magic; offset = offset; first = flawed_at settings bad_magic offset a b p; answered = refl })
 sorts settings (stops.At kinds.Version offset) a b p = inl (record { flaw = bad_version; offset = offset; first = flawed_at settings bad_version offset a b p; answered = refl })
 sorts settings (stops.At kinds.Link offset) a b p = inl (record { flaw = bad_link; offset = offset; first = flawed_at settings bad_link offset a b p; answered = refl })
+sorts settings (stops.At kinds.Block offset) a b p = absurd p
 sorts settings (stops.At kinds.Long offset) a b p = inl (record { flaw = too_long; offset = offset; first = flawed_at settings too_long offset a b p; answered = refl })
 sorts settings (stops.At kinds.Many offset) a b p = inl (record { flaw = too_many; offset = offset; first = flawed_at settings too_many offset a b p; answered = refl })
 sorts settings (stops.At kinds.Cut offset) a b p = inl (record { flaw = cut_short; offset = offset; first = flawed_at settings cut_short offset a b p; answered = refl })

@@ -94,6 +94,7 @@ abbrev pub Stands : PlainSettings → Stop → (before now : Moment) → Type 0
 Stands settings (stops.At kinds.Magic offset) before now = Flawed settings bad_magic offset before now
 Stands settings (stops.At kinds.Version offset) before now = Flawed settings bad_version offset before now
 Stands settings (stops.At kinds.Link offset) before now = Flawed settings bad_link offset before now
+Stands settings (stops.At kinds.Block offset) before now = ⊥
 Stands settings (stops.At kinds.Long offset) before now = Flawed settings too_long offset before now
 Stands settings (stops.At kinds.Many offset) before now = Flawed settings too_many offset before now
 Stands settings (stops.At kinds.Cut offset) before now = Flawed settings cut_short offset before now

@@ -24,6 +24,7 @@ abbrev pub kind_status : StopKind → ℕ
 kind_status kinds.Magic = 3
 kind_status kinds.Version = 3
 kind_status kinds.Link = 3
+kind_status kinds.Block = 3
 kind_status kinds.Long = 3
 kind_status kinds.Many = 3
 kind_status kinds.Cut = 4

@@ -38,7 +38,7 @@ fn kind_status(kind: StopKind) -> u8
 {
     match kind {
         StopKind::Magic | StopKind::Version | StopKind::Link => 3,
-        StopKind::Long | StopKind::Many => 3,
+        StopKind::Block | StopKind::Long | StopKind::Many => 3,
         StopKind::Cut => 4,
         StopKind::ReadFault => 5,
         StopKind::Capture => 6,

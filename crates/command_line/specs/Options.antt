@@ -45,7 +45,6 @@ kind_of Both = Alone
 
 -- whether what the option asks for is there yet: one switch each
 abbrev pub is_built : Choice → Bool
-is_built Mtu = false
 is_built Inside = false
 is_built Both = false
 is_built _ = true

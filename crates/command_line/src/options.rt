@@ -112,7 +112,7 @@ impl Choice {
                     least: 576,
                     greatest: 65_535,
                 },
-                is_built: false,
+                is_built: true,
             },
             Choice::Inside => Row {
                 name: "inside",

@@ -6,8 +6,8 @@ use Rattle.wire_base.specs.declared.prefix.Prefix as wire
 use Rattle.command_line.specs.Options.{Text, is_built}
 use Rattle.command_line.specs.Line.{PlainUse, PlainLine, given}
 use Rattle.command_line.specs.declared.options.Choice.{Choice}
-use Rattle.command_line.specs.declared.options.Choice.TheVariants.{Mtu, Inside, Both}
-use Rattle.norm_settings.specs.Settings.{plain_settings, settings_of, limit_told, name_told, is_told, AreBuilt}
+use Rattle.command_line.specs.declared.options.Choice.TheVariants.{Inside, Both}
+use Rattle.norm_settings.specs.Settings.{plain_settings, settings_of, name_told, is_told, AreBuilt}
 use Rattle.norm_settings.specs.Asked.{PlainNames, run, run_of, run_by, prefixes_from, plain_command, SettingsAreBuilt}
 use Rattle.norm_settings.specs.declared.command.Command.{Command}
 use Rattle.norm_settings.specs.declared.command.Command.TheVariants.{Run, Load}
@@ -22,7 +22,6 @@ told_built uses prefixes h = record {
   both = λ n. ap is_told (h Both n);
   mirror = refl;
   inside = λ n. ap name_told (h Inside n);
-  mtu = λ n. ap (limit_told Mtu) (h Mtu n);
 }
 
 run_is_built : (names : PlainNames) (uses : List PlainUse) (prefixes : List wire.Prefix) (command : Command) → AreUnused uses → run names (settings_of (λ choice. given choice uses) prefixes) ≡ plain_command command → SettingsAreBuilt command

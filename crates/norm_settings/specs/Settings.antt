@@ -107,4 +107,3 @@ pub record AreBuilt (s : PlainSettings) : Type 0 where
   pub both : is_built Both ≡ false → s.both ≡ false
   pub mirror : s.mirror ≡ false
   pub inside : is_built Inside ≡ false → s.inside ≡ None
-  pub mtu : is_built Mtu ≡ false → s.mtu ≡ None

@@ -255,7 +255,7 @@ mod tests {
 
     #[test]
     fn options_are_refused(rt: HostRuntime) -> Result<(), Fail> {
-        let rows: [&[&str]; 26] = [
+        let rows: [&[&str]; 27] = [
             &["--hops", "5", "--hops=6"],
             &["--hops", "255"],
             &["--hops=255"],
@@ -279,7 +279,8 @@ mod tests {
             &["--=5"],
             &["--quota", "0"],
             &["--quota=262145"],
-            &["--mtu=1500"],
+            &["--mtu=575"],
+            &["--mtu", "65536"],
             &["--inside", "eth0"],
             &["--both"],
         ];
@@ -308,6 +309,8 @@ mod tests {
                 "--seed",
                 "18446744073709551615",
                 "--quota=262144",
+                "--mtu",
+                "576",
                 "--offload",
             ],
         )?;
@@ -318,7 +321,7 @@ mod tests {
         assert_eq!(rt; (settings.frags, settings.frag_cells), (4096, 256));
         assert_eq!(rt; (settings.idle, settings.frag_time), (1_000_000, 3600));
         assert_eq!(rt; (settings.seed, settings.offload), (u64::MAX, true));
-        assert_eq!(rt; settings.quota, Some(262_144));
+        assert_eq!(rt; (settings.quota, settings.mtu), (Some(262_144), Some(576)));
         Ok(())
     }
 

@@ -11,7 +11,7 @@ use Rattle.rule_book.specs.declared.entry.Verdict.TheVariants.{Pass, Fix, Hold, 
 use Rattle.rule_book.specs.declared.last.Last.{Last}
 use Rattle.rule_book.specs.declared.last.Last.TheVariants.{End, Stop}
 use Rattle.rule_book.specs.declared.last.StopKind.{StopKind}
-use Rattle.rule_book.specs.declared.last.StopKind.TheVariants.{Magic, Version, Link, Long, Many, Cut, ReadFault, Capture, Memory}
+use Rattle.rule_book.specs.declared.last.StopKind.TheVariants.{Magic, Version, Link, Block, Long, Many, Cut, ReadFault, Capture, Memory}
 use Rattle.rule_book.specs.declared.rule.Rule.{Rule}
 use Rattle.wire_base.specs.declared.address.Side.{Side}
 use Rattle.wire_base.specs.declared.address.Side.TheVariants.{Inward, Outward}
@@ -73,6 +73,7 @@ abbrev pub stop_word : StopKind → List ℕ
 stop_word Magic = codes "magic"
 stop_word Version = codes "version"
 stop_word Link = codes "link"
+stop_word Block = codes "block"
 stop_word Long = codes "long"
 stop_word Many = codes "many"
 stop_word Cut = codes "cut"

@@ -14,6 +14,8 @@ pub enum StopKind {
     Version,
     /// The capture's link type is another.
     Link,
+    /// A block of the capture is malformed.
+    Block,
     /// A record's captured length is above the bound.
     Long,
     /// There are more records than can be numbered.
@@ -46,6 +48,7 @@ impl StopKind {
             StopKind::Magic => "magic",
             StopKind::Version => "version",
             StopKind::Link => "link",
+            StopKind::Block => "block",
             StopKind::Long => "long",
             StopKind::Many => "many",
             StopKind::Cut => "cut",
@@ -63,6 +66,7 @@ impl StopKind {
             b"magic" => Some(StopKind::Magic),
             b"version" => Some(StopKind::Version),
             b"link" => Some(StopKind::Link),
+            b"block" => Some(StopKind::Block),
             b"long" => Some(StopKind::Long),
             b"many" => Some(StopKind::Many),
             b"cut" => Some(StopKind::Cut),

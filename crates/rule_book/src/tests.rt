@@ -174,6 +174,7 @@ fn the_last_line_counts_or_tells_why(rt: HostRuntime) {
         (stop(StopKind::Magic, 0), "stop magic 0\n"),
         (stop(StopKind::Version, 0), "stop version 0\n"),
         (stop(StopKind::Link, 0), "stop link 0\n"),
+        (stop(StopKind::Block, 92), "stop block 92\n"),
         (stop(StopKind::Long, 24), "stop long 24\n"),
         (stop(StopKind::Many, 1000000), "stop many 1000000\n"),
         (stop(StopKind::Cut, 70), "stop cut 70\n"),
