@@ -1,3 +1,4 @@
 pub mod Table
 pub mod Rings
 pub mod Sound
+pub mod Listing

@@ -2,10 +2,12 @@
 #![tactic(auto)]
 
 mod key;
+mod list;
 mod ring;
 mod table;
 
 pub use key::Key;
+pub use list::SlotList;
 pub use table::{LinkedTable, Slot};
 
 #[cfg(test)]

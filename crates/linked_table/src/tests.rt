@@ -2,7 +2,7 @@
 ghost use Rattle.std.specs.Prelude.{◌+◌, ◌*◌, ◌<◌, ◌^◌, ◌%◌, length, IfSome};
 ghost use Rattle.std.proofs.Common.{rules};
 
-use crate::{Key, LinkedTable, Slot};
+use crate::{Key, LinkedTable, Slot, SlotList};
 use std::process::Abort;
 use std::test::Fail;
 
@@ -138,5 +138,34 @@ fn a_pattern_of_calls_is_the_same_on_a_list(rt: HostRuntime) -> Result<(), Fail>
             compare(&rt, &table, list.as_slice(), step);
         }
     }
+    Ok(())
+}
+
+/// What stands in the list, read by taking the first one out until there is none.
+fn listed(list: &mut SlotList, slots: &mut [u32]) -> usize {
+    let mut count = 0;
+    while let Some(slot) = list.first() {
+        slots[count] = slot.0;
+        count += 1;
+        list.take_out(slot);
+    }
+    count
+}
+
+#[test]
+fn slots_are_listed_in_the_order_of_their_last_putting(rt: HostRuntime) -> Result<(), Fail> {
+    let mut list = SlotList::open(rt.alloc(), 5)?;
+    assert_eq!(rt; list.first(), None);
+    for slot in [3, 0, 4, 2] {
+        list.put_last(Slot(slot));
+    }
+    assert_eq!(rt; list.first(), Some(Slot(3)));
+    list.put_last(Slot(3));
+    list.take_out(Slot(4));
+    list.take_out(Slot(1));
+    let mut slots = [9; 5];
+    let count = listed(&mut list, &mut slots);
+    assert_eq!(rt; &slots[..count], [0, 2, 3].as_slice());
+    assert_eq!(rt; list.first(), None);
     Ok(())
 }
