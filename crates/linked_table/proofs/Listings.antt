@@ -247,7 +247,7 @@ module _ (links : List Links) (max : ℕ) (t : IsThreaded links max) (list : Lis
     pub out_of : IsOut cut max slot.0 (others list.slots slot)
     out_of =
         let out : IsOut (unlinked links slot.0) max slot.0 (others list.slots slot) =
-            subst (λ l. IsOut (unlinked links slot.0) max slot.0 (others l slot)) list_slots in_list.out in
+        subst (λ l. IsOut (unlinked links slot.0) max slot.0 (others l slot)) list_slots in_list.out in
         subst (λ l. IsOut l max slot.0 (others list.slots slot)) (sym cut_is) out
 
     pub last_inside : (link_at cut max).before < length cut

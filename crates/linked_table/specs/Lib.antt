@@ -2,3 +2,4 @@ pub mod Table
 pub mod Rings
 pub mod Sound
 pub mod Listing
+pub mod Hashes

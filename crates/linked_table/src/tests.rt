@@ -2,7 +2,7 @@
 ghost use Rattle.std.specs.Prelude.{◌+◌, ◌*◌, ◌<◌, ◌^◌, ◌%◌, length, IfSome};
 ghost use Rattle.std.proofs.Common.{rules};
 
-use crate::{Key, LinkedTable, Slot, SlotList};
+use crate::{Key, LinkedTable, Slot, SlotList, hash_words};
 use std::process::Abort;
 use std::test::Fail;
 
@@ -139,6 +139,13 @@ fn a_pattern_of_calls_is_the_same_on_a_list(rt: HostRuntime) -> Result<(), Fail>
         }
     }
     Ok(())
+}
+
+#[test]
+fn a_hash_is_of_the_seed_and_both_words(rt: HostRuntime) {
+    // SipHash-1-3 with both keys 0, over the octets of the three words, the lowest of each first, as Rust's hasher gives it.
+    assert_eq!(rt; hash_words(0, 0, 0), 0xf900_3207_cf9e_4d4c);
+    assert_eq!(rt; hash_words(7, 1, 2), 0xddbd_aa13_5600_06cd);
 }
 
 /// What stands in the list, read by taking the first one out until there is none.
