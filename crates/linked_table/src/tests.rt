@@ -148,17 +148,6 @@ fn a_hash_is_of_the_seed_and_both_words(rt: HostRuntime) {
     assert_eq!(rt; hash_words(7, 1, 2), 0xddbd_aa13_5600_06cd);
 }
 
-/// What stands in the list, read by taking the first one out until there is none.
-fn listed(list: &mut SlotList, slots: &mut [u32]) -> usize {
-    let mut count = 0;
-    while let Some(slot) = list.first() {
-        slots[count] = slot.0;
-        count += 1;
-        list.take_out(slot);
-    }
-    count
-}
-
 #[test]
 fn slots_are_listed_in_the_order_of_their_last_putting(rt: HostRuntime) -> Result<(), Fail> {
     let mut list = SlotList::open(rt.alloc(), 5)?;
@@ -170,9 +159,10 @@ fn slots_are_listed_in_the_order_of_their_last_putting(rt: HostRuntime) -> Resul
     list.put_last(Slot(3));
     list.take_out(Slot(4));
     list.take_out(Slot(1));
-    let mut slots = [9; 5];
-    let count = listed(&mut list, &mut slots);
-    assert_eq!(rt; &slots[..count], [0, 2, 3].as_slice());
+    for slot in [0, 2, 3] {
+        assert_eq!(rt; list.first(), Some(Slot(slot)));
+        list.take_out(Slot(slot));
+    }
     assert_eq!(rt; list.first(), None);
     Ok(())
 }
