@@ -1,0 +1,4 @@
+pub mod Facts
+pub mod Untouched
+pub mod Inwards
+pub mod Relaying

@@ -1,0 +1,3 @@
+pub mod Traces
+pub mod Both
+pub mod Laws

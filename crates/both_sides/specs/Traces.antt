@@ -1,0 +1,36 @@
+-- The traces of two engines, one behind the other (this project's profile). Traces are lists of items with the newest at the head.
+use Rattle.std.specs.Prelude.{◌≡◌, ℕ, true, List, [], ◌∷◌, length, map, None}
+use Rattle.wire_base.specs.declared.address.Link.{Link}
+use Rattle.pcap_file.specs.Records.{Packet}
+use Rattle.norm_settings.specs.Settings.{PlainSettings}
+use Rattle.norm_engine.specs.Items.{Item, packets}
+use Rattle.norm_engine.specs.Trace.{Lawful}
+
+-- the settings of the second engine: the addresses in no prefix are those behind the bridge
+abbrev pub mirrored : PlainSettings → PlainSettings
+mirrored settings = record settings { mirror = true }
+
+-- the record that a frame is for the second engine: with the time of the record for which it was written, with its own length as the original one, and
+-- without a side of its own, as a capture of the frame would be read
+abbrev pub record_of : (seconds fraction : ℕ) → (frame : List ℕ) → Packet
+record_of seconds fraction frame = record { seconds = seconds; fraction = fraction; original = length frame; side = None; octets = frame }
+
+-- the records that the frames of an item are, in their order
+abbrev pub records_for : Item → List Packet
+records_for item = map (record_of item.packet.seconds item.packet.fraction) item.frames
+
+-- records with these before them, which come one after another: the newest at the head
+abbrev pub behind : (records older : List Packet) → List Packet
+behind [] older = older
+behind (r ∷ more) older = behind more (r ∷ older)
+
+-- the records that the frames of a trace are, the newest at the head
+abbrev pub records_of : List Item → List Packet
+records_of [] = []
+records_of (item ∷ older) = behind (records_for item) (records_of older)
+
+-- The trace of the first engine is lawful for the settings, and that of the second for the mirrored ones, with the frames of the first as its records.
+pub record AreLawful (settings : PlainSettings) (link : Link) (trace mirror : List Item) : Type 0 where
+  pub first : Lawful settings link trace
+  pub second : Lawful (mirrored settings) link mirror
+  pub handed : packets mirror ≡ records_of trace

@@ -1,0 +1,280 @@
+//! Both sides protected, by worked rows: what each engine says of a packet and of its frames, and what goes out.
+ghost use Rattle.std.specs.Prelude.{◌≡◌, false, IfSome};
+ghost use Rattle.norm_settings.specs.Settings.{plain_settings, AreInRange};
+
+use super::Both;
+use arrayvec::ArrayVec;
+use edge_io::Outbox;
+use norm_settings::Settings;
+use pcap_file::Record;
+use rule_book::{Entry, Rule, Verdict};
+use std::alloc::Global;
+use std::test::Fail;
+use wire_base::{Addr, Link, Prefix};
+
+/// A SYN (RFC 9293) from 198.51.100.7 port 40000 to 10.0.0.1 port 80 with sequence 999 and window 8192.
+const SYN: [u8; 40] = [
+    0x45, 0x00, 0x00, 0x28, 0x00, 0x01, 0x00, 0x00, 0x40, 0x06, 0x46, 0x94, 0xc6, 0x33, 0x64, 0x07,
+    0x0a, 0x00, 0x00, 0x01, 0x9c, 0x40, 0x00, 0x50, 0x00, 0x00, 0x03, 0xe7, 0x00, 0x00, 0x00, 0x00,
+    0x50, 0x02, 0x20, 0x00, 0xbb, 0x2f, 0x00, 0x00,
+];
+
+/// The answer to it, with sequence 5000.
+const SYN_ACK: [u8; 40] = [
+    0x45, 0x00, 0x00, 0x28, 0x00, 0x01, 0x00, 0x00, 0x40, 0x06, 0x46, 0x94, 0x0a, 0x00, 0x00, 0x01,
+    0xc6, 0x33, 0x64, 0x07, 0x00, 0x50, 0x9c, 0x40, 0x00, 0x00, 0x13, 0x88, 0x00, 0x00, 0x03, 0xe8,
+    0x50, 0x12, 0x20, 0x00, 0xa7, 0x96, 0x00, 0x00,
+];
+
+/// The acknowledgment of that.
+const ACK: [u8; 40] = [
+    0x45, 0x00, 0x00, 0x28, 0x00, 0x01, 0x00, 0x00, 0x40, 0x06, 0x46, 0x94, 0xc6, 0x33, 0x64, 0x07,
+    0x0a, 0x00, 0x00, 0x01, 0x9c, 0x40, 0x00, 0x50, 0x00, 0x00, 0x03, 0xe8, 0x00, 0x00, 0x13, 0x89,
+    0x50, 0x10, 0x20, 0x00, 0xa7, 0x97, 0x00, 0x00,
+];
+
+/// Outwards, the four octets `abcd` with sequence 5001.
+const ABCD: [u8; 44] = [
+    0x45, 0x00, 0x00, 0x2c, 0x00, 0x01, 0x00, 0x00, 0x40, 0x06, 0x46, 0x90, 0x0a, 0x00, 0x00, 0x01,
+    0xc6, 0x33, 0x64, 0x07, 0x00, 0x50, 0x9c, 0x40, 0x00, 0x00, 0x13, 0x89, 0x00, 0x00, 0x03, 0xe8,
+    0x50, 0x18, 0x20, 0x00, 0xe2, 0xc4, 0x00, 0x00, 0x61, 0x62, 0x63, 0x64,
+];
+
+/// Outwards, other octets at the same places.
+const ABXD: [u8; 44] = [
+    0x45, 0x00, 0x00, 0x2c, 0x00, 0x01, 0x00, 0x00, 0x40, 0x06, 0x46, 0x90, 0x0a, 0x00, 0x00, 0x01,
+    0xc6, 0x33, 0x64, 0x07, 0x00, 0x50, 0x9c, 0x40, 0x00, 0x00, 0x13, 0x89, 0x00, 0x00, 0x03, 0xe8,
+    0x50, 0x18, 0x20, 0x00, 0xed, 0xc4, 0x00, 0x00, 0x61, 0x62, 0x58, 0x64,
+];
+
+/// Inwards, a RST with sequence 1000.
+const RESET: [u8; 40] = [
+    0x45, 0x00, 0x00, 0x28, 0x00, 0x01, 0x00, 0x00, 0x40, 0x06, 0x46, 0x94, 0xc6, 0x33, 0x64, 0x07,
+    0x0a, 0x00, 0x00, 0x01, 0x9c, 0x40, 0x00, 0x50, 0x00, 0x00, 0x03, 0xe8, 0x00, 0x00, 0x00, 0x00,
+    0x50, 0x04, 0x20, 0x00, 0xbb, 0x2c, 0x00, 0x00,
+];
+
+/// The probe of the connection, with the number before the one that is awaited.
+const PROBE: [u8; 40] = [
+    0x45, 0x00, 0x00, 0x28, 0x00, 0x01, 0x00, 0x00, 0x40, 0x06, 0x46, 0x94, 0xc6, 0x33, 0x64, 0x07,
+    0x0a, 0x00, 0x00, 0x01, 0x9c, 0x40, 0x00, 0x50, 0x00, 0x00, 0x03, 0xe7, 0x00, 0x00, 0x13, 0x89,
+    0x50, 0x10, 0x20, 0x00, 0xa7, 0x98, 0x00, 0x00,
+];
+
+/// Inwards, a port unreachable (RFC 792) that quotes a segment of the connection.
+const UNREACHABLE: [u8; 56] = [
+    0x45, 0x00, 0x00, 0x38, 0x00, 0x01, 0x00, 0x00, 0x40, 0x01, 0x46, 0x89, 0xc6, 0x33, 0x64, 0x07,
+    0x0a, 0x00, 0x00, 0x01, 0x03, 0x00, 0x60, 0x6f, 0x00, 0x00, 0x00, 0x00, 0x45, 0x00, 0x00, 0x1c,
+    0x00, 0x01, 0x00, 0x00, 0x40, 0x06, 0x46, 0xa0, 0x0a, 0x00, 0x00, 0x01, 0xc6, 0x33, 0x64, 0x07,
+    0x00, 0x50, 0x9c, 0x40, 0x00, 0x00, 0x00, 0x00,
+];
+
+/// ARP (RFC 826) behind an Ethernet header, with padding.
+const ARP: [u8; 60] = [
+    0xff, 0xff, 0xff, 0xff, 0xff, 0xff, 2, 0, 0, 0, 0, 1, 8, 6, 0, 1, 8, 0, 6, 4, 0, 1, 2, 0, 0, 0,
+    0, 1, 10, 0, 0, 1, 0, 0, 0, 0, 0, 0, 10, 0, 0, 2, 0, 0, 0, 0, 0, 0, 0, 0, 0, 0, 0, 0, 0, 0, 0,
+    0, 0, 0,
+];
+
+/// What is said of a record.
+struct Told {
+    verdict: Verdict,
+    rules: &'static [Rule],
+    era: Option<u32>,
+}
+
+const PASSED: Told = Told {
+    verdict: Verdict::Pass,
+    rules: &[],
+    era: Some(1),
+};
+
+const BESIDE: Told = Told {
+    verdict: Verdict::Pass,
+    rules: &[],
+    era: None,
+};
+
+/// A packet, what the first engine says of it, and for each frame that this writes what the second engine says, and what goes out.
+struct Row {
+    packet: &'static [u8],
+    front: Told,
+    back: &'static [(Told, &'static [u8])],
+}
+
+const OPENED: [Row; 3] = [
+    Row {
+        packet: &SYN,
+        front: PASSED,
+        back: &[(PASSED, &SYN)],
+    },
+    Row {
+        packet: &SYN_ACK,
+        front: PASSED,
+        back: &[(PASSED, &SYN_ACK)],
+    },
+    Row {
+        packet: &ACK,
+        front: PASSED,
+        back: &[(PASSED, &ACK)],
+    },
+];
+
+/// The octets that go outwards stay those that went first.
+const CLASHED: [Row; 2] = [
+    Row {
+        packet: &ABCD,
+        front: PASSED,
+        back: &[(PASSED, &ABCD)],
+    },
+    Row {
+        packet: &ABXD,
+        front: PASSED,
+        back: &[(
+            Told {
+                verdict: Verdict::Fix,
+                rules: &[Rule::TClash],
+                era: Some(1),
+            },
+            &ABCD,
+        )],
+    },
+];
+
+/// An error of the connection, and a reset, behind which the probe goes in: each frame passes the second engine.
+const INWARDS: [Row; 2] = [
+    Row {
+        packet: &UNREACHABLE,
+        front: BESIDE,
+        back: &[(BESIDE, &UNREACHABLE)],
+    },
+    Row {
+        packet: &RESET,
+        front: Told {
+            verdict: Verdict::Fix,
+            rules: &[Rule::CProbe],
+            era: Some(1),
+        },
+        back: &[
+            (PASSED, &RESET),
+            (
+                Told {
+                    verdict: Verdict::Pass,
+                    rules: &[],
+                    era: Some(2),
+                },
+                &PROBE,
+            ),
+        ],
+    },
+];
+
+/// A reset of no connection is dropped, so the second engine has nothing.
+const STRAY: [Row; 1] = [Row {
+    packet: &RESET,
+    front: Told {
+        verdict: Verdict::Drop,
+        rules: &[Rule::TCold],
+        era: None,
+    },
+    back: &[],
+}];
+
+const ADDRESSES: [Row; 1] = [Row {
+    packet: &ARP,
+    front: BESIDE,
+    back: &[(BESIDE, &ARP)],
+}];
+
+fn settings() -> Settings
+    ensures range { AreInRange (plain_settings result) }
+    ensures upright { result.mirror ≡ false }
+{
+    let mut prefixes = ArrayVec::new();
+    prefixes.push(Prefix {
+        addr: Addr(0x0a00_0000),
+        len: 8,
+    });
+    Settings::standard(prefixes)
+}
+
+/// Whether an entry says so, with this number.
+fn says(entry: &Entry, told: &Told, number: u32) -> bool {
+    let same = entry.verdict == told.verdict && entry.rules.as_slice() == told.rules;
+    same && entry.era == told.era && entry.number == number
+}
+
+/// Whether the only frame is this one.
+fn holds(out: &Outbox, octets: &[u8]) -> bool {
+    out.frames() == 1 && out.frame(0) == octets
+}
+
+/// Whether both engines say so of the packet, which is the record with this number; the second engine has had so many frames before.
+fn relays(both: &mut Both, row: &Row, records: u32, frames: u32, out: &mut Outbox) -> bool {
+    if both.records() >= 1000 || both.pending() > 0 {
+        return false;
+    }
+    let input = Record::new(7, 9, row.packet.len() as u32, 24, row.packet);
+    let entry = both.front(&input);
+    let mut right = says(&entry, &row.front, records) && both.pending() == row.back.len();
+    let mut number = frames;
+    for (told, octets) in row.back {
+        if both.pending() == 0 {
+            return false;
+        }
+        number = number.wrapping_add(1);
+        let entry = both.back(out);
+        right = right && says(&entry, told, number) && holds(out, octets);
+    }
+    right && both.pending() == 0
+}
+
+/// Two engines on this link.
+fn opened(alloc: Global, link: Link) -> Option<Both>
+    ensures { IfSome result (λ both. both.first.records ≡ 0) }
+{
+    let mut both = Both::open(alloc, settings()).ok()?;
+    both.set_link(link);
+    Some(both)
+}
+
+/// Whether both engines say so of these packets, one after another, on this link.
+fn relay_all(alloc: Global, link: Link, before: &[Row], rows: &[Row]) -> Result<bool, Fail> {
+    let mut out = Outbox::open(alloc).ok().ok_or("no memory")?;
+    let mut both = opened(alloc, link).ok_or("no memory")?;
+    let mut records = 0u32;
+    let mut frames = 0u32;
+    for row in before.iter().chain(rows) {
+        records = records.wrapping_add(1);
+        if !relays(&mut both, row, records, frames, &mut out) {
+            return Ok(false);
+        }
+        frames = frames.wrapping_add(row.back.len() as u32);
+    }
+    Ok(true)
+}
+
+#[test]
+fn an_open_connection_passes_both_engines(rt: HostRuntime) -> Result<(), Fail> {
+    assert!(rt; relay_all(rt.alloc(), Link::Raw, &OPENED, &[])?);
+    Ok(())
+}
+
+#[test]
+fn octets_sent_outwards_again_are_mended(rt: HostRuntime) -> Result<(), Fail> {
+    assert!(rt; relay_all(rt.alloc(), Link::Raw, &OPENED, &CLASHED)?);
+    Ok(())
+}
+
+#[test]
+fn what_goes_inwards_passes_the_second_engine(rt: HostRuntime) -> Result<(), Fail> {
+    assert!(rt; relay_all(rt.alloc(), Link::Raw, &OPENED, &INWARDS)?);
+    assert!(rt; relay_all(rt.alloc(), Link::Ethernet, &ADDRESSES, &[])?);
+    Ok(())
+}
+
+#[test]
+fn a_record_that_is_dropped_has_no_frame(rt: HostRuntime) -> Result<(), Fail> {
+    assert!(rt; relay_all(rt.alloc(), Link::Raw, &STRAY, &[])?);
+    Ok(())
+}
