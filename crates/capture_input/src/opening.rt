@@ -12,6 +12,7 @@ use pcap_file::{Head, HeadFault, Reader, read_head};
 use pcapng_file::{Ahead, NgReader, read_behind};
 
 // A source that has no octet left.
+#[derive(Drop)]
 struct Nothing;
 
 impl Source for Nothing {

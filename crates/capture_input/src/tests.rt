@@ -11,29 +11,29 @@ use wire_base::{Link, Side};
 const SECTION: [u8; 92] = [
     0x0a, 0x0d, 0x0d, 0x0a, 28, 0, 0, 0, 0x4d, 0x3c, 0x2b, 0x1a, 1, 0, 0, 0, 255, 255, 255, 255,
     255, 255, 255, 255, 28, 0, 0, 0, 1, 0, 0, 0, 32, 0, 0, 0, 101, 0, 0, 0, 0, 0, 0, 0, 2, 0, 2, 0,
-    0x69, 0x6e, 0, 0, 0, 0, 0, 0, 32, 0, 0, 0, 1, 0, 0, 0, 32, 0, 0, 0, 101, 0, 0, 0, 0, 0, 0, 0, 2,
-    0, 2, 0, 0x65, 0x78, 0, 0, 0, 0, 0, 0, 32, 0, 0, 0,
+    0x69, 0x6e, 0, 0, 0, 0, 0, 0, 32, 0, 0, 0, 1, 0, 0, 0, 32, 0, 0, 0, 101, 0, 0, 0, 0, 0, 0, 0,
+    2, 0, 2, 0, 0x65, 0x78, 0, 0, 0, 0, 0, 0, 32, 0, 0, 0,
 ];
 
 // A packet block of a datagram of 30 octets, at time 0 on interface 1.
 const PACKET: [u8; 64] = [
     6, 0, 0, 0, 64, 0, 0, 0, 1, 0, 0, 0, 0, 0, 0, 0, 0, 0, 0, 0, 30, 0, 0, 0, 30, 0, 0, 0, 0x45, 0,
-    0, 0x1e, 0, 1, 0, 0, 0x40, 0x11, 0x46, 0x93, 0xc6, 0x33, 0x64, 0x07, 10, 0, 0, 1, 0x9c, 0x40, 0,
-    0x35, 0, 0x0a, 0xc6, 0xbf, 0x68, 0x69, 0, 0, 64, 0, 0, 0,
+    0, 0x1e, 0, 1, 0, 0, 0x40, 0x11, 0x46, 0x93, 0xc6, 0x33, 0x64, 0x07, 10, 0, 0, 1, 0x9c, 0x40,
+    0, 0x35, 0, 0x0a, 0xc6, 0xbf, 0x68, 0x69, 0, 0, 64, 0, 0, 0,
 ];
 
 // A section, highest octet first, with one interface of raw IP and a packet of three octets at 2,000,001 microseconds.
 const BIG: [u8; 84] = [
     0x0a, 0x0d, 0x0d, 0x0a, 0, 0, 0, 28, 0x1a, 0x2b, 0x3c, 0x4d, 0, 1, 0, 2, 255, 255, 255, 255,
-    255, 255, 255, 255, 0, 0, 0, 28, 0, 0, 0, 1, 0, 0, 0, 20, 0, 101, 0, 0, 0, 0, 0, 0, 0, 0, 0, 20,
-    0, 0, 0, 6, 0, 0, 0, 36, 0, 0, 0, 0, 0, 0, 0, 0, 0, 0x1e, 0x84, 0x81, 0, 0, 0, 3, 0, 0, 0, 3, 7,
-    8, 9, 0, 0, 0, 0, 36,
+    255, 255, 255, 255, 0, 0, 0, 28, 0, 0, 0, 1, 0, 0, 0, 20, 0, 101, 0, 0, 0, 0, 0, 0, 0, 0, 0,
+    20, 0, 0, 0, 6, 0, 0, 0, 36, 0, 0, 0, 0, 0, 0, 0, 0, 0, 0x1e, 0x84, 0x81, 0, 0, 0, 3, 0, 0, 0,
+    3, 7, 8, 9, 0, 0, 0, 0, 36,
 ];
 
 // A classic file, highest octet first, in microseconds, of Ethernet, with a record of three octets.
 const CLASSIC: [u8; 43] = [
-    0xa1, 0xb2, 0xc3, 0xd4, 0, 2, 0, 4, 0, 0, 0, 0, 0, 0, 0, 0, 0, 4, 0, 0, 0, 0, 0, 1, 0, 0, 0, 5, 0,
-    0, 0, 6, 0, 0, 0, 3, 0, 0, 0, 9, 7, 8, 9,
+    0xa1, 0xb2, 0xc3, 0xd4, 0, 2, 0, 4, 0, 0, 0, 0, 0, 0, 0, 0, 0, 4, 0, 0, 0, 0, 0, 1, 0, 0, 0, 5,
+    0, 0, 0, 6, 0, 0, 0, 3, 0, 0, 0, 9, 7, 8, 9,
 ];
 
 // What was found of a packet.
@@ -64,7 +64,7 @@ fn joined(rt: HostRuntime, parts: &[&[u8]]) -> Result<Vec<u8>, Fail> {
 }
 
 // Reads a capture to its end, in pieces of so many octets.
-fn outcome(
+fn read_all(
     rt: HostRuntime,
     inside: Option<&[u8]>,
     octets: Vec<u8>,
@@ -142,7 +142,7 @@ fn packets_of_a_pcapng_file_have_the_sides_of_their_interfaces(
                 fault: None,
                 offset: 156,
             };
-            assert_eq!(rt; outcome(rt, inside, octets, piece)?, wanted);
+            assert_eq!(rt; read_all(rt, inside, octets, piece)?, wanted);
         }
     }
     Ok(())
@@ -160,7 +160,7 @@ fn an_interface_that_is_not_described_is_a_fault_at_its_packet(
         fault: Some(InputFault::Block),
         offset: 92,
     };
-    assert_eq!(rt; outcome(rt, Some(b"in"), octets, 1)?, wanted);
+    assert_eq!(rt; read_all(rt, Some(b"in"), octets, 1)?, wanted);
     Ok(())
 }
 
@@ -168,7 +168,7 @@ fn an_interface_that_is_not_described_is_a_fault_at_its_packet(
 fn a_section_of_the_other_order_may_follow(rt: HostRuntime) -> Result<(), Fail> {
     for piece in [1, 7, 65536] {
         let octets = joined(rt, &[&SECTION, &PACKET, &BIG])?;
-        let result = outcome(rt, Some(b"in"), octets, piece)?;
+        let result = read_all(rt, Some(b"in"), octets, piece)?;
         let first = result.packets[0].ok_or("a packet")?;
         assert_eq!(rt; (first.offset, first.side), (92, Some(Side::Inward)));
         let second = result.packets[1].ok_or("a second packet")?;
@@ -199,7 +199,7 @@ fn a_classic_file_is_read_as_before(rt: HostRuntime) -> Result<(), Fail> {
             offset: 43,
         };
         let octets = joined(rt, &[&CLASSIC])?;
-        assert_eq!(rt; outcome(rt, None, octets, piece)?, wanted);
+        assert_eq!(rt; read_all(rt, None, octets, piece)?, wanted);
     }
     Ok(())
 }
@@ -218,7 +218,7 @@ fn a_classic_file_without_faults_is_refused_where_an_interface_is_asked_for(
     for (place, octet, fault) in rows {
         let mut octets = joined(rt, &[&CLASSIC])?;
         *octets.get_mut(place).ok_or("no such place")? = octet;
-        let result = outcome(rt, Some(b"in"), octets, 7)?;
+        let result = read_all(rt, Some(b"in"), octets, 7)?;
         assert_eq!(rt; (result.fault, result.offset), (Some(fault), 0));
         assert_eq!(rt; result.head, None);
     }
@@ -249,7 +249,7 @@ fn a_capture_that_is_cut_short_is_told_at_its_head_record_or_block(
                 joined(rt, &[&CLASSIC])?
             };
             octets.truncate(length);
-            let result = outcome(rt, None, octets, piece)?;
+            let result = read_all(rt, None, octets, piece)?;
             assert_eq!(rt;
                 (result.fault, result.offset),
                 (Some(InputFault::Cut), offset),
@@ -263,7 +263,7 @@ fn a_capture_that_is_cut_short_is_told_at_its_head_record_or_block(
 #[test]
 fn a_source_that_fails_is_told(rt: HostRuntime) -> Result<(), Fail> {
     // The call that fails, each giving four octets at most, and the place that is told.
-    let rows: [(u32, u64); 5] = [(1, 0), (2, 0), (9, 28), (24, 92), (39, 92)];
+    let rows: [(u32, u64); 6] = [(1, 0), (2, 0), (9, 28), (24, 60), (26, 92), (39, 92)];
     for (call, offset) in rows {
         let octets = joined(rt, &[&SECTION, &PACKET])?;
         let mut source = MemSource::new(octets, 4, vec![in rt.alloc(); call]?);
@@ -277,7 +277,11 @@ fn a_source_that_fails_is_told(rt: HostRuntime) -> Result<(), Fail> {
                 (input.next(&mut source, &mut buf).err(), input.offset())
             }
         };
-        assert_eq!(rt; (fault, place), (Some(InputFault::ReadFault), offset), "{call}");
+        assert_eq!(rt;
+            (fault, place),
+            (Some(InputFault::ReadFault), offset),
+            "{call}"
+        );
         assert_eq!(rt; source.faults(), 1);
     }
     Ok(())

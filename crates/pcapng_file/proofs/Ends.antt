@@ -21,6 +21,7 @@ use Rattle.pcapng_file.specs.Standing.{Sections, counted, no_section}
 use Rattle.pcapng_file.specs.Options.{options_of, described}
 use Rattle.pcapng_file.specs.Contents.{is_link, interface_found, found_of, content_of, IsPlaced}
 use Rattle.pcapng_file.proofs.Fields.{content_placed}
+use Rattle.pcapng_file.proofs.Walking.{blocks_after}
 use Rattle.pcapng_file.specs.Blocks.{Step, is_size, order_at, ordered_at, sized_at, block_at, end_by, told, before, after_found, step_of, whole_step}
 use Rattle.pcapng_file.specs.Sections.{Walks, behind, size_of, packets_of, with_given, EndsWell, EndsBadly}
 use Rattle.pcapng_file.specs.Laws.{EachFileEnds, LinkStays, WalksOn}
@@ -61,6 +62,11 @@ told_keeps inside s order size block step e l linked =
     ap (λ (t : Sections). t.link) (step_after (counted s) order size block (found_of inside order size block content) step e)
     ∙ found_keeps inside s order kind size block l linked content (content_placed s kind size inside order block)
 
+told_counts : (inside : Option (List ℕ)) (s : Sections) (order : Order) (size : ℕ) (block : List ℕ) (step : Step) → told inside s order size block ≡ Ok step → step.after.blocks ≡ s.blocks + 1
+told_counts inside s order size block step e =
+    let found = found_of inside order size block (content_of inside s order (u32_at order block 0) size block) in
+    ap (λ (t : Sections). t.blocks) (step_after (counted s) order size block found step e) ∙ blocks_after s order found
+
 -- a fault stands at the front
 record HasFault (inside : Option (List ℕ)) (s : Sections) (x : List ℕ) : Type 0 where
   fault : NgFault
@@ -73,15 +79,18 @@ record HasStep (inside : Option (List ℕ)) (s : Sections) (x : List ℕ) : Type
   stands : block_at inside s x ≡ Ok (Some (step, rest))
   shorter : length rest < length x
   keeps : (l : Link) → s.link ≡ Some l → step.after.link ≡ Some l
+  few : s.blocks ≢ 4294967295
+  counts : step.after.blocks ≡ s.blocks + 1
 
 module _ (inside : Option (List ℕ)) (s : Sections) (x : List ℕ) where
   told_cases : (rest : List ℕ) (result : Result Step NgFault) → block_at inside s x ≡ before rest result → length rest < length x
-      → ((step : Step) → result ≡ Ok step → (l : Link) → s.link ≡ Some l → step.after.link ≡ Some l) → HasFault inside s x ⊎ HasStep inside s x
-  told_cases rest (Ok step) e shorter keeps = inr (record { step = step; rest = rest; stands = e; shorter = shorter; keeps = keeps step refl })
-  told_cases rest (Err fault) e shorter keeps = inl (record { fault = fault; flawed = e })
+      → ((step : Step) → result ≡ Ok step → (l : Link) → s.link ≡ Some l → step.after.link ≡ Some l) → s.blocks ≢ 4294967295
+      → ((step : Step) → result ≡ Ok step → step.after.blocks ≡ s.blocks + 1) → HasFault inside s x ⊎ HasStep inside s x
+  told_cases rest (Ok step) e shorter keeps few counts = inr (record { step = step; rest = rest; stands = e; shorter = shorter; keeps = keeps step refl; few = few; counts = counts step refl })
+  told_cases rest (Err fault) e shorter keeps few counts = inl (record { fault = fault; flawed = e })
 
-  sized_cases : (order : Order) (size : ℕ) → block_at inside s x ≡ sized_at inside s order x size → HasFault inside s x ⊎ HasStep inside s x
-  sized_cases order size e = elim (cases_Bool (is_size size)) [
+  sized_cases : (order : Order) (size : ℕ) → block_at inside s x ≡ sized_at inside s order x size → s.blocks ≢ 4294967295 → HasFault inside s x ⊎ HasStep inside s x
+  sized_cases order size e few = elim (cases_Bool (is_size size)) [
     | inr odd ↦ inl (record { fault = faults.Block; flawed = e ∙ rw odd refl })
     | inl sized ↦ elim (cases_lt (length x) size) [
       | inl cut ↦ inl (record { fault = faults.Cut; flawed = e ∙ sized_cut inside s order x size sized cut })
@@ -90,14 +99,14 @@ module _ (inside : Option (List ℕ)) (s : Sections) (x : List ℕ) where
         | inl same ↦
             let big = is_big size sized in
             told_cases (drop size x) (told inside s order size (take size x)) (e ∙ sized_closed inside s order x size sized enough same) (omega (arith, length-drop size x))
-            (told_keeps inside s order size (take size x))
+            (told_keeps inside s order size (take size x)) few (told_counts inside s order size (take size x))
       ]
     ]
   ]
 
-  ordered_cases : (order : Option Order) → block_at inside s x ≡ ordered_at inside s order x → HasFault inside s x ⊎ HasStep inside s x
-  ordered_cases None e = inl (record { fault = faults.Magic; flawed = e })
-  ordered_cases (Some order) e = sized_cases order (u32_at order x 4) e
+  ordered_cases : (order : Option Order) → block_at inside s x ≡ ordered_at inside s order x → s.blocks ≢ 4294967295 → HasFault inside s x ⊎ HasStep inside s x
+  ordered_cases None e few = inl (record { fault = faults.Magic; flawed = e })
+  ordered_cases (Some order) e few = sized_cases order (u32_at order x 4) e few
 
   -- the octets end here, or a fault or a block stands at the front
   front_cases : ((x ≡ []) × (block_at inside s [] ≡ Ok None)) ⊎ (HasFault inside s x ⊎ HasStep inside s x)
@@ -107,7 +116,7 @@ module _ (inside : Option (List ℕ)) (s : Sections) (x : List ℕ) where
       | inl short ↦ inl (record { fault = faults.Cut; flawed = at_short inside s x some short })
       | inr whole ↦ elim (eqb_tells s.blocks 4294967295) [
         | inl all ↦ inl (record { fault = faults.Many; flawed = at_many inside s x whole all.1 })
-        | inr few ↦ ordered_cases (order_at s.order x) (at_ordered inside s x whole few.1)
+        | inr few ↦ ordered_cases (order_at s.order x) (at_ordered inside s x whole few.1) few.1
       ]
     ])
   ] where
@@ -142,6 +151,20 @@ link_stays inside s x step rest e l linked = elim (front_cases inside s x) [
       let yours : Step × List ℕ = (step, rest) in
       let pairs : mine ≡ yours = cc in
       ap (λ (p : Step × List ℕ). p.0.after.link) (sym pairs) ∙ here.keeps l linked
+]
+
+-- a block is counted, and there are not too many before it
+pub block_counts : (inside : Option (List ℕ)) (s : Sections) (x : List ℕ) (step : Step) (rest : List ℕ) → block_at inside s x ≡ Ok (Some (step, rest))
+    → (s.blocks ≢ 4294967295) × (step.after.blocks ≡ s.blocks + 1)
+block_counts inside s x step rest e = elim (front_cases inside s x) [
+  | inl end ↦ let nothing : block_at inside s x ≡ Ok None = ap (block_at inside s) end.0 ∙ end.1 in absurd cc
+  | inr (inl here) ↦ let flawed : block_at inside s x ≡ Err here.fault = here.flawed in absurd cc
+  | inr (inr here) ↦
+      let stands : block_at inside s x ≡ Ok (Some (here.step, here.rest)) = here.stands in
+      let mine : Step × List ℕ = (here.step, here.rest) in
+      let yours : Step × List ℕ = (step, rest) in
+      let pairs : mine ≡ yours = cc in
+      (here.few, ap (λ (p : Step × List ℕ). p.0.after.blocks) (sym pairs) ∙ here.counts)
 ]
 
 given_on : (given : Option Packet) (newer older : List Packet) → with_given given (newer ++ older) ≡ with_given given newer ++ older

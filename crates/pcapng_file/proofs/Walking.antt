@@ -54,7 +54,7 @@ given_is is.Section block buf n kept = refl
 given_is (is.Interface link interface) block buf n kept = refl
 given_is (is.Packet stamp) block buf n kept = ap (λ l. Some (packet_of stamp l)) kept
 
-blocks_after : (sections : Sections) (order : Order) (found : Found) → (after_found (counted sections) order found).blocks ≡ sections.blocks + 1
+pub blocks_after : (sections : Sections) (order : Order) (found : Found) → (after_found (counted sections) order found).blocks ≡ sections.blocks + 1
 blocks_after sections order (is.Fails fault) = refl
 blocks_after sections order is.Passed = refl
 blocks_after sections order is.Section = refl

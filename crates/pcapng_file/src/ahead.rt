@@ -55,11 +55,7 @@ impl<S: Source> Source for Ahead<'_, S> {
 }
 
 /// Fills the buffer with these octets, which were read before, and those that come behind them; answers how many they are together.
-pub fn read_behind<S: Source>(
-    first: &[u8],
-    source: &mut S,
-    buf: &mut [u8],
-) -> Result<usize, Failed>
+pub fn read_behind<S: Source>(first: &[u8], source: &mut S, buf: &mut [u8]) -> Result<usize, Failed>
     requires { length first.now ≤ length buf.old }
     ensures octets { Fills (prepend_known first.now (S.left source.old)) (S.left source.new) result buf.new }
     ensures cause { HasCause (S.fault_count source.old) (S.fault_count source.new) result }

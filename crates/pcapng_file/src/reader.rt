@@ -6,10 +6,10 @@ ghost use Rattle.pcapng_file.specs.Takes.{is_read_fault};
 ghost use Rattle.pcapng_file.specs.Reads.{Looks, LooksAhead, Finds, IsSmall, Reads, Opens, OpensBehind, only_fault, IfPacket};
 ghost use Rattle.pcapng_file.specs.Reading.{written_head};
 
-use crate::{NgFault, OpenFault};
 use crate::block::read_block;
 use crate::content::{Found, Stamp};
 use crate::standing::Standing;
+use crate::{NgFault, OpenFault};
 use arrayvec::ArrayVec;
 use edge_io::Source;
 use pcap_file::{Head, Order, Record};
