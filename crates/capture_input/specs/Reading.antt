@@ -1,5 +1,5 @@
 -- Where an input stands (this project's profile).
-use Rattle.std.specs.Prelude.{◌≡◌, ℕ, Bool, List, length, Option, None, IsSome}
+use Rattle.std.specs.Prelude.{◌≡◌, ℕ, ◌≤◌, Bool, List, length, Option, None, IsSome}
 use Rattle.pcap_file.specs.declared.head.Head.{Head}
 use Rattle.pcap_file.specs.Records.{Packet}
 use Rattle.pcap_file.specs.Capture.{offset_of}
@@ -40,6 +40,8 @@ pub record BehindBlocks (inside : Option (List ℕ)) (reader : NgReading) (steps
   pub sections : reader.sections ≡ behind no_section steps
   pub place : reader.place ≡ size_of steps
   pub linked : IsSome reader.sections.link
+  pub counted : reader.sections.blocks ≡ length steps
+  pub few : length steps ≤ 4294967295
 
 -- The input stands behind what was read.
 abbrev pub Behind : Input → (inside : Option (List ℕ)) → Walk → Type 0

@@ -75,6 +75,7 @@ Continues inside head walk farther before after = (all : Option (List ℕ)) → 
 pub record GivesPacket (old new : Input) (inside : Option (List ℕ)) (walk : Walk) (before after : Option (List ℕ)) (given : Record) : Type 0 where
   pub farther : Walk
   pub behind : Behind new inside farther
+  pub head : head_in new ≡ head_in old
   pub continues : Continues inside (head_in old) walk farther before after
   pub packets : packets_in farther ≡ shown given ∷ packets_in walk
   pub few : length (packets_in farther) < 2 ^ 32

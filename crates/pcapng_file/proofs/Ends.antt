@@ -172,18 +172,51 @@ given_on None newer older = refl
 given_on (Some packet) newer older = refl
 
 -- blocks behind blocks
+pub behind_on : (s : Sections) (steps newer : List Step) → behind s (newer ++ steps) ≡ behind (behind s steps) newer
+behind_on s steps [] = refl
+behind_on s steps (step ∷ newer) = refl
+
+pub packets_on : (steps newer : List Step) → packets_of (newer ++ steps) ≡ packets_of newer ++ packets_of steps
+packets_on steps [] = refl
+packets_on steps (step ∷ newer) = ap (with_given step.given) (packets_on steps newer) ∙ given_on step.given (packets_of newer) (packets_of steps)
+
+pub size_on : (steps newer : List Step) → size_of (newer ++ steps) ≡ size_of steps + size_of newer
+size_on steps [] = omega arith
+size_on steps (step ∷ newer) = omega (arith, size_on steps newer)
+
 pub walks_on : WalksOn
-walks_on inside s all left rest ps [] p q = record {
-  walks = subst (Walks inside s all ps) q p;
-  after = refl;
-  packets = refl;
-  size = omega arith;
-}
-walks_on inside s all left rest ps (step ∷ qs) p q =
-    let older = walks_on inside s all left q.0 ps qs p q.1 in
-    record {
-      walks = (q.0, older.walks, ap (λ t. block_at inside t q.0) older.after ∙ q.2);
-      after = refl;
-      packets = ap (with_given step.given) older.packets ∙ given_on step.given (packets_of qs) (packets_of ps);
-      size = omega (arith, older.size);
-    }
+walks_on inside s all left rest ps newer p q = record {
+  walks = together newer rest q;
+  after = behind_on s ps newer;
+  packets = packets_on ps newer;
+  size = size_on ps newer;
+} where
+  together : (qs : List Step) (rest : List ℕ) → Walks inside (behind s ps) left qs rest → Walks inside s all (qs ++ ps) rest
+  together [] rest q = subst (Walks inside s all ps) q p
+  together (step ∷ qs) rest q = (q.0, together qs q.0 q.1, ap (λ t. block_at inside t q.0) (behind_on s ps qs) ∙ q.2)
+
+-- the link of the first interface stays over blocks
+pub links_stay : (inside : Option (List ℕ)) (s : Sections) (all : List ℕ) (steps : List Step) (rest : List ℕ) → Walks inside s all steps rest → (link : Link) → s.link ≡ Some link
+    → (behind s steps).link ≡ Some link
+links_stay inside s all [] rest p link e = e
+links_stay inside s all (step ∷ older) rest p link e = link_stays inside (behind s older) p.0 step rest p.2 link (links_stay inside s all older p.0 p.1 link e)
+
+-- Blocks are counted, and there are not too many.
+pub record AreCounted (s : Sections) (steps : List Step) : Type 0 where
+  pub count : (behind s steps).blocks ≡ s.blocks + length steps
+  pub few : (behind s steps).blocks ≤ 4294967295
+
+pub blocks_counted : (inside : Option (List ℕ)) (s : Sections) (all : List ℕ) (steps : List Step) (rest : List ℕ) → Walks inside s all steps rest → s.blocks ≤ 4294967295 → AreCounted s steps
+blocks_counted inside s all [] rest p few = record { count = omega arith; few = few }
+blocks_counted inside s all (step ∷ older) rest p few =
+    let before = blocks_counted inside s all older p.0 p.1 few in
+    let here = block_counts inside (behind s older) p.0 step rest p.2 in
+    record { count = omega (arith, here.1, before.count); few = omega (arith, here.1, before.few, here.0) }
+
+-- a block has at most one packet
+pub packets_few : (steps : List Step) → length (packets_of steps) ≤ length steps
+packets_few [] = omega arith
+packets_few (step ∷ older) = by step.given (packets_few older) where
+  by : (given : Option Packet) → length (packets_of older) ≤ length older → length (with_given given (packets_of older)) ≤ suc (length older)
+  by None few = omega (arith, few)
+  by (Some packet) few = omega (arith, few)

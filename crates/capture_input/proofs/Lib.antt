@@ -1,0 +1,4 @@
+pub mod Heads
+pub mod Walking
+pub mod Unique
+pub mod Ends
