@@ -2,3 +2,4 @@ pub mod Heads
 pub mod Walking
 pub mod Unique
 pub mod Ends
+pub mod Stops

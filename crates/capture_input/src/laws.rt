@@ -1,5 +1,5 @@
 //! Laws over the definitions alone.
-ghost use Rattle.capture_input.specs.Laws.{InputIsOne, FaultIsOne, FaultExcludesEnd, EachInputEnds};
+ghost use Rattle.capture_input.specs.Laws.{InputIsOne, FaultIsOne, FaultExcludesEnd, EachInputEnds, HeadStopsAreFaults, StopsAreFaults, WholeIsInput};
 
 /// An input has one head and one list of packets.
 pub fn input_is_one()
@@ -19,4 +19,19 @@ pub fn fault_excludes_end()
 /// All octets are an input or have a first fault.
 pub fn each_input_ends()
     ensures { EachInputEnds }
+{}
+
+/// Where opening stops, and the source did not fail, there is the first fault.
+pub fn head_stops_are_faults()
+    ensures { HeadStopsAreFaults }
+{}
+
+/// Where reading stops, and the source did not fail, there is the first fault.
+pub fn stops_are_faults()
+    ensures { StopsAreFaults }
+{}
+
+/// What was read to its end is an input.
+pub fn whole_is_input()
+    ensures { WholeIsInput }
 {}
