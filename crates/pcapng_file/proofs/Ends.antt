@@ -21,6 +21,7 @@ use Rattle.pcapng_file.specs.Standing.{Sections, counted, no_section}
 use Rattle.pcapng_file.specs.Options.{options_of, described}
 use Rattle.pcapng_file.specs.Contents.{is_link, interface_found, found_of, content_of, IsPlaced}
 use Rattle.pcapng_file.proofs.Fields.{content_placed}
+use Rattle.pcapng_file.proofs.Walking.{blocks_after}
 use Rattle.pcapng_file.specs.Blocks.{Step, is_size, order_at, ordered_at, sized_at, block_at, end_by, told, before, after_found, step_of, whole_step}
 use Rattle.pcapng_file.specs.Sections.{Walks, behind, size_of, packets_of, with_given, EndsWell, EndsBadly}
 use Rattle.pcapng_file.specs.Laws.{EachFileEnds, LinkStays, WalksOn}
@@ -61,6 +62,11 @@ told_keeps inside s order size block step e l linked =
     ap (λ (t : Sections). t.link) (step_after (counted s) order size block (found_of inside order size block content) step e)
     ∙ found_keeps inside s order kind size block l linked content (content_placed s kind size inside order block)
 
+told_counts : (inside : Option (List ℕ)) (s : Sections) (order : Order) (size : ℕ) (block : List ℕ) (step : Step) → told inside s order size block ≡ Ok step → step.after.blocks ≡ s.blocks + 1
+told_counts inside s order size block step e =
+    let found = found_of inside order size block (content_of inside s order (u32_at order block 0) size block) in
+    ap (λ (t : Sections). t.blocks) (step_after (counted s) order size block found step e) ∙ blocks_after s order found
+
 -- a fault stands at the front
 record HasFault (inside : Option (List ℕ)) (s : Sections) (x : List ℕ) : Type 0 where
   fault : NgFault
@@ -73,15 +79,18 @@ record HasStep (inside : Option (List ℕ)) (s : Sections) (x : List ℕ) : Type
   stands : block_at inside s x ≡ Ok (Some (step, rest))
   shorter : length rest < length x
   keeps : (l : Link) → s.link ≡ Some l → step.after.link ≡ Some l
+  few : s.blocks ≢ 4294967295
+  counts : step.after.blocks ≡ s.blocks + 1
 
 module _ (inside : Option (List ℕ)) (s : Sections) (x : List ℕ) where
   told_cases : (rest : List ℕ) (result : Result Step NgFault) → block_at inside s x ≡ before rest result → length rest < length x
-      → ((step : Step) → result ≡ Ok step → (l : Link) → s.link ≡ Some l → step.after.link ≡ Some l) → HasFault inside s x ⊎ HasStep inside s x
-  told_cases rest (Ok step) e shorter keeps = inr (record { step = step; rest = rest; stands = e; shorter = shorter; keeps = keeps step refl })
-  told_cases rest (Err fault) e shorter keeps = inl (record { fault = fault; flawed = e })
+      → ((step : Step) → result ≡ Ok step → (l : Link) → s.link ≡ Some l → step.after.link ≡ Some l) → s.blocks ≢ 4294967295
+      → ((step : Step) → result ≡ Ok step → step.after.blocks ≡ s.blocks + 1) → HasFault inside s x ⊎ HasStep inside s x
+  told_cases rest (Ok step) e shorter keeps few counts = inr (record { step = step; rest = rest; stands = e; shorter = shorter; keeps = keeps step refl; few = few; counts = counts step refl })
+  told_cases rest (Err fault) e shorter keeps few counts = inl (record { fault = fault; flawed = e })
 
-  sized_cases : (order : Order) (size : ℕ) → block_at inside s x ≡ sized_at inside s order x size → HasFault inside s x ⊎ HasStep inside s x
-  sized_cases order size e = elim (cases_Bool (is_size size)) [
+  sized_cases : (order : Order) (size : ℕ) → block_at inside s x ≡ sized_at inside s order x size → s.blocks ≢ 4294967295 → HasFault inside s x ⊎ HasStep inside s x
+  sized_cases order size e few = elim (cases_Bool (is_size size)) [
     | inr odd ↦ inl (record { fault = faults.Block; flawed = e ∙ rw odd refl })
     | inl sized ↦ elim (cases_lt (length x) size) [
       | inl cut ↦ inl (record { fault = faults.Cut; flawed = e ∙ sized_cut inside s order x size sized cut })
@@ -90,14 +99,14 @@ module _ (inside : Option (List ℕ)) (s : Sections) (x : List ℕ) where
         | inl same ↦
             let big = is_big size sized in
             told_cases (drop size x) (told inside s order size (take size x)) (e ∙ sized_closed inside s order x size sized enough same) (omega (arith, length-drop size x))
-            (told_keeps inside s order size (take size x))
+            (told_keeps inside s order size (take size x)) few (told_counts inside s order size (take size x))
       ]
     ]
   ]
 
-  ordered_cases : (order : Option Order) → block_at inside s x ≡ ordered_at inside s order x → HasFault inside s x ⊎ HasStep inside s x
-  ordered_cases None e = inl (record { fault = faults.Magic; flawed = e })
-  ordered_cases (Some order) e = sized_cases order (u32_at order x 4) e
+  ordered_cases : (order : Option Order) → block_at inside s x ≡ ordered_at inside s order x → s.blocks ≢ 4294967295 → HasFault inside s x ⊎ HasStep inside s x
+  ordered_cases None e few = inl (record { fault = faults.Magic; flawed = e })
+  ordered_cases (Some order) e few = sized_cases order (u32_at order x 4) e few
 
   -- the octets end here, or a fault or a block stands at the front
   front_cases : ((x ≡ []) × (block_at inside s [] ≡ Ok None)) ⊎ (HasFault inside s x ⊎ HasStep inside s x)
@@ -107,7 +116,7 @@ module _ (inside : Option (List ℕ)) (s : Sections) (x : List ℕ) where
       | inl short ↦ inl (record { fault = faults.Cut; flawed = at_short inside s x some short })
       | inr whole ↦ elim (eqb_tells s.blocks 4294967295) [
         | inl all ↦ inl (record { fault = faults.Many; flawed = at_many inside s x whole all.1 })
-        | inr few ↦ ordered_cases (order_at s.order x) (at_ordered inside s x whole few.1)
+        | inr few ↦ ordered_cases (order_at s.order x) (at_ordered inside s x whole few.1) few.1
       ]
     ])
   ] where
@@ -144,23 +153,70 @@ link_stays inside s x step rest e l linked = elim (front_cases inside s x) [
       ap (λ (p : Step × List ℕ). p.0.after.link) (sym pairs) ∙ here.keeps l linked
 ]
 
+-- a block is counted, and there are not too many before it
+pub block_counts : (inside : Option (List ℕ)) (s : Sections) (x : List ℕ) (step : Step) (rest : List ℕ) → block_at inside s x ≡ Ok (Some (step, rest))
+    → (s.blocks ≢ 4294967295) × (step.after.blocks ≡ s.blocks + 1)
+block_counts inside s x step rest e = elim (front_cases inside s x) [
+  | inl end ↦ let nothing : block_at inside s x ≡ Ok None = ap (block_at inside s) end.0 ∙ end.1 in absurd cc
+  | inr (inl here) ↦ let flawed : block_at inside s x ≡ Err here.fault = here.flawed in absurd cc
+  | inr (inr here) ↦
+      let stands : block_at inside s x ≡ Ok (Some (here.step, here.rest)) = here.stands in
+      let mine : Step × List ℕ = (here.step, here.rest) in
+      let yours : Step × List ℕ = (step, rest) in
+      let pairs : mine ≡ yours = cc in
+      (here.few, ap (λ (p : Step × List ℕ). p.0.after.blocks) (sym pairs) ∙ here.counts)
+]
+
 given_on : (given : Option Packet) (newer older : List Packet) → with_given given (newer ++ older) ≡ with_given given newer ++ older
 given_on None newer older = refl
 given_on (Some packet) newer older = refl
 
 -- blocks behind blocks
+pub behind_on : (s : Sections) (steps newer : List Step) → behind s (newer ++ steps) ≡ behind (behind s steps) newer
+behind_on s steps [] = refl
+behind_on s steps (step ∷ newer) = refl
+
+pub packets_on : (steps newer : List Step) → packets_of (newer ++ steps) ≡ packets_of newer ++ packets_of steps
+packets_on steps [] = refl
+packets_on steps (step ∷ newer) = ap (with_given step.given) (packets_on steps newer) ∙ given_on step.given (packets_of newer) (packets_of steps)
+
+pub size_on : (steps newer : List Step) → size_of (newer ++ steps) ≡ size_of steps + size_of newer
+size_on steps [] = omega arith
+size_on steps (step ∷ newer) = omega (arith, size_on steps newer)
+
 pub walks_on : WalksOn
-walks_on inside s all left rest ps [] p q = record {
-  walks = subst (Walks inside s all ps) q p;
-  after = refl;
-  packets = refl;
-  size = omega arith;
-}
-walks_on inside s all left rest ps (step ∷ qs) p q =
-    let older = walks_on inside s all left q.0 ps qs p q.1 in
-    record {
-      walks = (q.0, older.walks, ap (λ t. block_at inside t q.0) older.after ∙ q.2);
-      after = refl;
-      packets = ap (with_given step.given) older.packets ∙ given_on step.given (packets_of qs) (packets_of ps);
-      size = omega (arith, older.size);
-    }
+walks_on inside s all left rest ps newer p q = record {
+  walks = together newer rest q;
+  after = behind_on s ps newer;
+  packets = packets_on ps newer;
+  size = size_on ps newer;
+} where
+  together : (qs : List Step) (rest : List ℕ) → Walks inside (behind s ps) left qs rest → Walks inside s all (qs ++ ps) rest
+  together [] rest q = subst (Walks inside s all ps) q p
+  together (step ∷ qs) rest q = (q.0, together qs q.0 q.1, ap (λ t. block_at inside t q.0) (behind_on s ps qs) ∙ q.2)
+
+-- the link of the first interface stays over blocks
+pub links_stay : (inside : Option (List ℕ)) (s : Sections) (all : List ℕ) (steps : List Step) (rest : List ℕ) → Walks inside s all steps rest → (link : Link) → s.link ≡ Some link
+    → (behind s steps).link ≡ Some link
+links_stay inside s all [] rest p link e = e
+links_stay inside s all (step ∷ older) rest p link e = link_stays inside (behind s older) p.0 step rest p.2 link (links_stay inside s all older p.0 p.1 link e)
+
+-- Blocks are counted, and there are not too many.
+pub record AreCounted (s : Sections) (steps : List Step) : Type 0 where
+  pub count : (behind s steps).blocks ≡ s.blocks + length steps
+  pub few : (behind s steps).blocks ≤ 4294967295
+
+pub blocks_counted : (inside : Option (List ℕ)) (s : Sections) (all : List ℕ) (steps : List Step) (rest : List ℕ) → Walks inside s all steps rest → s.blocks ≤ 4294967295 → AreCounted s steps
+blocks_counted inside s all [] rest p few = record { count = omega arith; few = few }
+blocks_counted inside s all (step ∷ older) rest p few =
+    let before = blocks_counted inside s all older p.0 p.1 few in
+    let here = block_counts inside (behind s older) p.0 step rest p.2 in
+    record { count = omega (arith, here.1, before.count); few = omega (arith, here.1, before.few, here.0) }
+
+-- a block has at most one packet
+pub packets_few : (steps : List Step) → length (packets_of steps) ≤ length steps
+packets_few [] = omega arith
+packets_few (step ∷ older) = by step.given (packets_few older) where
+  by : (given : Option Packet) → length (packets_of older) ≤ length older → length (with_given given (packets_of older)) ≤ suc (length older)
+  by None few = omega (arith, few)
+  by (Some packet) few = omega (arith, few)

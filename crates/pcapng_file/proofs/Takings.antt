@@ -1,6 +1,8 @@
 -- What several reads took, one after the other.
-use Rattle.std.proofs.Common.{◌≡◌, ℕ, ◌+◌, ◌-◌, ◌<◌, ◌≤◌, min, List, [], ◌++◌, length, take, drop, Some, None, refl, sym, ap, ap₂, ◌∙◌, subst, arith, append_assoc, take-append-drop, length-drop}
-use Rattle.std.proofs.lemmas.List.{length-append, length-take-le, take_all, take_at, drop_at}
+use Rattle.std.proofs.Common.{◌≡◌, ℕ, ◌+◌, ◌-◌, ◌<◌, ◌≤◌, min, List, [], ◌++◌, length, take, drop, Some, None, refl, sym, ap, ap₂, ◌∙◌, subst, arith, append_assoc, append-nil, take-append-drop, length-drop}
+use Rattle.std.proofs.lemmas.List.{length-append, length-take-le, take_all, take_at, drop_at, drop_all}
+use Rattle.std.proofs.Math.Seq.{take-append-add}
+use borrow.Rule.Slice.PartMut.{put_mid}
 use Rattle.std.proofs.KnownBytes.{Consumes-trans, Consumes-nil}
 use Rattle.std.specs.Io.KnownBytes.{Consumes, IsAtEnd, prepend_known}
 use Rattle.std.specs.declared.option.Option.{Option}
@@ -29,6 +31,26 @@ short_behind a b c front few most faults.Link p q fits = absurd q
 short_behind a b c front few most faults.Block p q fits = absurd q
 short_behind a b c front few most faults.Long p q fits = absurd q
 short_behind a b c front few most faults.Many p q fits = absurd q
+
+-- octets that were read before, and then those that came
+pub head_filled : (a b : Option (List ℕ)) (first more : List ℕ) (n : ℕ) → Consumes a b (take n more) → Consumes (prepend_known first a) b (take (length first + n) (first ++ more))
+head_filled a b first more n p = subst (Consumes (prepend_known first a) b) (sym (take-append-add first more n)) (Consumes-trans (prepend_known first a) a b first (take n more) (before a) p) where
+  before : (a : Option (List ℕ)) → Consumes (prepend_known first a) a first
+  before None = tt
+  before (Some x) = refl
+
+pub head_fewer : (a b : Option (List ℕ)) (first : List ℕ) (most all : ℕ) → TakesFewer a b most → length first + most ≡ all → TakesFewer (prepend_known first a) b all
+head_fewer a b first most all p e = (first ++ p.0, Consumes-trans (prepend_known first a) a b first p.0 (before a) p.1, omega (arith, length-append first p.0, p.2)) where
+  before : (a : Option (List ℕ)) → Consumes (prepend_known first a) a first
+  before None = tt
+  before (Some x) = refl
+
+-- a buffer whose front stays
+pub front_kept : (first got z more : List ℕ) (n m : ℕ) → got ≡ first → length first ≡ n → length z ≡ m → put_mid n m (got ++ z) more ≡ first ++ more
+front_kept first got z more n m same front rest =
+    let long : length got ≡ n = ap length same ∙ front in
+    let behind : drop m (drop n (got ++ z)) ≡ [] = ap (drop m) (drop_at got z n long) ∙ drop_all m z (omega (arith, rest)) in
+    ap₂ (λ x y. x ++ (more ++ y)) (take_at got z n long) behind ∙ ap₂ (λ x y. x ++ y) same (append-nil more)
 
 -- a buffer that was not filled
 pub short_read : (a b : Option (List ℕ)) (h : List ℕ) (n : ℕ) → Consumes a b (take n h) → n ≤ length h → n < length h → IsAtEnd b → Short a b (length h) faults.Cut

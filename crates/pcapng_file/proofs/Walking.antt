@@ -1,7 +1,7 @@
 -- Blocks that were taken one behind the other.
 use Rattle.std.proofs.Common.{◌≡◌, ℕ, ◌+◌, ◌-◌, ◌<◌, ◌≤◌, Bool, true, false, List, [], ◌∷◌, ◌++◌, length, take, drop, Some, None, IsSome, Ok, Err, refl, sym, ap, ◌∙◌, subst, arith, append_assoc}
 use Rattle.std.proofs.KnownBytes.{Consumes-trans, Consumes-nil}
-use Rattle.std.specs.Io.KnownBytes.{Consumes}
+use Rattle.std.specs.Io.KnownBytes.{Consumes, prepend_known}
 use Rattle.std.specs.declared.option.Option.{Option}
 use Rattle.std.specs.declared.result.Result.{Result}
 use Rattle.wire_base.specs.declared.address.Link.{Link}
@@ -9,15 +9,16 @@ use Rattle.pcap_file.specs.declared.order.Order.{Order}
 use Rattle.pcap_file.specs.Records.{Packet}
 use Rattle.pcapng_file.specs.declared.fault.NgFault.{NgFault}
 use Rattle.pcapng_file.specs.declared.fault.NgFault.TheVariants as faults
+use Rattle.pcapng_file.specs.declared.fault.OpenFault.{OpenFault}
 use Rattle.pcapng_file.specs.declared.content.Stamp.{Stamp}
 use Rattle.pcapng_file.specs.declared.content.Found.{Found}
 use Rattle.pcapng_file.specs.declared.content.Found.TheVariants as is
 use Rattle.pcapng_file.specs.Standing.{Sections, counted, no_section}
 use Rattle.pcapng_file.specs.Blocks.{Step, block_at, step_of, whole_step, after_found, given_by, packet_of, before, end_by, IsPacket}
-use Rattle.pcapng_file.specs.Sections.{Walks, behind, packets_of, size_of, with_given}
+use Rattle.pcapng_file.specs.Sections.{Walks, behind, packets_of, size_of, size_before, with_given}
 use Rattle.pcapng_file.specs.Reading.{NgReading, first_reading, IsUnlinked}
 use Rattle.pcapng_file.proofs.Wholes.{at_nothing}
-use Rattle.pcapng_file.specs.Reads.{IsKept, IsGiven, TakesBlock, TakesSteps, Moves, LooksAt, Halts, Looks, EndsHere, Stops, TakesPacket, PassesOver, HaltsBehind, Finds, OpensAt, FailsAhead}
+use Rattle.pcapng_file.specs.Reads.{IsKept, IsGiven, TakesBlock, TakesSteps, Moves, LooksAt, Halts, Looks, LooksOn, LooksStopped, EndsHere, Stops, TakesPacket, PassesOver, HaltsBehind, Finds, OpensAt, FailsAhead}
 
 -- no fault was found
 abbrev pub NoFault : Found → Type 0
@@ -53,7 +54,7 @@ given_is is.Section block buf n kept = refl
 given_is (is.Interface link interface) block buf n kept = refl
 given_is (is.Packet stamp) block buf n kept = ap (λ l. Some (packet_of stamp l)) kept
 
-blocks_after : (sections : Sections) (order : Order) (found : Found) → (after_found (counted sections) order found).blocks ≡ sections.blocks + 1
+pub blocks_after : (sections : Sections) (order : Order) (found : Found) → (after_found (counted sections) order found).blocks ≡ sections.blocks + 1
 blocks_after sections order (is.Fails fault) = refl
 blocks_after sections order is.Passed = refl
 blocks_after sections order is.Section = refl
@@ -127,7 +128,7 @@ pub record Between (old now : NgReading) (a b : Option (List ℕ)) : Type 0 wher
 pub between_none : (old : NgReading) (a : Option (List ℕ)) → Between old old a a
 between_none old a = record { steps = []; taken = no_step old.inside old.sections a; silent = refl; inside = refl; sections = refl; place = omega arith }
 
-not_given : (found : Found) (buf : List ℕ) (given : Option Packet) → (IsPacket found → ⊥) → IsGiven found buf given → given ≡ None
+pub not_given : (found : Found) (buf : List ℕ) (given : Option Packet) → (IsPacket found → ⊥) → IsGiven found buf given → given ≡ None
 not_given (is.Fails fault) buf given n is = absurd is
 not_given is.Passed buf given n is = is
 not_given is.Section buf given n is = is
@@ -167,7 +168,7 @@ module _ (old now new : NgReading) (a b c : Option (List ℕ)) (p : Between old 
   }
 
   -- the block that was looked at, as one that stands behind the others
-  step_behind : (step : Step) → TakesSteps now.inside now.sections b c (step ∷ []) → TakesSteps old.inside old.sections a c (step ∷ p.steps)
+  pub step_behind : (step : Step) → TakesSteps now.inside now.sections b c (step ∷ []) → TakesSteps old.inside old.sections a c (step ∷ p.steps)
   step_behind step q =
       let there : TakesSteps old.inside (behind old.sections p.steps) b c (step ∷ []) =
       subst (λ (s : Sections). TakesSteps old.inside s b c (step ∷ [])) p.sections (subst (λ (i : Option (List ℕ)). TakesSteps i now.sections b c (step ∷ [])) p.inside q) in
@@ -189,7 +190,7 @@ module _ (old now new : NgReading) (a b c : Option (List ℕ)) (p : Between old 
     };
   }
 
-  pub passed_behind : (buf : List ℕ) (found : Found) → (IsPacket found → ⊥) → LooksAt now new b c buf found → Between old new a c
+  abbrev pub passed_behind : (buf : List ℕ) (found : Found) → (IsPacket found → ⊥) → LooksAt now new b c buf found → Between old new a c
   passed_behind buf found n q = record {
     steps = q.step ∷ p.steps;
     taken = step_behind q.step q.steps;
@@ -198,6 +199,17 @@ module _ (old now new : NgReading) (a b c : Option (List ℕ)) (p : Between old 
     sections = q.moves.sections;
     place = omega (arith, q.moves.place, p.place);
   }
+
+-- nothing was read before
+pub none_before : (a : Option (List ℕ)) → prepend_known [] a ≡ a
+none_before None = refl
+none_before (Some x) = refl
+
+pub looks_on_here : (old new : NgReading) (a b : Option (List ℕ)) → LooksOn old new (prepend_known [] a) b → LooksOn old new a b
+looks_on_here old new a b p = subst (λ (x : Option (List ℕ)). LooksOn old new x b) (none_before a) p
+
+pub stopped_here : (old new : NgReading) (a b : Option (List ℕ)) (stop : OpenFault) → LooksStopped old new (prepend_known [] a) b stop → LooksStopped old new a b stop
+stopped_here old new a b stop p = subst (λ (x : Option (List ℕ)). LooksStopped old new x b stop) (none_before a) p
 
 -- where no interface has stood, the octets do not end well
 never_ends : (inside : Option (List ℕ)) (sections : Sections) (b c : Option (List ℕ)) → sections.link ≡ None → EndsHere inside sections b c → ⊥
@@ -213,10 +225,12 @@ no_interface sections e u = let none : sections.interfaces ≡ [] = subst (λ (l
 pub record OpensSoFar (inside : Option (List ℕ)) (now : NgReading) (a b : Option (List ℕ)) : Type 0 where
   pub so_far : Between (first_reading inside) now a b
   pub unlinked : IsUnlinked now.sections.link now.sections.interfaces
+  pub looked : now.asked ≡ size_before so_far.steps
   pub going : now.is_open ≡ true
 
 pub opens_first : (inside : Option (List ℕ)) (a : Option (List ℕ)) → OpensSoFar inside (first_reading inside) a a
-opens_first inside a = record { so_far = between_none (first_reading inside) a; unlinked = refl; going = refl }
+unfolding between_none
+opens_first inside a = record { so_far = between_none (first_reading inside) a; unlinked = refl; looked = refl; going = refl }
 
 -- one more block before the first interface
 pub record OpensMore (inside : Option (List ℕ)) (now new : NgReading) (a c : Option (List ℕ)) : Type 0 where
@@ -233,20 +247,25 @@ module _ (inside : Option (List ℕ)) (now new : NgReading) (a b c : Option (Lis
         so_far = record {
           so_far = passed_behind (first_reading inside) now new a b c p.so_far buf found no_packet q;
           unlinked = q.unlinked;
+          looked = q.moves.looked ∙ p.so_far.place ∙ omega arith;
           going = q.moves.goes_on;
         };
         few = q.few;
         counted = q.counted;
       }
 
-  pub opens_fails : (fault : NgFault) → now.sections.link ≡ None → Halts now new (Stops now.inside now.sections b c fault) → FailsAhead inside a c fault
-  opens_fails fault unlinked q =
+  pub opens_on : now.sections.link ≡ None → LooksOn now new b c → OpensMore inside now new a c
+  opens_on unlinked q = opens_more [] q.given unlinked q.looked
+
+  pub opens_fails : (stop : OpenFault) → now.sections.link ≡ None → LooksStopped now new b c stop → FailsAhead inside a c stop.fault stop.offset
+  opens_fails stop unlinked q =
       record {
         steps = p.so_far.steps;
         between = b;
         taken = p.so_far.taken;
         unlinked = ap (λ (s : Sections). s.link) (sym p.so_far.sections) ∙ unlinked;
-        stops = why_behind (first_reading inside) now new a b c p.so_far (λ inside sections. Stops inside sections b c fault) q.why;
+        stops = why_behind (first_reading inside) now new a b c p.so_far (λ inside sections. Stops inside sections b c stop.fault) q.halted.why;
+        place = q.place ∙ q.halted.moves.looked ∙ p.so_far.place ∙ omega arith;
       }
 
 pub opens_at : (inside : Option (List ℕ)) (now : NgReading) (a b : Option (List ℕ)) → OpensSoFar inside now a b → IsSome now.sections.link → OpensAt inside a b now
@@ -255,5 +274,5 @@ opens_at inside now a b p linked = record {
   taken = p.so_far.taken;
   silent = p.so_far.silent;
   linked = linked;
-  moves = record { inside = p.so_far.inside; sections = p.so_far.sections; place = p.so_far.place; looked = refl; goes_on = p.going };
+  moves = record { inside = p.so_far.inside; sections = p.so_far.sections; place = p.so_far.place; looked = p.looked; goes_on = p.going };
 }

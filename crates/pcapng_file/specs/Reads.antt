@@ -8,6 +8,7 @@ use Rattle.pcap_file.specs.Records.{Packet}
 use Rattle.pcap_file.specs.Reads.{shown}
 use Rattle.pcapng_file.specs.declared.fault.NgFault.{NgFault}
 use Rattle.pcapng_file.specs.declared.fault.NgFault.TheVariants as faults
+use Rattle.pcapng_file.specs.declared.fault.OpenFault.{OpenFault}
 use Rattle.pcapng_file.specs.declared.front.Front.{Front}
 use Rattle.pcapng_file.specs.declared.content.Stamp.{Stamp}
 use Rattle.pcapng_file.specs.declared.content.Content.{Content}
@@ -19,7 +20,7 @@ use Rattle.pcapng_file.specs.Standing.{Sections, counted, no_section}
 use Rattle.pcapng_file.specs.Options.{options_of, described}
 use Rattle.pcapng_file.specs.Contents.{found_of, interface_found, IsSound}
 use Rattle.pcapng_file.specs.Blocks.{Step, order_at, size_at, sized_at, block_at, step_of, packet_of, before, IsInterface, IsPacket}
-use Rattle.pcapng_file.specs.Sections.{Walks, behind, packets_of, size_of}
+use Rattle.pcapng_file.specs.Sections.{Walks, behind, packets_of, size_of, size_before}
 use Rattle.pcapng_file.specs.Reading.{NgReading, first_reading, IsUnlinked}
 use Rattle.pcapng_file.specs.Takes.{Short}
 
@@ -167,6 +168,24 @@ Looks old new before after buf (Ok None) = Halts old new (EndsHere old.inside ol
 Looks old new before after buf (Ok (Some found)) = LooksAt old new before after buf found
 Looks old new before after buf (Err fault) = Halts old new (Stops old.inside old.sections before after fault)
 
+-- the fault alone, without its place
+abbrev pub only_fault : {T : Type 0} → Result T OpenFault → Result T NgFault
+only_fault (Ok value) = Ok value
+only_fault (Err stop) = Err stop.fault
+
+-- One block was taken before the first interface, or octets of it, and it is at fault.
+pub record LooksOn (old new : NgReading) (before after : Option (List ℕ)) : Type 0 where
+  pub given : Option Found
+  pub looked : Looks old new before after [] (Ok given)
+
+pub record LooksStopped (old new : NgReading) (before after : Option (List ℕ)) (stop : OpenFault) : Type 0 where
+  pub halted : Halts old new (Stops old.inside old.sections before after stop.fault)
+  pub place : stop.offset ≡ new.asked
+
+abbrev pub LooksAhead : (old new : NgReading) → (before after : Option (List ℕ)) → Result (Unit {0}) OpenFault → Type 0
+LooksAhead old new before after (Ok done) = LooksOn old new before after
+LooksAhead old new before after (Err stop) = LooksStopped old new before after stop
+
 -- Blocks without a packet were passed over, and behind them a packet was taken: this one.
 pub record TakesPacket (old new : NgReading) (before after : Option (List ℕ)) (packet : Packet) : Type 0 where
   pub step : Step
@@ -219,17 +238,28 @@ pub record OpensAt (inside old new : Option (List ℕ)) (reading : NgReading) : 
   pub taken : TakesSteps inside no_section old new steps
   pub silent : packets_of steps ≡ []
   pub linked : IsSome reading.sections.link
-  pub moves : Moves (first_reading inside) reading steps reading.asked true
+  pub moves : Moves (first_reading inside) reading steps (size_before steps) true
 
--- Blocks without a packet or an interface were passed over, and the one behind them has this fault.
-pub record FailsAhead (inside old new : Option (List ℕ)) (fault : NgFault) : Type 0 where
+-- Blocks without a packet or an interface were passed over, and the one behind them, at this offset, has this fault.
+pub record FailsAhead (inside old new : Option (List ℕ)) (fault : NgFault) (offset : ℕ) : Type 0 where
   pub steps : List Step
   pub between : Option (List ℕ)
   pub taken : TakesSteps inside no_section old between steps
   pub unlinked : (behind no_section steps).link ≡ None
   pub stops : Stops inside (behind no_section steps) between new fault
+  pub place : offset ≡ size_of steps
+
+-- the same at some offset
+pub record FailsSomewhereAhead (inside old new : Option (List ℕ)) (fault : NgFault) : Type 0 where
+  pub offset : ℕ
+  pub fails : FailsAhead inside old new fault offset
 
 -- the first interface was read, or this is the fault before it
 abbrev pub Opens : (inside old new : Option (List ℕ)) → Result NgReading NgFault → Type 0
 Opens inside old new (Ok reader) = OpensAt inside old new reader
-Opens inside old new (Err fault) = FailsAhead inside old new fault
+Opens inside old new (Err fault) = FailsSomewhereAhead inside old new fault
+
+-- the same, and the offset of the block that has the fault
+abbrev pub OpensBehind : (inside old new : Option (List ℕ)) → Result NgReading OpenFault → Type 0
+OpensBehind inside old new (Ok reader) = OpensAt inside old new reader
+OpensBehind inside old new (Err stop) = FailsAhead inside old new stop.fault stop.offset

@@ -31,6 +31,11 @@ abbrev pub size_of : List Step → ℕ
 size_of [] = 0
 size_of (step ∷ older) = size_of older + step.size
 
+-- how many octets blocks take before the newest one
+abbrev pub size_before : List Step → ℕ
+size_before [] = 0
+size_before (step ∷ older) = size_of older
+
 -- The octets are these blocks, the newest first, and nothing else.
 pub record IsSections (inside : Option (List ℕ)) (octets : List ℕ) (steps : List Step) : Type 0 where
   pub walks : Walks inside no_section octets steps []

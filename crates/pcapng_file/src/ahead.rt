@@ -1,7 +1,10 @@
 //! Octets that were looked at, before those that a source has left.
-ghost use Rattle.std.specs.Prelude.{◌≡◌};
+ghost use Rattle.std.specs.Prelude.{◌≡◌, ◌≤◌, length};
+ghost use Rattle.std.specs.Io.KnownBytes.{prepend_known};
+ghost use Rattle.edge_io.specs.Faults.{HasCause};
+ghost use Rattle.edge_io.specs.Octets.{Fills};
 
-use edge_io::{Failed, Source};
+use edge_io::{Failed, Source, read_full};
 
 /// Gives the kept octets, and then those of the source.
 #[derive(Drop)]
@@ -49,4 +52,16 @@ impl<S: Source> Source for Ahead<'_, S> {
     fn faults(&self) -> u64 {
         self.source.faults()
     }
+}
+
+/// Fills the buffer with these octets, which were read before, and those that come behind them; answers how many they are together.
+pub fn read_behind<S: Source>(first: &[u8], source: &mut S, buf: &mut [u8]) -> Result<usize, Failed>
+    requires { length first.now ≤ length buf.old }
+    ensures octets { Fills (prepend_known first.now (S.left source.old)) (S.left source.new) result buf.new }
+    ensures cause { HasCause (S.fault_count source.old) (S.fault_count source.new) result }
+{
+    let known = first.len();
+    buf[..known].copy_from_slice(first);
+    let more = read_full(source, &mut buf[known..])?;
+    Ok(known + more)
 }

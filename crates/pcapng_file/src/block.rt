@@ -1,5 +1,6 @@
 //! Reads one block.
 ghost use Rattle.std.specs.Prelude.{◌≡◌, ◌++◌, ◌≤◌, ◌<◌, length, true, false, option_map, IfSome};
+ghost use Rattle.std.specs.Io.KnownBytes.{prepend_known};
 ghost use Rattle.edge_io.specs.Faults.{Rose};
 ghost use Rattle.pcapng_file.specs.Standing.{known};
 ghost use Rattle.pcapng_file.specs.Takes.{is_read_fault};
@@ -7,6 +8,7 @@ ghost use Rattle.pcapng_file.specs.Blocks.{bare, IsFront};
 ghost use Rattle.pcapng_file.specs.Reads.{HasRoom, ReadsBody, ReadsRest, ReadsBlock};
 
 use crate::NgFault;
+use crate::ahead::read_behind;
 use crate::content::{
     Content, ENHANCED, Found, INTERFACE, OLD_PACKET, SECTION, SIMPLE, content_of, more_of,
 };
@@ -15,7 +17,7 @@ use crate::interface::read_options;
 use crate::numbers::u32_at;
 use crate::standing::Standing;
 use crate::take::{closes, pass, read_exact};
-use edge_io::{Source, read_full};
+use edge_io::Source;
 use pcap_file::Order;
 
 /// A block that was read: its byte order, its size in octets and what it holds.
@@ -142,22 +144,25 @@ fn read_rest<S: Source>(
     Ok(found)
 }
 
-/// Reads the next block, where one is left; the captured octets of a packet stand in the buffer.
+/// Reads the next block, where one is left, of which these first octets were read before; the captured octets of a packet stand
+/// in the buffer.
 pub(crate) fn read_block<S: Source>(
+    first: &[u8],
     source: &mut S,
     buf: &mut [u8],
     standing: &Standing,
     inside: Option<&[u8]>,
 ) -> Result<Option<Block>, NgFault>
+    requires few { length first.now ≤ 12 }
     requires room { 0 < length standing.now.interfaces.items → 262144 ≤ length buf.old }
     requires small { IfSome inside (λ name. length name.now ≤ 64) }
-    ensures octets { ReadsBlock (option_map (λ name. name.now) inside.entry) (known standing.now) (S.left source.old) (S.left source.new) buf.new result }
+    ensures octets { ReadsBlock (option_map (λ name. name.now) inside.entry) (known standing.now) (prepend_known first.now (S.left source.old)) (S.left source.new) buf.new result }
     ensures later { S.fault_count source.old ≤ S.fault_count source.new }
     ensures kept { is_read_fault result ≡ false → S.fault_count source.new ≡ S.fault_count source.old }
     ensures cause { is_read_fault result ≡ true → Rose (S.fault_count source.old) (S.fault_count source.new) }
 {
     let mut head = [0u8; 12];
-    let count = read_full(source, &mut head)?;
+    let count = read_behind(first, source, &mut head)?;
     if count == 0 {
         return match standing.link {
             Some(_) => Ok(None),

@@ -23,6 +23,14 @@ pub enum NgFault {
     ReadFault,
 }
 
+/// Why no file was opened, and the place of the block that is at fault, in octets from the first of the file.
+#[derive(Clone, Copy, Debug, PartialEq, Eq, Error)]
+#[error("{fault}, at octet {offset}")]
+pub struct OpenFault {
+    pub fault: NgFault,
+    pub offset: u64,
+}
+
 impl From<Failed> for NgFault {
     ghost use Rattle.std.specs.Prelude.{◌≡◌};
     ghost use Rattle.pcapng_file.specs.declared.fault.NgFault.TheVariants.{ReadFault};

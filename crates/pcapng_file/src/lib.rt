@@ -13,8 +13,8 @@ pub mod reader;
 pub mod standing;
 mod take;
 
-pub use ahead::Ahead;
-pub use fault::NgFault;
+pub use ahead::{Ahead, read_behind};
+pub use fault::{NgFault, OpenFault};
 pub use reader::NgReader;
 
 #[cfg(test)]

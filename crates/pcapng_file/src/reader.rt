@@ -1,14 +1,15 @@
 //! Reads the packets of a pcapng file one by one.
-ghost use Rattle.std.specs.Prelude.{◌≡◌, ◌≤◌, ◌<◌, length, true, false, option_map, IfOk, IfSome, Some, []};
+ghost use Rattle.std.specs.Prelude.{◌≡◌, ◌≤◌, ◌<◌, length, true, false, option_map, IfOk, IfSome, Some, None, []};
+ghost use Rattle.std.specs.Io.KnownBytes.{prepend_known};
 ghost use Rattle.edge_io.specs.Faults.{Rose};
 ghost use Rattle.pcapng_file.specs.Takes.{is_read_fault};
-ghost use Rattle.pcapng_file.specs.Reads.{Looks, Finds, IsSmall, Reads, Opens, IfPacket};
+ghost use Rattle.pcapng_file.specs.Reads.{Looks, LooksAhead, Finds, IsSmall, Reads, Opens, OpensBehind, only_fault, IfPacket};
 ghost use Rattle.pcapng_file.specs.Reading.{written_head};
 
-use crate::NgFault;
 use crate::block::read_block;
 use crate::content::{Found, Stamp};
 use crate::standing::Standing;
+use crate::{NgFault, OpenFault};
 use arrayvec::ArrayVec;
 use edge_io::Source;
 use pcap_file::{Head, Order, Record};
@@ -52,6 +53,25 @@ impl NgReader {
         ensures kept { is_read_fault result ≡ false → S.fault_count source.new ≡ S.fault_count source.old }
         ensures cause { is_read_fault result ≡ true → Rose (S.fault_count source.old) (S.fault_count source.new) }
     {
+        match NgReader::open_behind(inside, &[], source) {
+            Ok(reader) => Ok(reader),
+            Err(stop) => Err(stop.fault),
+        }
+    }
+
+    /// The same for a file whose first octets, at most 12, were read before; a fault is told with the place of its block.
+    pub fn open_behind<S: Source>(
+        inside: Option<&[u8]>,
+        first: &[u8],
+        source: &mut S,
+    ) -> Result<NgReader, OpenFault>
+        requires small { IfSome inside (λ name. length name.now ≤ 64) }
+        requires few { length first.now ≤ 12 }
+        ensures octets { OpensBehind (option_map (λ name. name.now) inside.entry) (prepend_known first.now (S.left source.old)) (S.left source.new) result }
+        ensures later { S.fault_count source.old ≤ S.fault_count source.new }
+        ensures kept { is_read_fault (only_fault result) ≡ false → S.fault_count source.new ≡ S.fault_count source.old }
+        ensures cause { is_read_fault (only_fault result) ≡ true → Rose (S.fault_count source.old) (S.fault_count source.new) }
+    {
         let mut reader = NgReader {
             inside: copied_name(inside),
             standing: Standing::new(),
@@ -59,8 +79,9 @@ impl NgReader {
             asked: 0,
             going: true,
         };
+        reader.look_ahead(first, source)?;
         while reader.standing.link.is_none() {
-            reader.look(source, &mut [])?;
+            reader.look_ahead(&[], source)?;
         }
         Ok(reader)
     }
@@ -90,10 +111,32 @@ impl NgReader {
         self.asked
     }
 
-    // Looks at the next block, where one is left.
-    fn look<S: Source>(&mut self, source: &mut S, buf: &mut [u8]) -> Result<Option<Found>, NgFault>
-        requires { 0 < length self.old.sections.interfaces → 262144 ≤ length buf.old }
-        ensures octets { Looks self.old self.new (S.left source.old) (S.left source.new) buf.new result }
+    // Looks at the next block before the first interface, of which these first octets were read before.
+    fn look_ahead<S: Source>(&mut self, first: &[u8], source: &mut S) -> Result<(), OpenFault>
+        requires few { length first.now ≤ 12 }
+        requires unlinked { self.old.sections.link ≡ None }
+        ensures octets { LooksAhead self.old self.new (prepend_known first.now (S.left source.old)) (S.left source.new) result }
+        ensures later { S.fault_count source.old ≤ S.fault_count source.new }
+        ensures kept { is_read_fault (only_fault result) ≡ false → S.fault_count source.new ≡ S.fault_count source.old }
+        ensures cause { is_read_fault (only_fault result) ≡ true → Rose (S.fault_count source.old) (S.fault_count source.new) }
+    {
+        let offset = self.place;
+        match self.look(first, source, &mut []) {
+            Ok(_) => Ok(()),
+            Err(fault) => Err(OpenFault { fault, offset }),
+        }
+    }
+
+    // Looks at the next block, where one is left, of which these first octets were read before.
+    fn look<S: Source>(
+        &mut self,
+        first: &[u8],
+        source: &mut S,
+        buf: &mut [u8],
+    ) -> Result<Option<Found>, NgFault>
+        requires few { length first.now ≤ 12 }
+        requires room { 0 < length self.old.sections.interfaces → 262144 ≤ length buf.old }
+        ensures octets { Looks self.old self.new (prepend_known first.now (S.left source.old)) (S.left source.new) buf.new result }
         ensures later { S.fault_count source.old ≤ S.fault_count source.new }
         ensures kept { is_read_fault result ≡ false → S.fault_count source.new ≡ S.fault_count source.old }
         ensures cause { is_read_fault result ≡ true → Rose (S.fault_count source.old) (S.fault_count source.new) }
@@ -101,7 +144,7 @@ impl NgReader {
         self.going = false;
         self.asked = self.place;
         let inside = octets_of(&self.inside);
-        let Some(block) = read_block(source, buf, &self.standing, inside)? else {
+        let Some(block) = read_block(first, source, buf, &self.standing, inside)? else {
             return Ok(None);
         };
         if let Found::Fails(fault) = block.found {
@@ -126,7 +169,7 @@ impl NgReader {
         ensures kept { is_read_fault result ≡ false → S.fault_count source.new ≡ S.fault_count source.old }
         ensures cause { is_read_fault result ≡ true → Rose (S.fault_count source.old) (S.fault_count source.new) }
     {
-        while let Some(found) = self.look(source, buf)? {
+        while let Some(found) = self.look(&[], source, buf)? {
             if let Found::Packet(stamp) = found {
                 return Ok(Some(stamp));
             }

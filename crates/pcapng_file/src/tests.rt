@@ -129,9 +129,9 @@ fn read_to_end(
 
 fn outcome(rt: HostRuntime, octets: Vec<u8>) -> Result<(u32, Option<NgFault>, u64), Fail> {
     let mut source = MemSource::new(octets, 65536, Vec::new(rt.alloc()));
-    let mut reader = match NgReader::open(None, &mut source) {
+    let mut reader = match NgReader::open_behind(None, &[], &mut source) {
         Ok(reader) => reader,
-        Err(fault) => return Ok((0, Some(fault), 0)),
+        Err(stop) => return Ok((0, Some(stop.fault), stop.offset)),
     };
     let mut buf = vec![in rt.alloc(); 0u8; 262144]?;
     read_to_end(&mut reader, &mut source, &mut buf)
@@ -284,11 +284,11 @@ fn a_file_has_its_first_fault(rt: HostRuntime) -> Result<(), Fail> {
         (4, 8, NgFault::Block, 0),
         (4, 30, NgFault::Block, 0),
         (24, 27, NgFault::Block, 0),
-        (36, 113, NgFault::Link, 0),
-        (32, 31, NgFault::Block, 0),
+        (36, 113, NgFault::Link, 28),
+        (32, 31, NgFault::Block, 28),
         // An option that reaches past the options, and a packet before the first interface.
-        (46, 9, NgFault::Block, 0),
-        (28, 3, NgFault::Block, 0),
+        (46, 9, NgFault::Block, 28),
+        (28, 3, NgFault::Block, 28),
         // A packet of the old type, and one of another interface.
         (60, 2, NgFault::Block, 60),
         (68, 1, NgFault::Block, 60),
@@ -307,8 +307,8 @@ fn a_file_has_its_first_fault(rt: HostRuntime) -> Result<(), Fail> {
     }
     // Times in other units than those that are read.
     let nano: [&[u8]; 3] = [&SECTION, &NANO, &STAMPED];
-    assert_eq!(rt; changed(rt, &nano, 48, 3)?, (0, Some(NgFault::Block), 0));
-    assert_eq!(rt; changed(rt, &nano, 46, 2)?, (0, Some(NgFault::Block), 0));
+    assert_eq!(rt; changed(rt, &nano, 48, 3)?, (0, Some(NgFault::Block), 28));
+    assert_eq!(rt; changed(rt, &nano, 46, 2)?, (0, Some(NgFault::Block), 28));
     // Simple packets of too many octets, and a second interface of another link.
     let simple: [&[u8]; 3] = [&SECTION, &IN, &SIMPLE];
     assert_eq!(rt; changed(rt, &simple, 70, 5)?, (0, Some(NgFault::Long), 60));
@@ -324,8 +324,8 @@ fn a_file_that_is_cut_short_is_told(rt: HostRuntime) -> Result<(), Fail> {
         (0, 0),
         (11, 0),
         (27, 0),
-        (28, 0),
-        (59, 0),
+        (28, 28),
+        (59, 28),
         (61, 60),
         (71, 60),
         (103, 60),

@@ -1,11 +1,12 @@
 use Rattle.std.proofs.Common.{◌≡◌, ◌-◌, option_map}
+use Rattle.std.specs.Io.KnownBytes.{prepend_known}
 use Rattle.pcapng_file.proofs.Walking.{OpensSoFar}
-use Rattle.pcapng_file.proofs.reader.NgReader.open.Given as goal
+use Rattle.pcapng_file.proofs.reader.NgReader.open_behind.Given as goal
 
 -- no packet stood in what was read
 abbrev pub invariant-loop-reader : goal.invariant-loop-reader
 invariant-loop-reader g l = record {
-  so_far : OpensSoFar (option_map (λ name. name.now) l.fn.inside) l.reader (g.S.Source.left l.fn.source) (g.S.Source.left l.source);
+  so_far : OpensSoFar (option_map (λ name. name.now) l.fn.inside) l.reader (prepend_known l.fn.first (g.S.Source.left l.fn.source)) (g.S.Source.left l.source);
   counted : g.S.Source.fault_count l.source ≡ g.S.Source.fault_count l.fn.source;
 }
 

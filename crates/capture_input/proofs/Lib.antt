@@ -1,0 +1,5 @@
+pub mod Heads
+pub mod Walking
+pub mod Unique
+pub mod Ends
+pub mod Stops

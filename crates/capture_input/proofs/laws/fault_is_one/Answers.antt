@@ -1,0 +1,5 @@
+use Rattle.capture_input.proofs.Unique.{fault_one}
+use Rattle.capture_input.proofs.laws.fault_is_one.Goals as goal
+
+pub returns : goal.returns
+returns c = fault_one

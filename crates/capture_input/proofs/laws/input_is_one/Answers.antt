@@ -1,0 +1,5 @@
+use Rattle.capture_input.proofs.Unique.{input_one}
+use Rattle.capture_input.proofs.laws.input_is_one.Goals as goal
+
+pub returns : goal.returns
+returns c = input_one

@@ -1,0 +1,47 @@
+-- Laws of the definitions of an input.
+use Rattle.std.specs.Prelude.{◌≡◌, ◌⊎◌, ℕ, false, List, Option}
+use Rattle.pcap_file.specs.declared.head.Head.{Head}
+use Rattle.pcap_file.specs.Records.{Packet}
+use Rattle.capture_input.specs.declared.fault.InputFault.{InputFault}
+use Rattle.capture_input.specs.Faults.{is_read_fault}
+use Rattle.capture_input.specs.Inputs.{Walk, packets_in, place_behind, IsInput, FailsAt, EndsWell, EndsBadly, Took, TookAll, TakenWhole, HasFaultAt}
+use Rattle.capture_input.specs.Reads.{StopsInHead, StopsAt}
+
+-- Octets that are an input have one head and one list of packets.
+abbrev pub InputIsOne : Type 0
+InputIsOne =
+    (inside : Option (List ℕ)) (octets : List ℕ) (head other : Head) (packets others : List Packet)
+    → IsInput inside octets head packets → IsInput inside octets other others → (head ≡ other) × (packets ≡ others)
+
+-- Octets have one first fault, at one offset.
+abbrev pub FaultIsOne : Type 0
+FaultIsOne =
+    (inside : Option (List ℕ)) (octets : List ℕ) (fault other : InputFault) (offset place : ℕ)
+    → FailsAt inside octets fault offset → FailsAt inside octets other place → (fault ≡ other) × (offset ≡ place)
+
+-- Octets that are an input have no fault.
+abbrev pub FaultExcludesEnd : Type 0
+FaultExcludesEnd =
+    (inside : Option (List ℕ)) (octets : List ℕ) (head : Head) (packets : List Packet) (fault : InputFault) (offset : ℕ)
+    → IsInput inside octets head packets → FailsAt inside octets fault offset → ⊥
+
+-- All octets are an input or have a first fault.
+abbrev pub EachInputEnds : Type 0
+EachInputEnds = (inside : Option (List ℕ)) (octets : List ℕ) → EndsWell inside octets ⊎ EndsBadly inside octets
+
+-- Where opening an input stops, and the source did not fail, there is the first fault of the octets that the source told.
+abbrev pub HeadStopsAreFaults : Type 0
+HeadStopsAreFaults =
+    (inside old new : Option (List ℕ)) (fault : InputFault) (offset : ℕ) → is_read_fault fault ≡ false → StopsInHead inside old new fault offset → HasFaultAt inside old fault offset
+
+-- The same where reading stops behind what was read.
+abbrev pub StopsAreFaults : Type 0
+StopsAreFaults =
+    (inside old between new : Option (List ℕ)) (head : Head) (walk : Walk) (fault : InputFault) → is_read_fault fault ≡ false
+    → Took inside old between head walk → StopsAt inside head walk between new fault → HasFaultAt inside old fault (place_behind walk)
+
+-- Octets that were read to their end are an input.
+abbrev pub WholeIsInput : Type 0
+WholeIsInput =
+    (inside old between new : Option (List ℕ)) (head : Head) (walk farther : Walk) → Took inside old between head walk → TakenWhole between new → Took inside old new head farther
+    → TookAll inside old head (packets_in farther) × TakenWhole old new

@@ -1,0 +1,51 @@
+-- Where an input stands (this project's profile).
+use Rattle.std.specs.Prelude.{◌≡◌, ℕ, ◌≤◌, Bool, List, length, Option, None, IsSome}
+use Rattle.pcap_file.specs.declared.head.Head.{Head}
+use Rattle.pcap_file.specs.Records.{Packet}
+use Rattle.pcap_file.specs.Capture.{offset_of}
+use Rattle.pcap_file.specs.Reading.{Reading}
+use Rattle.pcapng_file.specs.Standing.{no_section}
+use Rattle.pcapng_file.specs.Blocks.{Step}
+use Rattle.pcapng_file.specs.Sections.{behind, size_of}
+use Rattle.pcapng_file.specs.Reading.{NgReading, written_head}
+use Rattle.capture_input.specs.declared.input.Input.{Input}
+use Rattle.capture_input.specs.declared.input.Input.TheVariants.{Classic, Sections}
+use Rattle.capture_input.specs.Inputs.{Walk, records, blocks}
+
+-- the head of the file that is written from these packets
+abbrev pub head_in : Input → Head
+head_in (Classic head reader) = head
+head_in (Sections reader) = written_head reader.sections.link
+
+-- the offset of the record or block that was looked at last
+abbrev pub asked_in : Input → ℕ
+asked_in (Classic head reader) = reader.asked
+asked_in (Sections reader) = reader.asked
+
+-- whether the next packet may be asked for
+abbrev pub is_open_in : Input → Bool
+is_open_in (Classic head reader) = reader.is_open
+is_open_in (Sections reader) = reader.is_open
+
+-- The reader of a classic file stands behind these records.
+pub record BehindRecords (inside : Option (List ℕ)) (head : Head) (reader : Reading) (packets : List Packet) : Type 0 where
+  pub unnamed : inside ≡ None
+  pub same : reader.head ≡ head
+  pub given : reader.given ≡ length packets
+  pub place : reader.place ≡ offset_of packets
+
+-- The reader of a pcapng file stands behind these blocks, an interface among them.
+pub record BehindBlocks (inside : Option (List ℕ)) (reader : NgReading) (steps : List Step) : Type 0 where
+  pub named : reader.inside ≡ inside
+  pub sections : reader.sections ≡ behind no_section steps
+  pub place : reader.place ≡ size_of steps
+  pub linked : IsSome reader.sections.link
+  pub counted : reader.sections.blocks ≡ length steps
+  pub few : length steps ≤ 4294967295
+
+-- The input stands behind what was read.
+abbrev pub Behind : Input → (inside : Option (List ℕ)) → Walk → Type 0
+Behind (Classic head reader) inside (records packets) = BehindRecords inside head reader packets
+Behind (Sections reader) inside (blocks steps) = BehindBlocks inside reader steps
+Behind (Classic head reader) inside (blocks steps) = ⊥
+Behind (Sections reader) inside (records packets) = ⊥

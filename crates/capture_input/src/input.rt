@@ -1,0 +1,94 @@
+//! Reads the packets of a capture one by one.
+ghost use Rattle.std.specs.Prelude.{◌≡◌, ◌≤◌, ℕ, List, length, true, false, option_map, IfSome};
+ghost use Rattle.std.specs.declared.option.Option.{Option};
+ghost use Rattle.edge_io.specs.Faults.{Rose};
+ghost use Rattle.capture_input.specs.Faults.{has_read_fault, only_fault};
+ghost use Rattle.capture_input.specs.Inputs.{Walk};
+ghost use Rattle.capture_input.specs.Reading.{head_in, asked_in, is_open_in, Behind};
+ghost use Rattle.capture_input.specs.Reads.{Opens, Reads};
+
+use crate::opening::{open_classic, open_sections};
+use crate::{InputFault, OpenFault};
+use edge_io::{Source, read_full};
+use pcap_file::{Head, Reader, Record};
+use pcapng_file::NgReader;
+
+// The type of a section block, by which a pcapng file begins.
+const SECTION: [u8; 4] = [0x0a, 0x0d, 0x0d, 0x0a];
+
+/// Where reading stands in a capture of either kind.
+#[derive(Debug, Drop)]
+pub enum Input {
+    Classic(Head, Reader),
+    Sections(NgReader),
+}
+
+impl Input {
+    /// Reads the head: of a classic file its 24 octets, of a pcapng file all up to the end of the first interface block. A classic
+    /// file is refused where the name of the interface on the inside is given, since it tells none.
+    pub fn open<S: Source>(inside: Option<&[u8]>, source: &mut S) -> Result<Input, OpenFault>
+        requires { IfSome inside (λ name. length name.now ≤ 64) }
+        ensures octets { Opens (option_map (λ name. name.now) inside.entry) (S.left source.old) (S.left source.new) result }
+        ensures later { S.fault_count source.old ≤ S.fault_count source.new }
+        ensures kept { has_read_fault (only_fault result) ≡ false → S.fault_count source.new ≡ S.fault_count source.old }
+        ensures cause { has_read_fault (only_fault result) ≡ true → Rose (S.fault_count source.old) (S.fault_count source.new) }
+    {
+        let mut first = [0u8; 4];
+        let count = read_full(source, &mut first)?;
+        if first[..count] == SECTION[..] {
+            return open_sections(inside, &first, source);
+        }
+        open_classic(inside, &first[..count], source)
+    }
+
+    /// The head of the file that is written from these packets: a classic file's own; and of a pcapng file lowest octet first,
+    /// nanoseconds, the link of the first interface.
+    pub fn head(&self) -> Head
+        ensures { result ≡ head_in self.now }
+    {
+        match self {
+            Input::Classic(head, _) => *head,
+            Input::Sections(reader) => reader.head(),
+        }
+    }
+
+    /// Whether the next packet may be asked for.
+    pub fn is_open(&self) -> bool
+        ensures { result ≡ is_open_in self.now }
+    {
+        match self {
+            Input::Classic(_, reader) => reader.is_open(),
+            Input::Sections(reader) => reader.is_open(),
+        }
+    }
+
+    /// The place of the record or block that was looked at last, in octets from the first of the capture.
+    pub fn offset(&self) -> u64
+        ensures { result ≡ asked_in self.now }
+    {
+        match self {
+            Input::Classic(_, reader) => reader.offset(),
+            Input::Sections(reader) => reader.offset(),
+        }
+    }
+
+    /// The next packet, its octets in the buffer, at the place of its record or block.
+    pub fn next<'a, S: Source>(
+        &mut self,
+        source: &mut S,
+        buf: &'a mut [u8],
+    ) -> Result<Option<Record<'a>>, InputFault>
+        requires open { is_open_in self.old ≡ true }
+        requires room { 262144 ≤ length buf.old }
+        ensures octets { (inside : Option (List ℕ)) (walk : Walk) → Behind self.old inside walk
+            → Reads self.old self.new inside walk (S.left source.old) (S.left source.new) result }
+        ensures later { S.fault_count source.old ≤ S.fault_count source.new }
+        ensures kept { has_read_fault result ≡ false → S.fault_count source.new ≡ S.fault_count source.old }
+        ensures cause { has_read_fault result ≡ true → Rose (S.fault_count source.old) (S.fault_count source.new) }
+    {
+        match self {
+            Input::Classic(_, reader) => Ok(reader.next(source, buf)?),
+            Input::Sections(reader) => Ok(reader.next(source, buf)?),
+        }
+    }
+}

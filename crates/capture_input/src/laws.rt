@@ -1,0 +1,37 @@
+//! Laws over the definitions alone.
+ghost use Rattle.capture_input.specs.Laws.{InputIsOne, FaultIsOne, FaultExcludesEnd, EachInputEnds, HeadStopsAreFaults, StopsAreFaults, WholeIsInput};
+
+/// An input has one head and one list of packets.
+pub fn input_is_one()
+    ensures { InputIsOne }
+{}
+
+/// Octets have one first fault, at one offset.
+pub fn fault_is_one()
+    ensures { FaultIsOne }
+{}
+
+/// Octets with a first fault do not end well.
+pub fn fault_excludes_end()
+    ensures { FaultExcludesEnd }
+{}
+
+/// All octets are an input or have a first fault.
+pub fn each_input_ends()
+    ensures { EachInputEnds }
+{}
+
+/// Where opening stops, and the source did not fail, there is the first fault.
+pub fn head_stops_are_faults()
+    ensures { HeadStopsAreFaults }
+{}
+
+/// Where reading stops, and the source did not fail, there is the first fault.
+pub fn stops_are_faults()
+    ensures { StopsAreFaults }
+{}
+
+/// What was read to its end is an input.
+pub fn whole_is_input()
+    ensures { WholeIsInput }
+{}
