@@ -22,7 +22,7 @@ pub fn faultless_agrees()
     members_agree();
 }
 
-/// Where a capture and a report tell their octets, one answer holds of them and of words, but that a source failed or memory was wanting.
+/// Beside an answer that holds of words, a capture and a report, and whose sources tell their octets, no other holds, but that a source failed or memory was wanting.
 pub fn answers_are_one()
     ensures { AnswersAreOne }
 {}
