@@ -14,3 +14,5 @@ pub mod Saying
 pub mod OneReport
 pub mod OneCapture
 pub mod OneAnswer
+pub mod Emitting
+pub mod Faultless

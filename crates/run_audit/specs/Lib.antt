@@ -15,3 +15,4 @@ pub mod Owned
 pub mod Audits
 pub mod Reported
 pub mod Audited
+pub mod Emitted
