@@ -7,7 +7,6 @@ use Rattle.wire_base.specs.declared.address.Link.{Link}
 use Rattle.wire_base.specs.declared.address.Link.TheVariants.{Ethernet, Raw}
 use Rattle.wire_base.specs.declared.address.Side.{Side}
 use Rattle.wire_base.specs.declared.address.Side.TheVariants.{Inward, Outward}
-use Rattle.wire_base.specs.Frames.{packet_in}
 use Rattle.rule_book.specs.Entries.{PlainEntry}
 use Rattle.era_agreement.specs.Sent.{Sent}
 
