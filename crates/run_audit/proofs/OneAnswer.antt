@@ -114,12 +114,15 @@ read_of capture report c r P e f o = record {
 told_of : (words : List (List ℕ)) (capture report : Seen) (c r : List ℕ) (a : Answer) → capture.left ≡ Some c → report.left ≡ Some r → IsExact a → Says words capture report a → Told words c r a
 unfolding Told
 told_of words capture report c r (answers.Yes eras frames) e f exact s =
-    let y = s.2 in
-    (s.0, s.1, record {
-      entries = y.entries;
-      finished = at (λ x. IsFinished x y.entries) report.left r f y.finished;
-      fact = (y.eras_are, at (λ x. IsSound s.0 y.entries x frames) capture.left c e y.sound);
-    })
+    let y = s.2 in (
+      s.0,
+      s.1,
+      record {
+        entries = y.entries;
+        finished = at (λ x. IsFinished x y.entries) report.left r f y.finished;
+        fact = (y.eras_are, at (λ x. IsSound s.0 y.entries x frames) capture.left c e y.sound);
+      },
+    )
 told_of words capture report c r (answers.No number reason) e f exact s = (s.0, s.1, read_of capture.left report.left c r (λ es x. IsFaulty s.0 es x number reason) e f s.2)
 told_of words capture report c r answers.Words e f exact s = s
 told_of words capture report c r (answers.Flawed flaw offset) e f exact s = (s.0, s.1, read_of capture.left report.left c r (λ es x. IsFlawed s.0 es x (flaw_of flaw) offset) e f s.2)
