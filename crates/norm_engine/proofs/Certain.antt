@@ -21,6 +21,8 @@ use Rattle.wire_base.specs.Plain.{Plain, IsPlainUdp, IsPlainIcmp}
 use Rattle.wire_base.specs.Segments.{Written}
 use Rattle.wire_base.specs.Frames.{link_octets, packet_in}
 use Rattle.icmp_codec.specs.Quote.{quoted_in}
+use Rattle.ipv4_codec.specs.declared.header.Ipv4.{Ipv4}
+use Rattle.ipv4_codec.specs.Header.{fields_of}
 use Rattle.pcap_file.specs.Records as records
 use Rattle.tcp_codec.specs.Mending.{MendedSayTheSame}
 use Rattle.tcp_codec.specs.Write.{segment_octets}
@@ -29,27 +31,24 @@ use Rattle.rule_book.specs.declared.rule.Rule.{Rule}
 use Rattle.rule_book.specs.declared.rule.Rule.TheVariants as rules
 use Rattle.rule_book.specs.Rules.{datagram_rows, era_rows, segment_rows}
 use Rattle.norm_settings.specs.Settings.{PlainSettings}
-use Rattle.era_state.specs.Quantities.{out}
-use Rattle.cold_start.specs.Rules.{cold_probe_of, is_asked}
-use Rattle.reset_probe.specs.Rules.{era_probe}
 use Rattle.ip_rules.specs.Datagrams.{Datagram, Packet, AnewIsPacket, DatagramsAreKnown, IsPacketOf, IsKnown, anew, as_read, datagram_in, datagram_of, frame_of, frames_of, goes_in}
 use Rattle.ip_rules.specs.Rows.{carries_ip, side_in, ip_dropped_by, ip_fixes, whole_fix_rows, piece_fix_rows}
 use Rattle.ip_rules.specs.Judged.{IsKept}
 use Rattle.ip_rules.proofs.Undropped.{none_found}
 use Rattle.dgram_rules.specs.Rows as dgram
 use Rattle.dgram_rules.specs.Rows.{holds_dgram, dgram_dropped_by}
-use Rattle.reassembly.specs.Pieces.{Fragment, is_whole}
+use Rattle.reassembly.specs.Pieces.{Fragment, is_whole, whole_of, datagram_octets}
 use Rattle.reassembly.specs.Rows as fragments
 use Rattle.tcp_norm.specs.Calls.{Call, Outcome, segment_in, is_written}
 use Rattle.tcp_norm.specs.Views.{View, view_of}
-use Rattle.tcp_norm.specs.Rows.{is_live, pseudo_of, holds_era, mended_by}
-use Rattle.tcp_norm.specs.Emits.{probe_packet, probe_packets, packet_by, segment_anew, segment_sent, sum_mended}
+use Rattle.tcp_norm.specs.Rows.{pseudo_of, holds_era, mended_by}
+use Rattle.tcp_norm.specs.Emits.{packet_by, segment_anew, segment_sent, sum_mended}
 use Rattle.tcp_norm.specs.Outcomes.{outcome_at, outcome_by, verdict_of}
 use Rattle.tcp_norm.specs.Segments.{IsSegment}
 use Rattle.tcp_norm.proofs.Passing.{fixed_or_passed}
 use Rattle.norm_engine.specs.Items.{Item}
 use Rattle.norm_engine.specs.Rows.{side_of_record, holds_tcp, is_segment}
-use Rattle.norm_engine.specs.Fragments.{Offering, fragment_in, offering_of, offering_in, holds_offered, completes, joined_in, pieces_before}
+use Rattle.norm_engine.specs.Fragments.{Offering, datagram_made, head_of_whole, pieces_with, fragment_in, offering_of, offering_in, holds_offered, completes, joined_in, pieces_before}
 use Rattle.norm_engine.specs.Frames.{octets_sent, mended_frame, frame_by}
 use Rattle.norm_engine.specs.Calls.{where_passes, segment_after, datagram_after, past_of}
 use Rattle.norm_engine.specs.Trace.{Read, read_after, is_held, is_quoted_live, dropped_by, named_rows, outcome_of, emits, frames_by, side_by, era_by, item_of}
@@ -139,20 +138,23 @@ module _ (mends : MendedSayTheSame) (settings : PlainSettings) (ws : List Writte
 not_dropped : (settings : PlainSettings) (v : View) (d : Datagram) → goes_in d.side ≡ false → outcome_at settings v d ≡ outcome_by settings v d None (mended_by settings v d)
 not_dropped settings v d outward = ap (λ b. outcome_by settings v d (cond b (find (holds_era settings v d) era_rows) None) (mended_by settings v d)) outward
 
-alone : (live syn rst : Bool) (probe own : Packet) (probes : List Packet)
-    → cond (not live && (false && not syn && not rst)) (probe ∷ []) (own ∷ cond (live && false && rst) probes []) ≡ own ∷ []
-alone true syn rst probe own probes = refl
-alone false syn rst probe own probes = refl
+alone : (settings : PlainSettings) (v : View) (live : Option ℕ) (head : Ipv4) (header octets : List ℕ) (fixes mended : List Rule)
+    → let d : Datagram = record { side = Outward; head = head; header = header; octets = octets; fixes = fixes } in
+    (outcome_by settings (record v { era = live }) d None mended).packets ≡ packet_by settings v.segments d fixes mended ∷ []
+alone settings v None head header octets fixes mended = refl
+alone settings v (Some era) head header octets fixes mended = refl
+
+goes_out : (side : Side) → goes_in side ≡ false → side ≡ Outward
+goes_out Inward h = absurd (cc)
+goes_out Outward h = refl
 
 outward_packets : (settings : PlainSettings) (v : View) (d : Datagram) → goes_in d.side ≡ false
     → (outcome_at settings v d).packets ≡ packet_by settings v.segments d d.fixes (mended_by settings v d) ∷ []
 outward_packets settings v d outward =
-    let w = segment_in d in
-    let own = packet_by settings v.segments d d.fixes (mended_by settings v d) in
-    ap (λ (o : Outcome). o.packets) (not_dropped settings v d outward)
-    ∙ ((λ i. cond (not (is_live v) && is_asked (record w { inward = outward i })) (probe_packet settings d (cold_probe_of w) ∷ [])
-    (own ∷ cond (is_live v && outward i && tcp.has_rst w.flags) (probe_packets settings d (era_probe v.segments w)) []))
-    ∙ alone (is_live v) (tcp.has_syn w.flags) (tcp.has_rst w.flags) (probe_packet settings d (cold_probe_of w)) own (probe_packets settings d (era_probe v.segments w)))
+    let P : Side → Type 0 = λ side.
+        (outcome_at settings v (record d { side = side })).packets
+        ≡ packet_by settings v.segments (record d { side = side }) d.fixes (mended_by settings v (record d { side = side })) ∷ [] in
+    subst P (sym (goes_out d.side outward)) (alone settings v v.era d.head d.header d.octets d.fixes (mended_by settings v (record d { side = Outward })))
 
 outward_written : (settings : PlainSettings) (v : View) (d : Datagram) → goes_in d.side ≡ false → is_written (outcome_at settings v d).verdict ≡ true
 outward_written settings v d outward = ap (λ (o : Outcome). is_written o.verdict) (not_dropped settings v d outward) ∙ fixed_or_passed (d.fixes ++ mended_by settings v d)
@@ -188,8 +190,11 @@ plain_message settings d p i side same m = record {
   message = record { protocol = which m.protocol; icmp = icmp; tcp = λ f. absurd (no_tcp m.protocol f); udp = udp_part };
 }
   where
+    forth : ip.payload (p.header ++ p.octets) ≡ d.octets
+    forth = i.carries ∙ same
+
     back : d.octets ≡ ip.payload (p.header ++ p.octets)
-    back = sym (i.carries ∙ same)
+    back = sym forth
 
     which : (d.head.protocol ≡ 1) ⊎ (d.head.protocol ≡ 17) → (ip.protocol (p.header ++ p.octets) ≡ 1) ⊎ (ip.protocol (p.header ++ p.octets) ≡ 6) ⊎ (ip.protocol (p.header ++ p.octets) ≡ 17)
     which (inl e) = inl (i.protocol ∙ e)
@@ -216,8 +221,8 @@ plain_message settings d p i side same m = record {
         summed : (udp.checksum d.octets ≡ 0) ⊎ (sum_is_right d.octets (dgram.pseudo_of d) ≡ true)
             → (udp.checksum (ip.payload (p.header ++ p.octets)) ≡ 0)
             ⊎ (sum_is_right (ip.payload (p.header ++ p.octets)) (pseudo_sum (ip.source (p.header ++ p.octets)) (ip.destination (p.header ++ p.octets)) (ip.protocol (p.header ++ p.octets)) (length (ip.payload (p.header ++ p.octets)))) ≡ true)
-        summed (inl e) = inl (ap udp.checksum (sym back) ∙ e)
-        summed (inr e) = inr ((λ k. sum_is_right (back (~ k)) (pseudo_sum (i.source k) (i.destination k) (i.protocol k) (length (back (~ k))))) ∙ e)
+        summed (inl e) = inl (ap udp.checksum forth ∙ e)
+        summed (inr e) = inr ((λ k. sum_is_right (forth k) (pseudo_sum (i.source k) (i.destination k) (i.protocol k) (length (forth k)))) ∙ e)
 
 row_fails : (of_it row : Bool) → (of_it && row) ≡ false → of_it ≡ true → row ≡ false
 row_fails true row h c = h
@@ -237,10 +242,10 @@ sum_right false false true offload side h = absurd (cc)
 sum_right false false false offload side h = absurd (cc)
 
 of_protocol : (one six seventeen : Bool) → (one || six || seventeen) ≡ true → six ≡ false → (one ≡ true) ⊎ (seventeen ≡ true)
-of_protocol true six seventeen h no = inl refl
-of_protocol false false true h no = inr refl
-of_protocol false false false h no = absurd (cc)
-of_protocol false true seventeen h no = absurd (cc)
+of_protocol true six seventeen h other = inl refl
+of_protocol false false true h other = inr refl
+of_protocol false false false h other = absurd (cc)
+of_protocol false true seventeen h other = absurd (cc)
 
 message_of : (settings : PlainSettings) (live : Bool) (d : Datagram) → IsKnown settings d → goes_in d.side ≡ true → (d.head.protocol == 6) ≡ false → dgram_dropped_by settings live d ≡ None → IsMessage d
 unfolding dgram_dropped_by
@@ -296,8 +301,8 @@ module _ (fresh : AnewIsPacket) (known : DatagramsAreKnown) (settings : PlainSet
       row : (ip_dropped_by settings link r ≡ None) × (row_of_piece read.piece ≡ None)
       row = no_rows (ip_dropped_by settings link r) (row_of_piece read.piece) (sym (bare_row settings link (past_of settings link history r) r none) ∙ undropped)
 
-      told : (carried : Bool) → carries_ip link r.octets ≡ carried → cond carried (side_in settings r.side p) None ≡ Some Inward
-      told carried c = ap (λ b. cond b (side_in settings r.side p) None) (sym c) ∙ side
+      told : (ipv4 : Bool) → carries_ip link r.octets ≡ ipv4 → cond ipv4 (side_in settings r.side p) None ≡ Some Inward
+      told ipv4 c = ap (λ b. cond b (side_in settings r.side p) None) (sym c) ∙ side
 
       some : (x y : Option Datagram) (d : Datagram) → x ≡ Some d → option_or x y ≡ None → ⊥
       some x y d is h = let e = ap (λ z. option_or z y) (sym is) ∙ h in absurd (cc)
@@ -314,6 +319,9 @@ module _ (fresh : AnewIsPacket) (known : DatagramsAreKnown) (settings : PlainSet
       piece : side_in settings r.side p ≡ Some Inward → (o : Offering) → read.piece ≡ Some o → ⊥
       piece s o is = at (is_whole (o.piece ∷ o.view.pieces)) refl
         where
+          make : Side → Datagram
+          make = datagram_made settings (ip_fixes settings link r piece_fix_rows) (head_of_whole (fields_of p) (whole_of (pieces_with o))) (datagram_octets (pieces_with o))
+
           stays : fragments.dropped_by o.view o.piece ≡ None
           stays = sym (ap row_of_piece is) ∙ row.1
 
@@ -326,13 +334,13 @@ module _ (fresh : AnewIsPacket) (known : DatagramsAreKnown) (settings : PlainSet
               let e = sym held ∙ unheld in absurd (cc)
           at true m =
               let done : completes o ≡ true = ap fragments.is_done (answer true m) in
-              other (datagram_in settings link r) (joined_in settings link r read.piece) _
-              (ap (joined_in settings link r) is ∙ (λ i. cond (done i) (option_map _ (s i)) None)) none
+              other (datagram_in settings link r) (joined_in settings link r read.piece) (make Inward)
+              (ap (joined_in settings link r) is ∙ (λ i. cond (done i) (option_map make (s i)) None)) none
 
       part : side_in settings r.side p ≡ Some Inward → carries_ip link r.octets ≡ true → ip.is_fragment p ≡ true → ⊥
       part s c f = piece s (offering_of settings (pieces_before settings link history r) _) (ap (option_map (offering_of settings (pieces_before settings link history r))) (fragment_by settings link r None true true row.0 c f))
 
-      by : (carried : Bool) → carries_ip link r.octets ≡ carried → (fragment : Bool) → ip.is_fragment p ≡ fragment → ⊥
+      by : (ipv4 : Bool) → carries_ip link r.octets ≡ ipv4 → (fragment : Bool) → ip.is_fragment p ≡ fragment → ⊥
       by false c fragment f = let e = told false c in absurd (cc)
       by true c false f = whole (told true c) c f
       by true c true f = part (told true c) c f
@@ -348,7 +356,7 @@ module _ (fresh : AnewIsPacket) (known : DatagramsAreKnown) (settings : PlainSet
           test : (b : Bool) → is_segment settings d ≡ b → b ≡ false
           test false e = refl
           test true e =
-              let none : cond true (Some d) None ≡ None = (λ i. cond (e (~ i)) (Some d) None) ∙ (ap (where_passes (is_segment settings)) (sym makes) ∙ no_segment) in
+              let none : cond true (Some d) None ≡ None = ap (λ b. cond b (Some d) None) (sym e) ∙ (ap (where_passes (is_segment settings)) (sym makes) ∙ no_segment) in
               absurd (cc)
 
       k : IsKnown settings d
@@ -379,13 +387,13 @@ module _ (fresh : AnewIsPacket) (known : DatagramsAreKnown) (settings : PlainSet
       as_it_was : d.fixes ≡ [] → IsEither settings link (pieces_before settings link history r) r d → Plain settings.hops (packet_in link r.octets)
       as_it_was unmended (joined j) = absurd (not_nil _ rules.FDone (ap (λ (e : Datagram). e.fixes) j.is ∙ unmended))
       as_it_was unmended (carried c) =
-          let header : d.header ≡ ip.header p = sym (ap (λ (e : Datagram). e.header) c.is) in
-          let body : d.octets ≡ ip.payload p = sym (ap (λ (e : Datagram). e.octets) c.is) in
+          let header : ip.header p ≡ d.header = ap (λ (e : Datagram). e.header) c.is in
+          let body : ip.payload p ≡ d.octets = ap (λ (e : Datagram). e.octets) c.is in
           let fixes : ip_fixes settings link r whole_fix_rows ≡ [] = ap (λ (e : Datagram). e.fixes) c.is ∙ unmended in
           let lo = link_octets link r.octets in
           let same : packet_in link r.octets ≡ d.header ++ d.octets =
           ap (packet_in link) (whole_frame settings link r (kept c) fixes ∙ append_assoc lo (ip.header p) (ip.payload p))
-          ∙ behind link r.octets (ip.header p ++ ip.payload p) (long c) ∙ (λ i. header (~ i) ++ body (~ i)) in
+          ∙ behind link r.octets (ip.header p ++ ip.payload p) (long c) ∙ (λ i. header i ++ body i) in
           subst (Plain settings.hops) (sym same) (plain_message settings d (as_read d) (k.whole unmended) side refl message)
 
       -- with a header anew
