@@ -152,8 +152,8 @@ outward_packets : (settings : PlainSettings) (v : View) (d : Datagram) → goes_
     → (outcome_at settings v d).packets ≡ packet_by settings v.segments d d.fixes (mended_by settings v d) ∷ []
 outward_packets settings v d outward =
     let P : Side → Type 0 = λ side.
-        (outcome_at settings v (record d { side = side })).packets
-        ≡ packet_by settings v.segments (record d { side = side }) d.fixes (mended_by settings v (record d { side = side })) ∷ [] in
+    (outcome_at settings v (record d { side = side })).packets
+    ≡ packet_by settings v.segments (record d { side = side }) d.fixes (mended_by settings v (record d { side = side })) ∷ [] in
     subst P (sym (goes_out d.side outward)) (alone settings v v.era d.head d.header d.octets d.fixes (mended_by settings v (record d { side = Outward })))
 
 outward_written : (settings : PlainSettings) (v : View) (d : Datagram) → goes_in d.side ≡ false → is_written (outcome_at settings v d).verdict ≡ true
@@ -255,8 +255,7 @@ message_of settings live d known side other none = record {
       let is = is_number d.head.protocol 1 e in
       (ltb-false (length d.octets) 8 (row_fails (d.head.protocol == 1) _ rows.1.1.1.0 is), not-false _ (row_fails (d.head.protocol == 1) _ rows.1.1.1.1.0 is));
   udp = λ e.
-      let is = is_number d.head.protocol 17 e in
-      (
+      let is = is_number d.head.protocol 17 e in (
         ltb-false (length d.octets) 8 (row_fails (d.head.protocol == 17) _ rows.0 is),
         eqb-true (udp.length_field d.octets) (length d.octets) (not-false _ (row_fails (d.head.protocol == 17) _ rows.1.0 is)),
         summed (sum_right (udp.checksum d.octets == 0) (sum_is_right d.octets (dgram.pseudo_of d)) (goes_in d.side) settings.offload side (row_fails (d.head.protocol == 17) _ rows.1.1.0 is)),

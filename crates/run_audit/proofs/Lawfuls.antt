@@ -1,5 +1,5 @@
 -- The frames of a lawful trace have no fault.
-use Rattle.std.proofs.Common.{◌≡◌, ℕ, zero, suc, ◌+◌, ◌≤◌, ◌==◌, ◌&&◌, ◌||◌, not, nat_lt, cond, Bool, true, false, List, [], ◌∷◌, ◌++◌, length, map, drop, reverse, replicate, flat_map, Option, Some, None, refl, sym, ap, ap₂, ◌∙◌, subst, arith, append-nil, append_assoc, length-append, slice_get, if◌then◌else◌}
+use Rattle.std.proofs.Common.{◌≡◌, ℕ, zero, suc, ◌+◌, ◌≤◌, ◌==◌, ◌&&◌, ◌||◌, not, nat_lt, cond, Bool, true, false, List, [], ◌∷◌, ◌++◌, length, map, drop, reverse, replicate, flat_map, Option, Some, None, refl, sym, ap, ap₂, ◌∙◌, subst, arith, append-nil, append_assoc, length-append, eq-eqb, slice_get, if◌then◌else◌}
 use Rattle.std.specs.Prelude.{All, IsSome, is_ok}
 use Rattle.std.specs.List.{AllByRecursion}
 use Rattle.std.proofs.lemmas.Bool.{not_from_true, or_from, lt-leb}
@@ -20,6 +20,7 @@ use Rattle.pcap_file.specs.Records.{Packet}
 use Rattle.ipv4_codec.specs.Header as header
 use Rattle.ipv4_codec.specs.declared.header.IpFault.TheVariants as ip_faults
 use Rattle.tcp_codec.specs.Header as segment
+use Rattle.tcp_codec.specs.declared.header.SumRule.TheVariants.{Skip}
 use Rattle.tcp_codec.specs.declared.header.TcpFault.TheVariants as tcp_faults
 use Rattle.rule_book.specs.Entries.{PlainEntry}
 use Rattle.norm_settings.specs.Settings.{PlainSettings}
@@ -159,20 +160,14 @@ written_onto link era entry written [] older = by (is_era era entry.era && writt
 written_onto link era entry written (octets ∷ more) older =
     written_onto link era entry written more (record { frame = frame_of link octets entry; written = written } ∷ older) ∙ by (is_era era entry.era && written)
   where
-    ws : List Written
-    ws = written_in era (map sent_as older)
-
-    one : List Written
-    one = written_as (is_inward entry.side) (segment_of (packet_in link octets))
-
-    rest : List Written
-    rest = segments_in (is_inward entry.side) (map (packet_in link) more)
-
     by : (b : Bool) → (written_in era (map sent_as older) ++ if_named b (written_as (is_inward entry.side) (segment_of (packet_in link octets)) ++ [])) ++ if_named b (segments_in (is_inward entry.side) (map (packet_in link) more))
         ≡ written_in era (map sent_as older) ++ if_named b (segments_in (is_inward entry.side) (map (packet_in link) (octets ∷ more)))
-    unfolding ws one rest
-    by true = ap (λ xs. (ws ++ xs) ++ rest) (append-nil one) ∙ append_assoc ws one rest
-    by false = append-nil (ws ++ [])
+    by true =
+        let ws = written_in era (map sent_as older) in
+        let one = written_as (is_inward entry.side) (segment_of (packet_in link octets)) in
+        let rest = segments_in (is_inward entry.side) (map (packet_in link) more) in
+        ap (λ xs. (ws ++ xs) ++ rest) (append-nil one) ∙ append_assoc ws one rest
+    by false = append-nil (written_in era (map sent_as older) ++ [])
 
 written_same : (link : Link) (era : ℕ) (trace : List Item) → written_in era (map sent_as (marked link trace)) ≡ written_in era (sent_in link trace)
 unfolding marked
@@ -273,7 +268,7 @@ module _ (hops : ℕ) (link : Link) (item : Item) (older : List Item) (certain :
   onto [] before all certain_before = certain_before
   onto (f ∷ fs) before all certain_before = onto fs (record { frame = frame_of link f item.entry; written = is_written item.entry.verdict } ∷ before) all.1 (certain_one f all.0, certain_before)
 
-  pub all_certain : (before : List Marked) → AllByRecursion (IsCertain hops) before → AllByRecursion (IsCertain hops) (marked_onto link item.entry (is_written item.entry.verdict) item.frames before)
+  all_certain : (before : List Marked) → AllByRecursion (IsCertain hops) before → AllByRecursion (IsCertain hops) (marked_onto link item.entry (is_written item.entry.verdict) item.frames before)
   all_certain before h = onto item.frames before (each_one item.frames certain.plain certain.segments silent) h
     where
       silent : is_written item.entry.verdict ≡ false → side ≡ Some Inward → IsSome era → AllByRecursion IsSilentPacket (map (packet_in link) item.frames)
@@ -290,7 +285,7 @@ pub record Laws : Type 0 where
   pub emitted : LawfulIsEmitted
   pub faultless : EmittedHasNoFault
 
-before : (settings : PlainSettings) (link : Link) (item : Item) (older : List Item) → IsSound settings link (item ∷ older) → IsSound settings link older
+pub before : (settings : PlainSettings) (link : Link) (item : Item) (older : List Item) → IsSound settings link (item ∷ older) → IsSound settings link older
 before settings link item older sound = record { hops = sound.hops; octets = sound.octets.0; lawful = sound.lawful.0 }
 
 all_marked : Laws → (settings : PlainSettings) (link : Link) (trace : List Item) → IsSound settings link trace → AllByRecursion (IsCertain settings.hops) (marked link trace)

@@ -16,3 +16,5 @@ pub mod OneCapture
 pub mod OneAnswer
 pub mod Emitting
 pub mod Faultless
+pub mod Lawfuls
+pub mod Writing

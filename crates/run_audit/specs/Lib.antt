@@ -16,3 +16,4 @@ pub mod Audits
 pub mod Reported
 pub mod Audited
 pub mod Emitted
+pub mod Lawful
