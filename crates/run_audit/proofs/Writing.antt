@@ -2,7 +2,7 @@
 use Rattle.std.proofs.Common.{◌≡◌, ◌⊎◌, inl, inr, ℕ, suc, ◌+◌, ◌^◌, ◌<◌, ◌≤◌, Bool, List, [], ◌∷◌, ◌++◌, length, map, drop, reverse, Some, None, Ok, refl, sym, ap, ap₂, ◌∙◌, subst, arith, append-nil, append_assoc, length-append}
 use Rattle.std.specs.List.{AllByRecursion, range_with_len}
 use Rattle.std.proofs.lemmas.List.{map-append, reverse-append, reverse-reverse, length-reverse, length-map}
-use Rattle.std_alloc.proofs.Permutation.{every_append}
+use Rattle.rule_book.proofs.Texts.{all-append}
 use Rattle.wire_base.specs.declared.address.Link.{Link}
 use Rattle.pcap_file.specs.declared.head.Head.{Head}
 use Rattle.pcap_file.specs.declared.order.Order.{Order}
@@ -37,11 +37,11 @@ own_all r [] = tt
 own_all r (f ∷ fs) =
     let P : List Packet → Type 0 = AllByRecursion IsOwn in
     subst P (sym (reverse-append (record_with r f ∷ []) (map (record_with r) fs)))
-    (every_append IsOwn (reverse (map (record_with r) fs)) (record_with r f ∷ []) (own_all r fs) (refl, tt))
+    (all-append IsOwn (reverse (map (record_with r) fs)) (record_with r f ∷ []) (own_all r fs) (refl, tt))
 
 records_own : (trace : List Item) → AllByRecursion IsOwn (records_written trace)
 records_own [] = tt
-records_own (item ∷ older) = every_append IsOwn (reverse (map (record_with item.packet) item.frames)) (records_written older) (own_all item.packet item.frames) (records_own older)
+records_own (item ∷ older) = all-append IsOwn (reverse (map (record_with item.packet) item.frames)) (records_written older) (own_all item.packet item.frames) (records_own older)
 
 reads : RecordIsReadBack → (order : Order) (ws : List Packet) (rest : List ℕ) → AllByRecursion IsOwn ws → AllByRecursion RecordFits ws → length ws ≤ 4294967295
     → ReadsTo order (records_octets order ws ++ rest) ws rest
@@ -127,6 +127,6 @@ is_finished counted settings link trace sound fits =
     }
 
 pub written_is_yes : HeadIsReadBack → RecordIsReadBack → ItemsAreCounted → LawfulIsYes → WrittenIsYes
-written_is_yes head_back back counted yes settings head trace sound fits =
-    yes settings head trace (records_written trace) (report_written trace) (capture_written head trace) sound
+written_is_yes head_back back counted audited settings head trace sound fits =
+    audited settings head trace (records_written trace) (report_written trace) (capture_written head trace) sound
     (is_capture head_back back head trace fits) (same_frames trace) (is_finished counted settings head.link trace sound fits)
