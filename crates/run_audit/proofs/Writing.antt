@@ -1,5 +1,5 @@
 -- What is written of a trace is a capture and a report.
-use Rattle.std.proofs.Common.{◌≡◌, ◌⊎◌, inl, inr, ℕ, suc, ◌+◌, ◌^◌, ◌<◌, ◌≤◌, Bool, List, [], ◌∷◌, ◌++◌, length, map, drop, reverse, Some, None, Ok, refl, sym, ap, ap₂, ◌∙◌, subst, arith, append-nil, append_assoc, length-append}
+use Rattle.std.proofs.Common.{◌≡◌, ◌⊎◌, inl, inr, ℕ, suc, ◌+◌, ◌^◌, ◌<◌, ◌≤◌, Bool, List, [], ◌∷◌, ◌++◌, length, map, drop, reverse, flat_map, Some, None, Ok, refl, sym, ap, ap₂, ◌∙◌, subst, arith, append-nil, append_assoc, length-append}
 use Rattle.std.specs.List.{AllByRecursion, range_with_len}
 use Rattle.std.proofs.lemmas.List.{map-append, reverse-append, reverse-reverse, length-reverse, length-map}
 use Rattle.rule_book.proofs.Texts.{all-append}
@@ -21,7 +21,7 @@ use Rattle.norm_engine.specs.Trace.{item_of}
 use Rattle.norm_engine.specs.Laws.{IsSound, ItemsAreCounted}
 use Rattle.run_audit.specs.Audited.{IsYes}
 use Rattle.run_audit.specs.Audits.{frames_of}
-use Rattle.run_audit.specs.Lawful.{FitsFiles, RecordFits, LawfulIsYes, WrittenIsYes, capture_written, entries_written, frames_written, last_written, record_with, records_octets, records_written, report_written}
+use Rattle.run_audit.specs.Lawful.{FitsFiles, ItemsAreWrittenInOrder, RecordFits, LawfulIsYes, WrittenIsYes, capture_written, entries_written, frames_written, last_written, record_with, records_octets, records_written, report_written}
 use Rattle.run_audit.specs.Named.{eras_named}
 use Rattle.run_audit.specs.Reported.{IsFinished}
 use Rattle.run_audit.proofs.Lawfuls.{before}
@@ -68,6 +68,24 @@ is_capture head_back back head trace fits =
       accepted = head_back head octets;
       whole = subst P (append-nil octets ∙ sym (behind_head head.order head.nano head.link octets)) (reads back head.order (records_written trace) [] (records_own trace) fits.records fits.few);
     }
+
+-- item by item
+with_frames : (order : Order) (r : Packet) (frames : List (List ℕ)) (older : List Packet)
+    → records_octets order (reverse (map (record_with r) frames) ++ older) ≡ records_octets order older ++ flat_map (λ frame. record_octets order r.seconds r.fraction frame) frames
+with_frames order r [] older = sym (append-nil (records_octets order older))
+with_frames order r (f ∷ fs) older =
+    let turn = reverse (map (record_with r) fs) in
+    ap (λ ws. records_octets order (ws ++ older)) (reverse-append (record_with r f ∷ []) (map (record_with r) fs))
+    ∙ ap (records_octets order) (append_assoc turn (record_with r f ∷ []) older)
+    ∙ with_frames order r fs (record_with r f ∷ older)
+    ∙ append_assoc (records_octets order older) (record_octets order r.seconds r.fraction f) (flat_map (λ frame. record_octets order r.seconds r.fraction frame) fs)
+
+pub written_in_order : ItemsAreWrittenInOrder
+written_in_order order item older =
+    let more = length-append (reverse (map (record_with item.packet) item.frames)) (records_written older) in
+    let turn = length-reverse (map (record_with item.packet) item.frames) in
+    let long = length-map item.frames (record_with item.packet) in
+    record { octets = with_frames order item.packet item.frames (records_written older); count = omega (arith, more, turn, long) }
 
 -- they are the frames
 

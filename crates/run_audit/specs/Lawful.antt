@@ -1,6 +1,6 @@
 -- That the frames and the entries of a lawful trace have no fault (this project's profile). A trace is a list with the newest item at the head.
-use Rattle.std.specs.Prelude.{◌≡◌, ℕ, ◌^◌, ◌<◌, ◌≤◌, List, [], ◌∷◌, ◌++◌, length, map, reverse, Some, None}
-use Rattle.std.specs.List.{AllByRecursion}
+use Rattle.std.specs.Prelude.{◌≡◌, ℕ, ◌+◌, ◌^◌, ◌<◌, ◌≤◌, List, [], ◌∷◌, ◌++◌, length, map, reverse, Some, None}
+use Rattle.std.specs.List.{AllByRecursion, flat_map}
 use Rattle.wire_base.specs.declared.address.Link.{Link}
 use Rattle.pcap_file.specs.declared.head.Head.{Head}
 use Rattle.pcap_file.specs.declared.order.Order.{Order}
@@ -56,6 +56,15 @@ records_written (item ∷ older) = reverse (map (record_with item.packet) item.f
 abbrev pub records_octets : Order → List Packet → List ℕ
 records_octets order [] = []
 records_octets order (w ∷ older) = records_octets order older ++ record_octets order w.seconds w.fraction w.octets
+
+-- With one item more the octets are those before and behind them the records of the item's frames, in order, and there are so many records more.
+pub record IsWrittenBehind (order : Order) (item : Item) (older : List Item) : Type 0 where
+  pub octets : records_octets order (records_written (item ∷ older))
+      ≡ records_octets order (records_written older) ++ flat_map (λ frame. record_octets order item.packet.seconds item.packet.fraction frame) item.frames
+  pub count : length (records_written (item ∷ older)) ≡ length (records_written older) + length item.frames
+
+abbrev pub ItemsAreWrittenInOrder : Type 0
+ItemsAreWrittenInOrder = (order : Order) (item : Item) (older : List Item) → IsWrittenBehind order item older
 
 -- the written capture of a trace
 abbrev pub capture_written : Head → List Item → List ℕ

@@ -1,7 +1,7 @@
 //! Laws of what an audit looks at.
 ghost use Rattle.run_audit.specs.Audited.{AnswersAreOne};
 ghost use Rattle.run_audit.specs.Emitted.{EmittedHasNoFault};
-ghost use Rattle.run_audit.specs.Lawful.{LawfulHasNoFault, LawfulIsYes, WrittenIsYes};
+ghost use Rattle.run_audit.specs.Lawful.{ItemsAreWrittenInOrder, LawfulHasNoFault, LawfulIsYes, WrittenIsYes};
 ghost use Rattle.run_audit.specs.Sound.{FaultlessAgrees};
 
 use era_state::laws::{
@@ -60,6 +60,11 @@ pub fn lawful_is_yes()
 {
     lawful_has_no_fault();
 }
+
+/// The written capture of a trace has the records of its items' frames behind one another.
+pub fn items_are_written_in_order()
+    ensures { ItemsAreWrittenInOrder }
+{}
 
 /// The two files that are written of a lawful trace have no fault, where they have room for it, so that their audit says yes.
 pub fn written_is_yes()
