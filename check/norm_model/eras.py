@@ -30,7 +30,10 @@ def quantity(function):
 
 
 def add_segment(era, segment):
-    """Adds a written segment. Its place, and that of its acknowledgment, are read before it counts."""
+    """Adds a written segment. Its place, and that of its acknowledgment, are read before it counts.
+
+    With the one that fixes the base, what resets acknowledged before is read too, from 0 as its own numbers are.
+    """
     before = acked(era)
     was_fixed = base(era) is not None
     segment.place, segment.ack_place = None, None
@@ -38,8 +41,10 @@ def add_segment(era, segment):
     era.known = {}
     segment.shift = shift(era)
     if base(era) is not None:
-        segment.place = near(segment.seq - base(era), before if was_fixed else 0)
-        segment.ack_place = near(segment.ack - base(era), before if was_fixed else 0)
+        middle = before if was_fixed else 0
+        segment.place = near(segment.seq - base(era), middle)
+        for one in [segment] if was_fixed else era.segments:
+            one.ack_place = near(one.ack - base(era), middle)
         keep_octets(era, segment)
     era.known = {}
 

@@ -96,11 +96,11 @@ with_other hops era sent cs s none is = subst (λ o. IsAsCalled hops era (record
 })
 
 -- what is known of the packets that go out for a segment
-record AreOf (settings : PlainSettings) (d : Datagram) (o : Outcome) : Type 0 where
-  protocol : d.head.protocol ≡ 6
-  own : AllByRecursion (IsPacketOf settings d) o.packets
-  plain : goes_in d.side ≡ true → AllByRecursion (λ p. Plain settings.hops (whole p)) o.packets
-  silent : is_written o.verdict ≡ false → AllByRecursion Silent o.packets
+pub record AreOf (settings : PlainSettings) (d : Datagram) (o : Outcome) : Type 0 where
+  pub protocol : d.head.protocol ≡ 6
+  pub own : AllByRecursion (IsPacketOf settings d) o.packets
+  pub plain : goes_in d.side ≡ true → AllByRecursion (λ p. Plain settings.hops (whole p)) o.packets
+  pub silent : is_written o.verdict ≡ false → AllByRecursion Silent o.packets
 
 -- what was sent for a segment, by what became of it
 abbrev sent_by : Datagram → Outcome → Sent
@@ -157,7 +157,7 @@ pub record PacketLaws : Type 0 where
   pub plain : PacketsArePlain
   pub silent : ProbesAreSilent
 
-packets_are : PacketLaws → (settings : PlainSettings) (link : Link) (history : List Item) (r : records.Packet) (d : Datagram) → settings.hops ≤ 254 → HaveOctets history → HasOctets r
+pub packets_are : PacketLaws → (settings : PlainSettings) (link : Link) (history : List Item) (r : records.Packet) (d : Datagram) → settings.hops ≤ 254 → HaveOctets history → HasOctets r
     → segment_after settings link history r ≡ Some d → AreOf settings d (outcome_of settings (read_after settings link history r) d)
 packets_are laws settings link history r d hops older octets h =
     let v = view_of settings (past_of settings link history r).calls d in
@@ -207,7 +207,7 @@ as_called laws settings link era (item ∷ older) sound =
     subst (λ x. IsAsCalled settings.hops era (sent_in link (x ∷ older)) (flow_calls settings link (x ∷ older))) (sym sound.lawful.1)
     (as_called_with laws settings link era older item.packet sound.hops sound.octets.0 sound.octets.1 before)
 
-emitted_era : PacketLaws → CallsAreEmitted → LawfulCallsAreMade → (settings : PlainSettings) (link : Link) (trace : List Item) → IsSound settings link trace
+pub emitted_era : PacketLaws → CallsAreEmitted → LawfulCallsAreMade → (settings : PlainSettings) (link : Link) (trace : List Item) → IsSound settings link trace
     → (era : ℕ) → IsEmittedEra settings.hops era (sent_in link trace)
 emitted_era laws emitted made settings link trace sound era =
     let is = as_called laws settings link era trace sound in

@@ -11,3 +11,4 @@ pub mod Agreeing
 pub mod Keeping
 pub mod Rooms
 pub mod Stepped
+pub mod Certain

@@ -1,9 +1,11 @@
 //! Laws of lawful traces.
+ghost use Rattle.norm_engine.specs.Certain.{ItemsAreCertain, LawfulIsEmitted};
 ghost use Rattle.norm_engine.specs.Laws.{ItemsAreCounted, LawfulAgrees, LawfulCallsAreMade, LawfulIsOne, LawfulIsWithin, LawfulKeepsClean, LawfulLeavesRoom, LawfulTellsStreams};
 
 use era_agreement::laws::{emitted_agrees, emitted_tells_one_stream};
 use ip_rules::laws::{anew_is_packet, datagrams_are_known};
 use reassembly::laws::answered_is_within;
+use tcp_codec::laws::mended_say_the_same;
 use tcp_norm::laws::{
     calls_are_emitted, clean_keeps_payload, flows_are_bounded, held_is_bounded,
     packets_are_its_own, packets_are_plain, probes_are_silent, quota_leaves_room,
@@ -79,5 +81,29 @@ pub fn lawful_tells_streams()
     probes_are_silent();
     calls_are_emitted();
     emitted_tells_one_stream();
+    lawful_calls_are_made();
+}
+
+/// What goes out for a record is read in one way: inwards by every host, and as a TCP segment where it belongs to an era.
+pub fn items_are_certain()
+    ensures { ItemsAreCertain }
+{
+    datagrams_are_known();
+    anew_is_packet();
+    packets_are_its_own();
+    packets_are_plain();
+    probes_are_silent();
+    mended_say_the_same();
+}
+
+/// In each era of a lawful trace the segments written may be written there, each after those before it.
+pub fn lawful_is_emitted()
+    ensures { LawfulIsEmitted }
+{
+    datagrams_are_known();
+    packets_are_its_own();
+    packets_are_plain();
+    probes_are_silent();
+    calls_are_emitted();
     lawful_calls_are_made();
 }

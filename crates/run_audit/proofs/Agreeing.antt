@@ -91,19 +91,19 @@ right_of hops era older f s right side named is = record {
     at : (test : List Written → Written → Bool) → in_stream test (sent older) f ≡ test (written_in era (sent older)) (written_of true s)
     at test = (λ i. in_stream test (sent older) (record { packet = f.packet; side = side i; era = named i })) ∙ ap (λ o. elim o as (λ _. Bool) [ Some t ↦ test (written_in era (sent older)) (written_of true t) | None ↦ false ]) is
 
-well_read_of : (hops era : ℕ) (f : Frame) → IsWellReadAs hops f.packet f.side f.era → f.side ≡ Some Inward → f.era ≡ Some era → Plain hops f.packet × (ip.protocol f.packet ≡ 6)
+pub well_read_of : (hops era : ℕ) (f : Frame) → IsWellReadAs hops f.packet f.side f.era → f.side ≡ Some Inward → f.era ≡ Some era → Plain hops f.packet × (ip.protocol f.packet ≡ 6)
 well_read_of hops era f read side named =
     let P : Option Side → Type 0 = λ s. IsWellReadAs hops f.packet s f.era in
     let Q : Option ℕ → Type 0 = λ e. IsWellReadAs hops f.packet (Some Inward) e in
     let both = subst Q named (subst P side read) in
     (both.0, both.1 refl)
 
-inward_is : (side : Option Side) → is_inward side ≡ true → side ≡ Some Inward
+pub inward_is : (side : Option Side) → is_inward side ≡ true → side ≡ Some Inward
 inward_is (Some Inward) e = refl
 inward_is (Some Outward) e = absurd (cc e)
 inward_is None e = absurd (cc e)
 
-named_is : (era : ℕ) (o : Option ℕ) → is_era era o ≡ true → o ≡ Some era
+pub named_is : (era : ℕ) (o : Option ℕ) → is_era era o ≡ true → o ≡ Some era
 named_is era (Some n) e = ap (λ m. Some m) (eqb-true n era e)
 named_is era None e = absurd (cc e)
 

@@ -14,3 +14,7 @@ pub mod Saying
 pub mod OneReport
 pub mod OneCapture
 pub mod OneAnswer
+pub mod Emitting
+pub mod Faultless
+pub mod Lawfuls
+pub mod Writing

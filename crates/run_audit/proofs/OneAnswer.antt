@@ -1,6 +1,7 @@
 -- One answer holds of words, a capture and a report.
-use Rattle.std.proofs.Common.{◌≡◌, ℕ, List, length, drop, Option, Some, None, Ok, refl, sym, ap, ap₂, ◌∙◌, subst, inl, inr}
-use Rattle.std.specs.Prelude.{IfSome}
+use Rattle.std.proofs.Common.{◌≡◌, ◌⊎◌, ℕ, List, length, drop, Option, Some, None, Ok, refl, sym, ap, ap₂, ◌∙◌, subst, inl, inr}
+use Rattle.std.specs.Prelude.{IfSome, IsSome}
+use Rattle.edge_io.specs.Faults.{Rose}
 use Rattle.pcap_file.specs.declared.head.Head.{Head}
 use Rattle.pcap_file.specs.Flaws as found
 use Rattle.pcap_file.specs.Heads.{head_of}
@@ -11,7 +12,7 @@ use Rattle.run_audit.specs.declared.answer.Flaw.{Flaw}
 use Rattle.run_audit.specs.declared.answer.Flaw.TheVariants as flaws
 use Rattle.run_audit.specs.declared.answer.Reason.{Reason}
 use Rattle.run_audit.specs.Answers.{flaw_of}
-use Rattle.run_audit.specs.Audited.{Seen, IsYes, OfFinished, Says, IsExact, AnswersAreOne, Answered, ToldUnless, TellsExactly}
+use Rattle.run_audit.specs.Audited.{Seen, OfFinished, Failed, Says, IsExact, IsHeard, MayFail, AnswersAreOne, Answered, ToldUnless, TellsExactly}
 use Rattle.run_audit.specs.Audits.{SoundFrames, FaultyFrame, FlawedFrame, IsSound, IsFaulty, IsFlawed}
 use Rattle.run_audit.specs.Named.{eras_named}
 use Rattle.run_audit.specs.Reported.{IsFinished, IsUnfinished}
@@ -82,31 +83,52 @@ module _ (hops : ℕ) (c : List ℕ) (es : List PlainEntry) where
       let P : Head → Type 0 = λ h. FlawedFrame hops h es (drop 24 c) f o in
       flaw_one hops b.head es (drop 24 c) f g o p (subst P (one_head c a.head b.head a.accepted b.accepted) a.behind) b.behind
 
+-- the report with these octets is that of a finished run, and this is a fact of its entries
+record Read (r : List ℕ) (P : List PlainEntry → Type 0) : Type 0 where
+  entries : List PlainEntry
+  finished : IsFinished r entries
+  fact : P entries
+
 -- what an answer says of words and octets that are told
 Told : (words : List (List ℕ)) → (c r : List ℕ) → Answer → Type 0
-Told words c r (answers.Yes eras frames) = (hops : ℕ) × (asked words ≡ Some hops) × IsYes hops r c eras frames
-Told words c r (answers.No number reason) = (hops : ℕ) × (asked words ≡ Some hops) × OfFinished r (λ es. IsFaulty hops es c number reason)
+Told words c r (answers.Yes eras frames) = (hops : ℕ) × (asked words ≡ Some hops) × Read r (λ es. (eras ≡ length (eras_named es)) × IsSound hops es c frames)
+Told words c r (answers.No number reason) = (hops : ℕ) × (asked words ≡ Some hops) × Read r (λ es. IsFaulty hops es c number reason)
 Told words c r answers.Words = asked words ≡ None
-Told words c r (answers.Flawed flaw offset) = (hops : ℕ) × (asked words ≡ Some hops) × OfFinished r (λ es. IsFlawed hops es c (flaw_of flaw) offset)
+Told words c r (answers.Flawed flaw offset) = (hops : ℕ) × (asked words ≡ Some hops) × Read r (λ es. IsFlawed hops es c (flaw_of flaw) offset)
 Told words c r answers.Unread = ⊥
 Told words c r answers.Memory = ⊥
 Told words c r (answers.Report line) = (hops : ℕ) × (asked words ≡ Some hops) × IsUnfinished r line
 
-both_told : (left right : Option (List ℕ)) (x y : List ℕ) (P : List ℕ → List ℕ → Type 0) → left ≡ Some x → right ≡ Some y → IfSome left (λ r. IfSome right (λ c. P c r)) → P y x
-both_told left right x y P e f h =
-    let Q : Option (List ℕ) → Type 0 = λ o. IfSome o (λ r. IfSome right (λ c. P c r)) in
-    let R : Option (List ℕ) → Type 0 = λ o. IfSome o (λ c. P c x) in
-    subst R f (subst Q e h)
+-- of octets that are told
+at : (P : List ℕ → Type 0) (left : Option (List ℕ)) (x : List ℕ) → left ≡ Some x → IfSome left P → P x
+at P left x e h = let Q : Option (List ℕ) → Type 0 = λ o. IfSome o P in subst Q e h
+
+read_of : (capture report : Option (List ℕ)) (c r : List ℕ) (P : List PlainEntry → List ℕ → Type 0) → capture ≡ Some c → report ≡ Some r
+    → OfFinished report (λ es. IfSome capture (P es)) → Read r (λ es. P es c)
+read_of capture report c r P e f o = record {
+  entries = o.entries;
+  finished = at (λ x. IsFinished x o.entries) report r f o.finished;
+  fact = at (P o.entries) capture c e o.fact;
+}
 
 told_of : (words : List (List ℕ)) (capture report : Seen) (c r : List ℕ) (a : Answer) → capture.left ≡ Some c → report.left ≡ Some r → IsExact a → Says words capture report a → Told words c r a
 unfolding Told
-told_of words capture report c r (answers.Yes eras frames) e f exact s = (s.0, s.1, both_told report.left capture.left r c (λ x y. IsYes s.0 y x eras frames) f e s.2)
-told_of words capture report c r (answers.No number reason) e f exact s = (s.0, s.1, both_told report.left capture.left r c (λ x y. OfFinished y (λ es. IsFaulty s.0 es x number reason)) f e s.2)
+told_of words capture report c r (answers.Yes eras frames) e f exact s =
+    let y = s.2 in (
+      s.0,
+      s.1,
+      record {
+        entries = y.entries;
+        finished = at (λ x. IsFinished x y.entries) report.left r f y.finished;
+        fact = (y.eras_are, at (λ x. IsSound s.0 y.entries x frames) capture.left c e y.sound);
+      },
+    )
+told_of words capture report c r (answers.No number reason) e f exact s = (s.0, s.1, read_of capture.left report.left c r (λ es x. IsFaulty s.0 es x number reason) e f s.2)
 told_of words capture report c r answers.Words e f exact s = s
-told_of words capture report c r (answers.Flawed flaw offset) e f exact s = (s.0, s.1, both_told report.left capture.left r c (λ x y. OfFinished y (λ es. IsFlawed s.0 es x (flaw_of flaw) offset)) f e s.2)
+told_of words capture report c r (answers.Flawed flaw offset) e f exact s = (s.0, s.1, read_of capture.left report.left c r (λ es x. IsFlawed s.0 es x (flaw_of flaw) offset) e f s.2)
 told_of words capture report c r answers.Unread e f exact s = absurd exact
 told_of words capture report c r answers.Memory e f exact s = absurd exact
-told_of words capture report c r (answers.Report line) e f exact s = (s.0, s.1, let P : Option (List ℕ) → Type 0 = λ o. IfSome o (λ x. IsUnfinished x line) in subst P f s.2)
+told_of words capture report c r (answers.Report line) e f exact s = (s.0, s.1, at (λ x. IsUnfinished x line) report.left r f s.2)
 
 -- the words ask for one number
 one_number : (words : List (List ℕ)) (h k : ℕ) → asked words ≡ Some h → asked words ≡ Some k → h ≡ k
@@ -116,14 +138,14 @@ refused : (words : List (List ℕ)) (h : ℕ) → asked words ≡ None → asked
 refused words h e f = absurd (cc (e, f))
 
 -- facts of a finished report, by the number and the entries of another one
-moved : (words : List (List ℕ)) (r : List ℕ) (h k : ℕ) (P : ℕ → List PlainEntry → Type 0) → asked words ≡ Some h → asked words ≡ Some k → OfFinished r (P h) → (es : List PlainEntry) → IsFinished r es → P k es
+moved : (words : List (List ℕ)) (r : List ℕ) (h k : ℕ) (P : ℕ → List PlainEntry → Type 0) → asked words ≡ Some h → asked words ≡ Some k → Read r (P h) → (es : List PlainEntry) → IsFinished r es → P k es
 moved words r h k P e f a es fin =
     let Q : ℕ → Type 0 = λ n. P n a.entries in
     let R : List PlainEntry → Type 0 = P k in
     subst R (finished_one r a.entries es a.finished fin) (subst Q (one_number words h k e f) a.fact)
 
-of_yes : (hops : ℕ) (r c : List ℕ) (eras frames : ℕ) → IsYes hops r c eras frames → OfFinished r (λ es. IsSound hops es c frames)
-of_yes hops r c eras frames y = record { entries = y.entries; finished = y.finished; fact = y.sound }
+of_yes : (hops : ℕ) (r c : List ℕ) (eras frames : ℕ) → Read r (λ es. (eras ≡ length (eras_named es)) × IsSound hops es c frames) → Read r (λ es. IsSound hops es c frames)
+of_yes hops r c eras frames y = record { entries = y.entries; finished = y.finished; fact = y.fact.1 }
 
 told_one : (words : List (List ℕ)) (c r : List ℕ) (a b : Answer) → Told words c r a → Told words c r b → a ≡ b
 unfolding Told
@@ -141,8 +163,8 @@ told_one words c r (answers.Yes eras frames) answers.Memory s t = absurd t
 told_one words c r (answers.Yes eras frames) answers.Words s t = absurd (refused words s.0 t s.1)
 told_one words c r (answers.Yes eras frames) (answers.Yes other more) s t =
     let here = moved words r s.0 t.0 (λ h es. IsSound h es c frames) s.1 t.1 (of_yes s.0 r c eras frames s.2) t.2.entries t.2.finished in
-    let same : eras ≡ other = s.2.eras_are ∙ ap (λ (es : List PlainEntry). length (eras_named es)) (finished_one r s.2.entries t.2.entries s.2.finished t.2.finished) ∙ sym t.2.eras_are in
-    ap₂ answers.Yes same (sounds t.0 c t.2.entries frames more here t.2.sound)
+    let same : eras ≡ other = s.2.fact.0 ∙ ap (λ (es : List PlainEntry). length (eras_named es)) (finished_one r s.2.entries t.2.entries s.2.finished t.2.finished) ∙ sym t.2.fact.0 in
+    ap₂ answers.Yes same (sounds t.0 c t.2.entries frames more here t.2.fact.1)
 told_one words c r (answers.Yes eras frames) (answers.No number reason) s t =
     absurd (sound_fault t.0 c t.2.entries frames number reason (moved words r s.0 t.0 (λ h es. IsSound h es c frames) s.1 t.1 (of_yes s.0 r c eras frames s.2) t.2.entries t.2.finished) t.2.fact)
 told_one words c r (answers.Yes eras frames) (answers.Flawed flaw offset) s t =
@@ -178,19 +200,83 @@ told_one words c r (answers.Report line) (answers.No number reason) s t = absurd
 told_one words c r (answers.Report line) (answers.Flawed flaw offset) s t = absurd (finished_no_other r t.2.entries line t.2.finished s.2)
 told_one words c r (answers.Report line) (answers.Report other) s t = ap answers.Report (unfinished_one r line other s.2 t.2)
 
+some_of : (o : Option (List ℕ)) → IsSome o → (x : List ℕ) × (o ≡ Some x)
+some_of None h = absurd (cc h)
+some_of (Some x) h = (x, refl)
+
+-- beside refused words
+words_alone : (words : List (List ℕ)) (capture report : Seen) (b : Answer) → IsExact b → asked words ≡ None → Says words capture report b → answers.Words ≡ b
+words_alone words capture report (answers.Yes eras frames) exact s t = absurd (refused words t.0 s t.1)
+words_alone words capture report (answers.No number reason) exact s t = absurd (refused words t.0 s t.1)
+words_alone words capture report answers.Words exact s t = refl
+words_alone words capture report (answers.Flawed flaw offset) exact s t = absurd (refused words t.0 s t.1)
+words_alone words capture report answers.Unread exact s t = absurd exact
+words_alone words capture report answers.Memory exact s t = absurd exact
+words_alone words capture report (answers.Report line) exact s t = absurd (refused words t.0 s t.1)
+
+-- a report is not that of a finished run and of none
+not_both : (left : Option (List ℕ)) (r : List ℕ) (es : List PlainEntry) (line : ℕ) → left ≡ Some r → IfSome left (λ x. IsFinished x es) → IfSome left (λ x. IsUnfinished x line) → ⊥
+not_both left r es line e fin un = finished_no_other r es line (at (λ x. IsFinished x es) left r e fin) (at (λ x. IsUnfinished x line) left r e un)
+
+-- beside a report of no finished run
+report_alone : (words : List (List ℕ)) (capture report : Seen) (r : List ℕ) (line : ℕ) (b : Answer) → report.left ≡ Some r → IsExact b
+    → Says words capture report (answers.Report line) → Says words capture report b → answers.Report line ≡ b
+report_alone words capture report r line (answers.Yes eras frames) f exact s t = absurd (not_both report.left r t.2.entries line f t.2.finished s.2)
+report_alone words capture report r line (answers.No number reason) f exact s t = absurd (not_both report.left r t.2.entries line f t.2.finished s.2)
+report_alone words capture report r line answers.Words f exact s t = absurd (refused words s.0 t s.1)
+report_alone words capture report r line (answers.Flawed flaw offset) f exact s t = absurd (not_both report.left r t.2.entries line f t.2.finished s.2)
+report_alone words capture report r line answers.Unread f exact s t = absurd exact
+report_alone words capture report r line answers.Memory f exact s t = absurd exact
+report_alone words capture report r line (answers.Report other) f exact s t =
+    ap answers.Report (unfinished_one r line other (at (λ x. IsUnfinished x line) report.left r f s.2) (at (λ x. IsUnfinished x other) report.left r f t.2))
+
+both_heard : (words : List (List ℕ)) (capture report : Seen) (a b : Answer) → IsSome report.left × IsSome capture.left → IsExact a → IsExact b
+    → Says words capture report a → Says words capture report b → a ≡ b
+both_heard words capture report a b heard a_exact b_exact s t =
+    let r = some_of report.left heard.0 in
+    let c = some_of capture.left heard.1 in
+    told_one words c.0 r.0 a b (told_of words capture report c.0 r.0 a c.1 r.1 a_exact s) (told_of words capture report c.0 r.0 b c.1 r.1 b_exact t)
+
 pub answers_are_one : AnswersAreOne
-answers_are_one words capture report c r a b e f exact same_exact s t =
-    told_one words c r a b (told_of words capture report c r a e f exact s) (told_of words capture report c r b e f same_exact t)
+answers_are_one words capture report (answers.Yes eras frames) b heard exact s t = both_heard words capture report (answers.Yes eras frames) b heard tt exact s t
+answers_are_one words capture report (answers.No number reason) b heard exact s t = both_heard words capture report (answers.No number reason) b heard tt exact s t
+answers_are_one words capture report answers.Words b heard exact s t = words_alone words capture report b exact s t
+answers_are_one words capture report (answers.Flawed flaw offset) b heard exact s t = both_heard words capture report (answers.Flawed flaw offset) b heard tt exact s t
+answers_are_one words capture report answers.Unread b heard exact s t = absurd heard
+answers_are_one words capture report answers.Memory b heard exact s t = absurd heard
+answers_are_one words capture report (answers.Report line) b heard exact s t =
+    let r = some_of report.left heard in
+    report_alone words capture report r.0 line b r.1 exact s t
+
+-- a source that failed beside an answer that holds
+either_failed : (capture report : Seen) → Failed capture report → Rose report.before report.now ⊎ Rose capture.before capture.now
+either_failed capture report (inl a) = inl a
+either_failed capture report (inr b) = inr b.fact
+
+report_failed : (capture report : Seen) (r : List ℕ) (line : ℕ) → report.left ≡ Some r → IfSome report.left (λ x. IsUnfinished x line) → Failed capture report → Rose report.before report.now
+report_failed capture report r line f un (inl a) = a
+report_failed capture report r line f un (inr b) = absurd (not_both report.left r b.entries line f b.finished un)
+
+may_fail : (words : List (List ℕ)) (capture report : Seen) (a : Answer) → IsHeard capture report a → Says words capture report a → Says words capture report answers.Unread → MayFail capture report a
+may_fail words capture report (answers.Yes eras frames) heard s t = either_failed capture report t.2
+may_fail words capture report (answers.No number reason) heard s t = either_failed capture report t.2
+may_fail words capture report answers.Words heard s t = refused words t.0 s t.1
+may_fail words capture report (answers.Flawed flaw offset) heard s t = either_failed capture report t.2
+may_fail words capture report answers.Unread heard s t = absurd heard
+may_fail words capture report answers.Memory heard s t = absurd heard
+may_fail words capture report (answers.Report line) heard s t =
+    let r = some_of report.left heard in
+    report_failed capture report r.0 line r.1 s.2 t.2
 
 -- the answer that is told is the one that holds
 pub tells_exactly : AnswersAreOne → (words : List (List ℕ)) (capture report : Seen) (old new : Option (List ℕ)) (before now status : ℕ) → Answered words capture report old new before now status → TellsExactly words capture report old new before now status
-tells_exactly one words capture report old new before now status told c r answer e f exact says = by told.answer told.says told.told
+tells_exactly one words capture report old new before now status told answer heard says = by told.answer told.says told.told
   where
-    same : (a : Answer) → IsExact a → Says words capture report a → Tells a old new before now status → ToldUnless words capture report answer old new before now status
-    same a a_exact s t = inl (subst (λ b. Tells b old new before now status) (one words capture report c r a answer e f a_exact exact s says) t)
+    same : (a : Answer) → IsExact a → Says words capture report a → Tells a old new before now status → ToldUnless capture report answer old new before now status
+    same a a_exact s t = inl (subst (λ b. Tells b old new before now status) (sym (one words capture report answer a heard a_exact says s)) t)
 
-    by : (a : Answer) → Says words capture report a → Tells a old new before now status → ToldUnless words capture report answer old new before now status
-    by answers.Unread s t = inr (inr (s, t))
+    by : (a : Answer) → Says words capture report a → Tells a old new before now status → ToldUnless capture report answer old new before now status
+    by answers.Unread s t = inr (inr (may_fail words capture report answer heard says s, t))
     by answers.Memory s t = inr (inl t)
     by (answers.Yes eras frames) s t = same (answers.Yes eras frames) tt s t
     by (answers.No number reason) s t = same (answers.No number reason) tt s t

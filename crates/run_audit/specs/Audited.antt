@@ -1,5 +1,5 @@
 -- What the answer of an audit says of its words, its capture and its report (this project's profile), and how it is told.
-use Rattle.std.specs.Prelude.{◌≡◌, ◌⊎◌, ℕ, List, length, Option, Some, None, IfSome}
+use Rattle.std.specs.Prelude.{◌≡◌, ◌⊎◌, ℕ, List, length, Option, Some, None, IfSome, IsSome}
 use Rattle.edge_io.specs.Faults.{Rose}
 use Rattle.pcap_file.specs.declared.head.Head.{Head}
 use Rattle.pcap_file.specs.Records.{Packet}
@@ -26,33 +26,41 @@ pub record Seen : Type 0 where
 abbrev pub seen : Option (List ℕ) → (before now : ℕ) → Seen
 seen left before now = record { left = left; before = before; now = now }
 
--- The report is that of a finished run, the capture has its end, and no frame has a fault; the report names so many different eras, and so many frames
--- were written.
-pub record IsYes (hops : ℕ) (report capture : List ℕ) (eras frames : ℕ) : Type 0 where
+-- The report, where it is told, is that of a finished run; the capture, where it is told, has its end and so many frames, and none of them has a fault by
+-- the entries of the report, which name so many different eras.
+pub record IsYes (hops : ℕ) (report capture : Option (List ℕ)) (eras frames : ℕ) : Type 0 where
   pub entries : List PlainEntry
-  pub finished : IsFinished report entries
-  pub sound : IsSound hops entries capture frames
+  pub finished : IfSome report (λ octets. IsFinished octets entries)
+  pub sound : IfSome capture (λ octets. IsSound hops entries octets frames)
   pub eras_are : eras ≡ length (eras_named entries)
 
--- This is a fact of the capture and the entries of the report, which is that of a finished run.
-pub record OfFinished (report : List ℕ) (P : List PlainEntry → Type 0) : Type 0 where
+-- The report, where it is told, is that of a finished run, and this is a fact of its entries.
+pub record OfFinished (report : Option (List ℕ)) (P : List PlainEntry → Type 0) : Type 0 where
   pub entries : List PlainEntry
-  pub finished : IsFinished report entries
+  pub finished : IfSome report (λ octets. IsFinished octets entries)
   pub fact : P entries
 
--- where the words are accepted, and both sources tell their octets
-abbrev pub WhereTold : (words : List (List ℕ)) → (capture report : Seen) → ((hops : ℕ) → (capture report : List ℕ) → Type 0) → Type 0
-WhereTold words capture report P = (hops : ℕ) × (asked words ≡ Some hops) × IfSome report.left (λ r. IfSome capture.left (λ c. P hops c r))
+-- the words are accepted, and this is a fact of the number of routers that they name
+abbrev pub WhereAsked : (words : List (List ℕ)) → ((hops : ℕ) → Type 0) → Type 0
+WhereAsked words P = (hops : ℕ) × (asked words ≡ Some hops) × P hops
 
--- what an answer says
+-- the same, and this is a fact of the entries of the report and of the octets of the capture, where it is told
+abbrev pub WhereRead : (words : List (List ℕ)) → (capture report : Seen) → ((hops : ℕ) → List PlainEntry → (capture : List ℕ) → Type 0) → Type 0
+WhereRead words capture report P = WhereAsked words (λ hops. OfFinished report.left (λ entries. IfSome capture.left (λ octets. P hops entries octets)))
+
+-- a source failed: the report, or the capture behind the report of a finished run
+abbrev pub Failed : (capture report : Seen) → Type 0
+Failed capture report = Rose report.before report.now ⊎ OfFinished report.left (λ entries. Rose capture.before capture.now)
+
+-- What an answer says. Of a source that does not tell its octets nothing is claimed, and of the other one no less.
 abbrev pub Says : (words : List (List ℕ)) → (capture report : Seen) → Answer → Type 0
-Says words capture report (answers.Yes eras frames) = WhereTold words capture report (λ hops c r. IsYes hops r c eras frames)
-Says words capture report (answers.No number reason) = WhereTold words capture report (λ hops c r. OfFinished r (λ entries. IsFaulty hops entries c number reason))
+Says words capture report (answers.Yes eras frames) = WhereAsked words (λ hops. IsYes hops report.left capture.left eras frames)
+Says words capture report (answers.No number reason) = WhereRead words capture report (λ hops entries c. IsFaulty hops entries c number reason)
 Says words capture report answers.Words = asked words ≡ None
-Says words capture report (answers.Flawed flaw offset) = WhereTold words capture report (λ hops c r. OfFinished r (λ entries. IsFlawed hops entries c (flaw_of flaw) offset))
-Says words capture report answers.Unread = Rose report.before report.now ⊎ Rose capture.before capture.now
+Says words capture report (answers.Flawed flaw offset) = WhereRead words capture report (λ hops entries c. IsFlawed hops entries c (flaw_of flaw) offset)
+Says words capture report answers.Unread = WhereAsked words (λ hops. Failed capture report)
 Says words capture report answers.Memory = Unit {0}
-Says words capture report (answers.Report line) = (hops : ℕ) × (asked words ≡ Some hops) × IfSome report.left (λ r. IsUnfinished r line)
+Says words capture report (answers.Report line) = WhereAsked words (λ hops. IfSome report.left (λ octets. IsUnfinished octets line))
 
 -- there is an answer that is told, and what it says holds
 pub record Answered (words : List (List ℕ)) (capture report : Seen) (old new : Option (List ℕ)) (before now answered : ℕ) : Type 0 where
@@ -60,11 +68,8 @@ pub record Answered (words : List (List ℕ)) (capture report : Seen) (old new :
   pub says : Says words capture report answer
   pub told : Tells answer old new before now answered
 
--- The report is that of a finished run, the capture has its end, and in each era that the report names all receivers of the family agree on the frames that
--- it has there.
-pub record AllAgree (hops : ℕ) (report capture : List ℕ) : Type 0 where
-  pub entries : List PlainEntry
-  pub finished : IsFinished report entries
+-- The octets are a capture, and in each era that these entries name all receivers of the family agree on the frames that it has there.
+pub record FramesAgree (hops : ℕ) (entries : List PlainEntry) (capture : List ℕ) : Type 0 where
   pub head : Head
   pub packets : List Packet
   pub is : IsCapture capture head packets
@@ -76,21 +81,35 @@ IsExact answers.Unread = ⊥
 IsExact answers.Memory = ⊥
 IsExact _ = Unit {0}
 
--- Where both sources tell their octets, one such answer holds at most.
+-- the answer is such a one, and the sources of which it speaks tell their octets
+abbrev pub IsHeard : (capture report : Seen) → Answer → Type 0
+IsHeard capture report answers.Unread = ⊥
+IsHeard capture report answers.Memory = ⊥
+IsHeard capture report answers.Words = Unit {0}
+IsHeard capture report (answers.Report line) = IsSome report.left
+IsHeard capture report _ = IsSome report.left × IsSome capture.left
+
+-- Beside an answer that holds, and whose sources tell their octets, no other such answer holds.
 abbrev pub AnswersAreOne : Type 0
 AnswersAreOne =
-    (words : List (List ℕ)) (capture report : Seen) (c r : List ℕ) (one other : Answer) → capture.left ≡ Some c → report.left ≡ Some r
-    → IsExact one → IsExact other → Says words capture report one → Says words capture report other → one ≡ other
+    (words : List (List ℕ)) (capture report : Seen) (one other : Answer) → IsHeard capture report one → IsExact other
+    → Says words capture report one → Says words capture report other → one ≡ other
+
+-- a source can fail beside this answer: none does where the words are refused, and the capture is not asked for behind a report of no finished run
+abbrev pub MayFail : (capture report : Seen) → Answer → Type 0
+MayFail capture report answers.Words = ⊥
+MayFail capture report (answers.Report line) = Rose report.before report.now
+MayFail capture report _ = Rose report.before report.now ⊎ Rose capture.before capture.now
 
 -- this answer is told, or that memory was wanting, or that a source failed, which it did
-abbrev pub ToldUnless : (words : List (List ℕ)) → (capture report : Seen) → Answer → (old new : Option (List ℕ)) → (before now answered : ℕ) → Type 0
-ToldUnless words capture report answer old new before now answered =
+abbrev pub ToldUnless : (capture report : Seen) → Answer → (old new : Option (List ℕ)) → (before now answered : ℕ) → Type 0
+ToldUnless capture report answer old new before now answered =
     Tells answer old new before now answered
     ⊎ Tells answers.Memory old new before now answered
-    ⊎ ((Rose report.before report.now ⊎ Rose capture.before capture.now) × Tells answers.Unread old new before now answered)
+    ⊎ (MayFail capture report answer × Tells answers.Unread old new before now answered)
 
--- Where both sources tell their octets, and this answer holds, it is told, unless memory is wanting or a source fails.
+-- Where an answer holds, and the sources of which it speaks tell their octets, it is told, unless memory is wanting or a source fails.
 abbrev pub TellsExactly : (words : List (List ℕ)) → (capture report : Seen) → (old new : Option (List ℕ)) → (before now answered : ℕ) → Type 0
 TellsExactly words capture report old new before now answered =
-    (c r : List ℕ) (answer : Answer) → capture.left ≡ Some c → report.left ≡ Some r → IsExact answer → Says words capture report answer
-    → ToldUnless words capture report answer old new before now answered
+    (answer : Answer) → IsHeard capture report answer → Says words capture report answer
+    → ToldUnless capture report answer old new before now answered

@@ -15,3 +15,5 @@ pub mod Owned
 pub mod Audits
 pub mod Reported
 pub mod Audited
+pub mod Emitted
+pub mod Lawful

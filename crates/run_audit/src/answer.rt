@@ -19,7 +19,7 @@ pub enum Reason {
     Syn,
     /// One of its octets is another than the first at its place, or stands at or past the end.
     Octet,
-    /// Its FIN stands at another place than the end.
+    /// Its FIN stands at another place than the end, or, where none is pinned before, below the place behind all octets.
     Fin,
 }
 

@@ -3,7 +3,7 @@
 ghost use Rattle.std.specs.Prelude.{◌≡◌, ◌+◌, ◌^◌, ◌<◌, ◌≤◌, ◌⊎◌, [], map, length, string_bytes, IfOk, IfErr, IfSome};
 ghost use Rattle.std.specs.List.{AllByRecursion};
 ghost use Rattle.rule_book.specs.Entries.{plain};
-ghost use Rattle.run_audit.specs.Audited.{AllAgree, Answered, Says, TellsExactly, WhereTold, seen};
+ghost use Rattle.run_audit.specs.Audited.{Answered, FramesAgree, Says, TellsExactly, WhereRead, seen};
 ghost use Rattle.run_audit.specs.Audits.{HasEra, IsSound, SoundFrames, WhyUnsound, WhyUnsoundWhole};
 ghost use Rattle.run_audit.specs.Eras.{AllStandFor};
 ghost use Rattle.run_audit.specs.Frames as frames;
@@ -52,10 +52,10 @@ pub fn audit<C: Source, R: Source, K: Sink>(
         (K.held out.old) (K.held out.new) (K.fault_count out.old) (K.fault_count out.new) result }
 
     // At 0 all receivers agree, whoever wrote the two files.
-    ensures agreement { result ≡ 0 → WhereTold (map string_bytes words.now)
+    ensures agreement { result ≡ 0 → WhereRead (map string_bytes words.now)
         (seen (C.left capture.old) (C.fault_count capture.old) (C.fault_count capture.new))
         (seen (R.left report.old) (R.fault_count report.old) (R.fault_count report.new))
-        (λ hops c r. AllAgree hops r c) }
+        FramesAgree }
 
     // The one answer that holds is told, unless memory is wanting or a source fails.
     ensures exactly { TellsExactly (map string_bytes words.now)

@@ -1,11 +1,15 @@
 //! Laws of what an audit looks at.
 ghost use Rattle.run_audit.specs.Audited.{AnswersAreOne};
+ghost use Rattle.run_audit.specs.Emitted.{EmittedHasNoFault};
+ghost use Rattle.run_audit.specs.Lawful.{ItemsAreWrittenInOrder, LawfulHasNoFault, LawfulIsYes, WrittenIsYes};
 ghost use Rattle.run_audit.specs.Sound.{FaultlessAgrees};
 
 use era_state::laws::{
-    emitted_is_told, emitted_joins, inwards_acknowledge_nothing, octets_are_below_top,
-    offsets_are_read, silence_changes_nothing, written_remains,
+    emitted_is_told, emitted_joins, emitted_octets_are_places, inwards_acknowledge_nothing,
+    octets_are_below_top, offsets_are_read, silence_changes_nothing, written_remains,
 };
+use norm_engine::laws::{items_are_certain, items_are_counted, lawful_is_emitted};
+use pcap_file::laws::{head_is_read_back, record_is_read_back};
 use receiver_model::laws::members_agree;
 
 /// Where no frame has a fault, all receivers agree on the frames that went inwards in each era, whoever wrote them.
@@ -22,7 +26,52 @@ pub fn faultless_agrees()
     members_agree();
 }
 
-/// Where a capture and a report tell their octets, one answer holds of them and of words, but that a source failed or memory was wanting.
+/// Beside an answer that holds of words, a capture and a report, and whose sources tell their octets, no other holds, but that a source failed or memory was wanting.
 pub fn answers_are_one()
     ensures { AnswersAreOne }
 {}
+
+/// Frames whose segments may be written in their eras, each after those before it and between others that say nothing, have no fault.
+pub fn emitted_has_no_fault()
+    ensures { EmittedHasNoFault }
+{
+    offsets_are_read();
+    inwards_acknowledge_nothing();
+    written_remains();
+    emitted_joins();
+    emitted_is_told();
+    emitted_octets_are_places();
+    silence_changes_nothing();
+}
+
+/// What a run writes has no fault: the frames of every lawful trace are those of its entries, and none of them has one.
+pub fn lawful_has_no_fault()
+    ensures { LawfulHasNoFault }
+{
+    items_are_counted();
+    items_are_certain();
+    lawful_is_emitted();
+    emitted_has_no_fault();
+}
+
+/// A capture of the frames of a lawful trace and a finished report of its entries have no fault, so that their audit says yes.
+pub fn lawful_is_yes()
+    ensures { LawfulIsYes }
+{
+    lawful_has_no_fault();
+}
+
+/// The written capture of a trace has the records of its items' frames behind one another.
+pub fn items_are_written_in_order()
+    ensures { ItemsAreWrittenInOrder }
+{}
+
+/// The two files that are written of a lawful trace have no fault, where they have room for it, so that their audit says yes.
+pub fn written_is_yes()
+    ensures { WrittenIsYes }
+{
+    head_is_read_back();
+    record_is_read_back();
+    items_are_counted();
+    lawful_is_yes();
+}

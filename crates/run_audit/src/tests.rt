@@ -3,7 +3,7 @@ ghost use Rattle.std.specs.Prelude.{◌<◌, ◌≤◌, ◌+◌, length};
 
 use crate::audit;
 use arrayvec::ArrayVec;
-use edge_io::{MemSink, MemSource, NoMemory};
+use edge_io::{Failed, MemSink, MemSource, NoMemory, Source};
 use ipv4_codec::{Ipv4, write_plain};
 use std::alloc::{AllocError, Global};
 use std::test::Fail;
@@ -140,7 +140,7 @@ fn audited(
 /// The packets of a capture, its report, and the line and the status of their audit for 30 routers.
 type Row = (&'static [Packet], &'static str, &'static str, u8);
 
-const ROWS: [Row; 14] = [
+const ROWS: [Row; 15] = [
     (&[CALL, ANSWER, OPENED, ABCD, ABCD], REPORT, "yes 1 5\n", 0),
     (
         &[CALL, ANSWER, OPENED, ABCD, ABXD],
@@ -209,6 +209,7 @@ const ROWS: [Row; 14] = [
         0,
     ),
     (&[], "norm 3\nend 0 0\n", "stop report 1\n", 9),
+    (&[], "norm 2 both\nend 0 0\n", "stop report 1\n", 9),
     (
         &[],
         "norm 2\n1 in hold 0 F_HELD\nstop cut 24\n",
@@ -290,5 +291,52 @@ fn each_stop_is_told(rt: HostRuntime) -> Result<(), Fail> {
         assert_eq!(rt; text.as_slice(), expected.as_bytes(), "{words:?} {size}");
         assert_eq!(rt; answer, status, "{words:?} {size}");
     }
+    Ok(())
+}
+
+#[test]
+fn another_file_is_no_capture(rt: HostRuntime) -> Result<(), Fail> {
+    let mut head = HEAD;
+    head[0] = 0;
+    let (answer, text) = audited(
+        rt.alloc(),
+        &["a", "b", "30"],
+        Vec::from_slice(rt.alloc(), &head)?,
+        b"norm 2\nend 0 0\n",
+        (0, 0, 0),
+    )?;
+    assert_eq!(rt; text.as_slice(), b"stop magic 0\n".as_slice());
+    assert_eq!(rt; answer, 3);
+    Ok(())
+}
+
+/// A source that never ends.
+#[derive(Drop)]
+struct Endless;
+
+impl Source for Endless {
+    ghost use Rattle.std.specs.Prelude.{None};
+
+    ghost left = { λ s. None };
+
+    ghost fault_count = { λ s. 0 };
+
+    fn fetch(&mut self, buf: &mut [u8]) -> Result<usize, Failed> {
+        Ok(buf.len())
+    }
+
+    fn faults(&self) -> u64 {
+        0
+    }
+}
+
+#[test]
+fn report_of_too_many_octets_is_not_read(rt: HostRuntime) -> Result<(), Fail> {
+    let words = line(rt.alloc(), &["a", "b", "30"])?;
+    let mut capture = MemSource::new(Vec::new(rt.alloc()), 7, Vec::new(rt.alloc()));
+    let mut out = MemSink::new(rt.alloc(), 100, Vec::new(rt.alloc()))?;
+    let answer = audit(rt.alloc(), &words, &mut capture, &mut Endless, &mut out);
+    assert_eq!(rt; out.held(), b"stop report 0\n".as_slice());
+    assert_eq!(rt; answer, 9);
     Ok(())
 }

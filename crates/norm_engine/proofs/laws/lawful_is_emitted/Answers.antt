@@ -1,0 +1,14 @@
+use Rattle.norm_engine.proofs.Agreeing.{emitted_era}
+use Rattle.norm_engine.proofs.Joined.{rows_are_of_eras}
+use Rattle.norm_engine.proofs.laws.lawful_is_emitted.Goals as goal
+
+pub returns : goal.returns
+returns c =
+    emitted_era
+    (record {
+      rows = rows_are_of_eras;
+      known = c.datagrams_are_known.ensures;
+      own = c.packets_are_its_own.ensures;
+      plain = c.packets_are_plain.ensures;
+      silent = c.probes_are_silent.ensures;
+    }) c.calls_are_emitted.ensures c.lawful_calls_are_made.ensures

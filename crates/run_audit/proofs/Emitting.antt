@@ -1,0 +1,188 @@
+-- A segment that may be written in an era has no fault, also where others that say nothing stand between those before it.
+use Rattle.std.proofs.Common.{◌≡◌, ◌⊎◌, ⊎_elim, ℕ, zero, suc, ◌+◌, ◌%◌, ◌^◌, ◌≤◌, ◌&&◌, ◌||◌, not, nat_lt, nat_eq, List, [], ◌∷◌, ◌++◌, length, Option, Some, None, is_none, Bool, true, false, refl, sym, ap, ap₂, ◌∙◌, subst, arith, eq-eqb}
+use Rattle.std.specs.Prelude.{ℤ, pos, negsuc, ◌+ℤ◌, ◌<ℤ◌, max, int_le, int_lt, slice_get}
+use Rattle.std.specs.Ordering.{int_eq}
+use Rattle.std.specs.Option.{option_or}
+use Rattle.std.proofs.lemmas.Int.{ints}
+use Rattle.std.proofs.lemmas.Bool.{and_right, not_from_true}
+use Rattle.wire_base.specs.Tcp as tcp
+use Rattle.wire_base.specs.Segments.{Written}
+use Rattle.era_state.specs.Offsets.{off, number_in}
+use Rattle.era_state.specs.Marks.{has_octets, octet_at, fin_place, top_place, fixes, ack_of}
+use Rattle.era_state.specs.Quantities.{base_of, acked, edge, top, first, end_of}
+use Rattle.era_state.specs.Rules.{precedes}
+use Rattle.era_state.specs.Emission.{IsOutward, IsBare, IsKeptFrame, IsEmitted, AreEmitted}
+use Rattle.era_state.specs.Emitted.{EmittedOctetsArePlaces, HasNoOtherBase, IsTold}
+use Rattle.era_state.specs.Silence.{IsSilent, SilenceChangesNothing}
+use Rattle.era_state.proofs.Framed.{EndLies}
+use Rattle.era_state.proofs.Emitting.{bounded}
+use Rattle.era_state.proofs.Steps.{base_push, acked_push, octet_push, end_push, top_push}
+use Rattle.era_agreement.proofs.Facts.{EraLaws}
+use Rattle.run_audit.specs.Faults.{is_other, is_past, some_strays, fin_strays}
+use Rattle.run_audit.proofs.Telling.{IsRight}
+
+-- two lists have the quantities of which faults are read in common
+pub record Alike (ws vs : List Written) : Type 0 where
+  pub base_is : base_of vs ≡ base_of ws
+  pub acked_is : (base : ℕ) → acked base vs ≡ acked base ws
+  pub top_is : (base : ℕ) → top base vs ≡ top base ws
+  pub end_is : (base : ℕ) → end_of base vs ≡ end_of base ws
+  pub first_is : (base : ℕ) (offset : ℤ) → first base vs offset ≡ first base ws offset
+
+pub alike_none : Alike [] []
+alike_none = record { base_is = refl; acked_is = λ base. refl; top_is = λ base. refl; end_is = λ base. refl; first_is = λ base offset. refl }
+
+-- with the same segment behind both
+pub alike_on : (ws vs : List Written) (w : Written) → Alike ws vs → Alike (ws ++ w ∷ []) (vs ++ w ∷ [])
+alike_on ws vs w a = record {
+  base_is = base_push vs w ∙ ap (λ o. option_or o (fixes w)) a.base_is ∙ sym (base_push ws w);
+  acked_is = λ base. acked_push base vs w ∙ ap (λ n. max n (number_in (ack_of base n w))) (a.acked_is base) ∙ sym (acked_push base ws w);
+  top_is = λ base. top_push base vs w ∙ ap₂ (λ t n. max t (top_place base n w)) (a.top_is base) (a.acked_is base) ∙ sym (top_push base ws w);
+  end_is = λ base. end_push base vs w ∙ ap₂ (λ o n. option_or o (fin_place base n w)) (a.end_is base) (a.acked_is base) ∙ sym (end_push base ws w);
+  first_is = λ base offset. octet_push base vs w offset ∙ ap₂ (λ o n. option_or o (octet_at base n offset w)) (a.first_is base offset) (a.acked_is base) ∙ sym (octet_push base ws w offset);
+}
+
+-- with one that says nothing behind the other
+pub alike_silent : SilenceChangesNothing → (ws vs : List Written) (w : Written) → IsSilent w → Alike ws vs → Alike ws (vs ++ w ∷ [])
+alike_silent silence ws vs w silent a =
+    let same = silence vs w silent in
+    record {
+      base_is = same.numbers.base_is ∙ a.base_is;
+      acked_is = λ base. same.numbers.acked_is base ∙ a.acked_is base;
+      top_is = λ base. same.top_is base ∙ a.top_is base;
+      end_is = λ base. same.end_is base ∙ a.end_is base;
+      first_is = λ base offset. same.first_is base offset ∙ a.first_is base offset;
+    }
+
+-- a segment without a fault behind one list has none behind the other
+pub right_alike : (ws vs : List Written) (w : Written) → Alike ws vs → IsRight ws w → IsRight vs w
+right_alike ws vs w a right = record {
+  base = ap (λ o. is_none o && (has_octets w || tcp.has_fin w.flags)) on.base_is ∙ right.base;
+  syn = ap (λ o. tcp.has_syn w.flags && not (precedes o w.seq)) on.base_is ∙ right.syn;
+  octet =
+      ap (λ b. some_strays (first b vs) (end_of b vs) (off b (acked b vs) w.seq) w.octets) (ap number_in on.base_is)
+      ∙ (λ i. some_strays (λ offset. a.first_is base offset i) (a.end_is base i) (off base (a.acked_is base i) w.seq) w.octets)
+      ∙ right.octet;
+  fin =
+      ap (λ b. tcp.has_fin w.flags && fin_strays (end_of b vs) (top b (vs ++ w ∷ [])) (off b (acked b vs) w.seq +ℤ pos (length w.octets))) (ap number_in on.base_is)
+      ∙ (λ i. tcp.has_fin w.flags && fin_strays (a.end_is base i) (on.top_is base i) (off base (a.acked_is base i) w.seq +ℤ pos (length w.octets)))
+      ∙ right.fin;
+}
+  where
+    on : Alike (ws ++ w ∷ []) (vs ++ w ∷ [])
+    on = alike_on ws vs w a
+
+    base : ℕ
+    base = number_in (base_of (ws ++ w ∷ []))
+
+-- one that says nothing has none
+pub right_silent : (ws : List Written) (w : Written) → IsSilent w → IsRight ws w
+right_silent ws w s = record {
+  base = and_right (is_none (base_of (ws ++ w ∷ []))) (has_octets w || tcp.has_fin w.flags) (ap₂ (λ (os : List ℕ) (f : Bool). nat_lt 0 (length os) || f) s.no_octets s.no_fin);
+  syn = ap (λ f. f && not (precedes (base_of (ws ++ w ∷ [])) w.seq)) s.no_syn;
+  octet = ap (some_strays (first base ws) (end_of base ws) (off base (acked base ws) w.seq)) s.no_octets;
+  fin = ap (λ f. f && fin_strays (end_of base ws) (top base (ws ++ w ∷ [])) (off base (acked base ws) w.seq +ℤ pos (length w.octets))) s.no_fin;
+}
+  where
+    base : ℕ
+    base = number_in (base_of (ws ++ w ∷ []))
+
+-- octets of which each is the first at its place, or there is none, and stands before the end
+none_stray : (f : ℤ → Option ℕ) (end : Option ℤ) (z : ℤ) (octets : List ℕ)
+    → ((i x : ℕ) → slice_get octets i ≡ Some x → (is_other (f (z +ℤ pos i)) x ≡ false) × (is_past end (z +ℤ pos i) ≡ false)) → some_strays f end z octets ≡ false
+none_stray f end z [] h = refl
+none_stray f end z (y ∷ octets) h =
+    let here = h zero y refl in
+    let at : z ≡ (z +ℤ pos 0) = omega (arith, ints) in
+    ap₂ (λ (a b : Bool). a || b)
+    (ap₂ (λ (a b : Bool). a || b) (ap (λ n. is_other (f n) y) at ∙ here.0) (ap (is_past end) at ∙ here.1))
+    (none_stray f end (z +ℤ pos 1) octets next)
+  where
+    next : (i x : ℕ) → slice_get octets i ≡ Some x → (is_other (f ((z +ℤ pos 1) +ℤ pos i)) x ≡ false) × (is_past end ((z +ℤ pos 1) +ℤ pos i) ≡ false)
+    next i x has =
+        let there = h (suc i) x has in
+        let at : ((z +ℤ pos 1) +ℤ pos i) ≡ (z +ℤ pos (suc i)) = omega (arith, ints) in
+        (ap (λ n. is_other (f n) x) at ∙ there.0, ap (is_past end) at ∙ there.1)
+
+-- where this base is fixed with the segment
+right_based : EraLaws → EmittedOctetsArePlaces → (b : ℕ) (ws : List Written) (w : Written) → base_of (ws ++ w ∷ []) ≡ Some b → AreEmitted [] (ws ++ w ∷ []) → IsTold b ws w → IsRight ws w
+right_based laws places b ws w based all told = record {
+  base = ap (λ o. is_none o && (has_octets w || tcp.has_fin w.flags)) based;
+  syn = ap (λ o. tcp.has_syn w.flags && not (precedes o w.seq)) based ∙ syn (tcp.has_syn w.flags) refl;
+  octet =
+      ap (λ n. some_strays (first n ws) (end_of n ws) (off n (acked n ws) w.seq) w.octets) (ap number_in based)
+      ∙ none_stray (first b ws) (end_of b ws) place w.octets
+      (λ i x has. (same (place +ℤ pos i) x (first b ws (place +ℤ pos i)) refl (told.octets i x has), before (place +ℤ pos i) x (end_of b ws) refl (told.octets i x has)));
+  fin =
+      ap (λ n. tcp.has_fin w.flags && fin_strays (end_of n ws) (top n (ws ++ w ∷ [])) (off n (acked n ws) w.seq +ℤ pos (length w.octets))) (ap number_in based)
+      ∙ fin (tcp.has_fin w.flags) refl;
+}
+  where
+    place : ℤ
+    place = off b (acked b ws) w.seq
+
+    behind : ℤ
+    behind = place +ℤ pos (length w.octets)
+
+    only : HasNoOtherBase b (ws ++ w ∷ [])
+    only number f = cc (based, f)
+
+    syn : (c : Bool) → tcp.has_syn w.flags ≡ c → (c && not (nat_eq ((w.seq + 1) % 2 ^ 32) b)) ≡ false
+    syn false is = refl
+    syn true is = let e = told.syn is in not_from_true (nat_eq ((w.seq + 1) % 2 ^ 32) b) (eq-eqb ((w.seq + 1) % 2 ^ 32) b e)
+
+    same : (o : ℤ) (x : ℕ) (p : Option ℕ) → first b ws o ≡ p → first b (ws ++ w ∷ []) o ≡ Some x → is_other p x ≡ false
+    same o x None is has = refl
+    same o x (Some y) is has =
+        let stays = (laws.remains b ws (w ∷ [])).octet_is o y is in
+        let e : y ≡ x = cc (stays, has) in
+        not_from_true (nat_eq y x) (eq-eqb y x e)
+
+    before : (o : ℤ) (x : ℕ) (p : Option ℤ) → end_of b ws ≡ p → first b (ws ++ w ∷ []) o ≡ Some x → is_past p o ≡ false
+    before o x None is has = refl
+    before o x (Some end) is has =
+        let less : o <ℤ end = (places b (ws ++ w ∷ []) based all).below_end o end x has ((laws.remains b ws (w ∷ [])).end_is end is) in
+        grind (arith, ints, less)
+
+    lies : end_of b (ws ++ w ∷ []) ≡ Some behind → EndLies (Some behind) (top b (ws ++ w ∷ [])) (edge b (ws ++ w ∷ []))
+    lies is = subst (λ o. EndLies o (top b (ws ++ w ∷ [])) (edge b (ws ++ w ∷ []))) is (bounded b (ws ++ w ∷ []) only all).end_lies
+
+    high : (z : ℤ) (most far : ℕ) → EndLies (Some z) most far → int_lt z (pos most) ≡ false
+    high (pos p) most far h = let above : most ≤ p = h.0 in grind (arith, ints, above)
+    high (negsuc n) most far h = absurd h
+
+    fin : (c : Bool) → tcp.has_fin w.flags ≡ c → (c && fin_strays (end_of b ws) (top b (ws ++ w ∷ [])) behind) ≡ false
+    fin false is = refl
+    fin true is = at (end_of b ws) refl
+      where
+        at : (o : Option ℤ) → end_of b ws ≡ o → fin_strays o (top b (ws ++ w ∷ [])) behind ≡ false
+        at None none = high behind (top b (ws ++ w ∷ [])) (edge b (ws ++ w ∷ [])) (lies (told.fin is))
+        at (Some end) pinned =
+            let stays = (laws.remains b ws (w ∷ [])).end_is end pinned in
+            let has = told.fin is in
+            let e : behind ≡ end = cc (stays, has) in
+            grind (arith, ints, e)
+
+-- an inward segment that is emitted has no fault
+pub emitted_right : EraLaws → EmittedOctetsArePlaces → (ws : List Written) (w : Written) → w.inward ≡ true → AreEmitted [] (ws ++ w ∷ []) → IsRight ws w
+emitted_right laws places ws w inward all = ⊎_elim (λ (o : IsOutward w). absurd (cc (inward, o.outward))) emitted parts.1.0
+  where
+    parts : AreEmitted [] ws × AreEmitted ws (w ∷ [])
+    parts = (laws.joins [] ws (w ∷ [])).0 all
+
+    emitted : IsEmitted ws w → IsRight ws w
+    emitted e = by (base_of (ws ++ w ∷ [])) refl
+      where
+        bare : base_of (ws ++ w ∷ []) ≡ None → IsBare ws w → IsRight ws w
+        bare none b = right_silent ws w (record { inward = inward; no_syn = mute (tcp.has_syn w.flags) refl; no_fin = b.no_fin; no_octets = b.no_octets })
+          where
+            mute : (c : Bool) → tcp.has_syn w.flags ≡ c → c ≡ false
+            mute false is = refl
+            mute true is = let fixed = b.syn is in absurd (cc (none, fixed))
+
+        kept : base_of (ws ++ w ∷ []) ≡ None → IsKeptFrame ws w → IsRight ws w
+        kept none k = let stays = (laws.remains k.base ws (w ∷ [])).base_is k.base k.based in absurd (cc (none, stays))
+
+        by : (o : Option ℕ) → base_of (ws ++ w ∷ []) ≡ o → IsRight ws w
+        by None none = ⊎_elim (bare none) (kept none) e
+        by (Some b) based = right_based laws places b ws w based all (laws.told b ws w (λ number f. cc (based, f)) parts.0 e)

@@ -1,0 +1,160 @@
+-- Frames whose segments are emitted have no fault.
+use Rattle.std.proofs.Common.{◌≡◌, ℕ, ◌==◌, ◌&&◌, List, [], ◌∷◌, ◌++◌, map, Option, Some, None, Bool, true, false, refl, sym, ap, ◌∙◌, subst, if◌then◌else◌, append-nil, eq-eqb}
+use Rattle.std.specs.Prelude.{IsSome}
+use Rattle.std.specs.List.{AllByRecursion}
+use Rattle.wire_base.specs.declared.address.Side.{Side}
+use Rattle.wire_base.specs.declared.address.Side.TheVariants.{Inward, Outward}
+use Rattle.wire_base.specs.Ipv4 as ip
+use Rattle.wire_base.specs.Plain.{Plain}
+use Rattle.wire_base.specs.Segments.{Segment, Written, fields_of, segment_of, written_of}
+use Rattle.era_state.specs.Emission.{AreEmitted}
+use Rattle.era_state.specs.Emitted.{EmittedOctetsArePlaces}
+use Rattle.era_state.specs.Silence.{IsSilent, SilenceChangesNothing}
+use Rattle.era_agreement.specs.Sent.{is_era, written_as, written_in}
+use Rattle.era_agreement.specs.Agreement.{IsSilentPacket}
+use Rattle.era_agreement.proofs.Facts.{EraLaws}
+use Rattle.run_audit.specs.Emitted.{Marked, IsCertain, AreWritten, EmittedHasNoFault, frames_in, sent_as}
+use Rattle.run_audit.specs.Faults.{in_stream, in_stream_as, lacks_base, has_other_syn, has_other_octet, has_other_fin, IsFaultless, IsWellReadAs}
+use Rattle.run_audit.specs.FirstFault.{AreFaultless}
+use Rattle.run_audit.specs.Frames.{Frame, is_inward, sent}
+use Rattle.run_audit.proofs.Agreeing.{well_read_of, inward_is, named_is}
+use Rattle.run_audit.proofs.Emitting.{Alike, alike_none, alike_on, alike_silent, right_alike, right_silent, emitted_right}
+use Rattle.run_audit.proofs.Telling.{IsRight}
+
+-- the laws that are cited
+pub record Laws : Type 0 where
+  pub eras : EraLaws
+  pub places : EmittedOctetsArePlaces
+  pub silence : SilenceChangesNothing
+
+-- the segments that a packet adds to those of an era, where its entry names the era and it is a written segment of it
+abbrev added : (named written inward : Bool) → Option Segment → List Written
+added named written inward o = if named && written then written_as inward o ++ [] else []
+
+-- a segment that says nothing, as one that was written
+silent_of : (p : List ℕ) (s : Segment) → IsSilentPacket p → segment_of p ≡ Some s → IsSilent (written_of true s)
+silent_of p s silent is = let says = silent s is in record { inward = refl; no_syn = says.1; no_fin = says.2; no_octets = says.0 }
+
+module _ (laws : Laws) (hops : ℕ) (m : Marked) (older : List Marked) (certain : IsCertain hops m) where
+  abbrev f : Frame
+  f = m.frame
+
+  abbrev p : List ℕ
+  p = m.frame.packet
+
+  -- the segments of an era before the frame: those that were written, and those of all frames
+  abbrev ws : (era : ℕ) → List Written
+  ws era = written_in era (map sent_as older)
+
+  abbrev vs : (era : ℕ) → List Written
+  vs era = written_in era (sent (frames_in older))
+
+  -- with the frame
+  alike_with : (era : ℕ) → Alike (ws era) (vs era)
+      → Alike (ws era ++ added (is_era era f.era) m.written (is_inward f.side) (segment_of p)) (vs era ++ added (is_era era f.era) true (is_inward f.side) (segment_of p))
+  alike_with era a = by (is_era era f.era) refl m.written refl (segment_of p) refl
+    where
+      same : Alike (ws era ++ []) (vs era ++ [])
+      same =
+          let P : List Written → Type 0 = λ xs. Alike xs (vs era ++ []) in
+          let Q : List Written → Type 0 = λ xs. Alike (ws era) xs in
+          subst P (sym (append-nil (ws era))) (subst Q (sym (append-nil (vs era))) a)
+
+      named : is_era era f.era ≡ true → IsSome f.era
+      named e = ap (λ (o : Option ℕ). elim o as (λ _. Bool) [ Some n ↦ true | None ↦ false ]) (named_is era f.era e)
+
+      -- one that is no written segment goes inwards
+      beside : (s : Segment) (side : Option Side) → f.side ≡ side → IsSome f.era → m.written ≡ false → segment_of p ≡ Some s
+          → Alike (ws era ++ []) (vs era ++ (written_as (is_inward side) (Some s) ++ []))
+      beside s (Some Inward) is there unwritten says =
+          let P : List Written → Type 0 = λ xs. Alike xs (vs era ++ written_of true s ∷ []) in
+          subst P (sym (append-nil (ws era))) (alike_silent laws.silence (ws era) (vs era) (written_of true s) (silent_of p s (certain.silent unwritten is there) says) a)
+      beside s (Some Outward) is there unwritten says = absurd (certain.outward unwritten is there)
+      beside s None is there unwritten says =
+          let P : Option Side → Type 0 = λ side. IsWellReadAs hops p side f.era in
+          let none : f.era ≡ None = subst P is certain.read in
+          absurd (cc (none, there))
+
+      by : (named_era : Bool) → is_era era f.era ≡ named_era → (written : Bool) → m.written ≡ written → (o : Option Segment) → segment_of p ≡ o
+          → Alike (ws era ++ added named_era written (is_inward f.side) o) (vs era ++ added named_era true (is_inward f.side) o)
+      by false e written w o s = same
+      by true e true w None s = same
+      by true e true w (Some x) s = alike_on (ws era) (vs era) (written_of (is_inward f.side) x) a
+      by true e false w None s = same
+      by true e false w (Some x) s = beside x f.side refl (named e) w s
+
+  -- where it is asked nothing
+  quiet : ((test : List Written → Written → Bool) → in_stream test (sent (frames_in older)) f ≡ false) → IsFaultless hops (sent (frames_in older)) f
+  quiet h = record { read = certain.read; base = h lacks_base; syn = h has_other_syn; octet = h has_other_octet; fin = h has_other_fin }
+
+  -- one that goes inwards in an era
+  inward : (era : ℕ) → f.side ≡ Some Inward → f.era ≡ Some era → Alike (ws era) (vs era)
+      → AreEmitted [] (ws era ++ added (is_era era f.era) m.written (is_inward f.side) (segment_of p)) → IsFaultless hops (sent (frames_in older)) f
+  inward era side named a emitted = record {
+    read = certain.read;
+    base = at lacks_base ∙ right.base;
+    syn = at has_other_syn ∙ right.syn;
+    octet = at has_other_octet ∙ right.octet;
+    fin = at has_other_fin ∙ right.fin;
+  }
+    where
+      s : Segment
+      s = fields_of p
+
+      w : Written
+      w = written_of true s
+
+      well : Plain hops p × (ip.protocol p ≡ 6)
+      well = well_read_of hops era f certain.read side named
+
+      is : segment_of p ≡ Some s
+      is = ap (λ n. if n == 6 then Some s else None) well.1
+
+      at : (test : List Written → Written → Bool) → in_stream test (sent (frames_in older)) f ≡ test (vs era) w
+      at test = λ i. in_stream_as test (sent (frames_in older)) (side i) (named i) (is i)
+
+      one : (written : Bool) → m.written ≡ written → added (is_era era f.era) m.written (is_inward f.side) (segment_of p) ≡ added true written true (Some s)
+      one written h =
+          (λ i. added (is_era era (named i)) (h i) (is_inward (side i)) (is i))
+          ∙ ap (λ b. added b written true (Some s)) (eq-eqb era era refl)
+
+      by : (written : Bool) → m.written ≡ written → IsRight (vs era) w
+      by true h =
+          let P : List Written → Type 0 = λ xs. AreEmitted [] (ws era ++ xs) in
+          right_alike (ws era) (vs era) w a (emitted_right laws.eras laws.places (ws era) w refl (subst P (one true h) emitted))
+      by false h =
+          let there : IsSome f.era = ap (λ (o : Option ℕ). elim o as (λ _. Bool) [ Some n ↦ true | None ↦ false ]) named in
+          right_silent (vs era) w (silent_of p s (certain.silent h side there) is)
+
+      right : IsRight (vs era) w
+      right = by m.written refl
+
+  faultless_here : ((era : ℕ) → Alike (ws era) (vs era))
+      → ((era : ℕ) → AreEmitted [] (ws era ++ added (is_era era f.era) m.written (is_inward f.side) (segment_of p))) → IsFaultless hops (sent (frames_in older)) f
+  faultless_here a emitted = by f.side refl f.era refl
+    where
+      by : (side : Option Side) → f.side ≡ side → (era : Option ℕ) → f.era ≡ era → IsFaultless hops (sent (frames_in older)) f
+      by (Some Inward) s (Some era) e = inward era s e (a era) (emitted era)
+      by (Some Inward) s None e = quiet (λ test i. in_stream_as test (sent (frames_in older)) (s i) (e i) (segment_of p))
+      by (Some Outward) s era e = quiet (λ test i. in_stream_as test (sent (frames_in older)) (s i) f.era (segment_of p))
+      by None s era e = quiet (λ test i. in_stream_as test (sent (frames_in older)) (s i) f.era (segment_of p))
+
+-- what holds after some frames
+record Holds (hops : ℕ) (marked : List Marked) : Type 0 where
+  faultless : AreFaultless hops (frames_in marked)
+  alike : (era : ℕ) → Alike (written_in era (map sent_as marked)) (written_in era (sent (frames_in marked)))
+
+holds : Laws → (hops : ℕ) (marked : List Marked) → AreWritten hops marked → Holds hops marked
+holds laws hops [] h = record { faultless = tt; alike = λ era. alike_none }
+holds laws hops (m ∷ older) h =
+    let before = holds laws hops older (record {
+      certain = h.certain.1;
+      emitted = λ era. ((laws.eras.joins [] (written_in era (map sent_as older)) (added (is_era era m.frame.era) m.written (is_inward m.frame.side) (segment_of m.frame.packet))).0 (h.emitted era)).0;
+    }) in
+    record {
+      faultless = (before.faultless, faultless_here laws hops m older h.certain.0 before.alike h.emitted);
+      alike = λ era. alike_with laws hops m older h.certain.0 era (before.alike era);
+    }
+
+pub emitted_faultless : Laws → EmittedHasNoFault
+emitted_faultless laws hops marked h = (holds laws hops marked h).faultless

@@ -1,0 +1,38 @@
+-- That frames whose segments are emitted have no fault (this project's profile). Frames are a list with the last one at the head.
+use Rattle.std.specs.Prelude.{◌≡◌, ℕ, Bool, true, false, List, [], ◌∷◌, map, Some, IsSome}
+use Rattle.std.specs.List.{AllByRecursion}
+use Rattle.wire_base.specs.declared.address.Side.TheVariants.{Inward, Outward}
+use Rattle.era_state.specs.Emission.{AreEmitted}
+use Rattle.era_agreement.specs.Sent.{Sent, written_in}
+use Rattle.era_agreement.specs.Agreement.{IsSilentPacket}
+use Rattle.run_audit.specs.Faults.{IsWellRead}
+use Rattle.run_audit.specs.FirstFault.{AreFaultless}
+use Rattle.run_audit.specs.Frames.{Frame, is_inward}
+
+-- a frame, and whether it is a written segment of the era that its entry names; one that goes inwards beside them, as a probe does, is not
+pub record Marked : Type 0 where
+  pub frame : Frame
+  pub written : Bool
+
+-- the frames alone
+abbrev pub frames_in : List Marked → List Frame
+frames_in marked = map (λ (m : Marked). m.frame) marked
+
+-- the frame as something that was sent
+abbrev pub sent_as : Marked → Sent
+sent_as m = record { inward = is_inward m.frame.side; era = m.frame.era; written = m.written; packets = m.frame.packet ∷ [] }
+
+-- What is read of the frame is certain; where it is no written segment of its era, it goes inwards and says nothing of a stream.
+pub record IsCertain (hops : ℕ) (m : Marked) : Type 0 where
+  pub read : IsWellRead hops m.frame
+  pub silent : m.written ≡ false → m.frame.side ≡ Some Inward → IsSome m.frame.era → IsSilentPacket m.frame.packet
+  pub outward : m.written ≡ false → m.frame.side ≡ Some Outward → IsSome m.frame.era → ⊥
+
+-- the frames are such ones, and in each era the segments that were written are emitted, each after those before it
+pub record AreWritten (hops : ℕ) (marked : List Marked) : Type 0 where
+  pub certain : AllByRecursion (IsCertain hops) marked
+  pub emitted : (era : ℕ) → AreEmitted [] (written_in era (map sent_as marked))
+
+-- no such frame has a fault
+abbrev pub EmittedHasNoFault : Type 0
+EmittedHasNoFault = (hops : ℕ) (marked : List Marked) → AreWritten hops marked → AreFaultless hops (frames_in marked)

@@ -1,0 +1,99 @@
+-- That the frames and the entries of a lawful trace have no fault (this project's profile). A trace is a list with the newest item at the head.
+use Rattle.std.specs.Prelude.{◌≡◌, ℕ, ◌+◌, ◌^◌, ◌<◌, ◌≤◌, List, [], ◌∷◌, ◌++◌, length, map, reverse, Some, None}
+use Rattle.std.specs.List.{AllByRecursion, flat_map}
+use Rattle.wire_base.specs.declared.address.Link.{Link}
+use Rattle.pcap_file.specs.declared.head.Head.{Head}
+use Rattle.pcap_file.specs.declared.order.Order.{Order}
+use Rattle.pcap_file.specs.Heads.{head_octets}
+use Rattle.pcap_file.specs.Records.{Packet, record_octets}
+use Rattle.pcap_file.specs.Capture.{IsCapture}
+use Rattle.rule_book.specs.declared.last.Last.{Last}
+use Rattle.rule_book.specs.declared.last.Last.TheVariants.{End}
+use Rattle.rule_book.specs.Entries.{PlainEntry}
+use Rattle.rule_book.specs.Reports.{EntryFits}
+use Rattle.rule_book.specs.Text.{report_text}
+use Rattle.norm_settings.specs.Settings.{PlainSettings}
+use Rattle.norm_engine.specs.Items.{Item, entries}
+use Rattle.norm_engine.specs.Laws.{IsSound}
+use Rattle.run_audit.specs.Audited.{IsYes}
+use Rattle.run_audit.specs.Audits.{frames_of}
+use Rattle.run_audit.specs.FirstFault.{NoFault}
+use Rattle.run_audit.specs.Named.{eras_named}
+use Rattle.run_audit.specs.Reported.{IsFinished, is_most}
+
+-- the frames of a trace, the last one at the head
+abbrev pub frames_written : List Item → List (List ℕ)
+frames_written [] = []
+frames_written (item ∷ older) = reverse item.frames ++ frames_written older
+
+-- its entries in the order of their lines
+abbrev pub entries_written : List Item → List PlainEntry
+entries_written trace = reverse (entries trace)
+
+-- The frames of a lawful trace are those of its entries, and none of them has a fault.
+abbrev pub LawfulHasNoFault : Type 0
+LawfulHasNoFault =
+    (settings : PlainSettings) (link : Link) (trace : List Item) → IsSound settings link trace → NoFault settings.hops link (entries_written trace) (frames_written trace)
+
+-- A capture of these frames is sound by a finished report of these entries, and the audit of the two says yes, with the number of the eras that are named and
+-- that of the frames.
+abbrev pub LawfulIsYes : Type 0
+LawfulIsYes =
+    (settings : PlainSettings) (head : Head) (trace : List Item) (packets : List Packet) (report capture : List ℕ)
+    → IsSound settings head.link trace → IsCapture capture head packets → frames_of packets ≡ frames_written trace → IsFinished report (entries_written trace)
+    → IsYes settings.hops (Some report) (Some capture) (length (eras_named (entries_written trace))) (length packets)
+
+-- the record that a frame is written as, with the time of the record that it came of
+abbrev pub record_with : Packet → List ℕ → Packet
+record_with r frame = record { seconds = r.seconds; fraction = r.fraction; original = length frame; side = None; octets = frame }
+
+-- the records of the frames of a trace, the last one at the head
+abbrev pub records_written : List Item → List Packet
+records_written [] = []
+records_written (item ∷ older) = reverse (map (record_with item.packet) item.frames) ++ records_written older
+
+-- the octets of records, the last one at the head of the list and at the end of the octets
+abbrev pub records_octets : Order → List Packet → List ℕ
+records_octets order [] = []
+records_octets order (w ∷ older) = records_octets order older ++ record_octets order w.seconds w.fraction w.octets
+
+-- With one item more the octets are those before and behind them the records of the item's frames, in order, and there are so many records more.
+pub record IsWrittenBehind (order : Order) (item : Item) (older : List Item) : Type 0 where
+  pub octets : records_octets order (records_written (item ∷ older))
+      ≡ records_octets order (records_written older) ++ flat_map (λ frame. record_octets order item.packet.seconds item.packet.fraction frame) item.frames
+  pub count : length (records_written (item ∷ older)) ≡ length (records_written older) + length item.frames
+
+abbrev pub ItemsAreWrittenInOrder : Type 0
+ItemsAreWrittenInOrder = (order : Order) (item : Item) (older : List Item) → IsWrittenBehind order item older
+
+-- the written capture of a trace
+abbrev pub capture_written : Head → List Item → List ℕ
+capture_written head trace = head_octets head ++ records_octets head.order (records_written trace)
+
+-- the report of a finished run
+abbrev pub last_written : List Item → Last
+last_written trace = End (length trace) (length (records_written trace))
+
+abbrev pub report_written : List Item → List ℕ
+report_written trace = report_text 2 (entries trace) (last_written trace)
+
+-- the record's time is one of 32 bits, and it has at most 262,144 octets
+pub record RecordFits (w : Packet) : Type 0 where
+  pub seconds : w.seconds < 2 ^ 32
+  pub fraction : w.fraction < 2 ^ 32
+  pub octets : length w.octets ≤ 262144
+
+-- What is written of a trace has room in the forms of its two files: at most 2^32 - 1 records, each of which fits, and fewer than 2^32 entries, each of which
+-- fits, in a report that is not too long.
+pub record FitsFiles (trace : List Item) : Type 0 where
+  pub records : AllByRecursion RecordFits (records_written trace)
+  pub few : length (records_written trace) ≤ 4294967295
+  pub entries : AllByRecursion EntryFits (entries trace)
+  pub lines : length trace < 2 ^ 32
+  pub small : length (report_written trace) ≤ is_most
+
+-- The audit of the two files that are written of a lawful trace says yes, with the number of the eras that the report names and that of the frames.
+abbrev pub WrittenIsYes : Type 0
+WrittenIsYes =
+    (settings : PlainSettings) (head : Head) (trace : List Item) → IsSound settings head.link trace → FitsFiles trace
+    → IsYes settings.hops (Some (report_written trace)) (Some (capture_written head trace)) (length (eras_named (entries_written trace))) (length (records_written trace))
