@@ -6,7 +6,7 @@ use Rattle.wire_base.specs.declared.address.Link.TheVariants.{Ethernet, Raw}
 use Rattle.wire_base.specs.declared.address.Side.{Side}
 use Rattle.wire_base.specs.declared.address.Side.TheVariants.{Inward, Outward}
 use Rattle.wire_base.specs.Ipv4 as ip
-use Rattle.wire_base.specs.Frames.{ethertype}
+use Rattle.wire_base.specs.Frames.{ethertype, packet_in}
 use Rattle.wire_base.specs.Options.{are_well_formed, has_route}
 use Rattle.pcap_file.specs.Records.{Packet}
 use Rattle.rule_book.specs.declared.rule.Rule.{Rule}
