@@ -11,3 +11,5 @@ pub mod Agreeing
 pub mod Keeping
 pub mod Rooms
 pub mod Stepped
+pub mod Outgoing
+pub mod Naming

@@ -8,3 +8,4 @@ pub mod Clean
 pub mod Agreement
 pub mod Laws
 pub mod Engine
+pub mod Outgoing
