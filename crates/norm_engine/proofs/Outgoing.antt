@@ -55,10 +55,10 @@ use Rattle.norm_engine.specs.Fragments.{Offering, completes, datagram_made, frag
 use Rattle.norm_engine.specs.Frames.{octets_sent, mended_frame, frame_by}
 use Rattle.norm_engine.specs.Rows.{holds_tcp, is_segment, is_tcp}
 use Rattle.norm_engine.specs.Calls.{Past, datagram_after, datagram_by, past_of, segment_after, where_passes}
-use Rattle.norm_engine.specs.Trace.{Read, read_after, is_held, is_quoted_live, dropped_by, named_rows, noted_rows, outcome_of, emits, frames_by, rules_by, item_of}
+use Rattle.norm_engine.specs.Trace.{Read, read_after, is_held, is_quoted_live, dropped_by, named_rows, noted_rows, outcome_of, frames_by, era_by, item_of}
 use Rattle.norm_engine.specs.Clean.{HasOctets, HaveOctets}
 use Rattle.norm_engine.specs.Engine.{datagram_row, read_with}
-use Rattle.norm_engine.specs.Outgoing.{IsWholePacket, GoesOut, IsOutgoing, ItemsGoOut}
+use Rattle.norm_engine.specs.Outgoing.{IsWholePacket, CarriesWhole, GoesOut}
 use Rattle.norm_engine.proofs.Reading.{behind}
 use Rattle.norm_engine.proofs.Stepping.{AreOfEra, segment_frames, segment_rules, plain_frames, nothing_noted}
 use Rattle.norm_engine.proofs.Joining.{IsCarried, IsEither, IsJoined, IsMade, bare_named, bare_row, carried, carried_in, joined, datagram_named_is, datagram_row_is, either_of, fragment_by, fragment_is, made_of, named_of_piece, row_of_piece}
@@ -98,20 +98,24 @@ kind_behind Ethernet frame rest long four =
     (14, kind_by (take 14 frame ++ rest) enough (ap (λ n. n == 2048) type ∙ four))
 
 -- a packet behind these link octets goes out
-packet_goes : (link : Link) (frame : List ℕ) (p : Packet) → (link ≡ Ethernet → 14 ≤ length frame) → carries_ip link frame ≡ true → IsWholePacket (whole p) → GoesOut link (frame_of (link_octets link frame) p)
+packet_goes : (link : Link) (frame : List ℕ) (p : Packet) → (link ≡ Ethernet → 14 ≤ length frame) → carries_ip link frame ≡ true → IsWholePacket (whole p) → CarriesWhole link (frame_of (link_octets link frame) p)
 packet_goes link frame p long four is =
     let split : frame_of (link_octets link frame) p ≡ link_octets link frame ++ whole p = append_assoc (link_octets link frame) p.header p.octets in
     let kind = kind_behind link frame (whole p) long four in
-    subst (GoesOut link) (sym split) (inr (kind.0, kind.1, subst IsWholePacket (sym (behind link frame (whole p) long)) is))
+    subst (CarriesWhole link) (sym split) (kind.0, kind.1, subst IsWholePacket (sym (behind link frame (whole p) long)) is)
 
 packet_size : (link : Link) (frame : List ℕ) (p : Packet) → (link ≡ Ethernet → 14 ≤ length frame) → length (packet_in link (frame_of (link_octets link frame) p)) ≡ length (whole p)
 packet_size link frame p long =
     ap (λ f. length (packet_in link f)) (append_assoc (link_octets link frame) p.header p.octets) ∙ ap length (behind link frame (whole p) long)
 
 frames_go : (link : Link) (frame : List ℕ) (packets : List Packet) → (link ≡ Ethernet → 14 ≤ length frame) → carries_ip link frame ≡ true → AllByRecursion (λ p. IsWholePacket (whole p)) packets
-    → AllByRecursion (GoesOut link) (frames_of (link_octets link frame) packets)
+    → AllByRecursion (CarriesWhole link) (frames_of (link_octets link frame) packets)
 frames_go link frame [] long four all = tt
 frames_go link frame (p ∷ ps) long four all = (packet_goes link frame p long four all.0, frames_go link frame ps long four all.1)
+
+go_out : (link : Link) (frames : List (List ℕ)) → AllByRecursion (CarriesWhole link) frames → AllByRecursion (GoesOut link) frames
+go_out link [] all = tt
+go_out link (frame ∷ frames) all = (inr all.0, go_out link frames all.1)
 
 frames_sized : (link : Link) (frame : List ℕ) (packets : List Packet) → (link ≡ Ethernet → 14 ≤ length frame) → AllByRecursion (λ p. length (whole p) ≡ 40) packets
     → AllByRecursion (λ f. length (packet_in link f) ≡ 40) (frames_of (link_octets link frame) packets)
@@ -289,14 +293,14 @@ module _ (known : DatagramsAreKnown) (fresh : AnewIsPacket) (settings : PlainSet
         let frame : frame_of (link_octets link r.octets) (as_read d) ≡ r.octets =
         (λ i. link_octets link r.octets ++ header i ++ body i)
         ∙ sym (whole_frame settings link r (record { undropped = c.undropped; carries = c.carried }) (ap (λ (e : Datagram). e.fixes) c.is ∙ bare)) in
-        subst (GoesOut link) frame (packet_goes link r.octets (as_read d) long four (other_whole settings d (as_read d) (its.whole bare) no_six))
+        inr (subst (CarriesWhole link) frame (packet_goes link r.octets (as_read d) long four (other_whole settings d (as_read d) (its.whole bare) no_six)))
 
     datagram_goes : (named : List Rule) → named_rows settings link read r ≡ named → GoesOut link (frame_by settings (link_octets link r.octets) r.octets (Some d) named)
     datagram_goes [] is =
         unmended (both_empty d.fixes _ (sym (datagram_named_is settings link past r d made other) ∙ is)).0 (either_of settings link before r d h)
     datagram_goes (rule ∷ more) is =
-        packet_goes link r.octets (anew settings d (octets_sent settings d)) long four
-        (other_whole settings d _ (fresh settings d (octets_sent settings d) hops its.sizes (sent_short settings d its.short)) no_six)
+        inr (packet_goes link r.octets (anew settings d (octets_sent settings d)) long four
+        (other_whole settings d _ (fresh settings d (octets_sent settings d) hops its.sizes (sent_short settings d its.short)) no_six))
 
 -- ---- a record that makes no datagram
 
@@ -380,13 +384,14 @@ no_more link (Some rule) held frame = tt
 no_more link None true frame = tt
 no_more link None false frame = tt
 
--- what goes out for a record
-pub record Goes (link : Link) (frames : List (List ℕ)) : Type 0 where
+-- what goes out for a record, which names this era
+pub record Goes (link : Link) (era : Option ℕ) (frames : List (List ℕ)) : Type 0 where
   pub each : AllByRecursion (GoesOut link) frames
+  pub of_era : (n : ℕ) → era ≡ Some n → AllByRecursion (CarriesWhole link) frames
   pub behind : AllByRecursion (λ f. length (packet_in link f) ≡ 40) (drop 1 frames)
 
 pub frames_go_out : RowsAreOfEras → DatagramsAreKnown → AnewIsPacket → SegmentLaws → (settings : PlainSettings) (link : Link) (history : List Item) (r : records.Packet)
-    → settings.hops ≤ 254 → HaveOctets history → HasOctets r → Goes link (item_of settings link history r).frames
+    → settings.hops ≤ 254 → HaveOctets history → HasOctets r → Goes link (item_of settings link history r).entry.era (item_of settings link history r).frames
 frames_go_out rows known fresh laws settings link history r hops older octets = by (segment_after settings link history r) refl
   where
     read : Read
@@ -397,12 +402,14 @@ frames_go_out rows known fresh laws settings link history r hops older octets = 
     plain none None h undropped unheld = arp_goes settings link (past_of settings link history r) r h undropped unheld
     plain none (Some d) h undropped unheld = datagram_goes known fresh settings link history r hops older octets d h none undropped (named_rows settings link read r) refl
 
-    by : (segment : Option Datagram) → segment_after settings link history r ≡ segment → Goes link (item_of settings link history r).frames
+    by : (segment : Option Datagram) → segment_after settings link history r ≡ segment → Goes link (item_of settings link history r).entry.era (item_of settings link history r).frames
     by None h =
         let frames = plain_frames settings link read r h in
         let frame = frame_by settings (link_octets link r.octets) r.octets read.datagram (named_rows settings link read r) in
-        subst (Goes link) (sym frames) (record {
+        let nothing : era_by (option_map (outcome_of settings read) read.segment) ≡ None = ap (λ o. era_by (option_map (outcome_of settings read) o)) h in
+        subst (Goes link (item_of settings link history r).entry.era) (sym frames) (record {
           each = one_frame link (dropped_by settings link read r) (is_held read) frame (plain h read.datagram refl);
+          of_era = λ n e. let f = sym nothing ∙ e in absurd (cc);
           behind = no_more link (dropped_by settings link read r) (is_held read) frame;
         })
     by (Some d) h =
@@ -412,7 +419,9 @@ frames_go_out rows known fresh laws settings link history r hops older octets = 
         let calls = pieces_before settings link history r in
         let four = carries_of settings link calls r d (either_of settings link calls r d (both_of (is_segment settings) (datagram_after settings link history r) d h).0) in
         let packets = (outcome_at settings v d).packets in
-        subst (Goes link) (sym (segment_frames settings link read r d (rows settings link history r d h))) (record {
-          each = frames_go link r.octets packets long four (wholes settings d packets (laws.own settings v d hops s) (faultless laws settings v d s));
+        let go = frames_go link r.octets packets long four (wholes settings d packets (laws.own settings v d hops s) (faultless laws settings v d s)) in
+        subst (Goes link (item_of settings link history r).entry.era) (sym (segment_frames settings link read r d (rows settings link history r d h))) (record {
+          each = go_out link (frames_of (link_octets link r.octets) packets) go;
+          of_era = λ n e. go;
           behind = behind_frames link r.octets packets long (behind_first settings v d);
         })

@@ -1,5 +1,5 @@
 -- The frames that go out for a record, and how many rules its entry names (RFC 791 section 3.1, RFC 826, and this project's profile).
-use Rattle.std.specs.Prelude.{◌≡◌, ℕ, ◌≤◌, ◌⊎◌, List, length, drop, None}
+use Rattle.std.specs.Prelude.{◌≡◌, ℕ, ◌≤◌, ◌⊎◌, List, length, drop, Some, None}
 use Rattle.std.specs.List.{AllByRecursion}
 use Rattle.wire_base.specs.declared.address.Link.{Link}
 use Rattle.wire_base.specs.declared.frame.FrameKind.TheVariants.{Ip, Arp}
@@ -19,13 +19,19 @@ pub record IsWholePacket (packet : List ℕ) : Type 0 where
   pub header : IsPlainHeader packet
   pub segment : ip.protocol packet ≡ 6 → fault_of Skip 0 (ip.payload packet) ≡ None
 
+-- the frame carries such a packet
+abbrev pub CarriesWhole : Link → (frame : List ℕ) → Type 0
+CarriesWhole link frame = (at : ℕ) × (kind_of link frame ≡ Ip at) × IsWholePacket (packet_in link frame)
+
 -- the frame carries ARP, or such a packet
 abbrev pub GoesOut : Link → (frame : List ℕ) → Type 0
-GoesOut link frame = (kind_of link frame ≡ Arp) ⊎ ((at : ℕ) × (kind_of link frame ≡ Ip at) × IsWholePacket (packet_in link frame))
+GoesOut link frame = (kind_of link frame ≡ Arp) ⊎ CarriesWhole link frame
 
--- Each frame of the item goes out so; behind the first stands at most a probe, a packet of 40 octets; and the entry names at most 14 rules.
+-- Each frame of the item goes out so, and each of an era carries a packet; behind the first stands at most a probe, a packet of 40 octets; and the entry names
+-- at most 14 rules.
 pub record IsOutgoing (link : Link) (item : Item) : Type 0 where
   pub each : AllByRecursion (GoesOut link) item.frames
+  pub of_era : (era : ℕ) → item.entry.era ≡ Some era → AllByRecursion (CarriesWhole link) item.frames
   pub behind : AllByRecursion (λ frame. length (packet_in link frame) ≡ 40) (drop 1 item.frames)
   pub few : length item.entry.rules ≤ 14
 

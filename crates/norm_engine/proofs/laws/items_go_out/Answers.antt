@@ -14,4 +14,4 @@ returns c settings link history r hops older octets =
       mends = c.mended_say_the_same.ensures;
       own = c.packets_are_its_own.ensures;
     }) settings link history r hops older octets in
-    record { each = frames.each; behind = frames.behind; few = rules_are_few rows_are_of_eras settings link history r }
+    record { each = frames.each; of_era = frames.of_era; behind = frames.behind; few = rules_are_few rows_are_of_eras settings link history r }
