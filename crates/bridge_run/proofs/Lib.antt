@@ -8,3 +8,5 @@ pub mod Broken
 pub mod Rows
 pub mod Tallying
 pub mod Loading
+pub mod Cutting
+pub mod Writtens
