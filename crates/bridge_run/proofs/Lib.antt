@@ -10,3 +10,4 @@ pub mod Tallying
 pub mod Loading
 pub mod Cutting
 pub mod Writtens
+pub mod Relaying

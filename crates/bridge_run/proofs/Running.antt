@@ -1,7 +1,6 @@
 -- How a run goes on from record to record, and how it ends.
 use Rattle.std.proofs.Common.{◌≡◌, ℕ, ◌+◌, ◌<◌, ◌≤◌, List, [], ◌∷◌, ◌++◌, length, drop, Option, Some, None, Ok, Err, Result, IfErr, refl, sym, ap, ap₂, subst, ◌∙◌, arith, suc, append_assoc, append-nil}
 use Rattle.std.specs.Io.KnownBytes.{Appends}
-use Rattle.wire_base.specs.declared.address.Link.{Link}
 use Rattle.pcap_file.specs.declared.head.Head.{Head}
 use Rattle.pcap_file.specs.declared.order.Order.{Order}
 use Rattle.pcap_file.specs.Records.{Packet, front_of}
@@ -14,7 +13,7 @@ use Rattle.norm_settings.specs.Settings.{PlainSettings}
 use Rattle.norm_engine.specs.Items.{Item, packets, entries}
 use Rattle.norm_engine.specs.Trace.{item_of}
 use Rattle.norm_engine.specs.Clean.{HasOctets}
-use Rattle.norm_engine.specs.Laws.{IsCounted, IsSound, ItemsAreCounted, LawfulIsWithin, LawfulKeepsClean}
+use Rattle.norm_engine.specs.Laws.{IsSound, ItemsAreCounted, LawfulIsWithin, LawfulKeepsClean}
 use Rattle.norm_engine.specs.Outgoing.{IsOutgoing, ItemsGoOut}
 use Rattle.emit_mtu.specs.Laws.{CarryThePayload}
 use Rattle.emit_mtu.specs.Streams.{NothingLongGoesOut, PlainHeadersAreWhole}
@@ -27,6 +26,7 @@ use Rattle.bridge_run.specs.Outputs.{Given, BreaksOff, heading, outputs_of, item
 use Rattle.bridge_run.specs.Run.{Took, TookAll, TakenWhole, Going, Relayed, Ended, Normalized}
 use Rattle.bridge_run.specs.Stopped.{StopsAtEnd, StopsAtItem, StopsAtRecord}
 use Rattle.bridge_run.proofs.Outputs.{capture_part-append, report_part-append, given_after, broke_behind, capture_is, report_is}
+use Rattle.bridge_run.proofs.Relaying.{packets_written}
 use Rattle.bridge_run.proofs.Writtens.{InRange, StreamLaws, agree_as_written, clean_written, each_goes, none_long}
 
 pub length-packets : (trace : List Item) → length (packets trace) ≡ length trace
@@ -60,11 +60,6 @@ none_rose_after a b c p q = record {
   source = q.source ∙ p.source;
   sinks = record { capture = q.sinks.capture ∙ p.sinks.capture; report = q.sinks.report ∙ p.sinks.report };
 }
-
--- an entry as it is written counts the frames that are written
-packets_written : (mtu : Option ℕ) (link : Link) (item : Item) → IsCounted item → (item_written mtu link item).entry.packets ≡ length (item_written mtu link item).frames
-packets_written None link item counted = counted.packets
-packets_written (Some mtu) link item counted = refl
 
 -- an item as the engine has it, and as it is written
 item_is : (settings : PlainSettings) (head : Head) (engine : Engaged) (trace : List Item) (p : Packet) → engine.settings ≡ settings → engine.link ≡ head.link
