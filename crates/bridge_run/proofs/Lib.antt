@@ -8,3 +8,6 @@ pub mod Broken
 pub mod Rows
 pub mod Tallying
 pub mod Loading
+pub mod Cutting
+pub mod Writtens
+pub mod Relaying

@@ -20,6 +20,7 @@ use Rattle.norm_engine.specs.Items.{Item, packets}
 use Rattle.bridge_run.specs.declared.stop.Stop.{Stop}
 use Rattle.bridge_run.specs.declared.stop.Stop.TheVariants as stops
 use Rattle.bridge_run.specs.Frames.{frame_octets, frames_octets, item_octets, frame_count}
+use Rattle.bridge_run.specs.Cut.{item_written, written}
 use Rattle.bridge_run.specs.Moments.{Seen, Moment}
 use Rattle.bridge_run.specs.Outputs.{to_capture, to_report, capture_hands_on, report_hands_on, heading, first_outputs, outputs_of, capture_part, report_part}
 use Rattle.bridge_run.specs.Run.{Took, TakenWhole}
@@ -96,8 +97,9 @@ module _ (settings : PlainSettings) (b a n : Moment) where
     left = p.left;
     took = p.took;
     taken = subst (λ (s : Seen). InRecord p.head.order (length p.trace) p.left s.octets) (sym behind.source) p.found;
-    capture = capture_given p.head p.trace p.given.capture behind;
-    report = says (report_octets p.trace) (stop_of kind (offset_of (packets p.trace))) b.sinks.report a.sinks.report n.sinks.report (report_given p.head p.trace p.given.report) same
+    capture = capture_given p.head (written settings p.head.link p.trace) p.given.capture behind;
+    report = says (report_octets (written settings p.head.link p.trace)) (stop_of kind (offset_of (packets p.trace))) b.sinks.report a.sinks.report n.sinks.report
+        (report_given p.head (written settings p.head.link p.trace) p.given.report) same
         (subst (λ o. Told a.sinks.report.octets n.sinks.report.octets a.sinks.report.faults n.sinks.report.faults (stop_of kind o)) p.place told);
   }
 
@@ -128,22 +130,25 @@ module _ (settings : PlainSettings) (b a n : Moment) where
             (subst (λ o. Told a.sinks.report.octets n.sinks.report.octets a.sinks.report.faults n.sinks.report.faults (stop_of kinds.Capture o)) f.here told);
       })
   unwritten_row offset behind (inr (inr (inl p))) same told =
-      let f = capture_fails (outputs_of p.head p.older) (item_octets p.head.order p.item) (to_report (entry_text p.item.entry) ∷ []) tt (offset_of (packets p.older)) offset b.sinks a.sinks p.broke in
+      let older = written settings p.head.link p.older in
+      let out = item_written settings.mtu p.head.link p.item in
+      let f = capture_fails (outputs_of p.head older) (item_octets p.head.order out) (to_report (entry_text out.entry) ∷ []) tt (offset_of (packets p.older)) offset b.sinks a.sinks p.broke in
       inr (inl (record {
         head = p.head;
         item = p.item;
         older = p.older;
         lawful = p.lawful;
         took = subst (λ (s : Seen). Took b.source.octets s.octets p.head (p.item ∷ p.older)) (sym behind.source) p.took;
-        has_frame = framed p.head.order p.item f.some;
-        capture = subst (λ l. GivenUpTo l (item_octets p.head.order p.item) b.sinks.capture.octets n.sinks.capture.octets) (capture_is p.head p.older)
-            (subst (λ s. GivenUpTo (capture_part (outputs_of p.head p.older)) (item_octets p.head.order p.item) b.sinks.capture.octets s) (sym behind.capture) f.capture);
-        report = says (report_octets p.older) (stop_of kinds.Capture (offset_of (packets p.older))) b.sinks.report a.sinks.report n.sinks.report (report_given p.head p.older f.report) same
+        has_frame = framed p.head.order out f.some;
+        capture = subst (λ l. GivenUpTo l (item_octets p.head.order out) b.sinks.capture.octets n.sinks.capture.octets) (capture_is p.head older)
+            (subst (λ s. GivenUpTo (capture_part (outputs_of p.head older)) (item_octets p.head.order out) b.sinks.capture.octets s) (sym behind.capture) f.capture);
+        report = says (report_octets older) (stop_of kinds.Capture (offset_of (packets p.older))) b.sinks.report a.sinks.report n.sinks.report (report_given p.head older f.report) same
             (subst (λ o. Told a.sinks.report.octets n.sinks.report.octets a.sinks.report.faults n.sinks.report.faults (stop_of kinds.Capture o)) f.here told);
       }))
   unwritten_row offset behind (inr (inr (inr p))) same told =
-      let line = last_text (last.End (length p.trace) (frame_count p.trace)) in
-      let f = handing_fails (outputs_of p.head p.trace) (to_report line ∷ report_hands_on ∷ []) tt (offset_of (packets p.trace)) offset b.sinks a.sinks p.broke in
+      let out = written settings p.head.link p.trace in
+      let line = last_text (last.End (length p.trace) (frame_count out)) in
+      let f = handing_fails (outputs_of p.head out) (to_report line ∷ report_hands_on ∷ []) tt (offset_of (packets p.trace)) offset b.sinks a.sinks p.broke in
       inr (inr (record {
         head = p.head;
         trace = p.trace;
@@ -151,7 +156,7 @@ module _ (settings : PlainSettings) (b a n : Moment) where
         whole = p.whole;
         taken = subst (λ (s : Seen). TakenWhole b.source.octets s.octets) (sym behind.source) p.taken;
         untold = told_none b.sinks.capture.octets a.sinks.capture.octets _ p.broke.given.capture f.untold;
-        report = says (report_octets p.trace) (stop_of kinds.Capture (offset_of (packets p.trace))) b.sinks.report a.sinks.report n.sinks.report (report_given p.head p.trace f.report) same
+        report = says (report_octets out) (stop_of kinds.Capture (offset_of (packets p.trace))) b.sinks.report a.sinks.report n.sinks.report (report_given p.head out f.report) same
             (subst (λ o. Told a.sinks.report.octets n.sinks.report.octets a.sinks.report.faults n.sinks.report.faults (stop_of kinds.Capture o)) f.here told);
       }))
 
@@ -167,31 +172,34 @@ module _ (settings : PlainSettings) (b a n : Moment) where
       })
   untold_row behind (inr (inl p)) told = absurd (no_report first_outputs (head_octets p.head) 0 b.sinks a.sinks p.broke)
   untold_row behind (inr (inr (inl p))) told =
-      let octets = item_octets p.head.order p.item in
-      let line = entry_text p.item.entry in
-      let f = line_fails (outputs_of p.head p.older) [] (to_capture octets) octets line (offset_of (packets p.older)) b.sinks a.sinks (λ more. refl) (λ more. refl) refl nothing p.broke in
-      let all : capture_part (outputs_of p.head p.older) ++ octets ≡ capture_octets p.head (p.item ∷ p.older) =
-      ap (λ l. l ++ octets) (capture_is p.head p.older) ∙ append_assoc (head_octets p.head) (frames_octets p.head.order p.older) octets in
+      let older = written settings p.head.link p.older in
+      let out = item_written settings.mtu p.head.link p.item in
+      let octets = item_octets p.head.order out in
+      let line = entry_text out.entry in
+      let f = line_fails (outputs_of p.head older) [] (to_capture octets) octets line (offset_of (packets p.older)) b.sinks a.sinks (λ more. refl) (λ more. refl) refl nothing p.broke in
+      let all : capture_part (outputs_of p.head older) ++ octets ≡ capture_octets p.head (out ∷ older) =
+      ap (λ l. l ++ octets) (capture_is p.head older) ∙ append_assoc (head_octets p.head) (frames_octets p.head.order older) octets in
       inr (inl (record {
         head = p.head;
         item = p.item;
         older = p.older;
         lawful = p.lawful;
         took = subst (λ (s : Seen). Took b.source.octets s.octets p.head (p.item ∷ p.older)) (sym behind.source) p.took;
-        capture = subst (λ s. Appends b.sinks.capture.octets s (capture_octets p.head (p.item ∷ p.older))) (sym behind.capture) (subst (Appends b.sinks.capture.octets a.sinks.capture.octets) all f.0);
-        report = quiet (report_octets p.older) line b.sinks.report a.sinks.report n.sinks.report (subst (λ l. GivenUpTo l line b.sinks.report.octets a.sinks.report.octets) (report_is p.head p.older) f.1) told;
+        capture = subst (λ s. Appends b.sinks.capture.octets s (capture_octets p.head (out ∷ older))) (sym behind.capture) (subst (Appends b.sinks.capture.octets a.sinks.capture.octets) all f.0);
+        report = quiet (report_octets older) line b.sinks.report a.sinks.report n.sinks.report (subst (λ l. GivenUpTo l line b.sinks.report.octets a.sinks.report.octets) (report_is p.head older) f.1) told;
       }))
   untold_row behind (inr (inr (inr p))) told =
-      let line = last_text (last.End (length p.trace) (frame_count p.trace)) in
-      let f = line_fails (outputs_of p.head p.trace) (report_hands_on ∷ []) capture_hands_on [] line (offset_of (packets p.trace)) b.sinks a.sinks (λ more. refl) (λ more. refl) refl handing p.broke in
+      let out = written settings p.head.link p.trace in
+      let line = last_text (last.End (length p.trace) (frame_count out)) in
+      let f = line_fails (outputs_of p.head out) (report_hands_on ∷ []) capture_hands_on [] line (offset_of (packets p.trace)) b.sinks a.sinks (λ more. refl) (λ more. refl) refl handing p.broke in
       inr (inr (record {
         head = p.head;
         trace = p.trace;
         lawful = p.lawful;
         whole = p.whole;
         taken = subst (λ (s : Seen). TakenWhole b.source.octets s.octets) (sym behind.source) p.taken;
-        capture = capture_given p.head p.trace (subst (Appends b.sinks.capture.octets a.sinks.capture.octets) (append-nil (capture_part (outputs_of p.head p.trace))) f.0) behind;
-        report = quiet (report_octets p.trace) line b.sinks.report a.sinks.report n.sinks.report (subst (λ l. GivenUpTo l line b.sinks.report.octets a.sinks.report.octets) (report_is p.head p.trace) f.1) told;
+        capture = capture_given p.head out (subst (Appends b.sinks.capture.octets a.sinks.capture.octets) (append-nil (capture_part (outputs_of p.head out))) f.0) behind;
+        report = quiet (report_octets out) line b.sinks.report a.sinks.report n.sinks.report (subst (λ l. GivenUpTo l line b.sinks.report.octets a.sinks.report.octets) (report_is p.head out) f.1) told;
       }))
 
   -- the row of a status between the ends

@@ -1,5 +1,5 @@
 -- How a run goes on from record to record, and how it ends.
-use Rattle.std.proofs.Common.{◌≡◌, ℕ, ◌+◌, ◌≤◌, List, [], ◌∷◌, ◌++◌, length, drop, Option, Some, None, Ok, Err, Result, IfErr, refl, sym, ap, ap₂, subst, ◌∙◌, arith, suc, append_assoc, append-nil}
+use Rattle.std.proofs.Common.{◌≡◌, ℕ, ◌+◌, ◌<◌, ◌≤◌, List, [], ◌∷◌, ◌++◌, length, drop, Option, Some, None, Ok, Err, Result, IfErr, refl, sym, ap, ap₂, subst, ◌∙◌, arith, suc, append_assoc, append-nil}
 use Rattle.std.specs.Io.KnownBytes.{Appends}
 use Rattle.pcap_file.specs.declared.head.Head.{Head}
 use Rattle.pcap_file.specs.declared.order.Order.{Order}
@@ -13,15 +13,21 @@ use Rattle.norm_settings.specs.Settings.{PlainSettings}
 use Rattle.norm_engine.specs.Items.{Item, packets, entries}
 use Rattle.norm_engine.specs.Trace.{item_of}
 use Rattle.norm_engine.specs.Clean.{HasOctets}
-use Rattle.norm_engine.specs.Laws.{ItemsAreCounted, LawfulKeepsClean, LawfulIsWithin, LawfulAgrees, IsSound}
+use Rattle.norm_engine.specs.Laws.{IsSound, ItemsAreCounted, LawfulIsWithin, LawfulKeepsClean}
+use Rattle.norm_engine.specs.Outgoing.{IsOutgoing, ItemsGoOut}
+use Rattle.emit_mtu.specs.Laws.{CarryThePayload}
+use Rattle.emit_mtu.specs.Streams.{NothingLongGoesOut, PlainHeadersAreWhole}
 use Rattle.norm_engine.specs.Engine.{Engaged, StandsFor}
 use Rattle.bridge_run.specs.declared.stop.Stop.{Stop}
 use Rattle.bridge_run.specs.Frames.{frame_count}
+use Rattle.bridge_run.specs.Cut.{FramesHaveOctets, item_written, written}
 use Rattle.bridge_run.specs.Moments.{Moment, NoneRose}
 use Rattle.bridge_run.specs.Outputs.{Given, BreaksOff, heading, outputs_of, item_outputs, end_outputs}
 use Rattle.bridge_run.specs.Run.{Took, TookAll, TakenWhole, Going, Relayed, Ended, Normalized}
 use Rattle.bridge_run.specs.Stopped.{StopsAtEnd, StopsAtItem, StopsAtRecord}
 use Rattle.bridge_run.proofs.Outputs.{capture_part-append, report_part-append, given_after, broke_behind, capture_is, report_is}
+use Rattle.bridge_run.proofs.Relaying.{packets_written}
+use Rattle.bridge_run.proofs.Writtens.{InRange, StreamLaws, agree_as_written, clean_written, each_goes, none_long}
 
 pub length-packets : (trace : List Item) → length (packets trace) ≡ length trace
 length-packets [] = refl
@@ -55,29 +61,45 @@ none_rose_after a b c p q = record {
   sinks = record { capture = q.sinks.capture ∙ p.sinks.capture; report = q.sinks.report ∙ p.sinks.report };
 }
 
+-- an item as the engine has it, and as it is written
+item_is : (settings : PlainSettings) (head : Head) (engine : Engaged) (trace : List Item) (p : Packet) → engine.settings ≡ settings → engine.link ≡ head.link
+    → item_of engine.settings engine.link trace p ≡ item_of settings head.link trace p
+item_is settings head engine trace p s l = ap₂ (λ x y. item_of x y trace p) s l
+
+written_is : (settings : PlainSettings) (head : Head) (engine : Engaged) (trace : List Item) (p : Packet) → engine.settings ≡ settings → engine.link ≡ head.link
+    → item_written engine.settings.mtu engine.link (item_of engine.settings engine.link trace p) ≡ item_written settings.mtu head.link (item_of settings head.link trace p)
+written_is settings head engine trace p s l = ap₂ (λ (x : PlainSettings) y. item_written x.mtu y (item_of x y trace p)) s l
+
 -- The item of one more record was written, and the run goes on.
 pub goes_on : (settings : PlainSettings) (head : Head) (a b c : Moment) (engine engine' : Engaged) (reader reader' : Reading) (frames n : ℕ) (p : Packet)
     → ItemsAreCounted → Going settings head a b engine reader frames
     → Leaves reader.head.order reader.given b.source.octets c.source.octets p → Advances reader reader' (length p.octets) → reader'.head ≡ reader.head
     → c.source.faults ≡ b.source.faults
-    → ((history : List Item) → StandsFor engine history → Relayed head.order (item_of engine.settings engine.link history p) b.sinks c.sinks n)
+    → ((history : List Item) → StandsFor engine history → Relayed head.order (item_written engine.settings.mtu engine.link (item_of engine.settings engine.link history p)) b.sinks c.sinks n)
+    → ((history : List Item) → StandsFor engine history → FramesHaveOctets engine.settings.mtu (item_of engine.settings engine.link history p).frames) → n < 256
     → ((history : List Item) → StandsFor engine history → StandsFor engine' (item_of engine.settings engine.link history p ∷ history))
     → HasOctets p
     → engine'.settings ≡ engine.settings → engine'.link ≡ engine.link
     → Going settings head a c engine' reader' (frames + n)
-goes_on settings head a b c engine engine' reader reader' frames n p counts going left ahead same counted_so written stands octets settled linked =
+goes_on settings head a b c engine engine' reader reader' frames n p counts going left ahead same counted_so puts frame_octets short stands octets settled linked =
     let trace = going.trace in
     let item = item_of settings head.link trace p in
-    let is : item_of engine.settings engine.link trace p ≡ item = ap₂ (λ x y. item_of x y trace p) going.engine_settings going.engine_link in
-    let put : Relayed head.order item b.sinks c.sinks n = subst (λ (i : Item). Relayed head.order i b.sinks c.sinks n) is (written trace going.stands) in
+    let out = item_written settings.mtu head.link item in
+    let is : item_of engine.settings engine.link trace p ≡ item = item_is settings head engine trace p going.engine_settings going.engine_link in
+    let put : Relayed head.order out b.sinks c.sinks n =
+    subst (λ (i : Item). Relayed head.order i b.sinks c.sinks n) (written_is settings head engine trace p going.engine_settings going.engine_link) (puts trace going.stands) in
+    let each : FramesHaveOctets settings.mtu item.frames =
+    subst (λ (x : Item). FramesHaveOctets settings.mtu x.frames) is
+    (subst (λ (s : PlainSettings). FramesHaveOctets s.mtu (item_of engine.settings engine.link trace p).frames) going.engine_settings (frame_octets trace going.stands)) in
     let counted = counts settings head.link trace p in
     record {
       trace = item ∷ trace;
       so_far = record {
         lawful = (going.so_far.lawful, refl);
         octets = (going.so_far.octets, octets);
+        frames = (each, going.so_far.frames);
         took = took_more a.source.octets b.source.octets c.source.octets head trace item reader.head.order reader.given (ap (λ (h : Head). h.order) going.reader_head) going.given_is going.so_far.took left;
-        given = given_after (outputs_of head trace) (item_outputs head.order item) a.sinks b.sinks c.sinks going.so_far.given put.given;
+        given = given_after (outputs_of head (written settings head.link trace)) (item_outputs head.order out) a.sinks b.sinks c.sinks going.so_far.given put.given;
         none_rose = none_rose_after a b c going.so_far.none_rose (record { source = counted_so; sinks = put.none_rose });
       };
       stands = subst (λ (i : Item). StandsFor engine' (i ∷ trace)) is (stands trace going.stands);
@@ -86,20 +108,32 @@ goes_on settings head a b c engine engine' reader reader' frames n p counts goin
       reader_head = same ∙ going.reader_head;
       given_is = omega (arith, ahead.given, going.given_is);
       place_is = ahead.place ∙ ap (λ k. k + 16 + length p.octets) going.place_is ∙ omega arith;
-      frames_are = ap₂ (λ x y. x + y) going.frames_are (put.frames_are ∙ counted.packets);
-      few = let n_is : n ≡ length item.frames = put.frames_are ∙ counted.packets in omega (arith, going.few, ahead.given, n_is, counted.few);
+      frames_are = ap₂ (λ x y. x + y) going.frames_are (put.frames_are ∙ packets_written settings.mtu head.link item counted);
+      few = omega (arith, going.few, ahead.given, short);
     }
+
+-- the laws that the end of a run stands on
+pub record EndLaws : Type 0 where
+  pub keeps : LawfulKeepsClean
+  pub bounds : LawfulIsWithin
+  pub goes : ItemsGoOut
+  pub whole : PlainHeadersAreWhole
+  pub none : NothingLongGoesOut
+  pub carry : CarryThePayload
+  pub streams : StreamLaws
 
 -- the run is over: all was read, and the last line is written
 pub normalized : (settings : PlainSettings) (head : Head) (a b c : Moment) (engine : Engaged) (reader : Reading) (frames count : ℕ)
-    → LawfulKeepsClean → LawfulIsWithin → LawfulAgrees → settings.hops ≤ 254
+    → EndLaws → settings.hops ≤ 254 → InRange settings.mtu
     → Going settings head a b engine reader frames → HasEnd b.source.octets c.source.octets → count ≡ engine.records → Ended count frames b.sinks c.sinks
     → Normalized settings a.source.octets c.source.octets a.sinks.capture.octets c.sinks.capture.octets a.sinks.report.octets c.sinks.report.octets
-normalized settings head a b c engine reader frames count keeps bounds agrees hops going end counted ended =
+normalized settings head a b c engine reader frames count laws hops range going end counted ended =
     let trace = going.trace in
+    let out = written settings head.link trace in
     let sound : IsSound settings head.link trace = record { hops = hops; octets = going.so_far.octets; lawful = going.so_far.lawful } in
-    let all : Given (outputs_of head trace ++ end_outputs count frames) a.sinks c.sinks = given_after _ _ a.sinks b.sinks c.sinks going.so_far.given ended.given in
-    let line : last_text (End count frames) ++ [] ≡ last_text (End (length trace) (frame_count trace)) =
+    let each = each_goes laws.goes settings head.link trace sound in
+    let all : Given (outputs_of head out ++ end_outputs count frames) a.sinks c.sinks = given_after _ _ a.sinks b.sinks c.sinks going.so_far.given ended.given in
+    let line : last_text (End count frames) ++ [] ≡ last_text (End (length trace) (frame_count out)) =
     append-nil _ ∙ ap₂ (λ x y. last_text (End x y)) (counted ∙ going.stands.counted) going.frames_are in
     record {
       head = head;
@@ -108,12 +142,13 @@ normalized settings head a b c engine reader frames count keeps bounds agrees ho
       whole = took_all a.source.octets b.source.octets c.source.octets head trace going.so_far.took end;
       taken = taken_whole a.source.octets b.source.octets c.source.octets head trace going.so_far.took end;
       frames_written = subst (Appends a.sinks.capture.octets c.sinks.capture.octets)
-          (capture_part-append (outputs_of head trace) _ ∙ append-nil _ ∙ capture_is head trace) all.capture;
+          (capture_part-append (outputs_of head out) _ ∙ append-nil _ ∙ capture_is head out) all.capture;
       report_written = subst (Appends a.sinks.report.octets c.sinks.report.octets)
-          (report_part-append (outputs_of head trace) _ ∙ ap₂ (λ x y. x ++ y) (report_is head trace) line ∙ append_assoc heading (lines_text (entries trace)) (last_text (End (length trace) (frame_count trace)))) all.report;
-      clean_kept = keeps settings head.link trace sound;
-      within = bounds settings head.link trace sound;
-      agree = agrees settings head.link trace sound;
+          (report_part-append (outputs_of head out) _ ∙ ap₂ (λ x y. x ++ y) (report_is head out) line ∙ append_assoc heading (lines_text (entries out)) (last_text (End (length trace) (frame_count out)))) all.report;
+      clean_kept = clean_written laws.carry laws.whole settings head.link trace range each going.so_far.frames (laws.keeps settings head.link trace sound);
+      within = laws.bounds settings head.link trace sound;
+      agree = agree_as_written laws.streams settings head.link trace range sound each going.so_far.frames;
+      none_long = none_long laws.none laws.whole settings.mtu head.link trace range each going.so_far.frames;
     }
 
 -- the end could not be told
@@ -123,7 +158,8 @@ pub stops_at_end : (settings : PlainSettings) (head : Head) (a b c : Moment) (en
     → StopsAtEnd settings stop a c
 stops_at_end settings head a b c engine reader frames count offset stop going end counted place broke =
     let trace = going.trace in
-    let outputs : end_outputs count frames ≡ end_outputs (length trace) (frame_count trace) = ap₂ end_outputs (counted ∙ going.stands.counted) going.frames_are in
+    let out = written settings head.link trace in
+    let outputs : end_outputs count frames ≡ end_outputs (length trace) (frame_count out) = ap₂ end_outputs (counted ∙ going.stands.counted) going.frames_are in
     let stood : offset ≡ offset_of (packets trace) = place ∙ going.place_is in
     record {
       head = head;
@@ -131,8 +167,8 @@ stops_at_end settings head a b c engine reader frames count offset stop going en
       lawful = going.so_far.lawful;
       whole = took_all a.source.octets b.source.octets c.source.octets head trace going.so_far.took end;
       taken = taken_whole a.source.octets b.source.octets c.source.octets head trace going.so_far.took end;
-      broke = broke_behind (outputs_of head trace) _ _ stop a.sinks b.sinks c.sinks going.so_far.given
-          (subst (λ o. BreaksOff [] (end_outputs (length trace) (frame_count trace)) o stop b.sinks c.sinks) stood
+      broke = broke_behind (outputs_of head out) _ _ stop a.sinks b.sinks c.sinks going.so_far.given
+          (subst (λ o. BreaksOff [] (end_outputs (length trace) (frame_count out)) o stop b.sinks c.sinks) stood
           (subst (λ next. BreaksOff [] next offset stop b.sinks c.sinks) outputs broke));
     }
 
@@ -141,14 +177,16 @@ pub stops_at_item : (settings : PlainSettings) (head : Head) (a b c : Moment) (e
     → Going settings head a b engine reader frames
     → Leaves reader.head.order reader.given b.source.octets c.source.octets p
     → offset ≡ reader.place
-    → ((history : List Item) → StandsFor engine history → BreaksOff [] (item_outputs head.order (item_of engine.settings engine.link history p)) offset stop b.sinks c.sinks)
+    → ((history : List Item) → StandsFor engine history
+    → BreaksOff [] (item_outputs head.order (item_written engine.settings.mtu engine.link (item_of engine.settings engine.link history p))) offset stop b.sinks c.sinks)
     → StopsAtItem settings stop a c
-stops_at_item settings head a b c engine reader frames offset p stop going left place written =
+stops_at_item settings head a b c engine reader frames offset p stop going left place puts =
     let trace = going.trace in
     let item = item_of settings head.link trace p in
-    let is : item_of engine.settings engine.link trace p ≡ item = ap₂ (λ x y. item_of x y trace p) going.engine_settings going.engine_link in
-    let broke : BreaksOff [] (item_outputs head.order item) offset stop b.sinks c.sinks =
-    subst (λ (i : Item). BreaksOff [] (item_outputs head.order i) offset stop b.sinks c.sinks) is (written trace going.stands) in
+    let out = item_written settings.mtu head.link item in
+    let broke : BreaksOff [] (item_outputs head.order out) offset stop b.sinks c.sinks =
+    subst (λ (i : Item). BreaksOff [] (item_outputs head.order i) offset stop b.sinks c.sinks)
+    (written_is settings head engine trace p going.engine_settings going.engine_link) (puts trace going.stands) in
     let stood : offset ≡ offset_of (packets trace) = place ∙ going.place_is in
     record {
       head = head;
@@ -156,8 +194,8 @@ stops_at_item settings head a b c engine reader frames offset p stop going left 
       older = trace;
       lawful = (going.so_far.lawful, refl);
       took = took_more a.source.octets b.source.octets c.source.octets head trace item reader.head.order reader.given (ap (λ (h : Head). h.order) going.reader_head) going.given_is going.so_far.took left;
-      broke = broke_behind (outputs_of head trace) _ _ stop a.sinks b.sinks c.sinks going.so_far.given
-          (subst (λ o. BreaksOff [] (item_outputs head.order item) o stop b.sinks c.sinks) stood broke);
+      broke = broke_behind (outputs_of head (written settings head.link trace)) _ _ stop a.sinks b.sinks c.sinks going.so_far.given
+          (subst (λ o. BreaksOff [] (item_outputs head.order out) o stop b.sinks c.sinks) stood broke);
     }
 
 -- a record could not be read
@@ -176,7 +214,7 @@ stops_at_record settings head a b c engine reader reader' frames InRecord going 
   found = subst (λ k. InRecord head.order k b.source.octets c.source.octets) going.given_is
       (subst (λ (h : Head). InRecord h.order reader.given b.source.octets c.source.octets) going.reader_head found);
   place = place ∙ going.place_is;
-  given = subst (Given (outputs_of head going.trace) a.sinks) (sym same) going.so_far.given;
+  given = subst (Given (outputs_of head (written settings head.link going.trace)) a.sinks) (sym same) going.so_far.given;
 }
 
 -- what an error says, where it says something else

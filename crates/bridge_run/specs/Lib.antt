@@ -1,4 +1,5 @@
 pub mod Frames
+pub mod Cut
 pub mod Moments
 pub mod Outputs
 pub mod Stops

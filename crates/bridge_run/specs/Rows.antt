@@ -22,6 +22,7 @@ use Rattle.norm_settings.specs.Asked.{asked}
 use Rattle.norm_engine.specs.Items.{Item, packets, entries}
 use Rattle.norm_engine.specs.Trace.{Lawful}
 use Rattle.bridge_run.specs.Frames.{frames_octets, item_octets, frame_count}
+use Rattle.bridge_run.specs.Cut.{item_written, written}
 use Rattle.bridge_run.specs.Moments.{Seen, Moment}
 use Rattle.bridge_run.specs.Outputs.{heading}
 use Rattle.bridge_run.specs.Run.{Took, TookAll, TakenWhole, AsksRun}
@@ -29,11 +30,11 @@ use Rattle.bridge_run.specs.Stops.{is_cut, words_line}
 use Rattle.bridge_run.specs.Stopped.{Stopped, SaysOnly}
 use Rattle.bridge_run.specs.Summary.{Summed, SummedInPart, AsksLoad}
 
--- what the capture is given for a head and the items of a trace
+-- what the capture is given for a head and the items of a written trace
 abbrev pub capture_octets : Head → List Item → List ℕ
 capture_octets head trace = head_octets head ++ frames_octets head.order trace
 
--- what the report is given for the items of a trace: the first line, and a line each
+-- what the report is given for the items of a written trace: the first line, and a line each
 abbrev pub report_octets : List Item → List ℕ
 report_octets trace = heading ++ lines_text (entries trace)
 
@@ -74,8 +75,8 @@ pub record EndsAtRecord (settings : PlainSettings) (InRecord : Order → (count 
   pub left : Option (List ℕ)
   pub took : Took before.source.octets left head trace
   pub taken : InRecord head.order (length trace) left now.source.octets
-  pub capture : Appends before.sinks.capture.octets now.sinks.capture.octets (capture_octets head trace)
-  pub report : Says (report_octets trace) (stop_of kind (offset_of (packets trace))) before.sinks.report now.sinks.report
+  pub capture : Appends before.sinks.capture.octets now.sinks.capture.octets (capture_octets head (written settings head.link trace))
+  pub report : Says (report_octets (written settings head.link trace)) (stop_of kind (offset_of (packets trace))) before.sinks.report now.sinks.report
 
 -- A flaw of the capture: at most the octets of the head or record that has it were taken.
 abbrev pub EndsAtFlaw : PlainSettings → Flaw → (before now : Moment) → Type 0
@@ -114,9 +115,9 @@ pub record CaptureEndsInItem (settings : PlainSettings) (before now : Moment) : 
   pub older : List Item
   pub lawful : Lawful settings head.link (item ∷ older)
   pub took : Took before.source.octets now.source.octets head (item ∷ older)
-  pub has_frame : 0 < length item.frames
-  pub capture : GivenUpTo (capture_octets head older) (item_octets head.order item) before.sinks.capture.octets now.sinks.capture.octets
-  pub report : Says (report_octets older) (stop_of kinds.Capture (offset_of (packets older))) before.sinks.report now.sinks.report
+  pub has_frame : 0 < length (item_written settings.mtu head.link item).frames
+  pub capture : GivenUpTo (capture_octets head (written settings head.link older)) (item_octets head.order (item_written settings.mtu head.link item)) before.sinks.capture.octets now.sinks.capture.octets
+  pub report : Says (report_octets (written settings head.link older)) (stop_of kinds.Capture (offset_of (packets older))) before.sinks.report now.sinks.report
 
 -- Status 6, at the end: a capture that keeps octets back, and so tells none, could not hand them on. All was taken, and the report was given all lines of
 -- records, and the stop at the offset of the end.
@@ -127,7 +128,7 @@ pub record CaptureEndsBehind (settings : PlainSettings) (before now : Moment) : 
   pub whole : TookAll before.source.octets head trace
   pub taken : TakenWhole before.source.octets now.source.octets
   pub untold : before.sinks.capture.octets ≡ None
-  pub report : Says (report_octets trace) (stop_of kinds.Capture (offset_of (packets trace))) before.sinks.report now.sinks.report
+  pub report : Says (report_octets (written settings head.link trace)) (stop_of kinds.Capture (offset_of (packets trace))) before.sinks.report now.sinks.report
 
 abbrev pub EndsUnwritten : PlainSettings → (before now : Moment) → Type 0
 EndsUnwritten settings before now = CaptureEndsInHead before now ⊎ (CaptureEndsInItem settings before now ⊎ CaptureEndsBehind settings before now)
@@ -146,8 +147,8 @@ pub record ReportEndsInLine (settings : PlainSettings) (before now : Moment) : T
   pub older : List Item
   pub lawful : Lawful settings head.link (item ∷ older)
   pub took : Took before.source.octets now.source.octets head (item ∷ older)
-  pub capture : Appends before.sinks.capture.octets now.sinks.capture.octets (capture_octets head (item ∷ older))
-  pub report : GivenUpTo (report_octets older) (entry_text item.entry) before.sinks.report.octets now.sinks.report.octets
+  pub capture : Appends before.sinks.capture.octets now.sinks.capture.octets (capture_octets head (written settings head.link (item ∷ older)))
+  pub report : GivenUpTo (report_octets (written settings head.link older)) (entry_text (item_written settings.mtu head.link item).entry) before.sinks.report.octets now.sinks.report.octets
 
 -- Status 7, at the last line: all was taken, the capture was given all, the report all lines of records and a prefix of the last line.
 pub record ReportEndsInLast (settings : PlainSettings) (before now : Moment) : Type 0 where
@@ -156,8 +157,8 @@ pub record ReportEndsInLast (settings : PlainSettings) (before now : Moment) : T
   pub lawful : Lawful settings head.link trace
   pub whole : TookAll before.source.octets head trace
   pub taken : TakenWhole before.source.octets now.source.octets
-  pub capture : Appends before.sinks.capture.octets now.sinks.capture.octets (capture_octets head trace)
-  pub report : GivenUpTo (report_octets trace) (last_text (last.End (length trace) (frame_count trace))) before.sinks.report.octets now.sinks.report.octets
+  pub capture : Appends before.sinks.capture.octets now.sinks.capture.octets (capture_octets head (written settings head.link trace))
+  pub report : GivenUpTo (report_octets (written settings head.link trace)) (last_text (last.End (length trace) (frame_count (written settings head.link trace)))) before.sinks.report.octets now.sinks.report.octets
 
 abbrev pub EndsUntold : PlainSettings → (before now : Moment) → Type 0
 EndsUntold settings before now = ReportEndsInFirst before now ⊎ (ReportEndsInLine settings before now ⊎ ReportEndsInLast settings before now)

@@ -14,11 +14,11 @@ use Rattle.norm_settings.specs.Faults.{number_of}
 use Rattle.norm_settings.specs.Asked.{asked, PlainNames, run}
 use Rattle.norm_engine.specs.Items.{Item, packets, entries}
 use Rattle.norm_engine.specs.Trace.{Lawful}
-use Rattle.norm_engine.specs.Clean.{CleanIsKept, HaveOctets}
-use Rattle.norm_engine.specs.Agreement.{Agree}
+use Rattle.norm_engine.specs.Clean.{HaveOctets}
 use Rattle.norm_engine.specs.Laws.{IsAlwaysWithin}
 use Rattle.norm_engine.specs.Engine.{Engaged, StandsFor}
 use Rattle.bridge_run.specs.Frames.{frames_octets, frame_count}
+use Rattle.bridge_run.specs.Cut.{AgreeAsWritten, CleanIsWritten, HaveFrameOctets, NoneIsLong, written}
 use Rattle.bridge_run.specs.Moments.{Moment, Sinks, NoneRose, NoSinkRose}
 use Rattle.bridge_run.specs.Outputs.{Given, outputs_of, item_outputs, end_outputs}
 use Rattle.bridge_run.specs.Stops.{Told, words_line}
@@ -40,19 +40,20 @@ abbrev pub AsksRun : List (List ℕ) → PlainSettings → Type 0
 AsksRun words settings = (names : PlainNames) × (asked words ≡ Ok (run names settings))
 
 -- A capture was normalized: what the source had left is a capture, all of it was taken, and what was written is the frames and the report of its one
--- lawful trace under these settings; every clean packet has exactly one frame with its payload; after no record more is held than the settings allow; and in
--- each era all receivers agree.
+-- lawful trace under these settings, as it is written where a largest packet is given; every clean packet has exactly one frame with its payload, or is cut into
+-- segments that carry it; after no record more is held than the settings allow; in each era all receivers agree on what was written; and no frame is too long.
 pub record Normalized (settings : PlainSettings) (source source' capture capture' report report' : Option (List ℕ)) : Type 0 where
   pub head : Head
   pub trace : List Item
   pub lawful : Lawful settings head.link trace
   pub whole : TookAll source head trace
   pub taken : TakenWhole source source'
-  pub frames_written : Appends capture capture' (head_octets head ++ frames_octets head.order trace)
-  pub report_written : Appends report report' (report_text 2 (entries trace) (End (length trace) (frame_count trace)))
-  pub clean_kept : CleanIsKept settings head.link trace
+  pub frames_written : Appends capture capture' (head_octets head ++ frames_octets head.order (written settings head.link trace))
+  pub report_written : Appends report report' (report_text 2 (entries (written settings head.link trace)) (End (length trace) (frame_count (written settings head.link trace))))
+  pub clean_kept : CleanIsWritten settings head.link trace
   pub within : IsAlwaysWithin settings head.link trace
-  pub agree : Agree settings.hops head.link trace
+  pub agree : AgreeAsWritten settings head.link trace
+  pub none_long : NoneIsLong settings.mtu head.link (written settings head.link trace)
 
 -- A finished run over a capture: the words ask for a run, and under their settings the capture was normalized.
 pub record FinishedRun (words : List (List ℕ)) (source source' capture capture' report report' : Option (List ℕ)) : Type 0 where
@@ -90,12 +91,13 @@ Took None source' head trace = Unit {0}
 Took (Some octets) None head trace = ⊥
 Took (Some octets) (Some rest) head trace = (head_of octets ≡ Ok head) × ReadsTo head.order (drop 24 octets) (packets trace) rest
 
--- so far: a lawful trace of the records that were taken, whose frames and lines were written, and nothing failed
+-- so far: a lawful trace of the records that were taken, whose frames and lines were written as they go out, and nothing failed
 pub record SoFar (settings : PlainSettings) (head : Head) (before now : Moment) (trace : List Item) : Type 0 where
   pub lawful : Lawful settings head.link trace
   pub octets : HaveOctets trace
+  pub frames : HaveFrameOctets settings.mtu trace
   pub took : Took before.source.octets now.source.octets head trace
-  pub given : Given (outputs_of head trace) before.sinks now.sinks
+  pub given : Given (outputs_of head (written settings head.link trace)) before.sinks now.sinks
   pub none_rose : NoneRose before now
 
 -- the same of some trace, which the engine stands for, with the reader behind its records and so many frames written
@@ -108,8 +110,8 @@ pub record Going (settings : PlainSettings) (head : Head) (before now : Moment) 
   pub reader_head : reader.head ≡ head
   pub given_is : reader.given ≡ length trace
   pub place_is : reader.place ≡ offset_of (packets trace)
-  pub frames_are : frames ≡ frame_count trace
-  pub few : frames ≤ 2 * reader.given
+  pub frames_are : frames ≡ frame_count (written settings head.link trace)
+  pub few : frames ≤ 255 * reader.given
 
 -- The first line and the head were written, and the head was read.
 pub record Begun (head : Head) (before now : Moment) : Type 0 where

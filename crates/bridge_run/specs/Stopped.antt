@@ -19,6 +19,7 @@ use Rattle.norm_engine.specs.Trace.{Lawful}
 use Rattle.bridge_run.specs.declared.stop.Stop.{Stop}
 use Rattle.bridge_run.specs.declared.stop.Stop.TheVariants as stops
 use Rattle.bridge_run.specs.Frames.{frame_count}
+use Rattle.bridge_run.specs.Cut.{item_written, written}
 use Rattle.bridge_run.specs.Moments.{Moment, NoneRose}
 use Rattle.bridge_run.specs.Outputs.{BreaksOff, Given, first_outputs, head_outputs, item_outputs, outputs_of, end_outputs}
 use Rattle.bridge_run.specs.Run.{Took, TookAll, TakenWhole, Normalized, AsksRun}
@@ -41,7 +42,7 @@ pub record StopsAtRecord (settings : PlainSettings) (InRecord : Order → (count
   pub took : Took before.source.octets left head trace
   pub found : InRecord head.order (length trace) left now.source.octets
   pub place : offset ≡ offset_of (packets trace)
-  pub given : Given (outputs_of head trace) before.sinks now.sinks
+  pub given : Given (outputs_of head (written settings head.link trace)) before.sinks now.sinks
 
 -- This flaw is the first, and at most the octets of the head or of the record that has it were taken.
 abbrev pub Flawed : PlainSettings → Flaw → (offset : ℕ) → (before now : Moment) → Type 0
@@ -73,7 +74,7 @@ pub record StopsAtItem (settings : PlainSettings) (stop : Stop) (before now : Mo
   pub older : List Item
   pub lawful : Lawful settings head.link (item ∷ older)
   pub took : Took before.source.octets now.source.octets head (item ∷ older)
-  pub broke : BreaksOff (outputs_of head older) (item_outputs head.order item) (offset_of (packets older)) stop before.sinks now.sinks
+  pub broke : BreaksOff (outputs_of head (written settings head.link older)) (item_outputs head.order (item_written settings.mtu head.link item)) (offset_of (packets older)) stop before.sinks now.sinks
 
 -- The end could not be told. All was taken, and all that the records put out was given.
 pub record StopsAtEnd (settings : PlainSettings) (stop : Stop) (before now : Moment) : Type 0 where
@@ -82,7 +83,7 @@ pub record StopsAtEnd (settings : PlainSettings) (stop : Stop) (before now : Mom
   pub lawful : Lawful settings head.link trace
   pub whole : TookAll before.source.octets head trace
   pub taken : TakenWhole before.source.octets now.source.octets
-  pub broke : BreaksOff (outputs_of head trace) (end_outputs (length trace) (frame_count trace)) (offset_of (packets trace)) stop before.sinks now.sinks
+  pub broke : BreaksOff (outputs_of head (written settings head.link trace)) (end_outputs (length trace) (frame_count (written settings head.link trace))) (offset_of (packets trace)) stop before.sinks now.sinks
 
 -- A sink failed, and a prefix of what it was to be given was.
 abbrev pub Unwritten : PlainSettings → Stop → (before now : Moment) → Type 0

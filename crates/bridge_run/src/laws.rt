@@ -1,5 +1,6 @@
 //! What each status says, row by row: laws over what stands when a run has stopped.
 ghost use Rattle.std.specs.Prelude.{◌⊎◌};
+ghost use Rattle.bridge_run.specs.Cut.{WrittenWhole};
 ghost use Rattle.bridge_run.specs.Rows.{Leaves, UnderWords, UnderLoad, EndsSummed, EndsSummedInPart, EndsRefused, EndsFaulty, EndsCut, EndsUnread, EndsUnwritten, EndsUntold};
 ghost use Rattle.bridge_run.specs.Stopped.{Finishes, SaysOnly};
 ghost use Rattle.bridge_run.specs.Stops.{memory_line};
@@ -47,4 +48,9 @@ pub fn failed_reports_leave_a_prefix()
 /// At 8 the report was given `stop memory 0`, and nothing else happened.
 pub fn want_of_memory_leaves_a_line()
     ensures { Leaves 8 (λ words before now. SaysOnly memory_line before now) }
+{}
+
+/// Where no largest packet is given, what is written of a trace is the trace.
+pub fn unbounded_is_written_whole()
+    ensures { WrittenWhole }
 {}

@@ -1,6 +1,7 @@
 //! A capture is read, each of its records judged, and the normalized capture written with its report; or a load is judged and summed up.
 #![tactic(auto)]
 
+mod cut;
 pub mod laws;
 mod load;
 mod runner;

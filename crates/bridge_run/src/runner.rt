@@ -1,5 +1,5 @@
 //! The run over a whole capture.
-ghost use Rattle.std.specs.Prelude.{◌≡◌, ◌⊎◌, ◌≤◌, ◌<◌, ◌-◌, ◌^◌, List, ℕ, [], ◌∷◌, ◌++◌, length, map, slice_index, string_bytes, vec_len, IfOk, IfErr, OnOk, OnErr};
+ghost use Rattle.std.specs.Prelude.{◌≡◌, ◌⊎◌, ◌≤◌, ◌<◌, ◌-◌, ◌^◌, List, ℕ, [], ◌∷◌, ◌++◌, length, map, string_bytes, vec_len, IfOk, IfErr, OnOk, OnErr};
 ghost use Rattle.std.specs.Io.KnownBytes.{Appends};
 ghost use Rattle.edge_io.specs.Faults.{Rose, HasCause};
 ghost use Rattle.edge_io.specs.Octets.{Puts};
@@ -10,9 +10,9 @@ ghost use Rattle.rule_book.specs.declared.last.Last.TheVariants.{End};
 ghost use Rattle.norm_settings.specs.Settings.{PlainSettings, plain_settings, AreInRange, AreBuilt};
 ghost use Rattle.norm_engine.specs.Items.{Item};
 ghost use Rattle.norm_engine.specs.Trace.{item_of};
-ghost use Rattle.norm_engine.specs.Clean.{HasOctets};
+ghost use Rattle.norm_engine.specs.Clean.{HasOctets, HaveOctets};
 ghost use Rattle.norm_engine.specs.Engine.{StandsFor};
-ghost use Rattle.bridge_run.specs.Frames.{frame_octets};
+ghost use Rattle.bridge_run.specs.Cut.{FramesHaveOctets, item_written};
 ghost use Rattle.bridge_run.specs.Moments.{moment_of, sinks_of};
 ghost use Rattle.bridge_run.specs.Moments as moments;
 ghost use Rattle.bridge_run.specs.Outputs as outputs;
@@ -20,16 +20,24 @@ ghost use Rattle.bridge_run.specs.Stopped as stopped;
 ghost use Rattle.bridge_run.specs.Stops as stops;
 ghost use Rattle.bridge_run.specs.Run as spec;
 
+use crate::cut::{have_octets, write_item};
 use crate::load::run_load;
 use crate::stop::{
     Stop, stop_at_capture, stop_at_head, stop_at_record, tell_memory, tell_stop, tell_words,
 };
-use edge_io::{Failed, NoMemory, Outbox, Sink, Source};
+use edge_io::{Failed, MAX_FRAME, NoMemory, Outbox, Sink, Source};
+use emit_mtu::laws::{
+    cut_packets_tell_one_stream, plain_packets_go_out, segments_carry_the_payload, segments_fit,
+};
 use norm_engine::Engine;
-use norm_engine::laws::{items_are_counted, lawful_agrees, lawful_is_within, lawful_keeps_clean};
+use norm_engine::laws::{
+    items_are_counted, items_go_out, lawful_agrees, lawful_is_within, lawful_keeps_clean,
+    lawful_tells_streams,
+};
 use norm_settings::{Command, Settings, WordFault, read_words};
 use pcap_file::laws::{flaw_excludes_end, flaw_is_one};
-use pcap_file::{Head, MAX_CAPTURED, Reader, Record, read_head, write_head, write_record};
+use pcap_file::{Head, MAX_CAPTURED, Reader, Record, read_head, write_head};
+use receiver_model::laws::members_agree;
 use rule_book::{Entry, Last, entry_line, last_line};
 use std::alloc::Global;
 
@@ -124,7 +132,8 @@ pub fn run<S: Source, K: Sink, R: Sink>(
 }
 
 /// Normalizes a capture under these settings, writes the report, and answers the status as `run` does; 2 is none of them.
-/// They ask for nothing that is not built. The memory of the run is taken first: the buffer of one record, the outbox and the engine.
+/// They ask for nothing that is not built. The memory of the run is taken first: the buffer of one record, that of one
+/// segment of a frame that is cut, the outbox and the engine.
 pub fn run_capture<S: Source, K: Sink, R: Sink>(
     alloc: Global,
     settings: &Settings,
@@ -172,7 +181,9 @@ pub fn run_capture<S: Source, K: Sink, R: Sink>(
     };
     let Err(stop) = normalize(
         &mut room.engine,
+        settings.mtu,
         &mut room.buffer,
+        &mut room.segment,
         &mut room.out,
         source,
         capture,
@@ -189,23 +200,28 @@ pub fn run_capture<S: Source, K: Sink, R: Sink>(
 struct Room {
     /// The octets of one record.
     buffer: Vec<u8>,
+    /// The octets of one segment of a frame that is cut.
+    segment: Vec<u8>,
     /// The frames of one record.
     out: Outbox,
     engine: Engine,
 }
 
-// Takes the memory of a run: the buffer of one record, the outbox and the engine.
+// Takes the memory of a run: the buffers of one record and of one segment, the outbox and the engine.
 fn take_room(alloc: Global, settings: &Settings) -> Result<Room, NoMemory>
     requires { AreInRange (plain_settings settings.now) }
     ensures buffer { IfOk result (λ room. vec_len room.buffer ≡ 262144) }
+    ensures segment { IfOk result (λ room. vec_len room.segment ≡ 65549) }
     ensures stands { IfOk result (λ room. StandsFor room.engine []) }
     ensures settings { IfOk result (λ room. room.engine.settings ≡ plain_settings settings.now) }
 {
     let buffer = vec![in alloc; 0u8; MAX_CAPTURED as usize]?;
+    let segment = vec![in alloc; 0u8; MAX_FRAME]?;
     let out = Outbox::open(alloc)?;
     let engine = Engine::open(alloc, settings.copied())?;
     Ok(Room {
         buffer,
+        segment,
         out,
         engine,
     })
@@ -214,15 +230,19 @@ fn take_room(alloc: Global, settings: &Settings) -> Result<Room, NoMemory>
 // Judges every record of the capture, writes what goes out and the report, and hands on what the sinks keep back.
 fn normalize<S: Source, K: Sink, R: Sink>(
     engine: &mut Engine,
+    mtu: Option<u16>,
     buffer: &mut [u8],
+    segment: &mut [u8],
     out: &mut Outbox,
     source: &mut S,
     capture: &mut K,
     report: &mut R,
 ) -> Result<(), Stop>
     requires stands { StandsFor engine.old [] }
-    requires hops { engine.old.settings.hops ≤ 254 }
+    requires range { AreInRange engine.old.settings }
+    requires mtu { engine.old.settings.mtu ≡ mtu }
     requires room { 262144 ≤ length buffer.old }
+    requires segment { 65549 ≤ length segment.old }
     ensures finished { OnOk result (spec.Normalized engine.old.settings
         (S.left source.old) (S.left source.new) (K.held capture.old) (K.held capture.new)
         (R.held report.old) (R.held report.new)) }
@@ -246,9 +266,16 @@ fn normalize<S: Source, K: Sink, R: Sink>(
     ensures report_later { R.fault_count report.old ≤ R.fault_count report.new }
 {
     items_are_counted();
+    items_go_out();
     lawful_keeps_clean();
     lawful_is_within();
     lawful_agrees();
+    lawful_tells_streams();
+    segments_fit();
+    segments_carry_the_payload();
+    plain_packets_go_out();
+    cut_packets_tell_one_stream();
+    members_agree();
     let head = begin(source, capture, report)?;
     engine.set_link(head.link);
     let mut reader = Reader::new(head);
@@ -259,7 +286,7 @@ fn normalize<S: Source, K: Sink, R: Sink>(
             Ok(None) => break,
             Err(fault) => return Err(stop_at_record(fault, reader.offset())),
         };
-        frames += relay(engine, out, &head, &record, capture, report)?;
+        frames += relay(engine, out, &head, mtu, &record, segment, capture, report)?;
     }
     finish(engine.records(), frames, reader.offset(), capture, report)
 }
@@ -302,25 +329,32 @@ fn begin<S: Source, K: Sink, R: Sink>(
     Ok(head)
 }
 
-// Judges one record, writes its frames and its line, and answers how many frames it wrote.
+// Judges one record, writes its frames as they go out and its line, and answers how many frames it wrote.
 fn relay<K: Sink, R: Sink>(
     engine: &mut Engine,
     out: &mut Outbox,
     head: &Head,
+    mtu: Option<u16>,
     input: &Record<'_>,
+    segment: &mut [u8],
     capture: &mut K,
     report: &mut R,
 ) -> Result<u64, Stop>
     requires few { engine.old.records < 2 ^ 32 - 1 }
-    requires stood { (history : List Item) × StandsFor engine.old history }
+    requires stood { (history : List Item) × StandsFor engine.old history × HaveOctets history }
+    requires range { AreInRange engine.old.settings }
+    requires link { engine.old.link ≡ head.now.link }
+    requires mtu { engine.old.settings.mtu ≡ mtu }
+    requires room { 65549 ≤ length segment.old }
     ensures relayed { (history : List Item) → StandsFor engine.old history →
         IfOk result (λ frames. spec.Relayed head.now.order
-        (item_of engine.old.settings engine.old.link history (shown input.now))
+        (item_written engine.old.settings.mtu engine.old.link (item_of engine.old.settings engine.old.link history (shown input.now)))
         (sinks_of (K.held capture.old) (K.fault_count capture.old) (R.held report.old) (R.fault_count report.old))
         (sinks_of (K.held capture.new) (K.fault_count capture.new) (R.held report.new) (R.fault_count report.new)) frames) }
     ensures broke { (history : List Item) → StandsFor engine.old history →
         IfErr result (λ stop. outputs.BreaksOff []
-        (outputs.item_outputs head.now.order (item_of engine.old.settings engine.old.link history (shown input.now)))
+        (outputs.item_outputs head.now.order
+        (item_written engine.old.settings.mtu engine.old.link (item_of engine.old.settings engine.old.link history (shown input.now))))
         input.now.offset stop
         (sinks_of (K.held capture.old) (K.fault_count capture.old) (R.held report.old) (R.fault_count report.old))
         (sinks_of (K.held capture.new) (K.fault_count capture.new) (R.held report.new) (R.fault_count report.new))) }
@@ -330,6 +364,9 @@ fn relay<K: Sink, R: Sink>(
     ensures stands { (history : List Item) → StandsFor engine.old history →
         StandsFor engine.new (item_of engine.old.settings engine.old.link history (shown input.now) ∷ history) }
     ensures octets { HasOctets (shown input.now) }
+    ensures frames { (history : List Item) → StandsFor engine.old history →
+        OnOk result (FramesHaveOctets engine.old.settings.mtu (item_of engine.old.settings engine.old.link history (shown input.now)).frames) }
+    ensures room { length segment.new ≡ length segment.old }
     ensures settings { engine.new.settings ≡ engine.old.settings }
     ensures link { engine.new.link ≡ engine.old.link }
     ensures short { IfOk result (λ frames. frames < 256) }
@@ -337,43 +374,18 @@ fn relay<K: Sink, R: Sink>(
     ensures report_later { R.fault_count report.old ≤ R.fault_count report.new }
 {
     items_are_counted();
+    items_go_out();
+    segments_fit();
+    plain_packets_go_out();
     have_octets(input.bytes);
-    let entry = engine.step(input, out);
-    if write_frames(out, head, input, capture).is_err() {
+    let mut entry = engine.step(input, out);
+    if write_item(out, head, mtu, input, segment, capture, &mut entry).is_err() {
         return Err(stop_at_capture(input.offset));
     }
     if write_line(&entry, report).is_err() {
         return Err(Stop::Report);
     }
     Ok(u64::from(entry.packets))
-}
-
-// What stands in a buffer of octets is below 256.
-fn have_octets(bytes: &[u8])
-    ensures { (at : ℕ) → slice_index bytes.now at < 256 }
-{
-    let _octets = bytes;
-}
-
-// Writes the frames of a record, each with the record's time.
-fn write_frames<K: Sink>(
-    out: &Outbox,
-    head: &Head,
-    input: &Record<'_>,
-    capture: &mut K,
-) -> Result<(), Failed>
-    ensures octets { Puts (K.held capture.old) (K.held capture.new) result
-        (frame_octets head.now.order (shown input.now) out.now) }
-    ensures cause { HasCause (K.fault_count capture.old) (K.fault_count capture.new) result }
-    ensures some { OnErr result (0 < length out.now) }
-{
-    for index in 0..out.frames() {
-        let frame = out.frame(index);
-        if write_record(capture, head, input.seconds, input.fraction, frame).is_err() {
-            return Err(Failed);
-        }
-    }
-    Ok(())
 }
 
 // Writes the line of an entry.

@@ -124,7 +124,7 @@ short_frame settings link r kept small none =
     let end = ltb-false (ip.total_length p) (length p) (no_trailer settings link r kept none) in
     frame_is_short link r.octets (omega (arith, end))
 
-filter_shorter : {A : Type 0} (test : A → Bool) (xs : List A) → length (filter test xs) ≤ length xs
+pub filter_shorter : {A : Type 0} (test : A → Bool) (xs : List A) → length (filter test xs) ≤ length xs
 filter_shorter test [] = omega arith
 filter_shorter test (x ∷ xs) = by (test x) (filter_shorter test xs)
   where

@@ -12,3 +12,5 @@ pub mod Keeping
 pub mod Rooms
 pub mod Stepped
 pub mod Certain
+pub mod Outgoing
+pub mod Naming

@@ -9,3 +9,4 @@ pub mod Agreement
 pub mod Laws
 pub mod Engine
 pub mod Certain
+pub mod Outgoing

@@ -1,11 +1,12 @@
 //! Laws of lawful traces.
 ghost use Rattle.norm_engine.specs.Certain.{ItemsAreCertain, LawfulIsEmitted};
 ghost use Rattle.norm_engine.specs.Laws.{ItemsAreCounted, LawfulAgrees, LawfulCallsAreMade, LawfulIsOne, LawfulIsWithin, LawfulKeepsClean, LawfulLeavesRoom, LawfulTellsStreams};
+ghost use Rattle.norm_engine.specs.Outgoing.{ItemsGoOut};
 
 use era_agreement::laws::{emitted_agrees, emitted_tells_one_stream};
 use ip_rules::laws::{anew_is_packet, datagrams_are_known};
 use reassembly::laws::answered_is_within;
-use tcp_codec::laws::mended_say_the_same;
+use tcp_codec::laws::{mended_say_the_same, options_are_cleaned, segments_are_read_back};
 use tcp_norm::laws::{
     calls_are_emitted, clean_keeps_payload, flows_are_bounded, held_is_bounded,
     packets_are_its_own, packets_are_plain, probes_are_silent, quota_leaves_room,
@@ -106,4 +107,17 @@ pub fn lawful_is_emitted()
     probes_are_silent();
     calls_are_emitted();
     lawful_calls_are_made();
+}
+
+/// Each frame that goes out carries ARP, or a whole datagram with a header of its 20 octets, whose segment, where it is TCP, has no fault but of its sum.
+/// Behind the first stands at most a probe, and an entry names at most 14 rules.
+pub fn items_go_out()
+    ensures { ItemsGoOut }
+{
+    datagrams_are_known();
+    anew_is_packet();
+    packets_are_its_own();
+    segments_are_read_back();
+    options_are_cleaned();
+    mended_say_the_same();
 }

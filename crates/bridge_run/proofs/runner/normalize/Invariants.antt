@@ -7,6 +7,7 @@ abbrev pub invariant-records : goal.invariant-records
 invariant-records g l = record {
   may_ask : l.reader.is_open ≡ true;
   room : 262144 ≤ length l.buffer;
+  segment : 65549 ≤ length l.segment;
   going : Going l.fn.engine.settings l.head
       (moment_of (g.S.Source.left l.fn.source) (g.S.Source.fault_count l.fn.source) (g.K.Sink.held l.fn.capture) (g.K.Sink.fault_count l.fn.capture) (g.R.Sink.held l.fn.report) (g.R.Sink.fault_count l.fn.report))
       (moment_of (g.S.Source.left l.source) (g.S.Source.fault_count l.source) (g.K.Sink.held l.capture) (g.K.Sink.fault_count l.capture) (g.R.Sink.held l.report) (g.R.Sink.fault_count l.report))

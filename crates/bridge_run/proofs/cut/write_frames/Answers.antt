@@ -1,7 +1,7 @@
 use Rattle.pcap_file.specs.Reads.{shown}
 use Rattle.bridge_run.proofs.Outputs.{part_of}
 use Rattle.bridge_run.proofs.Writing.{part_of_frames}
-use Rattle.bridge_run.proofs.runner.write_frames.Goals as goal
+use Rattle.bridge_run.proofs.cut.write_frames.Goals as goal
 
 pub returns-then-is_err-clause-octets : goal.returns-then-is_err-clause-octets
 returns-then-is_err-clause-octets g c =

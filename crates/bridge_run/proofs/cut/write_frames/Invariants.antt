@@ -2,7 +2,7 @@ use Rattle.std.proofs.Common.{◌≡◌, take}
 use Rattle.std.specs.Io.KnownBytes.{Appends}
 use Rattle.pcap_file.specs.Reads.{shown}
 use Rattle.bridge_run.specs.Frames.{frame_octets}
-use Rattle.bridge_run.proofs.runner.write_frames.Given as goal
+use Rattle.bridge_run.proofs.cut.write_frames.Given as goal
 
 abbrev pub invariant-loop-index : goal.invariant-loop-index
 invariant-loop-index g l = record {
