@@ -10,7 +10,9 @@ use arrayvec::ArrayVec;
 use ipv4_codec::{Ipv4, write_plain};
 use std::test::Fail;
 use tcp_codec::{SegmentParts, SumRule, write_segment};
-use wire_base::{Addr, Flags, FrameKind, Link, frame_kind, packet_in, pseudo_sum, sum_right, u16_at, u32_at};
+use wire_base::{
+    Addr, Flags, FrameKind, Link, frame_kind, packet_in, pseudo_sum, sum_right, u16_at, u32_at,
+};
 
 // An Ethernet header before IPv4, from 02:00:00:00:00:01 to 02:00:00:00:00:02 (RFC 894).
 const ETHERNET: [u8; 14] = [2, 0, 0, 0, 0, 2, 2, 0, 0, 0, 0, 1, 0x08, 0x00];
