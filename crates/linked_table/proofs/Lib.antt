@@ -17,3 +17,4 @@ pub mod Puts
 pub mod Opens
 pub mod Searches
 pub mod Scans
+pub mod Listings

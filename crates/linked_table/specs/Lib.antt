@@ -1,3 +1,5 @@
 pub mod Table
 pub mod Rings
 pub mod Sound
+pub mod Listing
+pub mod Hashes

@@ -62,8 +62,8 @@ fn empty_slots<K, V>(alloc: Global, count: u32) -> Result<Vec<Option<(K, V)>>, N
     Ok(pairs)
 }
 
-// The nodes of so many free slots, with the hubs of the entries and of the free slots.
-fn free_ring(alloc: Global, count: u32) -> Result<Rings, NoMemory>
+/// The nodes of so many free slots, with the hubs of the slots that are in use and of those that are free.
+pub(crate) fn free_ring(alloc: Global, count: u32) -> Result<Rings, NoMemory>
     ensures { IfOk result (λ recency. IsAllFree recency count) }
 {
     let slots = count as usize;

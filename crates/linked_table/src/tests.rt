@@ -2,7 +2,7 @@
 ghost use Rattle.std.specs.Prelude.{◌+◌, ◌*◌, ◌<◌, ◌^◌, ◌%◌, length, IfSome};
 ghost use Rattle.std.proofs.Common.{rules};
 
-use crate::{Key, LinkedTable, Slot};
+use crate::{Key, LinkedTable, Slot, SlotList, hash_words};
 use std::process::Abort;
 use std::test::Fail;
 
@@ -138,5 +138,31 @@ fn a_pattern_of_calls_is_the_same_on_a_list(rt: HostRuntime) -> Result<(), Fail>
             compare(&rt, &table, list.as_slice(), step);
         }
     }
+    Ok(())
+}
+
+#[test]
+fn a_hash_is_of_the_seed_and_both_words(rt: HostRuntime) {
+    // SipHash-1-3 with both keys 0, over the octets of the three words, the lowest of each first, as Rust's hasher gives it.
+    assert_eq!(rt; hash_words(0, 0, 0), 0xf900_3207_cf9e_4d4c);
+    assert_eq!(rt; hash_words(7, 1, 2), 0xddbd_aa13_5600_06cd);
+}
+
+#[test]
+fn slots_are_listed_in_the_order_of_their_last_putting(rt: HostRuntime) -> Result<(), Fail> {
+    let mut list = SlotList::open(rt.alloc(), 5)?;
+    assert_eq!(rt; list.first(), None);
+    for slot in [3, 0, 4, 2] {
+        list.put_last(Slot(slot));
+    }
+    assert_eq!(rt; list.first(), Some(Slot(3)));
+    list.put_last(Slot(3));
+    list.take_out(Slot(4));
+    list.take_out(Slot(1));
+    for slot in [0, 2, 3] {
+        assert_eq!(rt; list.first(), Some(Slot(slot)));
+        list.take_out(Slot(slot));
+    }
+    assert_eq!(rt; list.first(), None);
     Ok(())
 }

@@ -1,9 +1,9 @@
 //! What tells the pieces of one datagram from those of others.
 ghost use Rattle.std.specs.Prelude.{◌≡◌, ◌+◌, ◌*◌, ◌<◌, ◌^◌, ℕ, true};
 ghost use Rattle.std.proofs.Common.{rules};
-ghost use Rattle.reassembly.specs.Keys.{hash_of, mixed};
+ghost use Rattle.reassembly.specs.Keys.{hash_of};
 
-use linked_table::Key;
+use linked_table::{Key, hash_words};
 use wire_base::Addr;
 
 /// What the pieces of one datagram have in common (RFC 791 section 3.2).
@@ -22,13 +22,6 @@ fn joined(address: Addr, number: u16) -> u64
     u64::from(address.0) * 65_536 + u64::from(number)
 }
 
-// A number whose bits are spread.
-fn mixed(number: u64) -> u64
-    ensures { result ≡ mixed number }
-{
-    number.wrapping_mul(11_400_714_819_323_198_485)
-}
-
 impl Key for DatagramId {
     ghost hash_of = { λ id seed. hash_of id seed };
 
@@ -36,7 +29,7 @@ impl Key for DatagramId {
         let id = *self;
         let from = joined(id.src, id.ident);
         let to = joined(id.dst, u16::from(id.protocol));
-        mixed(mixed(from.wrapping_add(seed)).wrapping_add(to)) / 65_536
+        hash_words(seed, from, to)
     }
 
     ghost equal_is_same = { λ a b e. Prim.search rules };

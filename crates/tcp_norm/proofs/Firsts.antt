@@ -1,8 +1,6 @@
 -- The least recently touched era that holds nothing, as the table finds it.
-use Rattle.std.proofs.Common.{◌≡◌, ◌≢◌, ℕ, ◌==◌, Bool, true, false, cond, List, [], ◌∷◌, ◌++◌, length, map, filter, Option, Some, None, refl, sym, ap, subst, ◌∙◌}
+use Rattle.std.proofs.Common.{◌≡◌, ◌≢◌, ℕ, ◌==◌, Bool, true, false, cond, List, [], ◌∷◌, ◌++◌, length, map, filter, Option, Some, None, refl, sym, ap, subst, ◌∙◌, suc, arith}
 use Rattle.std.specs.Prelude.{IfSome, IfNone}
-use Rattle.std.specs.Fn.{Shared}
-use Rattle.std.specs.Borrow.{Bor}
 use Rattle.std.specs.List.{AllByRecursion, All, AllPairs}
 use Rattle.std.proofs.lemmas.List.Elements.{recursion_from_All, All-from_recursion}
 use Rattle.linked_table.specs.declared.table.Slot.{Slot}
@@ -10,7 +8,8 @@ use Rattle.wire_base.specs.Segments.{Written}
 use Rattle.rule_book.specs.declared.entry.Ended.{Ended}
 use Rattle.rule_book.specs.declared.entry.Reason.TheVariants as reasons
 use Rattle.era_state.specs.Quantities.{octets_of}
-use Rattle.linked_table.specs.Table.{Entry, Wherever, Answers, PassesFirst}
+use Rattle.linked_table.specs.Listing.{first_of}
+use Rattle.linked_table.specs.Table.{Entry, IsIn, Wherever}
 use Rattle.retain_store.specs.Maps.{Store, chain_of}
 use Rattle.tcp_norm.specs.declared.flow.Flow.{Flow}
 use Rattle.tcp_norm.specs.declared.key.EraKey.{EraKey}
@@ -18,6 +17,7 @@ use Rattle.tcp_norm.specs.Calls.{Alive}
 use Rattle.tcp_norm.specs.Held.{held_of}
 use Rattle.tcp_norm.specs.Views.{head_of}
 use Rattle.tcp_norm.specs.Steps.{evicted_of, first_empty}
+use Rattle.tcp_norm.specs.Spare.{spares}
 use Rattle.tcp_norm.specs.Standing.{HoldsFor, EntryStands, Pairwise, alive_in}
 use Rattle.tcp_norm.proofs.Splits.{all_weaker, all_join, pairwise, pairs_before, pairs_after}
 
@@ -67,20 +67,65 @@ pub first_none : (lives : List Alive) (segments : ℕ → List Written) (begun :
 first_none lives segments begun entries store h none =
     ap (λ l. evicted_of segments (head_of l)) (ap (filter (λ (a : Alive). held_of (segments a.number) == 0)) (sym h.eras_are) ∙ none_found segments store entries h.each none)
 
--- the test answers whether the chain is empty
-abbrev pub Tests : {F : Type 0} (calls : Shared F (Slot × (Bor Flow × Unit {0})) Bool) (test : F) → Store → Type 0
-Tests calls test store = (e : Entry EraKey Flow) (b : Bool) → Answers calls test e b → b ≡ IsEmpty store e
+-- the first of the listed slots: of the entry that holds nothing, behind those that hold something
+pub record IsFirstSpare (store : Store) (entries : List (Entry EraKey Flow)) (slot : Slot) : Type 0 where
+  pub before : List (Entry EraKey Flow)
+  pub entry : Entry EraKey Flow
+  pub after : List (Entry EraKey Flow)
+  pub splits : entries ≡ before ++ entry ∷ after
+  pub named : entry.slot ≡ slot
+  pub passes : IsEmpty store entry ≡ true
+  pub earlier : AllByRecursion (λ (e : Entry EraKey Flow). IsEmpty store e ≡ false) before
+  pub inside : IsIn entries slot
 
-pub empty_some : {F : Type 0} (calls : Shared F (Slot × (Bor Flow × Unit {0})) Bool) (test : F) (store : Store) (entries : List (Entry EraKey Flow)) (r : Option Slot)
-    → AllPairs (λ e f. e.slot ≢ f.slot) entries → IfSome r (PassesFirst calls test entries) → Tests calls test store
+-- where none is listed all hold something
+abbrev pub Finds : Store → List (Entry EraKey Flow) → Option Slot → Type 0
+Finds store entries None = AllByRecursion (λ (e : Entry EraKey Flow). IsEmpty store e ≡ false) entries
+Finds store entries (Some slot) = IsFirstSpare store entries slot
+
+finds_later : (store : Store) (e : Entry EraKey Flow) (es : List (Entry EraKey Flow)) (r : Option Slot) → IsEmpty store e ≡ false → Finds store es r → Finds store (e ∷ es) r
+finds_later store e es None none all = (none, all)
+finds_later store e es (Some slot) none first = record {
+  before = e ∷ first.before;
+  entry = first.entry;
+  after = first.after;
+  splits = ap (λ l. e ∷ l) first.splits;
+  named = first.named;
+  passes = first.passes;
+  earlier = (none, first.earlier);
+  inside = later first.inside;
+}
+  where
+    later : IsIn es slot → IsIn (e ∷ es) slot
+    later (k, x, below, reads, is) = (suc k, x, omega (arith, below), reads, is)
+
+found_first : (store : Store) (e : Entry EraKey Flow) (es : List (Entry EraKey Flow)) → IsEmpty store e ≡ true → IsFirstSpare store (e ∷ es) e.slot
+found_first store e es is = record { before = []; entry = e; after = es; splits = refl; named = refl; passes = is; earlier = tt; inside = (0, e, omega arith, refl, refl) }
+
+finds_by : (store : Store) (e : Entry EraKey Flow) (es : List (Entry EraKey Flow)) (b : Bool) → IsEmpty store e ≡ b → Finds store es (first_of (spares store es)) → Finds store (e ∷ es) (first_of (spares store (e ∷ es)))
+finds_by store e es true is rest = rw is (found_first store e es is)
+finds_by store e es false is rest = rw is (finds_later store e es (first_of (spares store es)) is rest)
+
+pub spare_finds : (store : Store) (entries : List (Entry EraKey Flow)) → Finds store entries (first_of (spares store entries))
+spare_finds store [] = tt
+spare_finds store (e ∷ es) = finds_by store e es (IsEmpty store e) refl (spare_finds store es)
+
+-- the first of slots that are those
+pub found : (store : Store) (entries : List (Entry EraKey Flow)) (slots : List Slot) → slots ≡ spares store entries → (r : Option Slot) → r ≡ first_of slots → Finds store entries r
+found store entries slots listed r first = subst (Finds store entries) (sym (first ∙ ap first_of listed)) (spare_finds store entries)
+
+pub spare_inside : (store : Store) (entries : List (Entry EraKey Flow)) (r : Option Slot) → Finds store entries r → IfSome r (IsIn entries)
+spare_inside store entries None first = tt
+spare_inside store entries (Some slot) first = first.inside
+
+pub empty_some : (store : Store) (entries : List (Entry EraKey Flow)) (r : Option Slot)
+    → AllPairs (λ e f. e.slot ≢ f.slot) entries → Finds store entries r
     → IfSome r (λ slot. (lives : List Alive) (segments : ℕ → List Written) (begun : ℕ) → HoldsFor lives segments begun entries store
     → Wherever entries slot (λ e. first_empty lives segments ≡ Some (ended_at segments e.value.number)))
-empty_some calls test store entries None slots first answers = tt
-empty_some calls test store entries (Some slot) slots first answers = λ lives segments begun h.
+empty_some store entries None slots first = tt
+empty_some store entries (Some slot) slots first = λ lives segments begun h.
     let P : Entry EraKey Flow → Type 0 = λ e. e.slot ≡ slot → first_empty lives segments ≡ Some (ended_at segments e.value.number) in
-    let none = all_weaker (λ (e : Entry EraKey Flow). Answers calls test e false) (λ (e : Entry EraKey Flow). IsEmpty store e ≡ false) (λ e a. sym (answers e false a)) first.before
-    (recursion_from_All (λ (e : Entry EraKey Flow). Answers calls test e false) first.before first.earlier) in
-    let is = first_is lives segments begun entries store first.before first.entry first.after h first.splits none (sym (answers first.entry true first.passes)) in
+    let is = first_is lives segments begun entries store first.before first.entry first.after h first.splits first.earlier first.passes in
     let apart = subst (λ l. Pairwise (λ (e f : Entry EraKey Flow). e.slot ≢ f.slot) l) first.splits (pairwise (λ (e f : Entry EraKey Flow). e.slot ≢ f.slot) entries slots) in
     All-from_recursion P entries (subst (AllByRecursion P) (sym first.splits)
     (all_join P first.before (first.entry ∷ first.after)
@@ -91,14 +136,10 @@ empty_some calls test store entries (Some slot) slots first answers = λ lives s
           (pairs_after (λ (e f : Entry EraKey Flow). e.slot ≢ f.slot) first.before first.entry first.after apart),
     )))
 
-pub empty_none : {F : Type 0} (calls : Shared F (Slot × (Bor Flow × Unit {0})) Bool) (test : F) (store : Store) (entries : List (Entry EraKey Flow)) (r : Option Slot)
-    → IfSome r (PassesFirst calls test entries) → IfNone r (All (λ e. Answers calls test e false) entries) → Tests calls test store
+pub empty_none : (store : Store) (entries : List (Entry EraKey Flow)) (r : Option Slot) → Finds store entries r
     → IfNone r ((lives : List Alive) (segments : ℕ → List Written) (begun : ℕ) → HoldsFor lives segments begun entries store → first_empty lives segments ≡ None)
-empty_none calls test store entries (Some slot) first none answers = tt
-empty_none calls test store entries None first none answers = λ lives segments begun h.
-    first_none lives segments begun entries store h
-    (all_weaker (λ (e : Entry EraKey Flow). Answers calls test e false) (λ (e : Entry EraKey Flow). IsEmpty store e ≡ false) (λ e a. sym (answers e false a)) entries
-    (recursion_from_All (λ (e : Entry EraKey Flow). Answers calls test e false) entries none))
+empty_none store entries (Some slot) first = tt
+empty_none store entries None first = λ lives segments begun h. first_none lives segments begun entries store h first
 
 -- a fact where nothing is
 pub if_none : {X : Type 0} (r : Option X) (P : Type 0) → P → IfNone r P

@@ -34,6 +34,7 @@ pub mod Effects
 pub mod Tables
 pub mod Outwards
 pub mod Moves
+pub mod Sparing
 pub mod Firsts
 pub mod Sent
 pub mod Sending

@@ -1,6 +1,7 @@
 //! An era begins.
 use crate::flow::Flow;
 use crate::key::EraKey;
+use crate::spare::settle;
 use crate::state::TcpNorm;
 use era_state::Era;
 use wire_base::FlowKey;
@@ -40,7 +41,7 @@ impl TcpNorm {
             touched: now,
         };
         match self.table.insert(EraKey(key), flow) {
-            Ok(_) => {}
+            Ok(slot) => settle(&mut self.spare, &self.store, slot),
             Err(_) => unreachable!(),
         }
         self.begun = number;

@@ -29,5 +29,6 @@ impl TcpNorm {
         let _count = self.table.len();
         self.store.forget_all(ChainId(slot.0));
         let _pair = self.table.remove(slot);
+        self.spare.take_out(slot);
     }
 }

@@ -1,10 +1,8 @@
 //! An era that begins finds its place.
-use crate::flow::Flow;
 use crate::state::TcpNorm;
 use crate::step::Place;
 use era_state::Era;
 use linked_table::Slot;
-use retain_store::ChainId;
 use rule_book::{Ended, Reason};
 use wire_base::FlowKey;
 
@@ -13,7 +11,6 @@ impl TcpNorm {
     ghost use Rattle.wire_base.specs.Segments.{Written};
     ghost use Rattle.norm_settings.specs.Settings.{PlainSettings};
     ghost use Rattle.linked_table.specs.Table.{IsIn, HasNone, Wherever};
-    ghost use Rattle.retain_store.specs.Maps.{chain_of};
     ghost use Rattle.tcp_norm.specs.declared.key.EraKey.{EraKey};
     ghost use Rattle.tcp_norm.specs.Calls.{Alive, without};
     ghost use Rattle.tcp_norm.specs.Held.{kept_at};
@@ -35,13 +32,7 @@ impl TcpNorm {
             HoldsFor lives segments begun self.now.table.entries self.now.store → first_empty lives segments ≡ None) }
     {
         let _count = self.table.len();
-        let store = &self.store;
-        self.table.oldest_where(
-            |slot: Slot, _flow: &Flow|
-                requires { slot.0 < length store.now.chains }
-                ensures { result ≡ (length (chain_of store.entry.now slot.0) == 0) }
-            { store.held(ChainId(slot.0)) == 0 },
-        )
+        self.spare.first()
     }
 
     // The least recently touched era that holds no octet ends, if there is one.

@@ -1,5 +1,6 @@
 //! Octets of the stream that go inwards.
 use crate::flow::Flow;
+use crate::spare::settle;
 use crate::state::TcpNorm;
 use era_state::laws::{first_stays, frame_octets, intervals_fit};
 use era_state::{Era, Interval, Warm};
@@ -73,5 +74,6 @@ impl TcpNorm {
             },
         );
         self.table.touch(slot);
+        settle(&mut self.spare, &self.store, slot);
     }
 }

@@ -1,5 +1,6 @@
 //! A live era after a segment that brings no octet of the stream inwards.
 use crate::flow::Flow;
+use crate::spare::settle;
 use crate::state::TcpNorm;
 use era_state::Era;
 use era_state::laws::{acked_never_falls, first_stays};
@@ -50,5 +51,6 @@ impl TcpNorm {
             },
         );
         self.table.touch(slot);
+        settle(&mut self.spare, &self.store, slot);
     }
 }

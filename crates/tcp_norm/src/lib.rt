@@ -30,6 +30,7 @@ mod reading;
 mod refuse;
 mod rows;
 mod send_in;
+mod spare;
 mod state;
 mod stay;
 mod step;

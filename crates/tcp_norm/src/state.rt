@@ -1,11 +1,12 @@
 //! The live eras of all connections, and the octets that are kept of them.
 ghost use Rattle.std.specs.Prelude.{◌≡◌, ◌≤◌, length, vec_len};
 ghost use Rattle.tcp_norm.specs.Near.{AreBounded, AreNear};
+ghost use Rattle.tcp_norm.specs.Spare.{spares};
 
 use crate::flow::Flow;
 use crate::key::EraKey;
 use edge_io::NoMemory;
-use linked_table::LinkedTable;
+use linked_table::{LinkedTable, SlotList};
 use norm_settings::Settings;
 use retain_store::Retain;
 use std::alloc::Global;
@@ -20,6 +21,8 @@ pub struct TcpNorm {
     pub(crate) table: LinkedTable<EraKey, Flow>,
     /// The octets of the era in each slot of the table, by the slot's number.
     pub(crate) store: Retain,
+    /// The slots of the eras that hold no octet, least recently touched first.
+    pub(crate) spare: SlotList,
     pub(crate) cells: u32,
     /// Routers behind the bridge.
     pub(crate) hops: u8,
@@ -38,6 +41,8 @@ pub struct TcpNorm {
     /// Room for a segment that is written anew.
     pub(crate) page: Vec<u8>,
     ghost sized: { length store.chains ≡ table.max },
+    ghost spare_sized: { spare.max ≡ table.max },
+    ghost spare_listed: { spare.slots ≡ spares store table.entries },
     ghost room: { vec_len scratch ≡ 65515 },
     ghost page_room: { vec_len page ≡ 65515 },
     ghost passes: { hops ≤ 254 },
@@ -66,11 +71,13 @@ impl TcpNorm {
     {
         let table = LinkedTable::open(alloc, settings.flows, settings.seed)?;
         let store = Retain::open(alloc, settings.cells, settings.flows)?;
+        let spare = SlotList::open(alloc, settings.flows)?;
         let scratch = vec![in alloc; 0u8; LONGEST]?;
         let page = vec![in alloc; 0u8; LONGEST]?;
         Ok(TcpNorm {
             table,
             store,
+            spare,
             cells: settings.cells,
             hops: settings.hops,
             idle: settings.idle,

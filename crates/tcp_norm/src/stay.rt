@@ -1,5 +1,6 @@
 //! A live era in which segments are written that bring it nothing.
 use crate::flow::Flow;
+use crate::spare::settle;
 use crate::state::TcpNorm;
 use era_state::laws::{silence_changes_nothing, silence_stands};
 use linked_table::Slot;
@@ -42,5 +43,6 @@ impl TcpNorm {
             },
         );
         self.table.touch(slot);
+        settle(&mut self.spare, &self.store, slot);
     }
 }

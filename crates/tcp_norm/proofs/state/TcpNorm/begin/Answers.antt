@@ -4,13 +4,16 @@ use Rattle.tcp_norm.specs.declared.flow.Flow.{Flow}
 use Rattle.tcp_norm.specs.declared.key.EraKey.{EraKey}
 use Rattle.tcp_norm.specs.Standing.{HoldsFor}
 use Rattle.tcp_norm.proofs.Beginning.{begin_holds}
+use Rattle.tcp_norm.specs.Near.{AreNear}
+use Rattle.tcp_norm.proofs.Nears.{near_added}
+use Rattle.tcp_norm.proofs.Sparing.{added_listed}
 use Rattle.tcp_norm.proofs.state.TcpNorm.begin.Goals as goal
 
 pub returns-clause-holds : goal.returns-clause-holds
 returns-clause-holds c lives segments later h stands none others =
     subst (λ (l : List (table.Entry EraKey Flow)). HoldsFor (lives ++ record { number = c.args.self.now.begun + 1; key = c.args.key; touched = c.args.now } ∷ []) later (c.args.self.now.begun + 1) l c.args.self.now.store)
     (sym (ap (λ (t : table.Table EraKey Flow). t.entries) c.in-Ok.ensures.added))
-    (begin_holds lives segments later c.args.self.now.begun c.args.self.now.table.entries c.args.self.now.store c.in-Ok.field-0 c.args.key _ c.args.now h
+    (begin_holds lives segments later c.args.self.now.begun c.args.self.now.table.entries c.args.self.now.store c.in-Ok.slot c.args.key _ c.args.now h
     c.in-Ok.ensures.fresh stands none refl refl others)
 
 pub returns-clause-opened : goal.returns-clause-opened
@@ -25,3 +28,13 @@ returns-clause-opened c settings is =
       offload = is.offload;
       quota = is.quota;
     }
+
+pub invariant_of-self-clause-spare_listed : goal.invariant_of-self-clause-spare_listed
+invariant_of-self-clause-spare_listed c =
+    added_listed c.args.self.now.spare _ c.args.self.now.store c.args.self.now.table.entries _ _ c.in-Ok.ensures.fresh
+    c.args.self.now.spare_listed c.settle.ensures (ap (λ (t : table.Table EraKey Flow). t.entries) c.in-Ok.ensures.added)
+
+pub invariant_of-self-clause-near : goal.invariant_of-self-clause-near
+invariant_of-self-clause-near c =
+    subst (λ (l : List (table.Entry EraKey Flow)). AreNear c.args.self.now.calls l) (sym (ap (λ (t : table.Table EraKey Flow). t.entries) c.in-Ok.ensures.added))
+    (near_added c.args.self.now.calls _ c.args.self.now.table.entries c.requires.near c.args.self.now.near)

@@ -9,6 +9,8 @@ use Rattle.tcp_norm.specs.Near.{AreNear}
 use Rattle.tcp_norm.proofs.Ending.{end_holds}
 use Rattle.tcp_norm.proofs.Nears.{near_left}
 use Rattle.tcp_norm.proofs.Quotas.{stays_bounded}
+use Rattle.tcp_norm.proofs.Forwarding.{others_same}
+use Rattle.tcp_norm.proofs.Sparing.{left_listed}
 use Rattle.tcp_norm.proofs.state.TcpNorm.end.Goals as goal
 
 pub returns-clause-holds : goal.returns-clause-holds
@@ -40,3 +42,9 @@ pub invariant_of-self-clause-bounded : goal.invariant_of-self-clause-bounded
 invariant_of-self-clause-bounded c =
     stays_bounded c.args.self.now.quota c.args.self.now.store c.forget_all.new.self c.args.slot.0 c.args.self.now.bounded c.forget_all.ensures.changed
     (λ most is. let none = ap length c.forget_all.ensures.empty in omega (arith, none))
+
+pub invariant_of-self-clause-spare_listed : goal.invariant_of-self-clause-spare_listed
+invariant_of-self-clause-spare_listed c =
+    left_listed c.args.self.now.spare _ c.args.self.now.store c.forget_all.new.self c.args.self.now.table.entries _ c.args.slot c.requires
+    c.len-count.ensures.slots_apart c.len-count.ensures.keys_apart (others_same c.args.self.now.store c.forget_all.new.self c.args.slot.0 c.forget_all.ensures.changed)
+    c.args.self.now.spare_listed c.take_out.ensures (ap (λ (t : table.Table EraKey Flow). t.entries) c.remove-pair.ensures.left)

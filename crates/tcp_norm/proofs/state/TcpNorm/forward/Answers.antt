@@ -13,6 +13,8 @@ use Rattle.tcp_norm.proofs.Steps.{in_valued}
 use Rattle.tcp_norm.proofs.Streams.{fresh_is}
 use Rattle.tcp_norm.proofs.Forwarding.{forward_holds, keeps_at}
 use Rattle.tcp_norm.proofs.Quotas.{stays_bounded}
+use Rattle.tcp_norm.proofs.Sparing.{touched_listed}
+use Rattle.tcp_norm.proofs.Forwarding.{others_same}
 use Rattle.tcp_norm.proofs.state.TcpNorm.forward.Goals as goal
 
 pub touch-requires : goal.touch-requires
@@ -71,3 +73,9 @@ invariant_of-self-clause-bounded c =
     let long : length (take c.args.size c.deref.result.now) ≡ c.args.size = length-take-le c.args.size c.deref.result.now (omega (arith, c.deref.ensures.len, c.args.self.now.room, c.requires.fits)) in
     let more = ap (missing (chain_of store c.args.slot.0) c.args.kept.now.lo) long in
     omega (arith, le, more, c.place.ensures.free, c.place.ensures.changed.cells))
+
+pub invariant_of-self-clause-spare_listed : goal.invariant_of-self-clause-spare_listed
+invariant_of-self-clause-spare_listed c =
+    touched_listed c.args.self.now.spare _ c.args.self.now.store c.place.new.self c.args.self.now.table.entries _ _ c.args.slot _ c.requires.inside
+    c.len-count.ensures.slots_apart c.len-count.ensures.keys_apart (others_same c.args.self.now.store c.place.new.self c.args.slot.0 c.place.ensures.changed) c.args.self.now.spare_listed c.settle.ensures
+    (ap (λ (t : table.Table EraKey Flow). t.entries) c.put-before.ensures.after) (ap (λ (t : table.Table EraKey Flow). t.entries) c.touch.ensures)

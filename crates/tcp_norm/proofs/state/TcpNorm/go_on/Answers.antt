@@ -11,6 +11,8 @@ use Rattle.tcp_norm.proofs.Nears.{near_touched}
 use Rattle.tcp_norm.proofs.Steps.{in_valued}
 use Rattle.tcp_norm.proofs.Forwarding.{go_on_holds}
 use Rattle.tcp_norm.proofs.Quotas.{shorter_below, stays_bounded}
+use Rattle.tcp_norm.proofs.Sparing.{touched_listed}
+use Rattle.tcp_norm.proofs.Forwarding.{others_same}
 use Rattle.tcp_norm.proofs.state.TcpNorm.go_on.Goals as goal
 
 pub touch-requires : goal.touch-requires
@@ -58,3 +60,9 @@ invariant_of-self-clause-bounded c =
     (λ n within. sym c.held-held.ensures.count ∙ c.held-held.ensures.held n within) c.forget_below.ensures.held in
     stays_bounded c.args.self.now.quota store c.forget_below.new.self c.args.slot.0 c.args.self.now.bounded c.forget_below.ensures.changed
     (λ most is. let le = c.args.self.now.bounded c.args.slot.0 most is in omega (arith, shorter, le))
+
+pub invariant_of-self-clause-spare_listed : goal.invariant_of-self-clause-spare_listed
+invariant_of-self-clause-spare_listed c =
+    touched_listed c.args.self.now.spare _ c.args.self.now.store c.forget_below.new.self c.args.self.now.table.entries _ _ c.args.slot _ c.requires.inside
+    c.len-count.ensures.slots_apart c.len-count.ensures.keys_apart (others_same c.args.self.now.store c.forget_below.new.self c.args.slot.0 c.forget_below.ensures.changed) c.args.self.now.spare_listed c.settle.ensures
+    (ap (λ (t : table.Table EraKey Flow). t.entries) c.put-before.ensures.after) (ap (λ (t : table.Table EraKey Flow). t.entries) c.touch.ensures)

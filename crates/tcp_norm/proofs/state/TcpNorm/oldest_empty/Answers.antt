@@ -1,9 +1,11 @@
-use Rattle.std.proofs.Common.{rules}
-use Rattle.tcp_norm.proofs.Firsts.{empty_some, empty_none}
+use Rattle.tcp_norm.proofs.Firsts.{found, spare_inside, empty_some, empty_none}
 use Rattle.tcp_norm.proofs.state.TcpNorm.oldest_empty.Goals as goal
 
+pub returns-clause-inside : goal.returns-clause-inside
+returns-clause-inside c = spare_inside c.args.self.now.store c.args.self.now.table.entries c.first.result (found c.args.self.now.store c.args.self.now.table.entries _ c.args.self.now.spare_listed _ c.first.ensures.first)
+
 pub returns-clause-first : goal.returns-clause-first
-returns-clause-first c = empty_some _ _ c.args.self.now.store c.args.self.now.table.entries c.oldest_where.result c.len-count.ensures.slots_apart c.oldest_where.ensures.first (λ e b a. search rules)
+returns-clause-first c = empty_some c.args.self.now.store c.args.self.now.table.entries c.first.result c.len-count.ensures.slots_apart (found c.args.self.now.store c.args.self.now.table.entries _ c.args.self.now.spare_listed _ c.first.ensures.first)
 
 pub returns-clause-none : goal.returns-clause-none
-returns-clause-none c = empty_none _ _ c.args.self.now.store c.args.self.now.table.entries c.oldest_where.result c.oldest_where.ensures.first c.oldest_where.ensures.absent (λ e b a. search rules)
+returns-clause-none c = empty_none c.args.self.now.store c.args.self.now.table.entries c.first.result (found c.args.self.now.store c.args.self.now.table.entries _ c.args.self.now.spare_listed _ c.first.ensures.first)

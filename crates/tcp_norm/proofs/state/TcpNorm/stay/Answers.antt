@@ -8,6 +8,7 @@ use Rattle.tcp_norm.specs.Near.{AreNear}
 use Rattle.tcp_norm.proofs.Nears.{near_touched}
 use Rattle.tcp_norm.proofs.Steps.{in_valued}
 use Rattle.tcp_norm.proofs.Staying.{stay_holds}
+use Rattle.tcp_norm.proofs.Sparing.{touched_listed}
 use Rattle.tcp_norm.proofs.state.TcpNorm.stay.Goals as goal
 
 pub touch-requires : goal.touch-requires
@@ -45,3 +46,9 @@ invariant_of-self-clause-near c =
     let touched = ap (λ (t : table.Table EraKey Flow). t.entries) c.touch.ensures in
     let entries = touched ∙ ap (λ (l : List (table.Entry EraKey Flow)). table.without l c.args.slot ++ table.only l c.args.slot) valued in
     subst (λ (l : List (table.Entry EraKey Flow)). AreNear c.args.self.now.calls l) (sym entries) (near_touched c.args.self.now.calls c.args.slot _ c.args.self.now.table.entries c.requires.near c.args.self.now.near)
+
+pub invariant_of-self-clause-spare_listed : goal.invariant_of-self-clause-spare_listed
+invariant_of-self-clause-spare_listed c =
+    touched_listed c.args.self.now.spare _ c.args.self.now.store c.args.self.now.store c.args.self.now.table.entries _ _ c.args.slot _ c.requires.inside
+    c.len-count.ensures.slots_apart c.len-count.ensures.keys_apart (λ chain ne. refl) c.args.self.now.spare_listed c.settle.ensures
+    (ap (λ (t : table.Table EraKey Flow). t.entries) c.put-before.ensures.after) (ap (λ (t : table.Table EraKey Flow). t.entries) c.touch.ensures)

@@ -1,0 +1,72 @@
+//! Slots in an order of their own.
+ghost use Rattle.std.specs.Prelude.{◌≡◌, ◌<◌, [], ◌∷◌, ◌++◌, IfOk, IfSome};
+ghost use Rattle.linked_table.specs.Listing.{first_of, others};
+
+use crate::ring::Rings;
+use crate::table::{Slot, free_ring};
+use edge_io::NoMemory;
+use std::alloc::Global;
+use std::marker::Model;
+
+/// Some of the slots of a table, in order, none of them twice.
+#[derive(Drop)]
+pub struct SlotList {
+    // A node for each slot, and two hubs: the ring of the listed slots, and behind it that of the others.
+    links: Rings,
+    max: u32,
+}
+
+impl Model for SlotList {
+    ghost use Rattle.linked_table.specs.Listing.{Listing, listing_of, IsThreaded};
+
+    ghost Value = { Listing };
+
+    ghost view = { λ l. listing_of l.links l.max };
+
+    ghost invariant = { λ l. IsThreaded l.links l.max };
+}
+
+impl SlotList {
+    /// A list of no slot, for slots below `max`.
+    pub fn open(alloc: Global, max: u32) -> Result<SlotList, NoMemory>
+        ensures { IfOk result (λ list. list ≡ record { slots = []; max = max }) }
+    {
+        let links = free_ring(alloc, max)?;
+        Ok(SlotList { links, max })
+    }
+
+    /// The slot that is listed first.
+    pub fn first(&self) -> Option<Slot>
+        ensures first { result ≡ first_of self.now.slots }
+        ensures below { IfSome result (λ slot. slot.0 < self.now.max) }
+    {
+        let hub = self.max as usize;
+        let node = self.links.after(hub);
+        if node == hub {
+            return None;
+        }
+        Some(Slot(node as u32))
+    }
+
+    /// Lists the slot as the last one, also where it was listed before.
+    pub fn put_last(&mut self, slot: Slot)
+        requires { slot.0 < self.old.max }
+        ensures { self.new ≡ record self.old { slots = others self.old.slots slot ++ slot ∷ [] } }
+    {
+        let node = slot.0 as usize;
+        let hub = self.max as usize;
+        self.links.unlink(node);
+        self.links.link_last(hub, node);
+    }
+
+    /// Lists the slot no more, if it was listed.
+    pub fn take_out(&mut self, slot: Slot)
+        requires { slot.0 < self.old.max }
+        ensures { self.new ≡ record self.old { slots = others self.old.slots slot } }
+    {
+        let node = slot.0 as usize;
+        let hub = self.max as usize + 1;
+        self.links.unlink(node);
+        self.links.link_last(hub, node);
+    }
+}

@@ -1,0 +1,20 @@
+-- The slots of the eras that hold no octet, least recently touched first (this project's profile).
+use Rattle.std.specs.Prelude.{ℕ, ◌==◌, Bool, List, [], ◌∷◌, ◌++◌, length, map, filter, if◌then◌else◌}
+use Rattle.linked_table.specs.declared.table.Slot.{Slot}
+use Rattle.linked_table.specs.Listing.{others}
+use Rattle.linked_table.specs.Table.{Entry}
+use Rattle.retain_store.specs.Maps.{Store, chain_of}
+use Rattle.tcp_norm.specs.declared.flow.Flow.{Flow}
+use Rattle.tcp_norm.specs.declared.key.EraKey.{EraKey}
+
+-- the chain of a slot has no block
+abbrev pub is_empty : Store → Slot → Bool
+is_empty store slot = length (chain_of store slot.0) == 0
+
+-- the slots of the entries whose chains have no block, in their order
+abbrev pub spares : Store → List (Entry EraKey Flow) → List Slot
+spares store entries = map (λ e. e.slot) (filter (λ e. is_empty store e.slot) entries)
+
+-- of listed slots those without this one, which stands behind them where its chain has no block
+abbrev pub settled : Store → Slot → List Slot → List Slot
+settled store slot slots = if is_empty store slot then others slots slot ++ slot ∷ [] else others slots slot
