@@ -214,7 +214,8 @@ fn relays(both: &mut Both, row: &Row, records: u32, frames: u32, out: &mut Outbo
     if both.records() >= 1000 || both.pending() > 0 {
         return false;
     }
-    let input = Record::new(7, 9, row.packet.len() as u32, 24, row.packet);
+    let length = row.packet.len().min(65_535) as u32;
+    let input = Record::new(7, 9, length, 24, row.packet);
     let entry = both.front(&input);
     let mut right = says(&entry, &row.front, records) && both.pending() == row.back.len();
     let mut number = frames;
@@ -249,7 +250,7 @@ fn relay_all(alloc: Global, link: Link, before: &[Row], rows: &[Row]) -> Result<
         if !relays(&mut both, row, records, frames, &mut out) {
             return Ok(false);
         }
-        frames = frames.wrapping_add(row.back.len() as u32);
+        frames = frames.wrapping_add(row.back.len().min(2) as u32);
     }
     Ok(true)
 }
