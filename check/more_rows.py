@@ -126,3 +126,10 @@ row("a connection closed from both sides stays closed to data",
     OPENED + ["4 out pass 1 @1", "5 in pass 1 @1", "6 out pass 1 @1", "7 in fix 1 T_OLD T_END @1",
               "8 in drop 1 T_SYN @1", "9 in pass 1 @2 +2 -1:reopened:0"],
     {7: [segment("> PA 1000,5002")], 8: [segment("> A 1000,5002")]})
+
+row("a segment is cut to the largest packet", opening() + [segment("> PA 1000,5001", payload=b"a" * 1100)], OPENED + ["4 in fix 3 E_CUT @1"],
+    {4: [segment("> A 1000,5001", payload=b"a" * 536), segment("> A 1536,5001", payload=b"a" * 536, ident=2),
+         segment("> PA 2072,5001", payload=b"a" * 28, ident=3)]}, words="--mtu 576")
+
+row("a datagram that is longer than the largest packet", [p.inward(UDP, p.udp(OUTSIDE, INSIDE, 40000, 53, b"a" * 572))],
+    ["1 in drop 0 E_MTU"], {1: []}, words="--mtu 576")

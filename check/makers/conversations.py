@@ -150,7 +150,7 @@ def outbound_segment(world, pair, era):
     rng = world.rng
     seq = eras.out(era) or pair["seq"]
     ack = acknowledged_number(world, pair, era)
-    payload = octets(world, rng.choice([0, 0, 0, 1, 20]))
+    payload = octets(world, rng.choice([0, 0, 0, 0, 1, 20, 20, 1200]))
     choice = rng.randrange(40)
     if choice < 30:
         window = pair["window"] if chance(world, 60) else None

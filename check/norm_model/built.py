@@ -17,6 +17,7 @@ RANGES = {
     "frag-time": (1, 3600),
     "seed": (0, 2**64 - 1),
     "quota": (1, 262144),
+    "mtu": (576, 65535),
     "offload": None,
 }
 

@@ -1,9 +1,9 @@
-"""The names of all rules, in the order of their numbers, which go from 1 to 58; T_QUOTA has 60, and none has 59."""
+"""The names of all rules, in the order of their numbers, which go from 1 to 58 and from 60 on; none has 59."""
 
 RULES = """
 L_SNAP L_SHORT L_TYPE I_SHORT I_VERSION I_HLEN I_LEN I_SUM I_SRC I_DST I_SIDE I_OPT_BAD I_ROUTE P_PROTO
 F_DF F_EMPTY F_ALIGN F_BIG F_END F_CLASH F_MANY F_ROOM U_SHORT U_LEN U_SUM M_SHORT M_SUM M_TYPE M_QUOTE
 T_SHORT T_HLEN T_SUM T_FLAGS T_OPT_BAD T_COLD T_STATE T_SYN T_RST T_FULL T_ROOM
 I_TRAIL I_OPT I_RES I_TTL F_HELD F_DONE U_SUM_OUT T_SUM_OUT T_RES T_URG T_OPT T_STRIP C_PROBE
-T_OLD T_WINDOW T_TURN T_END T_CLASH T_QUOTA
+T_OLD T_WINDOW T_TURN T_END T_CLASH T_QUOTA E_CUT E_MTU
 """.split()

@@ -1,6 +1,7 @@
 """A whole run: from the words and the octets of a capture to the status, the capture written and the report."""
 
 from norm_model import capture, report
+from norm_model.cuts import as_written
 from norm_model.engine import open_engine, step
 from norm_model.load import run_load
 from norm_model.words import read_words
@@ -30,6 +31,7 @@ def run_capture(settings, octets, built):
     records, fault, at = capture.read_records(octets, head)
     for record in records:
         entry, written = step(engine, record)
+        written = as_written(settings, head.link, entry, written)
         parts += [capture.write_record(head, record.seconds, record.fraction, frame) for frame in written]
         texts.append(report.entry_line(entry, built.report_version))
         steps.append((entry, written))

@@ -11,7 +11,7 @@ DIGITS = "0123456789"
 
 def default_settings():
     return SimpleNamespace(prefixes=[], hops=30, flows=4096, cells=65536, frags=256, frag_cells=4096,
-                           idle=3600, frag_time=30, seed=0, quota=None, offload=False)
+                           idle=3600, frag_time=30, seed=0, quota=None, mtu=None, offload=False)
 
 
 def is_digits(text, least, most):

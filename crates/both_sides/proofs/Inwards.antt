@@ -447,5 +447,5 @@ frames_relay laws settings link [] hops octets sideless lawful = tt
 frames_relay laws settings link (item ∷ older) hops octets sideless lawful = (
   frames_relay laws settings link older hops octets.0 sideless.0 lawful.0,
   subst (λ (x : Item). is_outward x.entry.side ≡ false → AllByRecursion (Relays settings link) x.frames) (sym lawful.1)
-  (frames_relay_of laws settings link older item.packet hops octets.0 octets.1 sideless.1),
+      (frames_relay_of laws settings link older item.packet hops octets.0 octets.1 sideless.1),
 )

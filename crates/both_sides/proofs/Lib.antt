@@ -2,3 +2,4 @@ pub mod Facts
 pub mod Untouched
 pub mod Inwards
 pub mod Relaying
+pub mod Standing

@@ -99,8 +99,7 @@ through settings link [] mirror relays will same = tt
 through settings link (item ∷ older) mirror relays will same =
     let seconds = item.packet.seconds in
     let fraction = item.packet.fraction in
-    let count = length item.frames in
-    (
+    let count = length item.frames in (
       through settings link older (drop count mirror) relays.0 (all_behind (WillGo settings link) count mirror will) (older_items seconds fraction item.frames (records_of older) mirror same),
       λ inward. items_go settings link seconds fraction item.frames (records_of older) mirror same will (relays.1 inward),
     )

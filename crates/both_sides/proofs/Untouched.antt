@@ -121,22 +121,49 @@ module _ (settings : PlainSettings) (link : Link) (seconds fraction : ℕ) (fram
       let on : (row : Bool) → row ≡ false → (carries_ip link frame && row) ≡ false = second_fails (carries_ip link frame) in
       let header = neither (nat_lt (ip.header_length p) 20) (nat_lt (length p) (ip.header_length p)) (ap (λ n. nat_lt n 20) h.header_length) (ap (nat_lt (length p)) h.header_length ∙ short) in
       let length_row = neither (nat_lt (ip.total_length p) (ip.header_length p)) (nat_lt (length p) (ip.total_length p))
-      (ap₂ nat_lt h.total_length h.header_length ∙ short) (ap (nat_lt (length p)) h.total_length ∙ le-ltb (length p) (length p) (le_refl (length p))) in
-      (le-ltb (length frame) (length frame) (le_refl (length frame)),
-      (is.long,
-      (ap (λ b. not (b || (carries_arp link frame && nat_le (length frame) 65549))) is.carries,
-      (on _ short,
-      (on _ (ap (λ n. not (n == 4)) h.version),
-      (on _ header,
-      (on _ length_row,
-      (on _ (ap not h.sum),
-      (on _ is.source,
-      (on _ is.destination,
-      (on _ (ap is_none told),
-      (on _ (ap (λ o. not (are_well_formed o)) options),
-      (on _ (ap has_route options),
-      (on _ (one_of_three (ip.protocol p) is.plain.message.protocol),
-      tt))))))))))))))
+      (ap₂ nat_lt h.total_length h.header_length ∙ short) (ap (nat_lt (length p)) h.total_length ∙ le-ltb (length p) (length p) (le_refl (length p))) in (
+        le-ltb (length frame) (length frame) (le_refl (length frame)),
+        (
+          is.long,
+          (
+            ap (λ b. not (b || (carries_arp link frame && nat_le (length frame) 65549))) is.carries,
+            (
+              on _ short,
+              (
+                on _ (ap (λ n. not (n == 4)) h.version),
+                (
+                  on _ header,
+                  (
+                    on _ length_row,
+                    (
+                      on _ (ap not h.sum),
+                      (
+                        on _ is.source,
+                        (
+                          on _ is.destination,
+                          (
+                            on _ (ap is_none told),
+                            (
+                              on _ (ap (λ o. not (are_well_formed o)) options),
+                              (
+                                on _ (ap has_route options),
+                                (
+                                  on _ (one_of_three (ip.protocol p) is.plain.message.protocol),
+                                  tt,
+                                ),
+                              ),
+                            ),
+                          ),
+                        ),
+                      ),
+                    ),
+                  ),
+                ),
+              ),
+            ),
+          ),
+        ),
+      )
 
   undropped : ip_dropped_by s link r ≡ None
   unfolding ip_dropped_by
@@ -146,12 +173,19 @@ module _ (settings : PlainSettings) (link : Link) (seconds fraction : ℕ) (fram
   fix_rows : AllByRecursion (λ rule. holds_ip s link r rule ≡ false) whole_fix_rows
   fix_rows =
       let h = is.plain.header in
-      let on : (row : Bool) → row ≡ false → (carries_ip link frame && row) ≡ false = second_fails (carries_ip link frame) in
-      (on _ total,
-      (on _ (ap (nat_lt 20) h.header_length),
-      (on _ h.reserved,
-      (on _ (ap (λ side. is_inward side && nat_le (ip.time_to_live p) settings.hops) told),
-      tt))))
+      let on : (row : Bool) → row ≡ false → (carries_ip link frame && row) ≡ false = second_fails (carries_ip link frame) in (
+        on _ total,
+        (
+          on _ (ap (nat_lt 20) h.header_length),
+          (
+            on _ h.reserved,
+            (
+              on _ (ap (λ side. is_inward side && nat_le (ip.time_to_live p) settings.hops) told),
+              tt,
+            ),
+          ),
+        ),
+      )
 
   unmended : ip_fixes s link r whole_fix_rows ≡ []
   unfolding ip_fixes
@@ -177,15 +211,28 @@ module _ (settings : PlainSettings) (link : Link) (seconds fraction : ℕ) (fram
   dgram_rows live =
       let of_udp : (row : Bool) → (ip.protocol p ≡ 17 → row ≡ false) → ((ip.protocol p == 17) && row) ≡ false = row_of (ip.protocol p) 17 in
       let of_icmp : (row : Bool) → (ip.protocol p ≡ 1 → row ≡ false) → ((ip.protocol p == 1) && row) ≡ false = row_of (ip.protocol p) 1 in
-      let size = length (ip.payload p) in
-      (of_udp _ (λ e. le-ltb size 8 (is.plain.message.udp e).whole_header),
-      (of_udp _ (λ e. ap not (eq-eqb _ _ (is.plain.message.udp e).size)),
-      (of_udp _ (λ e. ap (λ b. b && not (is_offloaded s d)) (udp_sum e)),
-      (of_icmp _ (λ e. le-ltb size 8 (is.plain.message.icmp e).whole_header),
-      (of_icmp _ (λ e. ap not (is.plain.message.icmp e).sum),
-      (of_icmp _ (λ e. ap not (is.kind e)),
-      (of_icmp _ (λ e. refl),
-      tt)))))))
+      let size = length (ip.payload p) in (
+        of_udp _ (λ e. le-ltb size 8 (is.plain.message.udp e).whole_header),
+        (
+          of_udp _ (λ e. ap not (eq-eqb _ _ (is.plain.message.udp e).size)),
+          (
+            of_udp _ (λ e. ap (λ b. b && not (is_offloaded s d)) (udp_sum e)),
+            (
+              of_icmp _ (λ e. le-ltb size 8 (is.plain.message.icmp e).whole_header),
+              (
+                of_icmp _ (λ e. ap not (is.plain.message.icmp e).sum),
+                (
+                  of_icmp _ (λ e. ap not (is.kind e)),
+                  (
+                    of_icmp _ (λ e. refl),
+                    tt,
+                  ),
+                ),
+              ),
+            ),
+          ),
+        ),
+      )
 
   passed : (live : Bool) → dgram_dropped_by s live d ≡ None
   unfolding dgram_dropped_by
@@ -198,13 +245,22 @@ module _ (settings : PlainSettings) (link : Link) (seconds fraction : ℕ) (fram
   header_rows =
       let on : (row : Bool) → (ip.protocol p ≡ 6 → row ≡ false) → ((ip.protocol p == 6) && row) ≡ false = row_of (ip.protocol p) 6 in
       let m = ip.payload p in
-      let size = length m in
-      (on _ (λ e. le-ltb size 20 (is.plain.message.tcp e).whole_header),
-      (on _ (λ e. neither _ _ (le-ltb (tcp.header_length m) 20 (is.plain.message.tcp e).data_offset) (le-ltb size (tcp.header_length m) (is.plain.message.tcp e).inside)),
-      (on _ (λ e. ap (λ b. not b && not (is_offloaded s d)) (is.plain.message.tcp e).sum),
-      (on _ (λ e. ap not (is.plain.message.tcp e).flags),
-      (on _ (λ e. ap not (is.plain.message.tcp e).options),
-      tt)))))
+      let size = length m in (
+        on _ (λ e. le-ltb size 20 (is.plain.message.tcp e).whole_header),
+        (
+          on _ (λ e. neither _ _ (le-ltb (tcp.header_length m) 20 (is.plain.message.tcp e).data_offset) (le-ltb size (tcp.header_length m) (is.plain.message.tcp e).inside)),
+          (
+            on _ (λ e. ap (λ b. not b && not (is_offloaded s d)) (is.plain.message.tcp e).sum),
+            (
+              on _ (λ e. ap not (is.plain.message.tcp e).flags),
+              (
+                on _ (λ e. ap not (is.plain.message.tcp e).options),
+                tt,
+              ),
+            ),
+          ),
+        ),
+      )
 
   headed : find (holds_tcp s d) segment_rows ≡ None
   headed = not_found (holds_tcp s d) segment_rows header_rows

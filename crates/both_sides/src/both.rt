@@ -1,6 +1,7 @@
 //! Two engines, one behind the other: each frame that the first writes is a record of the second, whose sides are exchanged.
 use edge_io::{NoMemory, Outbox};
 use norm_engine::Engine;
+use norm_engine::laws::items_are_counted;
 use norm_settings::Settings;
 use pcap_file::Record;
 use rule_book::Entry;
@@ -38,7 +39,7 @@ impl Model for Both {
 }
 
 impl Both {
-    ghost use Rattle.std.specs.Prelude.{◌≡◌, ◌<◌, ◌-◌, ◌^◌, List, [], ◌∷◌, false, length, IfOk};
+    ghost use Rattle.std.specs.Prelude.{◌≡◌, ◌<◌, ◌≤◌, ◌-◌, ◌^◌, List, [], ◌∷◌, false, length, IfOk};
     ghost use Rattle.wire_base.specs.declared.address.Link.TheVariants.{Raw};
     ghost use Rattle.pcap_file.specs.Records.{Packet};
     ghost use Rattle.pcap_file.specs.Reads.{shown};
@@ -111,6 +112,7 @@ impl Both {
         ensures stands { (trace mirror : List Item) → StandsFor self.old trace mirror →
             StandsFor self.new (item_of self.old.first.settings self.old.first.link trace (shown input.now) ∷ trace) mirror }
     {
+        items_are_counted();
         let entry = self.first.step(input, &mut self.frames);
         self.had = 0;
         self.seconds = input.seconds;
@@ -133,6 +135,7 @@ impl Both {
             StandsFor self.new trace (item_of (mirrored self.old.first.settings) self.old.first.link mirror r ∷ mirror) }
         ensures pending { (r : Packet) (more : List Packet) → self.old.pending ≡ r ∷ more → self.new.pending ≡ more }
     {
+        let _count = self.frames.frames();
         let frame = self.frames.frame(self.had);
         let record = Record::new(
             self.seconds,

@@ -9,25 +9,21 @@ use Rattle.pcap_file.specs.Reads.{Leaves, HasEnd, Advances}
 use Rattle.pcap_file.specs.Reading.{Reading}
 use Rattle.rule_book.specs.declared.last.Last.TheVariants.{End}
 use Rattle.rule_book.specs.Text.{lines_text, last_text}
-use Rattle.norm_settings.specs.Settings.{PlainSettings}
+use Rattle.norm_settings.specs.Settings.{AreInRange, PlainSettings}
 use Rattle.norm_engine.specs.Items.{Item, packets, entries}
 use Rattle.norm_engine.specs.Trace.{item_of}
 use Rattle.norm_engine.specs.Clean.{HasOctets}
-use Rattle.norm_engine.specs.Laws.{IsSound, ItemsAreCounted, LawfulIsWithin, LawfulKeepsClean}
-use Rattle.norm_engine.specs.Outgoing.{IsOutgoing, ItemsGoOut}
-use Rattle.emit_mtu.specs.Laws.{CarryThePayload}
-use Rattle.emit_mtu.specs.Streams.{NothingLongGoesOut, PlainHeadersAreWhole}
+use Rattle.norm_engine.specs.Laws.{IsSound, ItemsAreCounted}
 use Rattle.norm_engine.specs.Engine.{Engaged, StandsFor}
 use Rattle.bridge_run.specs.declared.stop.Stop.{Stop}
 use Rattle.bridge_run.specs.Frames.{frame_count}
-use Rattle.bridge_run.specs.Cut.{FramesHaveOctets, item_written, written}
+use Rattle.bridge_run.specs.Cut.{FramesHaveOctets, LawfulIsWrittenSoundly, item_written, written}
 use Rattle.bridge_run.specs.Moments.{Moment, NoneRose}
 use Rattle.bridge_run.specs.Outputs.{Given, BreaksOff, heading, outputs_of, item_outputs, end_outputs}
 use Rattle.bridge_run.specs.Run.{Took, TookAll, TakenWhole, Going, Relayed, Ended, Normalized}
 use Rattle.bridge_run.specs.Stopped.{StopsAtEnd, StopsAtItem, StopsAtRecord}
 use Rattle.bridge_run.proofs.Outputs.{capture_part-append, report_part-append, given_after, broke_behind, capture_is, report_is}
 use Rattle.bridge_run.proofs.Relaying.{packets_written}
-use Rattle.bridge_run.proofs.Writtens.{InRange, StreamLaws, agree_as_written, clean_written, each_goes, none_long}
 
 pub length-packets : (trace : List Item) → length (packets trace) ≡ length trace
 length-packets [] = refl
@@ -112,26 +108,16 @@ goes_on settings head a b c engine engine' reader reader' frames n p counts goin
       few = omega (arith, going.few, ahead.given, short);
     }
 
--- the laws that the end of a run stands on
-pub record EndLaws : Type 0 where
-  pub keeps : LawfulKeepsClean
-  pub bounds : LawfulIsWithin
-  pub goes : ItemsGoOut
-  pub whole : PlainHeadersAreWhole
-  pub none : NothingLongGoesOut
-  pub carry : CarryThePayload
-  pub streams : StreamLaws
-
 -- the run is over: all was read, and the last line is written
 pub normalized : (settings : PlainSettings) (head : Head) (a b c : Moment) (engine : Engaged) (reader : Reading) (frames count : ℕ)
-    → EndLaws → settings.hops ≤ 254 → InRange settings.mtu
+    → LawfulIsWrittenSoundly → AreInRange settings
     → Going settings head a b engine reader frames → HasEnd b.source.octets c.source.octets → count ≡ engine.records → Ended count frames b.sinks c.sinks
     → Normalized settings a.source.octets c.source.octets a.sinks.capture.octets c.sinks.capture.octets a.sinks.report.octets c.sinks.report.octets
-normalized settings head a b c engine reader frames count laws hops range going end counted ended =
+normalized settings head a b c engine reader frames count soundly range going end counted ended =
     let trace = going.trace in
     let out = written settings head.link trace in
-    let sound : IsSound settings head.link trace = record { hops = hops; octets = going.so_far.octets; lawful = going.so_far.lawful } in
-    let each = each_goes laws.goes settings head.link trace sound in
+    let sound : IsSound settings head.link trace = record { hops = range.hops; octets = going.so_far.octets; lawful = going.so_far.lawful } in
+    let sounds = soundly settings head.link trace range sound going.so_far.frames in
     let all : Given (outputs_of head out ++ end_outputs count frames) a.sinks c.sinks = given_after _ _ a.sinks b.sinks c.sinks going.so_far.given ended.given in
     let line : last_text (End count frames) ++ [] ≡ last_text (End (length trace) (frame_count out)) =
     append-nil _ ∙ ap₂ (λ x y. last_text (End x y)) (counted ∙ going.stands.counted) going.frames_are in
@@ -145,10 +131,10 @@ normalized settings head a b c engine reader frames count laws hops range going 
           (capture_part-append (outputs_of head out) _ ∙ append-nil _ ∙ capture_is head out) all.capture;
       report_written = subst (Appends a.sinks.report.octets c.sinks.report.octets)
           (report_part-append (outputs_of head out) _ ∙ ap₂ (λ x y. x ++ y) (report_is head out) line ∙ append_assoc heading (lines_text (entries out)) (last_text (End (length trace) (frame_count out)))) all.report;
-      clean_kept = clean_written laws.carry laws.whole settings head.link trace range each going.so_far.frames (laws.keeps settings head.link trace sound);
-      within = laws.bounds settings head.link trace sound;
-      agree = agree_as_written laws.streams settings head.link trace range sound each going.so_far.frames;
-      none_long = none_long laws.none laws.whole settings.mtu head.link trace range each going.so_far.frames;
+      clean_kept = sounds.clean_kept;
+      within = sounds.within;
+      agree = sounds.agree;
+      none_long = sounds.none_long;
     }
 
 -- the end could not be told

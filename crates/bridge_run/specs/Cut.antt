@@ -11,13 +11,14 @@ use Rattle.rule_book.specs.declared.rule.Rule.TheVariants as rules
 use Rattle.rule_book.specs.declared.entry.Verdict.{Verdict}
 use Rattle.rule_book.specs.declared.entry.Verdict.TheVariants as verdicts
 use Rattle.rule_book.specs.Entries.{PlainEntry}
-use Rattle.norm_settings.specs.Settings.{PlainSettings}
+use Rattle.norm_settings.specs.Settings.{AreInRange, PlainSettings}
 use Rattle.era_state.specs.Quantities.{base_of}
 use Rattle.era_agreement.specs.Sent.{inward_packets, inward_places, written_in}
 use Rattle.era_agreement.specs.Agreement.{EraIsSound}
 use Rattle.norm_engine.specs.Items.{Item}
 use Rattle.norm_engine.specs.Clean.{KeepsPayload, is_clean, payload_in}
 use Rattle.norm_engine.specs.Agreement.{sent_in}
+use Rattle.norm_engine.specs.Laws.{IsAlwaysWithin, IsSound}
 use Rattle.emit_mtu.specs.Frames.{AreOctets}
 use Rattle.emit_mtu.specs.Laws as cuts
 use Rattle.emit_mtu.specs.Long.{e_cut, e_mtu, is_long}
@@ -109,6 +110,14 @@ abbrev pub NoneIsLong : (mtu : Option ℕ) → Link → List Item → Type 0
 NoneIsLong None link trace = Unit {0}
 NoneIsLong (Some mtu) link trace = AllByRecursion (λ item. All (λ frame. is_long link mtu frame ≡ false) item.frames) trace
 
+-- What is written of a trace: its clean records keep their payload, receivers agree, and no frame is too long; and after no record more is held than the settings
+-- allow.
+pub record IsWrittenSoundly (settings : PlainSettings) (link : Link) (trace : List Item) : Type 0 where
+  pub clean_kept : CleanIsWritten settings link trace
+  pub within : IsAlwaysWithin settings link trace
+  pub agree : AgreeAsWritten settings link trace
+  pub none_long : NoneIsLong settings.mtu link (written settings link trace)
+
 -- each octet of frames that may be cut is a number below 256
 abbrev pub FramesHaveOctets : (mtu : Option ℕ) → (frames : List (List ℕ)) → Type 0
 FramesHaveOctets None frames = Unit {0}
@@ -117,6 +126,12 @@ FramesHaveOctets (Some mtu) frames = All AreOctets frames
 -- this holds of each item of the trace
 abbrev pub HaveFrameOctets : (mtu : Option ℕ) → List Item → Type 0
 HaveFrameOctets mtu trace = AllByRecursion (λ item. FramesHaveOctets mtu item.frames) trace
+
+-- This holds of each lawful trace of records of octets.
+abbrev pub LawfulIsWrittenSoundly : Type 0
+LawfulIsWrittenSoundly =
+    (settings : PlainSettings) (link : Link) (trace : List Item) → AreInRange settings → IsSound settings link trace → HaveFrameOctets settings.mtu trace
+    → IsWrittenSoundly settings link trace
 
 -- what became of one frame: how many are written in its place, whether it was cut, and whether it does not go out
 pub record TellsOne (mtu : ℕ) (link : Link) (frame : List ℕ) (emitted : Emitted) : Type 0 where

@@ -21,23 +21,18 @@ ghost use Rattle.bridge_run.specs.Stops as stops;
 ghost use Rattle.bridge_run.specs.Run as spec;
 
 use crate::cut::{have_octets, write_item};
+use crate::laws::lawful_is_written_soundly;
 use crate::load::run_load;
 use crate::stop::{
     Stop, stop_at_capture, stop_at_head, stop_at_record, tell_memory, tell_stop, tell_words,
 };
 use edge_io::{Failed, MAX_FRAME, NoMemory, Outbox, Sink, Source};
-use emit_mtu::laws::{
-    cut_packets_tell_one_stream, plain_packets_go_out, segments_carry_the_payload, segments_fit,
-};
+use emit_mtu::laws::{plain_packets_go_out, segments_fit};
 use norm_engine::Engine;
-use norm_engine::laws::{
-    items_are_counted, items_go_out, lawful_agrees, lawful_is_within, lawful_keeps_clean,
-    lawful_tells_streams,
-};
+use norm_engine::laws::{items_are_counted, items_go_out};
 use norm_settings::{Command, Settings, WordFault, read_words};
 use pcap_file::laws::{flaw_excludes_end, flaw_is_one};
 use pcap_file::{Head, MAX_CAPTURED, Reader, Record, read_head, write_head};
-use receiver_model::laws::members_agree;
 use rule_book::{Entry, Last, entry_line, last_line};
 use std::alloc::Global;
 
@@ -266,16 +261,7 @@ fn normalize<S: Source, K: Sink, R: Sink>(
     ensures report_later { R.fault_count report.old ≤ R.fault_count report.new }
 {
     items_are_counted();
-    items_go_out();
-    lawful_keeps_clean();
-    lawful_is_within();
-    lawful_agrees();
-    lawful_tells_streams();
-    segments_fit();
-    segments_carry_the_payload();
-    plain_packets_go_out();
-    cut_packets_tell_one_stream();
-    members_agree();
+    lawful_is_written_soundly();
     let head = begin(source, capture, report)?;
     engine.set_link(head.link);
     let mut reader = Reader::new(head);

@@ -7,6 +7,7 @@ use std::alloc::{AllocError, Global};
 use std::test::Fail;
 
 mod connections;
+mod cut;
 mod evasions;
 mod forms;
 mod fragments;
@@ -177,7 +178,7 @@ const REFUSED: [(&[&str], &str); 9] = [
     // What is not built is not asked for.
     (&["run", "--both", "a", "b", "10.0.0.0/8"], "stop words 1\n"),
     (&["run", "--inside", "eth0", "a", "b", "10.0.0.0/8"], "stop words 1\n"),
-    (&["run", "--mtu", "1500", "a", "b", "10.0.0.0/8"], "stop words 1\n"),
+    (&["run", "--mtu", "575", "a", "b", "10.0.0.0/8"], "stop words 1\n"),
     (&["load", "1", "0"], "stop words 1\n"),
 ];
 

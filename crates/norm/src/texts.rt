@@ -31,6 +31,7 @@ Options stand before IN, each at most once, as --name=N or --name N, where N is
   --frag-time N   1 to 3600, default 30: seconds until a datagram is given up
   --seed N        0 to 18446744073709551615, default 0: hash seed of the tables
   --quota N       1 to 262144, default none: cells that one connection may take
+  --mtu N         576 to 65535, default none: octets that a written packet may have
   --offload       default off: mend wrong checksums of outbound packets
 
 The report goes to standard output: a line for each record, with its side, the

@@ -1,5 +1,5 @@
 -- What goes out for a record is read in one way.
-use Rattle.std.proofs.Common.{◌≡◌, ◌⊎◌, inl, inr, ℕ, ◌+◌, ◌*◌, ◌/◌, ◌≤◌, ◌<◌, Bool, true, false, cond, ◌&&◌, ◌||◌, ◌==◌, not, List, [], ◌∷◌, ◌++◌, length, take, drop, get_or, find, Option, Some, None, refl, sym, ap, ap₂, ◌∙◌, subst, arith}
+use Rattle.std.proofs.Common.{◌≡◌, ◌⊎◌, inl, inr, ℕ, ◌+◌, ◌*◌, ◌/◌, ◌≤◌, Bool, true, false, cond, ◌&&◌, ◌||◌, ◌==◌, not, List, [], ◌∷◌, ◌++◌, length, take, drop, get_or, find, Option, Some, None, refl, sym, ap, ap₂, ◌∙◌, subst, arith}
 use Rattle.std.specs.Prelude.{IsSome, is_none, is_some, option_map}
 use Rattle.std.specs.List.{AllByRecursion}
 use Rattle.std.specs.Option.{option_or}
@@ -37,18 +37,18 @@ use Rattle.ip_rules.specs.Judged.{IsKept}
 use Rattle.ip_rules.proofs.Undropped.{none_found}
 use Rattle.dgram_rules.specs.Rows as dgram
 use Rattle.dgram_rules.specs.Rows.{holds_dgram, dgram_dropped_by}
-use Rattle.reassembly.specs.Pieces.{Fragment, is_whole, whole_of, datagram_octets}
+use Rattle.reassembly.specs.Pieces.{is_whole, whole_of, datagram_octets}
 use Rattle.reassembly.specs.Rows as fragments
-use Rattle.tcp_norm.specs.Calls.{Call, Outcome, segment_in, is_written}
+use Rattle.tcp_norm.specs.Calls.{Outcome, is_written}
 use Rattle.tcp_norm.specs.Views.{View, view_of}
 use Rattle.tcp_norm.specs.Rows.{pseudo_of, holds_era, mended_by}
 use Rattle.tcp_norm.specs.Emits.{packet_by, segment_anew, segment_sent, sum_mended}
-use Rattle.tcp_norm.specs.Outcomes.{outcome_at, outcome_by, verdict_of}
+use Rattle.tcp_norm.specs.Outcomes.{outcome_at, outcome_by}
 use Rattle.tcp_norm.specs.Segments.{IsSegment}
 use Rattle.tcp_norm.proofs.Passing.{fixed_or_passed}
 use Rattle.norm_engine.specs.Items.{Item}
 use Rattle.norm_engine.specs.Rows.{side_of_record, holds_tcp, is_segment}
-use Rattle.norm_engine.specs.Fragments.{Offering, datagram_made, head_of_whole, pieces_with, fragment_in, offering_of, offering_in, holds_offered, completes, joined_in, pieces_before}
+use Rattle.norm_engine.specs.Fragments.{Offering, datagram_made, head_of_whole, pieces_with, offering_of, holds_offered, completes, joined_in, pieces_before}
 use Rattle.norm_engine.specs.Frames.{octets_sent, mended_frame, frame_by}
 use Rattle.norm_engine.specs.Calls.{where_passes, segment_after, datagram_after, past_of}
 use Rattle.norm_engine.specs.Trace.{Read, read_after, is_held, is_quoted_live, dropped_by, named_rows, outcome_of, emits, frames_by, side_by, era_by, item_of}
@@ -56,7 +56,7 @@ use Rattle.norm_engine.specs.Clean.{HasOctets, HaveOctets}
 use Rattle.norm_engine.specs.Certain.{IsWholeSegment, IsCertain, ItemsAreCertain}
 use Rattle.norm_engine.proofs.Reading.{behind}
 use Rattle.norm_engine.proofs.Stepping.{AreOfEra, era_told, plain_frames, segment_frames, segment_verdict, sides}
-use Rattle.norm_engine.proofs.Joining.{IsCarried, IsEither, IsJoined, carried, joined, either_of, row_of_piece, row_of_datagram, bare_row, datagram_row_is, datagram_named_is, fragment_by, made_of}
+use Rattle.norm_engine.proofs.Joining.{IsCarried, IsEither, carried, joined, either_of, row_of_piece, bare_row, datagram_row_is, datagram_named_is, fragment_by, made_of}
 use Rattle.norm_engine.proofs.Judging.{kept_as, not_nil, whole_frame}
 use Rattle.norm_engine.proofs.Lawfuls.{both_of, datagram_known, link_kept, long_enough, not_short, segment_is}
 use Rattle.norm_engine.proofs.Joined.{rows_are_of_eras}

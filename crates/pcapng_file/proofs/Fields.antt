@@ -1,11 +1,10 @@
 -- What the fixed fields of a block say does not hang on what stands behind them.
-use Rattle.std.proofs.Common.{◌≡◌, ℕ, ◌+◌, ◌-◌, ◌*◌, ◌/◌, ◌%◌, ◌<◌, ◌≤◌, ◌==◌, ◌^◌, not, nat_lt, min, Bool, true, false, List, ◌++◌, length, slice_get, Some, None, refl, sym, ap, ◌∙◌, subst, arith, inl, inr, if◌then◌else◌}
+use Rattle.std.proofs.Common.{◌≡◌, ℕ, ◌+◌, ◌*◌, ◌/◌, ◌%◌, ◌<◌, ◌≤◌, ◌==◌, ◌^◌, not, nat_lt, Bool, true, false, List, ◌++◌, length, slice_get, Some, None, refl, sym, ap, ◌∙◌, arith, inl, inr, if◌then◌else◌}
 use Rattle.std.proofs.lemmas.Bool.{cases_lt, cases_Bool, ltb-false, ltb-true, not-false, lt-ltb, le-ltb}
 use Rattle.std.proofs.lemmas.Bool.Decides.{nat_tests}
 use Rattle.std.proofs.lemmas.Option.{slice_get_within}
 use Rattle.std.specs.declared.option.Option.{Option}
 use Rattle.wire_base.specs.declared.address.Link.{Link}
-use Rattle.wire_base.specs.declared.address.Side.{Side}
 use Rattle.pcap_file.specs.declared.order.Order.{Order}
 use Rattle.pcap_file.specs.Numbers.{u16_at, u32_at}
 use Rattle.pcap_file.specs.Heads.{link_of}
@@ -17,7 +16,7 @@ use Rattle.pcapng_file.specs.declared.content.Content.{Content}
 use Rattle.pcapng_file.specs.declared.content.Content.TheVariants as says
 use Rattle.pcapng_file.specs.Options.{padded}
 use Rattle.pcapng_file.specs.Standing.{Sections}
-use Rattle.pcapng_file.specs.Contents.{section_type, interface_type, enhanced_type, simple_type, old_packet_type, section_says, interface_says, linked_says, enhanced_says, enhanced_of, timed_says, simple_says, simple_of, simple_sized, clipped, is_link, side_by, per_second, nanos_each, more_of, content_of, found_of, IsPlaced, PacketPlaced, InterfacePlaced}
+use Rattle.pcapng_file.specs.Contents.{section_type, interface_type, enhanced_type, simple_type, old_packet_type, section_says, interface_says, linked_says, enhanced_says, enhanced_of, timed_says, simple_says, simple_of, simple_sized, clipped, is_link, side_by, per_second, nanos_each, more_of, content_of, found_of, IsPlaced}
 use Rattle.pcapng_file.specs.Blocks.{bare}
 
 section_small : (order : Order) (size : ℕ) (x : List ℕ) → size < 28 → section_says order size x ≡ says.Fails faults.Block

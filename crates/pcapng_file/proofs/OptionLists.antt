@@ -1,14 +1,13 @@
 -- The options of an area, one by one.
-use Rattle.std.proofs.Common.{◌≡◌, ℕ, zero, suc, ◌+◌, ◌<◌, ◌≤◌, ◌==◌, ap₂, Bool, true, false, List, [], ◌∷◌, length, drop, Some, None, refl, sym, ap, ◌∙◌, arith, inl, inr, option_map, length-drop}
+use Rattle.std.proofs.Common.{◌≡◌, ℕ, zero, suc, ◌<◌, ◌≤◌, ◌==◌, ap₂, Bool, true, false, List, [], ◌∷◌, length, drop, Some, None, refl, sym, ap, ◌∙◌, arith, inl, inr, option_map, length-drop}
 use Rattle.std.proofs.lemmas.Bool.{cases_lt, cases_Bool, eqb-true}
 use Rattle.std.proofs.lemmas.Bool.Decides.{nat_tests}
 use Rattle.std.specs.declared.option.Option.{Option}
 use Rattle.pcap_file.specs.declared.order.Order.{Order}
-use Rattle.pcap_file.specs.Numbers.{u16_at}
 use Rattle.pcapng_file.specs.declared.interface.Interface.{Interface}
 use Rattle.pcapng_file.specs.declared.interface.Seen.{Seen}
-use Rattle.pcapng_file.specs.Options.{Entry, options_in, options_of, option_size, entry_at, is_end, first_value, is_named, nano_of, with_unit, described}
-use Rattle.pcapng_file.specs.Seen.{seen_behind, described_by, nothing_seen, nano_seen, nano_first, named_first, named_by, nano_by}
+use Rattle.pcapng_file.specs.Options.{Entry, options_in, options_of, option_size, entry_at, is_end, is_named, nano_of, with_unit, described}
+use Rattle.pcapng_file.specs.Seen.{seen_behind, described_by, nothing_seen, nano_first, named_first, named_by, nano_by}
 
 -- an option stands at the front where four octets are left and the code is not 0
 not_end : (order : Order) (area : List ℕ) → is_end order area ≡ false → 4 ≤ length area

@@ -1,5 +1,5 @@
 -- What several reads took, one after the other.
-use Rattle.std.proofs.Common.{◌≡◌, ℕ, ◌+◌, ◌-◌, ◌<◌, ◌≤◌, min, List, [], ◌++◌, length, take, drop, Some, None, refl, sym, ap, ap₂, ◌∙◌, subst, arith, append_assoc, append-nil, take-append-drop, length-drop}
+use Rattle.std.proofs.Common.{◌≡◌, ℕ, ◌+◌, ◌-◌, ◌<◌, ◌≤◌, List, [], ◌++◌, length, take, drop, Some, None, refl, sym, ap, ap₂, ◌∙◌, subst, arith, append_assoc, append-nil, take-append-drop, length-drop}
 use Rattle.std.proofs.lemmas.List.{length-append, length-take-le, take_all, take_at, drop_at, drop_all}
 use Rattle.std.proofs.Math.Seq.{take-append-add}
 use borrow.Rule.Slice.PartMut.{put_mid}
@@ -14,7 +14,7 @@ use Rattle.pcapng_file.specs.declared.content.Stamp.{Stamp}
 use Rattle.pcapng_file.specs.declared.content.Content.TheVariants as says
 use Rattle.pcapng_file.specs.declared.content.Found.TheVariants as is
 use Rattle.pcapng_file.specs.Reads.{TakesBody}
-use Rattle.pcapng_file.specs.Takes.{Short, EndsBefore, TakesCount}
+use Rattle.pcapng_file.specs.Takes.{Short, TakesCount}
 
 -- fewer octets than so many, behind others that were taken
 pub short_behind : (a b c : Option (List ℕ)) (front : List ℕ) (few most : ℕ) (fault : NgFault) → Consumes a b front → Short b c few fault → length front + few ≤ most → Short a c most fault

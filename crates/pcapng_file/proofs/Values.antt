@@ -1,9 +1,9 @@
 -- The options of an interface, as they are read one by one.
-use Rattle.std.proofs.Common.{◌≡◌, ℕ, ◌+◌, ◌-◌, ◌<◌, ◌≤◌, ◌==◌, min, Bool, true, false, List, [], ◌∷◌, ◌++◌, length, take, drop, Some, None, Ok, Err, refl, sym, ap, ap₂, take-append-drop, ◌∙◌, subst, arith, append_assoc, option_map, length-drop}
-use Rattle.std.proofs.lemmas.List.{length-append, length-take-le, take_all, take_at, drop_at, take-append-le}
+use Rattle.std.proofs.Common.{◌≡◌, ℕ, ◌+◌, ◌<◌, ◌≤◌, min, false, List, [], ◌∷◌, ◌++◌, length, take, drop, Some, None, Ok, Err, refl, sym, ap, ap₂, take-append-drop, ◌∙◌, arith, append_assoc, option_map}
+use Rattle.std.proofs.lemmas.List.{length-append, length-take-le, take_at, drop_at, take-append-le}
 use Rattle.std.proofs.lemmas.Bool.Decides.{nat_tests}
 use Rattle.std.proofs.KnownBytes.{Consumes-trans, Consumes-nil}
-use Rattle.std.specs.Io.KnownBytes.{Consumes, IsAtEnd}
+use Rattle.std.specs.Io.KnownBytes.{Consumes}
 use Rattle.std.specs.declared.option.Option.{Option}
 use Rattle.std.specs.declared.result.Result.{Result}
 use Rattle.pcap_file.specs.declared.order.Order.{Order}
@@ -14,7 +14,7 @@ use Rattle.pcapng_file.specs.declared.interface.Seen.{Seen}
 use Rattle.pcapng_file.specs.declared.fault.NgFault.{NgFault}
 use Rattle.pcapng_file.specs.Options.{Entry, padded, options_of, option_size, entry_at, is_end, described}
 use Rattle.pcapng_file.specs.Seen.{seen_behind, described_by, nothing_seen}
-use Rattle.pcapng_file.specs.Takes.{Short, TakesCount, TakesOptions, TakesValue, Passes, ReadsValue}
+use Rattle.pcapng_file.specs.Takes.{Short, TakesCount, TakesOptions, Passes, ReadsValue}
 use Rattle.pcapng_file.proofs.OptionLists.{no_option, past_area, one_option, seen_first, all_options, result_by}
 use Rattle.pcapng_file.proofs.Takings.{short_behind}
 

@@ -1,9 +1,8 @@
 -- Blocks that were taken one behind the other.
-use Rattle.std.proofs.Common.{◌≡◌, ℕ, ◌+◌, ◌-◌, ◌<◌, ◌≤◌, Bool, true, false, List, [], ◌∷◌, ◌++◌, length, take, drop, Some, None, IsSome, Ok, Err, refl, sym, ap, ◌∙◌, subst, arith, append_assoc}
+use Rattle.std.proofs.Common.{◌≡◌, ℕ, ◌+◌, ◌<◌, true, false, List, [], ◌∷◌, ◌++◌, length, take, Some, None, IsSome, Ok, Err, refl, sym, ap, ◌∙◌, subst, arith, append_assoc}
 use Rattle.std.proofs.KnownBytes.{Consumes-trans, Consumes-nil}
-use Rattle.std.specs.Io.KnownBytes.{Consumes, prepend_known}
+use Rattle.std.specs.Io.KnownBytes.{prepend_known}
 use Rattle.std.specs.declared.option.Option.{Option}
-use Rattle.std.specs.declared.result.Result.{Result}
 use Rattle.wire_base.specs.declared.address.Link.{Link}
 use Rattle.pcap_file.specs.declared.order.Order.{Order}
 use Rattle.pcap_file.specs.Records.{Packet}
@@ -13,12 +12,12 @@ use Rattle.pcapng_file.specs.declared.fault.OpenFault.{OpenFault}
 use Rattle.pcapng_file.specs.declared.content.Stamp.{Stamp}
 use Rattle.pcapng_file.specs.declared.content.Found.{Found}
 use Rattle.pcapng_file.specs.declared.content.Found.TheVariants as is
-use Rattle.pcapng_file.specs.Standing.{Sections, counted, no_section}
+use Rattle.pcapng_file.specs.Standing.{Sections, counted}
 use Rattle.pcapng_file.specs.Blocks.{Step, block_at, step_of, whole_step, after_found, given_by, packet_of, before, end_by, IsPacket}
 use Rattle.pcapng_file.specs.Sections.{Walks, behind, packets_of, size_of, size_before, with_given}
 use Rattle.pcapng_file.specs.Reading.{NgReading, first_reading, IsUnlinked}
 use Rattle.pcapng_file.proofs.Wholes.{at_nothing}
-use Rattle.pcapng_file.specs.Reads.{IsKept, IsGiven, TakesBlock, TakesSteps, Moves, LooksAt, Halts, Looks, LooksOn, LooksStopped, EndsHere, Stops, TakesPacket, PassesOver, HaltsBehind, Finds, OpensAt, FailsAhead}
+use Rattle.pcapng_file.specs.Reads.{IsKept, IsGiven, TakesBlock, TakesSteps, Moves, LooksAt, Halts, Looks, LooksOn, LooksStopped, EndsHere, Stops, TakesPacket, HaltsBehind, OpensAt, FailsAhead}
 
 -- no fault was found
 abbrev pub NoFault : Found → Type 0

@@ -1,5 +1,5 @@
 -- What stands at the front of octets that came in several reads.
-use Rattle.std.proofs.Common.{◌≡◌, ◌≢◌, ℕ, ◌+◌, ◌-◌, ◌*◌, ◌<◌, ◌≤◌, ◌==◌, not, nat_lt, min, max, Bool, true, false, ◌⊎◌, List, [], ◌++◌, length, take, drop, slice_index, Some, None, Ok, Err, refl, sym, ap, ap₂, ◌∙◌, subst, arith, inl, inr, append_assoc, append-nil, if◌then◌else◌}
+use Rattle.std.proofs.Common.{◌≡◌, ◌≢◌, ℕ, ◌+◌, ◌-◌, ◌*◌, ◌<◌, ◌≤◌, ◌==◌, Bool, true, false, ◌⊎◌, List, [], ◌++◌, length, take, drop, slice_index, Some, None, Ok, Err, refl, sym, ap, ap₂, ◌∙◌, subst, arith, inl, inr, append_assoc, append-nil, if◌then◌else◌}
 use Rattle.std.proofs.lemmas.Bool.{cases_lt, cases_Bool, eq-eqb, ne_eqb, lt-ltb, le-ltb}
 use Rattle.std.proofs.lemmas.Bool.Decides.{nat_tests}
 use Rattle.std.proofs.lemmas.List.{length-append, length-take-le, nil_from_length, take_at, drop_at, drop_all, get_or-append-add, take-append-le}
@@ -7,13 +7,12 @@ use borrow.Rule.Slice.PartMut.{put_mid}
 use Rattle.std.proofs.KnownBytes.{Consumes-trans, Consumes-nil}
 use Rattle.std.specs.Io.KnownBytes.{Consumes, IsAtEnd}
 use Rattle.std.specs.declared.option.Option.{Option}
-use Rattle.std.specs.declared.result.Result.{Result}
 use Rattle.edge_io.specs.Octets.{TakesFewer}
 use Rattle.wire_base.specs.declared.address.Link.{Link}
 use Rattle.pcap_file.specs.declared.order.Order.{Order}
 use Rattle.pcap_file.specs.declared.order.Order.TheVariants.{Little, Big}
 use Rattle.pcap_file.specs.Numbers.{u16_at, u32_at}
-use Rattle.pcap_file.proofs.Fronts.{u32_at_front, length_to_end}
+use Rattle.pcap_file.proofs.Fronts.{u32_at_front}
 use Rattle.pcapng_file.specs.declared.fault.NgFault.{NgFault}
 use Rattle.pcapng_file.specs.declared.fault.NgFault.TheVariants as faults
 use Rattle.pcapng_file.specs.declared.front.Front.{Front}
@@ -27,8 +26,8 @@ use Rattle.pcapng_file.specs.Options.{options_of, described}
 use Rattle.pcapng_file.specs.Contents.{section_type, interface_type, enhanced_type, simple_type, old_packet_type, more_of, content_of, found_of, interface_found, IsPlaced, IsSound, IsTold}
 use Rattle.pcapng_file.specs.Blocks.{is_size, order_at, size_at, front_in, ordered_at, sized_at, block_at, end_by, told, before, step_of, bare, IsFront, IsInterface, IsPacket}
 use Rattle.pcapng_file.specs.Takes.{Short, TakesSize, is_read_fault}
-use Rattle.pcapng_file.specs.Reads.{IsBody, HasRoom, IsKept, TakesBody, TakesRest, TakesBlock, EndsHere, IsCut, IsFaulty, TakesPart, Stops, most_of}
-use Rattle.pcapng_file.proofs.Fields.{content_front, content_placed, more_fits, bare_found}
+use Rattle.pcapng_file.specs.Reads.{IsBody, HasRoom, IsKept, TakesBody, TakesRest, TakesBlock, EndsHere, IsCut, IsFaulty, TakesPart, Stops}
+use Rattle.pcapng_file.proofs.Fields.{content_front, content_placed, bare_found}
 
 -- a number behind the front
 u16_behind : (order : Order) (p t : List ℕ) (n k : ℕ) → n ≡ length p + k → u16_at order (p ++ t) n ≡ u16_at order t k

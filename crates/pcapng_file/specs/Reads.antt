@@ -1,7 +1,6 @@
 -- What reading a block, or the next packet, does to the octets that a source tells (this project's profile).
-use Rattle.std.specs.Prelude.{◌≡◌, ℕ, ◌+◌, ◌-◌, ◌<◌, ◌≤◌, ◌^◌, max, Bool, true, false, List, [], ◌∷◌, ◌++◌, length, take, drop, Option, Some, None, IsSome, Result, Ok, Err}
+use Rattle.std.specs.Prelude.{◌≡◌, ℕ, ◌+◌, ◌-◌, ◌<◌, ◌≤◌, max, Bool, true, false, List, [], ◌∷◌, ◌++◌, length, take, drop, Option, Some, None, IsSome, Result, Ok, Err}
 use Rattle.std.specs.Io.KnownBytes.{Consumes, IsAtEnd}
-use Rattle.wire_base.specs.declared.address.Side.{Side}
 use Rattle.pcap_file.specs.declared.order.Order.{Order}
 use Rattle.pcap_file.specs.declared.record.Record.{Record}
 use Rattle.pcap_file.specs.Records.{Packet}
@@ -18,7 +17,7 @@ use Rattle.pcapng_file.specs.declared.content.Found.TheVariants as is
 use Rattle.pcapng_file.specs.declared.block.Block.{Block}
 use Rattle.pcapng_file.specs.Standing.{Sections, counted, no_section}
 use Rattle.pcapng_file.specs.Options.{options_of, described}
-use Rattle.pcapng_file.specs.Contents.{found_of, interface_found, IsSound}
+use Rattle.pcapng_file.specs.Contents.{interface_found, IsSound}
 use Rattle.pcapng_file.specs.Blocks.{Step, order_at, size_at, sized_at, block_at, step_of, packet_of, before, IsInterface, IsPacket}
 use Rattle.pcapng_file.specs.Sections.{Walks, behind, packets_of, size_of, size_before}
 use Rattle.pcapng_file.specs.Reading.{NgReading, first_reading, IsUnlinked}

@@ -1,5 +1,5 @@
 -- What a pcapng file has said up to a block.
-use Rattle.std.specs.Prelude.{ℕ, ◌+◌, List, [], Option, Some, None}
+use Rattle.std.specs.Prelude.{ℕ, ◌+◌, List, [], Option, None}
 use Rattle.wire_base.specs.declared.address.Link.{Link}
 use Rattle.pcap_file.specs.declared.order.Order.{Order}
 use Rattle.pcapng_file.specs.declared.interface.Interface.{Interface}

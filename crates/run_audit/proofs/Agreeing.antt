@@ -98,7 +98,7 @@ well_read_of hops era f read side named =
     let both = subst Q named (subst P side read) in
     (both.0, both.1 refl)
 
-pub inward_is : (side : Option Side) → is_inward side ≡ true → side ≡ Some Inward
+inward_is : (side : Option Side) → is_inward side ≡ true → side ≡ Some Inward
 inward_is (Some Inward) e = refl
 inward_is (Some Outward) e = absurd (cc e)
 inward_is None e = absurd (cc e)

@@ -1,7 +1,6 @@
 -- Frames whose segments are emitted have no fault.
 use Rattle.std.proofs.Common.{◌≡◌, ℕ, ◌==◌, ◌&&◌, List, [], ◌∷◌, ◌++◌, map, Option, Some, None, Bool, true, false, refl, sym, ap, ◌∙◌, subst, if◌then◌else◌, append-nil, eq-eqb}
 use Rattle.std.specs.Prelude.{IsSome}
-use Rattle.std.specs.List.{AllByRecursion}
 use Rattle.wire_base.specs.declared.address.Side.{Side}
 use Rattle.wire_base.specs.declared.address.Side.TheVariants.{Inward, Outward}
 use Rattle.wire_base.specs.Ipv4 as ip
@@ -17,7 +16,7 @@ use Rattle.run_audit.specs.Emitted.{Marked, IsCertain, AreWritten, EmittedHasNoF
 use Rattle.run_audit.specs.Faults.{in_stream, in_stream_as, lacks_base, has_other_syn, has_other_octet, has_other_fin, IsFaultless, IsWellReadAs}
 use Rattle.run_audit.specs.FirstFault.{AreFaultless}
 use Rattle.run_audit.specs.Frames.{Frame, is_inward, sent}
-use Rattle.run_audit.proofs.Agreeing.{well_read_of, inward_is, named_is}
+use Rattle.run_audit.proofs.Agreeing.{well_read_of, named_is}
 use Rattle.run_audit.proofs.Emitting.{Alike, alike_none, alike_on, alike_silent, right_alike, right_silent, emitted_right}
 use Rattle.run_audit.proofs.Telling.{IsRight}
 

@@ -1,8 +1,7 @@
 -- The frames of a lawful trace have no fault.
-use Rattle.std.proofs.Common.{◌≡◌, ℕ, zero, suc, ◌+◌, ◌≤◌, ◌==◌, ◌&&◌, ◌||◌, not, nat_lt, cond, Bool, true, false, List, [], ◌∷◌, ◌++◌, length, map, drop, reverse, replicate, flat_map, Option, Some, None, refl, sym, ap, ap₂, ◌∙◌, subst, arith, append-nil, append_assoc, length-append, eq-eqb, slice_get, if◌then◌else◌}
+use Rattle.std.proofs.Common.{◌≡◌, ℕ, zero, suc, ◌+◌, ◌≤◌, ◌==◌, ◌&&◌, not, cond, Bool, true, false, List, [], ◌∷◌, ◌++◌, length, map, reverse, replicate, Option, Some, None, refl, sym, ap, ap₂, ◌∙◌, subst, arith, append-nil, append_assoc, length-append, eq-eqb, slice_get, if◌then◌else◌}
 use Rattle.std.specs.Prelude.{All, IsSome, is_ok}
 use Rattle.std.specs.List.{AllByRecursion}
-use Rattle.std.proofs.lemmas.Bool.{not_from_true, or_from, lt-leb}
 use Rattle.std.proofs.lemmas.Bool.Decides.{nat_tests}
 use Rattle.std.proofs.lemmas.List.{reverse-append, length-reverse}
 use Rattle.std.proofs.lemmas.List.Concat.{flat_map-append}
@@ -16,7 +15,6 @@ use Rattle.wire_base.specs.Ipv4 as ip
 use Rattle.wire_base.specs.Tcp as tcp
 use Rattle.wire_base.specs.Plain.{Plain}
 use Rattle.wire_base.specs.Segments.{Written, segment_of}
-use Rattle.pcap_file.specs.Records.{Packet}
 use Rattle.ipv4_codec.specs.Header as header
 use Rattle.ipv4_codec.specs.declared.header.IpFault.TheVariants as ip_faults
 use Rattle.tcp_codec.specs.Header as segment
@@ -26,17 +24,15 @@ use Rattle.rule_book.specs.Entries.{PlainEntry}
 use Rattle.norm_settings.specs.Settings.{PlainSettings}
 use Rattle.ip_rules.specs.Rows as engine_rows
 use Rattle.era_state.specs.Emission.{AreEmitted}
-use Rattle.era_agreement.specs.Sent.{Sent, is_era, aside_packets, written_as, segments_in, written_in}
+use Rattle.era_agreement.specs.Sent.{is_era, aside_packets, written_as, segments_in, written_in}
 use Rattle.era_agreement.specs.Agreement.{IsSilentPacket}
 use Rattle.era_agreement.specs.Laws.{IsEmittedEra}
 use Rattle.tcp_norm.specs.Calls.{is_written}
 use Rattle.norm_engine.specs.Items.{Item, entries}
-use Rattle.norm_engine.specs.Trace.{item_of}
-use Rattle.norm_engine.specs.Agreement.{sent_for, sent_in}
-use Rattle.norm_engine.specs.Laws.{IsSound, IsCounted, ItemsAreCounted}
+use Rattle.norm_engine.specs.Agreement.{sent_in}
+use Rattle.norm_engine.specs.Laws.{IsSound, ItemsAreCounted}
 use Rattle.norm_engine.specs.Certain as engine
 use Rattle.norm_engine.specs.Certain.{IsWholeSegment, ItemsAreCertain, LawfulIsEmitted}
-use Rattle.run_audit.specs.Audits.{frames_of}
 use Rattle.run_audit.specs.Emitted.{Marked, IsCertain, EmittedHasNoFault, frames_in, sent_as}
 use Rattle.run_audit.specs.Faults.{is_segment, IsWellReadAs}
 use Rattle.run_audit.specs.FirstFault.{AreFaultless, NoFault}

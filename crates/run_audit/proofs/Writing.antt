@@ -1,6 +1,6 @@
 -- What is written of a trace is a capture and a report.
-use Rattle.std.proofs.Common.{◌≡◌, ◌⊎◌, inl, inr, ℕ, suc, ◌+◌, ◌^◌, ◌<◌, ◌≤◌, Bool, List, [], ◌∷◌, ◌++◌, length, map, drop, reverse, flat_map, Some, None, Ok, refl, sym, ap, ap₂, ◌∙◌, subst, arith, append-nil, append_assoc, length-append}
-use Rattle.std.specs.List.{AllByRecursion, range_with_len}
+use Rattle.std.proofs.Common.{◌≡◌, inr, ℕ, ◌+◌, ◌≤◌, Bool, List, [], ◌∷◌, ◌++◌, length, map, drop, reverse, flat_map, Some, Ok, refl, sym, ap, ap₂, ◌∙◌, subst, arith, append-nil, append_assoc, length-append}
+use Rattle.std.specs.List.{AllByRecursion}
 use Rattle.std.proofs.lemmas.List.{map-append, reverse-append, reverse-reverse, length-reverse, length-map}
 use Rattle.rule_book.proofs.Texts.{all-append}
 use Rattle.wire_base.specs.declared.address.Link.{Link}
@@ -8,21 +8,18 @@ use Rattle.pcap_file.specs.declared.head.Head.{Head}
 use Rattle.pcap_file.specs.declared.order.Order.{Order}
 use Rattle.pcap_file.specs.declared.order.Order.TheVariants.{Little, Big}
 use Rattle.pcap_file.specs.Heads.{head_octets}
-use Rattle.pcap_file.specs.Records.{Packet, front_of, record_octets}
+use Rattle.pcap_file.specs.Records.{Packet, record_octets}
 use Rattle.pcap_file.specs.Capture.{ReadsTo, IsCapture}
 use Rattle.pcap_file.specs.Laws.{HeadIsReadBack, RecordIsReadBack}
 use Rattle.rule_book.specs.Entries.{PlainEntry, IsOfVersion}
-use Rattle.rule_book.specs.Reports.{EntryFits, IsEntryOf, IsReadTo, AreNumbered, PlainReport}
+use Rattle.rule_book.specs.Reports.{EntryFits, IsEntryOf, IsReadTo, AreNumbered}
 use Rattle.rule_book.specs.Text.{entry_text, first_line, report_text}
 use Rattle.rule_book.proofs.Reading.{read_more}
 use Rattle.norm_settings.specs.Settings.{PlainSettings}
 use Rattle.norm_engine.specs.Items.{Item, entries}
-use Rattle.norm_engine.specs.Trace.{item_of}
 use Rattle.norm_engine.specs.Laws.{IsSound, ItemsAreCounted}
-use Rattle.run_audit.specs.Audited.{IsYes}
 use Rattle.run_audit.specs.Audits.{frames_of}
 use Rattle.run_audit.specs.Lawful.{FitsFiles, ItemsAreWrittenInOrder, RecordFits, LawfulIsYes, WrittenIsYes, capture_written, entries_written, frames_written, last_written, record_with, records_octets, records_written, report_written}
-use Rattle.run_audit.specs.Named.{eras_named}
 use Rattle.run_audit.specs.Reported.{IsFinished}
 use Rattle.run_audit.proofs.Lawfuls.{before}
 
@@ -47,8 +44,7 @@ reads : RecordIsReadBack → (order : Order) (ws : List Packet) (rest : List ℕ
     → ReadsTo order (records_octets order ws ++ rest) ws rest
 reads back order [] rest own fits few = refl
 reads back order (w ∷ older) rest own fits few =
-    let one = record_octets order w.seconds w.fraction w.octets in
-    (
+    let one = record_octets order w.seconds w.fraction w.octets in (
       one ++ rest,
       subst (λ all. ReadsTo order all older (one ++ rest)) (sym (append_assoc (records_octets order older) one rest)) (reads back order older (one ++ rest) own.1 fits.1 (omega (arith, few))),
       back order (length older) w.seconds w.fraction w.octets rest (omega (arith, few)) fits.0.seconds fits.0.fraction fits.0.octets ∙ ap (λ x. Ok (Some (x, rest))) (sym own.0),

@@ -36,21 +36,7 @@ returns-clause-finished g c =
     let now : Moment = moment_of (g.S.Source.left c.next.new.source) (g.S.Source.fault_count c.next.new.source) (g.K.Sink.held c.finish.new.capture) (g.K.Sink.fault_count c.finish.new.capture) (g.R.Sink.held c.finish.new.report) (g.R.Sink.fault_count c.finish.new.report) in
     on_ok_weaker c.finish.result
     (normalized c.args.engine.now.settings c.in_ok-head.head _ _ now c.records.engine c.records.reader c.records.frames c.records-2.result
-    (record {
-      keeps = c.lawful_keeps_clean.ensures;
-      bounds = c.lawful_is_within.ensures;
-      goes = c.items_go_out.ensures;
-      whole = c.plain_packets_go_out.ensures.whole;
-      none = c.segments_fit.ensures.all;
-      carry = c.segments_carry_the_payload.ensures;
-      streams = record {
-        agree = c.lawful_agrees.ensures;
-        tells = c.lawful_tells_streams.ensures;
-        alike = c.plain_packets_go_out.ensures.alike;
-        cut = c.cut_packets_tell_one_stream.ensures;
-        members = c.members_agree.ensures;
-      };
-    }) c.requires.range.hops c.requires.range.mtu c.records.invariant.going (rw c.in-Ok-None.field-0-is at c.in-Ok-None.ensures.octets) c.records-2.ensures)
+    c.lawful_is_written_soundly.ensures c.requires.range c.records.invariant.going (rw c.in-Ok-None.field-0-is at c.in-Ok-None.ensures.octets) c.records-2.ensures)
     c.finish.ensures.ended
 
 pub returns-clause-stands : goal.returns-clause-stands

@@ -1,4 +1,4 @@
-use Rattle.std.proofs.Common.{rules, ◌≡◌, length, refl, sym, ap₂, ◌++◌, ◌∙◌}
+use Rattle.std.proofs.Common.{rules, refl, ap₂, ◌++◌, ◌∙◌}
 use Rattle.pcapng_file.proofs.Wholes.{joined_is}
 use Rattle.pcapng_file.proofs.block.joined.Goals as goal
 

@@ -1,4 +1,4 @@
-use Rattle.std.proofs.Common.{rules, arith, ◌≡◌, length, sym, ◌∙◌}
+use Rattle.std.proofs.Common.{rules, arith, sym, ◌∙◌}
 use Rattle.std.proofs.lemmas.Result.{err_from_is_err_and}
 use Rattle.pcap_file.proofs.Fronts.{whole}
 use Rattle.pcapng_file.proofs.Wholes.{ends_here, head_short, stops_many, stops_front, block_short, block_taken}

@@ -1,4 +1,4 @@
-use Rattle.std.proofs.Common.{◌≡◌, ℕ, ◌≤◌, min, length, take, ap, ◌∙◌, arith}
+use Rattle.std.proofs.Common.{◌≡◌, min, take, ap, ◌∙◌, arith}
 use Rattle.std.proofs.lemmas.List.{take_all}
 use Rattle.std.specs.Str.{bytes_eq}
 use Rattle.pcapng_file.proofs.interface.is_name.Goals as goal

@@ -1,5 +1,5 @@
-use Rattle.std.proofs.Common.{rules, arith, ◌≡◌, ◌<◌, ◌≤◌, length, take, drop, ◌++◌}
-use Rattle.std.proofs.lemmas.List.{length-append, length-drop, length-take-le}
+use Rattle.std.proofs.Common.{rules, arith, ◌≡◌, ◌<◌, ◌≤◌, length, take, drop}
+use Rattle.std.proofs.lemmas.List.{length-append, length-drop}
 use Rattle.pcapng_file.proofs.Takings.{kept_taken}
 use Rattle.pcapng_file.proofs.ahead.AheadSource.fetch.Goals as goal
 

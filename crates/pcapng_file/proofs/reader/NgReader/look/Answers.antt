@@ -1,4 +1,4 @@
-use Rattle.std.proofs.Common.{rules, arith, ◌≡◌, refl, sym, ◌∙◌}
+use Rattle.std.proofs.Common.{rules, arith, refl}
 use Rattle.std.specs.declared.option.Option.{Option}
 use Rattle.pcapng_file.specs.declared.content.Found.{Found}
 use Rattle.pcapng_file.proofs.Wholes.{stops_told, told_not_read}
