@@ -97,6 +97,9 @@ fn read_all(
         if !input.is_open() {
             break;
         }
+        if buf.len() < 262144 {
+            return Err("too small a buffer".into());
+        }
         match input.next(&mut source, &mut buf) {
             Ok(Some(record)) => {
                 outcome.packets[place] = Some(Found {
