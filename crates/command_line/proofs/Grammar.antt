@@ -1,7 +1,7 @@
 -- A line is read exactly where it is written.
 use Rattle.std.proofs.Common.{◌≡◌, List, [], ◌∷◌, ◌++◌, Bool, true, false, Some, None, refl, sym, ap, ◌∙◌, codes, subst, rules, if◌then◌else◌}
 use Rattle.std.specs.declared.option.Option.{Option}
-use Rattle.command_line.specs.Options.{Text, name_of, kind_of, takes_value, is_built}
+use Rattle.command_line.specs.Options.{Text, name_of, kind_of, takes_value}
 use Rattle.command_line.specs.Line.{Word, names, alone, joined, parted, unknown, PlainUse, PlainLine, with_use, parts, are_fit, fit_line, line_of, word_of, begins_with_dash, option_in, after_front}
 use Rattle.command_line.specs.Grammar.{IsWritten, by_sign, by_word, by_name, IsLine, BeginPlain, IsWrittenAs}
 use Rattle.command_line.specs.declared.options.Choice.{Choice}
@@ -14,7 +14,7 @@ Writes words line = IsLine line.uses words line.names × BeginPlain line.names
 
 abbrev From : Option Choice → List Text → PlainLine → Type 0
 From None words line = Writes words line
-From (Some c) words line = takes_value (kind_of c) ≡ true → is_built c ≡ true → Writes ((45 ∷ 45 ∷ name_of c) ∷ words) line
+From (Some c) words line = takes_value (kind_of c) ≡ true → Writes ((45 ∷ 45 ∷ name_of c) ∷ words) line
 
 abbrev Behind : List Text → Type 0
 Behind words = (waiting : Option Choice) (line : PlainLine) → parts waiting words ≡ Some line → From waiting words line
@@ -28,8 +28,8 @@ use_off c v None line e = absurd (cc)
 use_off c v (Some rest) line e = (rest, refl, cc)
 
 -- one more use in front
-use_on : (c : Choice) (v : Text) (front rest words : List Text) (inner line : PlainLine) → words ≡ front ++ rest → is_built c ≡ true → IsWritten (record { choice = c; value = v }) front → used c v inner ≡ line → Writes rest inner → Writes words line
-use_on c v front rest words inner line e b w same h = subst (Writes words) same ((front, rest, e, b, w, h.0), h.1)
+use_on : (c : Choice) (v : Text) (front rest words : List Text) (inner line : PlainLine) → words ≡ front ++ rest → IsWritten (record { choice = c; value = v }) front → used c v inner ≡ line → Writes rest inner → Writes words line
+use_on c v front rest words inner line e w same h = subst (Writes words) same ((front, rest, e, w, h.0), h.1)
 
 by_kind : (w : Word) (text : Text) (words : List Text) (line : PlainLine) → IsSpelled w text → Behind words
     → elim w [
@@ -46,11 +46,11 @@ by_kind names text words line s ih e =
     subst (Writes (text ∷ words)) same (refl, s)
 by_kind (alone c) text words line s ih e =
     let t = use_off c (codes "true") (parts None words) line e in
-    use_on c (codes "true") (text ∷ []) words (text ∷ words) t.0 line refl s.2 (by_name s.1 refl (ap (λ w. w ∷ []) s.0)) t.2 (ih None t.0 t.1)
+    use_on c (codes "true") (text ∷ []) words (text ∷ words) t.0 line refl (by_name s.1 refl (ap (λ w. w ∷ []) s.0)) t.2 (ih None t.0 t.1)
 by_kind (joined c v) text words line s ih e =
     let t = use_off c v (parts None words) line e in
-    use_on c v (text ∷ []) words (text ∷ words) t.0 line refl s.2 (by_sign s.1 (ap (λ w. w ∷ []) s.0)) t.2 (ih None t.0 t.1)
-by_kind (parted c) text words line s ih e = subst (λ w. Writes (w ∷ words) line) (sym s.0) (ih (Some c) line e s.1 s.2)
+    use_on c v (text ∷ []) words (text ∷ words) t.0 line refl (by_sign s.1 (ap (λ w. w ∷ []) s.0)) t.2 (ih None t.0 t.1)
+by_kind (parted c) text words line s ih e = subst (λ w. Writes (w ∷ words) line) (sym s.0) (ih (Some c) line e s.1)
 by_kind unknown text words line s ih e = absurd (cc)
 
 go : (words : List Text) → Behind words
@@ -59,9 +59,9 @@ go [] None line e =
     let this : PlainLine = record { uses = []; names = [] } in
     let same : this ≡ line = cc in
     subst (Writes []) same (refl, tt)
-go (text ∷ words) (Some c) line e = λ takes built.
+go (text ∷ words) (Some c) line e = λ takes.
     let t = use_off c text (parts None words) line e in
-    use_on c text ((45 ∷ 45 ∷ name_of c) ∷ text ∷ []) words ((45 ∷ 45 ∷ name_of c) ∷ text ∷ words) t.0 line refl built (by_word takes refl) t.2 (go words None t.0 t.1)
+    use_on c text ((45 ∷ 45 ∷ name_of c) ∷ text ∷ []) words ((45 ∷ 45 ∷ name_of c) ∷ text ∷ words) t.0 line refl (by_word takes refl) t.2 (go words None t.0 t.1)
 go (text ∷ words) None line e = by_kind (word_of text) text words line (spells text) (go words) e
 
 fits : (b : Bool) (line other : PlainLine) → are_fit [] line.uses ≡ b → (if b then Some line else None) ≡ Some other → (line ≡ other) × (are_fit [] other.uses ≡ true)
@@ -80,50 +80,50 @@ read_is_written words line e = read (parts None words) words line refl e
 
 -- ---- what is written as a line is read as one
 
-word_joined : (c : Choice) (v : Text) → is_built c ≡ true → takes_value (kind_of c) ≡ true → word_of (45 ∷ 45 ∷ (name_of c ++ 61 ∷ v)) ≡ joined c v
-word_joined Hops v b t = search rules
-word_joined Flows v b t = search rules
-word_joined Cells v b t = search rules
-word_joined Frags v b t = search rules
-word_joined FragCells v b t = search rules
-word_joined Idle v b t = search rules
-word_joined FragTime v b t = search rules
-word_joined Seed v b t = search rules
-word_joined Quota v b t = search rules
-word_joined Mtu v b t = search rules
-word_joined Inside v b t = search rules
-word_joined Offload v b t = search rules
-word_joined Both v b t = search rules
+word_joined : (c : Choice) (v : Text) → takes_value (kind_of c) ≡ true → word_of (45 ∷ 45 ∷ (name_of c ++ 61 ∷ v)) ≡ joined c v
+word_joined Hops v t = search rules
+word_joined Flows v t = search rules
+word_joined Cells v t = search rules
+word_joined Frags v t = search rules
+word_joined FragCells v t = search rules
+word_joined Idle v t = search rules
+word_joined FragTime v t = search rules
+word_joined Seed v t = search rules
+word_joined Quota v t = search rules
+word_joined Mtu v t = search rules
+word_joined Inside v t = search rules
+word_joined Offload v t = search rules
+word_joined Both v t = search rules
 
-word_parted : (c : Choice) → is_built c ≡ true → takes_value (kind_of c) ≡ true → word_of (45 ∷ 45 ∷ name_of c) ≡ parted c
-word_parted Hops b t = search rules
-word_parted Flows b t = search rules
-word_parted Cells b t = search rules
-word_parted Frags b t = search rules
-word_parted FragCells b t = search rules
-word_parted Idle b t = search rules
-word_parted FragTime b t = search rules
-word_parted Seed b t = search rules
-word_parted Quota b t = search rules
-word_parted Mtu b t = search rules
-word_parted Inside b t = search rules
-word_parted Offload b t = search rules
-word_parted Both b t = search rules
+word_parted : (c : Choice) → takes_value (kind_of c) ≡ true → word_of (45 ∷ 45 ∷ name_of c) ≡ parted c
+word_parted Hops t = search rules
+word_parted Flows t = search rules
+word_parted Cells t = search rules
+word_parted Frags t = search rules
+word_parted FragCells t = search rules
+word_parted Idle t = search rules
+word_parted FragTime t = search rules
+word_parted Seed t = search rules
+word_parted Quota t = search rules
+word_parted Mtu t = search rules
+word_parted Inside t = search rules
+word_parted Offload t = search rules
+word_parted Both t = search rules
 
-word_alone : (c : Choice) → is_built c ≡ true → takes_value (kind_of c) ≡ false → word_of (45 ∷ 45 ∷ name_of c) ≡ alone c
-word_alone Hops b t = search rules
-word_alone Flows b t = search rules
-word_alone Cells b t = search rules
-word_alone Frags b t = search rules
-word_alone FragCells b t = search rules
-word_alone Idle b t = search rules
-word_alone FragTime b t = search rules
-word_alone Seed b t = search rules
-word_alone Quota b t = search rules
-word_alone Mtu b t = search rules
-word_alone Inside b t = search rules
-word_alone Offload b t = search rules
-word_alone Both b t = search rules
+word_alone : (c : Choice) → takes_value (kind_of c) ≡ false → word_of (45 ∷ 45 ∷ name_of c) ≡ alone c
+word_alone Hops t = search rules
+word_alone Flows t = search rules
+word_alone Cells t = search rules
+word_alone Frags t = search rules
+word_alone FragCells t = search rules
+word_alone Idle t = search rules
+word_alone FragTime t = search rules
+word_alone Seed t = search rules
+word_alone Quota t = search rules
+word_alone Mtu t = search rules
+word_alone Inside t = search rules
+word_alone Offload t = search rules
+word_alone Both t = search rules
 
 word_plain : (text : Text) → begins_with_dash text ≡ false → word_of text ≡ names
 word_plain text e = ap (λ b. if b then option_in (after_front (codes "--") text) else names) e
@@ -138,16 +138,16 @@ after w text words =
       | unknown ↦ None
     ]
 
-use_read : (u : PlainUse) (front rest : List Text) → is_built u.choice ≡ true → IsWritten u front → parts None (front ++ rest) ≡ with_use u.choice u.value (parts None rest)
-use_read u front rest b (by_sign t e) =
+use_read : (u : PlainUse) (front rest : List Text) → IsWritten u front → parts None (front ++ rest) ≡ with_use u.choice u.value (parts None rest)
+use_read u front rest (by_sign t e) =
     let text : Text = 45 ∷ 45 ∷ (name_of u.choice ++ 61 ∷ u.value) in
-    ap (λ ws. parts None (ws ++ rest)) e ∙ ap (λ w. after w text rest) (word_joined u.choice u.value b t)
-use_read u front rest b (by_word t e) =
+    ap (λ ws. parts None (ws ++ rest)) e ∙ ap (λ w. after w text rest) (word_joined u.choice u.value t)
+use_read u front rest (by_word t e) =
     let text : Text = 45 ∷ 45 ∷ name_of u.choice in
-    ap (λ ws. parts None (ws ++ rest)) e ∙ ap (λ w. after w text (u.value ∷ rest)) (word_parted u.choice b t)
-use_read u front rest b (by_name t v e) =
+    ap (λ ws. parts None (ws ++ rest)) e ∙ ap (λ w. after w text (u.value ∷ rest)) (word_parted u.choice t)
+use_read u front rest (by_name t v e) =
     let text : Text = 45 ∷ 45 ∷ name_of u.choice in
-    ap (λ ws. parts None (ws ++ rest)) e ∙ ap (λ w. after w text rest) (word_alone u.choice b t) ∙ ap (λ x. with_use u.choice x (parts None rest)) (sym v)
+    ap (λ ws. parts None (ws ++ rest)) e ∙ ap (λ w. after w text rest) (word_alone u.choice t) ∙ ap (λ x. with_use u.choice x (parts None rest)) (sym v)
 
 names_read : (line : List Text) → BeginPlain line → parts None line ≡ Some (record { uses = []; names = line })
 names_read [] h = refl
@@ -155,8 +155,8 @@ names_read (name ∷ rest) h = ap (λ w. after w name rest) (word_plain name h)
 
 read_go : (uses : List PlainUse) (words line : List Text) → IsLine uses words line → BeginPlain line → parts None words ≡ Some (record { uses = uses; names = line })
 read_go [] words line e p = ap (parts None) e ∙ names_read line p
-read_go (u ∷ uses) words line (front, rest, e, b, w, h) p =
-    ap (parts None) e ∙ use_read u front rest b w ∙ ap (with_use u.choice u.value) (read_go uses rest line h p)
+read_go (u ∷ uses) words line (front, rest, e, w, h) p =
+    ap (parts None) e ∙ use_read u front rest w ∙ ap (with_use u.choice u.value) (read_go uses rest line h p)
 
 fit : (b : Bool) (line : PlainLine) → b ≡ true → (if b then Some line else None) ≡ Some line
 fit true line e = refl

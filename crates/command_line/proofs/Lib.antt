@@ -2,4 +2,4 @@ pub mod Fronts
 pub mod Spelling
 pub mod Reading
 pub mod Grammar
-pub mod Built
+pub mod Names

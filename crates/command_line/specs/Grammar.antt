@@ -1,6 +1,6 @@
 -- How the words of a run are written (this project's profile): the reading of them as a grammar.
 use Rattle.std.specs.Prelude.{◌≡◌, List, [], ◌∷◌, ◌++◌, true, false, codes}
-use Rattle.command_line.specs.Options.{Text, name_of, kind_of, takes_value, is_built}
+use Rattle.command_line.specs.Options.{Text, name_of, kind_of, takes_value}
 use Rattle.command_line.specs.Line.{PlainUse, PlainLine, are_fit, begins_with_dash}
 
 -- `--name=value`, `--name value`, or for an option that stands alone `--name`
@@ -9,10 +9,10 @@ pub data IsWritten (u : PlainUse) (words : List Text) : Type 0 where
   by_word : takes_value (kind_of u.choice) ≡ true → words ≡ (45 ∷ 45 ∷ name_of u.choice) ∷ u.value ∷ [] → IsWritten u words
   by_name : takes_value (kind_of u.choice) ≡ false → u.value ≡ codes "true" → words ≡ (45 ∷ 45 ∷ name_of u.choice) ∷ [] → IsWritten u words
 
--- the words are these uses, each of an option that is built and written so, and then the names
+-- the words are these uses, each written so, and then the names
 abbrev pub IsLine : List PlainUse → (words line : List Text) → Type 0
 IsLine [] words line = words ≡ line
-IsLine (u ∷ uses) words line = (front : List Text) × (rest : List Text) × (words ≡ front ++ rest) × (is_built u.choice ≡ true) × IsWritten u front × IsLine uses rest line
+IsLine (u ∷ uses) words line = (front : List Text) × (rest : List Text) × (words ≡ front ++ rest) × IsWritten u front × IsLine uses rest line
 
 -- the first of the names does not begin with `-`
 abbrev pub BeginPlain : List Text → Type 0

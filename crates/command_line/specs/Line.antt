@@ -1,7 +1,7 @@
 -- The words of a run (this project's profile): options, and then the names. A word is the list of its octets.
 use Rattle.std.specs.Prelude.{◌==◌, ◌&&◌, not, Bool, true, false, List, [], ◌∷◌, ◌++◌, map, Option, Some, None, is_some, option_map, codes, string_bytes, if◌then◌else◌}
 use Rattle.std.specs.Str.{bytes_eq}
-use Rattle.command_line.specs.Options.{Text, name_of, kind_of, is_built, all_choices, takes_value, is_value}
+use Rattle.command_line.specs.Options.{Text, name_of, kind_of, all_choices, takes_value, is_value}
 use Rattle.command_line.specs.declared.options.Choice.{Choice}
 use Rattle.command_line.specs.declared.line.Use.{Use}
 use Rattle.command_line.specs.declared.line.Line.{Line}
@@ -37,9 +37,9 @@ word_by choice None = None
 word_by choice (Some []) = Some (if takes_value (kind_of choice) then parted choice else alone choice)
 word_by choice (Some (x ∷ value)) = if x == 61 && takes_value (kind_of choice) then Some (joined choice value) else None
 
--- the option, where it is built and the text behind `--` is of it
+-- the option, where the text behind `--` is of it
 abbrev pub word_as : Choice → Text → Option Word
-word_as choice text = if is_built choice then word_by choice (after_front (name_of choice) text) else None
+word_as choice text = word_by choice (after_front (name_of choice) text)
 
 -- the first of the options that the text behind `--` is of
 abbrev pub word_in : List Choice → Text → Word

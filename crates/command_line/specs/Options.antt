@@ -43,12 +43,6 @@ kind_of Inside = Name
 kind_of Offload = Alone
 kind_of Both = Alone
 
--- whether what the option asks for is there yet: one switch each
-abbrev pub is_built : Choice → Bool
-is_built Inside = false
-is_built Both = false
-is_built _ = true
-
 -- the rows of the table, in order
 abbrev pub all_choices : List Choice
 all_choices = Hops ∷ Flows ∷ Cells ∷ Frags ∷ FragCells ∷ Idle ∷ FragTime ∷ Seed ∷ Quota ∷ Mtu ∷ Inside ∷ Offload ∷ Both ∷ []

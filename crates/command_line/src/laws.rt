@@ -1,8 +1,8 @@
 //! Laws of the words: each is the contract of a function that does nothing.
-ghost use Rattle.std.specs.Prelude.{◌≡◌, List, None, Some, false};
-ghost use Rattle.command_line.specs.Options.{Text, name_of, is_built};
-ghost use Rattle.command_line.specs.Line.{PlainUse, PlainLine, given, line_of};
-ghost use Rattle.command_line.specs.Grammar.{IsLine, IsWrittenAs};
+ghost use Rattle.std.specs.Prelude.{◌≡◌, List, Some};
+ghost use Rattle.command_line.specs.Options.{Text, name_of};
+ghost use Rattle.command_line.specs.Line.{PlainLine, line_of};
+ghost use Rattle.command_line.specs.Grammar.{IsWrittenAs};
 ghost use Rattle.command_line.specs.declared.options.Choice.{Choice};
 
 /// A line is read exactly where it is written: uses of options, each in one of its ways and once, with a value that fits, and then the names.
@@ -14,9 +14,4 @@ pub fn lines_are_those_written()
 /// No two options have one name.
 pub fn names_are_apart()
     ensures { (first second : Choice) → name_of first ≡ name_of second → first ≡ second }
-{}
-
-/// An option that is not built is not used.
-pub fn unbuilt_is_not_used()
-    ensures { (uses : List PlainUse) (words names : List Text) (choice : Choice) → IsLine uses words names → is_built choice ≡ false → given choice uses ≡ None }
 {}

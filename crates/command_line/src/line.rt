@@ -144,9 +144,6 @@ fn met_as(choice: Choice, text: &[u8]) -> Option<Met<'_>>
     ensures { option_map plain_word result ≡ word_as choice text.entry.now }
 {
     let row = choice.row();
-    if !row.is_built {
-        return None;
-    }
     let takes_value = !matches!(row.kind, Kind::Alone);
     match after_front(row.name.as_bytes(), text)? {
         [] if takes_value => Some(Met::Parted(choice)),

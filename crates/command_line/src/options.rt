@@ -1,6 +1,6 @@
 //! The options of a run: one table.
-ghost use Rattle.std.specs.Prelude.{◌≡◌, true};
-ghost use Rattle.command_line.specs.Options.{name_of, kind_of, is_built, all_choices, standard_of as standard_of_kind, IsInRange, HasStandard};
+ghost use Rattle.std.specs.Prelude.{◌≡◌};
+ghost use Rattle.command_line.specs.Options.{name_of, kind_of, all_choices, standard_of as standard_of_kind, IsInRange, HasStandard};
 
 /// An option of `run`.
 #[derive(Clone, Copy, Debug, PartialEq, Eq)]
@@ -45,15 +45,12 @@ pub struct Row<'a> {
     /// What stands after `--`.
     pub name: &'a str,
     pub kind: Kind,
-    /// Whether what the option asks for is there yet; until then its word is refused.
-    pub is_built: bool,
 }
 
 // The row of an option that takes a number.
 fn number<'a>(name: &'a str, least: u64, greatest: u64, standard: u64) -> Row<'a>
     ensures name { result.name.now ≡ name.entry.now }
     ensures kind { result.kind ≡ Kind.Number least greatest standard }
-    ensures is_built { result.is_built ≡ true }
 {
     Row {
         name,
@@ -62,7 +59,6 @@ fn number<'a>(name: &'a str, least: u64, greatest: u64, standard: u64) -> Row<'a
             greatest,
             standard,
         },
-        is_built: true,
     }
 }
 
@@ -87,7 +83,6 @@ impl Choice {
     pub fn row<'a>(self) -> Row<'a>
         ensures name { result.name.now ≡ name_of self }
         ensures kind { result.kind ≡ kind_of self }
-        ensures is_built { result.is_built ≡ is_built self }
     {
         match self {
             Choice::Hops => number("hops", 0, 254, 30),
@@ -104,7 +99,6 @@ impl Choice {
                     least: 1,
                     greatest: 262_144,
                 },
-                is_built: true,
             },
             Choice::Mtu => Row {
                 name: "mtu",
@@ -112,22 +106,18 @@ impl Choice {
                     least: 576,
                     greatest: 65_535,
                 },
-                is_built: true,
             },
             Choice::Inside => Row {
                 name: "inside",
                 kind: Kind::Name,
-                is_built: false,
             },
             Choice::Offload => Row {
                 name: "offload",
                 kind: Kind::Alone,
-                is_built: true,
             },
             Choice::Both => Row {
                 name: "both",
                 kind: Kind::Alone,
-                is_built: false,
             },
         }
     }

@@ -4,4 +4,4 @@ pub mod Steps
 pub mod Rows
 pub mod Walking
 pub mod Telling
-pub mod Built
+pub mod Together

@@ -227,7 +227,7 @@ go : (uses done : List PlainUse) (words line : List Text) → IsLine uses words 
 go [] done words line e f g rows p r =
     subst (λ us. Ends (at rows p idle 1) words us line) (sym (append-nil done))
     (subst (λ ws. Ends (at rows p idle 1) ws done line) (sym e) (names_end line done rows p g.0 g.1 r.0 r.1 r.2))
-go (u ∷ uses) done words line (front, rest, e, b, w, h) f g rows p r =
+go (u ∷ uses) done words line (front, rest, e, w, h) f g rows p r =
     let t = both_true (may_use u.choice u.value done) (are_fit (with_use done u) uses) f in
     subst (λ us. Ends (at rows p idle 1) words us line) (append_assoc done (u ∷ []) uses)
     (subst (λ ws. Ends (at rows p idle 1) ws (with_use done u ++ uses) line) (sym e)

@@ -7,7 +7,7 @@ use Rattle.wire_base.specs.Prefixes.{prefix_of}
 use Rattle.command_line.specs.Options.{Text, is_name, number_within}
 use Rattle.command_line.specs.Line.{PlainUse, PlainLine, given, line_of}
 use Rattle.command_line.specs.declared.options.Choice.TheVariants.{Inside, Mtu, Both}
-use Rattle.norm_settings.specs.Settings.{PlainSettings, plain_settings, settings_of, AreInRange, AreBuilt}
+use Rattle.norm_settings.specs.Settings.{PlainSettings, plain_settings, settings_of, AreInRange, GoTogether}
 use Rattle.norm_settings.specs.declared.command.Names.{Names}
 use Rattle.norm_settings.specs.declared.command.Command.{Command}
 use Rattle.norm_settings.specs.declared.command.Command.TheVariants.{Run, Load}
@@ -92,7 +92,7 @@ abbrev pub SettingsAreInRange : Command → Type 0
 SettingsAreInRange (Run names settings) = AreInRange (plain_settings settings)
 SettingsAreInRange (Load seed count) = Unit {0}
 
--- the settings of a run ask for nothing that is not built
-abbrev pub SettingsAreBuilt : Command → Type 0
-SettingsAreBuilt (Run names settings) = AreBuilt (plain_settings settings)
-SettingsAreBuilt (Load seed count) = Unit {0}
+-- the settings of a run go together
+abbrev pub SettingsGoTogether : Command → Type 0
+SettingsGoTogether (Run names settings) = GoTogether (plain_settings settings)
+SettingsGoTogether (Load seed count) = Unit {0}

@@ -1,8 +1,8 @@
 -- The settings of a run as plain values (this project's profile).
-use Rattle.std.specs.Prelude.{ℕ, ◌≡◌, ◌≤◌, Bool, false, List, All, Option, Some, None, IfSome, option_map, option_and_then, unwrap_or, codes, if◌then◌else◌}
+use Rattle.std.specs.Prelude.{ℕ, ◌≡◌, ◌≤◌, Bool, true, false, List, All, Option, Some, None, IfSome, option_map, option_and_then, unwrap_or, codes, if◌then◌else◌}
 use Rattle.std.specs.Str.{bytes_eq}
 use Rattle.wire_base.specs.declared.prefix.Prefix.{Prefix}
-use Rattle.command_line.specs.Options.{Text, kind_of, is_value, is_built, number_by, standard_of, IsWithin}
+use Rattle.command_line.specs.Options.{Text, kind_of, is_value, number_by, standard_of, IsWithin}
 use Rattle.command_line.specs.declared.options.Choice.{Choice}
 use Rattle.command_line.specs.declared.options.Choice.TheVariants.{Hops, Flows, Cells, Frags, FragCells, Idle, FragTime, Seed, Quota, Mtu, Inside, Offload, Both}
 use Rattle.command_line.specs.declared.options.Kind.TheVariants.{Name}
@@ -102,8 +102,8 @@ pub record AreInRange (s : PlainSettings) : Type 0 where
   pub quota : IfSome s.quota (IsWithin 1 262144)
   pub mtu : IfSome s.mtu (IsWithin 576 65535)
 
--- nothing is asked for that is not built, and no word exchanges the sides
-pub record AreBuilt (s : PlainSettings) : Type 0 where
-  pub both : is_built Both ≡ false → s.both ≡ false
+-- no word exchanges the sides, and a second engine goes neither with sides of interfaces nor with a longest packet
+pub record GoTogether (s : PlainSettings) : Type 0 where
   pub mirror : s.mirror ≡ false
-  pub inside : is_built Inside ≡ false → s.inside ≡ None
+  pub inside : s.both ≡ true → s.inside ≡ None
+  pub mtu : s.both ≡ true → s.mtu ≡ None

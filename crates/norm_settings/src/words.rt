@@ -4,7 +4,7 @@ ghost use Rattle.std.specs.List.{list_all};
 ghost use Rattle.clap.specs.Values.{kind_of};
 ghost use Rattle.command_line.specs.Line.{PlainLine, plain_use, plain_line};
 ghost use Rattle.command_line.specs.Line as spec;
-ghost use Rattle.norm_settings.specs.Asked.{asked, asked_run, asked_load, run_of, prefixes_from, plain_command, SettingsAreInRange, SettingsAreBuilt};
+ghost use Rattle.norm_settings.specs.Asked.{asked, asked_run, asked_load, run_of, prefixes_from, plain_command, SettingsAreInRange, SettingsGoTogether};
 ghost use Rattle.norm_settings.specs.Asked.{is_whole as is_whole_line, go_together as do_go_together};
 ghost use Rattle.command_line.specs.Options.{is_name as is_name_of};
 ghost use Rattle.norm_settings.specs.Found.{ReadsAs};
@@ -15,7 +15,6 @@ use crate::{Choice, Command, Names, WordFault};
 use arrayvec::ArrayVec;
 use clap::ArgMatches;
 use clap::error::ErrorKind;
-use command_line::laws::{lines_are_those_written, unbuilt_is_not_used};
 use command_line::{Line, Use, is_given, line_of, number_within};
 use std::alloc::Global;
 use wire_base::{Prefix, read_prefix};
@@ -24,7 +23,7 @@ use wire_base::{Prefix, read_prefix};
 pub fn read_words(alloc: Global, words: &[String]) -> Result<Command, WordFault>
     ensures ok { IfOk result (λ command. asked (map string_bytes words.now) ≡ Ok (plain_command command)) }
     ensures in_range { IfOk result SettingsAreInRange }
-    ensures built { IfOk result SettingsAreBuilt }
+    ensures together { IfOk result SettingsGoTogether }
     ensures err { IfErr result (λ fault. (fault ≡ WordFault.NoMemory) ⊎ (asked (map string_bytes words.now) ≡ Err fault)) }
 {
     let [verb, words @ ..] = words else {
@@ -43,7 +42,7 @@ pub fn read_words(alloc: Global, words: &[String]) -> Result<Command, WordFault>
 fn read_load(words: &[String]) -> Result<Command, WordFault>
     ensures ok { IfOk result (λ command. asked_load (map string_bytes words.now) ≡ Ok (plain_command command)) }
     ensures in_range { IfOk result SettingsAreInRange }
-    ensures built { IfOk result SettingsAreBuilt }
+    ensures together { IfOk result SettingsGoTogether }
     ensures err { IfErr result (λ fault. asked_load (map string_bytes words.now) ≡ Err fault) }
 {
     let [seed, count] = words else {
@@ -65,11 +64,9 @@ fn read_load(words: &[String]) -> Result<Command, WordFault>
 fn read_run(alloc: Global, words: &[String]) -> Result<Command, WordFault>
     ensures ok { IfOk result (λ command. asked_run (spec.line_of (map string_bytes words.now)) ≡ Ok (plain_command command)) }
     ensures in_range { IfOk result SettingsAreInRange }
-    ensures built { IfOk result SettingsAreBuilt }
+    ensures together { IfOk result SettingsGoTogether }
     ensures err { IfErr result (λ fault. (fault ≡ WordFault.NoMemory) ⊎ (asked_run (spec.line_of (map string_bytes words.now)) ≡ Err fault)) }
 {
-    lines_are_those_written();
-    unbuilt_is_not_used();
     let Some(line) = line_of(alloc, words)? else {
         return Err(WordFault::Refused);
     };
@@ -255,7 +252,7 @@ mod tests {
 
     #[test]
     fn options_are_refused(rt: HostRuntime) -> Result<(), Fail> {
-        let rows: [&[&str]; 27] = [
+        let rows: [&[&str]; 32] = [
             &["--hops", "5", "--hops=6"],
             &["--hops", "255"],
             &["--hops=255"],
@@ -281,8 +278,13 @@ mod tests {
             &["--quota=262145"],
             &["--mtu=575"],
             &["--mtu", "65536"],
-            &["--inside", "eth0"],
-            &["--both"],
+            &["--inside"],
+            &["--inside="],
+            &["--inside", "-a"],
+            &["--inside=a", "--inside=b"],
+            &["--both=true"],
+            &["--both", "--inside=a"],
+            &["--mtu=576", "--both"],
         ];
         for options in rows {
             let fault = read_options(rt.alloc(), options)?.err();

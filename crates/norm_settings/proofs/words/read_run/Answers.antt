@@ -1,8 +1,8 @@
 use Rattle.std.proofs.Common.{◌≡◌, true, rules, ◌∙◌, map, string_bytes, inl, inr, ⊎_elim, Some}
 use Rattle.std.proofs.lemmas.Result.{IfErr-weaker, IfOk-weaker}
 use Rattle.command_line.specs.Line.{plain_line, line_of}
-use Rattle.norm_settings.proofs.Built.{line_is_built}
-use Rattle.norm_settings.specs.Asked.{is_whole}
+use Rattle.norm_settings.proofs.Together.{line_goes}
+use Rattle.norm_settings.specs.Asked.{is_whole, go_together}
 use Rattle.norm_settings.proofs.Runs.{asked_is}
 use Rattle.norm_settings.proofs.words.read_run.Goals as goal
 
@@ -15,14 +15,14 @@ returns-in-Ok-clause-ok c =
     (λ command h. asked_is (map string_bytes c.args.words.now) line is whole ∙ h line (c.in-Ok.ensures.ok line is whole))
     c.run_found.ensures.ok
 
-pub returns-in-Ok-clause-built : goal.returns-in-Ok-clause-built
-returns-in-Ok-clause-built c =
+pub returns-in-Ok-clause-together : goal.returns-in-Ok-clause-together
+returns-in-Ok-clause-together c =
     let line = plain_line c.in-Some.line in
     let whole : is_whole (plain_line c.in-Some.line) ≡ true = search rules in
     let is : line_of (map string_bytes c.args.words.now) ≡ Some line = search rules in
-    let written = c.lines_are_those_written.ensures.read (map string_bytes c.args.words.now) line is in
+    let together : go_together line.uses ≡ true = search rules in
     IfOk-weaker c.run_found.result _ _
-    (λ command h. line_is_built line command (λ choice n. c.unbuilt_is_not_used.ensures line.uses (map string_bytes c.args.words.now) line.names choice written.written n) (h line (c.in-Ok.ensures.ok line is whole)))
+    (λ command h. line_goes line command together (h line (c.in-Ok.ensures.ok line is whole)))
     c.run_found.ensures.ok
 
 pub returns-in-Ok-clause-err : goal.returns-in-Ok-clause-err
