@@ -314,8 +314,13 @@ mod tests {
                 "--mtu",
                 "576",
                 "--offload",
+                "--inside=in",
             ],
         )?;
+        let Some(inside) = &settings.inside else {
+            return Err(Fail::new("no name"));
+        };
+        assert_eq!(rt; inside.as_slice(), b"in".as_slice());
         assert_eq!(rt;
             (settings.hops, settings.flows, settings.cells),
             (0, 65536, 1)
@@ -324,6 +329,13 @@ mod tests {
         assert_eq!(rt; (settings.idle, settings.frag_time), (1_000_000, 3600));
         assert_eq!(rt; (settings.seed, settings.offload), (u64::MAX, true));
         assert_eq!(rt; (settings.quota, settings.mtu), (Some(262_144), Some(576)));
+        Ok(())
+    }
+
+    #[test]
+    fn a_second_engine_is_asked_for(rt: HostRuntime) -> Result<(), Fail> {
+        let settings = settings_asked(rt.alloc(), &["--both"])?;
+        assert_eq!(rt; (settings.both, settings.mirror), (true, false));
         Ok(())
     }
 
