@@ -47,8 +47,9 @@ InwardGoesThrough (item ∷ older) mirror =
 abbrev pub FramesGoThrough : Type 0
 FramesGoThrough = (settings : PlainSettings) (link : Link) (trace mirror : List Item) → AreSound settings link trace mirror → InwardGoesThrough trace mirror
 
--- Receivers agree on what is written to either side.
+-- Receivers agree on what is written to either side, where the records and the frames are of octets, and at most 254 routers stand behind.
 abbrev pub BothAgree : Type 0
 BothAgree =
-    (settings : PlainSettings) (link : Link) (trace mirror : List Item) → AreSound settings link trace mirror
+    (settings : PlainSettings) (link : Link) (trace mirror : List Item) → settings.hops ≤ 254 → HaveOctets trace → HaveOctets mirror
+    → AreLawful settings link trace mirror
     → Agree settings.hops link trace × Agree settings.hops link mirror

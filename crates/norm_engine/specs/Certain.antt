@@ -34,7 +34,7 @@ pub record IsCertain (hops : ℕ) (link : Link) (item : Item) : Type 0 where
   pub sided : IsSome item.entry.era → IsSome item.entry.side
   pub written : item.entry.side ≡ Some Outward → IsSome item.entry.era → is_written item.entry.verdict ≡ true
 
--- this holds of each item
+-- this holds of each item of a record of octets, after others of octets, where at most 254 routers stand behind
 abbrev pub ItemsAreCertain : Type 0
 ItemsAreCertain =
     (settings : PlainSettings) (link : Link) (history : List Item) (r : Packet) → settings.hops ≤ 254 → HaveOctets history → HasOctets r

@@ -27,8 +27,8 @@ CarriesWhole link frame = (at : ℕ) × (kind_of link frame ≡ Ip at) × IsWhol
 abbrev pub GoesOut : Link → (frame : List ℕ) → Type 0
 GoesOut link frame = (kind_of link frame ≡ Arp) ⊎ CarriesWhole link frame
 
--- Each frame of the item goes out so, and each of an era carries a packet; behind the first stands at most a probe, a packet of 40 octets; and the entry names
--- at most 14 rules.
+-- Each frame of the item goes out so, and each of an era carries a packet; each behind the first has one of 40 octets, as a probe has; and the entry names at
+-- most 14 rules.
 pub record IsOutgoing (link : Link) (item : Item) : Type 0 where
   pub each : AllByRecursion (GoesOut link) item.frames
   pub of_era : (era : ℕ) → item.entry.era ≡ Some era → AllByRecursion (CarriesWhole link) item.frames

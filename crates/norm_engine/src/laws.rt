@@ -110,7 +110,7 @@ pub fn lawful_is_emitted()
 }
 
 /// Each frame that goes out carries ARP, or a whole datagram with a header of its 20 octets, whose segment, where it is TCP, has no fault but of its sum.
-/// Behind the first stands at most a probe, and an entry names at most 14 rules.
+/// Each frame behind the first has a packet of 40 octets, as a probe has, and an entry names at most 14 rules.
 pub fn items_go_out()
     ensures { ItemsGoOut }
 {
