@@ -20,7 +20,7 @@ use Rattle.pcapng_file.specs.declared.fault.NgFault.TheVariants as blocks_fault
 use Rattle.pcapng_file.specs.declared.fault.OpenFault as sections
 use Rattle.pcapng_file.specs.Standing.{Sections, no_section}
 use Rattle.pcapng_file.specs.Blocks.{Step}
-use Rattle.pcapng_file.specs.Sections.{Walks, behind}
+use Rattle.pcapng_file.specs.Sections.{Walks, behind, EndsAtInterface}
 use Rattle.pcapng_file.specs.Reading.{NgReading, written_head}
 use Rattle.pcapng_file.specs.Reads.{OpensAt, OpensBehind, FailsAhead, Stops}
 use Rattle.pcapng_file.proofs.Ends.{blocks_counted}
@@ -30,7 +30,7 @@ use Rattle.capture_input.specs.declared.fault.OpenFault.{OpenFault}
 use Rattle.capture_input.specs.declared.input.Input.{Input}
 use Rattle.capture_input.specs.declared.input.Input.TheVariants as kinds
 use Rattle.capture_input.specs.Faults.{of_flaw, of_head, of_block, at_first, at_block}
-use Rattle.capture_input.specs.Inputs.{Walk, records, blocks, section_octets, is_sections, classic_head, IsHeadOf, Took}
+use Rattle.capture_input.specs.Inputs.{Walk, records, blocks, section_octets, is_sections, classic_head, IsHeadOf, BlocksEndAt, Took}
 use Rattle.capture_input.specs.Reads as reads
 
 -- the head of a classic file, where fewer than 24 octets came
@@ -70,6 +70,7 @@ classic_opens inside a b head reader kind p none is = record {
   walk = records [];
   took = classic_took inside a b head kind p none;
   silent = refl;
+  ends = tt;
   behind = record {
     unnamed = none;
     same = ap (λ (r : Reading). r.head) is;
@@ -108,9 +109,16 @@ pub head_of_link : (link : Option Link) → IsSome link → IsHeadOf link (writt
 head_of_link None some = absurd cc
 head_of_link (Some link) some = refl
 
+behind_interface : (steps : List Step) → EndsAtInterface steps → IsSome (behind no_section steps).link
+behind_interface [] ends = absurd ends
+behind_interface (step ∷ older) ends = ends.1
+
 module _ (inside a b : Option (List ℕ)) (reader : NgReading) (kind : reads.IsKind true a) (p : OpensAt inside a b reader) where
+  known_link : IsSome reader.sections.link
+  known_link = subst (λ (s : Sections). IsSome s.link) (sym p.moves.sections) (behind_interface p.steps p.ends)
+
   linked : IsHeadOf (behind no_section p.steps).link (written_head reader.sections.link)
-  linked = subst (λ (s : Sections). IsHeadOf s.link (written_head reader.sections.link)) p.moves.sections (head_of_link reader.sections.link p.linked)
+  linked = subst (λ (s : Sections). IsHeadOf s.link (written_head reader.sections.link)) p.moves.sections (head_of_link reader.sections.link known_link)
 
   took : Took inside a b (written_head reader.sections.link) (blocks p.steps)
   took = by a b kind p.taken.taken where
@@ -131,11 +139,12 @@ module _ (inside a b : Option (List ℕ)) (reader : NgReading) (kind : reads.IsK
         walk = blocks p.steps;
         took = took;
         silent = p.silent;
+        ends = subst (λ packets. BlocksEndAt packets p.steps) (sym p.silent) p.ends;
         behind = record {
           named = p.moves.inside;
           sections = p.moves.sections;
           place = omega (arith, p.moves.place);
-          linked = p.linked;
+          linked = known_link;
           counted = omega (arith, same, counted.count);
           few = omega (arith, counted.count, counted.few);
         };
@@ -175,7 +184,7 @@ untold_classic inside a b faults.Many p = tt
 untold_classic inside a b faults.ReadFault p = (p.0, tt, p.2)
 
 untold : (inside a b : Option (List ℕ)) (result : Result Input OpenFault) → reads.Opens inside a b result → reads.Opens inside None b result
-untold inside a b (Ok input) p = record { walk = p.walk; took = tt; silent = p.silent; behind = p.behind; looked = p.looked; goes_on = p.goes_on }
+untold inside a b (Ok input) p = record { walk = p.walk; took = tt; silent = p.silent; ends = p.ends; behind = p.behind; looked = p.looked; goes_on = p.goes_on }
 untold inside a b (Err stop) (inl p) = inl (record { kind = tt; stops = untold_classic inside a b stop.fault p.stops; place = p.place })
 untold inside a b (Err stop) (inr p) = inr (record {
   kind = tt;

@@ -23,7 +23,7 @@ use Rattle.capture_input.specs.declared.fault.InputFault.{InputFault}
 use Rattle.capture_input.specs.declared.input.Input.{Input}
 use Rattle.capture_input.specs.declared.input.Input.TheVariants as kinds
 use Rattle.capture_input.specs.Faults.{of_record, of_block}
-use Rattle.capture_input.specs.Inputs.{Walk, records, blocks, IsHeadOf, Took, TakenWhole}
+use Rattle.capture_input.specs.Inputs.{Walk, records, blocks, IsHeadOf, BlocksEndAt, Took, TakenWhole}
 use Rattle.capture_input.specs.Reading.{Behind, BehindRecords, BehindBlocks}
 use Rattle.capture_input.specs.Reads.{Continues, Reads, GivesPacket, ReachesEnd, StopsBehind}
 
@@ -71,6 +71,7 @@ module _ (inside : Option (List ℕ)) (head : Head) (reader reader' : Reading) (
     head = refl;
     continues = record_continues (classic.shown given) leaves;
     packets = refl;
+    ends = tt;
     few = omega (arith, ahead.few, ahead.given, q.given);
     place = offset ∙ q.place;
     looked = asked ∙ q.place;
@@ -195,6 +196,7 @@ module _ (inside : Option (List ℕ)) (reader reader' : NgReading) (steps : List
         head = ap written_head (same_link inside reader reader' steps (p.step ∷ p.older) a b q p.steps (reader.place + walked.size_of p.older) true p.moves);
         continues = blocks_continue inside reader reader' steps (p.step ∷ p.older) a b q p.steps;
         packets = packets;
+        ends = subst (λ l. BlocksEndAt l (p.step ∷ (p.older ++ steps))) (sym packets) p.given;
         few = omega (arith, packets_few (p.step ∷ (p.older ++ steps)), behind_now.few);
         place = offset ∙ place;
         looked = place;

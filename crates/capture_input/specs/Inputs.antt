@@ -11,7 +11,7 @@ use Rattle.pcap_file.specs.Capture.{ReadsTo, offset_of}
 use Rattle.pcapng_file.specs.declared.fault.NgFault.{NgFault}
 use Rattle.pcapng_file.specs.Standing.{no_section}
 use Rattle.pcapng_file.specs.Blocks.{Step, block_at}
-use Rattle.pcapng_file.specs.Sections.{Walks, behind, packets_of, size_of, size_before}
+use Rattle.pcapng_file.specs.Sections.{Walks, behind, packets_of, size_of, size_before, EndsAtInterface}
 use Rattle.pcapng_file.specs.Reading.{written_head}
 use Rattle.capture_input.specs.declared.fault.InputFault.{InputFault}
 use Rattle.capture_input.specs.declared.fault.InputFault.TheVariants as faults
@@ -45,6 +45,21 @@ abbrev pub newest_place : Walk → ℕ
 newest_place (records []) = offset_of []
 newest_place (records (packet ∷ older)) = offset_of older
 newest_place (blocks steps) = size_before steps
+
+-- the packet of the newest block, where it is a packet block
+abbrev pub newest_given : List Step → Option Packet
+newest_given [] = None
+newest_given (step ∷ older) = step.given
+
+-- Blocks with these packets end with the block of the newest one or, where there is none, with the first interface block.
+abbrev pub BlocksEndAt : (packets : List Packet) → List Step → Type 0
+BlocksEndAt [] steps = EndsAtInterface steps
+BlocksEndAt (packet ∷ older) steps = newest_given steps ≡ Some packet
+
+-- What was read ends with its newest packet or, where there is none, with its head.
+abbrev pub EndsAtNewest : Walk → Type 0
+EndsAtNewest (records packets) = Unit {0}
+EndsAtNewest (blocks steps) = BlocksEndAt (packets_of steps) steps
 
 -- the head of a classic file; it has no interfaces, so that it is refused where the name of one is given
 abbrev pub classic_head : (inside : Option (List ℕ)) → Result Head Flaw → Result Head InputFault

@@ -17,7 +17,7 @@ use Rattle.capture_input.specs.declared.fault.InputFault.TheVariants as faults
 use Rattle.capture_input.specs.declared.fault.OpenFault.{OpenFault}
 use Rattle.capture_input.specs.declared.input.Input.{Input}
 use Rattle.capture_input.specs.Faults.{of_record, of_block}
-use Rattle.capture_input.specs.Inputs.{Walk, records, blocks, is_sections, classic_head, packets_in, place_behind, newest_place, Took, TakenWhole}
+use Rattle.capture_input.specs.Inputs.{Walk, records, blocks, is_sections, classic_head, packets_in, place_behind, newest_place, EndsAtNewest, Took, TakenWhole}
 use Rattle.capture_input.specs.Reading.{head_in, asked_in, is_open_in, Behind}
 
 -- where a source tells its octets, they are of this kind
@@ -53,11 +53,12 @@ pub record StopsBeforeInterface (inside old new : Option (List ℕ)) (fault : In
 abbrev pub StopsInHead : (inside old new : Option (List ℕ)) → InputFault → (offset : ℕ) → Type 0
 StopsInHead inside old new fault offset = StopsInClassicHead inside old new fault offset ⊎ StopsBeforeInterface inside old new fault offset
 
--- The octets of the head were taken, and no packet stood among them.
+-- The octets of the head were taken, and none behind them; no packet stood among them.
 pub record OpensAt (inside old new : Option (List ℕ)) (input : Input) : Type 0 where
   pub walk : Walk
   pub took : Took inside old new (head_in input) walk
   pub silent : packets_in walk ≡ []
+  pub ends : EndsAtNewest walk
   pub behind : Behind input inside walk
   pub looked : asked_in input ≡ newest_place walk
   pub goes_on : is_open_in input ≡ true
@@ -71,13 +72,14 @@ Opens inside old new (Err stop) = StopsInHead inside old new stop.fault stop.off
 abbrev pub Continues : (inside : Option (List ℕ)) → Head → (walk farther : Walk) → (before after : Option (List ℕ)) → Type 0
 Continues inside head walk farther before after = (all : Option (List ℕ)) → Took inside all before head walk → Took inside all after head farther
 
--- Behind what was read a packet was taken: this one, at the offset of its record or block.
+-- Behind what was read a packet was taken, and nothing behind it: this one, at the offset of its record or block.
 pub record GivesPacket (old new : Input) (inside : Option (List ℕ)) (walk : Walk) (before after : Option (List ℕ)) (given : Record) : Type 0 where
   pub farther : Walk
   pub behind : Behind new inside farther
   pub head : head_in new ≡ head_in old
   pub continues : Continues inside (head_in old) walk farther before after
   pub packets : packets_in farther ≡ shown given ∷ packets_in walk
+  pub ends : EndsAtNewest farther
   pub few : length (packets_in farther) < 2 ^ 32
   pub place : given.offset ≡ newest_place farther
   pub looked : asked_in new ≡ newest_place farther

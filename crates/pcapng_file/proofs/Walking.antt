@@ -12,9 +12,9 @@ use Rattle.pcapng_file.specs.declared.fault.OpenFault.{OpenFault}
 use Rattle.pcapng_file.specs.declared.content.Stamp.{Stamp}
 use Rattle.pcapng_file.specs.declared.content.Found.{Found}
 use Rattle.pcapng_file.specs.declared.content.Found.TheVariants as is
-use Rattle.pcapng_file.specs.Standing.{Sections, counted}
+use Rattle.pcapng_file.specs.Standing.{Sections, counted, no_section}
 use Rattle.pcapng_file.specs.Blocks.{Step, block_at, step_of, whole_step, after_found, given_by, packet_of, before, end_by, IsPacket}
-use Rattle.pcapng_file.specs.Sections.{Walks, behind, packets_of, size_of, size_before, with_given}
+use Rattle.pcapng_file.specs.Sections.{Walks, behind, packets_of, size_of, size_before, with_given, EndsAtInterface}
 use Rattle.pcapng_file.specs.Reading.{NgReading, first_reading, IsUnlinked}
 use Rattle.pcapng_file.proofs.Wholes.{at_nothing}
 use Rattle.pcapng_file.specs.Reads.{IsKept, IsGiven, TakesBlock, TakesSteps, Moves, LooksAt, Halts, Looks, LooksOn, LooksStopped, EndsHere, Stops, TakesPacket, HaltsBehind, OpensAt, FailsAhead}
@@ -220,16 +220,26 @@ never_ends inside sections b c unlinked q =
 no_interface : (sections : Sections) → sections.link ≡ None → IsUnlinked sections.link sections.interfaces → length sections.interfaces ≡ 0
 no_interface sections e u = let none : sections.interfaces ≡ [] = subst (λ (l : Option Link). IsUnlinked l sections.interfaces) e u in ap length none
 
--- The file was read up to here; no packet stood in it.
+-- behind the blocks before the newest one no link is known
+abbrev pub UnlinkedBefore : List Step → Type 0
+UnlinkedBefore [] = Unit {0}
+UnlinkedBefore (step ∷ older) = (behind no_section older).link ≡ None
+
+ends_at_interface : (steps : List Step) → UnlinkedBefore steps → IsSome (behind no_section steps).link → EndsAtInterface steps
+ends_at_interface [] before linked = absurd cc
+ends_at_interface (step ∷ older) before linked = (before, linked)
+
+-- The file was read up to here; no packet stood in it, and before the newest block no interface.
 pub record OpensSoFar (inside : Option (List ℕ)) (now : NgReading) (a b : Option (List ℕ)) : Type 0 where
   pub so_far : Between (first_reading inside) now a b
   pub unlinked : IsUnlinked now.sections.link now.sections.interfaces
+  pub before : UnlinkedBefore so_far.steps
   pub looked : now.asked ≡ size_before so_far.steps
   pub going : now.is_open ≡ true
 
 pub opens_first : (inside : Option (List ℕ)) (a : Option (List ℕ)) → OpensSoFar inside (first_reading inside) a a
 unfolding between_none
-opens_first inside a = record { so_far = between_none (first_reading inside) a; unlinked = refl; looked = refl; going = refl }
+opens_first inside a = record { so_far = between_none (first_reading inside) a; unlinked = refl; before = tt; looked = refl; going = refl }
 
 -- one more block before the first interface
 pub record OpensMore (inside : Option (List ℕ)) (now new : NgReading) (a c : Option (List ℕ)) : Type 0 where
@@ -246,6 +256,7 @@ module _ (inside : Option (List ℕ)) (now new : NgReading) (a b c : Option (Lis
         so_far = record {
           so_far = passed_behind (first_reading inside) now new a b c p.so_far buf found no_packet q;
           unlinked = q.unlinked;
+          before = ap (λ (s : Sections). s.link) (sym p.so_far.sections) ∙ unlinked;
           looked = q.moves.looked ∙ p.so_far.place ∙ omega arith;
           going = q.moves.goes_on;
         };
@@ -272,6 +283,6 @@ opens_at inside now a b p linked = record {
   steps = p.so_far.steps;
   taken = p.so_far.taken;
   silent = p.so_far.silent;
-  linked = linked;
+  ends = ends_at_interface p.so_far.steps p.before (subst (λ (s : Sections). IsSome s.link) p.so_far.sections linked);
   moves = record { inside = p.so_far.inside; sections = p.so_far.sections; place = p.so_far.place; looked = p.looked; goes_on = p.going };
 }

@@ -1,5 +1,5 @@
 -- What reading a block, or the next packet, does to the octets that a source tells (this project's profile).
-use Rattle.std.specs.Prelude.{◌≡◌, ℕ, ◌+◌, ◌-◌, ◌<◌, ◌≤◌, max, Bool, true, false, List, [], ◌∷◌, ◌++◌, length, take, drop, Option, Some, None, IsSome, Result, Ok, Err}
+use Rattle.std.specs.Prelude.{◌≡◌, ℕ, ◌+◌, ◌-◌, ◌<◌, ◌≤◌, max, Bool, true, false, List, [], ◌∷◌, ◌++◌, length, take, drop, Option, Some, None, Result, Ok, Err}
 use Rattle.std.specs.Io.KnownBytes.{Consumes, IsAtEnd}
 use Rattle.pcap_file.specs.declared.order.Order.{Order}
 use Rattle.pcap_file.specs.declared.record.Record.{Record}
@@ -19,7 +19,7 @@ use Rattle.pcapng_file.specs.Standing.{Sections, counted, no_section}
 use Rattle.pcapng_file.specs.Options.{options_of, described}
 use Rattle.pcapng_file.specs.Contents.{interface_found, IsSound}
 use Rattle.pcapng_file.specs.Blocks.{Step, order_at, size_at, sized_at, block_at, step_of, packet_of, before, IsInterface, IsPacket}
-use Rattle.pcapng_file.specs.Sections.{Walks, behind, packets_of, size_of, size_before}
+use Rattle.pcapng_file.specs.Sections.{Walks, behind, packets_of, size_of, size_before, EndsAtInterface}
 use Rattle.pcapng_file.specs.Reading.{NgReading, first_reading, IsUnlinked}
 use Rattle.pcapng_file.specs.Takes.{Short}
 
@@ -162,6 +162,7 @@ pub record Halts (old new : NgReading) (P : Type 0) : Type 0 where
   pub moves : Moves old new [] old.place false
   pub why : P
 
+-- the block at the front was taken, or there is none, or this is its fault
 abbrev pub Looks : (old new : NgReading) → (before after : Option (List ℕ)) → (buf : List ℕ) → Result (Option Found) NgFault → Type 0
 Looks old new before after buf (Ok None) = Halts old new (EndsHere old.inside old.sections before after)
 Looks old new before after buf (Ok (Some found)) = LooksAt old new before after buf found
@@ -172,15 +173,17 @@ abbrev pub only_fault : {T : Type 0} → Result T OpenFault → Result T NgFault
 only_fault (Ok value) = Ok value
 only_fault (Err stop) = Err stop.fault
 
--- One block was taken before the first interface, or octets of it, and it is at fault.
+-- Before the first interface one more block was taken, or none was left.
 pub record LooksOn (old new : NgReading) (before after : Option (List ℕ)) : Type 0 where
   pub given : Option Found
   pub looked : Looks old new before after [] (Ok given)
 
+-- Before the first interface the next block has this fault, or the source failed in it, and this is its offset.
 pub record LooksStopped (old new : NgReading) (before after : Option (List ℕ)) (stop : OpenFault) : Type 0 where
   pub halted : Halts old new (Stops old.inside old.sections before after stop.fault)
   pub place : stop.offset ≡ new.asked
 
+-- one more block was taken before the first interface, or this is its fault
 abbrev pub LooksAhead : (old new : NgReading) → (before after : Option (List ℕ)) → Result (Unit {0}) OpenFault → Type 0
 LooksAhead old new before after (Ok done) = LooksOn old new before after
 LooksAhead old new before after (Err stop) = LooksStopped old new before after stop
@@ -231,12 +234,12 @@ IfPacket (Ok (Some given)) P = P given
 IfPacket (Ok None) P = Unit {0}
 IfPacket (Err fault) P = Unit {0}
 
--- The octets up to the end of the first interface block were taken; no packet stood among them.
+-- The octets up to the end of the first interface block were taken, and none behind them; no packet stood among them.
 pub record OpensAt (inside old new : Option (List ℕ)) (reading : NgReading) : Type 0 where
   pub steps : List Step
   pub taken : TakesSteps inside no_section old new steps
   pub silent : packets_of steps ≡ []
-  pub linked : IsSome reading.sections.link
+  pub ends : EndsAtInterface steps
   pub moves : Moves (first_reading inside) reading steps (size_before steps) true
 
 -- Blocks without a packet or an interface were passed over, and the one behind them, at this offset, has this fault.

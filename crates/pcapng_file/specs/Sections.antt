@@ -1,5 +1,5 @@
 -- A pcapng file as a whole: a list of blocks, and the end or a first fault at an offset.
-use Rattle.std.specs.Prelude.{◌≡◌, ℕ, ◌+◌, List, [], ◌∷◌, Option, Some, None, Ok, Err}
+use Rattle.std.specs.Prelude.{◌≡◌, ℕ, ◌+◌, List, [], ◌∷◌, Option, Some, None, IsSome, Ok, Err}
 use Rattle.pcap_file.specs.Records.{Packet}
 use Rattle.pcapng_file.specs.declared.fault.NgFault.{NgFault}
 use Rattle.pcapng_file.specs.Standing.{Sections, no_section}
@@ -35,6 +35,11 @@ size_of (step ∷ older) = size_of older + step.size
 abbrev pub size_before : List Step → ℕ
 size_before [] = 0
 size_before (step ∷ older) = size_of older
+
+-- Blocks end with the first interface block: behind the newest one a link is known, and behind the older ones none.
+abbrev pub EndsAtInterface : List Step → Type 0
+EndsAtInterface [] = ⊥
+EndsAtInterface (step ∷ older) = ((behind no_section older).link ≡ None) × IsSome step.after.link
 
 -- The octets are these blocks, the newest first, and nothing else.
 pub record IsSections (inside : Option (List ℕ)) (octets : List ℕ) (steps : List Step) : Type 0 where

@@ -2,7 +2,8 @@
 use edge_io::Failed;
 use thiserror::Error;
 
-/// Why there is no further record. The octets of a block are all looked at before what it says.
+/// Why there is no further record. `Magic`, `Many`, and `Block` for a size that no block has are told from the first twelve octets of a block; `Version`,
+/// `Link`, `Long`, and `Block` for anything else only of a block that is not cut short.
 #[derive(Clone, Copy, Debug, PartialEq, Eq, Error)]
 pub enum NgFault {
     #[error("the octets end inside a block, or before the first interface")]
