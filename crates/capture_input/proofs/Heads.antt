@@ -109,7 +109,7 @@ pub head_of_link : (link : Option Link) → IsSome link → IsHeadOf link (writt
 head_of_link None some = absurd cc
 head_of_link (Some link) some = refl
 
-behind_interface : (steps : List Step) → EndsAtInterface steps → IsSome (behind no_section steps).link
+pub behind_interface : (steps : List Step) → EndsAtInterface steps → IsSome (behind no_section steps).link
 behind_interface [] ends = absurd ends
 behind_interface (step ∷ older) ends = ends.1
 

@@ -29,7 +29,7 @@ accepted (Some name) (Ok other) head e = absurd cc
 accepted (Some name) (Err flaw) head e = absurd cc
 
 -- a head of a pcapng file is one
-head_one : (link : Option Link) (head other : Head) → IsHeadOf link head → IsHeadOf link other → head ≡ other
+pub head_one : (link : Option Link) (head other : Head) → IsHeadOf link head → IsHeadOf link other → head ≡ other
 head_one None head other p q = absurd p
 head_one (Some link) head other p q = p ∙ sym q
 
@@ -45,7 +45,7 @@ sections_of : (inside : Option (List ℕ)) (octets : List ℕ) (head : Head) (st
 sections_of inside octets head steps p = record { walks = p.walks; ends = at_nothing inside (behind no_section steps) ∙ ends_by (behind no_section steps).link head p.linked }
 
 -- octets are of one kind
-one_kind : (octets : List ℕ) → is_sections octets ≡ false → is_sections octets ≡ true → ⊥
+pub one_kind : (octets : List ℕ) → is_sections octets ≡ false → is_sections octets ≡ true → ⊥
 one_kind octets p q = cc
 
 same_walks : (inside : Option (List ℕ)) (octets : List ℕ) (head other : Head) (walk farther : Walk) → BeginsWith inside octets head walk [] → BeginsWith inside octets other farther []

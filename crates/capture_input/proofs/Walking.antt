@@ -121,7 +121,7 @@ classic_fails inside head reader reader' (blocks steps) a b fault fails asked cl
 
 -- blocks
 
-some_link : (link : Option Link) → IsSome link → (l : Link) × (link ≡ Some l)
+pub some_link : (link : Option Link) → IsSome link → (l : Link) × (link ≡ Some l)
 some_link None some = absurd cc
 some_link (Some l) some = (l, refl)
 

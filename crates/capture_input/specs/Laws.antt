@@ -1,10 +1,10 @@
 -- Laws of the definitions of an input.
-use Rattle.std.specs.Prelude.{◌≡◌, ◌⊎◌, ℕ, false, List, Option}
+use Rattle.std.specs.Prelude.{◌≡◌, ◌⊎◌, ℕ, false, List, length, Option}
 use Rattle.pcap_file.specs.declared.head.Head.{Head}
 use Rattle.pcap_file.specs.Records.{Packet}
 use Rattle.capture_input.specs.declared.fault.InputFault.{InputFault}
 use Rattle.capture_input.specs.Faults.{is_read_fault}
-use Rattle.capture_input.specs.Inputs.{Walk, packets_in, place_behind, IsInput, FailsAt, EndsWell, EndsBadly, Took, TookAll, TakenWhole, HasFaultAt}
+use Rattle.capture_input.specs.Inputs.{Walk, packets_in, place_behind, EndsAtNewest, BeginsWith, IsInput, FailsAt, EndsWell, EndsBadly, Took, TookAll, TakenWhole, HasFaultAt}
 use Rattle.capture_input.specs.Reads.{StopsInHead, StopsAt}
 
 -- Octets that are an input have one head and one list of packets.
@@ -12,6 +12,13 @@ abbrev pub InputIsOne : Type 0
 InputIsOne =
     (inside : Option (List ℕ)) (octets : List ℕ) (head other : Head) (packets others : List Packet)
     → IsInput inside octets head packets → IsInput inside octets other others → (head ≡ other) × (packets ≡ others)
+
+-- Octets begin in one way with so many packets and nothing behind the newest of them or, where there is none, behind the head.
+abbrev pub BeginningIsOne : Type 0
+BeginningIsOne =
+    (inside : Option (List ℕ)) (octets : List ℕ) (head other : Head) (walk farther : Walk) (rest left : List ℕ)
+    → BeginsWith inside octets head walk rest → BeginsWith inside octets other farther left → EndsAtNewest walk → EndsAtNewest farther
+    → length (packets_in walk) ≡ length (packets_in farther) → (head ≡ other) × (walk ≡ farther) × (rest ≡ left)
 
 -- Octets have one first fault, at one offset.
 abbrev pub FaultIsOne : Type 0

@@ -1,9 +1,14 @@
 //! Laws over the definitions alone.
-ghost use Rattle.capture_input.specs.Laws.{InputIsOne, FaultIsOne, FaultExcludesEnd, EachInputEnds, HeadStopsAreFaults, StopsAreFaults, WholeIsInput};
+ghost use Rattle.capture_input.specs.Laws.{InputIsOne, BeginningIsOne, FaultIsOne, FaultExcludesEnd, EachInputEnds, HeadStopsAreFaults, StopsAreFaults, WholeIsInput};
 
 /// An input has one head and one list of packets.
 pub fn input_is_one()
     ensures { InputIsOne }
+{}
+
+/// An input begins in one way with so many packets and nothing behind them.
+pub fn beginning_is_one()
+    ensures { BeginningIsOne }
 {}
 
 /// Octets have one first fault, at one offset.
