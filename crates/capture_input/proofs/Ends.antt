@@ -1,13 +1,13 @@
 -- All octets are an input or have a first fault; and what a stop says of them.
-use Rattle.std.proofs.Common.{◌≡◌, ◌⊎◌, ℕ, Bool, true, false, List, [], ◌∷◌, length, drop, Option, Some, None, IsSome, Result, Ok, Err, refl, sym, ap, ◌∙◌, subst, inl, inr}
+use Rattle.std.proofs.Common.{◌≡◌, ◌⊎◌, ℕ, Bool, true, false, List, Option, Some, None, Result, Ok, Err, refl, sym, ap, ◌∙◌, subst, inl, inr}
 use Rattle.wire_base.specs.declared.address.Link.{Link}
 use Rattle.pcap_file.specs.declared.head.Head.{Head}
 use Rattle.pcap_file.specs.Flaws.{Flaw}
 use Rattle.pcap_file.specs.Heads.{head_of}
 use Rattle.pcap_file.specs.Capture as classic
 use Rattle.pcap_file.proofs.Ends as classic_ends
-use Rattle.pcapng_file.specs.Standing.{Sections, no_section}
-use Rattle.pcapng_file.specs.Blocks.{Step, block_at, end_by}
+use Rattle.pcapng_file.specs.Standing.{no_section}
+use Rattle.pcapng_file.specs.Blocks.{end_by}
 use Rattle.pcapng_file.specs.Sections.{behind, packets_of}
 use Rattle.pcapng_file.specs.Sections as sections
 use Rattle.pcapng_file.specs.Reading.{written_head}
@@ -15,7 +15,7 @@ use Rattle.pcapng_file.proofs.Wholes.{at_nothing}
 use Rattle.pcapng_file.proofs.Ends as sections_ends
 use Rattle.capture_input.specs.declared.fault.InputFault.TheVariants as faults
 use Rattle.capture_input.specs.Faults.{of_flaw, of_block}
-use Rattle.capture_input.specs.Inputs.{Walk, records, blocks, is_sections, classic_head, IsHeadOf, FailsAt, EndsWell, EndsBadly}
+use Rattle.capture_input.specs.Inputs.{records, blocks, is_sections, classic_head, IsHeadOf, FailsAt, EndsWell, EndsBadly}
 use Rattle.capture_input.specs.Laws.{EachInputEnds}
 
 -- a pcapng file

@@ -1,5 +1,5 @@
 -- How an input is opened: what its first octets say, and what its head is.
-use Rattle.std.proofs.Common.{◌≡◌, ℕ, ◌+◌, ◌<◌, ◌≤◌, ◌==◌, Bool, true, false, List, [], ◌∷◌, ◌++◌, length, take, drop, Option, Some, None, IsSome, Result, Ok, Err, refl, sym, ap, ◌∙◌, subst, arith, inl, inr, append-nil}
+use Rattle.std.proofs.Common.{◌≡◌, ℕ, ◌<◌, ◌≤◌, Bool, true, false, List, [], ◌∷◌, ◌++◌, length, take, Option, Some, None, IsSome, Result, Ok, Err, refl, sym, ap, ◌∙◌, subst, arith, inl, inr, append-nil}
 use Rattle.std.proofs.lemmas.Bool.{cases_lt}
 use Rattle.std.proofs.lemmas.List.{take_all, take_at}
 use Rattle.std.specs.Str.{bytes_eq}
@@ -15,22 +15,21 @@ use Rattle.pcap_file.specs.ReadsHead.{ReadsHead, Begins, Judges}
 use Rattle.pcap_file.specs.Reading.{Reading}
 use Rattle.pcap_file.proofs.Fronts.{whole}
 use Rattle.pcap_file.proofs.Beginnings.{begins_short, judged}
-use Rattle.pcapng_file.specs.declared.fault.NgFault.{NgFault}
 use Rattle.pcapng_file.specs.declared.fault.NgFault.TheVariants as blocks_fault
 use Rattle.pcapng_file.specs.declared.fault.OpenFault as sections
 use Rattle.pcapng_file.specs.Standing.{Sections, no_section}
 use Rattle.pcapng_file.specs.Blocks.{Step}
 use Rattle.pcapng_file.specs.Sections.{Walks, behind, EndsAtInterface}
 use Rattle.pcapng_file.specs.Reading.{NgReading, written_head}
-use Rattle.pcapng_file.specs.Reads.{OpensAt, OpensBehind, FailsAhead, Stops}
+use Rattle.pcapng_file.specs.Reads.{OpensAt, FailsAhead}
 use Rattle.pcapng_file.proofs.Ends.{blocks_counted}
 use Rattle.capture_input.specs.declared.fault.InputFault.{InputFault}
 use Rattle.capture_input.specs.declared.fault.InputFault.TheVariants as faults
 use Rattle.capture_input.specs.declared.fault.OpenFault.{OpenFault}
 use Rattle.capture_input.specs.declared.input.Input.{Input}
 use Rattle.capture_input.specs.declared.input.Input.TheVariants as kinds
-use Rattle.capture_input.specs.Faults.{of_flaw, of_head, of_block, at_first, at_block}
-use Rattle.capture_input.specs.Inputs.{Walk, records, blocks, section_octets, is_sections, classic_head, IsHeadOf, BlocksEndAt, Took}
+use Rattle.capture_input.specs.Faults.{of_flaw, of_head, at_first, at_block}
+use Rattle.capture_input.specs.Inputs.{records, blocks, section_octets, is_sections, classic_head, IsHeadOf, BlocksEndAt, Took}
 use Rattle.capture_input.specs.Reads as reads
 
 -- the head of a classic file, where fewer than 24 octets came

@@ -1,5 +1,5 @@
 -- Octets begin in one way with so many packets and nothing behind the newest of them.
-use Rattle.std.proofs.Common.{◌≡◌, ℕ, ◌+◌, ◌<◌, ◌≤◌, List, [], ◌∷◌, ◌++◌, length, drop, Option, Some, None, IsSome, Ok, refl, sym, ap, ◌∙◌, subst, arith, inl, inr}
+use Rattle.std.proofs.Common.{◌≡◌, ℕ, ◌+◌, ◌<◌, ◌≤◌, List, [], ◌∷◌, ◌++◌, length, drop, Option, Some, None, Ok, refl, sym, ap, ◌∙◌, subst, arith, inl, inr}
 use Rattle.std.proofs.lemmas.Bool.{cases_lt}
 use Rattle.std.proofs.lemmas.List.{length-append, nil_from_length}
 use Rattle.pcap_file.specs.declared.head.Head.{Head}
@@ -12,24 +12,24 @@ use Rattle.pcapng_file.specs.Blocks.{Step, block_at}
 use Rattle.pcapng_file.specs.Sections.{Walks, behind, packets_of, with_given, EndsAtInterface}
 use Rattle.pcapng_file.proofs.Unique.{same_steps}
 use Rattle.pcapng_file.proofs.Ends.{behind_on, packets_on, links_stay}
-use Rattle.capture_input.specs.Inputs.{Walk, records, blocks, IsHeadOf, BlocksEndAt}
+use Rattle.capture_input.specs.Inputs.{records, blocks, IsHeadOf, BlocksEndAt}
 use Rattle.capture_input.specs.Laws.{BeginningIsOne}
 use Rattle.capture_input.proofs.Unique.{accepted, head_one, one_kind}
 use Rattle.capture_input.proofs.Heads.{behind_interface}
 use Rattle.capture_input.proofs.Walking.{some_link}
 
--- blocks that go on from others
+-- Blocks that go on from others.
 record GoOn (inside : Option (List ℕ)) (ps qs : List Step) (r t : List ℕ) : Type 0 where
   newer : List Step
   are : qs ≡ newer ++ ps
   walks : Walks inside (behind no_section ps) r newer t
 
--- blocks with at least as many packets have at most one less before their newest one
-one_less : (given : Option Packet) (older : List Packet) (count : ℕ) → count ≤ length older → length (with_given given older) ≡ count → given ≡ None
-one_less None older count few same = refl
-one_less (Some packet) older count few same = absurd (omega arith)
+-- where the older blocks have all the packets, the newest one gives none
+none_given : (given : Option Packet) (older : List Packet) (count : ℕ) → count ≤ length older → length (with_given given older) ≡ count → given ≡ None
+none_given None older count few same = refl
+none_given (Some packet) older count few same = absurd (omega arith)
 
--- blocks whose newest one has no packet end with the first interface, if they do so at all
+-- where the newest block has no packet, it is the first interface, and there is no packet
 silent_end : (packets : List Packet) (step : Step) (older : List Step) → step.given ≡ None → BlocksEndAt packets (step ∷ older) → (packets ≡ []) × ((behind no_section older).link ≡ None)
 silent_end [] step older none ends = (refl, ends.0)
 silent_end (packet ∷ others) step older none ends = let given : step.given ≡ Some packet = ends in absurd cc
@@ -53,7 +53,7 @@ module _ (inside : Option (List ℕ)) (all : List ℕ) where
         }
   ]
 
-  -- more blocks with as many packets do not end with the newest packet, nor with the first interface
+  -- no more blocks with as many packets end so
   none_more : (ps qs : List Step) (r t : List ℕ) → Walks inside no_section all ps r → Walks inside no_section all qs t → BlocksEndAt (packets_of ps) ps → BlocksEndAt (packets_of qs) qs
       → length (packets_of ps) ≡ length (packets_of qs) → length ps < length qs → ⊥
   none_more ps [] r t p q first last same less = absurd (omega arith)
@@ -61,7 +61,7 @@ module _ (inside : Option (List ℕ)) (all : List ℕ) where
       let on = go_on ps older r q.0 p q.1 (omega arith) in
       let count : length (packets_of older) ≡ length (packets_of on.newer) + length (packets_of ps) =
       ap (λ l. length (packets_of l)) on.are ∙ ap length (packets_on ps on.newer) ∙ length-append (packets_of on.newer) (packets_of ps) in
-      let silent = one_less y.given (packets_of older) (length (packets_of ps)) (omega (arith, count)) (sym same) in
+      let silent = none_given y.given (packets_of older) (length (packets_of ps)) (omega (arith, count)) (sym same) in
       let end = silent_end (packets_of (y ∷ older)) y older silent last in
       let none : packets_of ps ≡ [] = nil_from_length (packets_of ps) (same ∙ ap length end.0) in
       let head : EndsAtInterface ps = subst (λ packets. BlocksEndAt packets ps) none first in

@@ -1,23 +1,22 @@
 -- What a stop, or the end, says of the octets that a source told.
-use Rattle.std.proofs.Common.{◌≡◌, ℕ, false, List, [], ◌∷◌, ◌++◌, length, Option, Some, None, Err, refl, sym, ap, ◌∙◌, subst, inl, inr, append-nil}
+use Rattle.std.proofs.Common.{◌≡◌, ℕ, false, List, ◌++◌, length, Option, Some, None, Err, refl, sym, ap, ◌∙◌, subst, inl, inr, append-nil}
 use Rattle.std.specs.Io.KnownBytes.{Consumes}
 use Rattle.pcap_file.specs.declared.head.Head.{Head}
 use Rattle.pcap_file.specs.declared.reader.RecordFault.{RecordFault}
 use Rattle.pcap_file.specs.declared.reader.RecordFault.TheVariants as record_faults
 use Rattle.pcap_file.specs.Flaws.{cut_short, too_long, too_many}
-use Rattle.pcap_file.specs.Records.{Packet}
 use Rattle.pcap_file.specs.Reads as classic
 use Rattle.pcapng_file.specs.declared.fault.NgFault.{NgFault}
 use Rattle.pcapng_file.specs.declared.fault.NgFault.TheVariants as block_faults
 use Rattle.pcapng_file.specs.Standing.{Sections, no_section}
-use Rattle.pcapng_file.specs.Blocks.{Step, block_at}
+use Rattle.pcapng_file.specs.Blocks.{block_at}
 use Rattle.pcapng_file.specs.Sections.{Walks, behind}
 use Rattle.pcapng_file.specs.Reads as sections
 use Rattle.capture_input.specs.declared.fault.InputFault.{InputFault}
 use Rattle.capture_input.specs.declared.fault.InputFault.TheVariants as faults
 use Rattle.capture_input.specs.Faults.{of_record, of_block, is_read_fault}
-use Rattle.capture_input.specs.Inputs.{Walk, records, blocks, IsFlawedRecord, IsFlawedBlock, Took, HasFaultAt}
-use Rattle.capture_input.specs.Reads.{StopsInClassicHead, StopsBeforeInterface, StopsClassic, IsRefused, StopsAtRecord, StopsAtBlock}
+use Rattle.capture_input.specs.Inputs.{records, blocks, IsFlawedRecord, Took, HasFaultAt}
+use Rattle.capture_input.specs.Reads.{StopsInClassicHead, StopsBeforeInterface, StopsClassic, IsRefused}
 use Rattle.capture_input.specs.Laws.{HeadStopsAreFaults, StopsAreFaults, WholeIsInput}
 
 -- a head that is refused

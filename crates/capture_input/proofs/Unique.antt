@@ -1,24 +1,23 @@
 -- An input has one head, one list of packets and one way to end.
-use Rattle.std.proofs.Common.{◌≡◌, ◌⊎◌, ℕ, Bool, true, false, List, [], ◌∷◌, length, drop, Option, Some, None, Result, Ok, Err, refl, sym, ap, ◌∙◌, subst, arith, inl, inr}
+use Rattle.std.proofs.Common.{◌≡◌, ◌⊎◌, ℕ, true, false, List, [], Option, Some, None, Result, Ok, Err, refl, sym, ap, ◌∙◌, subst, inl, inr}
 use Rattle.wire_base.specs.declared.address.Link.{Link}
 use Rattle.pcap_file.specs.declared.head.Head.{Head}
 use Rattle.pcap_file.specs.Flaws.{Flaw}
 use Rattle.pcap_file.specs.Heads.{head_of}
-use Rattle.pcap_file.specs.Records.{Packet, front_of}
+use Rattle.pcap_file.specs.Records.{Packet}
 use Rattle.pcap_file.specs.Capture.{IsCapture}
 use Rattle.pcap_file.specs.Capture as classic
 use Rattle.pcap_file.proofs.Unique as classic_unique
 use Rattle.pcapng_file.specs.declared.fault.NgFault.{NgFault}
-use Rattle.pcapng_file.specs.Standing.{Sections, no_section}
-use Rattle.pcapng_file.specs.Blocks.{Step, block_at, end_by}
+use Rattle.pcapng_file.specs.Standing.{no_section}
+use Rattle.pcapng_file.specs.Blocks.{Step, end_by}
 use Rattle.pcapng_file.specs.Sections.{IsSections, behind, packets_of}
 use Rattle.pcapng_file.specs.Sections as sections
-use Rattle.pcapng_file.specs.Reading.{written_head}
 use Rattle.pcapng_file.proofs.Wholes.{at_nothing}
 use Rattle.pcapng_file.proofs.Unique as sections_unique
 use Rattle.capture_input.specs.declared.fault.InputFault.{InputFault}
 use Rattle.capture_input.specs.Faults.{of_flaw, of_block}
-use Rattle.capture_input.specs.Inputs.{Walk, records, blocks, is_sections, classic_head, IsHeadOf, packets_in, BeginsWith, BeginsClassic, BeginsSections, IsInput, IsFlawed, FailsAt, place_behind}
+use Rattle.capture_input.specs.Inputs.{Walk, records, blocks, is_sections, classic_head, IsHeadOf, packets_in, BeginsWith, BeginsClassic, BeginsSections, IsFlawed, FailsAt, place_behind}
 use Rattle.capture_input.specs.Laws.{InputIsOne, FaultIsOne, FaultExcludesEnd}
 
 -- a classic head that is accepted is one that the octets have

@@ -1,5 +1,5 @@
 -- How an input goes on from packet to packet.
-use Rattle.std.proofs.Common.{◌≡◌, ℕ, suc, ◌+◌, ◌<◌, ◌≤◌, ◌^◌, Bool, true, false, List, [], ◌∷◌, ◌++◌, length, take, drop, Option, Some, None, IsSome, Result, Ok, Err, refl, sym, ap, ap₂, ◌∙◌, subst, arith}
+use Rattle.std.proofs.Common.{◌≡◌, ℕ, ◌+◌, Bool, true, false, List, [], ◌∷◌, ◌++◌, length, Option, Some, None, IsSome, Ok, Err, refl, sym, ap, ap₂, ◌∙◌, subst, arith}
 use Rattle.std.proofs.lemmas.List.{length-append}
 use Rattle.std.specs.Io.KnownBytes.{Consumes, IsAtEnd}
 use Rattle.wire_base.specs.declared.address.Link.{Link}
@@ -8,19 +8,16 @@ use Rattle.pcap_file.specs.declared.order.Order.{Order}
 use Rattle.pcap_file.specs.declared.record.Record.{Record}
 use Rattle.pcap_file.specs.declared.reader.RecordFault.{RecordFault}
 use Rattle.pcap_file.specs.Records.{Packet, front_of}
-use Rattle.pcap_file.specs.Capture.{ReadsTo, size_of, offset_of}
 use Rattle.pcap_file.specs.Reading.{Reading}
 use Rattle.pcap_file.specs.Reads as classic
 use Rattle.pcapng_file.specs.declared.fault.NgFault.{NgFault}
 use Rattle.pcapng_file.specs.Standing.{Sections, no_section}
-use Rattle.pcapng_file.specs.Blocks.{Step, block_at}
+use Rattle.pcapng_file.specs.Blocks.{Step}
 use Rattle.pcapng_file.specs.Sections as walked
 use Rattle.pcapng_file.specs.Sections.{Walks, behind, packets_of, with_given}
 use Rattle.pcapng_file.specs.Reading.{NgReading, written_head}
 use Rattle.pcapng_file.specs.Reads as sections
 use Rattle.pcapng_file.proofs.Ends.{walks_on, behind_on, packets_on, size_on, links_stay, blocks_counted, packets_few}
-use Rattle.capture_input.specs.declared.fault.InputFault.{InputFault}
-use Rattle.capture_input.specs.declared.input.Input.{Input}
 use Rattle.capture_input.specs.declared.input.Input.TheVariants as kinds
 use Rattle.capture_input.specs.Faults.{of_record, of_block}
 use Rattle.capture_input.specs.Inputs.{Walk, records, blocks, IsHeadOf, BlocksEndAt, Took, TakenWhole}
