@@ -17,4 +17,6 @@ pub mod OneAnswer
 pub mod Emitting
 pub mod Faultless
 pub mod Lawfuls
+pub mod Fitting
 pub mod Writing
+pub mod Taking

@@ -21,7 +21,7 @@ acked_from near base before (w ∷ ws) =
     omega (arith, e, h, k)
 
 -- what is acknowledged grows by less than half a turn with each segment
-acked_small : AckedGrowsNear → (base : ℕ) (ws : List Written) → acked base ws ≤ length ws * 2 ^ 31
+pub acked_small : AckedGrowsNear → (base : ℕ) (ws : List Written) → acked base ws ≤ length ws * 2 ^ 31
 acked_small near base ws = let h = acked_from near base [] ws in omega (arith, h)
 
 one_at_most : (inward : Bool) (o : Option Segment) → length (written_as inward o ++ []) ≤ 1

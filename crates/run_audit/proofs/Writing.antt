@@ -19,7 +19,7 @@ use Rattle.norm_settings.specs.Settings.{PlainSettings}
 use Rattle.norm_engine.specs.Items.{Item, entries}
 use Rattle.norm_engine.specs.Laws.{IsSound, ItemsAreCounted}
 use Rattle.run_audit.specs.Audits.{frames_of}
-use Rattle.run_audit.specs.Lawful.{FitsFiles, ItemsAreWrittenInOrder, RecordFits, LawfulIsYes, WrittenIsYes, capture_written, entries_written, frames_written, last_written, record_with, records_octets, records_written, report_written}
+use Rattle.run_audit.specs.Lawful.{EntriesFit, FitsFiles, ItemsAreWrittenInOrder, RecordFits, LawfulIsYes, WrittenIsYes, capture_written, entries_written, frames_written, last_written, record_with, records_octets, records_written, report_written}
 use Rattle.run_audit.specs.Reported.{IsFinished}
 use Rattle.run_audit.proofs.Lawfuls.{before}
 
@@ -99,6 +99,10 @@ same_frames (item ∷ older) =
     map-append (λ (w : Packet). w.octets) (reverse (map (record_with item.packet) item.frames)) (records_written older)
     ∙ ap₂ (λ xs ys. xs ++ ys) (turned item.packet item.frames) (same_frames older)
 
+-- there are as many
+pub frames_long : (trace : List Item) → length (frames_written trace) ≡ length (records_written trace)
+frames_long trace = sym (ap length (same_frames trace)) ∙ length-map (records_written trace) (λ (w : Packet). w.octets)
+
 -- the report is one
 
 -- what is known of entries: they are of version 2, and numbered
@@ -127,10 +131,11 @@ are_lines counted settings link (item ∷ older) sound fits =
     number : item.entry.number ≡ length (entries_written older) + 1
     number = ap (λ (x : Item). x.entry.number) sound.lawful.1 ∙ ap (λ n. n + 1) (sym (entries_long older))
 
-is_finished : ItemsAreCounted → (settings : PlainSettings) (link : Link) (trace : List Item) → IsSound settings link trace → FitsFiles trace → IsFinished (report_written trace) (entries_written trace)
-is_finished counted settings link trace sound fits =
-    let lines = are_lines counted settings link trace sound fits.entries in
+is_finished : ItemsAreCounted → EntriesFit → (settings : PlainSettings) (link : Link) (trace : List Item) → IsSound settings link trace → FitsFiles trace → IsFinished (report_written trace) (entries_written trace)
+is_finished counted entries_fit settings link trace sound fits =
     let few = fits.few in
+    let long = frames_long trace in
+    let lines = are_lines counted settings link trace sound (entries_fit settings link trace sound (omega (arith, few, long)) fits.lines) in
     record {
       report = record { version = 2; entries = entries_written trace; last = last_written trace };
       is = record { version = inr refl; fit = lines.fit; numbered = lines.numbered; last = (fits.lines, omega (arith, few)) };
@@ -140,7 +145,7 @@ is_finished counted settings link trace sound fits =
       small = fits.small;
     }
 
-pub written_is_yes : HeadIsReadBack → RecordIsReadBack → ItemsAreCounted → LawfulIsYes → WrittenIsYes
-written_is_yes head_back back counted audited settings head trace sound fits =
+pub written_is_yes : HeadIsReadBack → RecordIsReadBack → ItemsAreCounted → EntriesFit → LawfulIsYes → WrittenIsYes
+written_is_yes head_back back counted entries_fit audited settings head trace sound fits =
     audited settings head trace (records_written trace) (report_written trace) (capture_written head trace) sound
-    (is_capture head_back back head trace fits) (same_frames trace) (is_finished counted settings head.link trace sound fits)
+    (is_capture head_back back head trace fits) (same_frames trace) (is_finished counted entries_fit settings head.link trace sound fits)

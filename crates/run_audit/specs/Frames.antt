@@ -1,10 +1,9 @@
 -- The frames of a written capture, each with the entry of the report that it belongs to (this project's profile).
 -- Frames are a list with the last one at the head; entries stand in the order of their lines.
-use Rattle.std.specs.Prelude.{ℕ, Bool, true, false, List, [], ◌∷◌, length, drop, map, replicate, Option, Some, None, slice_get}
+use Rattle.std.specs.Prelude.{ℕ, Bool, true, false, List, [], ◌∷◌, length, map, replicate, Option, Some, None, slice_get}
 use Rattle.std.specs.List.{flat_map}
 use Rattle.wire_base.specs.Frames.{packet_in}
 use Rattle.wire_base.specs.declared.address.Link.{Link}
-use Rattle.wire_base.specs.declared.address.Link.TheVariants.{Ethernet, Raw}
 use Rattle.wire_base.specs.declared.address.Side.{Side}
 use Rattle.wire_base.specs.declared.address.Side.TheVariants.{Inward, Outward}
 use Rattle.rule_book.specs.Entries.{PlainEntry}

@@ -1,15 +1,30 @@
 -- The octets that are kept of a stream, by their offsets as these are counted from half a turn below 0.
-use Rattle.std.specs.Prelude.{◌≡◌, ℕ, ◌+◌, ◌-◌, ◌||◌, Bool, false, List, [], ◌∷◌, Option, Some, None, nat_le, slice_get, if◌then◌else◌}
+use Rattle.std.specs.Prelude.{◌≡◌, ℕ, ◌+◌, ◌-◌, ◌/◌, ◌%◌, ◌==◌, ◌||◌, Bool, false, List, [], ◌∷◌, Option, Some, None, nat_le, slice_get, get_or, Box, if◌then◌else◌}
 use Rattle.std.specs.BTreeMap.{get}
 use Rattle.std.specs.Option.{option_or}
 use Rattle.std.specs.Ordering.{nat_cmp}
+use Rattle.std.specs.declared.alloc.Global.{Global}
+use Rattle.run_audit.specs.declared.octets.Block.{Block}
 use Rattle.run_audit.specs.declared.octets.Octets.{Octets}
 use Rattle.run_audit.specs.declared.offset.Offset.{Offset}
 use Rattle.run_audit.specs.Faults.{is_other}
 
+-- the octet at an index of a block
+abbrev pub octet_in : Block → ℕ → Option ℕ
+octet_in block index = get_or block.first index None
+
+-- the same of a block that may be there
+abbrev pub octet_in_some : Option (Box Block Global) → ℕ → Option ℕ
+octet_in_some None index = None
+octet_in_some (Some block) index = octet_in block.value index
+
+-- the block with a number: the one at hand, or another
+abbrev pub block_at : Octets → ℕ → Option (Box Block Global)
+block_at octets number = if octets.number == number then octets.block else get nat_cmp octets.others number
+
 -- the octet at an offset
 abbrev pub kept_at : Octets → ℕ → Option ℕ
-kept_at octets raised = get nat_cmp octets.first raised
+kept_at octets raised = octet_in_some (block_at octets (raised / 256)) (raised % 256)
 
 -- the octet that one of octets from a place on has at an offset
 abbrev pub brought : (place : ℕ) → List ℕ → ℕ → Option ℕ

@@ -13,13 +13,17 @@ use Rattle.rule_book.specs.Entries.{PlainEntry}
 use Rattle.rule_book.specs.Reports.{EntryFits}
 use Rattle.rule_book.specs.Text.{report_text}
 use Rattle.norm_settings.specs.Settings.{PlainSettings}
-use Rattle.norm_engine.specs.Items.{Item, entries}
+use Rattle.ip_rules.specs.Datagrams.{AreOctets}
+use Rattle.norm_engine.specs.Items.{Item, entries, packets}
 use Rattle.norm_engine.specs.Laws.{IsSound}
-use Rattle.run_audit.specs.Audited.{IsYes}
+use Rattle.norm_engine.specs.Trace.{Lawful}
+use Rattle.run_audit.specs.declared.answer.Answer.TheVariants.{Yes}
+use Rattle.run_audit.specs.Audited.{IsYes, Says, seen}
 use Rattle.run_audit.specs.Audits.{frames_of}
 use Rattle.run_audit.specs.FirstFault.{NoFault}
 use Rattle.run_audit.specs.Named.{eras_named}
 use Rattle.run_audit.specs.Reported.{IsFinished, is_most}
+use Rattle.run_audit.specs.Words.{asked}
 
 -- the frames of a trace, the last one at the head
 abbrev pub frames_written : List Item → List (List ℕ)
@@ -83,17 +87,42 @@ pub record RecordFits (w : Packet) : Type 0 where
   pub fraction : w.fraction < 2 ^ 32
   pub octets : length w.octets ≤ 262144
 
--- What is written of a trace has room in the forms of its two files: at most 2^32 - 1 records, each of which fits, and fewer than 2^32 entries, each of which
--- fits, in a report that is not too long.
+-- What is written of a trace has room in the forms of its two files: at most 2^32 - 1 records, each of which fits, and fewer than 2^32 entries, in a report
+-- that is not too long.
 pub record FitsFiles (trace : List Item) : Type 0 where
   pub records : AllByRecursion RecordFits (records_written trace)
   pub few : length (records_written trace) ≤ 4294967295
-  pub entries : AllByRecursion EntryFits (entries trace)
   pub lines : length trace < 2 ^ 32
   pub small : length (report_written trace) ≤ is_most
 
--- The audit of the two files that are written of a lawful trace says yes, with the number of the eras that the report names and that of the frames.
+-- The numbers of the entries of a lawful trace are of their types, where fewer than 2^32 records are written of fewer than 2^32.
+abbrev pub EntriesFit : Type 0
+EntriesFit =
+    (settings : PlainSettings) (link : Link) (trace : List Item) → IsSound settings link trace → length (frames_written trace) < 2 ^ 32 → length trace < 2 ^ 32
+    → AllByRecursion EntryFits (entries trace)
+
+-- The audit of the two files that are written of a lawful trace, uncut, says yes where they have room for it, with the number of the eras that the report names
+-- and that of the frames.
 abbrev pub WrittenIsYes : Type 0
 WrittenIsYes =
     (settings : PlainSettings) (head : Head) (trace : List Item) → IsSound settings head.link trace → FitsFiles trace
     → IsYes settings.hops (Some (report_written trace)) (Some (capture_written head trace)) (length (eras_named (entries_written trace))) (length (records_written trace))
+
+-- What a finished run took and wrote, where it has no largest packet: these octets are a capture with this head, whose records have this lawful trace; at most
+-- 2^32 - 1 frames were written, each of at most 262,144 octets, and the report is not too long.
+pub record WasRun (settings : PlainSettings) (head : Head) (source : List ℕ) (trace : List Item) : Type 0 where
+  pub hops : settings.hops ≤ 254
+  pub octets : AreOctets source
+  pub whole : IsCapture source head (packets trace)
+  pub lawful : Lawful settings head.link trace
+  pub short : AllByRecursion (λ frame. length frame ≤ 262144) (frames_written trace)
+  pub few : length (frames_written trace) ≤ 4294967295
+  pub small : length (report_written trace) ≤ is_most
+
+-- Of the two files that such a run wrote, with the number of its routers, an audit says yes.
+abbrev pub RunIsYes : Type 0
+RunIsYes =
+    (settings : PlainSettings) (head : Head) (source : List ℕ) (trace : List Item) → WasRun settings head source trace
+    → (words : List (List ℕ)) (before now report_before report_now : ℕ) → asked words ≡ Some settings.hops
+    → Says words (seen (Some (capture_written head trace)) before now) (seen (Some (report_written trace)) report_before report_now)
+    (Yes (length (eras_named (entries_written trace))) (length (records_written trace)))

@@ -1,16 +1,20 @@
 //! Laws of what an audit looks at.
 ghost use Rattle.run_audit.specs.Audited.{AnswersAreOne};
 ghost use Rattle.run_audit.specs.Emitted.{EmittedHasNoFault};
-ghost use Rattle.run_audit.specs.Lawful.{ItemsAreWrittenInOrder, LawfulHasNoFault, LawfulIsYes, WrittenIsYes};
+ghost use Rattle.run_audit.specs.Lawful.{EntriesFit, ItemsAreWrittenInOrder, LawfulHasNoFault, LawfulIsYes, RunIsYes, WrittenIsYes};
 ghost use Rattle.run_audit.specs.Sound.{FaultlessAgrees};
 
 use era_state::laws::{
-    emitted_is_told, emitted_joins, emitted_octets_are_places, inwards_acknowledge_nothing,
-    octets_are_below_top, offsets_are_read, silence_changes_nothing, written_remains,
+    acked_grows_near, emitted_is_told, emitted_joins, emitted_octets_are_places,
+    inwards_acknowledge_nothing, octets_are_below_top, offsets_are_read, silence_changes_nothing,
+    written_remains,
 };
-use norm_engine::laws::{items_are_certain, items_are_counted, lawful_is_emitted};
+use norm_engine::laws::{
+    items_are_certain, items_are_counted, items_go_out, lawful_calls_are_made, lawful_is_emitted,
+};
 use pcap_file::laws::{head_is_read_back, record_is_read_back};
 use receiver_model::laws::members_agree;
+use tcp_norm::laws::{calls_are_emitted, lives_are_last};
 
 /// Where no frame has a fault, all receivers agree on the frames that went inwards in each era, whoever wrote them.
 pub fn faultless_agrees()
@@ -44,7 +48,7 @@ pub fn emitted_has_no_fault()
     silence_changes_nothing();
 }
 
-/// What a run writes has no fault: the frames of every lawful trace are those of its entries, and none of them has one.
+/// What goes out by a lawful trace has no fault: its frames are those of its entries, and none of them has one. (A run with a largest packet cuts them first.)
 pub fn lawful_has_no_fault()
     ensures { LawfulHasNoFault }
 {
@@ -66,6 +70,18 @@ pub fn items_are_written_in_order()
     ensures { ItemsAreWrittenInOrder }
 {}
 
+/// The numbers of the entries of a lawful trace are within the ranges of a report's text, where frames and records are fewer than 2^32.
+pub fn entries_fit()
+    ensures { EntriesFit }
+{
+    items_are_counted();
+    items_go_out();
+    lawful_calls_are_made();
+    lives_are_last();
+    calls_are_emitted();
+    acked_grows_near();
+}
+
 /// The two files that are written of a lawful trace have no fault, where they have room for it, so that their audit says yes.
 pub fn written_is_yes()
     ensures { WrittenIsYes }
@@ -73,5 +89,13 @@ pub fn written_is_yes()
     head_is_read_back();
     record_is_read_back();
     items_are_counted();
+    entries_fit();
     lawful_is_yes();
+}
+
+/// Of the two files that a finished run without a largest packet wrote an audit says yes.
+pub fn run_is_yes()
+    ensures { RunIsYes }
+{
+    written_is_yes();
 }

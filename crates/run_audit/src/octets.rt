@@ -6,24 +6,67 @@ ghost use Rattle.run_audit.specs.Kept.{is_at_end};
 use crate::offset::Offset;
 use edge_io::NoMemory;
 use std::alloc::Global;
+use std::boxed::Box;
 use std::collections::BTreeMap;
+use std::mem;
 
-/// At some offsets an octet, the first that came there.
+/// How many offsets a block has.
+const BLOCK: u64 = 256;
+
+/// The octets at 256 offsets that follow one another, of which some may have none.
+#[derive(Drop)]
+struct Block {
+    first: [Option<u8>; 256],
+}
+
+impl Block {
+    ghost use Rattle.run_audit.specs.Kept.{octet_in};
+
+    // No octets.
+    fn new() -> Block
+        ensures { (index : ℕ) → octet_in result index ≡ None }
+    {
+        Block { first: [None; 256] }
+    }
+
+    // Puts an octet at an index, and answers whether it is the first there, or the same.
+    fn put(&mut self, index: usize, octet: u8) -> bool
+        requires { index < 256 }
+        ensures same { result ≡ not (is_other (octet_in self.old index) octet) }
+        ensures kept { (at : ℕ) → octet_in self.new at ≡ (if index == at then Some octet else octet_in self.old at) }
+    {
+        let before = self.first[index];
+        self.first[index] = Some(octet);
+        match before {
+            Some(first) => first == octet,
+            None => true,
+        }
+    }
+}
+
+/// At some offsets an octet, the first that came there, in blocks. The block that was looked at last is at hand, if there is one, and the
+/// others stand in a map.
 #[derive(Drop)]
 pub(crate) struct Octets {
-    // By offsets as they are counted from half a turn below 0.
-    first: BTreeMap<u64, u8>,
+    alloc: Global,
+    // The number of the block at hand: its offsets, as they are counted from half a turn below 0, divided by 256.
+    number: u64,
+    block: Option<Box<Block>>,
+    others: BTreeMap<u64, Box<Block>>,
 }
 
 impl Octets {
-    ghost use Rattle.run_audit.specs.Kept.{AreKeptWith, kept_at, some_stray};
+    ghost use Rattle.run_audit.specs.Kept.{AreKeptWith, kept_at, octet_in, some_stray};
 
     /// No octets.
     pub(crate) fn new(alloc: Global) -> Octets
         ensures { (raised : ℕ) → kept_at result raised ≡ None }
     {
         Octets {
-            first: BTreeMap::new(alloc),
+            alloc,
+            number: 0,
+            block: None,
+            others: BTreeMap::new(alloc),
         }
     }
 
@@ -56,10 +99,47 @@ impl Octets {
         ensures same { IfOk result (λ right. right ≡ not (is_other (kept_at self.old offset.raised) octet)) }
         ensures kept { IfOk result (λ right. (raised : ℕ) → kept_at self.new raised ≡ (if offset.raised == raised then Some octet else kept_at self.old raised)) }
     {
-        match self.first.insert(offset.raised, octet)? {
-            Some(first) => Ok(first == octet),
-            None => Ok(true),
+        self.turn_to(offset.raised / BLOCK)?;
+        let index = (offset.raised % BLOCK) as usize;
+        match &mut self.block {
+            Some(block) => Ok(block.put(index, octet)),
+            None => {
+                self.block = Some(self.new_block(index, octet)?);
+                Ok(true)
+            }
         }
+    }
+
+    // A block with this octet alone.
+    fn new_block(&self, index: usize, octet: u8) -> Result<Box<Block>, NoMemory>
+        requires { index < 256 }
+        ensures { IfOk result (λ block. (at : ℕ) → octet_in block.value at ≡ (if index == at then Some octet else None)) }
+    {
+        let mut block = Box::new(self.alloc, Block::new())?;
+        block.put(index, octet);
+        Ok(block)
+    }
+
+    // Takes the block with this number to hand, if there is one.
+    fn turn_to(&mut self, number: u64) -> Result<(), NoMemory>
+        ensures there { IfOk result (λ _. self.new.number ≡ number) }
+        ensures same { IfOk result (λ _. (raised : ℕ) → kept_at self.new raised ≡ kept_at self.old raised) }
+    {
+        if self.number == number {
+            return Ok(());
+        }
+        let next = self.others.remove(&number);
+        match mem::replace(&mut self.block, next) {
+            Some(block) => {
+                self.others.insert(self.number, block)?;
+            }
+            // There is none with its number among the others either.
+            None => {
+                self.others.remove(&self.number);
+            }
+        }
+        self.number = number;
+        Ok(())
     }
 }
 
