@@ -16,7 +16,6 @@ use Rattle.pcap_file.specs.declared.order.Order.{Order}
 use Rattle.pcap_file.specs.Records.{Packet, record_octets}
 use Rattle.emit_mtu.specs.declared.long.LongKind.{LongKind}
 use Rattle.emit_mtu.specs.declared.long.LongKind.TheVariants.{Fits, Cut, Drop}
-use Rattle.emit_mtu.specs.Frames.{AreOctets}
 use Rattle.emit_mtu.specs.Long.{e_cut, e_mtu, is_long, long_kind, may_be_cut}
 use Rattle.emit_mtu.specs.Segments.{segments}
 use Rattle.emit_mtu.specs.Streams.{frames_for, frames_of}

@@ -1,3 +1,4 @@
+pub mod OneSided
 pub mod Outputs
 pub mod Writing
 pub mod Running

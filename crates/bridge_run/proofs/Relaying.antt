@@ -1,5 +1,5 @@
 -- What is written for one record.
-use Rattle.std.proofs.Common.{◌≡◌, ℕ, ◌<◌, ◌≤◌, false, All, List, length, Option, Some, None, Result, Ok, Err, OnOk, refl, sym, ap, subst, ◌∙◌}
+use Rattle.std.proofs.Common.{◌≡◌, ℕ, ◌<◌, ◌≤◌, false, All, List, length, Option, Some, None, Result, Ok, Err, OnOk, refl, sym, subst}
 use Rattle.std.specs.Result.{is_err}
 use Rattle.wire_base.specs.declared.address.Link.{Link}
 use Rattle.pcap_file.specs.Records.{Packet}

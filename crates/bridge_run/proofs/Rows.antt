@@ -4,29 +4,27 @@ use Rattle.std.proofs.Math.Seq.{take-nil}
 use Rattle.std.proofs.KnownBytes.{Appends-trans}
 use Rattle.std.specs.Io.KnownBytes.{Appends}
 use Rattle.edge_io.specs.Faults.{Rose}
-use Rattle.edge_io.specs.Octets.{TakesFewer}
 use Rattle.pcap_file.specs.declared.head.Head.{Head}
 use Rattle.pcap_file.specs.declared.order.Order.{Order}
-use Rattle.pcap_file.specs.Flaws.{Flaw, cut_short, bad_magic, bad_version, bad_link, too_long, too_many}
 use Rattle.pcap_file.specs.Heads.{head_octets}
-use Rattle.pcap_file.specs.Capture.{offset_of}
-use Rattle.pcap_file.specs.Reads.{TakesPart}
+use Rattle.capture_input.specs.declared.fault.InputFault.{InputFault}
+use Rattle.capture_input.specs.declared.fault.InputFault.TheVariants as faults
+use Rattle.capture_input.specs.Inputs.{newest_place, place_behind, Took, TakenWhole}
+use Rattle.capture_input.specs.Reads.{StopsInHead, StopsAt}
 use Rattle.rule_book.specs.declared.last.Last.TheVariants as last
-use Rattle.rule_book.specs.declared.last.StopKind.{StopKind}
 use Rattle.rule_book.specs.declared.last.StopKind.TheVariants as kinds
 use Rattle.rule_book.specs.Text.{entry_text, last_text}
 use Rattle.norm_settings.specs.Settings.{PlainSettings}
-use Rattle.norm_engine.specs.Items.{Item, packets}
+use Rattle.norm_engine.specs.Items.{Item}
 use Rattle.bridge_run.specs.declared.stop.Stop.{Stop}
 use Rattle.bridge_run.specs.declared.stop.Stop.TheVariants as stops
 use Rattle.bridge_run.specs.Frames.{frame_octets, frames_octets, item_octets, frame_count}
 use Rattle.bridge_run.specs.Cut.{item_written, written}
 use Rattle.bridge_run.specs.Moments.{Seen, Moment}
 use Rattle.bridge_run.specs.Outputs.{to_capture, to_report, capture_hands_on, report_hands_on, heading, first_outputs, outputs_of, capture_part, report_part}
-use Rattle.bridge_run.specs.Run.{Took, TakenWhole}
-use Rattle.bridge_run.specs.Stops.{FirstFault, Told, status_of, stop_line, memory_line}
-use Rattle.bridge_run.specs.Stopped.{Stands, Flawed, Unread, Unwritten, StopsAtHead, StopsAtRecord, Stopped, StoppedUnder, LoadStopped, Finishes, SaysOnly}
-use Rattle.bridge_run.specs.Rows.{Says, GivenUpTo, stop_of, flaw_kind, capture_octets, report_octets, EndsAtHead, EndsAtRecord, EndsAtFlaw, EndsFaulty, EndsCut, EndsUnread, EndsUnwritten, EndsUntold, EndsRefused, EndsSummed, EndsSummedInPart, UnderWords, UnderLoad}
+use Rattle.bridge_run.specs.Stops.{FirstFault, Told, fault_kind, status_of, stop_line, memory_line}
+use Rattle.bridge_run.specs.Stopped.{Stands, Faulty, Unwritten, StopsAtHead, StopsAtRecord, Stopped, StoppedUnder, LoadStopped, Finishes, SaysOnly}
+use Rattle.bridge_run.specs.Rows.{Says, GivenUpTo, stop_of, capture_octets, report_octets, EndsAtHead, EndsAtRecord, EndsAtFault, EndsFaulty, EndsCut, EndsUnread, EndsUnwritten, EndsUntold, EndsRefused, EndsSummed, EndsSummedInPart, UnderWords, UnderLoad}
 use Rattle.bridge_run.proofs.Outputs.{capture_is, report_is}
 use Rattle.bridge_run.proofs.Broken.{no_capture, capture_fails, first_fails, handing_fails, no_report, line_fails, nothing, handing}
 use Rattle.bridge_run.proofs.Statuses.{known_of}
@@ -70,13 +68,14 @@ module _ (settings : PlainSettings) (b a n : Moment) where
     pub source : n.source ≡ a.source
     pub capture : n.sinks.capture.octets ≡ a.sinks.capture.octets
 
-  ends_at_head : (InHead : Option (List ℕ) → Option (List ℕ) → Type 0) (kind : StopKind) (offset : ℕ) → Behind → StopsAtHead InHead offset b a → a.sinks.report.faults ≡ b.sinks.report.faults
-      → Told a.sinks.report.octets n.sinks.report.octets a.sinks.report.faults n.sinks.report.faults (stop_of kind offset) → EndsAtHead InHead kind b n
-  ends_at_head InHead kind offset behind p same told = record {
-    taken = subst (λ (s : Seen). InHead b.source.octets s.octets) (sym behind.source) p.found;
+  ends_at_head : (fault : InputFault) (offset : ℕ) → Behind → StopsAtHead settings fault offset b a → a.sinks.report.faults ≡ b.sinks.report.faults
+      → Told a.sinks.report.octets n.sinks.report.octets a.sinks.report.faults n.sinks.report.faults (stop_of (fault_kind fault) offset) → EndsAtHead settings fault b n
+  ends_at_head fault offset behind p same told = record {
+    offset = offset;
+    taken = subst (λ (s : Seen). StopsInHead settings.inside b.source.octets s.octets fault offset) (sym behind.source) p.found;
     capture = subst (λ s. Appends b.sinks.capture.octets s []) (sym behind.capture) p.given.capture;
-    report = says heading (stop_of kind 0) b.sinks.report a.sinks.report n.sinks.report (subst (Appends b.sinks.report.octets a.sinks.report.octets) (append-nil heading) p.given.report) same
-        (subst (λ o. Told a.sinks.report.octets n.sinks.report.octets a.sinks.report.faults n.sinks.report.faults (stop_of kind o)) p.place told);
+    report = says heading (stop_of (fault_kind fault) offset) b.sinks.report a.sinks.report n.sinks.report
+        (subst (Appends b.sinks.report.octets a.sinks.report.octets) (append-nil heading) p.given.report) same told;
   }
 
   -- what was given of a trace
@@ -88,32 +87,29 @@ module _ (settings : PlainSettings) (b a n : Moment) where
   report_given : (head : Head) (trace : List Item) → Appends b.sinks.report.octets a.sinks.report.octets (report_part (outputs_of head trace)) → Appends b.sinks.report.octets a.sinks.report.octets (report_octets trace)
   report_given head trace given = subst (Appends b.sinks.report.octets a.sinks.report.octets) (report_is head trace) given
 
-  ends_at_record : (InRecord : Order → ℕ → Option (List ℕ) → Option (List ℕ) → Type 0) (kind : StopKind) (offset : ℕ) → Behind → StopsAtRecord settings InRecord offset b a → a.sinks.report.faults ≡ b.sinks.report.faults
-      → Told a.sinks.report.octets n.sinks.report.octets a.sinks.report.faults n.sinks.report.faults (stop_of kind offset) → EndsAtRecord settings InRecord kind b n
-  ends_at_record InRecord kind offset behind p same told = record {
+  ends_at_record : (fault : InputFault) (offset : ℕ) → Behind → StopsAtRecord settings fault offset b a → a.sinks.report.faults ≡ b.sinks.report.faults
+      → Told a.sinks.report.octets n.sinks.report.octets a.sinks.report.faults n.sinks.report.faults (stop_of (fault_kind fault) offset) → EndsAtRecord settings fault b n
+  ends_at_record fault offset behind p same told = record {
     head = p.head;
     trace = p.trace;
     lawful = p.lawful;
+    walk = p.walk;
+    packets_are = p.packets_are;
     left = p.left;
     took = p.took;
-    taken = subst (λ (s : Seen). InRecord p.head.order (length p.trace) p.left s.octets) (sym behind.source) p.found;
+    taken = subst (λ (s : Seen). StopsAt settings.inside p.head p.walk p.left s.octets fault) (sym behind.source) p.found;
     capture = capture_given p.head (written settings p.head.link p.trace) p.given.capture behind;
-    report = says (report_octets (written settings p.head.link p.trace)) (stop_of kind (offset_of (packets p.trace))) b.sinks.report a.sinks.report n.sinks.report
+    report = says (report_octets (written settings p.head.link p.trace)) (stop_of (fault_kind fault) (place_behind p.walk)) b.sinks.report a.sinks.report n.sinks.report
         (report_given p.head (written settings p.head.link p.trace) p.given.report) same
-        (subst (λ o. Told a.sinks.report.octets n.sinks.report.octets a.sinks.report.faults n.sinks.report.faults (stop_of kind o)) p.place told);
+        (subst (λ o. Told a.sinks.report.octets n.sinks.report.octets a.sinks.report.faults n.sinks.report.faults (stop_of (fault_kind fault) o)) p.place told);
   }
 
-  -- the capture has a flaw, or could not be read
+  -- the input has a fault
 
-  flawed_row : (flaw : Flaw) (offset : ℕ) → Behind → Flawed settings flaw offset b a → a.sinks.report.faults ≡ b.sinks.report.faults
-      → Told a.sinks.report.octets n.sinks.report.octets a.sinks.report.faults n.sinks.report.faults (stop_of (flaw_kind flaw) offset) → EndsAtFlaw settings flaw b n
-  flawed_row flaw offset behind (inl p) same told = inl (ends_at_head _ (flaw_kind flaw) offset behind p same told)
-  flawed_row flaw offset behind (inr p) same told = inr (ends_at_record _ (flaw_kind flaw) offset behind p same told)
-
-  unread_row : (offset : ℕ) → Behind → Unread settings offset b a → a.sinks.report.faults ≡ b.sinks.report.faults
-      → Told a.sinks.report.octets n.sinks.report.octets a.sinks.report.faults n.sinks.report.faults (stop_of kinds.ReadFault offset) → EndsUnread settings b n
-  unread_row offset behind (inl p) same told = inl (ends_at_head (λ old new. TakesFewer old new 24) kinds.ReadFault offset behind p same told)
-  unread_row offset behind (inr p) same told = inr (ends_at_record (λ order count old new. TakesPart order old new) kinds.ReadFault offset behind p same told)
+  faulty_row : (fault : InputFault) (offset : ℕ) → Behind → Faulty settings fault offset b a → a.sinks.report.faults ≡ b.sinks.report.faults
+      → Told a.sinks.report.octets n.sinks.report.octets a.sinks.report.faults n.sinks.report.faults (stop_of (fault_kind fault) offset) → EndsAtFault settings fault b n
+  faulty_row fault offset behind (inl p) same told = inl (ends_at_head fault offset behind p same told)
+  faulty_row fault offset behind (inr p) same told = inr (ends_at_record fault offset behind p same told)
 
   -- the capture failed
 
@@ -124,7 +120,10 @@ module _ (settings : PlainSettings) (b a n : Moment) where
       let f = capture_fails first_outputs (head_octets p.head) [] tt 0 offset b.sinks a.sinks p.broke in
       inl (record {
         head = p.head;
-        took = subst (λ (s : Seen). Took b.source.octets s.octets p.head []) (sym behind.source) p.took;
+        walk = p.walk;
+        silent = p.silent;
+        ends = p.ends;
+        took = subst (λ (s : Seen). Took settings.inside b.source.octets s.octets p.head p.walk) (sym behind.source) p.took;
         capture = subst (λ s. GivenUpTo [] (head_octets p.head) b.sinks.capture.octets s) (sym behind.capture) f.capture;
         report = says heading (stop_of kinds.Capture 0) b.sinks.report a.sinks.report n.sinks.report (subst (Appends b.sinks.report.octets a.sinks.report.octets) (append-nil heading) f.report) same
             (subst (λ o. Told a.sinks.report.octets n.sinks.report.octets a.sinks.report.faults n.sinks.report.faults (stop_of kinds.Capture o)) f.here told);
@@ -132,31 +131,36 @@ module _ (settings : PlainSettings) (b a n : Moment) where
   unwritten_row offset behind (inr (inr (inl p))) same told =
       let older = written settings p.head.link p.older in
       let out = item_written settings.mtu p.head.link p.item in
-      let f = capture_fails (outputs_of p.head older) (item_octets p.head.order out) (to_report (entry_text out.entry) ∷ []) tt (offset_of (packets p.older)) offset b.sinks a.sinks p.broke in
+      let f = capture_fails (outputs_of p.head older) (item_octets p.head.order out) (to_report (entry_text out.entry) ∷ []) tt (newest_place p.walk) offset b.sinks a.sinks p.broke in
       inr (inl (record {
         head = p.head;
         item = p.item;
         older = p.older;
         lawful = p.lawful;
-        took = subst (λ (s : Seen). Took b.source.octets s.octets p.head (p.item ∷ p.older)) (sym behind.source) p.took;
+        walk = p.walk;
+        packets_are = p.packets_are;
+        ends = p.ends;
+        took = subst (λ (s : Seen). Took settings.inside b.source.octets s.octets p.head p.walk) (sym behind.source) p.took;
         has_frame = framed p.head.order out f.some;
         capture = subst (λ l. GivenUpTo l (item_octets p.head.order out) b.sinks.capture.octets n.sinks.capture.octets) (capture_is p.head older)
             (subst (λ s. GivenUpTo (capture_part (outputs_of p.head older)) (item_octets p.head.order out) b.sinks.capture.octets s) (sym behind.capture) f.capture);
-        report = says (report_octets older) (stop_of kinds.Capture (offset_of (packets p.older))) b.sinks.report a.sinks.report n.sinks.report (report_given p.head older f.report) same
+        report = says (report_octets older) (stop_of kinds.Capture (newest_place p.walk)) b.sinks.report a.sinks.report n.sinks.report (report_given p.head older f.report) same
             (subst (λ o. Told a.sinks.report.octets n.sinks.report.octets a.sinks.report.faults n.sinks.report.faults (stop_of kinds.Capture o)) f.here told);
       }))
   unwritten_row offset behind (inr (inr (inr p))) same told =
       let out = written settings p.head.link p.trace in
       let line = last_text (last.End (length p.trace) (frame_count out)) in
-      let f = handing_fails (outputs_of p.head out) (to_report line ∷ report_hands_on ∷ []) tt (offset_of (packets p.trace)) offset b.sinks a.sinks p.broke in
+      let f = handing_fails (outputs_of p.head out) (to_report line ∷ report_hands_on ∷ []) tt (place_behind p.walk) offset b.sinks a.sinks p.broke in
       inr (inr (record {
         head = p.head;
         trace = p.trace;
         lawful = p.lawful;
-        whole = p.whole;
+        walk = p.walk;
+        packets_are = p.packets_are;
+        took = subst (λ (s : Seen). Took settings.inside b.source.octets s.octets p.head p.walk) (sym behind.source) p.took;
         taken = subst (λ (s : Seen). TakenWhole b.source.octets s.octets) (sym behind.source) p.taken;
         untold = told_none b.sinks.capture.octets a.sinks.capture.octets _ p.broke.given.capture f.untold;
-        report = says (report_octets out) (stop_of kinds.Capture (offset_of (packets p.trace))) b.sinks.report a.sinks.report n.sinks.report (report_given p.head out f.report) same
+        report = says (report_octets out) (stop_of kinds.Capture (place_behind p.walk)) b.sinks.report a.sinks.report n.sinks.report (report_given p.head out f.report) same
             (subst (λ o. Told a.sinks.report.octets n.sinks.report.octets a.sinks.report.faults n.sinks.report.faults (stop_of kinds.Capture o)) f.here told);
       }))
 
@@ -176,7 +180,7 @@ module _ (settings : PlainSettings) (b a n : Moment) where
       let out = item_written settings.mtu p.head.link p.item in
       let octets = item_octets p.head.order out in
       let line = entry_text out.entry in
-      let f = line_fails (outputs_of p.head older) [] (to_capture octets) octets line (offset_of (packets p.older)) b.sinks a.sinks (λ more. refl) (λ more. refl) refl nothing p.broke in
+      let f = line_fails (outputs_of p.head older) [] (to_capture octets) octets line (newest_place p.walk) b.sinks a.sinks (λ more. refl) (λ more. refl) refl nothing p.broke in
       let all : capture_part (outputs_of p.head older) ++ octets ≡ capture_octets p.head (out ∷ older) =
       ap (λ l. l ++ octets) (capture_is p.head older) ∙ append_assoc (head_octets p.head) (frames_octets p.head.order older) octets in
       inr (inl (record {
@@ -184,19 +188,24 @@ module _ (settings : PlainSettings) (b a n : Moment) where
         item = p.item;
         older = p.older;
         lawful = p.lawful;
-        took = subst (λ (s : Seen). Took b.source.octets s.octets p.head (p.item ∷ p.older)) (sym behind.source) p.took;
+        walk = p.walk;
+        packets_are = p.packets_are;
+        ends = p.ends;
+        took = subst (λ (s : Seen). Took settings.inside b.source.octets s.octets p.head p.walk) (sym behind.source) p.took;
         capture = subst (λ s. Appends b.sinks.capture.octets s (capture_octets p.head (out ∷ older))) (sym behind.capture) (subst (Appends b.sinks.capture.octets a.sinks.capture.octets) all f.0);
         report = quiet (report_octets older) line b.sinks.report a.sinks.report n.sinks.report (subst (λ l. GivenUpTo l line b.sinks.report.octets a.sinks.report.octets) (report_is p.head older) f.1) told;
       }))
   untold_row behind (inr (inr (inr p))) told =
       let out = written settings p.head.link p.trace in
       let line = last_text (last.End (length p.trace) (frame_count out)) in
-      let f = line_fails (outputs_of p.head out) (report_hands_on ∷ []) capture_hands_on [] line (offset_of (packets p.trace)) b.sinks a.sinks (λ more. refl) (λ more. refl) refl handing p.broke in
+      let f = line_fails (outputs_of p.head out) (report_hands_on ∷ []) capture_hands_on [] line (place_behind p.walk) b.sinks a.sinks (λ more. refl) (λ more. refl) refl handing p.broke in
       inr (inr (record {
         head = p.head;
         trace = p.trace;
         lawful = p.lawful;
-        whole = p.whole;
+        walk = p.walk;
+        packets_are = p.packets_are;
+        took = subst (λ (s : Seen). Took settings.inside b.source.octets s.octets p.head p.walk) (sym behind.source) p.took;
         taken = subst (λ (s : Seen). TakenWhole b.source.octets s.octets) (sym behind.source) p.taken;
         capture = capture_given p.head out (subst (Appends b.sinks.capture.octets a.sinks.capture.octets) (append-nil (capture_part (outputs_of p.head out))) f.0) behind;
         report = quiet (report_octets out) line b.sinks.report a.sinks.report n.sinks.report (subst (λ l. GivenUpTo l line b.sinks.report.octets a.sinks.report.octets) (report_is p.head out) f.1) told;
@@ -218,14 +227,14 @@ module _ (settings : PlainSettings) (b a n : Moment) where
 
   row_of : (stop : Stop) → Stands settings stop b a → FirstFault stop b a → Behind
       → Told a.sinks.report.octets n.sinks.report.octets a.sinks.report.faults n.sinks.report.faults (stop_line stop) → RowAt (status_of stop)
-  row_of (stops.At kinds.Magic offset) p first behind told = record { flaw = bad_magic; other = refl; ends = flawed_row bad_magic offset behind p first.sinks.report told }
-  row_of (stops.At kinds.Version offset) p first behind told = record { flaw = bad_version; other = refl; ends = flawed_row bad_version offset behind p first.sinks.report told }
-  row_of (stops.At kinds.Link offset) p first behind told = record { flaw = bad_link; other = refl; ends = flawed_row bad_link offset behind p first.sinks.report told }
-  row_of (stops.At kinds.Block offset) p first behind told = absurd p
-  row_of (stops.At kinds.Long offset) p first behind told = record { flaw = too_long; other = refl; ends = flawed_row too_long offset behind p first.sinks.report told }
-  row_of (stops.At kinds.Many offset) p first behind told = record { flaw = too_many; other = refl; ends = flawed_row too_many offset behind p first.sinks.report told }
-  row_of (stops.At kinds.Cut offset) p first behind told = flawed_row cut_short offset behind p first.sinks.report told
-  row_of (stops.At kinds.ReadFault offset) p first behind told = unread_row offset behind p first.sinks.report told
+  row_of (stops.At kinds.Magic offset) p first behind told = record { fault = faults.Magic; other = refl; ends = faulty_row faults.Magic offset behind p first.sinks.report told }
+  row_of (stops.At kinds.Version offset) p first behind told = record { fault = faults.Version; other = refl; ends = faulty_row faults.Version offset behind p first.sinks.report told }
+  row_of (stops.At kinds.Link offset) p first behind told = record { fault = faults.Link; other = refl; ends = faulty_row faults.Link offset behind p first.sinks.report told }
+  row_of (stops.At kinds.Block offset) p first behind told = record { fault = faults.Block; other = refl; ends = faulty_row faults.Block offset behind p first.sinks.report told }
+  row_of (stops.At kinds.Long offset) p first behind told = record { fault = faults.Long; other = refl; ends = faulty_row faults.Long offset behind p first.sinks.report told }
+  row_of (stops.At kinds.Many offset) p first behind told = record { fault = faults.Many; other = refl; ends = faulty_row faults.Many offset behind p first.sinks.report told }
+  row_of (stops.At kinds.Cut offset) p first behind told = faulty_row faults.Cut offset behind p first.sinks.report told
+  row_of (stops.At kinds.ReadFault offset) p first behind told = faulty_row faults.ReadFault offset behind p first.sinks.report told
   row_of (stops.At kinds.Capture offset) p first behind told = unwritten_row offset behind p first.sinks.report told
   row_of (stops.At kinds.Memory offset) p first behind told = absurd p
   row_of stops.Report p first behind told = untold_row behind p told

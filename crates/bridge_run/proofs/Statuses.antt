@@ -1,101 +1,144 @@
 -- Which status a stop is answered by, and what that says.
-use Rattle.std.proofs.Common.{◌≡◌, ◌==◌, ℕ, ◌≤◌, Bool, true, false, List, length, Option, Some, None, Err, refl, sym, ap, subst, ◌∙◌, arith, ◌⊎◌, inl, inr}
+use Rattle.std.proofs.Common.{◌≡◌, ◌==◌, ℕ, ◌≤◌, true, false, List, Option, Some, refl, sym, ap, subst, ◌∙◌, arith, ◌⊎◌, inl, inr}
 use Rattle.edge_io.specs.Faults.{Rose}
-use Rattle.pcap_file.specs.Flaws.{Flaw, cut_short, bad_magic, bad_version, bad_link, too_long, too_many}
-use Rattle.pcap_file.specs.Records.{front_of}
-use Rattle.pcap_file.specs.Capture.{FailsAt}
-use Rattle.pcap_file.specs.ReadsHead.{Begins}
-use Rattle.pcap_file.specs.Reads.{StopsAt, HasFlaw}
-use Rattle.pcap_file.specs.Laws.{FlawIsOne, FlawExcludesEnd}
+use Rattle.capture_input.specs.declared.fault.InputFault.{InputFault}
+use Rattle.capture_input.specs.declared.fault.InputFault.TheVariants as faults
+use Rattle.capture_input.specs.Faults.{is_read_fault}
+use Rattle.capture_input.specs.Inputs.{FailsAt, HasFaultAt, TookAll}
+use Rattle.capture_input.specs.Laws.{FaultExcludesEnd, FaultIsOne, HeadStopsAreFaults, StopsAreFaults}
 use Rattle.rule_book.specs.declared.last.StopKind.TheVariants as kinds
 use Rattle.norm_settings.specs.Settings.{PlainSettings}
 use Rattle.norm_engine.specs.Items.{packets}
 use Rattle.bridge_run.specs.declared.stop.Stop.{Stop}
 use Rattle.bridge_run.specs.declared.stop.Stop.TheVariants as stops
 use Rattle.bridge_run.specs.Moments.{Moment}
-use Rattle.bridge_run.specs.Stops.{Faulted, FirstFault, status_of, is_cut, HasFlawAt, IsFaulty, IsCutShort, IsWhole, WasFaulty, WasCut}
-use Rattle.bridge_run.specs.Run.{Took, Normalized, TookAll}
-use Rattle.bridge_run.specs.Stopped.{Flawed, StopsAtRecord, Stands}
-use Rattle.bridge_run.proofs.Running.{length-packets}
+use Rattle.bridge_run.specs.Stops.{Faulted, FirstFault, fault_kind, kind_status, status_of, is_faulty, IsFaulty, IsCutShort, IsWhole, WasFaulty, WasCut}
+use Rattle.bridge_run.specs.Run.{Normalized}
+use Rattle.bridge_run.specs.Stopped.{Faulty, Stands}
+
+-- the status that a fault of the input is answered by
+abbrev fault_status : InputFault → ℕ
+fault_status fault = kind_status (fault_kind fault)
+
+-- this fault of the octets is the first, and answered by this status
+record HasFaultOf (inside source : Option (List ℕ)) (status : ℕ) : Type 0 where
+  fault : InputFault
+  offset : ℕ
+  first : HasFaultAt inside source fault offset
+  answered : status ≡ fault_status fault
+  lasts : is_read_fault fault ≡ false
+
+-- a stop before the end is answered by 3 to 7
+pub known_of : (settings : PlainSettings) (stop : Stop) (a b : Moment) → Stands settings stop a b → (3 ≤ status_of stop) × (status_of stop ≤ 7)
+known_of settings (stops.At kinds.Magic offset) a b p = (omega arith, omega arith)
+known_of settings (stops.At kinds.Version offset) a b p = (omega arith, omega arith)
+known_of settings (stops.At kinds.Link offset) a b p = (omega arith, omega arith)
+known_of settings (stops.At kinds.Block offset) a b p = (omega arith, omega arith)
+known_of settings (stops.At kinds.Long offset) a b p = (omega arith, omega arith)
+known_of settings (stops.At kinds.Many offset) a b p = (omega arith, omega arith)
+known_of settings (stops.At kinds.Cut offset) a b p = (omega arith, omega arith)
+known_of settings (stops.At kinds.ReadFault offset) a b p = (omega arith, omega arith)
+known_of settings (stops.At kinds.Capture offset) a b p = (omega arith, omega arith)
+known_of settings (stops.At kinds.Memory offset) a b p = absurd p
+known_of settings stops.Report a b p = (omega arith, omega arith)
+
+is_3 : (fault : InputFault) (status : ℕ) → status ≡ fault_status fault → status ≡ 3 → is_faulty fault ≡ true
+is_3 faults.Cut status e f = absurd (omega (arith, e, f))
+is_3 faults.ReadFault status e f = absurd (omega (arith, e, f))
+is_3 faults.Magic status e f = refl
+is_3 faults.Version status e f = refl
+is_3 faults.Link status e f = refl
+is_3 faults.Block status e f = refl
+is_3 faults.Long status e f = refl
+is_3 faults.Many status e f = refl
+
+is_4 : (fault : InputFault) (status : ℕ) → status ≡ fault_status fault → status ≡ 4 → fault ≡ faults.Cut
+is_4 faults.Cut status e f = refl
+is_4 faults.ReadFault status e f = absurd (omega (arith, e, f))
+is_4 faults.Magic status e f = absurd (omega (arith, e, f))
+is_4 faults.Version status e f = absurd (omega (arith, e, f))
+is_4 faults.Link status e f = absurd (omega (arith, e, f))
+is_4 faults.Block status e f = absurd (omega (arith, e, f))
+is_4 faults.Long status e f = absurd (omega (arith, e, f))
+is_4 faults.Many status e f = absurd (omega (arith, e, f))
+
+faulty_status : (fault : InputFault) → is_faulty fault ≡ true → fault_status fault ≡ 3
+faulty_status faults.Cut other = absurd cc
+faulty_status faults.ReadFault other = absurd cc
+faulty_status faults.Magic other = refl
+faulty_status faults.Version other = refl
+faulty_status faults.Link other = refl
+faulty_status faults.Block other = refl
+faulty_status faults.Long other = refl
+faulty_status faults.Many other = refl
+
+-- the source told these octets
+here : (inside source : Option (List ℕ)) (octets : List ℕ) (fault : InputFault) (offset : ℕ) → source ≡ Some octets → HasFaultAt inside source fault offset → FailsAt inside octets fault offset
+here inside source octets fault offset told first = subst (λ s. HasFaultAt inside s fault offset) told first
 
 -- what a stop says of the octets that the source had left
+module _ (in_head : HeadStopsAreFaults) (behind : StopsAreFaults) (settings : PlainSettings) where
+  fault_at : (fault : InputFault) (offset : ℕ) (a b : Moment) → is_read_fault fault ≡ false → Faulty settings fault offset a b → HasFaultAt settings.inside a.source.octets fault offset
+  fault_at fault offset a b lasts (inl p) = in_head settings.inside a.source.octets b.source.octets fault offset lasts p.found
+  fault_at fault offset a b lasts (inr p) =
+      subst (HasFaultAt settings.inside a.source.octets fault) (sym p.place)
+      (behind settings.inside a.source.octets p.left b.source.octets p.head p.walk fault lasts p.took p.found)
 
-at_head : (flaw : Flaw) (offset : ℕ) (old new : Option (List ℕ)) → Begins old new (Err flaw) → offset ≡ 0 → HasFlawAt old flaw offset
-at_head flaw offset None new found place = tt
-at_head flaw offset (Some x) None found place = absurd found
-at_head flaw offset (Some x) (Some y) found place = inl (found.0, place)
+  has_fault : (fault : InputFault) (offset : ℕ) (a b : Moment) → is_read_fault fault ≡ false → Faulty settings fault offset a b → HasFaultOf settings.inside a.source.octets (fault_status fault)
+  has_fault fault offset a b lasts p = record { fault = fault; offset = offset; first = fault_at fault offset a b lasts p; answered = refl; lasts = lasts }
 
-at_record : (settings : PlainSettings) (flaw : Flaw) (offset : ℕ) (old left : Option (List ℕ)) (a b : Moment) → (p : StopsAtRecord settings (λ order count old new. StopsAt order count old new flaw) offset a b)
-    → a.source.octets ≡ old → p.left ≡ left → HasFlawAt old flaw offset
-at_record settings flaw offset None left a b p told is = tt
-at_record settings flaw offset (Some x) None a b p told is = absurd (subst (λ l. Took l None p.head p.trace) told (subst (λ l. Took a.source.octets l p.head p.trace) is p.took))
-at_record settings flaw offset (Some x) (Some y) a b p told is =
-    let took : Took (Some x) (Some y) p.head p.trace = subst (λ l. Took l (Some y) p.head p.trace) told (subst (λ l. Took a.source.octets l p.head p.trace) is p.took) in
-    let found : HasFlaw p.head.order (length p.trace) (Some y) flaw = subst (λ l. HasFlaw p.head.order (length p.trace) l flaw) is p.found.flawed in
-    inr (record {
-      head = p.head;
-      packets = packets p.trace;
-      rest = y;
-      accepted = took.0;
-      reads = took.1;
-      flawed = subst (λ k. front_of p.head.order k y ≡ Err flaw) (sym (length-packets p.trace)) found;
-      place = p.place;
-    })
+  -- a stop is one at a fault of the octets, or at one of an object
+  sorts : (stop : Stop) (a b : Moment) → Stands settings stop a b → HasFaultOf settings.inside a.source.octets (status_of stop) ⊎ (5 ≤ status_of stop)
+  sorts (stops.At kinds.Magic offset) a b p = inl (has_fault faults.Magic offset a b refl p)
+  sorts (stops.At kinds.Version offset) a b p = inl (has_fault faults.Version offset a b refl p)
+  sorts (stops.At kinds.Link offset) a b p = inl (has_fault faults.Link offset a b refl p)
+  sorts (stops.At kinds.Block offset) a b p = inl (has_fault faults.Block offset a b refl p)
+  sorts (stops.At kinds.Long offset) a b p = inl (has_fault faults.Long offset a b refl p)
+  sorts (stops.At kinds.Many offset) a b p = inl (has_fault faults.Many offset a b refl p)
+  sorts (stops.At kinds.Cut offset) a b p = inl (has_fault faults.Cut offset a b refl p)
+  sorts (stops.At kinds.ReadFault offset) a b p = inr (omega arith)
+  sorts (stops.At kinds.Capture offset) a b p = inr (omega arith)
+  sorts (stops.At kinds.Memory offset) a b p = absurd p
+  sorts stops.Report a b p = inr (omega arith)
 
-flawed_at : (settings : PlainSettings) (flaw : Flaw) (offset : ℕ) (a b : Moment) → Flawed settings flaw offset a b → HasFlawAt a.source.octets flaw offset
-flawed_at settings flaw offset a b (inl p) = at_head flaw offset a.source.octets b.source.octets p.found p.place
-flawed_at settings flaw offset a b (inr p) = at_record settings flaw offset a.source.octets p.left a b p refl refl
+  pub faulty_of : (stop : Stop) (a b : Moment) → Stands settings stop a b → status_of stop ≡ 3 → WasFaulty settings.inside a.source.octets
+  faulty_of stop a b p s =
+      elim (sorts stop a b p) [
+        | inl q ↦ (q.fault, q.offset, is_3 q.fault (status_of stop) q.answered s, q.first)
+        | inr least ↦ absurd (omega (arith, least, s))
+      ]
 
--- this flaw is the first, and answered by this status
-record HasFlawOf (source : Option (List ℕ)) (status : ℕ) : Type 0 where
-  flaw : Flaw
-  offset : ℕ
-  first : HasFlawAt source flaw offset
-  answered : status ≡ (elim (is_cut flaw) [ true ↦ 4 | false ↦ 3 ])
+  pub cut_of : (stop : Stop) (a b : Moment) → Stands settings stop a b → status_of stop ≡ 4 → WasCut settings.inside a.source.octets
+  cut_of stop a b p s =
+      elim (sorts stop a b p) [
+        | inl q ↦ (q.offset, subst (λ (f : InputFault). HasFaultAt settings.inside a.source.octets f q.offset) (is_4 q.fault (status_of stop) q.answered s) q.first)
+        | inr least ↦ absurd (omega (arith, least, s))
+      ]
 
--- a stop is one at a flaw, or a fault, and none is at opening
-sorts : (settings : PlainSettings) (stop : Stop) (a b : Moment) → Stands settings stop a b → HasFlawOf a.source.octets (status_of stop) ⊎ ((5 ≤ status_of stop) × (status_of stop ≤ 7))
-sorts settings (stops.At kinds.Magic offset) a b p = inl (record { flaw = bad_magic; offset = offset; first = flawed_at settings bad_magic offset a b p; answered = refl })
-sorts settings (stops.At kinds.Version offset) a b p = inl (record { flaw = bad_version; offset = offset; first = flawed_at settings bad_version offset a b p; answered = refl })
-sorts settings (stops.At kinds.Link offset) a b p = inl (record { flaw = bad_link; offset = offset; first = flawed_at settings bad_link offset a b p; answered = refl })
-sorts settings (stops.At kinds.Block offset) a b p = absurd p
-sorts settings (stops.At kinds.Long offset) a b p = inl (record { flaw = too_long; offset = offset; first = flawed_at settings too_long offset a b p; answered = refl })
-sorts settings (stops.At kinds.Many offset) a b p = inl (record { flaw = too_many; offset = offset; first = flawed_at settings too_many offset a b p; answered = refl })
-sorts settings (stops.At kinds.Cut offset) a b p = inl (record { flaw = cut_short; offset = offset; first = flawed_at settings cut_short offset a b p; answered = refl })
-sorts settings (stops.At kinds.ReadFault offset) a b p = inr (omega arith, omega arith)
-sorts settings (stops.At kinds.Capture offset) a b p = inr (omega arith, omega arith)
-sorts settings (stops.At kinds.Memory offset) a b p = absurd p
-sorts settings stops.Report a b p = inr (omega arith, omega arith)
+  pub faulty_is_3 : FaultIsOne → (stop : Stop) (a b : Moment) → Stands settings stop a b → IsFaulty settings.inside a.source.octets → (status_of stop ≡ 3) ⊎ (5 ≤ status_of stop)
+  faulty_is_3 one stop a b p f =
+      elim (sorts stop a b p) [
+        | inl q ↦
+            let same : q.fault ≡ f.fault = (one settings.inside f.octets q.fault f.fault q.offset f.offset (here settings.inside _ f.octets q.fault q.offset f.told q.first) f.fails).0 in
+            inl (q.answered ∙ ap fault_status same ∙ faulty_status f.fault f.other)
+        | inr outside ↦ inr outside
+      ]
 
-is_3 : (c : Bool) (status : ℕ) → status ≡ (elim c [ true ↦ 4 | false ↦ 3 ]) → status ≡ 3 → c ≡ false
-is_3 true status e f = absurd (omega arith)
-is_3 false status e f = refl
+  pub cut_is_4 : FaultIsOne → (stop : Stop) (a b : Moment) → Stands settings stop a b → IsCutShort settings.inside a.source.octets → (status_of stop ≡ 4) ⊎ (5 ≤ status_of stop)
+  cut_is_4 one stop a b p f =
+      elim (sorts stop a b p) [
+        | inl q ↦
+            let same : q.fault ≡ faults.Cut = (one settings.inside f.octets q.fault faults.Cut q.offset f.offset (here settings.inside _ f.octets q.fault q.offset f.told q.first) f.fails).0 in
+            inl (q.answered ∙ ap fault_status same)
+        | inr outside ↦ inr outside
+      ]
 
-is_4 : (flaw : Flaw) (status : ℕ) → status ≡ (elim (is_cut flaw) [ true ↦ 4 | false ↦ 3 ]) → status ≡ 4 → flaw ≡ cut_short
-is_4 cut_short status e f = refl
-is_4 bad_magic status e f = absurd (omega arith)
-is_4 bad_version status e f = absurd (omega arith)
-is_4 bad_link status e f = absurd (omega arith)
-is_4 too_long status e f = absurd (omega arith)
-is_4 too_many status e f = absurd (omega arith)
-
-between : (c : Bool) (status : ℕ) → status ≡ (elim c [ true ↦ 4 | false ↦ 3 ]) → (3 ≤ status) × (status ≤ 4)
-between true status e = (omega arith, omega arith)
-between false status e = (omega arith, omega arith)
-
-pub faulty_of : (settings : PlainSettings) (stop : Stop) (a b : Moment) → Stands settings stop a b → status_of stop ≡ 3 → WasFaulty a.source.octets
-faulty_of settings stop a b p s =
-    elim (sorts settings stop a b p) [
-      | inl q ↦ (q.flaw, q.offset, is_3 (is_cut q.flaw) (status_of stop) q.answered s, q.first)
-      | inr q ↦ absurd (let least = q.0 in omega (arith, least, s))
-    ]
-
-pub cut_of : (settings : PlainSettings) (stop : Stop) (a b : Moment) → Stands settings stop a b → status_of stop ≡ 4 → WasCut a.source.octets
-cut_of settings stop a b p s =
-    elim (sorts settings stop a b p) [
-      | inl q ↦ (q.offset, subst (λ (f : Flaw). HasFlawAt a.source.octets f q.offset) (is_4 q.flaw (status_of stop) q.answered s) q.first)
-      | inr q ↦ absurd (let least = q.0 in omega (arith, least, s))
-    ]
+  pub whole_goes_on : FaultExcludesEnd → (stop : Stop) (a b : Moment) → Stands settings stop a b → IsWhole settings.inside a.source.octets → 5 ≤ status_of stop
+  whole_goes_on none stop a b p f =
+      elim (sorts stop a b p) [
+        | inl q ↦ absurd (none settings.inside f.octets f.head f.packets q.fault q.offset f.input (here settings.inside _ f.octets q.fault q.offset f.told q.first))
+        | inr outside ↦ outside
+      ]
 
 -- the count that a status names rose
 
@@ -108,51 +151,16 @@ capture_of stop a b p s = subst (λ n. Faulted (n == 6) a.sinks.capture b.sinks.
 pub report_of : (stop : Stop) (a b : Moment) → FirstFault stop a b → status_of stop ≡ 7 → Rose a.sinks.report.faults b.sinks.report.faults
 report_of stop a b p s = subst (λ n. Faulted (n == 7) a.sinks.report b.sinks.report) s p.sinks.report
 
-pub known_of : (settings : PlainSettings) (stop : Stop) (a b : Moment) → Stands settings stop a b → (3 ≤ status_of stop) × (status_of stop ≤ 7)
-known_of settings stop a b p =
-    elim (sorts settings stop a b p) [
-      | inl q ↦ let here = between (is_cut q.flaw) (status_of stop) q.answered in (here.0, (let most = here.1 in omega (arith, most)))
-      | inr q ↦ ((let least = q.0 in omega (arith, least)), q.1)
-    ]
+-- a finished run excludes faults
 
--- the source told these octets
-here : (source : Option (List ℕ)) (octets : List ℕ) (flaw : Flaw) (offset : ℕ) → source ≡ Some octets → HasFlawAt source flaw offset → FailsAt octets flaw offset
-here source octets flaw offset told first = subst (λ s. HasFlawAt s flaw offset) told first
+finished_input : (settings : PlainSettings) (source source' c c' r r' : Option (List ℕ)) (octets : List ℕ) (n : Normalized settings source source' c c' r r') → source ≡ Some octets
+    → TookAll settings.inside (Some octets) n.head (packets n.trace)
+finished_input settings source source' c c' r r' octets n told = subst (λ s. TookAll settings.inside s n.head (packets n.trace)) told n.whole
 
-pub faulty_is_3 : FlawIsOne → (settings : PlainSettings) (stop : Stop) (a b : Moment) → Stands settings stop a b → IsFaulty a.source.octets → (status_of stop ≡ 3) ⊎ (5 ≤ status_of stop)
-faulty_is_3 one settings stop a b p f =
-    elim (sorts settings stop a b p) [
-      | inl q ↦
-          let same : q.flaw ≡ f.flaw = (one f.octets q.flaw f.flaw q.offset f.offset (here _ f.octets q.flaw q.offset f.told q.first) f.flawed).0 in
-          inl (q.answered ∙ ap (λ c. elim c [ true ↦ 4 | false ↦ 3 ]) (ap is_cut same ∙ f.other))
-      | inr outside ↦ inr outside.0
-    ]
-
-pub cut_is_4 : FlawIsOne → (settings : PlainSettings) (stop : Stop) (a b : Moment) → Stands settings stop a b → IsCutShort a.source.octets → (status_of stop ≡ 4) ⊎ (5 ≤ status_of stop)
-cut_is_4 one settings stop a b p f =
-    elim (sorts settings stop a b p) [
-      | inl q ↦
-          let same : q.flaw ≡ cut_short = (one f.octets q.flaw cut_short q.offset f.offset (here _ f.octets q.flaw q.offset f.told q.first) f.flawed).0 in
-          inl (q.answered ∙ ap (λ c. elim c [ true ↦ 4 | false ↦ 3 ]) (ap is_cut same))
-      | inr outside ↦ inr outside.0
-    ]
-
-pub whole_goes_on : FlawExcludesEnd → (settings : PlainSettings) (stop : Stop) (a b : Moment) → Stands settings stop a b → IsWhole a.source.octets → 5 ≤ status_of stop
-whole_goes_on none settings stop a b p f =
-    elim (sorts settings stop a b p) [
-      | inl q ↦ absurd (none f.octets f.head f.packets q.flaw q.offset f.capture (here _ f.octets q.flaw q.offset f.told q.first))
-      | inr outside ↦ outside.0
-    ]
-
--- a finished run excludes flaws
-
-finished_capture : (settings : PlainSettings) (source source' c c' r r' : Option (List ℕ)) (octets : List ℕ) (n : Normalized settings source source' c c' r r') → source ≡ Some octets → TookAll (Some octets) n.head n.trace
-finished_capture settings source source' c c' r r' octets n told = rw told at n.whole
-
-pub finished_or_faulty : FlawExcludesEnd → (settings : PlainSettings) (source source' c c' r r' : Option (List ℕ)) → Normalized settings source source' c c' r r' → IsFaulty source → ⊥
+pub finished_or_faulty : FaultExcludesEnd → (settings : PlainSettings) (source source' c c' r r' : Option (List ℕ)) → Normalized settings source source' c c' r r' → IsFaulty settings.inside source → ⊥
 finished_or_faulty none settings source source' c c' r r' n f =
-    none f.octets n.head _ f.flaw f.offset (finished_capture settings source source' c c' r r' f.octets n f.told) f.flawed
+    none settings.inside f.octets n.head _ f.fault f.offset (finished_input settings source source' c c' r r' f.octets n f.told) f.fails
 
-pub finished_or_cut : FlawExcludesEnd → (settings : PlainSettings) (source source' c c' r r' : Option (List ℕ)) → Normalized settings source source' c c' r r' → IsCutShort source → ⊥
+pub finished_or_cut : FaultExcludesEnd → (settings : PlainSettings) (source source' c c' r r' : Option (List ℕ)) → Normalized settings source source' c c' r r' → IsCutShort settings.inside source → ⊥
 finished_or_cut none settings source source' c c' r r' n f =
-    none f.octets n.head _ cut_short f.offset (finished_capture settings source source' c c' r r' f.octets n f.told) f.flawed
+    none settings.inside f.octets n.head _ faults.Cut f.offset (finished_input settings source source' c c' r r' f.octets n f.told) f.fails

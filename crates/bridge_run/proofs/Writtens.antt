@@ -1,6 +1,6 @@
 -- What is written of a lawful trace.
-use Rattle.std.proofs.Common.{◌≡◌, ℕ, ◌+◌, ◌<◌, ◌≤◌, ◌==◌, ◌&&◌, ◌||◌, not, nat_lt, Bool, true, false, cond, All, List, [], ◌∷◌, ◌++◌, length, map, drop, get_or, zero, suc, Option, Some, None, inl, inr, refl, sym, ap, ap₂, subst, ◌∙◌, arith, append-nil}
-use Rattle.std.specs.Prelude.{ℤ, IfSome}
+use Rattle.std.proofs.Common.{◌≡◌, ℕ, ◌+◌, ◌<◌, ◌≤◌, ◌==◌, ◌&&◌, ◌||◌, not, nat_lt, Bool, true, false, cond, All, List, [], ◌∷◌, ◌++◌, length, map, drop, get_or, suc, Option, Some, None, inl, inr, refl, sym, ap, ap₂, subst, ◌∙◌, arith, append-nil}
+use Rattle.std.specs.Prelude.{IfSome}
 use Rattle.std.specs.List.{AllByRecursion, flat_map, list_any}
 use Rattle.std.proofs.lemmas.Grind.{flat_map-append}
 use Rattle.std.proofs.lemmas.Bool.Decides.{nat_tests}
@@ -9,14 +9,12 @@ use Rattle.std.proofs.lemmas.List.Elements.{All-nil, All-cons, All-append, All-m
 use Rattle.std.proofs.lemmas.List.Folds.{list_any-append}
 use Rattle.wire_base.specs.declared.address.Link.{Link}
 use Rattle.wire_base.specs.declared.address.Link.TheVariants.{Ethernet, Raw}
-use Rattle.wire_base.specs.declared.frame.FrameKind.{FrameKind}
 use Rattle.wire_base.specs.declared.frame.FrameKind.TheVariants.{Ip, Arp, Short, Other}
 use Rattle.wire_base.specs.Frames.{ethertype, kind_of, packet_in}
 use Rattle.wire_base.specs.Ipv4 as ip
 use Rattle.wire_base.specs.Tcp as tcp
-use Rattle.wire_base.specs.Segments.{Segment, fields_of, segment_of}
+use Rattle.wire_base.specs.Segments.{fields_of, segment_of}
 use Rattle.rule_book.specs.declared.rule.Rule.{Rule}
-use Rattle.rule_book.specs.declared.entry.Verdict.{Verdict}
 use Rattle.norm_settings.specs.Settings.{PlainSettings}
 use Rattle.ip_rules.specs.Rows.{carries_ip, is_inward}
 use Rattle.receiver_model.specs.Agreement.{MembersAgree}
@@ -25,8 +23,8 @@ use Rattle.era_agreement.specs.Sent.{Sent, inward_packets, inward_places, is_era
 use Rattle.era_agreement.specs.Agreement.{EraIsSound, IsSilentPacket}
 use Rattle.norm_engine.specs.Items.{Item}
 use Rattle.norm_engine.specs.Clean.{CleanIsKept, KeepsPayload, payload_in, payload_of}
-use Rattle.norm_engine.specs.Agreement.{Agree, sent_in}
-use Rattle.norm_engine.specs.Laws.{IsSound, LawfulAgrees, LawfulKeepsClean, LawfulTellsStreams}
+use Rattle.norm_engine.specs.Agreement.{sent_in}
+use Rattle.norm_engine.specs.Laws.{IsSound, LawfulAgrees, LawfulTellsStreams}
 use Rattle.norm_engine.specs.Outgoing.{CarriesWhole, GoesOut, IsOutgoing, ItemsGoOut}
 use Rattle.emit_mtu.specs.declared.long.LongKind.{LongKind}
 use Rattle.emit_mtu.specs.declared.long.LongKind.TheVariants.{Fits, Cut, Drop}
@@ -34,7 +32,6 @@ use Rattle.emit_mtu.specs.Frames.{AreOctets, IsSent, link_size}
 use Rattle.emit_mtu.specs.Laws as cuts
 use Rattle.emit_mtu.specs.Laws.{AreFew, CarryThePayload, IsToBeCut}
 use Rattle.emit_mtu.specs.Long.{e_cut, e_mtu, is_ip, is_long, is_marked, long_kind, may_be_cut}
-use Rattle.emit_mtu.specs.Segments.{segments}
 use Rattle.emit_mtu.specs.Streams.{CutTellsOneStream, NothingLongGoesOut, PacketsGoOutAlike, PlainHeadersAreWhole, frames_for, frames_of, packets_for, places_for}
 use Rattle.emit_mtu.proofs.Facts.{both, neither}
 use Rattle.emit_mtu.proofs.Sent.{octets_in}

@@ -1,6 +1,6 @@
 -- What is written where the link behind has a largest packet: the lawful trace, with each frame replaced by what goes out in its place, and with its entries
 -- changed as that asks (this project's profile). Where no largest packet is given it is the lawful trace itself.
-use Rattle.std.specs.Prelude.{◌≡◌, ◌<◌, ◌||◌, ℕ, ℤ, Bool, true, false, List, [], ◌∷◌, ◌++◌, length, map, All, Option, Some, None, if◌then◌else◌}
+use Rattle.std.specs.Prelude.{◌≡◌, ℕ, ℤ, Bool, true, false, List, [], ◌∷◌, ◌++◌, length, map, All, Option, Some, None, if◌then◌else◌}
 use Rattle.std.specs.List.{AllByRecursion, flat_map, list_any}
 use Rattle.wire_base.specs.declared.address.Link.{Link}
 use Rattle.std.specs.Io.KnownBytes.{Appends}
@@ -110,8 +110,8 @@ abbrev pub NoneIsLong : (mtu : Option ℕ) → Link → List Item → Type 0
 NoneIsLong None link trace = Unit {0}
 NoneIsLong (Some mtu) link trace = AllByRecursion (λ item. All (λ frame. is_long link mtu frame ≡ false) item.frames) trace
 
--- What is written of a trace: its clean records keep their payload, receivers agree, and no frame is too long; and after no record more is held than the settings
--- allow.
+-- What is written of a trace: its clean records keep their payload, but for a frame that is too long and can't be cut; receivers agree, and no frame is too long;
+-- and after no record more is held than the settings allow.
 pub record IsWrittenSoundly (settings : PlainSettings) (link : Link) (trace : List Item) : Type 0 where
   pub clean_kept : CleanIsWritten settings link trace
   pub within : IsAlwaysWithin settings link trace
@@ -127,7 +127,7 @@ FramesHaveOctets (Some mtu) frames = All AreOctets frames
 abbrev pub HaveFrameOctets : (mtu : Option ℕ) → List Item → Type 0
 HaveFrameOctets mtu trace = AllByRecursion (λ item. FramesHaveOctets mtu item.frames) trace
 
--- This holds of each lawful trace of records of octets.
+-- This holds of each lawful trace of records of octets under settings in their ranges, where the frames that may be cut have octets too.
 abbrev pub LawfulIsWrittenSoundly : Type 0
 LawfulIsWrittenSoundly =
     (settings : PlainSettings) (link : Link) (trace : List Item) → AreInRange settings → IsSound settings link trace → HaveFrameOctets settings.mtu trace

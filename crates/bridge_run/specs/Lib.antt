@@ -1,3 +1,4 @@
+pub mod OneSided
 pub mod Frames
 pub mod Cut
 pub mod Moments

@@ -1,16 +1,14 @@
 -- What each status says, row by row (this project's profile): what the two sinks were given, and what was taken from the source. Each row follows from
 -- what stands when a run has stopped, by a law. Where an object does not tell its octets nothing is claimed of them.
-use Rattle.std.specs.Prelude.{◌≡◌, ℕ, ◌<◌, ◌⊎◌, List, [], ◌∷◌, ◌++◌, length, take, Option, None, Err, false}
+use Rattle.std.specs.Prelude.{◌≡◌, ℕ, ◌<◌, ◌⊎◌, true, List, [], ◌∷◌, ◌++◌, length, take, Option, None, Err}
 use Rattle.std.specs.Io.KnownBytes.{Appends}
 use Rattle.edge_io.specs.Faults.{Rose}
-use Rattle.edge_io.specs.Octets.{TakesFewer}
 use Rattle.pcap_file.specs.declared.head.Head.{Head}
-use Rattle.pcap_file.specs.declared.order.Order.{Order}
-use Rattle.pcap_file.specs.Flaws.{Flaw, cut_short, bad_magic, bad_version, bad_link, too_long, too_many}
 use Rattle.pcap_file.specs.Heads.{head_octets}
-use Rattle.pcap_file.specs.Capture.{offset_of}
-use Rattle.pcap_file.specs.ReadsHead.{Begins}
-use Rattle.pcap_file.specs.Reads.{StopsAt, TakesPart}
+use Rattle.capture_input.specs.declared.fault.InputFault.{InputFault}
+use Rattle.capture_input.specs.declared.fault.InputFault.TheVariants as faults
+use Rattle.capture_input.specs.Inputs.{Walk, packets_in, place_behind, newest_place, EndsAtNewest, Took, TakenWhole}
+use Rattle.capture_input.specs.Reads.{StopsInHead, StopsAt}
 use Rattle.rule_book.specs.declared.last.Last.TheVariants as last
 use Rattle.rule_book.specs.declared.last.StopKind.{StopKind}
 use Rattle.rule_book.specs.declared.last.StopKind.TheVariants as kinds
@@ -18,15 +16,15 @@ use Rattle.rule_book.specs.Text.{entry_text, last_text, lines_text}
 use Rattle.norm_settings.specs.declared.fault.WordFault.{WordFault}
 use Rattle.norm_settings.specs.Settings.{PlainSettings}
 use Rattle.norm_settings.specs.Faults.{number_of}
-use Rattle.norm_settings.specs.Asked.{asked}
 use Rattle.norm_engine.specs.Items.{Item, packets, entries}
 use Rattle.norm_engine.specs.Trace.{Lawful}
 use Rattle.bridge_run.specs.Frames.{frames_octets, item_octets, frame_count}
 use Rattle.bridge_run.specs.Cut.{item_written, written}
 use Rattle.bridge_run.specs.Moments.{Seen, Moment}
+use Rattle.bridge_run.specs.OneSided.{asked_one_sided}
 use Rattle.bridge_run.specs.Outputs.{heading}
-use Rattle.bridge_run.specs.Run.{Took, TookAll, TakenWhole, AsksRun}
-use Rattle.bridge_run.specs.Stops.{is_cut, words_line}
+use Rattle.bridge_run.specs.Run.{AsksRun}
+use Rattle.bridge_run.specs.Stops.{fault_kind, is_faulty, words_line}
 use Rattle.bridge_run.specs.Stopped.{Stopped, SaysOnly}
 use Rattle.bridge_run.specs.Summary.{Summed, SummedInPart, AsksLoad}
 
@@ -51,73 +49,70 @@ Says first line before now =
 abbrev pub stop_of : StopKind → (offset : ℕ) → List ℕ
 stop_of kind offset = last_text (last.Stop kind offset)
 
--- the kind that a flaw of the capture is told as
-abbrev pub flaw_kind : Flaw → StopKind
-flaw_kind cut_short = kinds.Cut
-flaw_kind bad_magic = kinds.Magic
-flaw_kind bad_version = kinds.Version
-flaw_kind bad_link = kinds.Link
-flaw_kind too_long = kinds.Long
-flaw_kind too_many = kinds.Many
-
--- Statuses 3 to 5, at the head: the capture was given nothing, and the report its first line and the stop.
-pub record EndsAtHead (InHead : (old new : Option (List ℕ)) → Type 0) (kind : StopKind) (before now : Moment) : Type 0 where
-  pub taken : InHead before.source.octets now.source.octets
+-- Statuses 3 to 5, at the head: the capture was given nothing, and the report its first line and the stop, at the offset of the head or of the block that has
+-- the fault.
+pub record EndsAtHead (settings : PlainSettings) (fault : InputFault) (before now : Moment) : Type 0 where
+  pub offset : ℕ
+  pub taken : StopsInHead settings.inside before.source.octets now.source.octets fault offset
   pub capture : Appends before.sinks.capture.octets now.sinks.capture.octets []
-  pub report : Says heading (stop_of kind 0) before.sinks.report now.sinks.report
+  pub report : Says heading (stop_of (fault_kind fault) offset) before.sinks.report now.sinks.report
 
--- Statuses 3 to 5, at the record behind those of a lawful trace: these were taken, and what is left begins with the record at which the run stopped. The
--- capture was given the head and the frames of these records, the report their lines and the stop, at the offset behind them.
-pub record EndsAtRecord (settings : PlainSettings) (InRecord : Order → (count : ℕ) → (old new : Option (List ℕ)) → Type 0) (kind : StopKind) (before now : Moment) : Type 0 where
+-- Statuses 3 to 5, at the record or block behind those of a lawful trace: these were taken, and what is left begins with the one at which the run stopped. The
+-- capture was given the head and the frames of these packets, the report their lines and the stop, at the offset behind them.
+pub record EndsAtRecord (settings : PlainSettings) (fault : InputFault) (before now : Moment) : Type 0 where
   pub head : Head
   pub trace : List Item
   pub lawful : Lawful settings head.link trace
+  pub walk : Walk
+  pub packets_are : packets_in walk ≡ packets trace
   pub left : Option (List ℕ)
-  pub took : Took before.source.octets left head trace
-  pub taken : InRecord head.order (length trace) left now.source.octets
+  pub took : Took settings.inside before.source.octets left head walk
+  pub taken : StopsAt settings.inside head walk left now.source.octets fault
   pub capture : Appends before.sinks.capture.octets now.sinks.capture.octets (capture_octets head (written settings head.link trace))
-  pub report : Says (report_octets (written settings head.link trace)) (stop_of kind (offset_of (packets trace))) before.sinks.report now.sinks.report
+  pub report : Says (report_octets (written settings head.link trace)) (stop_of (fault_kind fault) (place_behind walk)) before.sinks.report now.sinks.report
 
--- A flaw of the capture: at most the octets of the head or record that has it were taken.
-abbrev pub EndsAtFlaw : PlainSettings → Flaw → (before now : Moment) → Type 0
-EndsAtFlaw settings flaw before now =
-    EndsAtHead (λ old new. Begins old new (Err flaw)) (flaw_kind flaw) before now
-    ⊎ EndsAtRecord settings (λ order count old new. StopsAt order count old new flaw) (flaw_kind flaw) before now
+-- A fault of the input: at most the octets of the head, record or block that has it were taken.
+abbrev pub EndsAtFault : PlainSettings → InputFault → (before now : Moment) → Type 0
+EndsAtFault settings fault before now = EndsAtHead settings fault before now ⊎ EndsAtRecord settings fault before now
 
--- Status 3: a flaw that is no cut.
+-- Status 3: a fault of the octets that is no cut.
 pub record EndsFaulty (settings : PlainSettings) (before now : Moment) : Type 0 where
-  pub flaw : Flaw
-  pub other : is_cut flaw ≡ false
-  pub ends : EndsAtFlaw settings flaw before now
+  pub fault : InputFault
+  pub other : is_faulty fault ≡ true
+  pub ends : EndsAtFault settings fault before now
 
 -- Status 4: a cut.
 abbrev pub EndsCut : PlainSettings → (before now : Moment) → Type 0
-EndsCut settings before now = EndsAtFlaw settings cut_short before now
+EndsCut settings before now = EndsAtFault settings faults.Cut before now
 
--- Status 5: the source failed after fewer octets than the head or the record has.
+-- Status 5: the source failed after fewer octets than the head, the record or the block has.
 abbrev pub EndsUnread : PlainSettings → (before now : Moment) → Type 0
-EndsUnread settings before now =
-    EndsAtHead (λ old new. TakesFewer old new 24) kinds.ReadFault before now
-    ⊎ EndsAtRecord settings (λ order count old new. TakesPart order old new) kinds.ReadFault before now
+EndsUnread settings before now = EndsAtFault settings faults.ReadFault before now
 
--- Status 6, at the head: it was taken, and the capture was given a prefix of the written one.
-pub record CaptureEndsInHead (before now : Moment) : Type 0 where
+-- Status 6, at the head: exactly that was taken, and the capture was given a prefix of the written one.
+pub record CaptureEndsInHead (settings : PlainSettings) (before now : Moment) : Type 0 where
   pub head : Head
-  pub took : Took before.source.octets now.source.octets head []
+  pub walk : Walk
+  pub silent : packets_in walk ≡ []
+  pub ends : EndsAtNewest walk
+  pub took : Took settings.inside before.source.octets now.source.octets head walk
   pub capture : GivenUpTo [] (head_octets head) before.sinks.capture.octets now.sinks.capture.octets
   pub report : Says heading (stop_of kinds.Capture 0) before.sinks.report now.sinks.report
 
--- Status 6, at the newest record: exactly the head and the records up to that one were taken. The capture was given all but that one's frames, and a prefix
--- of these; the report the lines of the older records, and the stop at the offset behind them.
+-- Status 6, at the newest packet: exactly the head and what stands up to the end of its record or block was taken. The capture was given all but its frames, and
+-- a prefix of these; the report the lines of the older packets, and the stop at the offset of that record or block.
 pub record CaptureEndsInItem (settings : PlainSettings) (before now : Moment) : Type 0 where
   pub head : Head
   pub item : Item
   pub older : List Item
   pub lawful : Lawful settings head.link (item ∷ older)
-  pub took : Took before.source.octets now.source.octets head (item ∷ older)
+  pub walk : Walk
+  pub packets_are : packets_in walk ≡ packets (item ∷ older)
+  pub ends : EndsAtNewest walk
+  pub took : Took settings.inside before.source.octets now.source.octets head walk
   pub has_frame : 0 < length (item_written settings.mtu head.link item).frames
   pub capture : GivenUpTo (capture_octets head (written settings head.link older)) (item_octets head.order (item_written settings.mtu head.link item)) before.sinks.capture.octets now.sinks.capture.octets
-  pub report : Says (report_octets (written settings head.link older)) (stop_of kinds.Capture (offset_of (packets older))) before.sinks.report now.sinks.report
+  pub report : Says (report_octets (written settings head.link older)) (stop_of kinds.Capture (newest_place walk)) before.sinks.report now.sinks.report
 
 -- Status 6, at the end: a capture that keeps octets back, and so tells none, could not hand them on. All was taken, and the report was given all lines of
 -- records, and the stop at the offset of the end.
@@ -125,13 +120,15 @@ pub record CaptureEndsBehind (settings : PlainSettings) (before now : Moment) : 
   pub head : Head
   pub trace : List Item
   pub lawful : Lawful settings head.link trace
-  pub whole : TookAll before.source.octets head trace
+  pub walk : Walk
+  pub packets_are : packets_in walk ≡ packets trace
+  pub took : Took settings.inside before.source.octets now.source.octets head walk
   pub taken : TakenWhole before.source.octets now.source.octets
   pub untold : before.sinks.capture.octets ≡ None
-  pub report : Says (report_octets (written settings head.link trace)) (stop_of kinds.Capture (offset_of (packets trace))) before.sinks.report now.sinks.report
+  pub report : Says (report_octets (written settings head.link trace)) (stop_of kinds.Capture (place_behind walk)) before.sinks.report now.sinks.report
 
 abbrev pub EndsUnwritten : PlainSettings → (before now : Moment) → Type 0
-EndsUnwritten settings before now = CaptureEndsInHead before now ⊎ (CaptureEndsInItem settings before now ⊎ CaptureEndsBehind settings before now)
+EndsUnwritten settings before now = CaptureEndsInHead settings before now ⊎ (CaptureEndsInItem settings before now ⊎ CaptureEndsBehind settings before now)
 
 -- Status 7, at the first line: nothing was taken, the capture was given nothing, and the report a prefix of that line.
 pub record ReportEndsInFirst (before now : Moment) : Type 0 where
@@ -139,14 +136,17 @@ pub record ReportEndsInFirst (before now : Moment) : Type 0 where
   pub capture : Appends before.sinks.capture.octets now.sinks.capture.octets []
   pub report : GivenUpTo [] heading before.sinks.report.octets now.sinks.report.octets
 
--- Status 7, at the line of the newest record: exactly the head and the records up to that one were taken. The capture was given the frames of all of them,
--- the report the lines of the older ones and a prefix of that line.
+-- Status 7, at the line of the newest packet: exactly the head and what stands up to the end of its record or block was taken. The capture
+-- was given the frames of all packets, the report the lines of the older ones and a prefix of that line.
 pub record ReportEndsInLine (settings : PlainSettings) (before now : Moment) : Type 0 where
   pub head : Head
   pub item : Item
   pub older : List Item
   pub lawful : Lawful settings head.link (item ∷ older)
-  pub took : Took before.source.octets now.source.octets head (item ∷ older)
+  pub walk : Walk
+  pub packets_are : packets_in walk ≡ packets (item ∷ older)
+  pub ends : EndsAtNewest walk
+  pub took : Took settings.inside before.source.octets now.source.octets head walk
   pub capture : Appends before.sinks.capture.octets now.sinks.capture.octets (capture_octets head (written settings head.link (item ∷ older)))
   pub report : GivenUpTo (report_octets (written settings head.link older)) (entry_text (item_written settings.mtu head.link item).entry) before.sinks.report.octets now.sinks.report.octets
 
@@ -155,7 +155,9 @@ pub record ReportEndsInLast (settings : PlainSettings) (before now : Moment) : T
   pub head : Head
   pub trace : List Item
   pub lawful : Lawful settings head.link trace
-  pub whole : TookAll before.source.octets head trace
+  pub walk : Walk
+  pub packets_are : packets_in walk ≡ packets trace
+  pub took : Took settings.inside before.source.octets now.source.octets head walk
   pub taken : TakenWhole before.source.octets now.source.octets
   pub capture : Appends before.sinks.capture.octets now.sinks.capture.octets (capture_octets head (written settings head.link trace))
   pub report : GivenUpTo (report_octets (written settings head.link trace)) (last_text (last.End (length trace) (frame_count (written settings head.link trace)))) before.sinks.report.octets now.sinks.report.octets
@@ -190,7 +192,7 @@ pub record EndsSummedInPart (seed count : ℕ) (before now : Moment) : Type 0 wh
 -- Status 2: the report was given the line that refuses the words, and nothing else happened.
 pub record EndsRefused (words : List (List ℕ)) (before now : Moment) : Type 0 where
   pub fault : WordFault
-  pub refused : asked words ≡ Err fault
+  pub refused : asked_one_sided words ≡ Err fault
   pub says : SaysOnly (words_line (number_of fault)) before now
 
 -- A run over these words that answers this status leaves this row.

@@ -1,16 +1,13 @@
 -- Why a run stops before it has finished, what its status then says, and the lines that say so (this project's profile).
-use Rattle.std.specs.Prelude.{◌≡◌, ℕ, ◌+◌, ◌==◌, ◌⊎◌, Bool, true, false, List, ◌∷◌, [], ◌++◌, codes, Option, Some, None}
+use Rattle.std.specs.Prelude.{◌≡◌, ℕ, ◌+◌, ◌==◌, ◌⊎◌, Bool, true, false, List, ◌∷◌, [], ◌++◌, codes, Option, Some}
 use Rattle.std.specs.Io.KnownBytes.{Appends}
 use Rattle.edge_io.specs.Faults.{Rose}
 use Rattle.edge_io.specs.Octets.{AppendsPart}
 use Rattle.pcap_file.specs.declared.head.Head.{Head}
-use Rattle.pcap_file.specs.declared.head.HeadFault.{HeadFault}
-use Rattle.pcap_file.specs.declared.head.HeadFault.TheVariants as heads
-use Rattle.pcap_file.specs.declared.reader.RecordFault.{RecordFault}
-use Rattle.pcap_file.specs.declared.reader.RecordFault.TheVariants as records
-use Rattle.pcap_file.specs.Flaws.{Flaw, cut_short, bad_magic, bad_version, bad_link, too_long, too_many}
 use Rattle.pcap_file.specs.Records.{Packet}
-use Rattle.pcap_file.specs.Capture.{FailsAt, IsCapture}
+use Rattle.capture_input.specs.declared.fault.InputFault.{InputFault}
+use Rattle.capture_input.specs.declared.fault.InputFault.TheVariants as faults
+use Rattle.capture_input.specs.Inputs.{FailsAt, HasFaultAt, IsInput}
 use Rattle.rule_book.specs.declared.last.Last.TheVariants as last
 use Rattle.rule_book.specs.declared.last.StopKind.{StopKind}
 use Rattle.rule_book.specs.declared.last.StopKind.TheVariants as kinds
@@ -36,20 +33,20 @@ abbrev pub status_of : Stop → ℕ
 status_of (stops.At kind offset) = kind_status kind
 status_of stops.Report = 7
 
--- the stop at a head with this fault
-abbrev pub stop_at_head : HeadFault → Stop
-stop_at_head heads.Cut = stops.At kinds.Cut 0
-stop_at_head heads.Magic = stops.At kinds.Magic 0
-stop_at_head heads.Version = stops.At kinds.Version 0
-stop_at_head heads.Link = stops.At kinds.Link 0
-stop_at_head heads.ReadFault = stops.At kinds.ReadFault 0
+-- the kind that a fault of the input is told as
+abbrev pub fault_kind : InputFault → StopKind
+fault_kind faults.Cut = kinds.Cut
+fault_kind faults.Magic = kinds.Magic
+fault_kind faults.Version = kinds.Version
+fault_kind faults.Link = kinds.Link
+fault_kind faults.Block = kinds.Block
+fault_kind faults.Long = kinds.Long
+fault_kind faults.Many = kinds.Many
+fault_kind faults.ReadFault = kinds.ReadFault
 
--- the stop at a record with this fault, which begins at this offset
-abbrev pub stop_at_record : RecordFault → (offset : ℕ) → Stop
-stop_at_record records.Cut offset = stops.At kinds.Cut offset
-stop_at_record records.Long offset = stops.At kinds.Long offset
-stop_at_record records.TooMany offset = stops.At kinds.Many offset
-stop_at_record records.ReadFault offset = stops.At kinds.ReadFault offset
+-- the stop at the head, record or block with this fault, which begins at this offset
+abbrev pub stop_at_fault : InputFault → (offset : ℕ) → Stop
+stop_at_fault fault offset = stops.At (fault_kind fault) offset
 
 -- an object's count of faults rose, or it is as it was
 abbrev pub Faulted : Bool → (before now : Seen) → Type 0
@@ -66,51 +63,43 @@ pub record FirstFault (stop : Stop) (before now : Moment) : Type 0 where
   pub source : Faulted (status_of stop == 5) before.source now.source
   pub sinks : FirstSinkFault stop before.sinks now.sinks
 
--- Where the source tells its octets, this is their first flaw, and its offset.
-abbrev pub HasFlawAt : Option (List ℕ) → Flaw → (offset : ℕ) → Type 0
-HasFlawAt None flaw offset = Unit {0}
-HasFlawAt (Some octets) flaw offset = FailsAt octets flaw offset
+-- whether a fault stands in octets that do not end too soon
+abbrev pub is_faulty : InputFault → Bool
+is_faulty faults.Cut = false
+is_faulty faults.ReadFault = false
+is_faulty _ = true
 
--- whether a flaw is that of octets which end inside the head or a record
-abbrev pub is_cut : Flaw → Bool
-is_cut cut_short = true
-is_cut bad_magic = false
-is_cut bad_version = false
-is_cut bad_link = false
-is_cut too_long = false
-is_cut too_many = false
-
--- The source tells its octets, and their first flaw is that they are cut short.
-pub record IsCutShort (source : Option (List ℕ)) : Type 0 where
+-- The source tells its octets, and their first fault is that they are cut short. Under `inside` the name of the interface on the inside is given, here and below.
+pub record IsCutShort (inside source : Option (List ℕ)) : Type 0 where
   pub octets : List ℕ
   pub told : source ≡ Some octets
   pub offset : ℕ
-  pub flawed : FailsAt octets cut_short offset
+  pub fails : FailsAt inside octets faults.Cut offset
 
--- The source tells its octets, and their first flaw is another one.
-pub record IsFaulty (source : Option (List ℕ)) : Type 0 where
+-- The source tells its octets, and their first fault is another one.
+pub record IsFaulty (inside source : Option (List ℕ)) : Type 0 where
   pub octets : List ℕ
   pub told : source ≡ Some octets
-  pub flaw : Flaw
-  pub other : is_cut flaw ≡ false
+  pub fault : InputFault
+  pub other : is_faulty fault ≡ true
   pub offset : ℕ
-  pub flawed : FailsAt octets flaw offset
+  pub fails : FailsAt inside octets fault offset
 
--- The source tells its octets, and they are a capture, with its end and no flaw.
-pub record IsWhole (source : Option (List ℕ)) : Type 0 where
+-- The source tells its octets, and they are an input, with its end and no fault.
+pub record IsWhole (inside source : Option (List ℕ)) : Type 0 where
   pub octets : List ℕ
   pub told : source ≡ Some octets
   pub head : Head
   pub packets : List Packet
-  pub capture : IsCapture octets head packets
+  pub input : IsInput inside octets head packets
 
--- Where the source tells its octets, their first flaw is that they are cut short.
-abbrev pub WasCut : Option (List ℕ) → Type 0
-WasCut source = (offset : ℕ) × HasFlawAt source cut_short offset
+-- Where the source tells its octets, their first fault is that they are cut short.
+abbrev pub WasCut : (inside source : Option (List ℕ)) → Type 0
+WasCut inside source = (offset : ℕ) × HasFaultAt inside source faults.Cut offset
 
--- Where the source tells its octets, their first flaw is another one.
-abbrev pub WasFaulty : Option (List ℕ) → Type 0
-WasFaulty source = (flaw : Flaw) × (offset : ℕ) × (is_cut flaw ≡ false) × HasFlawAt source flaw offset
+-- Where the source tells its octets, their first fault is another one.
+abbrev pub WasFaulty : (inside source : Option (List ℕ)) → Type 0
+WasFaulty inside source = (fault : InputFault) × (offset : ℕ) × (is_faulty fault ≡ true) × HasFaultAt inside source fault offset
 
 -- A sink was at most told to hand on what it keeps back: its octets are as they were, and so is its count where it tells them.
 pub record Kept (before now : Seen) : Type 0 where

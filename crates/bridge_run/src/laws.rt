@@ -24,8 +24,8 @@ pub fn refused_words_leave_a_line()
     ensures { Leaves 2 EndsRefused }
 {}
 
-/// At 3 the capture was given the head and the frames of the records before the flaw, or nothing where the head has it, and the report their lines and the
-/// stop; nothing behind the head or record that has the flaw was taken.
+/// At 3 the capture was given the head and the frames of the packets before the fault, or nothing where the head has it, and the report their lines and the
+/// stop; nothing behind the head, record or block that has the fault was taken.
 pub fn faulty_inputs_leave_what_is_before()
     ensures { Leaves 3 (λ words before now. UnderWords words (λ settings. EndsFaulty settings before now)) }
 {}
@@ -35,7 +35,7 @@ pub fn cut_inputs_leave_what_is_before()
     ensures { Leaves 4 (λ words before now. UnderWords words (λ settings. EndsCut settings before now)) }
 {}
 
-/// At 5 the same stands, and of the head or record at which the source failed not all octets were taken.
+/// At 5 the same stands, and of the head, record or block at which the source failed not all octets were taken.
 pub fn unread_inputs_leave_what_is_before()
     ensures { Leaves 5 (λ words before now. UnderWords words (λ settings. EndsUnread settings before now)) }
 {}
@@ -63,8 +63,8 @@ pub fn unbounded_is_written_whole()
     ensures { WrittenWhole }
 {}
 
-/// Of each lawful trace is written what its clean records carry, what all receivers agree on, and nothing that is too long; and no more is held than the
-/// settings allow.
+/// Of each lawful trace is written what its clean records carry, but for frames that are too long and can't be cut; what all receivers agree on; and nothing
+/// that is too long. No more is held than the settings allow.
 pub fn lawful_is_written_soundly()
     ensures { LawfulIsWrittenSoundly }
 {

@@ -1,5 +1,5 @@
 //! The run over a whole capture.
-ghost use Rattle.std.specs.Prelude.{◌≡◌, ◌⊎◌, ◌≤◌, ◌<◌, ◌-◌, ◌^◌, List, ℕ, [], ◌∷◌, ◌++◌, length, map, string_bytes, vec_len, IfOk, IfErr, OnOk, OnErr};
+ghost use Rattle.std.specs.Prelude.{◌≡◌, ◌⊎◌, ◌≤◌, ◌<◌, ◌-◌, ◌^◌, List, ℕ, [], ◌∷◌, ◌++◌, false, length, map, option_map, string_bytes, vec_len, IfOk, IfErr, IfSome, OnOk, OnErr};
 ghost use Rattle.std.specs.Io.KnownBytes.{Appends};
 ghost use Rattle.edge_io.specs.Faults.{Rose, HasCause};
 ghost use Rattle.edge_io.specs.Octets.{Puts};
@@ -7,7 +7,7 @@ ghost use Rattle.pcap_file.specs.Reads.{shown};
 ghost use Rattle.rule_book.specs.Entries.{plain, IsOfVersion};
 ghost use Rattle.rule_book.specs.Text.{entry_text, last_text};
 ghost use Rattle.rule_book.specs.declared.last.Last.TheVariants.{End};
-ghost use Rattle.norm_settings.specs.Settings.{PlainSettings, plain_settings, AreInRange, AreBuilt};
+ghost use Rattle.norm_settings.specs.Settings.{PlainSettings, plain_settings, AreInRange, GoTogether};
 ghost use Rattle.norm_engine.specs.Items.{Item};
 ghost use Rattle.norm_engine.specs.Trace.{item_of};
 ghost use Rattle.norm_engine.specs.Clean.{HasOctets, HaveOctets};
@@ -19,20 +19,22 @@ ghost use Rattle.bridge_run.specs.Outputs as outputs;
 ghost use Rattle.bridge_run.specs.Stopped as stopped;
 ghost use Rattle.bridge_run.specs.Stops as stops;
 ghost use Rattle.bridge_run.specs.Run as spec;
+ghost use Rattle.bridge_run.specs.Rows.{UnderWords};
 
 use crate::cut::{have_octets, write_item};
 use crate::laws::lawful_is_written_soundly;
 use crate::load::run_load;
-use crate::stop::{
-    Stop, stop_at_capture, stop_at_head, stop_at_record, tell_memory, tell_stop, tell_words,
+use crate::stop::{Stop, stop_at_capture, stop_at_fault, tell_memory, tell_stop, tell_words};
+use capture_input::Input;
+use capture_input::laws::{
+    fault_excludes_end, fault_is_one, head_stops_are_faults, stops_are_faults, whole_is_input,
 };
 use edge_io::{Failed, MAX_FRAME, NoMemory, Outbox, Sink, Source};
 use emit_mtu::laws::{plain_packets_go_out, segments_fit};
 use norm_engine::Engine;
 use norm_engine::laws::{items_are_counted, items_go_out};
 use norm_settings::{Command, Settings, WordFault, read_words};
-use pcap_file::laws::{flaw_excludes_end, flaw_is_one};
-use pcap_file::{Head, MAX_CAPTURED, Reader, Record, read_head, write_head};
+use pcap_file::{Head, MAX_CAPTURED, Record, write_head};
 use rule_book::{Entry, Last, entry_line, last_line};
 use std::alloc::Global;
 
@@ -41,8 +43,9 @@ use std::alloc::Global;
 ///
 /// - 0 where the source was read to its end, or the load was put through;
 /// - 2 where the words are refused;
-/// - 3 for a flaw of the head, a captured length above 262,144 octets, or a record after 2^32 - 1 others;
-/// - 4 for a capture that ends inside its head or a record;
+/// - 3 for a fault of the head or of a block, a captured length above 262,144 octets, a record or block after 2^32 - 1
+///   others, or a classic file where the words name the interface on the inside;
+/// - 4 for a capture that ends inside its head, a record or a block;
 /// - 5, 6 and 7 for a fault of the source, of the capture sink and of the report sink;
 /// - 8 for want of memory at opening.
 ///
@@ -87,19 +90,19 @@ pub fn run<S: Source, K: Sink, R: Sink>(
     ensures load_complete { spec.IsLoad (map string_bytes words.now) → (result ≡ 0) ⊎ (7 ≤ result) }
 
     // Statuses 3 and 4 say what stands in the source, 5 to 7 that a count of faults rose.
-    ensures faulty { result ≡ 3 → stops.WasFaulty (S.left source.old) }
-    ensures cut { result ≡ 4 → stops.WasCut (S.left source.old) }
+    ensures faulty { result ≡ 3 → UnderWords (map string_bytes words.now) (λ settings. stops.WasFaulty settings.inside (S.left source.old)) }
+    ensures cut { result ≡ 4 → UnderWords (map string_bytes words.now) (λ settings. stops.WasCut settings.inside (S.left source.old)) }
     ensures read { result ≡ 5 → Rose (S.fault_count source.old) (S.fault_count source.new) }
     ensures capture { result ≡ 6 → Rose (K.fault_count capture.old) (K.fault_count capture.new) }
     ensures report { result ≡ 7 → Rose (R.fault_count report.old) (R.fault_count report.new) }
 
     // What stands in the source is answered, unless a count rises or memory is wanting.
-    ensures faulty_exactly { spec.IsRun (map string_bytes words.now) →
-        stops.IsFaulty (S.left source.old) → (result ≡ 3) ⊎ (5 ≤ result) }
-    ensures cut_exactly { spec.IsRun (map string_bytes words.now) →
-        stops.IsCutShort (S.left source.old) → (result ≡ 4) ⊎ (5 ≤ result) }
-    ensures complete { spec.IsRun (map string_bytes words.now) →
-        stops.IsWhole (S.left source.old) → (result ≡ 0) ⊎ (5 ≤ result) }
+    ensures faulty_exactly { UnderWords (map string_bytes words.now) (λ settings. stops.IsFaulty settings.inside (S.left source.old))
+        → (result ≡ 3) ⊎ (5 ≤ result) }
+    ensures cut_exactly { UnderWords (map string_bytes words.now) (λ settings. stops.IsCutShort settings.inside (S.left source.old))
+        → (result ≡ 4) ⊎ (5 ≤ result) }
+    ensures complete { UnderWords (map string_bytes words.now) (λ settings. stops.IsWhole settings.inside (S.left source.old))
+        → (result ≡ 0) ⊎ (5 ≤ result) }
 
     ensures known { (result ≡ 0) ⊎ ((2 ≤ result) × (result ≤ 8)) }
     ensures source_later { S.fault_count source.old ≤ S.fault_count source.new }
@@ -121,13 +124,19 @@ pub fn run<S: Source, K: Sink, R: Sink>(
         Command::Run {
             names: _names,
             settings,
-        } => run_capture(alloc, &settings, source, capture, report),
+        } => {
+            if settings.both {
+                tell_words(&WordFault::Refused, report);
+                return 2;
+            }
+            run_capture(alloc, &settings, source, capture, report)
+        }
         Command::Load { seed, count } => run_load(alloc, seed, count, report),
     }
 }
 
 /// Normalizes a capture under these settings, writes the report, and answers the status as `run` does; 2 is none of them.
-/// They ask for nothing that is not built. The memory of the run is taken first: the buffer of one record, that of one
+/// They go together, and ask for the protection of one side. The memory of the run is taken first: the buffer of one record, that of one
 /// segment of a frame that is cut, the outbox and the engine.
 pub fn run_capture<S: Source, K: Sink, R: Sink>(
     alloc: Global,
@@ -137,7 +146,8 @@ pub fn run_capture<S: Source, K: Sink, R: Sink>(
     report: &mut R,
 ) -> u8
     requires range { AreInRange (plain_settings settings.now) }
-    requires built { AreBuilt (plain_settings settings.now) }
+    requires together { GoTogether (plain_settings settings.now) }
+    requires one_sided { settings.now.both ≡ false }
     ensures stopped { stopped.StoppedUnder (plain_settings settings.now) result
         (moment_of (S.left source.old) (S.fault_count source.old) (K.held capture.old) (K.fault_count capture.old)
         (R.held report.old) (R.fault_count report.old))
@@ -155,28 +165,30 @@ pub fn run_capture<S: Source, K: Sink, R: Sink>(
     ensures finished { result ≡ 0 → spec.Normalized (plain_settings settings.now)
         (S.left source.old) (S.left source.new) (K.held capture.old) (K.held capture.new)
         (R.held report.old) (R.held report.new) }
-    ensures faulty { result ≡ 3 → stops.WasFaulty (S.left source.old) }
-    ensures cut { result ≡ 4 → stops.WasCut (S.left source.old) }
+    ensures faulty { result ≡ 3 → stops.WasFaulty (plain_settings settings.now).inside (S.left source.old) }
+    ensures cut { result ≡ 4 → stops.WasCut (plain_settings settings.now).inside (S.left source.old) }
     ensures read { result ≡ 5 → Rose (S.fault_count source.old) (S.fault_count source.new) }
     ensures capture { result ≡ 6 → Rose (K.fault_count capture.old) (K.fault_count capture.new) }
     ensures report { result ≡ 7 → Rose (R.fault_count report.old) (R.fault_count report.new) }
-    ensures faulty_exactly { stops.IsFaulty (S.left source.old) → (result ≡ 3) ⊎ (5 ≤ result) }
-    ensures cut_exactly { stops.IsCutShort (S.left source.old) → (result ≡ 4) ⊎ (5 ≤ result) }
-    ensures complete { stops.IsWhole (S.left source.old) → (result ≡ 0) ⊎ (5 ≤ result) }
+    ensures faulty_exactly { stops.IsFaulty (plain_settings settings.now).inside (S.left source.old) → (result ≡ 3) ⊎ (5 ≤ result) }
+    ensures cut_exactly { stops.IsCutShort (plain_settings settings.now).inside (S.left source.old) → (result ≡ 4) ⊎ (5 ≤ result) }
+    ensures complete { stops.IsWhole (plain_settings settings.now).inside (S.left source.old) → (result ≡ 0) ⊎ (5 ≤ result) }
     ensures known { (result ≡ 0) ⊎ ((3 ≤ result) × (result ≤ 8)) }
     ensures source_later { S.fault_count source.old ≤ S.fault_count source.new }
     ensures capture_later { K.fault_count capture.old ≤ K.fault_count capture.new }
     ensures report_later { R.fault_count report.old ≤ R.fault_count report.new }
 {
-    flaw_is_one();
-    flaw_excludes_end();
+    fault_is_one();
+    fault_excludes_end();
+    head_stops_are_faults();
+    stops_are_faults();
     let Ok(mut room) = take_room(alloc, settings) else {
         tell_memory(report);
         return 8;
     };
     let Err(stop) = normalize(
         &mut room.engine,
-        settings.mtu,
+        settings,
         &mut room.buffer,
         &mut room.segment,
         &mut room.out,
@@ -225,7 +237,7 @@ fn take_room(alloc: Global, settings: &Settings) -> Result<Room, NoMemory>
 // Judges every record of the capture, writes what goes out and the report, and hands on what the sinks keep back.
 fn normalize<S: Source, K: Sink, R: Sink>(
     engine: &mut Engine,
-    mtu: Option<u16>,
+    settings: &Settings,
     buffer: &mut [u8],
     segment: &mut [u8],
     out: &mut Outbox,
@@ -234,11 +246,11 @@ fn normalize<S: Source, K: Sink, R: Sink>(
     report: &mut R,
 ) -> Result<(), Stop>
     requires stands { StandsFor engine.old [] }
-    requires range { AreInRange engine.old.settings }
-    requires mtu { engine.old.settings.mtu ≡ mtu }
+    requires settings { engine.old.settings ≡ plain_settings settings.now }
+    requires range { AreInRange (plain_settings settings.now) }
     requires room { 262144 ≤ length buffer.old }
     requires segment { 65549 ≤ length segment.old }
-    ensures finished { OnOk result (spec.Normalized engine.old.settings
+    ensures finished { OnOk result (spec.Normalized (plain_settings settings.now)
         (S.left source.old) (S.left source.new) (K.held capture.old) (K.held capture.new)
         (R.held report.old) (R.held report.new)) }
     ensures no_fault { OnOk result (moments.NoneRose
@@ -246,7 +258,7 @@ fn normalize<S: Source, K: Sink, R: Sink>(
         (R.held report.old) (R.fault_count report.old))
         (moment_of (S.left source.new) (S.fault_count source.new) (K.held capture.new) (K.fault_count capture.new)
         (R.held report.new) (R.fault_count report.new))) }
-    ensures stands { IfErr result (λ stop. stopped.Stands engine.old.settings stop
+    ensures stands { IfErr result (λ stop. stopped.Stands (plain_settings settings.now) stop
         (moment_of (S.left source.old) (S.fault_count source.old) (K.held capture.old) (K.fault_count capture.old)
         (R.held report.old) (R.fault_count report.old))
         (moment_of (S.left source.new) (S.fault_count source.new) (K.held capture.new) (K.fault_count capture.new)
@@ -262,33 +274,55 @@ fn normalize<S: Source, K: Sink, R: Sink>(
 {
     items_are_counted();
     lawful_is_written_soundly();
-    let head = begin(source, capture, report)?;
+    whole_is_input();
+    let mut input = begin(settings, source, capture, report)?;
+    let head = input.head();
     engine.set_link(head.link);
-    let mut reader = Reader::new(head);
     let mut frames = 0u64;
     'records: loop {
-        let record = match reader.next(source, buffer) {
+        let record = match input.next(source, buffer) {
             Ok(Some(record)) => record,
             Ok(None) => break,
-            Err(fault) => return Err(stop_at_record(fault, reader.offset())),
+            Err(fault) => return Err(stop_at_fault(fault, input.offset())),
         };
-        frames += relay(engine, out, &head, mtu, &record, segment, capture, report)?;
+        frames += relay(
+            engine,
+            out,
+            &head,
+            settings.mtu,
+            &record,
+            segment,
+            capture,
+            report,
+        )?;
     }
-    finish(engine.records(), frames, reader.offset(), capture, report)
+    finish(engine.records(), frames, input.offset(), capture, report)
+}
+
+// The name of the interface on the inside, where one is given.
+fn inside_of(settings: &Settings) -> Option<&[u8]>
+    ensures name { option_map (λ name. name.now) result ≡ (plain_settings settings.now).inside }
+    ensures small { IfSome result (λ name. length name.now ≤ 64) }
+{
+    match &settings.inside {
+        Some(name) => Some(name.as_slice()),
+        None => None,
+    }
 }
 
 // Writes the first line of the report, reads the head, and writes it.
 fn begin<S: Source, K: Sink, R: Sink>(
+    settings: &Settings,
     source: &mut S,
     capture: &mut K,
     report: &mut R,
-) -> Result<Head, Stop>
-    ensures begun { IfOk result (λ head. spec.Begun head
+) -> Result<Input, Stop>
+    ensures begun { IfOk result (λ input. spec.Begun (plain_settings settings.now).inside input
         (moment_of (S.left source.old) (S.fault_count source.old) (K.held capture.old) (K.fault_count capture.old)
         (R.held report.old) (R.fault_count report.old))
         (moment_of (S.left source.new) (S.fault_count source.new) (K.held capture.new) (K.fault_count capture.new)
         (R.held report.new) (R.fault_count report.new))) }
-    ensures stands { (settings : PlainSettings) → IfErr result (λ stop. stopped.Stands settings stop
+    ensures stands { IfErr result (λ stop. stopped.Stands (plain_settings settings.now) stop
         (moment_of (S.left source.old) (S.fault_count source.old) (K.held capture.old) (K.fault_count capture.old)
         (R.held report.old) (R.fault_count report.old))
         (moment_of (S.left source.new) (S.fault_count source.new) (K.held capture.new) (K.fault_count capture.new)
@@ -305,14 +339,14 @@ fn begin<S: Source, K: Sink, R: Sink>(
     if report.put(b"norm 2\n").is_err() {
         return Err(Stop::Report);
     }
-    let head = match read_head(source) {
-        Ok(head) => head,
-        Err(fault) => return Err(stop_at_head(fault)),
+    let input = match Input::open(inside_of(settings), source) {
+        Ok(input) => input,
+        Err(stop) => return Err(stop_at_fault(stop.fault, stop.offset)),
     };
-    if write_head(capture, &head).is_err() {
+    if write_head(capture, &input.head()).is_err() {
         return Err(stop_at_capture(0));
     }
-    Ok(head)
+    Ok(input)
 }
 
 // Judges one record, writes its frames as they go out and its line, and answers how many frames it wrote.

@@ -6,15 +6,15 @@ ghost use Rattle.norm_settings.specs.Faults.{number_of};
 ghost use Rattle.rule_book.specs.declared.last.StopKind.TheVariants as kinds;
 ghost use Rattle.bridge_run.specs.Stops as spec;
 
+use capture_input::InputFault;
 use edge_io::Sink;
 use norm_settings::WordFault;
-use pcap_file::{HeadFault, RecordFault};
 use rule_book::{Last, StopKind, last_line};
 
 /// Why a run stops before it has finished.
 #[derive(Clone, Copy, Debug, PartialEq, Eq)]
 pub enum Stop {
-    /// For this reason, at the head or record whose first octet has this offset; the head's is 0.
+    /// For this reason, at the head, record or block whose first octet has this offset.
     At { kind: StopKind, offset: u64 },
     /// The report failed, so that it cannot say more.
     Report,
@@ -46,34 +46,24 @@ fn kind_status(kind: StopKind) -> u8
     }
 }
 
-/// The stop at a head with this fault.
-pub fn stop_at_head(fault: HeadFault) -> Stop
-    ensures { result ≡ spec.stop_at_head fault }
+/// The stop at the head, record or block with this fault, which begins at this offset.
+pub fn stop_at_fault(fault: InputFault, offset: u64) -> Stop
+    ensures { result ≡ spec.stop_at_fault fault offset }
 {
     let kind = match fault {
-        HeadFault::Cut => StopKind::Cut,
-        HeadFault::Magic => StopKind::Magic,
-        HeadFault::Version => StopKind::Version,
-        HeadFault::Link => StopKind::Link,
-        HeadFault::ReadFault => StopKind::ReadFault,
-    };
-    Stop::At { kind, offset: 0 }
-}
-
-/// The stop at a record with this fault, which begins at this offset.
-pub fn stop_at_record(fault: RecordFault, offset: u64) -> Stop
-    ensures { result ≡ spec.stop_at_record fault offset }
-{
-    let kind = match fault {
-        RecordFault::Cut => StopKind::Cut,
-        RecordFault::Long => StopKind::Long,
-        RecordFault::TooMany => StopKind::Many,
-        RecordFault::ReadFault => StopKind::ReadFault,
+        InputFault::Cut => StopKind::Cut,
+        InputFault::Magic => StopKind::Magic,
+        InputFault::Version => StopKind::Version,
+        InputFault::Link => StopKind::Link,
+        InputFault::Block => StopKind::Block,
+        InputFault::Long => StopKind::Long,
+        InputFault::Many => StopKind::Many,
+        InputFault::ReadFault => StopKind::ReadFault,
     };
     Stop::At { kind, offset }
 }
 
-/// The stop at a fault of the capture, which stood at the record with this offset.
+/// The stop at a fault of the capture, which stood at the record or block with this offset.
 pub fn stop_at_capture(offset: u64) -> Stop
     ensures { result ≡ Stop.At kinds.Capture offset }
 {

@@ -1,4 +1,4 @@
-use Rattle.std.proofs.Common.{◌≡◌, ◌≤◌, length}
+use Rattle.std.proofs.Common.{◌≡◌, length}
 use Rattle.pcap_file.specs.Reads.{shown}
 use Rattle.emit_mtu.specs.Segments.{segments}
 use Rattle.bridge_run.specs.Cut.{CutSoFar}

@@ -1,13 +1,12 @@
 use Rattle.std.proofs.Common.{refl, ◌∙◌, sym, inr, arith}
-use Rattle.bridge_run.proofs.Reading.{settled}
 use Rattle.bridge_run.proofs.Statuses as statuses
 use Rattle.bridge_run.proofs.runner.run_capture.Goals as goal
 
 pub returns-in_default-normalize-clause-faulty_exactly : goal.returns-in_default-normalize-clause-faulty_exactly
-returns-in_default-normalize-clause-faulty_exactly g c = λ f. absurd (statuses.finished_or_faulty c.flaw_excludes_end.ensures _ _ _ _ _ _ _ c.in_default-normalize.ensures.finished f)
+returns-in_default-normalize-clause-faulty_exactly g c = λ f. absurd (statuses.finished_or_faulty c.fault_excludes_end.ensures _ _ _ _ _ _ _ c.in_default-normalize.ensures.finished f)
 
 pub returns-in_default-normalize-clause-cut_exactly : goal.returns-in_default-normalize-clause-cut_exactly
-returns-in_default-normalize-clause-cut_exactly g c = λ f. absurd (statuses.finished_or_cut c.flaw_excludes_end.ensures _ _ _ _ _ _ _ c.in_default-normalize.ensures.finished f)
+returns-in_default-normalize-clause-cut_exactly g c = λ f. absurd (statuses.finished_or_cut c.fault_excludes_end.ensures _ _ _ _ _ _ _ c.in_default-normalize.ensures.finished f)
 
 pub returns-clause-finished : goal.returns-clause-finished
 returns-clause-finished g c = λ e. absurd (let least = (statuses.known_of _ c.in-Err.stop _ _ c.in-Err.ensures.stands).0 in omega (arith, least, c.status.ensures, e))
@@ -20,7 +19,7 @@ returns-clause-stopped g c = inr (inr (record {
   stop = c.in-Err.stop;
   answered = c.status.ensures;
   at = _;
-  stands = settled c.in-Err.stop _ _ _ _ c.in-Ok.ensures.settings c.in-Err.ensures.stands;
+  stands = c.in-Err.ensures.stands;
   first = c.in-Err.ensures.first;
   source_stays = refl;
   capture_stays = c.tell_stop.ensures.kept;
@@ -28,10 +27,10 @@ returns-clause-stopped g c = inr (inr (record {
 }))
 
 pub returns-clause-faulty : goal.returns-clause-faulty
-returns-clause-faulty g c = λ e. statuses.faulty_of _ c.in-Err.stop _ _ c.in-Err.ensures.stands (sym c.status.ensures ∙ e)
+returns-clause-faulty g c = λ e. statuses.faulty_of c.head_stops_are_faults.ensures c.stops_are_faults.ensures _ c.in-Err.stop _ _ c.in-Err.ensures.stands (sym c.status.ensures ∙ e)
 
 pub returns-clause-cut : goal.returns-clause-cut
-returns-clause-cut g c = λ e. statuses.cut_of _ c.in-Err.stop _ _ c.in-Err.ensures.stands (sym c.status.ensures ∙ e)
+returns-clause-cut g c = λ e. statuses.cut_of c.head_stops_are_faults.ensures c.stops_are_faults.ensures _ c.in-Err.stop _ _ c.in-Err.ensures.stands (sym c.status.ensures ∙ e)
 
 pub returns-clause-read : goal.returns-clause-read
 returns-clause-read g c = λ e. statuses.read_of c.in-Err.stop _ _ c.in-Err.ensures.first (sym c.status.ensures ∙ e)
@@ -43,13 +42,13 @@ pub returns-clause-report : goal.returns-clause-report
 returns-clause-report g c = λ e. omega (arith, statuses.report_of c.in-Err.stop _ _ c.in-Err.ensures.first (sym c.status.ensures ∙ e), c.tell_stop.ensures.report_later)
 
 pub returns-clause-faulty_exactly : goal.returns-clause-faulty_exactly
-returns-clause-faulty_exactly g c = λ f. rw c.status.ensures (statuses.faulty_is_3 c.flaw_is_one.ensures _ c.in-Err.stop _ _ c.in-Err.ensures.stands f)
+returns-clause-faulty_exactly g c = λ f. rw c.status.ensures (statuses.faulty_is_3 c.head_stops_are_faults.ensures c.stops_are_faults.ensures _ c.fault_is_one.ensures c.in-Err.stop _ _ c.in-Err.ensures.stands f)
 
 pub returns-clause-cut_exactly : goal.returns-clause-cut_exactly
-returns-clause-cut_exactly g c = λ f. rw c.status.ensures (statuses.cut_is_4 c.flaw_is_one.ensures _ c.in-Err.stop _ _ c.in-Err.ensures.stands f)
+returns-clause-cut_exactly g c = λ f. rw c.status.ensures (statuses.cut_is_4 c.head_stops_are_faults.ensures c.stops_are_faults.ensures _ c.fault_is_one.ensures c.in-Err.stop _ _ c.in-Err.ensures.stands f)
 
 pub returns-clause-complete : goal.returns-clause-complete
-returns-clause-complete g c = λ f. inr (rw c.status.ensures (statuses.whole_goes_on c.flaw_excludes_end.ensures _ c.in-Err.stop _ _ c.in-Err.ensures.stands f))
+returns-clause-complete g c = λ f. inr (rw c.status.ensures (statuses.whole_goes_on c.head_stops_are_faults.ensures c.stops_are_faults.ensures _ c.fault_excludes_end.ensures c.in-Err.stop _ _ c.in-Err.ensures.stands f))
 
 pub returns-clause-known : goal.returns-clause-known
 returns-clause-known g c = let known = statuses.known_of _ c.in-Err.stop _ _ c.in-Err.ensures.stands in inr (omega (arith, known.0, c.status.ensures), omega (arith, known.1, c.status.ensures))
