@@ -3,6 +3,7 @@ ghost use Rattle.std.specs.Prelude.{◌<◌};
 
 use crate::run;
 use edge_io::{Failed, MemSink, MemSource, Sink};
+use notation::add_octets;
 use std::alloc::{AllocError, Global};
 use std::test::Fail;
 
@@ -12,7 +13,9 @@ mod evasions;
 mod forms;
 mod fragments;
 mod loads;
+mod notation;
 mod packets;
+mod sections;
 mod stopped;
 
 /// Little-endian, microseconds, raw IP.
@@ -29,31 +32,31 @@ const DATAGRAM: [u8; 31] = [
     0x0a, 0x00, 0x00, 0x01, 0x9c, 0x40, 0x00, 0x35, 0x00, 0x0a, 0xc6, 0xbf, 0x68, 0x69, 0x00,
 ];
 
-/// Octets at some places, in the place of those that stand there.
-type Changes = &'static [(usize, u8)];
+/// Octets at some places, in the place of those that stand there: `8:0x1e` for one, and `12:0x0a000001` for four from the twelfth on.
+type Changes = &'static str;
 
-fn change(octets: &mut [u8], changes: Changes) {
-    for (at, octet) in changes {
-        if let Some(place) = octets.get_mut(*at) {
-            *place = *octet;
+fn change(alloc: Global, octets: &mut [u8], changes: Changes) -> Result<(), Fail> {
+    for change in changes.split_whitespace() {
+        let (place, spelled) = change.split_once(':').unwrap_or((change, ""));
+        let place = place.parse::<usize>()?;
+        let mut others = Vec::new(alloc);
+        add_octets(&mut others, spelled)?;
+        for (there, octet) in octets.iter_mut().skip(place).zip(others.iter()) {
+            *there = *octet;
         }
     }
+    Ok(())
 }
 
 /// A head with these changes, and records of the datagram, the last with these changes in its head.
-fn capture_file(
-    alloc: Global,
-    head: Changes,
-    records: u8,
-    last: Changes,
-) -> Result<Vec<u8>, AllocError> {
+fn capture_file(alloc: Global, head: Changes, records: u8, last: Changes) -> Result<Vec<u8>, Fail> {
     let mut octets = HEAD;
-    change(&mut octets, head);
+    change(alloc, &mut octets, head)?;
     let mut file = Vec::from_slice(alloc, &octets)?;
     for number in 1..=records {
         let mut front = FRONT;
         if number == records {
-            change(&mut front, last);
+            change(alloc, &mut front, last)?;
         }
         file.extend_from_slice(&front)?;
         file.extend_from_slice(&DATAGRAM[..30])?;
@@ -129,21 +132,21 @@ const NONE: (u32, u32, u32) = (0, 0, 0);
 
 #[rattlefmt::skip]
 const WHOLES: [Whole; 15] = [
-    Whole { head: &[], records: 1, last: &[], size: 70, failing: NONE, status: 0, report: "norm 2\n1 in pass 1\nend 1 1\n", written: 70 },
-    Whole { head: &[], records: 0, last: &[], size: 24, failing: NONE, status: 0, report: "norm 2\nend 0 0\n", written: 24 },
-    Whole { head: &[], records: 0, last: &[], size: 0, failing: NONE, status: 4, report: "norm 2\nstop cut 0\n", written: 0 },
-    Whole { head: &[], records: 0, last: &[], size: 23, failing: NONE, status: 4, report: "norm 2\nstop cut 0\n", written: 0 },
-    Whole { head: &[], records: 2, last: &[], size: 115, failing: NONE, status: 4, report: "norm 2\n1 in pass 1\nstop cut 70\n", written: 70 },
-    Whole { head: &[], records: 1, last: &[], size: 39, failing: NONE, status: 4, report: "norm 2\nstop cut 24\n", written: 24 },
-    Whole { head: &[(0, 0), (1, 0), (2, 0), (3, 0)], records: 1, last: &[], size: 70, failing: NONE, status: 3, report: "norm 2\nstop magic 0\n", written: 0 },
-    Whole { head: &[(6, 3)], records: 1, last: &[], size: 70, failing: NONE, status: 3, report: "norm 2\nstop version 0\n", written: 0 },
-    Whole { head: &[(20, 113)], records: 1, last: &[], size: 70, failing: NONE, status: 3, report: "norm 2\nstop link 0\n", written: 0 },
-    Whole { head: &[], records: 1, last: &[(8, 1), (10, 4)], size: 70, failing: NONE, status: 3, report: "norm 2\nstop long 24\n", written: 24 },
-    Whole { head: &[], records: 2, last: &[(8, 1), (10, 4)], size: 116, failing: NONE, status: 3, report: "norm 2\n1 in pass 1\nstop long 70\n", written: 70 },
-    Whole { head: &[], records: 1, last: &[], size: 70, failing: (1, 0, 0), status: 5, report: "norm 2\nstop read 0\n", written: 0 },
-    Whole { head: &[], records: 1, last: &[], size: 70, failing: (0, 1, 0), status: 6, report: "norm 2\nstop capture 0\n", written: 0 },
-    Whole { head: &[], records: 1, last: &[], size: 70, failing: (0, 2, 0), status: 6, report: "norm 2\nstop capture 24\n", written: 24 },
-    Whole { head: &[], records: 1, last: &[], size: 70, failing: (0, 0, 1), status: 7, report: "", written: 0 },
+    Whole { head: "", records: 1, last: "", size: 70, failing: NONE, status: 0, report: "norm 2\n1 in pass 1\nend 1 1\n", written: 70 },
+    Whole { head: "", records: 0, last: "", size: 24, failing: NONE, status: 0, report: "norm 2\nend 0 0\n", written: 24 },
+    Whole { head: "", records: 0, last: "", size: 0, failing: NONE, status: 4, report: "norm 2\nstop cut 0\n", written: 0 },
+    Whole { head: "", records: 0, last: "", size: 23, failing: NONE, status: 4, report: "norm 2\nstop cut 0\n", written: 0 },
+    Whole { head: "", records: 2, last: "", size: 115, failing: NONE, status: 4, report: "norm 2\n1 in pass 1\nstop cut 70\n", written: 70 },
+    Whole { head: "", records: 1, last: "", size: 39, failing: NONE, status: 4, report: "norm 2\nstop cut 24\n", written: 24 },
+    Whole { head: "0:0x00000000", records: 1, last: "", size: 70, failing: NONE, status: 3, report: "norm 2\nstop magic 0\n", written: 0 },
+    Whole { head: "6:0x03", records: 1, last: "", size: 70, failing: NONE, status: 3, report: "norm 2\nstop version 0\n", written: 0 },
+    Whole { head: "20:0x71", records: 1, last: "", size: 70, failing: NONE, status: 3, report: "norm 2\nstop link 0\n", written: 0 },
+    Whole { head: "", records: 1, last: "8:0x01 10:0x04", size: 70, failing: NONE, status: 3, report: "norm 2\nstop long 24\n", written: 24 },
+    Whole { head: "", records: 2, last: "8:0x01 10:0x04", size: 116, failing: NONE, status: 3, report: "norm 2\n1 in pass 1\nstop long 70\n", written: 70 },
+    Whole { head: "", records: 1, last: "", size: 70, failing: (1, 0, 0), status: 5, report: "norm 2\nstop read 0\n", written: 0 },
+    Whole { head: "", records: 1, last: "", size: 70, failing: (0, 1, 0), status: 6, report: "norm 2\nstop capture 0\n", written: 0 },
+    Whole { head: "", records: 1, last: "", size: 70, failing: (0, 2, 0), status: 6, report: "norm 2\nstop capture 24\n", written: 24 },
+    Whole { head: "", records: 1, last: "", size: 70, failing: (0, 0, 1), status: 7, report: "", written: 0 },
 ];
 
 #[test]
@@ -168,16 +171,14 @@ fn runs_tell_how_they_end(rt: HostRuntime) -> Result<(), Fail> {
 }
 
 #[rattlefmt::skip]
-const REFUSED: [(&[&str], &str); 9] = [
+const REFUSED: [(&[&str], &str); 8] = [
     (&["run", "a"], "stop words 1\n"),
     (&["run", "a", "a", "10.0.0.0/8"], "stop words 5\n"),
     (&["run", "a", "b", "0.0.0.0/8", "1.0.0.0/8", "2.0.0.0/8", "3.0.0.0/8", "4.0.0.0/8", "5.0.0.0/8", "6.0.0.0/8", "7.0.0.0/8", "8.0.0.0/8",
        "9.0.0.0/8", "10.0.0.0/8", "11.0.0.0/8", "12.0.0.0/8", "13.0.0.0/8", "14.0.0.0/8", "15.0.0.0/8", "16.0.0.0/8"], "stop words 3\n"),
     (&["run", "a", "b", "10.0.0/8"], "stop words 2\n"),
     (&["run", "--hops", "255", "a", "b", "10.0.0.0/8"], "stop words 1\n"),
-    // What is not built is not asked for.
     (&["run", "--both", "a", "b", "10.0.0.0/8"], "stop words 1\n"),
-    (&["run", "--inside", "eth0", "a", "b", "10.0.0.0/8"], "stop words 1\n"),
     (&["run", "--mtu", "575", "a", "b", "10.0.0.0/8"], "stop words 1\n"),
     (&["load", "1", "0"], "stop words 1\n"),
 ];
@@ -215,79 +216,50 @@ struct Judged {
     written: Written,
 }
 
-const OUTWARD: Changes = &[
-    (12, 10),
-    (13, 0),
-    (14, 0),
-    (15, 1),
-    (16, 198),
-    (17, 51),
-    (18, 100),
-    (19, 7),
-];
+const OUTWARD: Changes = "12:0x0a000001c6336407";
 
-const FADING: Changes = &[
-    (8, 1),
-    (10, 0x85),
-    (12, 10),
-    (13, 0),
-    (14, 0),
-    (15, 1),
-    (16, 198),
-    (17, 51),
-    (18, 100),
-    (19, 7),
-];
+const FADING: Changes = "8:0x01 10:0x85 12:0x0a000001c6336407";
 
-const INSIDE: Changes = &[
-    (10, 0x66),
-    (11, 0xcc),
-    (12, 10),
-    (13, 0),
-    (14, 0),
-    (15, 2),
-    (26, 0xe6),
-    (27, 0xf8),
-];
+const INSIDE: Changes = "10:0x66cc0a000002 26:0xe6f8";
 
-const OUTSIDE: Changes = &[(10, 0x8e), (11, 0x92), (16, 192), (18, 2), (26, 0x0e)];
+const OUTSIDE: Changes = "10:0x8e92 16:0xc0 18:0x02 26:0x0e";
 
 #[rattlefmt::skip]
 const JUDGED: [Judged; 27] = [
-    Judged { changes: &[], captured: 30, original: 30, line: "in pass 1", written: AsRead },
-    Judged { changes: &[], captured: 30, original: 31, line: "- drop 0 L_SNAP", written: Nothing },
-    Judged { changes: &[], captured: 30, original: 29, line: "in pass 1", written: AsRead },
-    Judged { changes: &[], captured: 19, original: 19, line: "- drop 0 I_SHORT", written: Nothing },
-    Judged { changes: &[(0, 0x55)], captured: 30, original: 30, line: "- drop 0 I_VERSION", written: Nothing },
-    Judged { changes: &[(0, 0x44)], captured: 30, original: 30, line: "- drop 0 I_HLEN", written: Nothing },
-    Judged { changes: &[(3, 31)], captured: 30, original: 30, line: "- drop 0 I_LEN", written: Nothing },
-    Judged { changes: &[(11, 0x94)], captured: 30, original: 30, line: "- drop 0 I_SUM", written: Nothing },
+    Judged { changes: "", captured: 30, original: 30, line: "in pass 1", written: AsRead },
+    Judged { changes: "", captured: 30, original: 31, line: "- drop 0 L_SNAP", written: Nothing },
+    Judged { changes: "", captured: 30, original: 29, line: "in pass 1", written: AsRead },
+    Judged { changes: "", captured: 19, original: 19, line: "- drop 0 I_SHORT", written: Nothing },
+    Judged { changes: "0:0x55", captured: 30, original: 30, line: "- drop 0 I_VERSION", written: Nothing },
+    Judged { changes: "0:0x44", captured: 30, original: 30, line: "- drop 0 I_HLEN", written: Nothing },
+    Judged { changes: "3:0x1f", captured: 30, original: 30, line: "- drop 0 I_LEN", written: Nothing },
+    Judged { changes: "11:0x94", captured: 30, original: 30, line: "- drop 0 I_SUM", written: Nothing },
     Judged { changes: INSIDE, captured: 30, original: 30, line: "- drop 0 I_SIDE", written: Nothing },
     Judged { changes: OUTSIDE, captured: 30, original: 30, line: "- drop 0 I_SIDE", written: Nothing },
     Judged { changes: OUTWARD, captured: 30, original: 30, line: "out pass 1", written: AsRead },
     Judged { changes: FADING, captured: 30, original: 30, line: "out pass 1", written: AsRead },
-    Judged { changes: &[(8, 30), (10, 0x68)], captured: 30, original: 30, line: "in fix 1 I_TTL", written: Anew(&[(8, 31), (10, 0x67)]) },
-    Judged { changes: &[(8, 31), (10, 0x67)], captured: 30, original: 30, line: "in pass 1", written: AsRead },
-    Judged { changes: &[(6, 0x20), (10, 0x26)], captured: 30, original: 30, line: "in drop 0 F_ALIGN", written: Nothing },
-    Judged { changes: &[(7, 1), (11, 0x92)], captured: 30, original: 30, line: "in hold 0 F_HELD", written: Nothing },
-    Judged { changes: &[(6, 0x40), (10, 0x06)], captured: 30, original: 30, line: "in pass 1", written: AsRead },
-    Judged { changes: &[(6, 0x80), (10, 0xc6), (11, 0x92)], captured: 30, original: 30, line: "in fix 1 I_RES", written: Anew(&[]) },
-    Judged { changes: &[(9, 1), (11, 0xa3)], captured: 30, original: 30, line: "in drop 0 M_SUM", written: Nothing },
-    Judged { changes: &[(9, 6), (11, 0x9e)], captured: 30, original: 30, line: "in drop 0 T_SHORT", written: Nothing },
-    Judged { changes: &[(9, 2), (11, 0xa2)], captured: 30, original: 30, line: "in drop 0 P_PROTO", written: Nothing },
-    Judged { changes: &[(10, 0x2d), (12, 223), (26, 0xad)], captured: 30, original: 30, line: "in pass 1", written: AsRead },
-    Judged { changes: &[(10, 0x2c), (12, 224), (26, 0xac)], captured: 30, original: 30, line: "- drop 0 I_SRC", written: Nothing },
-    Judged { changes: &[], captured: 31, original: 31, line: "in fix 1 I_TRAIL", written: Anew(&[]) },
-    Judged { changes: &[(25, 9)], captured: 30, original: 30, line: "in drop 0 U_LEN", written: Nothing },
-    Judged { changes: &[(26, 0), (27, 0)], captured: 30, original: 30, line: "in pass 1", written: AsRead },
-    Judged { changes: &[(29, 0x6a)], captured: 30, original: 30, line: "in drop 0 U_SUM", written: Nothing },
+    Judged { changes: "8:0x1e 10:0x68", captured: 30, original: 30, line: "in fix 1 I_TTL", written: Anew("8:0x1f 10:0x67") },
+    Judged { changes: "8:0x1f 10:0x67", captured: 30, original: 30, line: "in pass 1", written: AsRead },
+    Judged { changes: "6:0x20 10:0x26", captured: 30, original: 30, line: "in drop 0 F_ALIGN", written: Nothing },
+    Judged { changes: "7:0x01 11:0x92", captured: 30, original: 30, line: "in hold 0 F_HELD", written: Nothing },
+    Judged { changes: "6:0x40 10:0x06", captured: 30, original: 30, line: "in pass 1", written: AsRead },
+    Judged { changes: "6:0x80 10:0xc692", captured: 30, original: 30, line: "in fix 1 I_RES", written: Anew("") },
+    Judged { changes: "9:0x01 11:0xa3", captured: 30, original: 30, line: "in drop 0 M_SUM", written: Nothing },
+    Judged { changes: "9:0x06 11:0x9e", captured: 30, original: 30, line: "in drop 0 T_SHORT", written: Nothing },
+    Judged { changes: "9:0x02 11:0xa2", captured: 30, original: 30, line: "in drop 0 P_PROTO", written: Nothing },
+    Judged { changes: "10:0x2d 12:0xdf 26:0xad", captured: 30, original: 30, line: "in pass 1", written: AsRead },
+    Judged { changes: "10:0x2c 12:0xe0 26:0xac", captured: 30, original: 30, line: "- drop 0 I_SRC", written: Nothing },
+    Judged { changes: "", captured: 31, original: 31, line: "in fix 1 I_TRAIL", written: Anew("") },
+    Judged { changes: "25:0x09", captured: 30, original: 30, line: "in drop 0 U_LEN", written: Nothing },
+    Judged { changes: "26:0x0000", captured: 30, original: 30, line: "in pass 1", written: AsRead },
+    Judged { changes: "29:0x6a", captured: 30, original: 30, line: "in drop 0 U_SUM", written: Nothing },
 ];
 
 /// The datagram with these changes, and the octet behind it.
-fn datagram_with(changes: Changes) -> [u8; 31] {
+fn datagram_with(alloc: Global, changes: Changes) -> Result<[u8; 31], Fail> {
     let mut packet = DATAGRAM;
-    change(&mut packet, changes);
-    packet
+    change(alloc, &mut packet, changes)?;
+    Ok(packet)
 }
 
 /// The datagram without the octet behind it.
@@ -307,13 +279,13 @@ fn one_record(alloc: Global, octets: &[u8], original: u8) -> Result<Vec<u8>, All
 }
 
 /// The file that is written for a record of these octets.
-fn written_file(alloc: Global, octets: &[u8], written: Written) -> Result<Vec<u8>, AllocError> {
+fn written_file(alloc: Global, octets: &[u8], written: Written) -> Result<Vec<u8>, Fail> {
     match written {
-        Nothing => Vec::from_slice(alloc, &HEAD),
-        AsRead => one_record(alloc, octets, octets.len().min(255) as u8),
+        Nothing => Ok(Vec::from_slice(alloc, &HEAD)?),
+        AsRead => Ok(one_record(alloc, octets, octets.len().min(255) as u8)?),
         Anew(changes) => {
-            let packet = datagram_with(changes);
-            one_record(alloc, datagram_in(&packet), 30)
+            let packet = datagram_with(alloc, changes)?;
+            Ok(one_record(alloc, datagram_in(&packet), 30)?)
         }
     }
 }
@@ -330,7 +302,7 @@ fn report_of(alloc: Global, line: &str, written: Written) -> Result<String, Allo
 #[test]
 fn each_row_judges_its_packet(rt: HostRuntime) -> Result<(), Fail> {
     for row in &JUDGED {
-        let packet = datagram_with(row.changes);
+        let packet = datagram_with(rt.alloc(), row.changes)?;
         let Some(octets) = packet.get(..usize::from(row.captured)) else {
             return Err(Fail::new("more octets than there are"));
         };
@@ -365,37 +337,27 @@ const SIXTEEN: &[&str] = &[
 
 #[rattlefmt::skip]
 const SETS: [Set; 13] = [
-    Set { words: &["run", "--hops", "0", "a", "b", "10.0.0.0/8"], changes: &[(8, 0), (10, 0x86)], line: "in fix 1 I_TTL", written: Anew(&[(8, 1), (10, 0x85)]) },
-    Set { words: &["run", "--hops=0", "a", "b", "10.0.0.0/8"], changes: &[(8, 1), (10, 0x85)], line: "in pass 1", written: AsRead },
-    Set { words: &["run", "--hops", "5", "a", "b", "10.0.0.0/8"], changes: &[(8, 5), (10, 0x81)], line: "in fix 1 I_TTL", written: Anew(&[(8, 6), (10, 0x80)]) },
-    Set { words: &["run", "--hops", "5", "a", "b", "10.0.0.0/8"], changes: &[(8, 6), (10, 0x80)], line: "in pass 1", written: AsRead },
-    Set { words: &["run", "--hops=254", "a", "b", "10.0.0.0/8"], changes: &[], line: "in fix 1 I_TTL", written: Anew(&[(8, 255), (10, 0x87), (11, 0x92)]) },
+    Set { words: &["run", "--hops", "0", "a", "b", "10.0.0.0/8"], changes: "8:0x00 10:0x86", line: "in fix 1 I_TTL", written: Anew("8:0x01 10:0x85") },
+    Set { words: &["run", "--hops=0", "a", "b", "10.0.0.0/8"], changes: "8:0x01 10:0x85", line: "in pass 1", written: AsRead },
+    Set { words: &["run", "--hops", "5", "a", "b", "10.0.0.0/8"], changes: "8:0x05 10:0x81", line: "in fix 1 I_TTL", written: Anew("8:0x06 10:0x80") },
+    Set { words: &["run", "--hops", "5", "a", "b", "10.0.0.0/8"], changes: "8:0x06 10:0x80", line: "in pass 1", written: AsRead },
+    Set { words: &["run", "--hops=254", "a", "b", "10.0.0.0/8"], changes: "", line: "in fix 1 I_TTL", written: Anew("8:0xff 10:0x8792") },
     Set { words: &["run", "--hops=254", "a", "b", "10.0.0.0/8"], changes: OUTWARD, line: "out pass 1", written: AsRead },
     Set { words: &["run", "a", "b", "10.0.0.0/8"], changes: WRONG_OUTWARD, line: "out drop 0 U_SUM", written: Nothing },
     Set { words: &["run", "--offload", "a", "b", "10.0.0.0/8"], changes: WRONG_OUTWARD, line: "out fix 1 U_SUM_OUT", written: Anew(OUTWARD) },
-    Set { words: &["run", "--offload", "a", "b", "10.0.0.0/8"], changes: &[(27, 0xbe)], line: "in drop 0 U_SUM", written: Nothing },
-    Set { words: &["run", "a", "b", "192.0.2.0/24", "10.0.0.0/8"], changes: &[], line: "in pass 1", written: AsRead },
+    Set { words: &["run", "--offload", "a", "b", "10.0.0.0/8"], changes: "27:0xbe", line: "in drop 0 U_SUM", written: Nothing },
+    Set { words: &["run", "a", "b", "192.0.2.0/24", "10.0.0.0/8"], changes: "", line: "in pass 1", written: AsRead },
     Set { words: &["run", "a", "b", "10.0.0.0/8", "192.0.2.0/24"], changes: OUTSIDE, line: "in pass 1", written: AsRead },
-    Set { words: &["run", "a", "b", "10.0.0.0/8", "198.51.100.0/24"], changes: &[], line: "- drop 0 I_SIDE", written: Nothing },
-    Set { words: SIXTEEN, changes: &[], line: "in pass 1", written: AsRead },
+    Set { words: &["run", "a", "b", "10.0.0.0/8", "198.51.100.0/24"], changes: "", line: "- drop 0 I_SIDE", written: Nothing },
+    Set { words: SIXTEEN, changes: "", line: "in pass 1", written: AsRead },
 ];
 
-const WRONG_OUTWARD: Changes = &[
-    (12, 10),
-    (13, 0),
-    (14, 0),
-    (15, 1),
-    (16, 198),
-    (17, 51),
-    (18, 100),
-    (19, 7),
-    (27, 0xbe),
-];
+const WRONG_OUTWARD: Changes = "12:0x0a000001c6336407 27:0xbe";
 
 #[test]
 fn what_words_ask_for_counts(rt: HostRuntime) -> Result<(), Fail> {
     for (number, row) in SETS.iter().enumerate() {
-        let packet = datagram_with(row.changes);
+        let packet = datagram_with(rt.alloc(), row.changes)?;
         let octets = datagram_in(&packet);
         let file = one_record(rt.alloc(), octets, 30)?;
         let ended = ended_run(rt.alloc(), row.words, &file, 65536, NONE)?;
@@ -438,7 +400,7 @@ impl Sink for Stuck {
 #[test]
 fn nothing_is_said_of_the_end_before_the_frames_are_handed_on(rt: HostRuntime) -> Result<(), Fail> {
     let words = line(rt.alloc(), &["run", "a", "b", "10.0.0.0/8"])?;
-    let file = capture_file(rt.alloc(), &[], 1, &[])?;
+    let file = capture_file(rt.alloc(), "", 1, "")?;
     let mut source = MemSource::new(file, 65536, only(rt.alloc(), 0)?);
     let mut report = MemSink::new(rt.alloc(), 4096, only(rt.alloc(), 0)?)?;
     let mut stuck = Stuck { faults: 0 };
@@ -448,7 +410,7 @@ fn nothing_is_said_of_the_end_before_the_frames_are_handed_on(rt: HostRuntime) -
         report.held(),
         b"norm 2\n1 in pass 1\nstop capture 70\n".as_slice()
     );
-    let file = capture_file(rt.alloc(), &[], 1, &[])?;
+    let file = capture_file(rt.alloc(), "", 1, "")?;
     let mut source = MemSource::new(file, 65536, only(rt.alloc(), 0)?);
     let mut capture = MemSink::new(rt.alloc(), 4096, only(rt.alloc(), 0)?)?;
     let status = run(rt.alloc(), &words, &mut source, &mut capture, &mut stuck);

@@ -1,67 +1,37 @@
 //! Whole runs where the link behind has a largest packet of 576 octets (RFC 791 section 3.1).
 
 use super::connections::{NOTHING, OPENED, Row, holds};
-use super::packets::Kind::*;
-use super::packets::Mark::*;
 use super::packets::capture_of;
 use super::{HEAD, NONE, change, ended_run};
 use std::test::Fail;
 
-/// Little memory, and the largest packet.
-#[rattlefmt::skip]
-const CUT: &[&str] = &["--flows=8", "--cells=64", "--frags=4", "--frag-cells=256", "--mtu", "576"];
-
-/// As many octets as a packet may carry behind two headers of 20, and one more.
-const FULL: &[u8] = &[97; 536];
-
-const MORE: &[u8] = &[97; 537];
-
-/// Two of those and 28 octets.
-const LONG: &[u8] = &[97; 1100];
-
-const REST: &[u8] = &[97; 28];
-
-/// The header of a UDP datagram (RFC 768) without a checksum, with 571 and 572 octets behind it: packets of 599 and 600.
-const UDP_599: &[u8] = &[0x9c, 0x40, 0, 0x35, 2, 0x43, 0, 0];
-
-const UDP_600: &[u8] = &[0x9c, 0x40, 0, 0x35, 2, 0x44, 0, 0];
-
-/// The same with 548 octets behind it: a packet of 576.
-const UDP_576: &[u8] = &[0x9c, 0x40, 0, 0x35, 2, 0x2c, 0, 0];
+/// Little memory, and the largest packet, which carries 536 octets behind two headers of 20.
+const CUT: &str = "--flows=8 --cells=64 --frags=4 --frag-cells=256 --mtu 576";
 
 #[rattlefmt::skip]
 const ROWS: [Row; 10] = [
     // A segment of 1,100 octets inwards, with PSH on the last piece alone.
-    Row { options: CUT, before: OPENED, packets: &[(DataIn(1000, 5001, LONG), &[])],
-        report: "4 in fix 3 E_CUT @1\nend 4 6\n",
-        written: &[(TextIn(1000, 5001, FULL), &[]), (TextIn(1536, 5001, FULL), &[Ident(2)]), (DataIn(2072, 5001, REST), &[Ident(3)])] },
+    Row { options: CUT, before: OPENED, packets: "> PA 1000,5001 a*1100",
+        report: "4 in fix 3 E_CUT @1\nend 4 6\n", written: "> A 1000,5001 a*536; > A 1536,5001 a*536 [id=2]; > PA 2072,5001 a*28 [id=3]" },
     // What has 576 octets is not long; one more is, and leaves a piece of one octet, which has the FIN.
-    Row { options: CUT, before: OPENED, packets: &[(DataIn(1000, 5001, FULL), &[]), (FinIn(1536, 5001, MORE), &[])],
-        report: "4 in pass 1 @1\n5 in fix 2 E_CUT @1\nend 5 6\n",
-        written: &[(DataIn(1000, 5001, FULL), &[]), (TextIn(1536, 5001, FULL), &[]), (FinIn(2072, 5001, b"a"), &[Ident(2)])] },
+    Row { options: CUT, before: OPENED, packets: "> PA 1000,5001 a*536; > FA 1536,5001 a*537",
+        report: "4 in pass 1 @1\n5 in fix 2 E_CUT @1\nend 5 6\n", written: "> PA 1000,5001 a*536; > A 1536,5001 a*536; > FA 2072,5001 a [id=2]" },
     // Outwards, and behind a row that mends the segment.
-    Row { options: CUT, before: OPENED, packets: &[(DataOut(5001, 1000, LONG), &[])],
-        report: "4 out fix 3 E_CUT @1\nend 4 6\n",
-        written: &[(AckOut(5001, 1000), &[Payload(FULL)]), (AckOut(5537, 1000), &[Payload(FULL), Ident(2)]), (DataOut(6073, 1000, REST), &[Ident(3)])] },
-    Row { options: CUT, before: OPENED, packets: &[(DataIn(1000, 5001, LONG), &[Reserved(1)])],
-        report: "4 in fix 3 T_RES E_CUT @1\nend 4 6\n",
-        written: &[(TextIn(1000, 5001, FULL), &[]), (TextIn(1536, 5001, FULL), &[Ident(2)]), (DataIn(2072, 5001, REST), &[Ident(3)])] },
+    Row { options: CUT, before: OPENED, packets: "< PA 5001,1000 a*1100",
+        report: "4 out fix 3 E_CUT @1\nend 4 6\n", written: "< A 5001,1000 a*536; < A 5537,1000 a*536 [id=2]; < PA 6073,1000 a*28 [id=3]" },
+    Row { options: CUT, before: OPENED, packets: "> PA 1000,5001 a*1100 [res=1]",
+        report: "4 in fix 3 T_RES E_CUT @1\nend 4 6\n", written: "> A 1000,5001 a*536; > A 1536,5001 a*536 [id=2]; > PA 2072,5001 a*28 [id=3]" },
     // What stands for more than its octets is not cut: a SYN, a RST and urgent octets.
-    Row { options: CUT, before: NOTHING, packets: &[(SynOut(5000), &[Payload(MORE)])],
-        report: "1 out drop 0 E_MTU @1 +1\nend 1 0\n", written: &[] },
-    Row { options: CUT, before: OPENED, packets: &[(ResetOut(5001), &[Payload(MORE)])],
-        report: "4 out drop 0 E_MTU @1 -1:reset:0\nend 4 3\n", written: &[] },
-    Row { options: CUT, before: OPENED, packets: &[(DataOut(5001, 1000, MORE), &[Urgent(1)])],
-        report: "4 out drop 0 E_MTU @1\nend 4 3\n", written: &[] },
+    Row { options: CUT, before: NOTHING, packets: "< S 5000 a*537", report: "1 out drop 0 E_MTU @1 +1\nend 1 0\n", written: "" },
+    Row { options: CUT, before: OPENED, packets: "< R 5001 a*537", report: "4 out drop 0 E_MTU @1 -1:reset:0\nend 4 3\n", written: "" },
+    Row { options: CUT, before: OPENED, packets: "< PA 5001,1000 a*537 [urg=1]", report: "4 out drop 0 E_MTU @1\nend 4 3\n", written: "" },
     // A datagram is not cut.
-    Row { options: CUT, before: NOTHING, packets: &[(MessageIn(17, UDP_600), &[Zeros(572)]), (MessageIn(17, UDP_576), &[Zeros(548)])],
-        report: "1 in drop 0 E_MTU\n2 in pass 1\nend 2 1\n", written: &[(MessageIn(17, UDP_576), &[Zeros(548)])] },
-    Row { options: CUT, before: NOTHING, packets: &[(MessageIn(17, UDP_599), &[Zeros(571), Service(1), ReservedFlag])],
-        report: "1 in drop 0 I_RES E_MTU\nend 1 0\n", written: &[] },
+    Row { options: CUT, before: NOTHING, packets: "> UDP 0x9c40003502440000+0x00*572; > UDP 0x9c400035022c0000+0x00*548",
+        report: "1 in drop 0 E_MTU\n2 in pass 1\nend 2 1\n", written: "> UDP 0x9c400035022c0000+0x00*548" },
+    Row { options: CUT, before: NOTHING, packets: "> UDP 0x9c40003502430000+0x00*571 [tos=1 RF]", report: "1 in drop 0 I_RES E_MTU\nend 1 0\n", written: "" },
     // Without a largest packet all of these go on.
-    Row { options: &["--flows=8", "--cells=64", "--frags=4", "--frag-cells=256"], before: OPENED,
-        packets: &[(DataIn(1000, 5001, LONG), &[]), (MessageIn(17, UDP_600), &[Zeros(572)])],
-        report: "4 in pass 1 @1\n5 in pass 1\nend 5 5\n", written: &[(DataIn(1000, 5001, LONG), &[]), (MessageIn(17, UDP_600), &[Zeros(572)])] },
+    Row { options: "--flows=8 --cells=64 --frags=4 --frag-cells=256", before: OPENED, packets: "> PA 1000,5001 a*1100; > UDP 0x9c40003502440000+0x00*572",
+        report: "4 in pass 1 @1\n5 in pass 1\nend 5 5\n", written: "> PA 1000,5001 a*1100; > UDP 0x9c40003502440000+0x00*572" },
 ];
 
 #[test]
@@ -87,11 +57,7 @@ const FAILING: [(u32, usize); 6] = [
 #[test]
 fn a_fault_among_segments_leaves_those_before_it(rt: HostRuntime) -> Result<(), Fail> {
     let words = ["run", "--mtu=576", "a", "b", "10.0.0.0/8"];
-    let file = capture_of(
-        rt.alloc(),
-        OPENED.packets,
-        &[(DataIn(1000, 5001, LONG), &[])],
-    )?;
+    let file = capture_of(rt.alloc(), OPENED.packets, "> PA 1000,5001 a*1100")?;
     let whole = ended_run(rt.alloc(), &words, &file, 65536, NONE)?;
     for (call, size) in FAILING {
         let ended = ended_run(rt.alloc(), &words, &file, 65536, (0, call, 0))?;
@@ -114,7 +80,7 @@ fn a_fault_among_segments_leaves_those_before_it(rt: HostRuntime) -> Result<(), 
 #[test]
 fn arp_is_never_long(rt: HostRuntime) -> Result<(), Fail> {
     let mut file = Vec::from_slice(rt.alloc(), &HEAD)?;
-    change(&mut file, &[(20, 1)]);
+    change(rt.alloc(), &mut file, "20:0x01")?;
     file.extend_from_slice(&[0, 0, 0, 0, 0, 0, 0, 0, 0xbc, 2, 0, 0, 0xbc, 2, 0, 0])?;
     file.extend_from_slice(&[2, 0, 0, 0, 0, 1, 2, 0, 0, 0, 0, 2, 8, 6])?;
     file.extend_from_slice(&[255; 686])?;

@@ -1,85 +1,74 @@
 //! Whole runs over ways to show a monitor another stream than the host, after Handley, Paxson and Kreibich: the whole report, and what goes out.
 use super::connections::{FEW, NOTHING, OPENED, Row, holds};
-use super::packets::Kind::*;
-use super::packets::Mark::*;
+use super::notation::add_octets;
 use super::packets::add_inward;
 use edge_io::NoMemory;
 use receiver_model::{Family, Policy, plain};
-use std::alloc::{AllocError, Global};
+use std::alloc::Global;
 use std::test::Fail;
 
-/// A run, and what receivers deliver of the connection that comes first: from which offset on, the octets, and whether the stream ends.
+/// A run, and what receivers deliver of the connection that comes first: from which offset on, the octets where there are some, and `FIN` where the
+/// stream ends; with `;` between streams.
 struct Case {
     row: Row,
-    streams: &'static [(u32, &'static [u8], bool)],
+    streams: &'static str,
 }
 
 #[rattlefmt::skip]
 const CASES: [Case; 14] = [
     // Overlapping segments out of order, which differ past the octets that are missing.
-    Case { row: Row { options: FEW, before: OPENED, packets: &[(DataIn(1002, 5001, b"cdef"), &[]), (DataIn(1000, 5001, b"abXXgh"), &[])],
-        report: "4 in pass 1 @1\n5 in fix 1 T_CLASH @1\nend 5 5\n",
-        written: &[(DataIn(1002, 5001, b"cdef"), &[]), (DataIn(1000, 5001, b"abcdef"), &[])] }, streams: &[(0, b"abcdef", false)] },
+    Case { row: Row { options: FEW, before: OPENED, packets: "> PA 1002,5001 cdef; > PA 1000,5001 abXXgh",
+            report: "4 in pass 1 @1\n5 in fix 1 T_CLASH @1\nend 5 5\n", written: "> PA 1002,5001 cdef; > PA 1000,5001 abcdef" }, streams: "0 abcdef" },
     // A segment that would end on its way.
-    Case { row: Row { options: FEW, before: OPENED, packets: &[(DataIn(1000, 5001, b"bad!"), &[Ttl(1)]), (DataIn(1000, 5001, b"good"), &[])],
-        report: "4 in fix 1 I_TTL @1\n5 in fix 1 T_CLASH @1\nend 5 5\n",
-        written: &[(DataIn(1000, 5001, b"bad!"), &[Ttl(31)]), (DataIn(1000, 5001, b"bad!"), &[])] }, streams: &[(0, b"bad!", false)] },
+    Case { row: Row { options: FEW, before: OPENED, packets: "> PA 1000,5001 bad! [ttl=1]; > PA 1000,5001 good",
+            report: "4 in fix 1 I_TTL @1\n5 in fix 1 T_CLASH @1\nend 5 5\n", written: "> PA 1000,5001 bad! [ttl=31]; > PA 1000,5001 bad!" },
+        streams: "0 bad!" },
     // An urgent octet, which one host leaves out of the stream.
-    Case { row: Row { options: FEW, before: OPENED, packets: &[(DataIn(1000, 5001, b"abcd"), &[Urgent(1)])],
-        report: "4 in fix 1 T_URG @1\nend 4 4\n", written: &[(DataIn(1000, 5001, b"abcd"), &[])] }, streams: &[(0, b"abcd", false)] },
+    Case { row: Row { options: FEW, before: OPENED, packets: "> PA 1000,5001 abcd [urg=1]",
+            report: "4 in fix 1 T_URG @1\nend 4 4\n", written: "> PA 1000,5001 abcd" }, streams: "0 abcd" },
     // A reset that one host takes.
-    Case { row: Row { options: FEW, before: OPENED, packets: &[(ResetIn(1003), &[]), (DataIn(1000, 5001, b"abcd"), &[])],
-        report: "4 in drop 0 T_RST @1\n5 in pass 1 @1\nend 5 4\n", written: &[(DataIn(1000, 5001, b"abcd"), &[])] },
-        streams: &[(0, b"abcd", false)] },
+    Case { row: Row { options: FEW, before: OPENED, packets: "> R 1003; > PA 1000,5001 abcd",
+            report: "4 in drop 0 T_RST @1\n5 in pass 1 @1\nend 5 4\n", written: "> PA 1000,5001 abcd" }, streams: "0 abcd" },
     // A checksum that is wrong.
-    Case { row: Row { options: FEW, before: OPENED, packets: &[(DataIn(1000, 5001, b"evil"), &[WrongSum]), (DataIn(1000, 5001, b"good"), &[])],
-        report: "4 in drop 0 T_SUM\n5 in pass 1 @1\nend 5 4\n", written: &[(DataIn(1000, 5001, b"good"), &[])] }, streams: &[(0, b"good", false)] },
+    Case { row: Row { options: FEW, before: OPENED, packets: "> PA 1000,5001 evil [wrongsum]; > PA 1000,5001 good",
+            report: "4 in drop 0 T_SUM\n5 in pass 1 @1\nend 5 4\n", written: "> PA 1000,5001 good" }, streams: "0 good" },
     // Reserved bits.
-    Case { row: Row { options: FEW, before: OPENED, packets: &[(DataIn(1000, 5001, b"abcd"), &[Reserved(5)])],
-        report: "4 in fix 1 T_RES @1\nend 4 4\n", written: &[(DataIn(1000, 5001, b"abcd"), &[])] }, streams: &[(0, b"abcd", false)] },
+    Case { row: Row { options: FEW, before: OPENED, packets: "> PA 1000,5001 abcd [res=5]",
+            report: "4 in fix 1 T_RES @1\nend 4 4\n", written: "> PA 1000,5001 abcd" }, streams: "0 abcd" },
     // Octets on a SYN.
-    Case { row: Row { options: FEW, before: NOTHING,
-        packets: &[(SynIn(999), &[Payload(b"evil")]), (SynAckOut(5000, 1000), &[]), (AckIn(1000, 5001), &[]), (DataIn(1000, 5001, b"good"), &[])],
-        report: "1 in fix 1 T_STRIP @1 +1\n2 out pass 1 @1\n3 in pass 1 @1\n4 in pass 1 @1\nend 4 4\n",
-        written: &[(SynIn(999), &[]), (SynAckOut(5000, 1000), &[]), (AckIn(1000, 5001), &[]), (DataIn(1000, 5001, b"good"), &[])] },
-        streams: &[(0, b"good", false)] },
+    Case { row: Row { options: FEW, before: NOTHING, packets: "> S 999 evil; < SA 5000,1000; > A 1000,5001; > PA 1000,5001 good",
+            report: "1 in fix 1 T_STRIP @1 +1\n2 out pass 1 @1\n3 in pass 1 @1\n4 in pass 1 @1\nend 4 4\n",
+            written: "> S 999; < SA 5000,1000; > A 1000,5001; > PA 1000,5001 good" }, streams: "0 good" },
     // Octets behind the end.
-    Case { row: Row { options: FEW, before: OPENED, packets: &[(FinIn(1000, 5001, b""), &[]), (DataIn(1000, 5001, b"abcd"), &[])],
-        report: "4 in pass 1 @1\n5 in fix 1 T_END @1\nend 5 5\n", written: &[(FinIn(1000, 5001, b""), &[]), (DataIn(1000, 5001, b""), &[])] },
-        streams: &[(0, b"", true)] },
+    Case { row: Row { options: FEW, before: OPENED, packets: "> FA 1000,5001; > PA 1000,5001 abcd",
+            report: "4 in pass 1 @1\n5 in fix 1 T_END @1\nend 5 5\n", written: "> FA 1000,5001; > PA 1000,5001" }, streams: "0 FIN" },
     // Octets past the window.
-    Case { row: Row { options: FEW, before: OPENED, packets: &[(DataIn(10_000, 5001, b"zz"), &[])],
-        report: "4 in fix 1 T_WINDOW @1\nend 4 4\n", written: &[(DataIn(10_000, 5001, b""), &[])] }, streams: &[(0, b"", false)] },
+    Case { row: Row { options: FEW, before: OPENED, packets: "> PA 10000,5001 zz", report: "4 in fix 1 T_WINDOW @1\nend 4 4\n", written: "> PA 10000,5001" },
+        streams: "0" },
     // Fragments that overlap and differ: in the header of the segment, and in octets that have the same sum in either order.
+    Case { row: Row { options: FEW, before: OPENED, packets: "> PA 1000,5001 abcd [id=7 part=0..16]; > PA 1000,16782217 abcd [id=7 part=8..24]",
+            report: "4 in hold 0 F_HELD\n5 in drop 0 F_CLASH\nend 5 3\n", written: "" }, streams: "0" },
     Case { row: Row { options: FEW, before: OPENED,
-        packets: &[(DataIn(1000, 5001, b"abcd"), &[Piece(7, 0, 16)]), (DataIn(1000, 16_782_217, b"abcd"), &[Piece(7, 8, 24)])],
-        report: "4 in hold 0 F_HELD\n5 in drop 0 F_CLASH\nend 5 3\n", written: &[] }, streams: &[(0, b"", false)] },
-    Case { row: Row { options: FEW, before: OPENED,
-        packets: &[(DataIn(1000, 5001, b"evilgood and so on"), &[Piece(7, 0, 32)]), (DataIn(1000, 5001, b"goodevil and so on"), &[Piece(7, 16, 38)]),
-            (DataIn(1000, 5001, b"good"), &[Piece(7, 0, 16)]), (DataIn(1000, 5001, b"good"), &[Piece(7, 16, 24)])],
-        report: "4 in hold 0 F_HELD\n5 in drop 0 F_CLASH\n6 in hold 0 F_HELD\n7 in fix 1 F_DONE @1\nend 7 4\n",
-        written: &[(DataIn(1000, 5001, b"good"), &[Ident(7)])] }, streams: &[(0, b"good", false)] },
+            packets: "> PA 1000,5001 evilgood_and_so_on [id=7 part=0..32]; > PA 1000,5001 goodevil_and_so_on [id=7 part=16..38]; \
+                > PA 1000,5001 good [id=7 part=0..16]; > PA 1000,5001 good [id=7 part=16..24]",
+            report: "4 in hold 0 F_HELD\n5 in drop 0 F_CLASH\n6 in hold 0 F_HELD\n7 in fix 1 F_DONE @1\nend 7 4\n", written: "> PA 1000,5001 good [id=7]" },
+        streams: "0 good" },
     // Options of the IPv4 header: three that do nothing, and a source route.
-    Case { row: Row { options: FEW, before: OPENED,
-        packets: &[(DataIn(1000, 5001, b"abcd"), &[HeaderOptions(&[1, 1, 1, 1])]), (DataIn(1000, 5001, b"abcd"), &[HeaderOptions(&[0x83, 3, 4, 0])])],
-        report: "4 in fix 1 I_OPT @1\n5 in drop 0 I_ROUTE\nend 5 4\n", written: &[(DataIn(1000, 5001, b"abcd"), &[])] },
-        streams: &[(0, b"abcd", false)] },
+    Case { row: Row { options: FEW, before: OPENED, packets: "> PA 1000,5001 abcd [ipopt=0x01010101]; > PA 1000,5001 abcd [ipopt=0x83030400]",
+            report: "4 in fix 1 I_OPT @1\n5 in drop 0 I_ROUTE\nend 5 4\n", written: "> PA 1000,5001 abcd" }, streams: "0 abcd" },
     // Octets that the host has already.
-    Case { row: Row { options: FEW, before: OPENED, packets: &[(DataIn(1004, 5001, b"efgh"), &[]), (AckOut(5001, 1008), &[]), (DataIn(1000, 5001, b"abcd"), &[])],
-        report: "4 in pass 1 @1\n5 out pass 1 @1\n6 in fix 1 T_OLD @1\nend 6 6\n",
-        written: &[(DataIn(1004, 5001, b"efgh"), &[]), (AckOut(5001, 1008), &[]), (DataIn(1000, 5001, b""), &[])] },
-        streams: &[(0, b"", false), (4, b"efgh", false)] },
+    Case { row: Row { options: FEW, before: OPENED, packets: "> PA 1004,5001 efgh; < A 5001,1008; > PA 1000,5001 abcd",
+            report: "4 in pass 1 @1\n5 out pass 1 @1\n6 in fix 1 T_OLD @1\nend 6 6\n", written: "> PA 1004,5001 efgh; < A 5001,1008; > PA 1000,5001" },
+        streams: "0; 4 efgh" },
     // A flood of SYNs, where two connections are followed.
-    Case { row: Row { options: &["--flows=2", "--cells=64"], before: NOTHING,
-        packets: &[(SynIn(999), &[]), (SynIn(999), &[Port(40_001)]), (SynIn(999), &[Port(40_002)]), (SynIn(999), &[Port(40_003)]),
-            (SynIn(999), &[Port(40_004)]), (SynIn(999), &[Port(40_005)]), (SynIn(999), &[Port(40_006)]), (SynIn(999), &[Port(40_007)]),
-            (SynIn(999), &[Port(40_008)]), (SynIn(999), &[Port(40_009)])],
-        report: "1 in pass 1 @1 +1\n2 in pass 1 @2 +2\n3 in pass 1 @3 +3 -1:evicted:0\n4 in pass 1 @4 +4 -2:evicted:0\n\
-            5 in pass 1 @5 +5 -3:evicted:0\n6 in pass 1 @6 +6 -4:evicted:0\n7 in pass 1 @7 +7 -5:evicted:0\n\
-            8 in pass 1 @8 +8 -6:evicted:0\n9 in pass 1 @9 +9 -7:evicted:0\n10 in pass 1 @10 +10 -8:evicted:0\nend 10 10\n",
-        written: &[(SynIn(999), &[]), (SynIn(999), &[Port(40_001)]), (SynIn(999), &[Port(40_002)]), (SynIn(999), &[Port(40_003)]),
-            (SynIn(999), &[Port(40_004)]), (SynIn(999), &[Port(40_005)]), (SynIn(999), &[Port(40_006)]), (SynIn(999), &[Port(40_007)]),
-            (SynIn(999), &[Port(40_008)]), (SynIn(999), &[Port(40_009)])] }, streams: &[(0, b"", false)] },
+    Case { row: Row { options: "--flows=2 --cells=64", before: NOTHING,
+            packets: "> S 999; > S 999 [port=40001]; > S 999 [port=40002]; > S 999 [port=40003]; > S 999 [port=40004]; > S 999 [port=40005]; \
+                > S 999 [port=40006]; > S 999 [port=40007]; > S 999 [port=40008]; > S 999 [port=40009]",
+            report: "1 in pass 1 @1 +1\n2 in pass 1 @2 +2\n3 in pass 1 @3 +3 -1:evicted:0\n4 in pass 1 @4 +4 -2:evicted:0\n\
+                5 in pass 1 @5 +5 -3:evicted:0\n6 in pass 1 @6 +6 -4:evicted:0\n7 in pass 1 @7 +7 -5:evicted:0\n8 in pass 1 @8 +8 -6:evicted:0\n\
+                9 in pass 1 @9 +9 -7:evicted:0\n10 in pass 1 @10 +10 -8:evicted:0\nend 10 10\n",
+            written: "> S 999; > S 999 [port=40001]; > S 999 [port=40002]; > S 999 [port=40003]; > S 999 [port=40004]; > S 999 [port=40005]; \
+                > S 999 [port=40006]; > S 999 [port=40007]; > S 999 [port=40008]; > S 999 [port=40009]" }, streams: "0" },
 ];
 
 /// Gives the packet to each receiver, and tells whether all hosts behind 30 routers read it by its fields.
@@ -126,7 +115,7 @@ fn give_twice(family: &mut Family, packets: &[Vec<u8>]) -> Result<bool, NoMemory
 }
 
 /// The packets that go inwards in the connection that comes first, in the order in which they are written.
-fn inward_of(alloc: Global, row: &Row) -> Result<Vec<Vec<u8>>, AllocError> {
+fn inward_of(alloc: Global, row: &Row) -> Result<Vec<Vec<u8>>, Fail> {
     let mut packets = Vec::new(alloc);
     add_inward(&mut packets, alloc, row.before.packets)?;
     add_inward(&mut packets, alloc, row.written)?;
@@ -145,19 +134,22 @@ fn delivers(family: &Family, octets: &[u8], ended: bool) -> bool {
 }
 
 /// Whether all receivers deliver these octets from this offset on, and agree also where the packets come backwards, and each twice.
-fn tells(
-    alloc: Global,
-    packets: &[Vec<u8>],
-    stream: (u32, &'static [u8], bool),
-) -> Result<bool, NoMemory> {
-    let (start, octets, ended) = stream;
+fn tells(alloc: Global, packets: &[Vec<u8>], stream: &str) -> Result<bool, Fail> {
+    let (stream, ended) = match stream.strip_suffix(" FIN") {
+        Some(stream) => (stream, true),
+        None => (stream, false),
+    };
+    let (start, spelled) = stream.split_once(' ').unwrap_or((stream, ""));
+    let start = start.parse::<u32>()?;
+    let mut octets = Vec::new(alloc);
+    add_octets(&mut octets, spelled)?;
     let mut family = Family::open(alloc, 1000, start)?;
     let mut backwards = Family::open(alloc, 1000, start)?;
     let mut twice = Family::open(alloc, 1000, start)?;
     let given = give(&mut family, packets)?;
     let given_back = give_backwards(&mut backwards, packets)?;
     let given_twice = give_twice(&mut twice, packets)?;
-    let told = delivers(&family, octets, ended);
+    let told = delivers(&family, &octets, ended);
     let agreed = family.agree();
     let agreed_back = backwards.agree();
     let agreed_twice = twice.agree();
@@ -178,8 +170,11 @@ fn evasions_go_on_as_one_stream(rt: HostRuntime) -> Result<(), Fail> {
 fn receivers_agree_on_evasions(rt: HostRuntime) -> Result<(), Fail> {
     for (number, case) in CASES.iter().enumerate() {
         let packets = inward_of(rt.alloc(), &case.row)?;
-        for stream in case.streams {
-            assert!(rt; tells(rt.alloc(), &packets, *stream)?, "case {number}");
+        for stream in case.streams.split(';') {
+            assert!(rt;
+                tells(rt.alloc(), &packets, stream.trim())?,
+                "case {number}"
+            );
         }
     }
     Ok(())

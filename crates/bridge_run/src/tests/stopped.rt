@@ -47,8 +47,9 @@ const REPORT_CALLS: [Row; 4] = [
 
 /// What the source is asked for: so many octets, and what stands where the first of these calls fails.
 #[rattlefmt::skip]
-const SOURCE_CALLS: [(usize, Row); 6] = [
-    (24, Row { status: 5, written: 0, report: "norm 2\nstop read 0\n", left: 116 }),
+const SOURCE_CALLS: [(usize, Row); 7] = [
+    (4, Row { status: 5, written: 0, report: "norm 2\nstop read 0\n", left: 116 }),
+    (20, Row { status: 5, written: 0, report: "norm 2\nstop read 0\n", left: 112 }),
     (16, Row { status: 5, written: 24, report: "norm 2\nstop read 24\n", left: 92 }),
     (30, Row { status: 5, written: 24, report: "norm 2\nstop read 24\n", left: 76 }),
     (16, Row { status: 5, written: 70, report: "norm 2\n1 in pass 1\nstop read 70\n", left: 46 }),
@@ -73,7 +74,7 @@ fn leaves(alloc: Global, disturbed: Disturbed, row: &Row) -> Result<bool, Fail>
     requires { 0 < disturbed.piece }
 {
     let words = line(alloc, SMALL)?;
-    let file = capture_file(alloc, &[], 2, &[])?;
+    let file = capture_file(alloc, "", 2, "")?;
     let written = Vec::from_slice(alloc, &file)?;
     let failing = disturbed.failing;
     let mut source = MemSource::new(file, disturbed.piece, only(alloc, failing.0)?);
@@ -190,7 +191,7 @@ const TOLD_BADLY: [(usize, u32, &str); 4] = [
 #[test]
 fn a_fault_in_the_last_line_changes_no_status(rt: HostRuntime) -> Result<(), Fail> {
     for (size, call, told) in TOLD_BADLY {
-        let mut file = capture_file(rt.alloc(), &[], 2, &[])?;
+        let mut file = capture_file(rt.alloc(), "", 2, "")?;
         file.truncate(size);
         let words = ["run", "a", "b", "10.0.0.0/8"];
         let ended = ended_run(rt.alloc(), &words, &file, 7, (0, 0, call))?;
