@@ -16,7 +16,7 @@ use Rattle.rule_book.specs.Text.{lines_text, last_text}
 use Rattle.norm_settings.specs.Settings.{AreInRange, PlainSettings}
 use Rattle.norm_engine.specs.Items.{Item, packets, entries}
 use Rattle.norm_engine.specs.Trace.{item_of}
-use Rattle.norm_engine.specs.Clean.{HasOctets, HaveOctets}
+use Rattle.norm_engine.specs.Clean.{HasOctets}
 use Rattle.norm_engine.specs.Laws.{IsSound, ItemsAreCounted}
 use Rattle.norm_engine.specs.Engine.{Engaged, StandsFor}
 use Rattle.bridge_run.specs.declared.stop.Stop.{Stop}
@@ -98,9 +98,6 @@ module _ (settings : PlainSettings) (head : Head) (a b : Moment) (engine : Engag
     fewer_left engine' stands =
         let after : engine'.records ≡ suc (length going.trace) = (stands going.trace going.stands).counted in
         omega (arith, after, going.stands.counted, few_before)
-
-    pub stood : (history : List Item) × StandsFor engine history × HaveOctets history
-    stood = (going.trace, going.stands, going.so_far.octets)
 
     -- its item was written, and the run goes on
     module _ (engine' : Engaged) (n : ℕ) (counts : ItemsAreCounted) (counted_so : c.source.faults ≡ b.source.faults)

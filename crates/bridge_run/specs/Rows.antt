@@ -99,8 +99,8 @@ pub record CaptureEndsInHead (settings : PlainSettings) (before now : Moment) : 
   pub capture : GivenUpTo [] (head_octets head) before.sinks.capture.octets now.sinks.capture.octets
   pub report : Says heading (stop_of kinds.Capture 0) before.sinks.report now.sinks.report
 
--- Status 6, at the newest packet: exactly the head and what stands up to the end of its record or block was taken. The capture was given all but its frames, and
--- a prefix of these; the report the lines of the older packets, and the stop at the offset of that record or block.
+-- Status 6, at the newest packet: exactly the head and what stands up to the end of its record or block was taken. The capture was given all but its frames,
+-- and a prefix of these; the report the lines of the older packets, and the stop at the offset of that record or block.
 pub record CaptureEndsInItem (settings : PlainSettings) (before now : Moment) : Type 0 where
   pub head : Head
   pub item : Item

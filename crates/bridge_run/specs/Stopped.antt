@@ -61,8 +61,8 @@ pub record StopsAtWrittenHead (settings : PlainSettings) (stop : Stop) (before n
   pub took : Took settings.inside before.source.octets now.source.octets head walk
   pub broke : BreaksOff first_outputs (head_outputs head) 0 stop before.sinks now.sinks
 
--- Something of what the newest packet puts out failed. The head and the trace's packets were taken, nothing behind the record or block of that one, and all that
--- the older ones put out was given.
+-- Something of what the newest packet puts out failed. The head and the trace's packets were taken, nothing behind the record or block of that one, and all
+-- that the older ones put out was given.
 pub record StopsAtItem (settings : PlainSettings) (stop : Stop) (before now : Moment) : Type 0 where
   pub head : Head
   pub item : Item

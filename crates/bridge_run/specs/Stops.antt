@@ -69,7 +69,8 @@ is_faulty faults.Cut = false
 is_faulty faults.ReadFault = false
 is_faulty _ = true
 
--- The source tells its octets, and their first fault is that they are cut short. Under `inside` the name of the interface on the inside is given, here and below.
+-- The source tells its octets, and their first fault is that they are cut short. Under `inside` the name of the interface on the inside is given, here and
+-- below.
 pub record IsCutShort (inside source : Option (List ℕ)) : Type 0 where
   pub octets : List ℕ
   pub told : source ≡ Some octets
