@@ -1,5 +1,5 @@
 //! Captures of two interfaces, `in` and `ex`: the sides are those of the interfaces, and no addresses tell them.
-use super::{DATAGRAM, NONE, capture_file, ended_run};
+use super::{DATAGRAM, FRONT, NONE, capture_file, ended_run};
 use std::alloc::{AllocError, Global};
 use std::test::Fail;
 
@@ -43,6 +43,14 @@ const WRITTEN: [u8; 24] = [
 
 const WORDS: [&str; 6] = ["run", "--inside", "in", "a", "b", "10.0.0.0/8"];
 
+/// The written capture of the datagram.
+fn written(alloc: Global) -> Result<Vec<u8>, AllocError> {
+    let mut file = Vec::from_slice(alloc, &WRITTEN)?;
+    file.extend_from_slice(&FRONT)?;
+    file.extend_from_slice(&DATAGRAM[..30])?;
+    Ok(file)
+}
+
 #[test]
 fn the_interface_tells_the_side(rt: HostRuntime) -> Result<(), Fail> {
     let file = sections(rt.alloc(), 1)?;
@@ -52,8 +60,13 @@ fn the_interface_tells_the_side(rt: HostRuntime) -> Result<(), Fail> {
         ended.report.held(),
         b"norm 2\n1 in pass 1\nend 1 1\n".as_slice()
     );
-    assert_eq!(rt; ended.capture.held().get(..24), Some(WRITTEN.as_slice()));
-    assert_eq!(rt; ended.capture.held().get(40..), Some(&DATAGRAM[..30]));
+    let wanted = written(rt.alloc())?;
+    assert_eq!(rt; ended.capture.held(), wanted.as_slice());
+    Ok(())
+}
+
+#[test]
+fn the_other_interface_tells_the_other_side(rt: HostRuntime) -> Result<(), Fail> {
     let file = sections(rt.alloc(), 0)?;
     let ended = ended_run(rt.alloc(), &WORDS, &file, 7, NONE)?;
     assert_eq!(rt; ended.status, 0);
