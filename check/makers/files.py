@@ -4,10 +4,12 @@ import random
 
 from makers.conversations import conversation
 from makers.datagrams import any_message
+from makers.faults import spoilt
 from makers.fragments import fragmented_messages, many_blocks
 from makers.headers import frame_of, odd_frame, original_length, packet_of
+from makers.sections import add_section, octets_of, open_file
 from makers.world import add_record, chance, open_world, pass_time
-from norm_model.built import RANGES, WHOLE
+from norm_model.built import OPTIONS, RANGES, WHOLE
 from norm_model.capture import ETHERNET, RAW
 from norm_model.packets import head, record
 from norm_model.words import read_words
@@ -23,7 +25,10 @@ VALUES = {
     "seed": [0, 7, 2**64 - 1],
     "quota": [1, 2, 3, 5, 262144],
     "mtu": [576, 577, 600, 1500, 65535],
+    "inside": ["in", "in", "in", "ex", "0", "x-", "a b", "lo=0", "=", "é" * 32, "n" * 64],
 }
+
+BAD_NAMES = ["", "-", "-in", "--", "--hops=3", "n" * 65, "é" * 32 + "n", "é" * 33]
 
 PREFIXES = ["10.0.0.0/8", "10.0.0.0/8", "10.0.0.0/8", "10.255.0.1/8", "010.0.0.0/08", "10.0.0.0/9", "10.0.0.1/32", "8.0.0.0/5"]
 
@@ -35,14 +40,15 @@ BAD_PREFIXES = ["0010.0.0.0/8", "10.0.0/8", "10.0.0.0", "10.0.0.0/", "10.0.0.0/3
 
 def option_words(rng, name, value):
     number = str(value)
-    if rng.random() < 0.1:
+    if name in RANGES and rng.random() < 0.1:
         number = number.rjust(rng.choice([2, 20]), "0")
     return ["--%s=%s" % (name, number)] if rng.random() < 0.5 else ["--" + name, number]
 
 
-def good_words(rng, built):
+def good_words(rng, built, inside=0.01):
     words = []
-    names = [name for name in built.options if rng.random() < (0.3 if name != "offload" else 0.25)]
+    often = {"offload": 0.25, "inside": inside}
+    names = [name for name in built.options if rng.random() < often.get(name, 0.3)]
     rng.shuffle(names)
     for name in names:
         words += ["--offload"] if name == "offload" else option_words(rng, name, rng.choice(VALUES[name]))
@@ -57,9 +63,11 @@ def good_words(rng, built):
 def spoilt_words(rng, words):
     """Words that are refused, or that look as if they were."""
     at = rng.randrange(len(words) + 1)
-    name = rng.choice(list(RANGES))
-    low, high = RANGES[name] or (0, 0)
-    more = rng.choice([["--%s=%d" % (name, high + 1)], ["--%s=%d" % (name, high)], ["--%s" % name], ["--%s=" % name],
+    name = rng.choice(OPTIONS)
+    low, high = RANGES.get(name, (0, 0))
+    named = rng.choice(BAD_NAMES + VALUES["inside"])
+    more = rng.choice([["--inside=" + named], ["--inside", named], ["--inside=in", "--inside", named],
+                       ["--%s=%d" % (name, high + 1)], ["--%s=%d" % (name, high)], ["--%s" % name], ["--%s=" % name],
                        ["--%s=%d" % (name, low - 1)], ["--%s" % name, str(low)], ["--offload=1"], ["--hops=" + "0" * 20],
                        ["--hops=" + "0" * 21], ["--help"], ["-h"], ["--"], ["-"], [""], ["--hop=3"], ["--unknown"], ["x"],
                        ["--hops=1", "--hops", "1"], ["--hops=٣"], ["--hops=+3"], ["--hops= 3"], ["--hops=0x3"], ["--version"]])
@@ -150,5 +158,19 @@ def make_capture(number, built=WHOLE):
     fill(world, rng.choice([0, 3, 10, 10, 30, 30, 60, 60, 100, 100]))
     octets = file_octets(world, rng.choice(["little", "big"]), rng.random() < 0.5)
     if chance(world, 7):
+        words = spoilt_words(rng, words)
+    return words, octets, world
+
+
+def make_pcapng(number, built=WHOLE):
+    """The same in blocks, most of them with one thing off."""
+    rng = random.Random("pcapng " + number)
+    words = good_words(rng, built, inside=0.6)
+    world = open_file(open_world(rng, read_words(words, built).settings, rng.choice([ETHERNET, RAW])))
+    fill(world, rng.choice([0, 1, 3, 3, 10, 10, 30, 60]))
+    if not world.file.plan:
+        add_section(world, 1)
+    octets = spoilt(world) if chance(world, 65) else octets_of(world.file.plan)
+    if chance(world, 3):
         words = spoilt_words(rng, words)
     return words, octets, world

@@ -14,14 +14,18 @@ OUTSIDES = [address(text) for text in ("198.51.100.7", "198.51.100.8", "11.0.0.0
 
 
 def open_world(rng, settings, link):
-    return SimpleNamespace(rng=rng, settings=settings, link=link, engine=open_engine(settings, link),
+    return SimpleNamespace(rng=rng, settings=settings, link=link, engine=open_engine(settings, link), record_of=classic_record,
                            seconds=rng.choice([0, 0, 1, 1000000, 2**32 - 10]), records=[], entries=[], written=[])
+
+
+def classic_record(world, frame, original):
+    return SimpleNamespace(seconds=world.seconds, fraction=world.rng.randrange(1000000), octets=frame, offset=0, side=None,
+                           original=original)
 
 
 def add_record(world, frame, original=None):
     """Steps the model over one more record."""
-    record = SimpleNamespace(seconds=world.seconds, fraction=world.rng.randrange(1000000), octets=frame, offset=0,
-                             original=len(frame) if original is None else original)
+    record = world.record_of(world, frame, len(frame) if original is None else original)
     entry, written = step(world.engine, record)
     world.records.append(record)
     world.entries.append(entry)

@@ -6,7 +6,7 @@ refused.
 
 from types import SimpleNamespace
 
-# The option that a program takes, with the least and the greatest number; `offload` takes no number.
+# The option that a program takes, with the least and the greatest number.
 RANGES = {
     "hops": (0, 254),
     "flows": (1, 65536),
@@ -18,8 +18,12 @@ RANGES = {
     "seed": (0, 2**64 - 1),
     "quota": (1, 262144),
     "mtu": (576, 65535),
-    "offload": None,
 }
+
+# The option that takes a name, with the least and the greatest number of its octets.
+NAMED = {"inside": (1, 64)}
+
+OPTIONS = [*RANGES, *NAMED, "offload"]
 
 
 def built(options, prefixes, load, report_version):
@@ -27,7 +31,7 @@ def built(options, prefixes, load, report_version):
 
 
 # Everything.
-WHOLE = built(RANGES, 16, True, 2)
+WHOLE = built(OPTIONS, 16, True, 2)
 
 # What the program of this repository has today.
-BUILT = built(RANGES, 16, True, 2)
+BUILT = built(OPTIONS, 16, True, 2)

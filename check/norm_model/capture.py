@@ -49,7 +49,7 @@ def record_at(octets, at, head, before):
     if left - RECORD_HEAD < captured:
         return "cut"
     start = at + RECORD_HEAD
-    return SimpleNamespace(seconds=seconds, fraction=fraction, original=original, offset=at,
+    return SimpleNamespace(seconds=seconds, fraction=fraction, original=original, offset=at, side=None,
                            octets=octets[start:start + captured])
 
 

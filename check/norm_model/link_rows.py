@@ -4,7 +4,7 @@ from types import SimpleNamespace
 
 from norm_model.capture import ETHERNET
 from norm_model.formats import ICMP, TCP, UDP, read_ipv4, read_options, sum_right, u16
-from norm_model.words import is_trusted
+from norm_model.words import side_of
 
 LARGEST_FRAME = 65549
 
@@ -16,12 +16,12 @@ def read_case(settings, link, record):
     at = 14 if link == ETHERNET else 0
     octets = record.octets[at:]
     ip = read_ipv4(octets)
+    side = side_of(settings, record.side, ip.src, ip.dst)
     return SimpleNamespace(
         settings=settings, ethernet=link == ETHERNET, record=record,
         frame=record.octets, link_octets=record.octets[:at],
         octets=octets, ip=ip, area=octets[20:ip.header], payload=octets[ip.header:ip.total],
-        inbound=is_trusted(settings, ip.dst) and not is_trusted(settings, ip.src),
-        outbound=is_trusted(settings, ip.src) and not is_trusted(settings, ip.dst),
+        inbound=side == "in", outbound=side == "out",
     )
 
 

@@ -52,7 +52,7 @@ def generated(seed, count):
         flow, action = x // 2**33 % 64, x // 2**40 % 8
         octets = next_packet(flow, turns[flow], action, i % 65536)
         yield SimpleNamespace(seconds=i // 1000, fraction=i % 1000 * 1000, original=len(octets), offset=0,
-                              octets=octets)
+                              side=None, octets=octets)
 
 
 def run_load(seed, count):

@@ -37,7 +37,7 @@ def stop_line(kind, number):
 
 REASONS = ("reset", "evicted", "idle", "reopened")
 
-STOPS = ("magic", "version", "link", "long", "many", "cut", "read", "capture", "memory")
+STOPS = ("magic", "version", "link", "block", "long", "many", "cut", "read", "capture", "memory")
 
 NUMBER = "(0|[1-9][0-9]*)"
 

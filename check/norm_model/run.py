@@ -1,12 +1,15 @@
 """A whole run: from the words and the octets of a capture to the status, the capture written and the report."""
 
+from types import SimpleNamespace
+
 from norm_model import capture, report
 from norm_model.cuts import as_written
 from norm_model.engine import open_engine, step
 from norm_model.load import run_load
+from norm_model.pcapng import SECTION, read_sections
 from norm_model.words import read_words
 
-STATUS = {"end": 0, "magic": 3, "version": 3, "link": 3, "long": 3, "many": 3, "cut": 4}
+STATUS = {"end": 0, "magic": 3, "version": 3, "link": 3, "block": 3, "long": 3, "many": 3, "cut": 4}
 
 
 def run(words, octets, built):
@@ -20,15 +23,30 @@ def run(words, octets, built):
     return status, written, lines
 
 
+def read_input(octets, inside):
+    """The written head, all records before the end or the first fault, with its name and its place.
+
+    There is no head where the fault stands in that of a classic capture, or before a pcapng file's first interface ends.
+    """
+    if octets[:4] == SECTION:
+        link, records, fault, at = read_sections(octets, inside)
+        return link and SimpleNamespace(order="little", nano=True, link=link), records, fault, at
+    head = capture.read_head(octets)
+    if isinstance(head, str):
+        return None, [], head, 0
+    if inside is not None:
+        return None, [], "block", 0
+    return (head,) + capture.read_records(octets, head)
+
+
 def run_capture(settings, octets, built):
     """Besides, each entry with its frames."""
     lines = report.first_line(built.report_version)
-    head = capture.read_head(octets)
-    if isinstance(head, str):
-        return STATUS[head], b"", lines + report.stop_line(head, 0), []
+    head, records, fault, at = read_input(octets, settings.inside)
+    if head is None:
+        return STATUS[fault], b"", lines + report.stop_line(fault, at), []
     parts, texts, steps = [capture.write_head(head)], [lines], []
     engine = open_engine(settings, head.link)
-    records, fault, at = capture.read_records(octets, head)
     for record in records:
         entry, written = step(engine, record)
         written = as_written(settings, head.link, entry, written)

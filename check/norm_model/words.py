@@ -2,7 +2,7 @@
 
 from types import SimpleNamespace
 
-from norm_model.built import RANGES
+from norm_model.built import NAMED, RANGES
 
 REFUSED, PREFIX, TOO_MANY, SAME = 1, 2, 3, 5
 
@@ -11,7 +11,7 @@ DIGITS = "0123456789"
 
 def default_settings():
     return SimpleNamespace(prefixes=[], hops=30, flows=4096, cells=65536, frags=256, frag_cells=4096,
-                           idle=3600, frag_time=30, seed=0, quota=None, mtu=None, offload=False)
+                           idle=3600, frag_time=30, seed=0, quota=None, mtu=None, inside=None, offload=False)
 
 
 def is_digits(text, least, most):
@@ -52,6 +52,21 @@ def is_trusted(settings, address):
     return any(prefix_holds(prefix, address) for prefix in settings.prefixes)
 
 
+def side_of(settings, given, src, dst):
+    """The side that the record has; where it has none the side by the addresses, None where both or neither is trusted."""
+    trusted = is_trusted(settings, src), is_trusted(settings, dst)
+    return given or {(True, False): "out", (False, True): "in"}.get(trusted)
+
+
+def read_value(name, text):
+    """The value of this option, or None where it is refused."""
+    if name not in NAMED:
+        return read_number(text, *RANGES[name])
+    low, high = NAMED[name]
+    octets = text.encode()
+    return octets if low <= len(octets) <= high and not text.startswith("-") else None
+
+
 def take_option(words, settings, seen, built):
     """Reads the option at the front of the words: the words after it, or None where it is refused."""
     name, equals, value = words[0][2:].partition("=")
@@ -59,17 +74,17 @@ def take_option(words, settings, seen, built):
     if not words[0].startswith("--") or name not in built.options or name in seen:
         return None
     seen.append(name)
-    if RANGES[name] is None:
+    if name == "offload":
         settings.offload = True
         return rest if equals == "" else None
     if equals == "":
         if not rest:
             return None
         value, rest = rest[0], rest[1:]
-    number = read_number(value, *RANGES[name])
-    if number is None:
+    read = read_value(name, value)
+    if read is None:
         return None
-    setattr(settings, name.replace("-", "_"), number)
+    setattr(settings, name.replace("-", "_"), read)
     return rest
 
 
