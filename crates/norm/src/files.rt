@@ -1,11 +1,15 @@
 //! The files of a run. Neither the file that is read is emptied, nor one that another run reads or writes.
+ghost use Rattle.std.specs.Prelude.{◌≡◌, None};
+
 use norm_settings::Names;
 use std::fs::{File, OpenOptions, TryLockError};
 use std::os::unix::fs::MetadataExt;
 
 /// The file to read, and where that was opened the file to write. One that is missing is a source or a sink whose every call fails.
 /// A regular file is held by a lock of the system as long as it is open: that to read among all who read, that to write alone.
-pub fn opened(rt: &HostRuntime, names: &Names) -> (Option<File>, Option<File>) {
+pub fn opened(rt: &HostRuntime, names: &Names) -> (Option<File>, Option<File>)
+    ensures { result.0 ≡ None → result.1 ≡ None }
+{
     let Some(input) = read(rt, names.input.as_str()) else {
         return (None, None);
     };
