@@ -6,6 +6,7 @@ pub mod Links
 pub mod Masks
 pub mod Opening
 pub mod Overwrites
+pub mod Owned
 pub mod Rising
 pub mod Runs
 pub mod Steps

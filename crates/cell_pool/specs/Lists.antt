@@ -1,5 +1,5 @@
 -- What contracts see of a pool (this project's profile): per chain a list of cells, and how many cells are free.
-use Rattle.std.specs.Prelude.{◌≡◌, ℕ, ◌+◌, ◌-◌, ◌<◌, List, [], ◌∷◌, ◌++◌, length, map, Option, Some, None, IsSome, replicate, slice_index, slice_index_or, slice_set, min, take, drop}
+use Rattle.std.specs.Prelude.{◌≡◌, ℕ, ◌+◌, ◌-◌, ◌<◌, ◌≤◌, List, [], ◌∷◌, ◌++◌, length, map, Option, Some, None, IsSome, replicate, slice_index, slice_index_or, slice_set, min, take, drop}
 use Rattle.cell_pool.specs.declared.cells.CellId.{CellId}
 
 -- A cell of a chain: its name, its block number, and at each of its 256 places an octet or nothing.
@@ -118,6 +118,14 @@ pub record IsHeld (pool : Lists) (name : CellId) : Type 0 where
   pub cell : Held
   pub after : List Held
   pub stands : Stands pool chain name before cell after
+
+-- The cell of this name is in this chain, and its block number is not above this one.
+pub record StandsUpTo (pool : Lists) (chain block : ℕ) (name : CellId) : Type 0 where
+  pub before : List Held
+  pub cell : Held
+  pub after : List Held
+  pub stands : Stands pool chain name before cell after
+  pub up_to : cell.block ≤ block
 
 -- The cell of this name is in a chain, and this holds of its octets.
 pub record IsHeldWith (pool : Lists) (name : CellId) (P : List (Option ℕ) → Type 0) : Type 0 where

@@ -4,6 +4,7 @@
 mod cells;
 mod octets;
 mod pool;
+mod trees;
 
 pub use cells::{CellId, ChainId};
 pub use pool::Pool;

@@ -1,9 +1,10 @@
 //! A pool of cells, with its chains and its free list.
 ghost use Rattle.std.specs.Prelude.{◌≡◌, ◌+◌, ◌-◌, ◌<◌, ◌≤◌, ◌^◌, ◌↔◌, [], ◌∷◌, length, replicate, IfOk, IfSome, IfNone, IsNone, IsTrue, Some, None, slice_index_or, slice_set};
 ghost use Rattle.std.specs.List.{All, sum_by};
-ghost use Rattle.cell_pool.specs.Lists.{chain_at, with_chain, empty_cell, without_below, with_run, first_id, IsBlank, IsCovered, StandsFrom, BeginsAbove, IsRising, HasPlaceFor, HasCellAfter, TakesAfter, GivesBackAfter, IsHeld, IsHeldWith, Wherever, Writes, StandsOnce};
+ghost use Rattle.cell_pool.specs.Lists.{chain_at, with_chain, empty_cell, without_below, with_run, first_id, IsBlank, IsCovered, StandsFrom, BeginsAbove, IsRising, HasPlaceFor, HasCellAfter, TakesAfter, GivesBackAfter, IsHeld, IsHeldWith, StandsUpTo, Wherever, Writes, StandsOnce};
 
 use crate::cells::{Cell, CellId, ChainId, Head, empty_heads, set_next, spare_cells};
+use crate::trees::Trees;
 use edge_io::NoMemory;
 use std::alloc::Global;
 use std::marker::Model;
@@ -16,6 +17,8 @@ pub struct Pool {
     // The first free cell.
     spare: Option<CellId>,
     free: u32,
+    // Where a walk along a chain may begin.
+    trees: Trees,
 }
 
 impl Model for Pool {
@@ -38,11 +41,13 @@ impl Pool {
     {
         let heads = empty_heads(alloc, chains)?;
         let (made, spare) = spare_cells(alloc, cells)?;
+        let trees = Trees::open(alloc, cells, chains)?;
         Ok(Pool {
             heads,
             cells: made,
             spare,
             free: cells,
+            trees,
         })
     }
 
@@ -78,6 +83,21 @@ impl Pool {
         ensures once { StandsOnce self.now cell }
     {
         self.cells[cell.0 as usize].next
+    }
+
+    /// A cell of the chain whose block is not above this one, near to it: no more than 16 cells are passed from there, or from the front where this is none.
+    pub fn landmark(&self, chain: ChainId, block: u64) -> Option<CellId>
+        requires { chain.0 < length self.now.chains }
+        ensures { IfSome result (λ cell. StandsUpTo self.now chain.0 block cell) }
+    {
+        let name = self.trees.last_up_to(&self.cells, chain, block)?;
+        let cell = self.cells.get(name.0 as usize)?;
+        let owner = cell.owner?;
+        if owner.0 == chain.0 && cell.block <= block {
+            Some(name)
+        } else {
+            None
+        }
     }
 
     /// The block number of the cell.
@@ -148,10 +168,9 @@ impl Pool {
         ensures taken { IfSome result
             (λ cell. TakesAfter self.old self.new chain.0 after (empty_cell cell block)) }
     {
-        match after {
-            Some(after) => self.take_behind(chain, after, block),
-            None => self.take_front(chain, block),
-        }
+        let taken = self.take(chain, after, block)?;
+        self.mark_taken(chain, after, taken);
+        Some(taken)
     }
 
     /// Frees the cell after the given one, or the first.
@@ -160,10 +179,8 @@ impl Pool {
         requires place { HasCellAfter (chain_at self.old chain.0) after }
         ensures { GivesBackAfter self.old self.new chain.0 after }
     {
-        match after {
-            Some(after) => self.give_behind(chain, after),
-            None => self.give_front(chain),
-        }
+        self.mark_given(chain, after);
+        self.give(chain, after);
     }
 
     /// Puts an octet into the cell at `at`.
@@ -195,6 +212,83 @@ impl Pool {
     {
         let cell = &mut self.cells[cell.0 as usize];
         cell.octets.clear_below(at)
+    }
+
+    // The block of a cell, if one is given.
+    fn block_at(&self, cell: Option<CellId>) -> Option<u64> {
+        Some(self.cells.get(cell?.0 as usize)?.block)
+    }
+
+    // The cell behind one, or the first.
+    fn behind(&self, chain: ChainId, after: Option<CellId>) -> Option<CellId> {
+        match after {
+            Some(cell) => self.cells.get(cell.0 as usize)?.next,
+            None => self.heads.get(chain.0 as usize)?.first,
+        }
+    }
+
+    // Keeps the landmarks where this cell was taken after the other.
+    fn mark_taken(&mut self, chain: ChainId, after: Option<CellId>, taken: CellId)
+        ensures { self.new ≡ self.old }
+    {
+        let before = self.block_at(after);
+        let Some(cell) = self.cells.get(taken.0 as usize) else {
+            return;
+        };
+        let next = cell.next;
+        let block = cell.block;
+        self.trees
+            .remark(&self.cells, chain, next, before, Some(block));
+        self.trees
+            .remark(&self.cells, chain, Some(taken), None, before);
+    }
+
+    // Keeps the landmarks where the cell after this one, or the first, will be free.
+    fn mark_given(&mut self, chain: ChainId, after: Option<CellId>)
+        ensures { self.new ≡ self.old }
+    {
+        let before = self.block_at(after);
+        let Some(given) = self.behind(chain, after) else {
+            return;
+        };
+        let Some(cell) = self.cells.get(given.0 as usize) else {
+            return;
+        };
+        let next = cell.next;
+        let block = cell.block;
+        if after.is_some() {
+            self.trees
+                .remark(&self.cells, chain, Some(given), before, None);
+        }
+        self.trees
+            .remark(&self.cells, chain, next, Some(block), before);
+    }
+
+    // Takes a free cell into the chain, after the given cell or at the front.
+    fn take(&mut self, chain: ChainId, after: Option<CellId>, block: u64) -> Option<CellId>
+        requires chain_in_range { chain.0 < length self.old.chains }
+        requires place { HasPlaceFor (chain_at self.old chain.0) after block }
+        ensures full { IsNone result ↔ (self.old.free ≡ 0) }
+        ensures unchanged { IfNone result (self.new ≡ self.old) }
+        ensures taken { IfSome result
+            (λ cell. TakesAfter self.old self.new chain.0 after (empty_cell cell block)) }
+    {
+        match after {
+            Some(after) => self.take_behind(chain, after, block),
+            None => self.take_front(chain, block),
+        }
+    }
+
+    // Frees the cell after the given one, or the first.
+    fn give(&mut self, chain: ChainId, after: Option<CellId>)
+        requires chain_in_range { chain.0 < length self.old.chains }
+        requires place { HasCellAfter (chain_at self.old chain.0) after }
+        ensures { GivesBackAfter self.old self.new chain.0 after }
+    {
+        match after {
+            Some(after) => self.give_behind(chain, after),
+            None => self.give_front(chain),
+        }
     }
 
     // Takes a free cell to the front of the chain.

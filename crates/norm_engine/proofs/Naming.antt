@@ -1,5 +1,5 @@
 -- How many rules an entry names.
-use Rattle.std.proofs.Common.{◌≡◌, ℕ, ◌+◌, ◌≤◌, ◌==◌, ◌&&◌, ◌||◌, not, Bool, true, false, cond, List, [], ◌∷◌, ◌++◌, length, filter, Option, Some, None, refl, sym, ap, subst, ◌∙◌, arith, append_assoc}
+use Rattle.std.proofs.Common.{◌≡◌, ◌+◌, ◌≤◌, ◌==◌, ◌&&◌, ◌||◌, not, Bool, true, false, cond, List, [], ◌∷◌, ◌++◌, length, filter, Option, Some, None, refl, sym, ap, subst, ◌∙◌, arith, append_assoc}
 use Rattle.std.proofs.lemmas.List.{length-append}
 use Rattle.wire_base.specs.declared.address.Link.{Link}
 use Rattle.wire_base.specs.Tcp as tcp
@@ -15,12 +15,12 @@ use Rattle.reassembly.specs.Rows as fragments
 use Rattle.tcp_norm.specs.Rows as era
 use Rattle.tcp_norm.specs.Calls.{segment_in}
 use Rattle.tcp_norm.specs.Views.{View, view_of}
-use Rattle.tcp_norm.specs.Outcomes.{outcome_at, outcome_by}
+use Rattle.tcp_norm.specs.Outcomes.{outcome_by}
 use Rattle.norm_engine.specs.Items.{Item}
 use Rattle.norm_engine.specs.Fragments.{Offering, holds_offered, i_ttl}
 use Rattle.norm_engine.specs.Rows.{is_segment}
 use Rattle.norm_engine.specs.Calls.{Past, datagram_after, past_of, segment_after, where_passes}
-use Rattle.norm_engine.specs.Trace.{Read, read_after, is_held, dropped_by, named_rows, noted_rows, outcome_of, rules_by, item_of}
+use Rattle.norm_engine.specs.Trace.{Read, read_after, is_held, dropped_by, named_rows, rules_by, item_of}
 use Rattle.norm_engine.proofs.Stepping.{segment_rules, nothing_noted}
 use Rattle.norm_engine.proofs.Joining.{IsMade, bare_named, datagram_named_is, made_of, named_of_piece, passes}
 use Rattle.norm_engine.proofs.Judging.{few_parts, filter_shorter}

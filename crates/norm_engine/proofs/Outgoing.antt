@@ -1,9 +1,8 @@
 -- What goes out for a record: ARP, or whole datagrams, and behind the first at most a probe; and how many rules are named.
-use Rattle.std.proofs.Common.{◌≡◌, ℕ, ◌+◌, ◌*◌, ◌/◌, ◌≤◌, ◌<◌, ◌==◌, ◌&&◌, ◌||◌, not, nat_lt, Bool, true, false, cond, List, [], ◌∷◌, ◌++◌, length, take, drop, find, filter, get_or, Option, Some, None, is_none, inl, inr, refl, sym, ap, ap₂, subst, ◌∙◌, arith, append_assoc}
+use Rattle.std.proofs.Common.{◌≡◌, ℕ, ◌+◌, ◌*◌, ◌/◌, ◌≤◌, ◌<◌, ◌==◌, ◌&&◌, ◌||◌, not, nat_lt, Bool, true, false, cond, List, [], ◌∷◌, ◌++◌, length, take, drop, find, get_or, Option, Some, None, is_none, inl, inr, refl, sym, ap, ap₂, subst, ◌∙◌, arith, append_assoc}
 use Rattle.std.specs.Prelude.{slice_index, option_map}
 use Rattle.std.specs.List.{AllByRecursion}
 use Rattle.std.specs.Option.{option_or}
-use Rattle.std.proofs.lemmas.Bool.{not-false, eqb-true}
 use Rattle.std.proofs.lemmas.Bool.Decides.{nat_tests}
 use Rattle.std.proofs.lemmas.List.{length-append, length-take, length-take-le, length-drop, get_or-take}
 use Rattle.std.proofs.Math.ListN.{get_or-append}
@@ -16,7 +15,6 @@ use Rattle.wire_base.specs.Options.{are_well_formed}
 use Rattle.wire_base.specs.Ipv4 as ip
 use Rattle.wire_base.specs.Tcp as tcp
 use Rattle.wire_base.specs.Frames.{ethertype, kind_of, link_octets, packet_in}
-use Rattle.wire_base.specs.Plain.{IsPlainHeader}
 use Rattle.wire_base.specs.Segments.{Written}
 use Rattle.icmp_codec.specs.Quote.{quoted_in}
 use Rattle.pcap_file.specs.Records as records
@@ -32,18 +30,16 @@ use Rattle.tcp_codec.specs.Write.{AreReadBack, segment_octets}
 use Rattle.tcp_codec.proofs.Faults.{fault_of-options}
 use Rattle.udp_codec.specs.Checksum as udp
 use Rattle.era_state.specs.declared.probe.Probe.{Probe}
-use Rattle.ip_rules.specs.Judged.{IsKept, where_holds}
-use Rattle.ip_rules.specs.Rows.{carries_arp, carries_ip, l_short, side_in, holds_ip, i_side, ip_drop_rows, ip_dropped_by, ip_fixes, piece_fix_rows, whole_fix_rows}
+use Rattle.ip_rules.specs.Rows.{carries_arp, carries_ip, l_short, side_in, holds_ip, ip_drop_rows, ip_dropped_by, ip_fixes, piece_fix_rows, whole_fix_rows}
 use Rattle.ip_rules.specs.Datagrams.{AnewIsPacket, Datagram, DatagramsAreKnown, Packet, IsKnown, IsPacketOf, anew, as_read, datagram_in, datagram_of, frame_of, frames_of, goes_in}
 use Rattle.ip_rules.proofs.Undropped.{none_found}
 use Rattle.dgram_rules.specs.Rows.{pseudo_of, holds_dgram, dgram_dropped_by}
 use Rattle.ipv4_codec.specs.Header.{fields_of}
 use Rattle.reassembly.specs.Calls as reassembly
-use Rattle.reassembly.specs.Pieces.{Fragment, datagram_octets, is_whole, whole_of}
+use Rattle.reassembly.specs.Pieces.{datagram_octets, is_whole, whole_of}
 use Rattle.reassembly.specs.Rows as fragments
 use Rattle.reassembly.specs.Rows.{answer_at, answer_by}
 use Rattle.tcp_norm.specs.Rows as era
-use Rattle.tcp_norm.specs.Calls.{Call, segment_in}
 use Rattle.tcp_norm.specs.Views.{View, view_of}
 use Rattle.tcp_norm.specs.Emits.{packet_by, probe_packets, segment_anew, segment_sent, sum_mended}
 use Rattle.tcp_norm.specs.Outcomes.{outcome_at, outcome_by}
@@ -51,18 +47,18 @@ use Rattle.tcp_norm.specs.Segments.{IsSegment, PacketsAreItsOwn}
 use Rattle.tcp_norm.proofs.Outgoing.{each_packet}
 use Rattle.tcp_norm.proofs.PlainSegments.{IsPlainSegment, own_plain}
 use Rattle.norm_engine.specs.Items.{Item}
-use Rattle.norm_engine.specs.Fragments.{Offering, completes, datagram_made, fragment_in, head_of_whole, holds_offered, pieces_with, fragment_with, i_ttl, joined_in, offering_in, offering_of, pieces_before}
-use Rattle.norm_engine.specs.Frames.{octets_sent, mended_frame, frame_by}
+use Rattle.norm_engine.specs.Fragments.{Offering, completes, datagram_made, head_of_whole, holds_offered, pieces_with, joined_in, offering_in, offering_of, pieces_before}
+use Rattle.norm_engine.specs.Frames.{octets_sent, frame_by}
 use Rattle.norm_engine.specs.Rows.{holds_tcp, is_segment, is_tcp}
 use Rattle.norm_engine.specs.Calls.{Past, datagram_after, datagram_by, past_of, segment_after, where_passes}
-use Rattle.norm_engine.specs.Trace.{Read, read_after, is_held, is_quoted_live, dropped_by, named_rows, noted_rows, outcome_of, frames_by, era_by, item_of}
+use Rattle.norm_engine.specs.Trace.{Read, read_after, is_held, is_quoted_live, dropped_by, named_rows, outcome_of, frames_by, era_by, item_of}
 use Rattle.norm_engine.specs.Clean.{HasOctets, HaveOctets}
 use Rattle.norm_engine.specs.Engine.{datagram_row, read_with}
 use Rattle.norm_engine.specs.Outgoing.{IsWholePacket, CarriesWhole, GoesOut}
 use Rattle.norm_engine.proofs.Reading.{behind}
-use Rattle.norm_engine.proofs.Stepping.{AreOfEra, segment_frames, segment_rules, plain_frames, nothing_noted}
-use Rattle.norm_engine.proofs.Joining.{IsCarried, IsEither, IsJoined, IsMade, bare_named, bare_row, carried, carried_in, joined, datagram_named_is, datagram_row_is, either_of, fragment_by, fragment_is, made_of, named_of_piece, row_of_piece}
-use Rattle.norm_engine.proofs.Judging.{few_parts, kept_as, not_nil, whole_frame}
+use Rattle.norm_engine.proofs.Stepping.{segment_frames, plain_frames}
+use Rattle.norm_engine.proofs.Joining.{IsEither, IsMade, bare_row, carried, joined, datagram_named_is, datagram_row_is, either_of, fragment_by, fragment_is, made_of, row_of_piece}
+use Rattle.norm_engine.proofs.Judging.{kept_as, not_nil, whole_frame}
 use Rattle.norm_engine.proofs.Keeping.{both_empty}
 use Rattle.norm_engine.proofs.Lawfuls.{RowsAreOfEras, both_of, datagram_known, link_kept, long_enough, not_short, segment_is}
 

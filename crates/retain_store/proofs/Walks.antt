@@ -1,7 +1,7 @@
 -- The cells of a chain, as the pool's calls ask for them, and a walk along them.
-use Rattle.std.proofs.Common.{◌≡◌, ℕ, ◌+◌, ◌<◌, ◌≤◌, List, [], ◌∷◌, ◌++◌, length, Option, Some, None, refl, sym, ap, ◌∙◌, arith, length-append, append_assoc}
+use Rattle.std.proofs.Common.{◌≡◌, ℕ, ◌+◌, ◌<◌, ◌≤◌, ◌≢◌, List, [], ◌∷◌, ◌++◌, length, Option, Some, None, refl, sym, ap, ◌∙◌, arith, length-append, append_assoc}
 use Rattle.cell_pool.specs.declared.cells.CellId.{CellId}
-use Rattle.cell_pool.specs.Lists.{Lists, Held, HasPlaceFor, BeginsAbove, EndsBelow, chain_at, first_id, last_id, Stands, IsHeld}
+use Rattle.cell_pool.specs.Lists.{Lists, Held, HasPlaceFor, BeginsAbove, EndsBelow, chain_at, first_id, last_id, Stands, StandsUpTo, IsHeld}
 use Rattle.cell_pool.proofs.Steps.{last_id-push, EndsBelow-push}
 use Rattle.retain_store.specs.Seats.{IsAt, IsAmong, IsCellOf, IsWalk}
 
@@ -125,6 +125,32 @@ from_cell among below next_is = record {
   next_is = next_is;
   count = omega arith;
 }
+
+-- a cell whose block number is not above this one
+module _ {pool : Lists} {c number : ℕ} {name : CellId} (at : StandsUpTo pool c number name) where
+  pub up_to_held : IsHeld pool name
+  up_to_held = record { chain = c; before = at.before; cell = at.cell; after = at.after; stands = at.stands }
+
+  abbrev among : IsAmong (chain_at pool c) name
+  among = record {
+    before = at.before;
+    cell = at.cell;
+    after = at.after;
+    at = record { splits = at.stands.splits; named = at.stands.named };
+  }
+
+  pub up_to_cell : at.cell.block ≡ number → IsCellOf (chain_at pool c) number name
+  up_to_cell same = record {
+    before = at.before;
+    cell = at.cell;
+    after = at.after;
+    at = among.at;
+    numbered = same;
+  }
+
+  pub up_to_walk : {next : Option CellId} → at.cell.block ≢ number → next ≡ first_id at.after →
+      IsWalk (chain_at pool c) number (Some name) next 0
+  up_to_walk other next_is = from_cell among (omega (arith, at.up_to)) next_is
 
 pub from_front : {cells : List Held} {number : ℕ} {next : Option CellId} → next ≡ first_id cells →
     IsWalk cells number None next 0

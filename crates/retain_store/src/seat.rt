@@ -13,7 +13,10 @@ pub(crate) enum Seat {
     After(Option<CellId>),
 }
 
-/// Finds the seat of a block. The walk begins at `near` where that cell is not past the block, else at the front.
+// So close to each other blocks are walked to from the cell used last.
+const CLOSE: u64 = 16;
+
+/// Finds the seat of a block. The walk begins at `near` where that cell is less than 16 blocks before, else at a landmark of the pool or at the front.
 pub(crate) fn seek(pool: &Pool, chain: ChainId, near: Option<CellId>, block: u64) -> Seat
     requires chain_in_range { chain.0 < length pool.now.chains }
     requires near_in_chain { IsNear (chain_at pool.now chain.0) near }
@@ -24,11 +27,26 @@ pub(crate) fn seek(pool: &Pool, chain: ChainId, near: Option<CellId>, block: u64
         if reached == block {
             return Seat::Cell(cell);
         }
-        if reached < block {
+        if reached < block && block - reached < CLOSE {
             return walk(pool, chain, near, pool.next_of(cell), block);
         }
     }
-    walk(pool, chain, None, pool.first(chain), block)
+    seek_far(pool, chain, block)
+}
+
+// Finds the seat of a block from a landmark, or from the front where none is before the block.
+#[inline(never)]
+fn seek_far(pool: &Pool, chain: ChainId, block: u64) -> Seat
+    requires { chain.0 < length pool.now.chains }
+    ensures { IsSeat (chain_at pool.now chain.0) block result }
+{
+    let Some(cell) = pool.landmark(chain, block) else {
+        return walk(pool, chain, None, pool.first(chain), block);
+    };
+    if pool.block(cell) == block {
+        return Seat::Cell(cell);
+    }
+    walk(pool, chain, Some(cell), pool.next_of(cell), block)
 }
 
 // Walks on to the block, from behind the cell `after` to `next` and the cells that follow.

@@ -47,6 +47,20 @@ fn calls_at_the_end_of_a_long_chain_walk_nothing(rt: HostRuntime) -> Result<(), 
     Ok(())
 }
 
+#[test]
+fn calls_anywhere_in_a_long_chain_walk_little(rt: HostRuntime) -> Result<(), Fail> {
+    let mut store = Retain::open(rt.alloc(), 65_536, 1)?;
+    // Each block comes far from the one before, and stands far from its neighbours.
+    for index in 0..65_536 {
+        let from = 16_384 * (40_503 * index % 65_536);
+        assert_eq!(rt; store.need(ChainId(0), from, 1), 1);
+        assert!(rt; store.free() >= 1);
+        store.place(ChainId(0), from, b"a");
+    }
+    assert_eq!(rt; store.free(), 0);
+    Ok(())
+}
+
 // Numbers of a fixed pattern.
 #[derive(Drop)]
 struct Pattern(u64);
