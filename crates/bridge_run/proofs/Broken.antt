@@ -3,11 +3,20 @@ use Rattle.std.proofs.Common.{◌≡◌, ℕ, ◌<◌, List, [], ◌∷◌, ◌+
 use Rattle.std.proofs.Math.Seq.{take-length}
 use Rattle.std.specs.Io.KnownBytes.{Appends}
 use Rattle.rule_book.specs.declared.last.StopKind.TheVariants as kinds
+use Rattle.bridge_run.specs.declared.stop.Stop.{Stop}
 use Rattle.bridge_run.specs.declared.stop.Stop.TheVariants as stops
-use Rattle.bridge_run.specs.Moments.{Sinks}
-use Rattle.bridge_run.specs.Outputs.{Output, to_capture, to_report, capture_hands_on, report_hands_on, cut, CanFail, capture_part, report_part, Given, BreaksOff, stop_at}
+use Rattle.record_relay.specs.Outputs.{Output, to_capture, to_report, capture_hands_on, report_hands_on, cut, CanFail, capture_part, report_part, Given, fault_at}
+use Rattle.record_relay.specs.Sinks.{Sinks}
+use Rattle.bridge_run.specs.Outputs.{BreaksOff, stop_by}
 use Rattle.bridge_run.specs.Rows.{GivenUpTo}
 use Rattle.bridge_run.proofs.Outputs.{capture_part-append, report_part-append}
+
+-- how a run stops where this output failed, at this offset
+abbrev pub stop_at : Output → (offset : ℕ) → Stop
+stop_at output offset = stop_by (fault_at output) offset
+
+answered : (behind next : List Output) (offset : ℕ) (stop : Stop) (a c : Sinks) (p : BreaksOff behind next offset stop a c) → stop ≡ stop_at p.broke.failed offset
+answered behind next offset stop a c p = p.answered ∙ ap (λ f. stop_by f offset) p.broke.answered
 
 -- the first of these outputs failed, or it was given and a later one failed
 pub data Fails (x : Output) (next whole : List Output) (failed : Output) (others : List Output) : Type 0 where
@@ -68,7 +77,7 @@ same_place offset place e = cc
 
 -- outputs for the report alone do not stop a run by a fault of the capture
 pub no_capture : (behind next : List Output) → ForReport next → (offset place : ℕ) (a c : Sinks) → BreaksOff behind next offset (stops.At kinds.Capture place) a c → ⊥
-no_capture behind next only offset place a c p = apart place (p.answered ∙ report_fails next only p.whole p.failed p.others offset p.are)
+no_capture behind next only offset place a c p = apart place (answered _ _ offset _ a c p ∙ report_fails next only p.broke.whole p.broke.failed p.broke.others offset p.broke.are)
 
 -- the capture failed at octets that come first
 pub record CaptureFails (behind : List Output) (x : List ℕ) (offset place : ℕ) (a c : Sinks) : Type 0 where
@@ -80,16 +89,16 @@ pub record CaptureFails (behind : List Output) (x : List ℕ) (offset place : �
 pub capture_fails : (behind : List Output) (x : List ℕ) (next : List Output) → ForReport next → (offset place : ℕ) (a c : Sinks) → BreaksOff behind (to_capture x ∷ next) offset (stops.At kinds.Capture place) a c
     → CaptureFails behind x offset place a c
 capture_fails behind x next only offset place a c p =
-    elim (fails (to_capture x) next p.whole p.failed p.others p.are) [
+    elim (fails (to_capture x) next p.broke.whole p.broke.failed p.broke.others p.broke.are) [
       | now w f ↦
-          let g = given_up_to behind p.whole [] p.failed (to_capture x) p.count a c w f p.given in
+          let g = given_up_to behind p.broke.whole [] p.broke.failed (to_capture x) p.broke.count a c w f p.broke.given in
           record {
-            here = same_place offset place (p.answered ∙ ap (λ o. stop_at o offset) f);
-            some = subst (λ o. CanFail o c) f p.can_fail;
-            capture = record { count = p.count; given = subst (λ l. Appends a.capture.octets c.capture.octets (capture_part behind ++ l)) (append-nil (take p.count x)) g.0 };
+            here = same_place offset place (answered _ _ offset _ a c p ∙ ap (λ o. stop_at o offset) f);
+            some = subst (λ o. CanFail o c) f p.broke.can_fail;
+            capture = record { count = p.broke.count; given = subst (λ l. Appends a.capture.octets c.capture.octets (capture_part behind ++ l)) (append-nil (take p.broke.count x)) g.0 };
             report = subst (Appends a.report.octets c.report.octets) (append-nil (report_part behind)) g.1;
           }
-      | later more w e ↦ absurd (apart place (p.answered ∙ report_fails next only more p.failed p.others offset e))
+      | later more w e ↦ absurd (apart place (answered _ _ offset _ a c p ∙ report_fails next only more p.broke.failed p.broke.others offset e))
     ]
 
 -- the capture could not hand on what it keeps back
@@ -100,36 +109,36 @@ pub record HandingFails (behind : List Output) (offset place : ℕ) (a c : Sinks
 
 pub handing_fails : (behind next : List Output) → ForReport next → (offset place : ℕ) (a c : Sinks) → BreaksOff behind (capture_hands_on ∷ next) offset (stops.At kinds.Capture place) a c → HandingFails behind offset place a c
 handing_fails behind next only offset place a c p =
-    elim (fails capture_hands_on next p.whole p.failed p.others p.are) [
+    elim (fails capture_hands_on next p.broke.whole p.broke.failed p.broke.others p.broke.are) [
       | now w f ↦
-          let g = given_up_to behind p.whole [] p.failed capture_hands_on p.count a c w f p.given in
+          let g = given_up_to behind p.broke.whole [] p.broke.failed capture_hands_on p.broke.count a c w f p.broke.given in
           record {
-            here = same_place offset place (p.answered ∙ ap (λ o. stop_at o offset) f);
-            untold = subst (λ o. CanFail o c) f p.can_fail;
+            here = same_place offset place (answered _ _ offset _ a c p ∙ ap (λ o. stop_at o offset) f);
+            untold = subst (λ o. CanFail o c) f p.broke.can_fail;
             report = subst (Appends a.report.octets c.report.octets) (append-nil (report_part behind)) g.1;
           }
-      | later more w e ↦ absurd (apart place (p.answered ∙ report_fails next only more p.failed p.others offset e))
+      | later more w e ↦ absurd (apart place (answered _ _ offset _ a c p ∙ report_fails next only more p.broke.failed p.broke.others offset e))
     ]
 
 -- the report failed at octets that come first
 pub first_fails : (behind : List Output) (y : List ℕ) (offset : ℕ) (a c : Sinks) → BreaksOff behind (to_report y ∷ []) offset stops.Report a c
     → Appends a.capture.octets c.capture.octets (capture_part behind) × GivenUpTo (report_part behind) y a.report.octets c.report.octets
 first_fails behind y offset a c p =
-    elim (fails (to_report y) [] p.whole p.failed p.others p.are) [
+    elim (fails (to_report y) [] p.broke.whole p.broke.failed p.broke.others p.broke.are) [
       | now w f ↦
-          let g = given_up_to behind p.whole [] p.failed (to_report y) p.count a c w f p.given in (
+          let g = given_up_to behind p.broke.whole [] p.broke.failed (to_report y) p.broke.count a c w f p.broke.given in (
             subst (Appends a.capture.octets c.capture.octets) (append-nil (capture_part behind)) g.0,
-            record { count = p.count; given = subst (λ l. Appends a.report.octets c.report.octets (report_part behind ++ l)) (append-nil (take p.count y)) g.1 },
+            record { count = p.broke.count; given = subst (λ l. Appends a.report.octets c.report.octets (report_part behind ++ l)) (append-nil (take p.broke.count y)) g.1 },
           )
-      | later more w e ↦ absurd (none_fails more p.failed p.others e)
+      | later more w e ↦ absurd (none_fails more p.broke.failed p.broke.others e)
     ]
 
 -- octets for the capture alone do not stop a run by a fault of the report
 pub no_report : (behind : List Output) (x : List ℕ) (offset : ℕ) (a c : Sinks) → BreaksOff behind (to_capture x ∷ []) offset stops.Report a c → ⊥
 no_report behind x offset a c p =
-    elim (fails (to_capture x) [] p.whole p.failed p.others p.are) [
-      | now w f ↦ apart offset (sym (p.answered ∙ ap (λ o. stop_at o offset) f))
-      | later more w e ↦ none_fails more p.failed p.others e
+    elim (fails (to_capture x) [] p.broke.whole p.broke.failed p.broke.others p.broke.are) [
+      | now w f ↦ apart offset (sym (answered _ _ offset _ a c p ∙ ap (λ o. stop_at o offset) f))
+      | later more w e ↦ none_fails more p.broke.failed p.broke.others e
     ]
 
 -- at most the report hands on
@@ -153,20 +162,20 @@ module _ (behind next : List Output) (first : Output) (x y : List ℕ) (offset :
   pub line_fails : BreaksOff behind (first ∷ to_report y ∷ next) offset stops.Report a c
       → Appends a.capture.octets c.capture.octets (capture_part behind ++ x) × GivenUpTo (report_part behind) y a.report.octets c.report.octets
   line_fails p =
-      elim (fails first (to_report y ∷ next) p.whole p.failed p.others p.are) [
-        | now w f ↦ absurd (apart offset (sym (p.answered ∙ ap (λ o. stop_at o offset) f ∙ stopped)))
+      elim (fails first (to_report y ∷ next) p.broke.whole p.broke.failed p.broke.others p.broke.are) [
+        | now w f ↦ absurd (apart offset (sym (answered _ _ offset _ a c p ∙ ap (λ o. stop_at o offset) f ∙ stopped)))
         | later more w e ↦
-            elim (fails (to_report y) next more p.failed p.others e) [
+            elim (fails (to_report y) next more p.broke.failed p.broke.others e) [
               | now w' f ↦
-                  let known : List Output = to_report (take p.count y) ∷ [] in
-                  let g = given_up_to behind p.whole (first ∷ []) p.failed (to_report y) p.count a c (w ∙ ap (λ m. first ∷ m) w') f p.given in (
+                  let known : List Output = to_report (take p.broke.count y) ∷ [] in
+                  let g = given_up_to behind p.broke.whole (first ∷ []) p.broke.failed (to_report y) p.broke.count a c (w ∙ ap (λ m. first ∷ m) w') f p.broke.given in (
                     subst (λ l. Appends a.capture.octets c.capture.octets (capture_part behind ++ l)) (gives known ∙ append-nil x) g.0,
-                    record { count = p.count; given = subst (λ l. Appends a.report.octets c.report.octets (report_part behind ++ l)) (says known ∙ append-nil (take p.count y)) g.1 },
+                    record { count = p.broke.count; given = subst (λ l. Appends a.report.octets c.report.octets (report_part behind ++ l)) (says known ∙ append-nil (take p.broke.count y)) g.1 },
                   )
               | later rest w' e' ↦
-                  let last = hands rest p.failed p.others e' in
+                  let last = hands rest p.broke.failed p.broke.others e' in
                   let known : List Output = to_report y ∷ report_hands_on ∷ [] in
-                  let g = given_up_to behind p.whole (first ∷ to_report y ∷ []) p.failed report_hands_on p.count a c (w ∙ ap (λ m. first ∷ m) (w' ∙ ap (λ m. to_report y ∷ m) last.0)) last.1 p.given in (
+                  let g = given_up_to behind p.broke.whole (first ∷ to_report y ∷ []) p.broke.failed report_hands_on p.broke.count a c (w ∙ ap (λ m. first ∷ m) (w' ∙ ap (λ m. to_report y ∷ m) last.0)) last.1 p.broke.given in (
                     subst (λ l. Appends a.capture.octets c.capture.octets (capture_part behind ++ l)) (gives known ∙ append-nil x) g.0,
                     record {
                       count = length y;

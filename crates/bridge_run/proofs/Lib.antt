@@ -1,6 +1,5 @@
-pub mod OneSided
 pub mod Outputs
-pub mod Writing
+pub mod Asking
 pub mod Running
 pub mod Reading
 pub mod Statuses
@@ -9,6 +8,3 @@ pub mod Broken
 pub mod Rows
 pub mod Tallying
 pub mod Loading
-pub mod Cutting
-pub mod Writtens
-pub mod Relaying

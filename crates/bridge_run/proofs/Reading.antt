@@ -1,30 +1,35 @@
 -- Which stop is answered where the input or a sink fails, and what then stands.
-use Rattle.std.proofs.Common.{◌≡◌, ◌==◌, ℕ, true, false, refl, sym, subst, ◌∙◌}
+use Rattle.std.proofs.Common.{◌≡◌, ◌==◌, ℕ, true, false, refl, sym, subst, ◌∙◌, inl}
 use Rattle.edge_io.specs.Faults.{Rose}
 use Rattle.capture_input.specs.declared.fault.InputFault.{InputFault}
 use Rattle.capture_input.specs.declared.fault.InputFault.TheVariants as faults
 use Rattle.capture_input.specs.Faults.{is_read_fault}
 use Rattle.norm_settings.specs.Settings.{PlainSettings}
 use Rattle.bridge_run.specs.declared.stop.Stop.{Stop}
-use Rattle.bridge_run.specs.Moments.{Seen, Moment, NoneRose, NoSinkRose}
-use Rattle.bridge_run.specs.Outputs.{Output, to_capture, to_report, capture_hands_on, report_hands_on, stop_at}
+use Rattle.record_relay.specs.declared.fault.RelayFault.{RelayFault}
+use Rattle.record_relay.specs.declared.fault.RelayFault.TheVariants as sinks
+use Rattle.record_relay.specs.Sinks.{NoSinkRose, OnlyRose}
+use Rattle.bridge_run.specs.Moments.{Moment, NoneRose}
+use Rattle.bridge_run.specs.Outputs.{stop_by}
 use Rattle.bridge_run.specs.Stops.{Faulted, FirstFault, status_of, stop_at_fault}
 use Rattle.bridge_run.specs.Stopped.{Faulty, Stands, Unwritten}
 
 -- the sinks
 
-pub stands_unwritten : (settings : PlainSettings) (stop : Stop) (failed : Output) (offset : ℕ) (a c : Moment) → stop ≡ stop_at failed offset → Unwritten settings stop a c → Stands settings stop a c
-stands_unwritten settings stop (to_capture octets) offset a c is p = subst (λ (s : Stop). Stands settings s a c) (sym is) (subst (λ (s : Stop). Unwritten settings s a c) is p)
-stands_unwritten settings stop (to_report octets) offset a c is p = subst (λ (s : Stop). Stands settings s a c) (sym is) (subst (λ (s : Stop). Unwritten settings s a c) is p)
-stands_unwritten settings stop capture_hands_on offset a c is p = subst (λ (s : Stop). Stands settings s a c) (sym is) (subst (λ (s : Stop). Unwritten settings s a c) is p)
-stands_unwritten settings stop report_hands_on offset a c is p = subst (λ (s : Stop). Stands settings s a c) (sym is) (subst (λ (s : Stop). Unwritten settings s a c) is p)
+pub stands_unwritten : (settings : PlainSettings) (stop : Stop) (fault : RelayFault) (offset : ℕ) (a c : Moment) → stop ≡ stop_by fault offset → Unwritten settings stop a c → Stands settings stop a c
+stands_unwritten settings stop sinks.Capture offset a c is p = subst (λ (s : Stop). Stands settings s a c) (sym is) (subst (λ (s : Stop). Unwritten settings s a c) is p)
+stands_unwritten settings stop sinks.Report offset a c is p = subst (λ (s : Stop). Stands settings s a c) (sym is) (subst (λ (s : Stop). Unwritten settings s a c) is p)
 
--- a fault of a sink is none of the source
-pub source_kept : (stop : Stop) (failed : Output) (offset : ℕ) (a c : Seen) → stop ≡ stop_at failed offset → c.faults ≡ a.faults → Faulted (status_of stop == 5) a c
-source_kept stop (to_capture octets) offset a c is p = subst (λ (s : Stop). Faulted (status_of s == 5) a c) (sym is) p
-source_kept stop (to_report octets) offset a c is p = subst (λ (s : Stop). Faulted (status_of s == 5) a c) (sym is) p
-source_kept stop capture_hands_on offset a c is p = subst (λ (s : Stop). Faulted (status_of s == 5) a c) (sym is) p
-source_kept stop report_hands_on offset a c is p = subst (λ (s : Stop). Faulted (status_of s == 5) a c) (sym is) p
+-- the first fault is that of the sink that failed
+pub first_at_sink : (fault : RelayFault) (offset : ℕ) (a b c : Moment) → NoneRose a b → c.source.faults ≡ b.source.faults → OnlyRose fault b.sinks c.sinks → FirstFault (stop_by fault offset) a c
+first_at_sink sinks.Capture offset a b c none kept rose = record {
+  source = kept ∙ none.source;
+  sinks = record { capture = subst (λ n. Rose n c.sinks.capture.faults) none.sinks.capture rose.0; report = rose.1 ∙ none.sinks.report };
+}
+first_at_sink sinks.Report offset a b c none kept rose = record {
+  source = kept ∙ none.source;
+  sinks = record { capture = rose.0 ∙ none.sinks.capture; report = subst (λ n. Rose n c.sinks.report.faults) none.sinks.report rose.1 };
+}
 
 -- the input
 
@@ -35,7 +40,7 @@ stands_faulty settings faults.Version offset a c p = p
 stands_faulty settings faults.Link offset a c p = p
 stands_faulty settings faults.Block offset a c p = p
 stands_faulty settings faults.Long offset a c p = p
-stands_faulty settings faults.Many offset a c p = p
+stands_faulty settings faults.Many offset a c p = inl p
 stands_faulty settings faults.ReadFault offset a c p = p
 
 -- the first fault is that of the source, where it failed, and otherwise there is none

@@ -3,28 +3,31 @@ use Rattle.std.proofs.Common.{◌≡◌, ℕ, ◌<◌, ◌==◌, List, [], ◌�
 use Rattle.std.proofs.Math.Seq.{take-nil}
 use Rattle.std.proofs.KnownBytes.{Appends-trans}
 use Rattle.std.specs.Io.KnownBytes.{Appends}
+use Rattle.std.specs.List.{flat_map}
 use Rattle.edge_io.specs.Faults.{Rose}
 use Rattle.pcap_file.specs.declared.head.Head.{Head}
 use Rattle.pcap_file.specs.declared.order.Order.{Order}
 use Rattle.pcap_file.specs.Heads.{head_octets}
+use Rattle.pcap_file.specs.Records.{record_octets}
 use Rattle.capture_input.specs.declared.fault.InputFault.{InputFault}
 use Rattle.capture_input.specs.declared.fault.InputFault.TheVariants as faults
 use Rattle.capture_input.specs.Inputs.{newest_place, place_behind, Took, TakenWhole}
 use Rattle.capture_input.specs.Reads.{StopsInHead, StopsAt}
 use Rattle.rule_book.specs.declared.last.Last.TheVariants as last
 use Rattle.rule_book.specs.declared.last.StopKind.TheVariants as kinds
-use Rattle.rule_book.specs.Text.{entry_text, last_text}
+use Rattle.rule_book.specs.Text.{last_text}
 use Rattle.norm_settings.specs.Settings.{PlainSettings}
-use Rattle.norm_engine.specs.Items.{Item}
+use Rattle.record_relay.specs.Outputs.{to_capture, to_report, capture_hands_on, report_hands_on, heading, capture_part, report_part}
+use Rattle.record_relay.specs.Puts.{Put, count_put, next_put, octets_put, put_octets, puts}
+use Rattle.record_relay.specs.Runs.{packets_of}
+use Rattle.record_relay.specs.Sinks.{Seen}
 use Rattle.bridge_run.specs.declared.stop.Stop.{Stop}
 use Rattle.bridge_run.specs.declared.stop.Stop.TheVariants as stops
-use Rattle.bridge_run.specs.Frames.{frame_octets, frames_octets, item_octets, frame_count}
-use Rattle.bridge_run.specs.Cut.{item_written, written}
-use Rattle.bridge_run.specs.Moments.{Seen, Moment}
-use Rattle.bridge_run.specs.Outputs.{to_capture, to_report, capture_hands_on, report_hands_on, heading, first_outputs, outputs_of, capture_part, report_part}
+use Rattle.bridge_run.specs.Moments.{Moment}
+use Rattle.bridge_run.specs.Outputs.{first_outputs, outputs_of}
 use Rattle.bridge_run.specs.Stops.{FirstFault, Told, fault_kind, status_of, stop_line, memory_line}
-use Rattle.bridge_run.specs.Stopped.{Stands, Faulty, Unwritten, StopsAtHead, StopsAtRecord, Stopped, StoppedUnder, LoadStopped, Finishes, SaysOnly}
-use Rattle.bridge_run.specs.Rows.{Says, GivenUpTo, stop_of, capture_octets, report_octets, EndsAtHead, EndsAtRecord, EndsAtFault, EndsFaulty, EndsCut, EndsUnread, EndsUnwritten, EndsUntold, EndsRefused, EndsSummed, EndsSummedInPart, UnderWords, UnderLoad}
+use Rattle.bridge_run.specs.Stopped.{Stands, Faulty, Unwritten, StopsAtHead, StopsAtRecord, StopsAtTooMany, Stopped, StoppedUnder, LoadStopped, Finishes, SaysOnly}
+use Rattle.bridge_run.specs.Rows.{Says, GivenUpTo, stop_of, capture_octets, report_octets, EndsAtHead, EndsAtRecord, EndsAtFault, EndsByFault, EndsByTooMany, EndsFaulty, EndsCut, EndsUnread, EndsUnwritten, EndsUntold, EndsRefused, EndsSummed, EndsSummedInPart, UnderWords, UnderLoad}
 use Rattle.bridge_run.proofs.Outputs.{capture_is, report_is}
 use Rattle.bridge_run.proofs.Broken.{no_capture, capture_fails, first_fails, handing_fails, no_report, line_fails, nothing, handing}
 use Rattle.bridge_run.proofs.Statuses.{known_of}
@@ -43,9 +46,9 @@ told_none None new octets p e = refl
 told_none (Some x) new octets p e = absurd (subst (λ s. Appends (Some x) s octets) e p)
 
 -- a record of which octets are written has a frame
-framed : (order : Order) (item : Item) → 0 < length (item_octets order item) → 0 < length item.frames
-framed order item some = by item.frames some where
-  by : (frames : List (List ℕ)) → 0 < length (frame_octets order item.packet frames) → 0 < length frames
+framed : (order : Order) (put : Put) → 0 < length (put_octets order put) → 0 < length put.frames
+framed order put some = by put.frames some where
+  by : (frames : List (List ℕ)) → 0 < length (flat_map (λ frame. record_octets order put.seconds put.fraction frame) frames) → 0 < length frames
   by [] some = some
   by (frame ∷ frames) some = omega arith
 
@@ -74,33 +77,36 @@ module _ (settings : PlainSettings) (b a n : Moment) where
     offset = offset;
     taken = subst (λ (s : Seen). StopsInHead settings.inside b.source.octets s.octets fault offset) (sym behind.source) p.found;
     capture = subst (λ s. Appends b.sinks.capture.octets s []) (sym behind.capture) p.given.capture;
-    report = says heading (stop_of (fault_kind fault) offset) b.sinks.report a.sinks.report n.sinks.report
-        (subst (Appends b.sinks.report.octets a.sinks.report.octets) (append-nil heading) p.given.report) same told;
+    report = says (heading settings.both) (stop_of (fault_kind fault) offset) b.sinks.report a.sinks.report n.sinks.report
+        (subst (Appends b.sinks.report.octets a.sinks.report.octets) (append-nil (heading settings.both)) p.given.report) same told;
   }
 
-  -- what was given of a trace
-  capture_given : (head : Head) (trace : List Item) → Appends b.sinks.capture.octets a.sinks.capture.octets (capture_part (outputs_of head trace)) → Behind
-      → Appends b.sinks.capture.octets n.sinks.capture.octets (capture_octets head trace)
-  capture_given head trace given behind =
-      subst (λ s. Appends b.sinks.capture.octets s (capture_octets head trace)) (sym behind.capture) (subst (Appends b.sinks.capture.octets a.sinks.capture.octets) (capture_is head trace) given)
+  -- what was given of a run
+  capture_given : (head : Head) (out : List Put) → Appends b.sinks.capture.octets a.sinks.capture.octets (capture_part (outputs_of settings.both head out)) → Behind
+      → Appends b.sinks.capture.octets n.sinks.capture.octets (capture_octets head out)
+  capture_given head out given behind =
+      subst (λ s. Appends b.sinks.capture.octets s (capture_octets head out)) (sym behind.capture)
+      (subst (Appends b.sinks.capture.octets a.sinks.capture.octets) (capture_is settings.both head out) given)
 
-  report_given : (head : Head) (trace : List Item) → Appends b.sinks.report.octets a.sinks.report.octets (report_part (outputs_of head trace)) → Appends b.sinks.report.octets a.sinks.report.octets (report_octets trace)
-  report_given head trace given = subst (Appends b.sinks.report.octets a.sinks.report.octets) (report_is head trace) given
+  report_given : (head : Head) (out : List Put) → Appends b.sinks.report.octets a.sinks.report.octets (report_part (outputs_of settings.both head out))
+      → Appends b.sinks.report.octets a.sinks.report.octets (report_octets settings.both out)
+  report_given head out given = subst (Appends b.sinks.report.octets a.sinks.report.octets) (report_is settings.both head out) given
 
   ends_at_record : (fault : InputFault) (offset : ℕ) → Behind → StopsAtRecord settings fault offset b a → a.sinks.report.faults ≡ b.sinks.report.faults
       → Told a.sinks.report.octets n.sinks.report.octets a.sinks.report.faults n.sinks.report.faults (stop_of (fault_kind fault) offset) → EndsAtRecord settings fault b n
   ends_at_record fault offset behind p same told = record {
     head = p.head;
-    trace = p.trace;
+    run = p.run;
     lawful = p.lawful;
+    few = p.few;
     walk = p.walk;
     packets_are = p.packets_are;
     left = p.left;
     took = p.took;
     taken = subst (λ (s : Seen). StopsAt settings.inside p.head p.walk p.left s.octets fault) (sym behind.source) p.found;
-    capture = capture_given p.head (written settings p.head.link p.trace) p.given.capture behind;
-    report = says (report_octets (written settings p.head.link p.trace)) (stop_of (fault_kind fault) (place_behind p.walk)) b.sinks.report a.sinks.report n.sinks.report
-        (report_given p.head (written settings p.head.link p.trace) p.given.report) same
+    capture = capture_given p.head (puts settings p.head.link p.run) p.given.capture behind;
+    report = says (report_octets settings.both (puts settings p.head.link p.run)) (stop_of (fault_kind fault) (place_behind p.walk)) b.sinks.report a.sinks.report n.sinks.report
+        (report_given p.head (puts settings p.head.link p.run) p.given.report) same
         (subst (λ o. Told a.sinks.report.octets n.sinks.report.octets a.sinks.report.faults n.sinks.report.faults (stop_of (fault_kind fault) o)) p.place told);
   }
 
@@ -111,13 +117,34 @@ module _ (settings : PlainSettings) (b a n : Moment) where
   faulty_row fault offset behind (inl p) same told = inl (ends_at_head fault offset behind p same told)
   faulty_row fault offset behind (inr p) same told = inr (ends_at_record fault offset behind p same told)
 
+  -- one record came more than may
+
+  too_many_row : (offset : ℕ) → Behind → StopsAtTooMany settings offset b a → a.sinks.report.faults ≡ b.sinks.report.faults
+      → Told a.sinks.report.octets n.sinks.report.octets a.sinks.report.faults n.sinks.report.faults (stop_of kinds.Many offset) → EndsByTooMany settings b n
+  too_many_row offset behind p same told = record {
+    both = p.both;
+    head = p.head;
+    run = p.run;
+    lawful = p.lawful;
+    full = p.full;
+    packet = p.packet;
+    walk = p.walk;
+    packets_are = p.packets_are;
+    ends = p.ends;
+    took = subst (λ (s : Seen). Took settings.inside b.source.octets s.octets p.head p.walk) (sym behind.source) p.took;
+    capture = capture_given p.head (puts settings p.head.link p.run) p.given.capture behind;
+    report = says (report_octets settings.both (puts settings p.head.link p.run)) (stop_of kinds.Many (newest_place p.walk)) b.sinks.report a.sinks.report n.sinks.report
+        (report_given p.head (puts settings p.head.link p.run) p.given.report) same
+        (subst (λ o. Told a.sinks.report.octets n.sinks.report.octets a.sinks.report.faults n.sinks.report.faults (stop_of kinds.Many o)) p.place told);
+  }
+
   -- the capture failed
 
   unwritten_row : (offset : ℕ) → Behind → Unwritten settings (stops.At kinds.Capture offset) b a → a.sinks.report.faults ≡ b.sinks.report.faults
       → Told a.sinks.report.octets n.sinks.report.octets a.sinks.report.faults n.sinks.report.faults (stop_of kinds.Capture offset) → EndsUnwritten settings b n
-  unwritten_row offset behind (inl p) same told = absurd (no_capture [] first_outputs tt 0 offset b.sinks a.sinks p.broke)
+  unwritten_row offset behind (inl p) same told = absurd (no_capture [] (first_outputs settings.both) tt 0 offset b.sinks a.sinks p.broke)
   unwritten_row offset behind (inr (inl p)) same told =
-      let f = capture_fails first_outputs (head_octets p.head) [] tt 0 offset b.sinks a.sinks p.broke in
+      let f = capture_fails (first_outputs settings.both) (head_octets p.head) [] tt 0 offset b.sinks a.sinks p.broke in
       inl (record {
         head = p.head;
         walk = p.walk;
@@ -125,42 +152,44 @@ module _ (settings : PlainSettings) (b a n : Moment) where
         ends = p.ends;
         took = subst (λ (s : Seen). Took settings.inside b.source.octets s.octets p.head p.walk) (sym behind.source) p.took;
         capture = subst (λ s. GivenUpTo [] (head_octets p.head) b.sinks.capture.octets s) (sym behind.capture) f.capture;
-        report = says heading (stop_of kinds.Capture 0) b.sinks.report a.sinks.report n.sinks.report (subst (Appends b.sinks.report.octets a.sinks.report.octets) (append-nil heading) f.report) same
+        report = says (heading settings.both) (stop_of kinds.Capture 0) b.sinks.report a.sinks.report n.sinks.report (subst (Appends b.sinks.report.octets a.sinks.report.octets) (append-nil (heading settings.both)) f.report) same
             (subst (λ o. Told a.sinks.report.octets n.sinks.report.octets a.sinks.report.faults n.sinks.report.faults (stop_of kinds.Capture o)) f.here told);
       })
   unwritten_row offset behind (inr (inr (inl p))) same told =
-      let older = written settings p.head.link p.older in
-      let out = item_written settings.mtu p.head.link p.item in
-      let f = capture_fails (outputs_of p.head older) (item_octets p.head.order out) (to_report (entry_text out.entry) ∷ []) tt (newest_place p.walk) offset b.sinks a.sinks p.broke in
+      let older = puts settings p.head.link p.older in
+      let out = next_put settings p.head.link p.older p.packet in
+      let f = capture_fails (outputs_of settings.both p.head older) (put_octets p.head.order out) (to_report out.text ∷ []) tt (newest_place p.walk) offset b.sinks a.sinks p.broke in
       inr (inl (record {
         head = p.head;
-        item = p.item;
+        packet = p.packet;
         older = p.older;
         lawful = p.lawful;
+        few = p.few;
         walk = p.walk;
         packets_are = p.packets_are;
         ends = p.ends;
         took = subst (λ (s : Seen). Took settings.inside b.source.octets s.octets p.head p.walk) (sym behind.source) p.took;
         has_frame = framed p.head.order out f.some;
-        capture = subst (λ l. GivenUpTo l (item_octets p.head.order out) b.sinks.capture.octets n.sinks.capture.octets) (capture_is p.head older)
-            (subst (λ s. GivenUpTo (capture_part (outputs_of p.head older)) (item_octets p.head.order out) b.sinks.capture.octets s) (sym behind.capture) f.capture);
-        report = says (report_octets older) (stop_of kinds.Capture (newest_place p.walk)) b.sinks.report a.sinks.report n.sinks.report (report_given p.head older f.report) same
+        capture = subst (λ l. GivenUpTo l (put_octets p.head.order out) b.sinks.capture.octets n.sinks.capture.octets) (capture_is settings.both p.head older)
+            (subst (λ s. GivenUpTo (capture_part (outputs_of settings.both p.head older)) (put_octets p.head.order out) b.sinks.capture.octets s) (sym behind.capture) f.capture);
+        report = says (report_octets settings.both older) (stop_of kinds.Capture (newest_place p.walk)) b.sinks.report a.sinks.report n.sinks.report (report_given p.head older f.report) same
             (subst (λ o. Told a.sinks.report.octets n.sinks.report.octets a.sinks.report.faults n.sinks.report.faults (stop_of kinds.Capture o)) f.here told);
       }))
   unwritten_row offset behind (inr (inr (inr p))) same told =
-      let out = written settings p.head.link p.trace in
-      let line = last_text (last.End (length p.trace) (frame_count out)) in
-      let f = handing_fails (outputs_of p.head out) (to_report line ∷ report_hands_on ∷ []) tt (place_behind p.walk) offset b.sinks a.sinks p.broke in
+      let out = puts settings p.head.link p.run in
+      let line = last_text (last.End (length (packets_of p.run)) (count_put out)) in
+      let f = handing_fails (outputs_of settings.both p.head out) (to_report line ∷ report_hands_on ∷ []) tt (place_behind p.walk) offset b.sinks a.sinks p.broke in
       inr (inr (record {
         head = p.head;
-        trace = p.trace;
+        run = p.run;
         lawful = p.lawful;
+        few = p.few;
         walk = p.walk;
         packets_are = p.packets_are;
         took = subst (λ (s : Seen). Took settings.inside b.source.octets s.octets p.head p.walk) (sym behind.source) p.took;
         taken = subst (λ (s : Seen). TakenWhole b.source.octets s.octets) (sym behind.source) p.taken;
-        untold = told_none b.sinks.capture.octets a.sinks.capture.octets _ p.broke.given.capture f.untold;
-        report = says (report_octets out) (stop_of kinds.Capture (place_behind p.walk)) b.sinks.report a.sinks.report n.sinks.report (report_given p.head out f.report) same
+        untold = told_none b.sinks.capture.octets a.sinks.capture.octets _ p.broke.broke.given.capture f.untold;
+        report = says (report_octets settings.both out) (stop_of kinds.Capture (place_behind p.walk)) b.sinks.report a.sinks.report n.sinks.report (report_given p.head out f.report) same
             (subst (λ o. Told a.sinks.report.octets n.sinks.report.octets a.sinks.report.faults n.sinks.report.faults (stop_of kinds.Capture o)) f.here told);
       }))
 
@@ -168,47 +197,49 @@ module _ (settings : PlainSettings) (b a n : Moment) where
 
   untold_row : Behind → Unwritten settings stops.Report b a → Told a.sinks.report.octets n.sinks.report.octets a.sinks.report.faults n.sinks.report.faults [] → EndsUntold settings b n
   untold_row behind (inl p) told =
-      let f = first_fails [] heading 0 b.sinks a.sinks p.broke in
+      let f = first_fails [] (heading settings.both) 0 b.sinks a.sinks p.broke in
       inl (record {
         untaken = ap (λ (s : Seen). s.octets) behind.source ∙ p.untaken;
         capture = subst (λ s. Appends b.sinks.capture.octets s []) (sym behind.capture) f.0;
-        report = quiet [] heading b.sinks.report a.sinks.report n.sinks.report f.1 told;
+        report = quiet [] (heading settings.both) b.sinks.report a.sinks.report n.sinks.report f.1 told;
       })
-  untold_row behind (inr (inl p)) told = absurd (no_report first_outputs (head_octets p.head) 0 b.sinks a.sinks p.broke)
+  untold_row behind (inr (inl p)) told = absurd (no_report (first_outputs settings.both) (head_octets p.head) 0 b.sinks a.sinks p.broke)
   untold_row behind (inr (inr (inl p))) told =
-      let older = written settings p.head.link p.older in
-      let out = item_written settings.mtu p.head.link p.item in
-      let octets = item_octets p.head.order out in
-      let line = entry_text out.entry in
-      let f = line_fails (outputs_of p.head older) [] (to_capture octets) octets line (newest_place p.walk) b.sinks a.sinks (λ more. refl) (λ more. refl) refl nothing p.broke in
-      let all : capture_part (outputs_of p.head older) ++ octets ≡ capture_octets p.head (out ∷ older) =
-      ap (λ l. l ++ octets) (capture_is p.head older) ∙ append_assoc (head_octets p.head) (frames_octets p.head.order older) octets in
+      let older = puts settings p.head.link p.older in
+      let out = next_put settings p.head.link p.older p.packet in
+      let octets = put_octets p.head.order out in
+      let line = out.text in
+      let f = line_fails (outputs_of settings.both p.head older) [] (to_capture octets) octets line (newest_place p.walk) b.sinks a.sinks (λ more. refl) (λ more. refl) refl nothing p.broke in
+      let all : capture_part (outputs_of settings.both p.head older) ++ octets ≡ capture_octets p.head (out ∷ older) =
+      ap (λ l. l ++ octets) (capture_is settings.both p.head older) ∙ append_assoc (head_octets p.head) (octets_put p.head.order older) octets in
       inr (inl (record {
         head = p.head;
-        item = p.item;
+        packet = p.packet;
         older = p.older;
         lawful = p.lawful;
+        few = p.few;
         walk = p.walk;
         packets_are = p.packets_are;
         ends = p.ends;
         took = subst (λ (s : Seen). Took settings.inside b.source.octets s.octets p.head p.walk) (sym behind.source) p.took;
         capture = subst (λ s. Appends b.sinks.capture.octets s (capture_octets p.head (out ∷ older))) (sym behind.capture) (subst (Appends b.sinks.capture.octets a.sinks.capture.octets) all f.0);
-        report = quiet (report_octets older) line b.sinks.report a.sinks.report n.sinks.report (subst (λ l. GivenUpTo l line b.sinks.report.octets a.sinks.report.octets) (report_is p.head older) f.1) told;
+        report = quiet (report_octets settings.both older) line b.sinks.report a.sinks.report n.sinks.report (subst (λ l. GivenUpTo l line b.sinks.report.octets a.sinks.report.octets) (report_is settings.both p.head older) f.1) told;
       }))
   untold_row behind (inr (inr (inr p))) told =
-      let out = written settings p.head.link p.trace in
-      let line = last_text (last.End (length p.trace) (frame_count out)) in
-      let f = line_fails (outputs_of p.head out) (report_hands_on ∷ []) capture_hands_on [] line (place_behind p.walk) b.sinks a.sinks (λ more. refl) (λ more. refl) refl handing p.broke in
+      let out = puts settings p.head.link p.run in
+      let line = last_text (last.End (length (packets_of p.run)) (count_put out)) in
+      let f = line_fails (outputs_of settings.both p.head out) (report_hands_on ∷ []) capture_hands_on [] line (place_behind p.walk) b.sinks a.sinks (λ more. refl) (λ more. refl) refl handing p.broke in
       inr (inr (record {
         head = p.head;
-        trace = p.trace;
+        run = p.run;
         lawful = p.lawful;
+        few = p.few;
         walk = p.walk;
         packets_are = p.packets_are;
         took = subst (λ (s : Seen). Took settings.inside b.source.octets s.octets p.head p.walk) (sym behind.source) p.took;
         taken = subst (λ (s : Seen). TakenWhole b.source.octets s.octets) (sym behind.source) p.taken;
-        capture = capture_given p.head out (subst (Appends b.sinks.capture.octets a.sinks.capture.octets) (append-nil (capture_part (outputs_of p.head out))) f.0) behind;
-        report = quiet (report_octets out) line b.sinks.report a.sinks.report n.sinks.report (subst (λ l. GivenUpTo l line b.sinks.report.octets a.sinks.report.octets) (report_is p.head out) f.1) told;
+        capture = capture_given p.head out (subst (Appends b.sinks.capture.octets a.sinks.capture.octets) (append-nil (capture_part (outputs_of settings.both p.head out))) f.0) behind;
+        report = quiet (report_octets settings.both out) line b.sinks.report a.sinks.report n.sinks.report (subst (λ l. GivenUpTo l line b.sinks.report.octets a.sinks.report.octets) (report_is settings.both p.head out) f.1) told;
       }))
 
   -- the row of a status between the ends
@@ -227,12 +258,13 @@ module _ (settings : PlainSettings) (b a n : Moment) where
 
   row_of : (stop : Stop) → Stands settings stop b a → FirstFault stop b a → Behind
       → Told a.sinks.report.octets n.sinks.report.octets a.sinks.report.faults n.sinks.report.faults (stop_line stop) → RowAt (status_of stop)
-  row_of (stops.At kinds.Magic offset) p first behind told = record { fault = faults.Magic; other = refl; ends = faulty_row faults.Magic offset behind p first.sinks.report told }
-  row_of (stops.At kinds.Version offset) p first behind told = record { fault = faults.Version; other = refl; ends = faulty_row faults.Version offset behind p first.sinks.report told }
-  row_of (stops.At kinds.Link offset) p first behind told = record { fault = faults.Link; other = refl; ends = faulty_row faults.Link offset behind p first.sinks.report told }
-  row_of (stops.At kinds.Block offset) p first behind told = record { fault = faults.Block; other = refl; ends = faulty_row faults.Block offset behind p first.sinks.report told }
-  row_of (stops.At kinds.Long offset) p first behind told = record { fault = faults.Long; other = refl; ends = faulty_row faults.Long offset behind p first.sinks.report told }
-  row_of (stops.At kinds.Many offset) p first behind told = record { fault = faults.Many; other = refl; ends = faulty_row faults.Many offset behind p first.sinks.report told }
+  row_of (stops.At kinds.Magic offset) p first behind told = inl (record { fault = faults.Magic; other = refl; ends = faulty_row faults.Magic offset behind p first.sinks.report told })
+  row_of (stops.At kinds.Version offset) p first behind told = inl (record { fault = faults.Version; other = refl; ends = faulty_row faults.Version offset behind p first.sinks.report told })
+  row_of (stops.At kinds.Link offset) p first behind told = inl (record { fault = faults.Link; other = refl; ends = faulty_row faults.Link offset behind p first.sinks.report told })
+  row_of (stops.At kinds.Block offset) p first behind told = inl (record { fault = faults.Block; other = refl; ends = faulty_row faults.Block offset behind p first.sinks.report told })
+  row_of (stops.At kinds.Long offset) p first behind told = inl (record { fault = faults.Long; other = refl; ends = faulty_row faults.Long offset behind p first.sinks.report told })
+  row_of (stops.At kinds.Many offset) (inl p) first behind told = inl (record { fault = faults.Many; other = refl; ends = faulty_row faults.Many offset behind p first.sinks.report told })
+  row_of (stops.At kinds.Many offset) (inr p) first behind told = inr (too_many_row offset behind p first.sinks.report told)
   row_of (stops.At kinds.Cut offset) p first behind told = faulty_row faults.Cut offset behind p first.sinks.report told
   row_of (stops.At kinds.ReadFault offset) p first behind told = faulty_row faults.ReadFault offset behind p first.sinks.report told
   row_of (stops.At kinds.Capture offset) p first behind told = unwritten_row offset behind p first.sinks.report told

@@ -1,20 +1,21 @@
 -- Which status a stop is answered by, and what that says.
-use Rattle.std.proofs.Common.{◌≡◌, ◌==◌, ℕ, ◌≤◌, true, false, List, Option, Some, refl, sym, ap, subst, ◌∙◌, arith, ◌⊎◌, inl, inr}
+use Rattle.std.proofs.Common.{◌≡◌, ◌==◌, ℕ, ◌≤◌, true, false, List, length, Option, Some, None, refl, sym, ap, subst, ◌∙◌, arith, ◌⊎◌, inl, inr}
 use Rattle.edge_io.specs.Faults.{Rose}
 use Rattle.capture_input.specs.declared.fault.InputFault.{InputFault}
 use Rattle.capture_input.specs.declared.fault.InputFault.TheVariants as faults
 use Rattle.capture_input.specs.Faults.{is_read_fault}
-use Rattle.capture_input.specs.Inputs.{FailsAt, HasFaultAt, TookAll}
-use Rattle.capture_input.specs.Laws.{FaultExcludesEnd, FaultIsOne, HeadStopsAreFaults, StopsAreFaults}
+use Rattle.capture_input.specs.Inputs.{FailsAt, HasFaultAt, Took, TookAll}
+use Rattle.capture_input.specs.Laws.{FaultExcludesEnd, FaultIsOne, HeadStopsAreFaults, HeadStopsLeaveNone, InputHasAll, StopsAreFaults, StopsLeaveNone}
+use Rattle.capture_input.specs.Reads.{StopsInHead}
 use Rattle.rule_book.specs.declared.last.StopKind.TheVariants as kinds
 use Rattle.norm_settings.specs.Settings.{PlainSettings}
-use Rattle.norm_engine.specs.Items.{packets}
+use Rattle.record_relay.specs.Runs.{packets_of}
 use Rattle.bridge_run.specs.declared.stop.Stop.{Stop}
 use Rattle.bridge_run.specs.declared.stop.Stop.TheVariants as stops
 use Rattle.bridge_run.specs.Moments.{Moment}
-use Rattle.bridge_run.specs.Stops.{Faulted, FirstFault, fault_kind, kind_status, status_of, is_faulty, IsFaulty, IsCutShort, IsWhole, WasFaulty, WasCut}
+use Rattle.bridge_run.specs.Stops.{AreFew, BeginsTooMany, Faulted, FirstFault, fault_kind, kind_status, status_of, is_faulty, IsFaulty, IsCutShort, IsWhole, WasFaulty, WasCut, WasTooMany, WereFew}
 use Rattle.bridge_run.specs.Run.{Normalized}
-use Rattle.bridge_run.specs.Stopped.{Faulty, Stands}
+use Rattle.bridge_run.specs.Stopped.{Faulty, Stands, StopsAtTooMany}
 
 -- the status that a fault of the input is answered by
 abbrev fault_status : InputFault → ℕ
@@ -27,6 +28,12 @@ record HasFaultOf (inside source : Option (List ℕ)) (status : ℕ) : Type 0 wh
   first : HasFaultAt inside source fault offset
   answered : status ≡ fault_status fault
   lasts : is_read_fault fault ≡ false
+
+-- one record came more than may
+record HasTooMany (settings : PlainSettings) (source : Option (List ℕ)) (status : ℕ) : Type 0 where
+  offset : ℕ
+  was : WasTooMany settings source offset
+  answered : status ≡ 3
 
 -- a stop before the end is answered by 3 to 7
 pub known_of : (settings : PlainSettings) (stop : Stop) (a b : Moment) → Stands settings stop a b → (3 ≤ status_of stop) × (status_of stop ≤ 7)
@@ -76,6 +83,12 @@ faulty_status faults.Many other = refl
 here : (inside source : Option (List ℕ)) (octets : List ℕ) (fault : InputFault) (offset : ℕ) → source ≡ Some octets → HasFaultAt inside source fault offset → FailsAt inside octets fault offset
 here inside source octets fault offset told first = subst (λ s. HasFaultAt inside s fault offset) told first
 
+-- nothing is left behind the end or a fault
+pub record LeavesNone : Type 0 where
+  pub input : InputHasAll
+  pub head : HeadStopsLeaveNone
+  pub stops : StopsLeaveNone
+
 -- what a stop says of the octets that the source had left
 module _ (in_head : HeadStopsAreFaults) (behind : StopsAreFaults) (settings : PlainSettings) where
   fault_at : (fault : InputFault) (offset : ℕ) (a b : Moment) → is_read_fault fault ≡ false → Faulty settings fault offset a b → HasFaultAt settings.inside a.source.octets fault offset
@@ -87,57 +100,124 @@ module _ (in_head : HeadStopsAreFaults) (behind : StopsAreFaults) (settings : Pl
   has_fault : (fault : InputFault) (offset : ℕ) (a b : Moment) → is_read_fault fault ≡ false → Faulty settings fault offset a b → HasFaultOf settings.inside a.source.octets (fault_status fault)
   has_fault fault offset a b lasts p = record { fault = fault; offset = offset; first = fault_at fault offset a b lasts p; answered = refl; lasts = lasts }
 
-  -- a stop is one at a fault of the octets, or at one of an object
-  sorts : (stop : Stop) (a b : Moment) → Stands settings stop a b → HasFaultOf settings.inside a.source.octets (status_of stop) ⊎ (5 ≤ status_of stop)
+  -- the octets begin with one record more than may come
+  too_many : (offset : ℕ) (a b : Moment) → StopsAtTooMany settings offset a b → WasTooMany settings a.source.octets offset
+  too_many offset a b p = by a.source.octets b.source.octets p.took where
+    by : (old new : Option (List ℕ)) → Took settings.inside old new p.head p.walk → WasTooMany settings old offset
+    by None new took = p.both
+    by (Some octets) None took = absurd took
+    by (Some octets) (Some rest) took = record {
+      both = p.both;
+      head = p.head;
+      walk = p.walk;
+      rest = rest;
+      begins = took;
+      ends = p.ends;
+      count = let count = ap length p.packets_are in omega (arith, count, p.full);
+      place = p.place;
+    }
+
+  -- a stop is one at a fault of the octets, at one record too many, or at a fault of an object
+  sorts : (stop : Stop) (a b : Moment) → Stands settings stop a b
+      → HasFaultOf settings.inside a.source.octets (status_of stop) ⊎ (HasTooMany settings a.source.octets (status_of stop) ⊎ (5 ≤ status_of stop))
   sorts (stops.At kinds.Magic offset) a b p = inl (has_fault faults.Magic offset a b refl p)
   sorts (stops.At kinds.Version offset) a b p = inl (has_fault faults.Version offset a b refl p)
   sorts (stops.At kinds.Link offset) a b p = inl (has_fault faults.Link offset a b refl p)
   sorts (stops.At kinds.Block offset) a b p = inl (has_fault faults.Block offset a b refl p)
   sorts (stops.At kinds.Long offset) a b p = inl (has_fault faults.Long offset a b refl p)
-  sorts (stops.At kinds.Many offset) a b p = inl (has_fault faults.Many offset a b refl p)
+  sorts (stops.At kinds.Many offset) a b (inl p) = inl (has_fault faults.Many offset a b refl p)
+  sorts (stops.At kinds.Many offset) a b (inr p) = inr (inl (record { offset = offset; was = too_many offset a b p; answered = refl }))
   sorts (stops.At kinds.Cut offset) a b p = inl (has_fault faults.Cut offset a b refl p)
-  sorts (stops.At kinds.ReadFault offset) a b p = inr (omega arith)
-  sorts (stops.At kinds.Capture offset) a b p = inr (omega arith)
+  sorts (stops.At kinds.ReadFault offset) a b p = inr (inr (omega arith))
+  sorts (stops.At kinds.Capture offset) a b p = inr (inr (omega arith))
   sorts (stops.At kinds.Memory offset) a b p = absurd p
-  sorts stops.Report a b p = inr (omega arith)
+  sorts stops.Report a b p = inr (inr (omega arith))
 
-  pub faulty_of : (stop : Stop) (a b : Moment) → Stands settings stop a b → status_of stop ≡ 3 → WasFaulty settings.inside a.source.octets
+  pub faulty_of : (stop : Stop) (a b : Moment) → Stands settings stop a b → status_of stop ≡ 3 → WasFaulty settings a.source.octets
   faulty_of stop a b p s =
       elim (sorts stop a b p) [
-        | inl q ↦ (q.fault, q.offset, is_3 q.fault (status_of stop) q.answered s, q.first)
-        | inr least ↦ absurd (omega (arith, least, s))
+        | inl q ↦ inl (q.fault, q.offset, is_3 q.fault (status_of stop) q.answered s, q.first)
+        | inr (inl q) ↦ inr (q.offset, q.was)
+        | inr (inr least) ↦ absurd (omega (arith, least, s))
       ]
 
-  pub cut_of : (stop : Stop) (a b : Moment) → Stands settings stop a b → status_of stop ≡ 4 → WasCut settings.inside a.source.octets
-  cut_of stop a b p s =
-      elim (sorts stop a b p) [
-        | inl q ↦ (q.offset, subst (λ (f : InputFault). HasFaultAt settings.inside a.source.octets f q.offset) (is_4 q.fault (status_of stop) q.answered s) q.first)
-        | inr least ↦ absurd (omega (arith, least, s))
-      ]
+  -- where reading stops at a cut, no more records came than may
+  cut_is_few : LeavesNone → (octets : List ℕ) (place : ℕ) (a b : Moment) → a.source.octets ≡ Some octets → Faulty settings faults.Cut place a b → AreFew settings octets
+  cut_is_few left octets place a b told (inl p) offset more =
+      left.head settings.inside b.source.octets octets faults.Cut place more.head more.walk more.rest refl
+      (subst (λ s. StopsInHead settings.inside s b.source.octets faults.Cut place) told p.found) more.begins
+  cut_is_few left octets place a b told (inr p) offset more =
+      let least = left.stops settings.inside p.left b.source.octets octets faults.Cut p.head more.head p.walk more.walk more.rest refl
+      (subst (λ s. Took settings.inside s p.left p.head p.walk) told p.took) p.found more.begins in
+      let count = ap length p.packets_are in
+      omega (arith, least, count, more.count, p.few more.both)
 
-  pub faulty_is_3 : FaultIsOne → (stop : Stop) (a b : Moment) → Stands settings stop a b → IsFaulty settings.inside a.source.octets → (status_of stop ≡ 3) ⊎ (5 ≤ status_of stop)
-  faulty_is_3 one stop a b p f =
+  were_few : (source : Option (List ℕ)) → ((octets : List ℕ) → source ≡ Some octets → AreFew settings octets) → WereFew settings source
+  were_few None few = tt
+  were_few (Some octets) few = few octets refl
+
+  pub cut_of : LeavesNone → (stop : Stop) (a b : Moment) → Stands settings stop a b → status_of stop ≡ 4 → WasCut settings a.source.octets
+  cut_of left (stops.At kinds.Magic place) a b p s = absurd (omega (arith, s))
+  cut_of left (stops.At kinds.Version place) a b p s = absurd (omega (arith, s))
+  cut_of left (stops.At kinds.Link place) a b p s = absurd (omega (arith, s))
+  cut_of left (stops.At kinds.Block place) a b p s = absurd (omega (arith, s))
+  cut_of left (stops.At kinds.Long place) a b p s = absurd (omega (arith, s))
+  cut_of left (stops.At kinds.Many place) a b p s = absurd (omega (arith, s))
+  cut_of left (stops.At kinds.ReadFault place) a b p s = absurd (omega (arith, s))
+  cut_of left (stops.At kinds.Capture place) a b p s = absurd (omega (arith, s))
+  cut_of left (stops.At kinds.Cut place) a b p s = record {
+    offset = place;
+    fails = fault_at faults.Cut place a b refl p;
+    few = were_few a.source.octets (λ octets told. cut_is_few left octets place a b told p);
+  }
+  cut_of left (stops.At kinds.Memory place) a b p s = absurd p
+  cut_of left stops.Report a b p s = absurd (omega (arith, s))
+
+  -- where the octets begin with one record more than may come, the run stops there, or before
+  too_many_is_3 : LeavesNone → (octets : List ℕ) (offset : ℕ) → BeginsTooMany settings octets offset → (stop : Stop) (a b : Moment) → a.source.octets ≡ Some octets → Stands settings stop a b
+      → (status_of stop ≡ 3) ⊎ (5 ≤ status_of stop)
+  too_many_is_3 left octets offset more (stops.At kinds.Magic place) a b told p = inl refl
+  too_many_is_3 left octets offset more (stops.At kinds.Version place) a b told p = inl refl
+  too_many_is_3 left octets offset more (stops.At kinds.Link place) a b told p = inl refl
+  too_many_is_3 left octets offset more (stops.At kinds.Block place) a b told p = inl refl
+  too_many_is_3 left octets offset more (stops.At kinds.Long place) a b told p = inl refl
+  too_many_is_3 left octets offset more (stops.At kinds.Many place) a b told p = inl refl
+  too_many_is_3 left octets offset more (stops.At kinds.Cut place) a b told p = absurd (cut_is_few left octets place a b told p offset more)
+  too_many_is_3 left octets offset more (stops.At kinds.ReadFault place) a b told p = inr (omega arith)
+  too_many_is_3 left octets offset more (stops.At kinds.Capture place) a b told p = inr (omega arith)
+  too_many_is_3 left octets offset more (stops.At kinds.Memory place) a b told p = absurd p
+  too_many_is_3 left octets offset more stops.Report a b told p = inr (omega arith)
+
+  pub faulty_is_3 : FaultIsOne → LeavesNone → (stop : Stop) (a b : Moment) → Stands settings stop a b → IsFaulty settings a.source.octets → (status_of stop ≡ 3) ⊎ (5 ≤ status_of stop)
+  faulty_is_3 one left stop a b p f =
       elim (sorts stop a b p) [
         | inl q ↦
-            let same : q.fault ≡ f.fault = (one settings.inside f.octets q.fault f.fault q.offset f.offset (here settings.inside _ f.octets q.fault q.offset f.told q.first) f.fails).0 in
-            inl (q.answered ∙ ap fault_status same ∙ faulty_status f.fault f.other)
-        | inr outside ↦ inr outside
+            elim f.faulty [
+              | inl found ↦
+                  let same : q.fault ≡ found.0 = (one settings.inside f.octets q.fault found.0 q.offset found.1 (here settings.inside _ f.octets q.fault q.offset f.told q.first) found.3).0 in
+                  inl (q.answered ∙ ap fault_status same ∙ faulty_status found.0 found.2)
+              | inr more ↦ too_many_is_3 left f.octets more.0 more.1 stop a b f.told p
+            ]
+        | inr (inl q) ↦ inl q.answered
+        | inr (inr outside) ↦ inr outside
       ]
 
-  pub cut_is_4 : FaultIsOne → (stop : Stop) (a b : Moment) → Stands settings stop a b → IsCutShort settings.inside a.source.octets → (status_of stop ≡ 4) ⊎ (5 ≤ status_of stop)
+  pub cut_is_4 : FaultIsOne → (stop : Stop) (a b : Moment) → Stands settings stop a b → IsCutShort settings a.source.octets → (status_of stop ≡ 4) ⊎ (5 ≤ status_of stop)
   cut_is_4 one stop a b p f =
       elim (sorts stop a b p) [
         | inl q ↦
             let same : q.fault ≡ faults.Cut = (one settings.inside f.octets q.fault faults.Cut q.offset f.offset (here settings.inside _ f.octets q.fault q.offset f.told q.first) f.fails).0 in
             inl (q.answered ∙ ap fault_status same)
-        | inr outside ↦ inr outside
+        | inr (inl q) ↦ absurd (f.few q.offset (subst (λ s. WasTooMany settings s q.offset) f.told q.was))
+        | inr (inr outside) ↦ inr outside
       ]
 
-  pub whole_goes_on : FaultExcludesEnd → (stop : Stop) (a b : Moment) → Stands settings stop a b → IsWhole settings.inside a.source.octets → 5 ≤ status_of stop
+  pub whole_goes_on : FaultExcludesEnd → (stop : Stop) (a b : Moment) → Stands settings stop a b → IsWhole settings a.source.octets → 5 ≤ status_of stop
   whole_goes_on none stop a b p f =
       elim (sorts stop a b p) [
         | inl q ↦ absurd (none settings.inside f.octets f.head f.packets q.fault q.offset f.input (here settings.inside _ f.octets q.fault q.offset f.told q.first))
-        | inr outside ↦ outside
+        | inr (inl q) ↦ absurd (f.few q.offset (subst (λ s. WasTooMany settings s q.offset) f.told q.was))
+        | inr (inr outside) ↦ outside
       ]
 
 -- the count that a status names rose
@@ -154,13 +234,20 @@ report_of stop a b p s = subst (λ n. Faulted (n == 7) a.sinks.report b.sinks.re
 -- a finished run excludes faults
 
 finished_input : (settings : PlainSettings) (source source' c c' r r' : Option (List ℕ)) (octets : List ℕ) (n : Normalized settings source source' c c' r r') → source ≡ Some octets
-    → TookAll settings.inside (Some octets) n.head (packets n.trace)
-finished_input settings source source' c c' r r' octets n told = subst (λ s. TookAll settings.inside s n.head (packets n.trace)) told n.whole
+    → TookAll settings.inside (Some octets) n.head (packets_of n.run)
+finished_input settings source source' c c' r r' octets n told = subst (λ s. TookAll settings.inside s n.head (packets_of n.run)) told n.whole
 
-pub finished_or_faulty : FaultExcludesEnd → (settings : PlainSettings) (source source' c c' r r' : Option (List ℕ)) → Normalized settings source source' c c' r r' → IsFaulty settings.inside source → ⊥
-finished_or_faulty none settings source source' c c' r r' n f =
-    none settings.inside f.octets n.head _ f.fault f.offset (finished_input settings source source' c c' r r' f.octets n f.told) f.fails
+pub finished_or_faulty : FaultExcludesEnd → InputHasAll → (settings : PlainSettings) (source source' c c' r r' : Option (List ℕ)) → Normalized settings source source' c c' r r' → IsFaulty settings source → ⊥
+finished_or_faulty none all settings source source' c c' r r' n f =
+    let input = finished_input settings source source' c c' r r' f.octets n f.told in
+    elim f.faulty [
+      | inl found ↦ none settings.inside f.octets n.head _ found.0 found.1 input found.3
+      | inr more ↦
+          let least = all settings.inside f.octets n.head more.1.head (packets_of n.run) more.1.walk more.1.rest input more.1.begins in
+          let count = more.1.count in
+          omega (arith, least, count, n.few more.1.both)
+    ]
 
-pub finished_or_cut : FaultExcludesEnd → (settings : PlainSettings) (source source' c c' r r' : Option (List ℕ)) → Normalized settings source source' c c' r r' → IsCutShort settings.inside source → ⊥
+pub finished_or_cut : FaultExcludesEnd → (settings : PlainSettings) (source source' c c' r r' : Option (List ℕ)) → Normalized settings source source' c c' r r' → IsCutShort settings source → ⊥
 finished_or_cut none settings source source' c c' r r' n f =
     none settings.inside f.octets n.head _ faults.Cut f.offset (finished_input settings source source' c c' r r' f.octets n f.told) f.fails

@@ -1,6 +1,3 @@
-pub mod OneSided
-pub mod Frames
-pub mod Cut
 pub mod Moments
 pub mod Outputs
 pub mod Stops

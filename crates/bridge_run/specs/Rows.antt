@@ -1,10 +1,11 @@
 -- What each status says, row by row (this project's profile): what the two sinks were given, and what was taken from the source. Each row follows from
 -- what stands when a run has stopped, by a law. Where an object does not tell its octets nothing is claimed of them.
-use Rattle.std.specs.Prelude.{◌≡◌, ℕ, ◌<◌, ◌⊎◌, true, List, [], ◌∷◌, ◌++◌, length, take, Option, None, Err}
+use Rattle.std.specs.Prelude.{◌≡◌, ℕ, ◌-◌, ◌^◌, ◌<◌, ◌⊎◌, Bool, true, List, [], ◌∷◌, ◌++◌, length, take, Option, None, Err}
 use Rattle.std.specs.Io.KnownBytes.{Appends}
 use Rattle.edge_io.specs.Faults.{Rose}
 use Rattle.pcap_file.specs.declared.head.Head.{Head}
 use Rattle.pcap_file.specs.Heads.{head_octets}
+use Rattle.pcap_file.specs.Records.{Packet}
 use Rattle.capture_input.specs.declared.fault.InputFault.{InputFault}
 use Rattle.capture_input.specs.declared.fault.InputFault.TheVariants as faults
 use Rattle.capture_input.specs.Inputs.{Walk, packets_in, place_behind, newest_place, EndsAtNewest, Took, TakenWhole}
@@ -12,29 +13,28 @@ use Rattle.capture_input.specs.Reads.{StopsInHead, StopsAt}
 use Rattle.rule_book.specs.declared.last.Last.TheVariants as last
 use Rattle.rule_book.specs.declared.last.StopKind.{StopKind}
 use Rattle.rule_book.specs.declared.last.StopKind.TheVariants as kinds
-use Rattle.rule_book.specs.Text.{entry_text, last_text, lines_text}
+use Rattle.rule_book.specs.Text.{last_text}
 use Rattle.norm_settings.specs.declared.fault.WordFault.{WordFault}
 use Rattle.norm_settings.specs.Settings.{PlainSettings}
 use Rattle.norm_settings.specs.Faults.{number_of}
-use Rattle.norm_engine.specs.Items.{Item, packets, entries}
-use Rattle.norm_engine.specs.Trace.{Lawful}
-use Rattle.bridge_run.specs.Frames.{frames_octets, item_octets, frame_count}
-use Rattle.bridge_run.specs.Cut.{item_written, written}
-use Rattle.bridge_run.specs.Moments.{Seen, Moment}
-use Rattle.bridge_run.specs.OneSided.{asked_one_sided}
-use Rattle.bridge_run.specs.Outputs.{heading}
-use Rattle.bridge_run.specs.Run.{AsksRun}
+use Rattle.norm_settings.specs.Asked.{asked}
+use Rattle.record_relay.specs.Outputs.{heading}
+use Rattle.record_relay.specs.Puts.{Put, count_put, next_put, octets_put, put_octets, puts, text_put}
+use Rattle.record_relay.specs.Runs.{LawfulRun, RunTrace, next_run, packets_of}
+use Rattle.record_relay.specs.Sinks.{Seen}
+use Rattle.bridge_run.specs.Moments.{Moment}
+use Rattle.bridge_run.specs.Run.{AsksRun, IsFew}
 use Rattle.bridge_run.specs.Stops.{fault_kind, is_faulty, words_line}
 use Rattle.bridge_run.specs.Stopped.{Stopped, SaysOnly}
 use Rattle.bridge_run.specs.Summary.{Summed, SummedInPart, AsksLoad}
 
--- what the capture is given for a head and the items of a written trace
-abbrev pub capture_octets : Head → List Item → List ℕ
-capture_octets head trace = head_octets head ++ frames_octets head.order trace
+-- what the capture is given for a head and what is put out for records
+abbrev pub capture_octets : Head → List Put → List ℕ
+capture_octets head puts = head_octets head ++ octets_put head.order puts
 
--- what the report is given for the items of a written trace: the first line, and a line each
-abbrev pub report_octets : List Item → List ℕ
-report_octets trace = heading ++ lines_text (entries trace)
+-- what the report is given for them: the first line, and the lines of each
+abbrev pub report_octets : (both : Bool) → List Put → List ℕ
+report_octets both puts = heading both ++ text_put puts
 
 -- The first octets were given whole, and then a prefix of the next ones, which may be all of them.
 pub record GivenUpTo (first next : List ℕ) (old new : Option (List ℕ)) : Type 0 where
@@ -55,31 +55,51 @@ pub record EndsAtHead (settings : PlainSettings) (fault : InputFault) (before no
   pub offset : ℕ
   pub taken : StopsInHead settings.inside before.source.octets now.source.octets fault offset
   pub capture : Appends before.sinks.capture.octets now.sinks.capture.octets []
-  pub report : Says heading (stop_of (fault_kind fault) offset) before.sinks.report now.sinks.report
+  pub report : Says (heading settings.both) (stop_of (fault_kind fault) offset) before.sinks.report now.sinks.report
 
--- Statuses 3 to 5, at the record or block behind those of a lawful trace: these were taken, and what is left begins with the one at which the run stopped. The
+-- Statuses 3 to 5, at the record or block behind those of a lawful run: these were taken, and what is left begins with the one at which the run stopped. The
 -- capture was given the head and the frames of these packets, the report their lines and the stop, at the offset behind them.
 pub record EndsAtRecord (settings : PlainSettings) (fault : InputFault) (before now : Moment) : Type 0 where
   pub head : Head
-  pub trace : List Item
-  pub lawful : Lawful settings head.link trace
+  pub run : RunTrace
+  pub lawful : LawfulRun settings head.link run
+  pub few : IsFew settings run
   pub walk : Walk
-  pub packets_are : packets_in walk ≡ packets trace
+  pub packets_are : packets_in walk ≡ packets_of run
   pub left : Option (List ℕ)
   pub took : Took settings.inside before.source.octets left head walk
   pub taken : StopsAt settings.inside head walk left now.source.octets fault
-  pub capture : Appends before.sinks.capture.octets now.sinks.capture.octets (capture_octets head (written settings head.link trace))
-  pub report : Says (report_octets (written settings head.link trace)) (stop_of (fault_kind fault) (place_behind walk)) before.sinks.report now.sinks.report
+  pub capture : Appends before.sinks.capture.octets now.sinks.capture.octets (capture_octets head (puts settings head.link run))
+  pub report : Says (report_octets settings.both (puts settings head.link run)) (stop_of (fault_kind fault) (place_behind walk)) before.sinks.report now.sinks.report
 
 -- A fault of the input: at most the octets of the head, record or block that has it were taken.
 abbrev pub EndsAtFault : PlainSettings → InputFault → (before now : Moment) → Type 0
 EndsAtFault settings fault before now = EndsAtHead settings fault before now ⊎ EndsAtRecord settings fault before now
 
--- Status 3: a fault of the octets that is no cut.
-pub record EndsFaulty (settings : PlainSettings) (before now : Moment) : Type 0 where
+-- Status 3, by a fault of the octets that is no cut.
+pub record EndsByFault (settings : PlainSettings) (before now : Moment) : Type 0 where
   pub fault : InputFault
   pub other : is_faulty fault ≡ true
   pub ends : EndsAtFault settings fault before now
+
+-- Status 3, by one record more than may come where both sides are protected: exactly the head and what stands up to the end of its record or block was taken. The
+-- capture was given the head and the frames of the packets before it, the report their lines and the stop, at its offset.
+pub record EndsByTooMany (settings : PlainSettings) (before now : Moment) : Type 0 where
+  pub both : settings.both ≡ true
+  pub head : Head
+  pub run : RunTrace
+  pub lawful : LawfulRun settings head.link run
+  pub full : length (packets_of run) ≡ 2 ^ 31 - 1
+  pub packet : Packet
+  pub walk : Walk
+  pub packets_are : packets_in walk ≡ packet ∷ packets_of run
+  pub ends : EndsAtNewest walk
+  pub took : Took settings.inside before.source.octets now.source.octets head walk
+  pub capture : Appends before.sinks.capture.octets now.sinks.capture.octets (capture_octets head (puts settings head.link run))
+  pub report : Says (report_octets settings.both (puts settings head.link run)) (stop_of kinds.Many (newest_place walk)) before.sinks.report now.sinks.report
+
+abbrev pub EndsFaulty : PlainSettings → (before now : Moment) → Type 0
+EndsFaulty settings before now = EndsByFault settings before now ⊎ EndsByTooMany settings before now
 
 -- Status 4: a cut.
 abbrev pub EndsCut : PlainSettings → (before now : Moment) → Type 0
@@ -97,73 +117,77 @@ pub record CaptureEndsInHead (settings : PlainSettings) (before now : Moment) : 
   pub ends : EndsAtNewest walk
   pub took : Took settings.inside before.source.octets now.source.octets head walk
   pub capture : GivenUpTo [] (head_octets head) before.sinks.capture.octets now.sinks.capture.octets
-  pub report : Says heading (stop_of kinds.Capture 0) before.sinks.report now.sinks.report
+  pub report : Says (heading settings.both) (stop_of kinds.Capture 0) before.sinks.report now.sinks.report
 
 -- Status 6, at the newest packet: exactly the head and what stands up to the end of its record or block was taken. The capture was given all but its frames,
 -- and a prefix of these; the report the lines of the older packets, and the stop at the offset of that record or block.
-pub record CaptureEndsInItem (settings : PlainSettings) (before now : Moment) : Type 0 where
+pub record CaptureEndsInPacket (settings : PlainSettings) (before now : Moment) : Type 0 where
   pub head : Head
-  pub item : Item
-  pub older : List Item
-  pub lawful : Lawful settings head.link (item ∷ older)
+  pub packet : Packet
+  pub older : RunTrace
+  pub lawful : LawfulRun settings head.link (next_run settings head.link older packet)
+  pub few : IsFew settings (next_run settings head.link older packet)
   pub walk : Walk
-  pub packets_are : packets_in walk ≡ packets (item ∷ older)
+  pub packets_are : packets_in walk ≡ packet ∷ packets_of older
   pub ends : EndsAtNewest walk
   pub took : Took settings.inside before.source.octets now.source.octets head walk
-  pub has_frame : 0 < length (item_written settings.mtu head.link item).frames
-  pub capture : GivenUpTo (capture_octets head (written settings head.link older)) (item_octets head.order (item_written settings.mtu head.link item)) before.sinks.capture.octets now.sinks.capture.octets
-  pub report : Says (report_octets (written settings head.link older)) (stop_of kinds.Capture (newest_place walk)) before.sinks.report now.sinks.report
+  pub has_frame : 0 < length (next_put settings head.link older packet).frames
+  pub capture : GivenUpTo (capture_octets head (puts settings head.link older)) (put_octets head.order (next_put settings head.link older packet)) before.sinks.capture.octets now.sinks.capture.octets
+  pub report : Says (report_octets settings.both (puts settings head.link older)) (stop_of kinds.Capture (newest_place walk)) before.sinks.report now.sinks.report
 
 -- Status 6, at the end: a capture that keeps octets back, and so tells none, could not hand them on. All was taken, and the report was given all lines of
 -- records, and the stop at the offset of the end.
 pub record CaptureEndsBehind (settings : PlainSettings) (before now : Moment) : Type 0 where
   pub head : Head
-  pub trace : List Item
-  pub lawful : Lawful settings head.link trace
+  pub run : RunTrace
+  pub lawful : LawfulRun settings head.link run
+  pub few : IsFew settings run
   pub walk : Walk
-  pub packets_are : packets_in walk ≡ packets trace
+  pub packets_are : packets_in walk ≡ packets_of run
   pub took : Took settings.inside before.source.octets now.source.octets head walk
   pub taken : TakenWhole before.source.octets now.source.octets
   pub untold : before.sinks.capture.octets ≡ None
-  pub report : Says (report_octets (written settings head.link trace)) (stop_of kinds.Capture (place_behind walk)) before.sinks.report now.sinks.report
+  pub report : Says (report_octets settings.both (puts settings head.link run)) (stop_of kinds.Capture (place_behind walk)) before.sinks.report now.sinks.report
 
 abbrev pub EndsUnwritten : PlainSettings → (before now : Moment) → Type 0
-EndsUnwritten settings before now = CaptureEndsInHead settings before now ⊎ (CaptureEndsInItem settings before now ⊎ CaptureEndsBehind settings before now)
+EndsUnwritten settings before now = CaptureEndsInHead settings before now ⊎ (CaptureEndsInPacket settings before now ⊎ CaptureEndsBehind settings before now)
 
 -- Status 7, at the first line: nothing was taken, the capture was given nothing, and the report a prefix of that line.
-pub record ReportEndsInFirst (before now : Moment) : Type 0 where
+pub record ReportEndsInFirst (settings : PlainSettings) (before now : Moment) : Type 0 where
   pub untaken : now.source.octets ≡ before.source.octets
   pub capture : Appends before.sinks.capture.octets now.sinks.capture.octets []
-  pub report : GivenUpTo [] heading before.sinks.report.octets now.sinks.report.octets
+  pub report : GivenUpTo [] (heading settings.both) before.sinks.report.octets now.sinks.report.octets
 
 -- Status 7, at the line of the newest packet: exactly the head and what stands up to the end of its record or block was taken. The capture
 -- was given the frames of all packets, the report the lines of the older ones and a prefix of that line.
 pub record ReportEndsInLine (settings : PlainSettings) (before now : Moment) : Type 0 where
   pub head : Head
-  pub item : Item
-  pub older : List Item
-  pub lawful : Lawful settings head.link (item ∷ older)
+  pub packet : Packet
+  pub older : RunTrace
+  pub lawful : LawfulRun settings head.link (next_run settings head.link older packet)
+  pub few : IsFew settings (next_run settings head.link older packet)
   pub walk : Walk
-  pub packets_are : packets_in walk ≡ packets (item ∷ older)
+  pub packets_are : packets_in walk ≡ packet ∷ packets_of older
   pub ends : EndsAtNewest walk
   pub took : Took settings.inside before.source.octets now.source.octets head walk
-  pub capture : Appends before.sinks.capture.octets now.sinks.capture.octets (capture_octets head (written settings head.link (item ∷ older)))
-  pub report : GivenUpTo (report_octets (written settings head.link older)) (entry_text (item_written settings.mtu head.link item).entry) before.sinks.report.octets now.sinks.report.octets
+  pub capture : Appends before.sinks.capture.octets now.sinks.capture.octets (capture_octets head (next_put settings head.link older packet ∷ puts settings head.link older))
+  pub report : GivenUpTo (report_octets settings.both (puts settings head.link older)) (next_put settings head.link older packet).text before.sinks.report.octets now.sinks.report.octets
 
 -- Status 7, at the last line: all was taken, the capture was given all, the report all lines of records and a prefix of the last line.
 pub record ReportEndsInLast (settings : PlainSettings) (before now : Moment) : Type 0 where
   pub head : Head
-  pub trace : List Item
-  pub lawful : Lawful settings head.link trace
+  pub run : RunTrace
+  pub lawful : LawfulRun settings head.link run
+  pub few : IsFew settings run
   pub walk : Walk
-  pub packets_are : packets_in walk ≡ packets trace
+  pub packets_are : packets_in walk ≡ packets_of run
   pub took : Took settings.inside before.source.octets now.source.octets head walk
   pub taken : TakenWhole before.source.octets now.source.octets
-  pub capture : Appends before.sinks.capture.octets now.sinks.capture.octets (capture_octets head (written settings head.link trace))
-  pub report : GivenUpTo (report_octets (written settings head.link trace)) (last_text (last.End (length trace) (frame_count (written settings head.link trace)))) before.sinks.report.octets now.sinks.report.octets
+  pub capture : Appends before.sinks.capture.octets now.sinks.capture.octets (capture_octets head (puts settings head.link run))
+  pub report : GivenUpTo (report_octets settings.both (puts settings head.link run)) (last_text (last.End (length (packets_of run)) (count_put (puts settings head.link run)))) before.sinks.report.octets now.sinks.report.octets
 
 abbrev pub EndsUntold : PlainSettings → (before now : Moment) → Type 0
-EndsUntold settings before now = ReportEndsInFirst before now ⊎ (ReportEndsInLine settings before now ⊎ ReportEndsInLast settings before now)
+EndsUntold settings before now = ReportEndsInFirst settings before now ⊎ (ReportEndsInLine settings before now ⊎ ReportEndsInLast settings before now)
 
 -- The words ask for a run, and this holds under its settings.
 abbrev pub UnderWords : List (List ℕ) → (PlainSettings → Type 0) → Type 0
@@ -192,7 +216,7 @@ pub record EndsSummedInPart (seed count : ℕ) (before now : Moment) : Type 0 wh
 -- Status 2: the report was given the line that refuses the words, and nothing else happened.
 pub record EndsRefused (words : List (List ℕ)) (before now : Moment) : Type 0 where
   pub fault : WordFault
-  pub refused : asked_one_sided words ≡ Err fault
+  pub refused : asked words ≡ Err fault
   pub says : SaysOnly (words_line (number_of fault)) before now
 
 -- A run over these words that answers this status leaves this row.

@@ -1,8 +1,8 @@
--- What stands when a run has stopped: what was taken from the source, and what was given to the sinks, by the lawful trace of the records whose step was
--- finished (this project's profile). Where an object does not tell its octets nothing is claimed of them. A run stops at a moment (`Stands`), and then tells
+-- What stands when a run has stopped: what was taken from the source, and what was given to the sinks, by the lawful run over the records that were judged (this project's profile). Where an object does not tell its octets nothing is claimed of them. A run stops at a moment (`Stands`), and then tells
 -- why (`StoppedShort`): up to `Stands`, `now` is that moment.
-use Rattle.std.specs.Prelude.{◌≡◌, ℕ, ◌⊎◌, List, [], ◌∷◌, length, Option, Err}
+use Rattle.std.specs.Prelude.{◌≡◌, ℕ, ◌-◌, ◌^◌, ◌⊎◌, true, List, [], ◌∷◌, length, Option, Err}
 use Rattle.pcap_file.specs.declared.head.Head.{Head}
+use Rattle.pcap_file.specs.Records.{Packet}
 use Rattle.capture_input.specs.declared.fault.InputFault.{InputFault}
 use Rattle.capture_input.specs.declared.fault.InputFault.TheVariants as faults
 use Rattle.capture_input.specs.Inputs.{Walk, packets_in, place_behind, newest_place, EndsAtNewest, Took, TakenWhole}
@@ -11,46 +11,62 @@ use Rattle.rule_book.specs.declared.last.StopKind.TheVariants as kinds
 use Rattle.norm_settings.specs.declared.fault.WordFault.{WordFault}
 use Rattle.norm_settings.specs.Settings.{PlainSettings}
 use Rattle.norm_settings.specs.Faults.{number_of}
-use Rattle.norm_engine.specs.Items.{Item, packets}
-use Rattle.norm_engine.specs.Trace.{Lawful}
+use Rattle.norm_settings.specs.Asked.{asked}
+use Rattle.record_relay.specs.Outputs.{Given}
+use Rattle.record_relay.specs.Puts.{count_put, next_put, put_outputs, puts}
+use Rattle.record_relay.specs.Runs.{LawfulRun, RunTrace, next_run, packets_of}
 use Rattle.bridge_run.specs.declared.stop.Stop.{Stop}
 use Rattle.bridge_run.specs.declared.stop.Stop.TheVariants as stops
-use Rattle.bridge_run.specs.Frames.{frame_count}
-use Rattle.bridge_run.specs.Cut.{item_written, written}
 use Rattle.bridge_run.specs.Moments.{Moment, NoneRose}
-use Rattle.bridge_run.specs.OneSided.{asked_one_sided}
-use Rattle.bridge_run.specs.Outputs.{BreaksOff, Given, first_outputs, head_outputs, item_outputs, outputs_of, end_outputs}
-use Rattle.bridge_run.specs.Run.{Normalized, AsksRun}
+use Rattle.bridge_run.specs.Outputs.{BreaksOff, first_outputs, head_outputs, outputs_of, end_outputs}
+use Rattle.bridge_run.specs.Run.{Normalized, AsksRun, IsFew}
 use Rattle.bridge_run.specs.Stops.{FirstFault, Kept, Told, status_of, stop_line, words_line, memory_line}
 use Rattle.bridge_run.specs.Summary.{LoadLeaves, AsksLoad}
 
 -- The head could not be read: this is its fault, and what was taken of it. The first line of the report stands alone.
 pub record StopsAtHead (settings : PlainSettings) (fault : InputFault) (offset : ℕ) (before now : Moment) : Type 0 where
   pub found : StopsInHead settings.inside before.source.octets now.source.octets fault offset
-  pub given : Given first_outputs before.sinks now.sinks
+  pub given : Given (first_outputs settings.both) before.sinks now.sinks
 
--- The record or block behind those of a lawful trace could not be read: this is its fault, and what was taken of it. The head and all records or blocks before
--- it were taken, and all that the trace's packets put out was given.
+-- The record or block behind those of a lawful run, which has no more records than may come, could not be read: this is its fault, and what was taken of it. The
+-- head and all records or blocks before it were taken, and all that the run's packets put out was given.
 pub record StopsAtRecord (settings : PlainSettings) (fault : InputFault) (offset : ℕ) (before now : Moment) : Type 0 where
   pub head : Head
-  pub trace : List Item
-  pub lawful : Lawful settings head.link trace
+  pub run : RunTrace
+  pub lawful : LawfulRun settings head.link run
+  pub few : IsFew settings run
   pub walk : Walk
-  pub packets_are : packets_in walk ≡ packets trace
+  pub packets_are : packets_in walk ≡ packets_of run
   pub left : Option (List ℕ)
   pub took : Took settings.inside before.source.octets left head walk
   pub found : StopsAt settings.inside head walk left now.source.octets fault
   pub place : offset ≡ place_behind walk
-  pub given : Given (outputs_of head (written settings head.link trace)) before.sinks now.sinks
+  pub given : Given (outputs_of settings.both head (puts settings head.link run)) before.sinks now.sinks
 
 -- This fault is the first, and at most the octets of the head, record or block that has it were taken; where the source failed there, not all of them.
 abbrev pub Faulty : PlainSettings → InputFault → (offset : ℕ) → (before now : Moment) → Type 0
 Faulty settings fault offset before now = StopsAtHead settings fault offset before now ⊎ StopsAtRecord settings fault offset before now
 
+-- Both sides are protected, and one record came more than may, which is not judged. The head and all up to the end of its record or block were taken, and all that
+-- the packets before it put out was given.
+pub record StopsAtTooMany (settings : PlainSettings) (offset : ℕ) (before now : Moment) : Type 0 where
+  pub both : settings.both ≡ true
+  pub head : Head
+  pub run : RunTrace
+  pub lawful : LawfulRun settings head.link run
+  pub full : length (packets_of run) ≡ 2 ^ 31 - 1
+  pub packet : Packet
+  pub walk : Walk
+  pub packets_are : packets_in walk ≡ packet ∷ packets_of run
+  pub ends : EndsAtNewest walk
+  pub took : Took settings.inside before.source.octets now.source.octets head walk
+  pub place : offset ≡ newest_place walk
+  pub given : Given (outputs_of settings.both head (puts settings head.link run)) before.sinks now.sinks
+
 -- The first line failed, and nothing was taken.
-pub record StopsAtFirstLine (stop : Stop) (before now : Moment) : Type 0 where
+pub record StopsAtFirstLine (settings : PlainSettings) (stop : Stop) (before now : Moment) : Type 0 where
   pub untaken : now.source.octets ≡ before.source.octets
-  pub broke : BreaksOff [] first_outputs 0 stop before.sinks now.sinks
+  pub broke : BreaksOff [] (first_outputs settings.both) 0 stop before.sinks now.sinks
 
 -- The written head failed, and the head was taken, and nothing behind it.
 pub record StopsAtWrittenHead (settings : PlainSettings) (stop : Stop) (before now : Moment) : Type 0 where
@@ -59,36 +75,38 @@ pub record StopsAtWrittenHead (settings : PlainSettings) (stop : Stop) (before n
   pub silent : packets_in walk ≡ []
   pub ends : EndsAtNewest walk
   pub took : Took settings.inside before.source.octets now.source.octets head walk
-  pub broke : BreaksOff first_outputs (head_outputs head) 0 stop before.sinks now.sinks
+  pub broke : BreaksOff (first_outputs settings.both) (head_outputs head) 0 stop before.sinks now.sinks
 
--- Something of what the newest packet puts out failed. The head and the trace's packets were taken, nothing behind the record or block of that one, and all
--- that the older ones put out was given.
-pub record StopsAtItem (settings : PlainSettings) (stop : Stop) (before now : Moment) : Type 0 where
+-- Something of what the newest packet puts out failed, and no more came than may. The head and the run's packets were taken, nothing behind the record or block
+-- of that one, and all that the older ones put out was given.
+pub record StopsAtPacket (settings : PlainSettings) (stop : Stop) (before now : Moment) : Type 0 where
   pub head : Head
-  pub item : Item
-  pub older : List Item
-  pub lawful : Lawful settings head.link (item ∷ older)
+  pub packet : Packet
+  pub older : RunTrace
+  pub lawful : LawfulRun settings head.link (next_run settings head.link older packet)
+  pub few : IsFew settings (next_run settings head.link older packet)
   pub walk : Walk
-  pub packets_are : packets_in walk ≡ packets (item ∷ older)
+  pub packets_are : packets_in walk ≡ packet ∷ packets_of older
   pub ends : EndsAtNewest walk
   pub took : Took settings.inside before.source.octets now.source.octets head walk
-  pub broke : BreaksOff (outputs_of head (written settings head.link older)) (item_outputs head.order (item_written settings.mtu head.link item)) (newest_place walk) stop before.sinks now.sinks
+  pub broke : BreaksOff (outputs_of settings.both head (puts settings head.link older)) (put_outputs head.order (next_put settings head.link older packet)) (newest_place walk) stop before.sinks now.sinks
 
--- The end could not be told. All was taken, and all that the packets put out was given.
+-- The end could not be told. All was taken, no more records than may come, and all that the packets put out was given.
 pub record StopsAtEnd (settings : PlainSettings) (stop : Stop) (before now : Moment) : Type 0 where
   pub head : Head
-  pub trace : List Item
-  pub lawful : Lawful settings head.link trace
+  pub run : RunTrace
+  pub lawful : LawfulRun settings head.link run
+  pub few : IsFew settings run
   pub walk : Walk
-  pub packets_are : packets_in walk ≡ packets trace
+  pub packets_are : packets_in walk ≡ packets_of run
   pub took : Took settings.inside before.source.octets now.source.octets head walk
   pub taken : TakenWhole before.source.octets now.source.octets
-  pub broke : BreaksOff (outputs_of head (written settings head.link trace)) (end_outputs (length trace) (frame_count (written settings head.link trace))) (place_behind walk) stop before.sinks now.sinks
+  pub broke : BreaksOff (outputs_of settings.both head (puts settings head.link run)) (end_outputs (length (packets_of run)) (count_put (puts settings head.link run))) (place_behind walk) stop before.sinks now.sinks
 
 -- A sink failed, and a prefix of what it was to be given was.
 abbrev pub Unwritten : PlainSettings → Stop → (before now : Moment) → Type 0
 Unwritten settings stop before now =
-    StopsAtFirstLine stop before now ⊎ (StopsAtWrittenHead settings stop before now ⊎ (StopsAtItem settings stop before now ⊎ StopsAtEnd settings stop before now))
+    StopsAtFirstLine settings stop before now ⊎ (StopsAtWrittenHead settings stop before now ⊎ (StopsAtPacket settings stop before now ⊎ StopsAtEnd settings stop before now))
 
 -- what stands at a stop, before a line says why
 abbrev pub Stands : PlainSettings → Stop → (before now : Moment) → Type 0
@@ -97,7 +115,7 @@ Stands settings (stops.At kinds.Version offset) before now = Faulty settings fau
 Stands settings (stops.At kinds.Link offset) before now = Faulty settings faults.Link offset before now
 Stands settings (stops.At kinds.Block offset) before now = Faulty settings faults.Block offset before now
 Stands settings (stops.At kinds.Long offset) before now = Faulty settings faults.Long offset before now
-Stands settings (stops.At kinds.Many offset) before now = Faulty settings faults.Many offset before now
+Stands settings (stops.At kinds.Many offset) before now = Faulty settings faults.Many offset before now ⊎ StopsAtTooMany settings offset before now
 Stands settings (stops.At kinds.Cut offset) before now = Faulty settings faults.Cut offset before now
 Stands settings (stops.At kinds.ReadFault offset) before now = Faulty settings faults.ReadFault offset before now
 Stands settings (stops.At kinds.Capture offset) before now = Unwritten settings (stops.At kinds.Capture offset) before now
@@ -141,7 +159,7 @@ pub record LoadStopped (seed count status : ℕ) (before now : Moment) : Type 0 
 -- the same of words: 2 where they are refused, 8 where they found no memory, and otherwise by the settings or the load that they ask for
 abbrev pub Stopped : (words : List (List ℕ)) → (status : ℕ) → (before now : Moment) → Type 0
 Stopped words status before now =
-    ((fault : WordFault) × (status ≡ 2) × (asked_one_sided words ≡ Err fault) × SaysOnly (words_line (number_of fault)) before now)
+    ((fault : WordFault) × (status ≡ 2) × (asked words ≡ Err fault) × SaysOnly (words_line (number_of fault)) before now)
     ⊎ (((status ≡ 8) × SaysOnly memory_line before now)
     ⊎ (((settings : PlainSettings) × AsksRun words settings × StoppedUnder settings status before now)
     ⊎ ((seed : ℕ) × (count : ℕ) × AsksLoad words seed count × LoadStopped seed count status before now)))

@@ -1,5 +1,5 @@
 -- Why a run stops before it has finished, what its status then says, and the lines that say so (this project's profile).
-use Rattle.std.specs.Prelude.{◌≡◌, ℕ, ◌+◌, ◌==◌, ◌⊎◌, Bool, true, false, List, ◌∷◌, [], ◌++◌, codes, Option, Some}
+use Rattle.std.specs.Prelude.{◌≡◌, ℕ, ◌+◌, ◌^◌, ◌==◌, ◌⊎◌, Bool, true, false, List, ◌∷◌, [], ◌++◌, length, codes, Option, Some, None}
 use Rattle.std.specs.Io.KnownBytes.{Appends}
 use Rattle.edge_io.specs.Faults.{Rose}
 use Rattle.edge_io.specs.Octets.{AppendsPart}
@@ -7,14 +7,16 @@ use Rattle.pcap_file.specs.declared.head.Head.{Head}
 use Rattle.pcap_file.specs.Records.{Packet}
 use Rattle.capture_input.specs.declared.fault.InputFault.{InputFault}
 use Rattle.capture_input.specs.declared.fault.InputFault.TheVariants as faults
-use Rattle.capture_input.specs.Inputs.{FailsAt, HasFaultAt, IsInput}
+use Rattle.capture_input.specs.Inputs.{Walk, packets_in, newest_place, BeginsWith, EndsAtNewest, FailsAt, HasFaultAt, IsInput}
 use Rattle.rule_book.specs.declared.last.Last.TheVariants as last
 use Rattle.rule_book.specs.declared.last.StopKind.{StopKind}
 use Rattle.rule_book.specs.declared.last.StopKind.TheVariants as kinds
 use Rattle.rule_book.specs.Text.{last_text}
+use Rattle.norm_settings.specs.Settings.{PlainSettings}
+use Rattle.record_relay.specs.Sinks.{Seen, Sinks}
 use Rattle.bridge_run.specs.declared.stop.Stop.{Stop}
 use Rattle.bridge_run.specs.declared.stop.Stop.TheVariants as stops
-use Rattle.bridge_run.specs.Moments.{Seen, Sinks, Moment}
+use Rattle.bridge_run.specs.Moments.{Moment}
 
 -- the status that a stop is answered by
 abbrev pub kind_status : StopKind → ℕ
@@ -69,38 +71,70 @@ is_faulty faults.Cut = false
 is_faulty faults.ReadFault = false
 is_faulty _ = true
 
--- The source tells its octets, and their first fault is that they are cut short. Under `inside` the name of the interface on the inside is given, here and
--- below.
-pub record IsCutShort (inside source : Option (List ℕ)) : Type 0 where
+-- Both sides are protected, and the octets begin with 2^31 records, one more than may come; the newest of them, or its block, has this offset. The name of the
+-- interface on the inside is that of the settings, here and below.
+pub record BeginsTooMany (settings : PlainSettings) (octets : List ℕ) (offset : ℕ) : Type 0 where
+  pub both : settings.both ≡ true
+  pub head : Head
+  pub walk : Walk
+  pub rest : List ℕ
+  pub begins : BeginsWith settings.inside octets head walk rest
+  pub ends : EndsAtNewest walk
+  pub count : length (packets_in walk) ≡ 2 ^ 31
+  pub place : offset ≡ newest_place walk
+
+-- No more records than may come.
+abbrev pub AreFew : PlainSettings → List ℕ → Type 0
+AreFew settings octets = (offset : ℕ) → BeginsTooMany settings octets offset → ⊥
+
+-- The source tells its octets, their first fault is that they are cut short, and they have no more records than may come.
+pub record IsCutShort (settings : PlainSettings) (source : Option (List ℕ)) : Type 0 where
   pub octets : List ℕ
   pub told : source ≡ Some octets
   pub offset : ℕ
-  pub fails : FailsAt inside octets faults.Cut offset
+  pub fails : FailsAt settings.inside octets faults.Cut offset
+  pub few : AreFew settings octets
 
--- The source tells its octets, and their first fault is another one.
-pub record IsFaulty (inside source : Option (List ℕ)) : Type 0 where
+-- The first fault of the octets is no cut, or they begin with one record more than may come.
+abbrev pub HasFault : PlainSettings → (octets : List ℕ) → Type 0
+HasFault settings octets =
+    ((fault : InputFault) × (offset : ℕ) × (is_faulty fault ≡ true) × FailsAt settings.inside octets fault offset) ⊎ ((offset : ℕ) × BeginsTooMany settings octets offset)
+
+-- The source tells its octets, and their first fault is another one, or they begin with one record more than may come.
+pub record IsFaulty (settings : PlainSettings) (source : Option (List ℕ)) : Type 0 where
   pub octets : List ℕ
   pub told : source ≡ Some octets
-  pub fault : InputFault
-  pub other : is_faulty fault ≡ true
-  pub offset : ℕ
-  pub fails : FailsAt inside octets fault offset
+  pub faulty : HasFault settings octets
 
--- The source tells its octets, and they are an input, with its end and no fault.
-pub record IsWhole (inside source : Option (List ℕ)) : Type 0 where
+-- The source tells its octets, and they are an input, with its end and no fault, and no more records than may come.
+pub record IsWhole (settings : PlainSettings) (source : Option (List ℕ)) : Type 0 where
   pub octets : List ℕ
   pub told : source ≡ Some octets
   pub head : Head
   pub packets : List Packet
-  pub input : IsInput inside octets head packets
+  pub input : IsInput settings.inside octets head packets
+  pub few : AreFew settings octets
 
--- Where the source tells its octets, their first fault is that they are cut short.
-abbrev pub WasCut : (inside source : Option (List ℕ)) → Type 0
-WasCut inside source = (offset : ℕ) × HasFaultAt inside source faults.Cut offset
+-- Where the source tells its octets, they have no more records than may come.
+abbrev pub WereFew : PlainSettings → (source : Option (List ℕ)) → Type 0
+WereFew settings None = Unit {0}
+WereFew settings (Some octets) = AreFew settings octets
 
--- Where the source tells its octets, their first fault is another one.
-abbrev pub WasFaulty : (inside source : Option (List ℕ)) → Type 0
-WasFaulty inside source = (fault : InputFault) × (offset : ℕ) × (is_faulty fault ≡ true) × HasFaultAt inside source fault offset
+-- Where the source tells its octets, their first fault is that they are cut short, and they have no more records than may come.
+pub record WasCut (settings : PlainSettings) (source : Option (List ℕ)) : Type 0 where
+  pub offset : ℕ
+  pub fails : HasFaultAt settings.inside source faults.Cut offset
+  pub few : WereFew settings source
+
+-- Where the source tells its octets, they begin with one record more than may come; both sides are protected in any case.
+abbrev pub WasTooMany : PlainSettings → (source : Option (List ℕ)) → (offset : ℕ) → Type 0
+WasTooMany settings None offset = settings.both ≡ true
+WasTooMany settings (Some octets) offset = BeginsTooMany settings octets offset
+
+-- Where the source tells its octets, their first fault is another one, or they begin with one record more than may come.
+abbrev pub WasFaulty : PlainSettings → (source : Option (List ℕ)) → Type 0
+WasFaulty settings source =
+    ((fault : InputFault) × (offset : ℕ) × (is_faulty fault ≡ true) × HasFaultAt settings.inside source fault offset) ⊎ ((offset : ℕ) × WasTooMany settings source offset)
 
 -- A sink was at most told to hand on what it keeps back: its octets are as they were, and so is its count where it tells them.
 pub record Kept (before now : Seen) : Type 0 where

@@ -13,14 +13,13 @@ use Rattle.rule_book.specs.Rules.{rule_number}
 use Rattle.rule_book.specs.Entries.{PlainEntry}
 use Rattle.rule_book.specs.Loads.{load_text}
 use Rattle.norm_settings.specs.Settings.{PlainSettings, standard}
-use Rattle.norm_settings.specs.Asked.{load}
+use Rattle.norm_settings.specs.Asked.{asked, load}
 use Rattle.norm_engine.specs.Items.{Item, packets}
 use Rattle.norm_engine.specs.Trace.{Lawful}
 use Rattle.load_make.specs.Generated.{Generated}
+use Rattle.record_relay.specs.Frames.{frame_count}
+use Rattle.record_relay.specs.Sinks.{Seen}
 use Rattle.bridge_run.specs.declared.tally.RuleCount.{RuleCount}
-use Rattle.bridge_run.specs.Frames.{frame_count}
-use Rattle.bridge_run.specs.Moments.{Seen}
-use Rattle.bridge_run.specs.OneSided.{asked_one_sided}
 use Rattle.bridge_run.specs.Stops.{Told, memory_line}
 
 -- the settings of a load: the standard ones, where 10.0.0.0/8 is trusted
@@ -95,4 +94,4 @@ LoadLeaves seed count status before now =
 
 -- the words ask for a load of so many records from this seed
 abbrev pub AsksLoad : List (List ℕ) → (seed count : ℕ) → Type 0
-AsksLoad words seed count = asked_one_sided words ≡ Ok (load seed count)
+AsksLoad words seed count = asked words ≡ Ok (load seed count)

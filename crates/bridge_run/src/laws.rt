@@ -1,17 +1,8 @@
 //! What each status says, row by row: laws over what stands when a run has stopped.
 ghost use Rattle.std.specs.Prelude.{◌⊎◌};
-ghost use Rattle.bridge_run.specs.Cut.{LawfulIsWrittenSoundly, WrittenWhole};
 ghost use Rattle.bridge_run.specs.Rows.{Leaves, UnderWords, UnderLoad, EndsSummed, EndsSummedInPart, EndsRefused, EndsFaulty, EndsCut, EndsUnread, EndsUnwritten, EndsUntold};
 ghost use Rattle.bridge_run.specs.Stopped.{Finishes, SaysOnly};
 ghost use Rattle.bridge_run.specs.Stops.{memory_line};
-
-use emit_mtu::laws::{
-    cut_packets_tell_one_stream, plain_packets_go_out, segments_carry_the_payload, segments_fit,
-};
-use norm_engine::laws::{
-    items_go_out, lawful_agrees, lawful_is_within, lawful_keeps_clean, lawful_tells_streams,
-};
-use receiver_model::laws::members_agree;
 
 /// At 0 the capture was normalized, or the report was given the summary of a load, and no count of faults rose.
 pub fn finished_runs_leave_all()
@@ -25,7 +16,7 @@ pub fn refused_words_leave_a_line()
 {}
 
 /// At 3 the capture was given the head and the frames of the packets before the fault, or nothing where the head has it, and the report their lines and the
-/// stop; nothing behind the head, record or block that has the fault was taken.
+/// stop; nothing behind the head, record or block that has the fault, or that is one too many where both sides are protected, was taken.
 pub fn faulty_inputs_leave_what_is_before()
     ensures { Leaves 3 (λ words before now. UnderWords words (λ settings. EndsFaulty settings before now)) }
 {}
@@ -57,25 +48,3 @@ pub fn failed_reports_leave_a_prefix()
 pub fn want_of_memory_leaves_a_line()
     ensures { Leaves 8 (λ words before now. SaysOnly memory_line before now) }
 {}
-
-/// Where no largest packet is given, what is written of a trace is the trace.
-pub fn unbounded_is_written_whole()
-    ensures { WrittenWhole }
-{}
-
-/// Of each lawful trace is written what its clean records carry, but for frames that are too long and can't be cut; what all receivers agree on; and nothing
-/// that is too long. No more is held than the settings allow.
-pub fn lawful_is_written_soundly()
-    ensures { LawfulIsWrittenSoundly }
-{
-    items_go_out();
-    lawful_keeps_clean();
-    lawful_is_within();
-    lawful_agrees();
-    lawful_tells_streams();
-    segments_fit();
-    segments_carry_the_payload();
-    plain_packets_go_out();
-    cut_packets_tell_one_stream();
-    members_agree();
-}

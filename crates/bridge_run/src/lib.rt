@@ -1,7 +1,6 @@
 //! A capture is read, each of its records judged, and the normalized capture written with its report; or a load is judged and summed up.
 #![tactic(auto)]
 
-mod cut;
 pub mod laws;
 mod load;
 mod runner;
@@ -10,6 +9,3 @@ mod tally;
 
 pub use load::run_load;
 pub use runner::{run, run_capture};
-
-#[cfg(test)]
-mod tests;

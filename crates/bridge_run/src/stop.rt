@@ -4,11 +4,13 @@ ghost use Rattle.edge_io.specs.Faults.{Rose};
 ghost use Rattle.rule_book.specs.Text.{last_text};
 ghost use Rattle.norm_settings.specs.Faults.{number_of};
 ghost use Rattle.rule_book.specs.declared.last.StopKind.TheVariants as kinds;
+ghost use Rattle.bridge_run.specs.Outputs as outputs;
 ghost use Rattle.bridge_run.specs.Stops as spec;
 
 use capture_input::InputFault;
 use edge_io::Sink;
 use norm_settings::WordFault;
+use record_relay::RelayFault;
 use rule_book::{Last, StopKind, last_line};
 
 /// Why a run stops before it has finished.
@@ -70,6 +72,26 @@ pub fn stop_at_capture(offset: u64) -> Stop
     Stop::At {
         kind: StopKind::Capture,
         offset,
+    }
+}
+
+/// The stop at the record or block with this offset, which is one too many.
+pub fn stop_at_too_many(offset: u64) -> Stop
+    ensures { result ≡ Stop.At kinds.Many offset }
+{
+    Stop::At {
+        kind: StopKind::Many,
+        offset,
+    }
+}
+
+/// The stop at a fault of this sink, at which what the record or block with this offset puts out was written.
+pub fn stop_at_sink(fault: RelayFault, offset: u64) -> Stop
+    ensures { result ≡ outputs.stop_by fault offset }
+{
+    match fault {
+        RelayFault::Capture => stop_at_capture(offset),
+        RelayFault::Report => Stop::Report,
     }
 }
 

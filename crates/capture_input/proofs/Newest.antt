@@ -19,10 +19,10 @@ use Rattle.capture_input.proofs.Heads.{behind_interface}
 use Rattle.capture_input.proofs.Walking.{some_link}
 
 -- Blocks that go on from others.
-record GoOn (inside : Option (List ℕ)) (ps qs : List Step) (r t : List ℕ) : Type 0 where
-  newer : List Step
-  are : qs ≡ newer ++ ps
-  walks : Walks inside (behind no_section ps) r newer t
+pub record GoOn (inside : Option (List ℕ)) (ps qs : List Step) (r t : List ℕ) : Type 0 where
+  pub newer : List Step
+  pub are : qs ≡ newer ++ ps
+  pub walks : Walks inside (behind no_section ps) r newer t
 
 -- where the older blocks have all the packets, the newest one gives none
 none_given : (given : Option Packet) (older : List Packet) (count : ℕ) → count ≤ length older → length (with_given given older) ≡ count → given ≡ None
@@ -35,7 +35,7 @@ silent_end [] step older none ends = (refl, ends.0)
 silent_end (packet ∷ others) step older none ends = let given : step.given ≡ Some packet = ends in absurd cc
 
 module _ (inside : Option (List ℕ)) (all : List ℕ) where
-  go_on : (ps qs : List Step) (r t : List ℕ) → Walks inside no_section all ps r → Walks inside no_section all qs t → length ps ≤ length qs → GoOn inside ps qs r t
+  pub go_on : (ps qs : List Step) (r t : List ℕ) → Walks inside no_section all ps r → Walks inside no_section all qs t → length ps ≤ length qs → GoOn inside ps qs r t
   go_on ps [] r t p q few =
       let same = same_steps inside no_section all ps [] r t p q (omega arith) in
       record { newer = []; are = sym same.0; walks = same.1 }

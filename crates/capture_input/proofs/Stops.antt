@@ -15,12 +15,12 @@ use Rattle.pcapng_file.specs.Reads as sections
 use Rattle.capture_input.specs.declared.fault.InputFault.{InputFault}
 use Rattle.capture_input.specs.declared.fault.InputFault.TheVariants as faults
 use Rattle.capture_input.specs.Faults.{of_record, of_block, is_read_fault}
-use Rattle.capture_input.specs.Inputs.{records, blocks, IsFlawedRecord, Took, HasFaultAt}
+use Rattle.capture_input.specs.Inputs.{records, blocks, FailsBeforeInterface, IsFlawedRecord, Took, HasFaultAt}
 use Rattle.capture_input.specs.Reads.{StopsInClassicHead, StopsBeforeInterface, StopsClassic, IsRefused}
 use Rattle.capture_input.specs.Laws.{HeadStopsAreFaults, StopsAreFaults, WholeIsInput}
 
 -- a head that is refused
-refuses : (inside a b : Option (List ℕ)) (fault : InputFault) → is_read_fault fault ≡ false → StopsClassic inside a b fault → IsRefused inside a b fault
+pub refuses : (inside a b : Option (List ℕ)) (fault : InputFault) → is_read_fault fault ≡ false → StopsClassic inside a b fault → IsRefused inside a b fault
 refuses inside a b faults.Cut other p = p
 refuses inside a b faults.Magic other p = p
 refuses inside a b faults.Version other p = p
@@ -46,7 +46,7 @@ faulty_here : (inside : Option (List ℕ)) (s : Sections) (y : List ℕ) (b : Op
 faulty_here inside s y None fault p = absurd p.taken
 faulty_here inside s y (Some z) fault p = ap (block_at inside s) p.taken ∙ p.flawed z
 
-block_flawed : (inside : Option (List ℕ)) (s : Sections) (y : List ℕ) (b : Option (List ℕ)) (fault : NgFault) → is_read_fault (of_block fault) ≡ false → sections.Stops inside s (Some y) b fault
+pub block_flawed : (inside : Option (List ℕ)) (s : Sections) (y : List ℕ) (b : Option (List ℕ)) (fault : NgFault) → is_read_fault (of_block fault) ≡ false → sections.Stops inside s (Some y) b fault
     → block_at inside s y ≡ Err fault
 block_flawed inside s y b block_faults.Cut other p = cut_here inside s y b p
 block_flawed inside s y b block_faults.Magic other p = faulty_here inside s y b block_faults.Magic p
@@ -57,18 +57,18 @@ block_flawed inside s y b block_faults.Long other p = faulty_here inside s y b b
 block_flawed inside s y b block_faults.Many other p = faulty_here inside s y b block_faults.Many p
 block_flawed inside s y b block_faults.ReadFault other p = absurd cc
 
-not_read : (fault : InputFault) (flaw : NgFault) → fault ≡ of_block flaw → is_read_fault fault ≡ false → is_read_fault (of_block flaw) ≡ false
+pub not_read : (fault : InputFault) (flaw : NgFault) → fault ≡ of_block flaw → is_read_fault fault ≡ false → is_read_fault (of_block flaw) ≡ false
 not_read fault flaw is other = subst (λ (f : InputFault). is_read_fault f ≡ false) is other
 
-sections_head_stops : (inside a m b : Option (List ℕ)) (fault : InputFault) (offset : ℕ) → is_read_fault fault ≡ false → (p : StopsBeforeInterface inside a b fault offset) → p.stops.between ≡ m
-    → HasFaultAt inside a fault offset
-sections_head_stops inside None m b fault offset other p is = tt
-sections_head_stops inside (Some x) None b fault offset other p is =
+-- the block in the head that has the fault
+pub before_interface : (inside : Option (List ℕ)) (x : List ℕ) (m b : Option (List ℕ)) (fault : InputFault) (offset : ℕ) → is_read_fault fault ≡ false
+    → (p : StopsBeforeInterface inside (Some x) b fault offset) → p.stops.between ≡ m → FailsBeforeInterface inside x fault offset
+before_interface inside x None b fault offset other p is =
     absurd (subst (λ (m : Option (List ℕ)). Consumes (Some x) m p.stops.taken.octets) is p.stops.taken.taken)
-sections_head_stops inside (Some x) (Some y) b fault offset other p is =
+before_interface inside x (Some y) b fault offset other p is =
     let taken : x ≡ p.stops.taken.octets ++ y = subst (λ (m : Option (List ℕ)). Consumes (Some x) m p.stops.taken.octets) is p.stops.taken.taken in
     let stops : sections.Stops inside (behind no_section p.stops.steps) (Some y) b p.flaw = subst (λ (m : Option (List ℕ)). sections.Stops inside (behind no_section p.stops.steps) m b p.flaw) is p.stops.stops in
-    inl (inr (record {
+    record {
       kind = p.kind;
       steps = p.stops.steps;
       rest = y;
@@ -80,14 +80,18 @@ sections_head_stops inside (Some x) (Some y) b fault offset other p is =
         is = p.is;
       };
       place = p.stops.place;
-    }))
+    }
+
+sections_head_stops : (inside a b : Option (List ℕ)) (fault : InputFault) (offset : ℕ) → is_read_fault fault ≡ false → StopsBeforeInterface inside a b fault offset → HasFaultAt inside a fault offset
+sections_head_stops inside None b fault offset other p = tt
+sections_head_stops inside (Some x) b fault offset other p = inl (inr (before_interface inside x p.stops.between b fault offset other p refl))
 
 pub head_stops : HeadStopsAreFaults
 head_stops inside a b fault offset other (inl p) = classic_head_stops inside a b fault offset other p
-head_stops inside a b fault offset other (inr p) = sections_head_stops inside a p.stops.between b fault offset other p refl
+head_stops inside a b fault offset other (inr p) = sections_head_stops inside a b fault offset other p
 
 -- a record that is at fault
-record_flawed : (head : Head) (count : ℕ) (y : List ℕ) (b : Option (List ℕ)) (cause : RecordFault) (fault : InputFault) → is_read_fault fault ≡ false → fault ≡ of_record cause
+pub record_flawed : (head : Head) (count : ℕ) (y : List ℕ) (b : Option (List ℕ)) (cause : RecordFault) (fault : InputFault) → is_read_fault fault ≡ false → fault ≡ of_record cause
     → classic.FailsWith head.order count (Some y) b cause → IsFlawedRecord head count y fault
 record_flawed head count y b record_faults.Cut fault other is p = record { flaw = cut_short; flawed = p.flawed; is = is }
 record_flawed head count y b record_faults.Long fault other is p = record { flaw = too_long; flawed = p.flawed; is = is }

@@ -33,7 +33,7 @@ head_one None head other p q = absurd p
 head_one (Some link) head other p q = p ∙ sym q
 
 -- behind an interface octets end well
-ends_by : (link : Option Link) (head : Head) → IsHeadOf link head → end_by link ≡ Ok None
+pub ends_by : (link : Option Link) (head : Head) → IsHeadOf link head → end_by link ≡ Ok None
 ends_by None head p = absurd p
 ends_by (Some link) head p = refl
 

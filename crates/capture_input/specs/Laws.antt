@@ -1,5 +1,5 @@
 -- Laws of the definitions of an input.
-use Rattle.std.specs.Prelude.{◌≡◌, ◌⊎◌, ℕ, false, List, length, Option}
+use Rattle.std.specs.Prelude.{◌≡◌, ◌⊎◌, ◌≤◌, ℕ, false, List, length, Option, Some}
 use Rattle.pcap_file.specs.declared.head.Head.{Head}
 use Rattle.pcap_file.specs.Records.{Packet}
 use Rattle.capture_input.specs.declared.fault.InputFault.{InputFault}
@@ -46,6 +46,25 @@ abbrev pub StopsAreFaults : Type 0
 StopsAreFaults =
     (inside old between new : Option (List ℕ)) (head : Head) (walk : Walk) (fault : InputFault) → is_read_fault fault ≡ false
     → Took inside old between head walk → StopsAt inside head walk between new fault → HasFaultAt inside old fault (place_behind walk)
+
+-- Octets that are an input begin with no more packets than it has.
+abbrev pub InputHasAll : Type 0
+InputHasAll =
+    (inside : Option (List ℕ)) (octets : List ℕ) (head other : Head) (packets : List Packet) (walk : Walk) (rest : List ℕ)
+    → IsInput inside octets head packets → BeginsWith inside octets other walk rest → length (packets_in walk) ≤ length packets
+
+-- Where opening an input stops, and the source did not fail, the octets that it told do not begin with a head that is accepted.
+abbrev pub HeadStopsLeaveNone : Type 0
+HeadStopsLeaveNone =
+    (inside new : Option (List ℕ)) (octets : List ℕ) (fault : InputFault) (offset : ℕ) (head : Head) (walk : Walk) (rest : List ℕ) → is_read_fault fault ≡ false
+    → StopsInHead inside (Some octets) new fault offset → BeginsWith inside octets head walk rest → ⊥
+
+-- Where reading stops behind what was read, and the source did not fail, they begin with no more packets than were read.
+abbrev pub StopsLeaveNone : Type 0
+StopsLeaveNone =
+    (inside between new : Option (List ℕ)) (octets : List ℕ) (fault : InputFault) (head other : Head) (walk farther : Walk) (rest : List ℕ) → is_read_fault fault ≡ false
+    → Took inside (Some octets) between head walk → StopsAt inside head walk between new fault → BeginsWith inside octets other farther rest
+    → length (packets_in farther) ≤ length (packets_in walk)
 
 -- Octets that were read to their end are an input.
 abbrev pub WholeIsInput : Type 0

@@ -121,6 +121,10 @@ pub record StopsBehind (old new : Input) (inside : Option (List ℕ)) (walk : Wa
   pub place : asked_in new ≡ place_behind farther
   pub closed : is_open_in new ≡ false
 
+-- a record without the side that it has
+abbrev pub sideless : Record → Record
+sideless given = record given { side = None }
+
 -- the next packet was read, or there is none, or this is the fault
 abbrev pub Reads : (old new : Input) → (inside : Option (List ℕ)) → Walk → (before after : Option (List ℕ)) → Result (Option Record) InputFault → Type 0
 Reads old new inside walk before after (Ok None) = ReachesEnd old new inside walk before after

@@ -1,11 +1,11 @@
 //! Reads the packets of a capture one by one.
-ghost use Rattle.std.specs.Prelude.{◌≡◌, ◌≤◌, ℕ, List, length, true, false, option_map, IfSome};
+ghost use Rattle.std.specs.Prelude.{◌≡◌, ◌≤◌, ℕ, List, length, true, false, None, option_map, IfOk, IfSome};
 ghost use Rattle.std.specs.declared.option.Option.{Option};
 ghost use Rattle.edge_io.specs.Faults.{Rose};
 ghost use Rattle.capture_input.specs.Faults.{has_read_fault, only_fault};
 ghost use Rattle.capture_input.specs.Inputs.{Walk};
 ghost use Rattle.capture_input.specs.Reading.{head_in, asked_in, is_open_in, Behind};
-ghost use Rattle.capture_input.specs.Reads.{Opens, Reads};
+ghost use Rattle.capture_input.specs.Reads.{Opens, Reads, sideless};
 
 use crate::opening::{open_classic, open_sections};
 use crate::{InputFault, OpenFault};
@@ -72,7 +72,8 @@ impl Input {
         }
     }
 
-    /// The next packet, its octets in the buffer, at the place of its record or block.
+    /// The next packet, its octets in the buffer, at the place of its record or block. It has a side of its own only where the name of the interface on the
+    /// inside is given.
     pub fn next<'a, S: Source>(
         &mut self,
         source: &mut S,
@@ -82,13 +83,27 @@ impl Input {
         requires room { 262144 ≤ length buf.old }
         ensures octets { (inside : Option (List ℕ)) (walk : Walk) → Behind self.old inside walk
             → Reads self.old self.new inside walk (S.left source.old) (S.left source.new) result }
+        ensures sideless { (walk : Walk) → Behind self.old None walk → IfOk result (λ given. IfSome given (λ r. r.side ≡ None)) }
         ensures later { S.fault_count source.old ≤ S.fault_count source.new }
         ensures kept { has_read_fault result ≡ false → S.fault_count source.new ≡ S.fault_count source.old }
         ensures cause { has_read_fault result ≡ true → Rose (S.fault_count source.old) (S.fault_count source.new) }
     {
         match self {
-            Input::Classic(_, reader) => Ok(reader.next(source, buf)?),
+            Input::Classic(_, reader) => Ok(without_side(reader.next(source, buf)?)),
             Input::Sections(reader) => Ok(reader.next(source, buf)?),
         }
+    }
+}
+
+// A record of a classic file, which tells no sides.
+fn without_side(given: Option<Record<'_>>) -> Option<Record<'_>>
+    ensures { result ≡ option_map sideless given.entry }
+{
+    match given {
+        Some(record) => Some(Record {
+            side: None,
+            ..record
+        }),
+        None => None,
     }
 }

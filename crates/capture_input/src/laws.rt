@@ -1,5 +1,5 @@
 //! Laws over the definitions alone.
-ghost use Rattle.capture_input.specs.Laws.{InputIsOne, BeginningIsOne, FaultIsOne, FaultExcludesEnd, EachInputEnds, HeadStopsAreFaults, StopsAreFaults, WholeIsInput};
+ghost use Rattle.capture_input.specs.Laws.{InputIsOne, BeginningIsOne, FaultIsOne, FaultExcludesEnd, EachInputEnds, HeadStopsAreFaults, HeadStopsLeaveNone, InputHasAll, StopsAreFaults, StopsLeaveNone, WholeIsInput};
 
 /// An input has one head and one list of packets.
 pub fn input_is_one()
@@ -39,4 +39,11 @@ pub fn stops_are_faults()
 /// What was read to its end is an input.
 pub fn whole_is_input()
     ensures { WholeIsInput }
+{}
+
+/// Nothing more can be read behind the end, or behind the first fault: octets begin with no more packets than were read before it.
+pub fn nothing_is_left()
+    ensures input { InputHasAll }
+    ensures head { HeadStopsLeaveNone }
+    ensures stops { StopsLeaveNone }
 {}

@@ -108,8 +108,8 @@ WrittenIsYes =
     (settings : PlainSettings) (head : Head) (trace : List Item) → IsSound settings head.link trace → FitsFiles trace
     → IsYes settings.hops (Some (report_written trace)) (Some (capture_written head trace)) (length (eras_named (entries_written trace))) (length (records_written trace))
 
--- What a finished run took and wrote, where it has no largest packet: these octets are a capture with this head, whose records have this lawful trace; at most
--- 2^32 - 1 frames were written, each of at most 262,144 octets, and the report is not too long.
+-- These octets are a capture with this head, whose records have this lawful trace; it has at most 2^32 - 1 frames, each of at most 262,144 octets, and its report
+-- is not too long. A finished run by one engine, without a largest packet, took such octets and wrote that trace.
 pub record WasRun (settings : PlainSettings) (head : Head) (source : List ℕ) (trace : List Item) : Type 0 where
   pub hops : settings.hops ≤ 254
   pub octets : AreOctets source
@@ -119,7 +119,7 @@ pub record WasRun (settings : PlainSettings) (head : Head) (source : List ℕ) (
   pub few : length (frames_written trace) ≤ 4294967295
   pub small : length (report_written trace) ≤ is_most
 
--- Of the two files that such a run wrote, with the number of its routers, an audit says yes.
+-- Of the two files that are written of such a trace, with the number of its routers, an audit says yes.
 abbrev pub RunIsYes : Type 0
 RunIsYes =
     (settings : PlainSettings) (head : Head) (source : List ℕ) (trace : List Item) → WasRun settings head source trace

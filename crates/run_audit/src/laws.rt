@@ -93,7 +93,7 @@ pub fn written_is_yes()
     lawful_is_yes();
 }
 
-/// Of the two files that a finished run without a largest packet wrote an audit says yes.
+/// Of the two files that a finished run by one engine, without a largest packet, wrote an audit says yes.
 pub fn run_is_yes()
     ensures { RunIsYes }
 {

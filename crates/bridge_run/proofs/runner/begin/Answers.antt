@@ -1,22 +1,25 @@
 use Rattle.std.proofs.Common.{ℕ, List, Option, refl, inl, inr, subst}
+use Rattle.std.specs.Io.KnownBytes.{Appends}
 use Rattle.edge_io.specs.Octets.{AppendsPart}
 use Rattle.pcap_file.specs.declared.head.Head.{Head}
 use Rattle.pcap_file.specs.Heads.{head_octets}
 use Rattle.capture_input.specs.Reading.{head_in}
 use Rattle.capture_input.specs.Reads.{OpensAt, StopsInHead}
 use Rattle.norm_settings.specs.Settings.{plain_settings}
-use Rattle.bridge_run.specs.Moments.{Moment, moment_of, sinks_of}
+use Rattle.record_relay.specs.Sinks.{sinks_of}
+use Rattle.record_relay.proofs.Outputs.{part_of, whole_of}
+use Rattle.bridge_run.specs.Moments.{Moment, moment_of}
 use Rattle.bridge_run.specs.Outputs.{first_outputs}
 use Rattle.bridge_run.specs.Stopped.{StopsAtHead}
-use Rattle.bridge_run.proofs.Outputs.{part_of, whole_of, first_broke, given_first, capture_broke, broke_behind}
+use Rattle.bridge_run.proofs.Outputs.{first_broke, given_first, capture_broke, broke_behind, head_some}
 use Rattle.bridge_run.proofs.Reading.{stands_faulty}
-use Rattle.bridge_run.proofs.Writing.{head_some}
 use Rattle.bridge_run.proofs.runner.begin.Goals as goal
 
 pub returns-then-is_err-clause-stands : goal.returns-then-is_err-clause-stands
 returns-then-is_err-clause-stands g c = inl (record {
   untaken = refl;
-  broke = first_broke _ _ 0 _ _ refl (part_of c.put.result _ _ _ c.if-is_err.ensures.value c.put.ensures.octets);
+  broke = first_broke _ _ 0 _ _ refl
+      (subst (AppendsPart (g.R.Sink.held c.args.report.now) (g.R.Sink.held c.put.new.self)) c.first_line.ensures (part_of c.put.result _ _ _ c.if-is_err.ensures.value c.put.ensures.octets));
 })
 
 pub returns-in-Err-clause-stands : goal.returns-in-Err-clause-stands
@@ -26,7 +29,8 @@ returns-in-Err-clause-stands g c =
     let now : Moment = moment_of (g.S.Source.left c.open.new.source) (g.S.Source.fault_count c.open.new.source) (g.K.Sink.held c.args.capture.now) (g.K.Sink.fault_count c.args.capture.now) (g.R.Sink.held c.put.new.self) (g.R.Sink.fault_count c.put.new.self) in
     let head : StopsAtHead settings c.in-Err.stop.fault c.in-Err.stop.offset before now = record {
       found = subst (λ (inside : Option (List ℕ)). StopsInHead inside before.source.octets now.source.octets c.in-Err.stop.fault c.in-Err.stop.offset) c.inside_of.ensures.name c.in-Err.ensures.octets;
-      given = given_first _ before.sinks now.sinks refl (whole_of c.put.result _ _ _ c.if-is_err.ensures.value c.put.ensures.octets);
+      given = given_first _ before.sinks now.sinks refl
+          (subst (Appends before.sinks.report.octets now.sinks.report.octets) c.first_line.ensures (whole_of c.put.result _ _ _ c.if-is_err.ensures.value c.put.ensures.octets));
     } in
     rw c.stop_at_fault.ensures (stands_faulty settings c.in-Err.stop.fault c.in-Err.stop.offset before now (inl head))
 
@@ -43,7 +47,8 @@ returns-then-is_err-2-clause-stands g c =
       silent = opens.silent;
       ends = opens.ends;
       took = opens.took;
-      broke = broke_behind first_outputs _ 0 _ _ (sinks_of (g.K.Sink.held c.args.capture.now) (g.K.Sink.fault_count c.args.capture.now) (g.R.Sink.held c.put.new.self) (g.R.Sink.fault_count c.put.new.self)) _
-          (given_first _ _ _ refl (whole_of c.put.result _ _ _ c.if-is_err.ensures.value c.put.ensures.octets))
+      broke = broke_behind (first_outputs (plain_settings c.args.settings.now).both) _ 0 _ _ (sinks_of (g.K.Sink.held c.args.capture.now) (g.K.Sink.fault_count c.args.capture.now) (g.R.Sink.held c.put.new.self) (g.R.Sink.fault_count c.put.new.self)) _
+          (given_first _ _ _ refl
+          (subst (Appends (g.R.Sink.held c.args.report.now) (g.R.Sink.held c.put.new.self)) c.first_line.ensures (whole_of c.put.result _ _ _ c.if-is_err.ensures.value c.put.ensures.octets)))
           (capture_broke _ _ 0 _ _ (head_some (head_in c.in-Ok.input)) part refl);
     })))

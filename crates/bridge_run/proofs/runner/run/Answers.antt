@@ -1,33 +1,37 @@
-use Rattle.std.proofs.Common.{map, string_bytes, inl, inr}
+use Rattle.std.proofs.Common.{inl, inr}
 use Rattle.norm_settings.specs.Asked.{plain_names}
 use Rattle.norm_settings.specs.Settings.{plain_settings}
-use Rattle.bridge_run.proofs.OneSided.{runs}
 use Rattle.bridge_run.proofs.runner.run.Goals as goal
 
-pub returns-else-settings-clause-finished : goal.returns-else-settings-clause-finished
-returns-else-settings-clause-finished g c = λ e. inl (record {
+pub run_capture-requires-clause-together : goal.run_capture-requires-clause-together
+run_capture-requires-clause-together g c =
+    let words = rw c.in-Run.is at c.in-Ok.ensures.together in
+    record { mirror = λ both. words.mirror; inside = words.inside; mtu = words.mtu }
+
+pub returns-in-Run-clause-finished : goal.returns-in-Run-clause-finished
+returns-in-Run-clause-finished g c = λ e. inl (record {
   settings = plain_settings c.in-Run.settings;
-  accepted = runs (map string_bytes c.args.words.now) (plain_names c.in-Run._names) (plain_settings c.in-Run.settings) (rw c.in-Run.is at c.in-Ok.ensures.ok) c.if-settings.false;
+  accepted = (plain_names c.in-Run._names, rw c.in-Run.is at c.in-Ok.ensures.ok);
   normalized = c.run_capture.ensures.finished e;
 })
 
-pub returns-else-settings-clause-stopped : goal.returns-else-settings-clause-stopped
-returns-else-settings-clause-stopped g c = inr (inr (inl (
+pub returns-in-Run-clause-stopped : goal.returns-in-Run-clause-stopped
+returns-in-Run-clause-stopped g c = inr (inr (inl (
   plain_settings c.in-Run.settings,
-  runs (map string_bytes c.args.words.now) (plain_names c.in-Run._names) (plain_settings c.in-Run.settings) (rw c.in-Run.is at c.in-Ok.ensures.ok) c.if-settings.false,
+  (plain_names c.in-Run._names, rw c.in-Run.is at c.in-Ok.ensures.ok),
   c.run_capture.ensures.stopped,
 )))
 
-pub returns-else-settings-clause-faulty : goal.returns-else-settings-clause-faulty
-returns-else-settings-clause-faulty g c = λ e. (
+pub returns-in-Run-clause-faulty : goal.returns-in-Run-clause-faulty
+returns-in-Run-clause-faulty g c = λ e. (
   plain_settings c.in-Run.settings,
-  runs (map string_bytes c.args.words.now) (plain_names c.in-Run._names) (plain_settings c.in-Run.settings) (rw c.in-Run.is at c.in-Ok.ensures.ok) c.if-settings.false,
+  (plain_names c.in-Run._names, rw c.in-Run.is at c.in-Ok.ensures.ok),
   c.run_capture.ensures.faulty e,
 )
 
-pub returns-else-settings-clause-cut : goal.returns-else-settings-clause-cut
-returns-else-settings-clause-cut g c = λ e. (
+pub returns-in-Run-clause-cut : goal.returns-in-Run-clause-cut
+returns-in-Run-clause-cut g c = λ e. (
   plain_settings c.in-Run.settings,
-  runs (map string_bytes c.args.words.now) (plain_names c.in-Run._names) (plain_settings c.in-Run.settings) (rw c.in-Run.is at c.in-Ok.ensures.ok) c.if-settings.false,
+  (plain_names c.in-Run._names, rw c.in-Run.is at c.in-Ok.ensures.ok),
   c.run_capture.ensures.cut e,
 )

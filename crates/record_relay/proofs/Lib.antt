@@ -1,0 +1,9 @@
+pub mod Outputs
+pub mod Writing
+pub mod Cutting
+pub mod Writtens
+pub mod Relaying
+pub mod Answering
+pub mod Going
+pub mod Standing
+pub mod Mirrors

@@ -1,0 +1,15 @@
+use Rattle.std.proofs.Common.{◌≡◌, length, take, Some}
+use Rattle.std.specs.Io.KnownBytes.{Appends}
+use Rattle.pcap_file.specs.Reads.{shown}
+use Rattle.record_relay.specs.Cut.{TellsAll, frames_written}
+use Rattle.record_relay.specs.Frames.{frame_octets}
+use Rattle.record_relay.proofs.cut.write_cut.Given as goal
+
+abbrev pub invariant-loop-index : goal.invariant-loop-index
+invariant-loop-index g l = record {
+  written : Appends (g.K.Sink.held l.fn.capture) (g.K.Sink.held l.capture)
+      (frame_octets l.fn.head.order (shown l.fn.input) (frames_written (Some l.fn.mtu) l.fn.head.link (take l.index l.fn.out)));
+  tells : TellsAll l.fn.mtu l.fn.head.link (take l.index l.fn.out) l.emitted;
+  counted : g.K.Sink.fault_count l.capture ≡ g.K.Sink.fault_count l.fn.capture;
+  room : length l.segment ≡ length l.fn.segment;
+}

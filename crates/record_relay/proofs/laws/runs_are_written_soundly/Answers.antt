@@ -1,0 +1,11 @@
+use Rattle.record_relay.proofs.Standing.{soundly}
+use Rattle.record_relay.proofs.laws.runs_are_written_soundly.Goals as goal
+
+pub returns : goal.returns
+returns c = soundly (record {
+  written = c.lawful_is_written_soundly.ensures;
+  clean = c.lawful_keeps_clean.ensures;
+  within = c.lawful_is_within.ensures;
+  through = c.frames_go_through.ensures;
+  agree = c.both_agree.ensures;
+})

@@ -1,0 +1,87 @@
+-- Laws of the traces of runs, and of what is put out for them.
+use Rattle.std.specs.Prelude.{◌≡◌, false, List, [], ◌∷◌, None}
+use Rattle.wire_base.specs.declared.address.Link.{Link}
+use Rattle.pcap_file.specs.declared.order.Order.{Order}
+use Rattle.pcap_file.specs.Records.{Packet}
+use Rattle.rule_book.specs.declared.last.Last.{Last}
+use Rattle.rule_book.specs.Text.{report_text}
+use Rattle.norm_settings.specs.Settings.{AreInRange, PlainSettings}
+use Rattle.norm_engine.specs.Items.{Item, entries}
+use Rattle.norm_engine.specs.Agreement.{Agree}
+use Rattle.norm_engine.specs.Clean.{CleanIsKept}
+use Rattle.norm_engine.specs.Laws.{IsAlwaysWithin}
+use Rattle.both_sides.specs.Laws.{InwardGoesThrough}
+use Rattle.both_sides.specs.Traces.{mirrored, AreLawful}
+use Rattle.record_relay.specs.Cut.{IsWrittenSoundly, written}
+use Rattle.record_relay.specs.Frames.{frame_count, frames_octets}
+use Rattle.record_relay.specs.Puts.{count_put, next_put, octets_put, puts, report_of}
+use Rattle.record_relay.specs.Relays.{CanRun}
+use Rattle.record_relay.specs.Runs.{LawfulRun, RunHasNoSide, RunHasOctets, RunTrace, empty_run, next_run, one, packets_of, two}
+
+-- The run has no records, is lawful, and nothing is put out for it.
+pub record Begins (settings : PlainSettings) (link : Link) (run : RunTrace) : Type 0 where
+  pub lawful : LawfulRun settings link run
+  pub taken : packets_of run ≡ []
+  pub put : puts settings link run ≡ []
+  pub octets : RunHasOctets settings run
+  pub sideless : RunHasNoSide run
+
+-- A run begins so, with one engine or with two.
+abbrev pub RunsBegin : Type 0
+RunsBegin = (settings : PlainSettings) (link : Link) → Begins settings link (empty_run settings.both)
+
+-- A run with one record more has that record, is lawful where the run was, and puts out more what is put out for the record.
+pub record GoesOn (settings : PlainSettings) (link : Link) (run : RunTrace) (r : Packet) : Type 0 where
+  pub lawful : LawfulRun settings link run → LawfulRun settings link (next_run settings link run r)
+  pub taken : packets_of (next_run settings link run r) ≡ r ∷ packets_of run
+  pub put : puts settings link (next_run settings link run r) ≡ next_put settings link run r ∷ puts settings link run
+  pub sideless : RunHasNoSide run → r.side ≡ None → RunHasNoSide (next_run settings link run r)
+
+abbrev pub RunsGoOn : Type 0
+RunsGoOn = (settings : PlainSettings) (link : Link) (run : RunTrace) (r : Packet) → GoesOn settings link run r
+
+-- What is put out by one engine is its trace as it is written: the frames, how many there are, and the report.
+pub record PutsItsTrace (settings : PlainSettings) (link : Link) (trace : List Item) : Type 0 where
+  pub octets : (order : Order) → octets_put order (puts settings link (one trace)) ≡ frames_octets order (written settings link trace)
+  pub count : count_put (puts settings link (one trace)) ≡ frame_count (written settings link trace)
+  pub report : (last : Last) → report_of false (puts settings link (one trace)) last ≡ report_text 2 (entries (written settings link trace)) last
+
+abbrev pub OnePutsItsTrace : Type 0
+OnePutsItsTrace = (settings : PlainSettings) (link : Link) (trace : List Item) → PutsItsTrace settings link trace
+
+-- What is put out by two engines is the trace of the second: its frames, each with the time of its record, and how many there are.
+pub record PutsItsMirror (settings : PlainSettings) (link : Link) (trace mirror : List Item) : Type 0 where
+  pub octets : (order : Order) → octets_put order (puts settings link (two trace mirror)) ≡ frames_octets order mirror
+  pub count : count_put (puts settings link (two trace mirror)) ≡ frame_count mirror
+
+abbrev pub TwoPutTheirMirror : Type 0
+TwoPutTheirMirror =
+    (settings : PlainSettings) (link : Link) (trace mirror : List Item) → AreLawful settings link trace mirror → PutsItsMirror settings link trace mirror
+
+-- Records have at most one lawful run.
+abbrev pub LawfulRunsAreOne : Type 0
+LawfulRunsAreOne =
+    (settings : PlainSettings) (link : Link) (run other : RunTrace) → LawfulRun settings link run → LawfulRun settings link other → packets_of run ≡ packets_of other
+    → run ≡ other
+
+-- What two engines write: the clean records of each keep their payload, and after none more is held than the settings allow; receivers agree on either side; and
+-- what goes inwards passes the second engine octet for octet, so that the first engine's agreement speaks of what was written.
+pub record AreWrittenSoundly (settings : PlainSettings) (link : Link) (trace mirror : List Item) : Type 0 where
+  pub clean_kept : CleanIsKept settings link trace
+  pub clean_kept_behind : CleanIsKept (mirrored settings) link mirror
+  pub within : IsAlwaysWithin settings link trace
+  pub within_behind : IsAlwaysWithin (mirrored settings) link mirror
+  pub agree : Agree settings.hops link trace
+  pub agree_behind : Agree settings.hops link mirror
+  pub through : InwardGoesThrough trace mirror
+
+-- what is written of a run, by one engine or by two
+abbrev pub RunIsWrittenSoundly : PlainSettings → Link → RunTrace → Type 0
+RunIsWrittenSoundly settings link (one trace) = IsWrittenSoundly settings link trace
+RunIsWrittenSoundly settings link (two trace mirror) = AreWrittenSoundly settings link trace mirror
+
+-- This holds of each lawful run over records of octets, which have no side of their own where both sides are protected.
+abbrev pub RunsAreWrittenSoundly : Type 0
+RunsAreWrittenSoundly =
+    (settings : PlainSettings) (link : Link) (run : RunTrace) → AreInRange settings → CanRun settings → LawfulRun settings link run → RunHasOctets settings run
+    → RunHasNoSide run → RunIsWrittenSoundly settings link run

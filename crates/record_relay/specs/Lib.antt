@@ -1,0 +1,9 @@
+pub mod Frames
+pub mod Cut
+pub mod Sinks
+pub mod Outputs
+pub mod Runs
+pub mod Puts
+pub mod Relays
+pub mod Judged
+pub mod Laws

@@ -1,0 +1,58 @@
+-- What a relay holds: one engine or two, and the run that they stand for (this project's profile).
+use Rattle.std.specs.Prelude.{◌≡◌, ℕ, ◌-◌, ◌^◌, ◌≤◌, nat_le, Bool, true, false, length, Option, None}
+use Rattle.wire_base.specs.declared.address.Link.{Link}
+use Rattle.norm_settings.specs.Settings.{PlainSettings, AreInRange}
+use Rattle.norm_engine.specs.Engine as single
+use Rattle.both_sides.specs.Both as double
+use Rattle.record_relay.specs.declared.engines.Engines.{Engines}
+use Rattle.record_relay.specs.declared.engines.Engines.TheVariants.{One, Two}
+use Rattle.record_relay.specs.Runs.{RunHasOctets, RunTrace, one, two}
+
+-- Settings of a run: where both sides are protected, the second engine alone has the sides exchanged, and neither the sides of interfaces nor a largest packet is
+-- given.
+pub record CanRun (s : PlainSettings) : Type 0 where
+  pub mirror : s.both ≡ true → s.mirror ≡ false
+  pub inside : s.both ≡ true → s.inside ≡ None
+  pub mtu : s.both ≡ true → s.mtu ≡ None
+
+-- the settings that the words asked for, which are those of the first engine
+abbrev pub settings_of : Engines → PlainSettings
+settings_of (One engine) = engine.settings
+settings_of (Two both) = both.first.settings
+
+abbrev pub link_of : Engines → Link
+link_of (One engine) = engine.link
+link_of (Two both) = both.first.link
+
+-- how many records of the capture came
+abbrev pub records_of : Engines → ℕ
+records_of (One engine) = engine.records
+records_of (Two both) = both.first.records
+
+-- how many records may come: the second engine counts at most two for each of the first
+abbrev pub most_records : Engines → ℕ
+most_records (One engine) = 2 ^ 32 - 1
+most_records (Two both) = 2 ^ 31 - 1
+
+-- as many records came as may
+abbrev pub is_full_of : Engines → Bool
+is_full_of engines = nat_le (most_records engines) (records_of engines)
+
+-- one engine stands for its trace, and two for their pair of traces
+abbrev pub StandsForRun : Engines → RunTrace → Type 0
+StandsForRun (One engine) (one trace) = single.StandsFor engine trace
+StandsForRun (One engine) (two trace mirror) = ⊥
+StandsForRun (Two both) (one trace) = ⊥
+StandsForRun (Two both) (two trace mirror) = double.StandsFor both trace mirror
+
+-- one engine has its largest packet and the room of one segment; of two the second has had each frame of the first
+abbrev pub IsReady : Engines → (mtu : Option ℕ) → (room : ℕ) → Type 0
+IsReady (One engine) mtu room = (engine.settings.mtu ≡ mtu) × AreInRange engine.settings × (65549 ≤ room)
+IsReady (Two both) mtu room = length both.pending ≡ 0
+
+-- What a relay keeps: its engines are ready, and stand for some run over records of octets.
+pub record IsKept (engines : Engines) (mtu : Option ℕ) (room : ℕ) : Type 0 where
+  pub ready : IsReady engines mtu room
+  pub run : RunTrace
+  pub stands : StandsForRun engines run
+  pub octets : RunHasOctets (settings_of engines) run

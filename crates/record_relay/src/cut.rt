@@ -1,0 +1,256 @@
+//! What goes out in place of the frames of a record: each is written as it is, cut where it is longer than the largest packet of the link behind, or kept back.
+ghost use Rattle.std.specs.Prelude.{◌≡◌, ◌≤◌, ◌<◌, ◌+◌, ◌^◌, ◌||◌, ℕ, All, Some, length, slice_index, IfOk, IfSome, OnOk, OnErr};
+ghost use Rattle.edge_io.specs.Faults.{HasCause};
+ghost use Rattle.edge_io.specs.Octets.{Puts};
+ghost use Rattle.pcap_file.specs.Reads.{shown};
+ghost use Rattle.rule_book.specs.Entries.{plain};
+ghost use Rattle.emit_mtu.specs.Frames.{AreOctets, IsSent};
+ghost use Rattle.emit_mtu.specs.Long.{long_kind};
+ghost use Rattle.emit_mtu.specs.Segments.{segments};
+ghost use Rattle.emit_mtu.specs.Streams.{frames_for};
+ghost use Rattle.emit_mtu.specs.declared.long.LongKind.TheVariants as kinds;
+ghost use Rattle.record_relay.specs.Frames.{frame_octets};
+ghost use Rattle.record_relay.specs.Cut as spec;
+
+use edge_io::{Failed, Outbox, Sink};
+use emit_mtu::laws::segments_fit;
+use emit_mtu::{Cutter, LongKind, long_kind};
+use pcap_file::{Head, Record, write_record};
+use rule_book::{Entry, Rule, Verdict};
+
+/// What became of a frame, or of all frames of a record.
+#[derive(Clone, Copy)]
+pub struct Emitted {
+    /// How many frames were written.
+    pub packets: u8,
+    /// A frame was cut.
+    pub cut: bool,
+    /// A frame did not go out.
+    pub kept_back: bool,
+}
+
+/// Writes the frames of a record as they go out, each with the record's time, and tells in its entry what became of them.
+/// `mtu` is how many octets a packet may have, if that is bounded, and `segment` has the room of one frame.
+pub fn write_item<K: Sink>(
+    out: &Outbox,
+    head: &Head,
+    mtu: Option<u16>,
+    input: &Record<'_>,
+    segment: &mut [u8],
+    capture: &mut K,
+    entry: &mut Entry,
+) -> Result<(), Failed>
+    requires sent { All (IsSent head.now.link) out.now }
+    requires least { IfSome mtu (λ most. 576 ≤ most) }
+    requires few { length (spec.frames_written mtu head.now.link out.now) < 256 }
+    requires named { length entry.old.rules.items ≤ 14 }
+    requires room { 65549 ≤ length segment.old }
+    ensures octets { Puts (K.held capture.old) (K.held capture.new) result
+        (frame_octets head.now.order (shown input.now) (spec.frames_written mtu head.now.link out.now)) }
+    ensures cause { HasCause (K.fault_count capture.old) (K.fault_count capture.new) result }
+    ensures some { OnErr result (0 < length (spec.frames_written mtu head.now.link out.now)) }
+    ensures entry { OnOk result (plain entry.new ≡ spec.entry_written mtu head.now.link out.now (plain entry.old)) }
+    ensures room { length segment.new ≡ length segment.old }
+{
+    match mtu {
+        None => write_frames(out, head, input, capture),
+        Some(mtu) => {
+            let Ok(emitted) = write_cut(out, head, mtu, input, segment, capture) else {
+                return Err(Failed);
+            };
+            tell_cut(emitted, entry);
+            Ok(())
+        }
+    }
+}
+
+/// Writes the frames of a record as they are.
+pub fn write_frames<K: Sink>(
+    out: &Outbox,
+    head: &Head,
+    input: &Record<'_>,
+    capture: &mut K,
+) -> Result<(), Failed>
+    ensures octets { Puts (K.held capture.old) (K.held capture.new) result
+        (frame_octets head.now.order (shown input.now) out.now) }
+    ensures cause { HasCause (K.fault_count capture.old) (K.fault_count capture.new) result }
+    ensures some { OnErr result (0 < length out.now) }
+{
+    for index in 0..out.frames() {
+        let frame = out.frame(index);
+        if write_record(capture, head, input.seconds, input.fraction, frame).is_err() {
+            return Err(Failed);
+        }
+    }
+    Ok(())
+}
+
+// Writes what goes out in place of the frames of a record, and answers what became of them.
+fn write_cut<K: Sink>(
+    out: &Outbox,
+    head: &Head,
+    mtu: u16,
+    input: &Record<'_>,
+    segment: &mut [u8],
+    capture: &mut K,
+) -> Result<Emitted, Failed>
+    requires sent { All (IsSent head.now.link) out.now }
+    requires least { 576 ≤ mtu }
+    requires few { length (spec.frames_written (Some mtu) head.now.link out.now) < 256 }
+    requires room { 65549 ≤ length segment.old }
+    ensures octets { Puts (K.held capture.old) (K.held capture.new) result
+        (frame_octets head.now.order (shown input.now) (spec.frames_written (Some mtu) head.now.link out.now)) }
+    ensures cause { HasCause (K.fault_count capture.old) (K.fault_count capture.new) result }
+    ensures some { OnErr result (0 < length (spec.frames_written (Some mtu) head.now.link out.now)) }
+    ensures tells { IfOk result (spec.TellsAll mtu head.now.link out.now) }
+    ensures room { length segment.new ≡ length segment.old }
+{
+    let mut emitted = Emitted {
+        packets: 0,
+        cut: false,
+        kept_back: false,
+    };
+    for index in 0..out.frames() {
+        let frame = out.frame(index);
+        let Ok(one) = write_one(frame, head, mtu, input, segment, capture) else {
+            return Err(Failed);
+        };
+        emitted = joined(emitted, one);
+    }
+    Ok(emitted)
+}
+
+// What became of some frames and of one more.
+fn joined(emitted: Emitted, one: Emitted) -> Emitted
+    requires { emitted.packets + one.packets < 256 }
+    ensures packets { result.packets ≡ emitted.packets + one.packets }
+    ensures cut { result.cut ≡ (emitted.cut || one.cut) }
+    ensures kept_back { result.kept_back ≡ (emitted.kept_back || one.kept_back) }
+{
+    Emitted {
+        packets: emitted.packets + one.packets,
+        cut: either(emitted.cut, one.cut),
+        kept_back: either(emitted.kept_back, one.kept_back),
+    }
+}
+
+fn either(a: bool, b: bool) -> bool
+    ensures { result ≡ (a || b) }
+{
+    a || b
+}
+
+// Writes what goes out in place of a frame, and answers what became of it.
+fn write_one<K: Sink>(
+    frame: &[u8],
+    head: &Head,
+    mtu: u16,
+    input: &Record<'_>,
+    segment: &mut [u8],
+    capture: &mut K,
+) -> Result<Emitted, Failed>
+    requires sent { IsSent head.now.link frame.now }
+    requires short { length frame.now ≤ 65549 }
+    requires least { 576 ≤ mtu }
+    requires room { 65549 ≤ length segment.old }
+    ensures octets { Puts (K.held capture.old) (K.held capture.new) result
+        (frame_octets head.now.order (shown input.now) (frames_for head.now.link mtu frame.now)) }
+    ensures cause { HasCause (K.fault_count capture.old) (K.fault_count capture.new) result }
+    ensures some { OnErr result (0 < length (frames_for head.now.link mtu frame.now)) }
+    ensures tells { IfOk result (spec.TellsOne mtu head.now.link frame.now) }
+    ensures room { length segment.new ≡ length segment.old }
+{
+    match long_kind(head.link, frame, mtu) {
+        LongKind::Fits => {
+            if write_record(capture, head, input.seconds, input.fraction, frame).is_err() {
+                return Err(Failed);
+            }
+            Ok(Emitted {
+                packets: 1,
+                cut: false,
+                kept_back: false,
+            })
+        }
+        LongKind::Cut => {
+            let Ok(packets) = write_segments(frame, head, mtu, input, segment, capture) else {
+                return Err(Failed);
+            };
+            Ok(Emitted {
+                packets,
+                cut: true,
+                kept_back: false,
+            })
+        }
+        LongKind::Drop => Ok(Emitted {
+            packets: 0,
+            cut: false,
+            kept_back: true,
+        }),
+    }
+}
+
+// Writes the segments of a frame that is cut, and answers how many there are.
+fn write_segments<K: Sink>(
+    frame: &[u8],
+    head: &Head,
+    mtu: u16,
+    input: &Record<'_>,
+    segment: &mut [u8],
+    capture: &mut K,
+) -> Result<u8, Failed>
+    requires sent { IsSent head.now.link frame.now }
+    requires cut { long_kind head.now.link mtu frame.now ≡ kinds.Cut }
+    requires least { 576 ≤ mtu }
+    requires room { 65549 ≤ length segment.old }
+    ensures octets { Puts (K.held capture.old) (K.held capture.new) result
+        (frame_octets head.now.order (shown input.now) (segments head.now.link mtu frame.now)) }
+    ensures cause { HasCause (K.fault_count capture.old) (K.fault_count capture.new) result }
+    ensures some { OnErr result (0 < length (segments head.now.link mtu frame.now)) }
+    ensures count { IfOk result (λ count. count ≡ length (segments head.now.link mtu frame.now)) }
+    ensures room { length segment.new ≡ length segment.old }
+{
+    segments_fit();
+    have_octets(frame);
+    let mut cutter = Cutter::new(head.link, mtu, frame);
+    let mut count = 0u8;
+    while let Some(size) = cutter.next(segment) {
+        let octets = &segment[..size];
+        if write_record(capture, head, input.seconds, input.fraction, octets).is_err() {
+            return Err(Failed);
+        }
+        count += 1;
+    }
+    Ok(count)
+}
+
+// Tells in an entry what became of the record's frames.
+fn tell_cut(emitted: Emitted, entry: &mut Entry)
+    requires { length entry.old.rules.items ≤ 14 }
+    ensures { plain entry.new ≡ spec.entry_cut emitted.cut emitted.kept_back emitted.packets (plain entry.old) }
+{
+    entry.packets = emitted.packets;
+    if emitted.cut {
+        entry.rules.push(Rule::ECut);
+        entry.verdict = Verdict::Fix;
+    }
+    if emitted.kept_back {
+        entry.rules.push(Rule::EMtu);
+        entry.verdict = Verdict::Drop;
+    }
+}
+
+/// What stands in frames is below 256.
+pub fn frames_have_octets(out: &Outbox)
+    ensures { All AreOctets out.now }
+{
+    for index in 0..out.frames() {
+        have_octets(out.frame(index));
+    }
+}
+
+/// What stands in a buffer of octets is below 256.
+pub fn have_octets(bytes: &[u8])
+    ensures { (at : ℕ) → slice_index bytes.now at < 2 ^ 8 }
+{
+    let _octets = bytes;
+}

@@ -1,0 +1,70 @@
+//! Laws of the traces of runs, and of what is put out for them.
+ghost use Rattle.record_relay.specs.Cut.{LawfulIsWrittenSoundly, WrittenWhole};
+ghost use Rattle.record_relay.specs.Laws.{LawfulRunsAreOne, OnePutsItsTrace, RunsAreWrittenSoundly, RunsBegin, RunsGoOn, TwoPutTheirMirror};
+
+use both_sides::laws::{both_agree, frames_go_through};
+use emit_mtu::laws::{
+    cut_packets_tell_one_stream, plain_packets_go_out, segments_carry_the_payload, segments_fit,
+};
+use norm_engine::laws::{
+    items_go_out, lawful_agrees, lawful_is_one, lawful_is_within, lawful_keeps_clean,
+    lawful_tells_streams,
+};
+use receiver_model::laws::members_agree;
+
+/// A run begins lawfully, with no records, and each record adds what is put out for it.
+pub fn runs_go_on()
+    ensures begin { RunsBegin }
+    ensures next { RunsGoOn }
+{}
+
+/// What is put out by one engine is its trace as it is written.
+pub fn one_puts_its_trace()
+    ensures { OnePutsItsTrace }
+{}
+
+/// What is put out by two engines is the trace of the second: the frames that are written are its frames.
+pub fn two_put_their_mirror()
+    ensures { TwoPutTheirMirror }
+{}
+
+/// Records have at most one lawful run, by one engine or by two.
+pub fn lawful_runs_are_one()
+    ensures { LawfulRunsAreOne }
+{
+    lawful_is_one();
+}
+
+/// Where no largest packet is given, what is written of a trace is the trace.
+pub fn unbounded_is_written_whole()
+    ensures { WrittenWhole }
+{}
+
+/// Of each lawful trace is written what its clean records carry, what all receivers agree on, and nothing that is too long; and no more is held than the
+/// settings allow.
+pub fn lawful_is_written_soundly()
+    ensures { LawfulIsWrittenSoundly }
+{
+    items_go_out();
+    lawful_keeps_clean();
+    lawful_is_within();
+    lawful_agrees();
+    lawful_tells_streams();
+    segments_fit();
+    segments_carry_the_payload();
+    plain_packets_go_out();
+    cut_packets_tell_one_stream();
+    members_agree();
+}
+
+/// The same of each lawful run, by one engine or by two: clean records keep their payload, no more is held than the settings allow, and receivers agree on
+/// either side that is protected.
+pub fn runs_are_written_soundly()
+    ensures { RunsAreWrittenSoundly }
+{
+    lawful_is_written_soundly();
+    lawful_keeps_clean();
+    lawful_is_within();
+    frames_go_through();
+    both_agree();
+}

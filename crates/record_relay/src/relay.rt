@@ -1,0 +1,158 @@
+//! The relay: each record of a capture is judged, and what goes out for it is written.
+use crate::RelayFault;
+use crate::engines::Engines;
+use crate::one::relay_one;
+use crate::two::relay_two;
+use edge_io::{MAX_FRAME, NoMemory, Outbox, Sink};
+use norm_settings::Settings;
+use pcap_file::{Head, Record};
+use std::alloc::Global;
+use std::marker::Model;
+use wire_base::Link;
+
+/// Judges the records of a capture, one after another, and writes what goes out for each. It takes all its memory when it is opened.
+#[derive(Drop)]
+pub struct Relay {
+    engines: Engines,
+    /// The largest packet of the link behind, in octets, if that is bounded.
+    mtu: Option<u16>,
+    /// The frames of one record; of two engines what goes out for the first frame of the first one.
+    out: Outbox,
+    /// What goes out for its second frame.
+    behind: Outbox,
+    /// The octets of one segment of a frame that is cut.
+    segment: Vec<u8>,
+}
+
+impl Model for Relay {
+    ghost use Rattle.std.specs.Prelude.{vec_len};
+    ghost use Rattle.record_relay.specs.declared.engines.Engines.{Engines};
+    ghost use Rattle.record_relay.specs.Relays.{IsKept};
+
+    ghost Value = { Engines };
+
+    ghost view = { λ r. r.engines };
+
+    ghost invariant = { λ r. IsKept r.engines r.mtu (vec_len r.segment) };
+}
+
+impl Relay {
+    ghost use Rattle.std.specs.Prelude.{◌≡◌, ◌≤◌, ◌<◌, false, [], IfOk, IfErr};
+    ghost use Rattle.wire_base.specs.declared.address.Link.TheVariants.{Raw};
+    ghost use Rattle.pcap_file.specs.Reads.{shown};
+    ghost use Rattle.norm_settings.specs.Settings.{plain_settings, AreInRange};
+    ghost use Rattle.record_relay.specs.Outputs.{BreaksOff};
+    ghost use Rattle.record_relay.specs.Puts.{IsPut, next_put, put_outputs};
+    ghost use Rattle.record_relay.specs.Relays.{CanRun, StandsForRun, is_full_of, link_of, records_of, settings_of};
+    ghost use Rattle.record_relay.specs.Runs.{RunHasOctets, RunTrace, empty_run, next_run};
+    ghost use Rattle.record_relay.specs.Sinks.{OnlyRose, sinks_of};
+
+    /// A relay for records of a raw link, before the first of them, with one engine, or with two where both sides are protected.
+    pub fn open(alloc: Global, settings: Settings) -> Result<Relay, NoMemory>
+        requires range { AreInRange (plain_settings settings) }
+        requires together { CanRun (plain_settings settings) }
+        ensures settings { IfOk result (λ relay. settings_of relay ≡ plain_settings settings) }
+        ensures link { IfOk result (λ relay. link_of relay ≡ Raw) }
+        ensures stands { IfOk result (λ relay. StandsForRun relay (empty_run settings.both)) }
+    {
+        let mtu = settings.mtu;
+        let out = Outbox::open(alloc)?;
+        let behind = Outbox::open(alloc)?;
+        let segment = vec![in alloc; 0u8; MAX_FRAME]?;
+        let engines = Engines::open(alloc, settings)?;
+        Ok(Relay {
+            engines,
+            mtu,
+            out,
+            behind,
+            segment,
+        })
+    }
+
+    /// Takes the records from here on as those of this link. No record came before.
+    pub fn set_link(&mut self, link: Link)
+        requires { records_of self.old ≡ 0 }
+        ensures link { link_of self.new ≡ link }
+        ensures settings { settings_of self.new ≡ settings_of self.old }
+        ensures stands { StandsForRun self.old (empty_run (settings_of self.old).both) → StandsForRun self.new (empty_run (settings_of self.old).both) }
+    {
+        match &mut self.engines {
+            Engines::One(engine) => engine.set_link(link),
+            Engines::Two(both) => both.set_link(link),
+        }
+    }
+
+    /// The number of records so far.
+    pub fn records(&self) -> u32
+        ensures { result ≡ records_of self.now }
+    {
+        match &self.engines {
+            Engines::One(engine) => engine.records(),
+            Engines::Two(both) => both.records(),
+        }
+    }
+
+    /// Whether as many records came as may: 2^32 - 1, and where both sides are protected 2^31 - 1.
+    pub fn is_full(&self) -> bool
+        ensures { result ≡ is_full_of self.now }
+    {
+        match &self.engines {
+            Engines::One(engine) => engine.records() >= u32::MAX,
+            Engines::Two(both) => both.records() >= u32::MAX / 2,
+        }
+    }
+
+    /// Judges one record, writes all its frames as they go out and then its lines, and answers how many frames it wrote. It takes no memory.
+    pub fn relay<K: Sink, R: Sink>(
+        &mut self,
+        head: &Head,
+        input: &Record<'_>,
+        capture: &mut K,
+        report: &mut R,
+    ) -> Result<u64, RelayFault>
+        requires room { is_full_of self.old ≡ false }
+        requires link { link_of self.old ≡ head.now.link }
+        ensures relayed { (run : RunTrace) → StandsForRun self.old run →
+            IfOk result (λ frames. IsPut head.now.order (next_put (settings_of self.old) (link_of self.old) run (shown input.now)) frames
+            (sinks_of (K.held capture.old) (K.fault_count capture.old) (R.held report.old) (R.fault_count report.old))
+            (sinks_of (K.held capture.new) (K.fault_count capture.new) (R.held report.new) (R.fault_count report.new))) }
+        ensures broke { (run : RunTrace) → StandsForRun self.old run →
+            IfErr result (λ fault. BreaksOff [] (put_outputs head.now.order (next_put (settings_of self.old) (link_of self.old) run (shown input.now))) fault
+            (sinks_of (K.held capture.old) (K.fault_count capture.old) (R.held report.old) (R.fault_count report.old))
+            (sinks_of (K.held capture.new) (K.fault_count capture.new) (R.held report.new) (R.fault_count report.new))) }
+        ensures first { IfErr result (λ fault. OnlyRose fault
+            (sinks_of (K.held capture.old) (K.fault_count capture.old) (R.held report.old) (R.fault_count report.old))
+            (sinks_of (K.held capture.new) (K.fault_count capture.new) (R.held report.new) (R.fault_count report.new))) }
+        ensures stands { (run : RunTrace) → StandsForRun self.old run →
+            StandsForRun self.new (next_run (settings_of self.old) (link_of self.old) run (shown input.now)) }
+        ensures octets { (run : RunTrace) → StandsForRun self.old run → RunHasOctets (settings_of self.old) run →
+            RunHasOctets (settings_of self.old) (next_run (settings_of self.old) (link_of self.old) run (shown input.now)) }
+        ensures settings { settings_of self.new ≡ settings_of self.old }
+        ensures link { link_of self.new ≡ link_of self.old }
+        ensures short { IfOk result (λ frames. frames < 256) }
+        ensures capture_later { K.fault_count capture.old ≤ K.fault_count capture.new }
+        ensures report_later { R.fault_count report.old ≤ R.fault_count report.new }
+    {
+        match &mut self.engines {
+            Engines::One(engine) => relay_one(
+                engine,
+                &mut self.out,
+                head,
+                self.mtu,
+                input,
+                &mut self.segment,
+                capture,
+                report,
+            ),
+            Engines::Two(both) => relay_two(
+                both,
+                &mut self.out,
+                &mut self.behind,
+                head,
+                input,
+                capture,
+                report,
+            ),
+        }
+    }
+}

@@ -1,0 +1,262 @@
+//! Records by one engine and by two, by worked rows: what goes out, and the lines.
+ghost use Rattle.std.specs.Prelude.{◌≡◌};
+ghost use Rattle.wire_base.specs.declared.address.Link.TheVariants.{Raw};
+ghost use Rattle.norm_settings.specs.Settings.{plain_settings, AreInRange};
+ghost use Rattle.record_relay.specs.Relays.{CanRun, link_of};
+
+use super::{Relay, RelayFault};
+use arrayvec::ArrayVec;
+use edge_io::{MemSink, NoMemory};
+use norm_settings::Settings;
+use pcap_file::{Head, Order, Record};
+use std::alloc::{AllocError, Global};
+use std::test::Fail;
+use wire_base::{Addr, Link, Prefix};
+
+/// A SYN (RFC 9293) from 198.51.100.7 port 40000 to 10.0.0.1 port 80 with sequence 999 and window 8192.
+const SYN: [u8; 40] = [
+    0x45, 0x00, 0x00, 0x28, 0x00, 0x01, 0x00, 0x00, 0x40, 0x06, 0x46, 0x94, 0xc6, 0x33, 0x64, 0x07,
+    0x0a, 0x00, 0x00, 0x01, 0x9c, 0x40, 0x00, 0x50, 0x00, 0x00, 0x03, 0xe7, 0x00, 0x00, 0x00, 0x00,
+    0x50, 0x02, 0x20, 0x00, 0xbb, 0x2f, 0x00, 0x00,
+];
+
+/// The answer to it, with sequence 5000.
+const SYN_ACK: [u8; 40] = [
+    0x45, 0x00, 0x00, 0x28, 0x00, 0x01, 0x00, 0x00, 0x40, 0x06, 0x46, 0x94, 0x0a, 0x00, 0x00, 0x01,
+    0xc6, 0x33, 0x64, 0x07, 0x00, 0x50, 0x9c, 0x40, 0x00, 0x00, 0x13, 0x88, 0x00, 0x00, 0x03, 0xe8,
+    0x50, 0x12, 0x20, 0x00, 0xa7, 0x96, 0x00, 0x00,
+];
+
+/// The acknowledgment of that.
+const ACK: [u8; 40] = [
+    0x45, 0x00, 0x00, 0x28, 0x00, 0x01, 0x00, 0x00, 0x40, 0x06, 0x46, 0x94, 0xc6, 0x33, 0x64, 0x07,
+    0x0a, 0x00, 0x00, 0x01, 0x9c, 0x40, 0x00, 0x50, 0x00, 0x00, 0x03, 0xe8, 0x00, 0x00, 0x13, 0x89,
+    0x50, 0x10, 0x20, 0x00, 0xa7, 0x97, 0x00, 0x00,
+];
+
+/// Outwards, the four octets `abcd` with sequence 5001.
+const ABCD: [u8; 44] = [
+    0x45, 0x00, 0x00, 0x2c, 0x00, 0x01, 0x00, 0x00, 0x40, 0x06, 0x46, 0x90, 0x0a, 0x00, 0x00, 0x01,
+    0xc6, 0x33, 0x64, 0x07, 0x00, 0x50, 0x9c, 0x40, 0x00, 0x00, 0x13, 0x89, 0x00, 0x00, 0x03, 0xe8,
+    0x50, 0x18, 0x20, 0x00, 0xe2, 0xc4, 0x00, 0x00, 0x61, 0x62, 0x63, 0x64,
+];
+
+/// Outwards, other octets at the same places.
+const ABXD: [u8; 44] = [
+    0x45, 0x00, 0x00, 0x2c, 0x00, 0x01, 0x00, 0x00, 0x40, 0x06, 0x46, 0x90, 0x0a, 0x00, 0x00, 0x01,
+    0xc6, 0x33, 0x64, 0x07, 0x00, 0x50, 0x9c, 0x40, 0x00, 0x00, 0x13, 0x89, 0x00, 0x00, 0x03, 0xe8,
+    0x50, 0x18, 0x20, 0x00, 0xed, 0xc4, 0x00, 0x00, 0x61, 0x62, 0x58, 0x64,
+];
+
+/// Inwards, a RST with sequence 1000.
+const RESET: [u8; 40] = [
+    0x45, 0x00, 0x00, 0x28, 0x00, 0x01, 0x00, 0x00, 0x40, 0x06, 0x46, 0x94, 0xc6, 0x33, 0x64, 0x07,
+    0x0a, 0x00, 0x00, 0x01, 0x9c, 0x40, 0x00, 0x50, 0x00, 0x00, 0x03, 0xe8, 0x00, 0x00, 0x00, 0x00,
+    0x50, 0x04, 0x20, 0x00, 0xbb, 0x2c, 0x00, 0x00,
+];
+
+/// The probe of the connection, with the number before the one that is awaited.
+const PROBE: [u8; 40] = [
+    0x45, 0x00, 0x00, 0x28, 0x00, 0x01, 0x00, 0x00, 0x40, 0x06, 0x46, 0x94, 0xc6, 0x33, 0x64, 0x07,
+    0x0a, 0x00, 0x00, 0x01, 0x9c, 0x40, 0x00, 0x50, 0x00, 0x00, 0x03, 0xe7, 0x00, 0x00, 0x13, 0x89,
+    0x50, 0x10, 0x20, 0x00, 0xa7, 0x98, 0x00, 0x00,
+];
+
+/// The head of a written record of 40 octets and of one of 44, at second 7 and 9 microseconds.
+const FRONT: [u8; 16] = [7, 0, 0, 0, 9, 0, 0, 0, 40, 0, 0, 0, 40, 0, 0, 0];
+
+const FRONT_44: [u8; 16] = [7, 0, 0, 0, 9, 0, 0, 0, 44, 0, 0, 0, 44, 0, 0, 0];
+
+const RAW: Head = Head {
+    order: Order::Little,
+    nano: false,
+    link: Link::Raw,
+};
+
+fn settings(both: bool) -> Settings
+    ensures range { AreInRange (plain_settings result) }
+    ensures together { CanRun (plain_settings result) }
+{
+    let mut prefixes = ArrayVec::new();
+    prefixes.push(Prefix {
+        addr: Addr(0x0a00_0000),
+        len: 8,
+    });
+    let mut settings = Settings::standard(prefixes);
+    settings.both = both;
+    settings
+}
+
+/// Relays the record of this packet, and answers how many frames were written.
+fn give(
+    relay: &mut Relay,
+    packet: &[u8],
+    capture: &mut MemSink,
+    report: &mut MemSink,
+) -> Result<u64, RelayFault>
+    requires { link_of relay.old ≡ Raw }
+    ensures { link_of relay.new ≡ Raw }
+{
+    if relay.is_full() {
+        return Ok(0);
+    }
+    let length = packet.len().min(65_535) as u32;
+    let input = Record::new(7, 9, length, 24, packet);
+    relay.relay(&RAW, &input, capture, report)
+}
+
+/// Relays five packets, one after another, up to the first fault.
+fn give_all(
+    relay: &mut Relay,
+    packets: [&[u8]; 5],
+    capture: &mut MemSink,
+    report: &mut MemSink,
+) -> Result<u64, RelayFault>
+    requires { link_of relay.old ≡ Raw }
+{
+    let [first, second, third, fourth, fifth] = packets;
+    give(relay, first, capture, report)?;
+    give(relay, second, capture, report)?;
+    give(relay, third, capture, report)?;
+    give(relay, fourth, capture, report)?;
+    give(relay, fifth, capture, report)
+}
+
+// Only here is a relay owned.
+fn answer_to(
+    alloc: Global,
+    both: bool,
+    packets: [&[u8]; 5],
+    capture: &mut MemSink,
+    report: &mut MemSink,
+) -> Result<Result<u64, RelayFault>, NoMemory> {
+    let mut relay = Relay::open(alloc, settings(both))?;
+    let answer = give_all(&mut relay, packets, capture, report);
+    Ok(answer)
+}
+
+/// How many frames went out for the last packet, or the first fault; and what the sinks hold.
+#[derive(Drop)]
+struct Outcome {
+    answer: Result<u64, RelayFault>,
+    capture: MemSink,
+    report: MemSink,
+}
+
+/// Relays five packets by one engine or by two, to sinks of which the call of the given number fails; 0 is none.
+fn relayed(
+    alloc: Global,
+    both: bool,
+    packets: [&[u8]; 5],
+    failing: (u32, u32),
+) -> Result<Outcome, Fail> {
+    let mut capture = MemSink::new(alloc, 4096, only(alloc, failing.0)?)?;
+    let mut report = MemSink::new(alloc, 4096, only(alloc, failing.1)?)?;
+    let answer = answer_to(alloc, both, packets, &mut capture, &mut report)
+        .ok()
+        .ok_or("no memory")?;
+    Ok(Outcome {
+        answer,
+        capture,
+        report,
+    })
+}
+
+/// The list of this one call, and no call for 0.
+fn only(alloc: Global, call: u32) -> Result<Vec<u32>, AllocError> {
+    let mut calls = Vec::new(alloc);
+    if call > 0 {
+        calls.push(call)?;
+    }
+    Ok(calls)
+}
+
+/// The lines of a connection whose other side sends `abcd`, and then `abXd` at the same places.
+const MENDED: &[u8] =
+    b"1 in pass 1 @1 +1\n/1 out pass 1 @1 +1\n2 out pass 1 @1\n/2 in pass 1 @1\n3 in pass 1 @1\n/3 out pass 1 @1\n4 out pass 1 @1\n/4 in pass 1 @1\n5 out pass 1 @1\n/5 in fix 1 T_CLASH @1\n";
+
+// Two engines: what the first lets pass outwards is held against what went first, and the second tells it.
+#[test]
+fn octets_sent_outwards_again_are_mended(rt: HostRuntime) -> Result<(), Fail> {
+    let packets: [&[u8]; 5] = [&SYN, &SYN_ACK, &ACK, &ABCD, &ABXD];
+    let out = relayed(rt.alloc(), true, packets, (0, 0))?;
+    assert_eq!(rt; out.answer, Ok(1));
+    assert_eq!(rt; out.report.held(), MENDED);
+    let mut written = Vec::from_slice(rt.alloc(), &FRONT)?;
+    written.extend_from_slice(&SYN)?;
+    written.extend_from_slice(&FRONT)?;
+    written.extend_from_slice(&SYN_ACK)?;
+    written.extend_from_slice(&FRONT)?;
+    written.extend_from_slice(&ACK)?;
+    written.extend_from_slice(&FRONT_44)?;
+    written.extend_from_slice(&ABCD)?;
+    written.extend_from_slice(&FRONT_44)?;
+    written.extend_from_slice(&ABCD)?;
+    assert_eq!(rt; out.capture.held(), written.as_slice());
+    Ok(())
+}
+
+/// A reset of no connection, one that opens, and a reset of it, behind which a probe goes in; and the calls that fail.
+fn reset(alloc: Global, both: bool, failing: (u32, u32)) -> Result<Outcome, Fail> {
+    let packets: [&[u8]; 5] = [&RESET, &SYN, &SYN_ACK, &ACK, &RESET];
+    relayed(alloc, both, packets, failing)
+}
+
+/// The lines of all but the last of these records; the second engine counts frames.
+const LINES: &[u8] =
+    b"1 in drop 0 T_COLD\n2 in pass 1 @1 +1\n/1 out pass 1 @1 +1\n3 out pass 1 @1\n/2 in pass 1 @1\n4 in pass 1 @1\n/3 out pass 1 @1\n";
+
+// Two engines: a record without frames has one line, and one with two has three, behind both frames.
+#[test]
+fn lines_stand_behind_all_frames(rt: HostRuntime) -> Result<(), Fail> {
+    let out = reset(rt.alloc(), true, (0, 0))?;
+    assert_eq!(rt; out.answer, Ok(2));
+    let mut lines = Vec::from_slice(rt.alloc(), LINES)?;
+    lines.extend_from_slice(
+        b"5 in fix 2 C_PROBE @1\n/4 out pass 1 @1 -1:reset:0\n/5 out pass 1 @2 +2\n",
+    )?;
+    assert_eq!(rt; out.report.held(), lines.as_slice());
+    let mut probe = Vec::from_slice(rt.alloc(), &FRONT)?;
+    probe.extend_from_slice(&PROBE)?;
+    let written = out.capture.held();
+    assert_eq!(rt; written.len(), 280);
+    let behind = written.split_at_checked(224).ok_or("no second frame")?;
+    assert_eq!(rt; behind.1, probe.as_slice());
+    Ok(())
+}
+
+// A fault at the second frame of a record leaves none of its lines.
+#[test]
+fn a_fault_at_a_frame_leaves_no_line(rt: HostRuntime) -> Result<(), Fail> {
+    let out = reset(rt.alloc(), true, (10, 0))?;
+    assert_eq!(rt; out.answer, Err(RelayFault::Capture));
+    assert_eq!(rt; out.report.held(), LINES);
+    assert_eq!(rt; out.capture.held().len(), 240);
+    Ok(())
+}
+
+// A fault at a line of the second engine leaves the lines before it, and all frames.
+#[test]
+fn a_fault_at_a_line_leaves_all_frames(rt: HostRuntime) -> Result<(), Fail> {
+    let out = reset(rt.alloc(), true, (0, 9))?;
+    assert_eq!(rt; out.answer, Err(RelayFault::Report));
+    let mut lines = Vec::from_slice(rt.alloc(), LINES)?;
+    lines.extend_from_slice(b"5 in fix 2 C_PROBE @1\n")?;
+    assert_eq!(rt; out.report.held(), lines.as_slice());
+    assert_eq!(rt; out.capture.held().len(), 280);
+    Ok(())
+}
+
+/// What one engine tells of them.
+const ALONE: &[u8] =
+    b"1 in drop 0 T_COLD\n2 in pass 1 @1 +1\n3 out pass 1 @1\n4 in pass 1 @1\n5 in fix 2 C_PROBE @1\n";
+
+// One engine: a line for each record.
+#[test]
+fn one_engine_tells_one_line(rt: HostRuntime) -> Result<(), Fail> {
+    let out = reset(rt.alloc(), false, (0, 0))?;
+    assert_eq!(rt; out.answer, Ok(2));
+    assert_eq!(rt; out.report.held(), ALONE);
+    assert_eq!(rt; out.capture.held().len(), 280);
+    Ok(())
+}

@@ -1,0 +1,9 @@
+use Rattle.std.proofs.Common.{◌≤◌}
+use Rattle.run_ends.proofs.tests.loads.made_of.Given as goal
+
+-- so many records were seen
+abbrev pub invariant-loop-place : goal.invariant-loop-place
+invariant-loop-place l = record {
+  calls : l.made.calls ≤ l._place;
+  changed : l.made.changed ≤ l._place;
+}

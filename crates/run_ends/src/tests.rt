@@ -1,0 +1,315 @@
+//! Whole runs, with expected octets from the formats' standards and the worked captures.
+use bridge_run::run;
+use edge_io::{Failed, MemSink, MemSource, Sink};
+use run_rows::runs::{
+    Changes, DATAGRAM, FRONT, HEAD, NONE, capture_file, change, ended_run, line, only,
+};
+use std::alloc::{AllocError, Global};
+use std::test::Fail;
+
+mod forms;
+mod loads;
+mod sections;
+mod stopped;
+
+/// A file, as changes of the head, a number of records, changes of the last one's head and a size; which calls fail; and the status, the
+/// report and how many octets of the file the capture is.
+struct Whole {
+    head: Changes,
+    records: u8,
+    last: Changes,
+    size: usize,
+    failing: (u32, u32, u32),
+    status: u8,
+    report: &'static str,
+    written: usize,
+}
+
+#[rattlefmt::skip]
+const WHOLES: [Whole; 15] = [
+    Whole { head: "", records: 1, last: "", size: 70, failing: NONE, status: 0, report: "norm 2\n1 in pass 1\nend 1 1\n", written: 70 },
+    Whole { head: "", records: 0, last: "", size: 24, failing: NONE, status: 0, report: "norm 2\nend 0 0\n", written: 24 },
+    Whole { head: "", records: 0, last: "", size: 0, failing: NONE, status: 4, report: "norm 2\nstop cut 0\n", written: 0 },
+    Whole { head: "", records: 0, last: "", size: 23, failing: NONE, status: 4, report: "norm 2\nstop cut 0\n", written: 0 },
+    Whole { head: "", records: 2, last: "", size: 115, failing: NONE, status: 4, report: "norm 2\n1 in pass 1\nstop cut 70\n", written: 70 },
+    Whole { head: "", records: 1, last: "", size: 39, failing: NONE, status: 4, report: "norm 2\nstop cut 24\n", written: 24 },
+    Whole { head: "0:0x00000000", records: 1, last: "", size: 70, failing: NONE, status: 3, report: "norm 2\nstop magic 0\n", written: 0 },
+    Whole { head: "6:0x03", records: 1, last: "", size: 70, failing: NONE, status: 3, report: "norm 2\nstop version 0\n", written: 0 },
+    Whole { head: "20:0x71", records: 1, last: "", size: 70, failing: NONE, status: 3, report: "norm 2\nstop link 0\n", written: 0 },
+    Whole { head: "", records: 1, last: "8:0x01 10:0x04", size: 70, failing: NONE, status: 3, report: "norm 2\nstop long 24\n", written: 24 },
+    Whole { head: "", records: 2, last: "8:0x01 10:0x04", size: 116, failing: NONE, status: 3, report: "norm 2\n1 in pass 1\nstop long 70\n", written: 70 },
+    Whole { head: "", records: 1, last: "", size: 70, failing: (1, 0, 0), status: 5, report: "norm 2\nstop read 0\n", written: 0 },
+    Whole { head: "", records: 1, last: "", size: 70, failing: (0, 1, 0), status: 6, report: "norm 2\nstop capture 0\n", written: 0 },
+    Whole { head: "", records: 1, last: "", size: 70, failing: (0, 2, 0), status: 6, report: "norm 2\nstop capture 24\n", written: 24 },
+    Whole { head: "", records: 1, last: "", size: 70, failing: (0, 0, 1), status: 7, report: "", written: 0 },
+];
+
+#[test]
+fn runs_tell_how_they_end(rt: HostRuntime) -> Result<(), Fail> {
+    for (number, row) in WHOLES.iter().enumerate() {
+        let mut file = capture_file(rt.alloc(), row.head, row.records, row.last)?;
+        file.truncate(row.size);
+        for piece in [1usize, 7, 65536] {
+            let words = ["run", "a", "b", "10.0.0.0/8"];
+            let ended = ended_run(rt.alloc(), &words, &file, piece, row.failing)?;
+            assert_eq!(rt; ended.status, row.status, "row {number}");
+            assert_eq!(rt; ended.report.held(), row.report.as_bytes(), "row {number}");
+            file.truncate(row.size);
+            assert_eq!(rt;
+                Some(ended.capture.held()),
+                file.as_slice().get(..row.written),
+                "row {number}"
+            );
+        }
+    }
+    Ok(())
+}
+
+#[rattlefmt::skip]
+const REFUSED: [(&[&str], &str); 8] = [
+    (&["run", "a"], "stop words 1\n"),
+    (&["run", "a", "a", "10.0.0.0/8"], "stop words 5\n"),
+    (&["run", "a", "b", "0.0.0.0/8", "1.0.0.0/8", "2.0.0.0/8", "3.0.0.0/8", "4.0.0.0/8", "5.0.0.0/8", "6.0.0.0/8", "7.0.0.0/8", "8.0.0.0/8",
+       "9.0.0.0/8", "10.0.0.0/8", "11.0.0.0/8", "12.0.0.0/8", "13.0.0.0/8", "14.0.0.0/8", "15.0.0.0/8", "16.0.0.0/8"], "stop words 3\n"),
+    (&["run", "a", "b", "10.0.0/8"], "stop words 2\n"),
+    (&["run", "--hops", "255", "a", "b", "10.0.0.0/8"], "stop words 1\n"),
+    (&["run", "--both", "--mtu", "576", "a", "b", "10.0.0.0/8"], "stop words 1\n"),
+    (&["run", "--mtu", "575", "a", "b", "10.0.0.0/8"], "stop words 1\n"),
+    (&["load", "1", "0"], "stop words 1\n"),
+];
+
+#[test]
+fn refused_words_leave_one_line(rt: HostRuntime) -> Result<(), Fail> {
+    for (words, report) in REFUSED {
+        let ended = ended_run(rt.alloc(), words, &HEAD, 7, (1, 1, 0))?;
+        assert_eq!(rt; ended.status, 2, "{report}");
+        assert_eq!(rt; ended.report.held(), report.as_bytes(), "{report}");
+        assert!(rt; ended.capture.held().is_empty(), "{report}");
+    }
+    Ok(())
+}
+
+/// What is written of the datagram.
+#[derive(Clone, Copy)]
+enum Written {
+    Nothing,
+    /// What was captured.
+    AsRead,
+    /// Its 30 octets with these changes.
+    Anew(Changes),
+}
+
+use Written::{Anew, AsRead, Nothing};
+
+/// The datagram with these changes, how many of its octets were captured and how many it had; the record's line without its number, and what is
+/// written.
+struct Judged {
+    changes: Changes,
+    captured: u8,
+    original: u8,
+    line: &'static str,
+    written: Written,
+}
+
+const OUTWARD: Changes = "12:0x0a000001c6336407";
+
+const FADING: Changes = "8:0x01 10:0x85 12:0x0a000001c6336407";
+
+const INSIDE: Changes = "10:0x66cc0a000002 26:0xe6f8";
+
+const OUTSIDE: Changes = "10:0x8e92 16:0xc0 18:0x02 26:0x0e";
+
+#[rattlefmt::skip]
+const JUDGED: [Judged; 27] = [
+    Judged { changes: "", captured: 30, original: 30, line: "in pass 1", written: AsRead },
+    Judged { changes: "", captured: 30, original: 31, line: "- drop 0 L_SNAP", written: Nothing },
+    Judged { changes: "", captured: 30, original: 29, line: "in pass 1", written: AsRead },
+    Judged { changes: "", captured: 19, original: 19, line: "- drop 0 I_SHORT", written: Nothing },
+    Judged { changes: "0:0x55", captured: 30, original: 30, line: "- drop 0 I_VERSION", written: Nothing },
+    Judged { changes: "0:0x44", captured: 30, original: 30, line: "- drop 0 I_HLEN", written: Nothing },
+    Judged { changes: "3:0x1f", captured: 30, original: 30, line: "- drop 0 I_LEN", written: Nothing },
+    Judged { changes: "11:0x94", captured: 30, original: 30, line: "- drop 0 I_SUM", written: Nothing },
+    Judged { changes: INSIDE, captured: 30, original: 30, line: "- drop 0 I_SIDE", written: Nothing },
+    Judged { changes: OUTSIDE, captured: 30, original: 30, line: "- drop 0 I_SIDE", written: Nothing },
+    Judged { changes: OUTWARD, captured: 30, original: 30, line: "out pass 1", written: AsRead },
+    Judged { changes: FADING, captured: 30, original: 30, line: "out pass 1", written: AsRead },
+    Judged { changes: "8:0x1e 10:0x68", captured: 30, original: 30, line: "in fix 1 I_TTL", written: Anew("8:0x1f 10:0x67") },
+    Judged { changes: "8:0x1f 10:0x67", captured: 30, original: 30, line: "in pass 1", written: AsRead },
+    Judged { changes: "6:0x20 10:0x26", captured: 30, original: 30, line: "in drop 0 F_ALIGN", written: Nothing },
+    Judged { changes: "7:0x01 11:0x92", captured: 30, original: 30, line: "in hold 0 F_HELD", written: Nothing },
+    Judged { changes: "6:0x40 10:0x06", captured: 30, original: 30, line: "in pass 1", written: AsRead },
+    Judged { changes: "6:0x80 10:0xc692", captured: 30, original: 30, line: "in fix 1 I_RES", written: Anew("") },
+    Judged { changes: "9:0x01 11:0xa3", captured: 30, original: 30, line: "in drop 0 M_SUM", written: Nothing },
+    Judged { changes: "9:0x06 11:0x9e", captured: 30, original: 30, line: "in drop 0 T_SHORT", written: Nothing },
+    Judged { changes: "9:0x02 11:0xa2", captured: 30, original: 30, line: "in drop 0 P_PROTO", written: Nothing },
+    Judged { changes: "10:0x2d 12:0xdf 26:0xad", captured: 30, original: 30, line: "in pass 1", written: AsRead },
+    Judged { changes: "10:0x2c 12:0xe0 26:0xac", captured: 30, original: 30, line: "- drop 0 I_SRC", written: Nothing },
+    Judged { changes: "", captured: 31, original: 31, line: "in fix 1 I_TRAIL", written: Anew("") },
+    Judged { changes: "25:0x09", captured: 30, original: 30, line: "in drop 0 U_LEN", written: Nothing },
+    Judged { changes: "26:0x0000", captured: 30, original: 30, line: "in pass 1", written: AsRead },
+    Judged { changes: "29:0x6a", captured: 30, original: 30, line: "in drop 0 U_SUM", written: Nothing },
+];
+
+/// The datagram with these changes, and the octet behind it.
+fn datagram_with(alloc: Global, changes: Changes) -> Result<[u8; 31], Fail> {
+    let mut packet = DATAGRAM;
+    change(alloc, &mut packet, changes)?;
+    Ok(packet)
+}
+
+/// The datagram without the octet behind it.
+fn datagram_in(packet: &[u8; 31]) -> &[u8] {
+    &packet[..30]
+}
+
+/// A file of one record, at time 0, of these octets, of which the packet had so many.
+fn one_record(alloc: Global, octets: &[u8], original: u8) -> Result<Vec<u8>, AllocError> {
+    let mut front = FRONT;
+    front[8] = octets.len().min(255) as u8;
+    front[12] = original;
+    let mut file = Vec::from_slice(alloc, &HEAD)?;
+    file.extend_from_slice(&front)?;
+    file.extend_from_slice(octets)?;
+    Ok(file)
+}
+
+/// The file that is written for a record of these octets.
+fn written_file(alloc: Global, octets: &[u8], written: Written) -> Result<Vec<u8>, Fail> {
+    match written {
+        Nothing => Ok(Vec::from_slice(alloc, &HEAD)?),
+        AsRead => Ok(one_record(alloc, octets, octets.len().min(255) as u8)?),
+        Anew(changes) => {
+            let packet = datagram_with(alloc, changes)?;
+            Ok(one_record(alloc, datagram_in(&packet), 30)?)
+        }
+    }
+}
+
+/// The report of a run over one record with this line.
+fn report_of(alloc: Global, line: &str, written: Written) -> Result<String, AllocError> {
+    let frames = match written {
+        Nothing => 0,
+        AsRead | Anew(_) => 1,
+    };
+    format!(in alloc; "norm 2\n1 {line}\nend 1 {frames}\n")
+}
+
+#[test]
+fn each_row_judges_its_packet(rt: HostRuntime) -> Result<(), Fail> {
+    for row in &JUDGED {
+        let packet = datagram_with(rt.alloc(), row.changes)?;
+        let Some(octets) = packet.get(..usize::from(row.captured)) else {
+            return Err(Fail::new("more octets than there are"));
+        };
+        let file = one_record(rt.alloc(), octets, row.original)?;
+        let words = ["run", "a", "b", "10.0.0.0/8"];
+        let ended = ended_run(rt.alloc(), &words, &file, 65536, NONE)?;
+        let line = row.line;
+        let report = report_of(rt.alloc(), line, row.written)?;
+        assert_eq!(rt; ended.status, 0, "{line}");
+        assert_eq!(rt; ended.report.held(), report.as_bytes(), "{line}");
+        let written = written_file(rt.alloc(), octets, row.written)?;
+        assert_eq!(rt; ended.capture.held(), written.as_slice(), "{line}");
+    }
+    Ok(())
+}
+
+/// Words, the changes of the datagram, and what becomes of it.
+struct Set {
+    words: &'static [&'static str],
+    changes: Changes,
+    line: &'static str,
+    written: Written,
+}
+
+/// As many prefixes as there may be; the last of them holds the datagram's address.
+#[rattlefmt::skip]
+const SIXTEEN: &[&str] = &[
+    "run", "a", "b", "192.0.2.0/32", "192.0.2.1/32", "192.0.2.2/32", "192.0.2.3/32", "192.0.2.4/32", "192.0.2.5/32", "192.0.2.6/32",
+    "192.0.2.7/32", "192.0.2.8/32", "192.0.2.9/32", "192.0.2.10/32", "192.0.2.11/32", "192.0.2.12/32", "192.0.2.13/32", "192.0.2.14/32",
+    "10.0.0.0/8",
+];
+
+#[rattlefmt::skip]
+const SETS: [Set; 13] = [
+    Set { words: &["run", "--hops", "0", "a", "b", "10.0.0.0/8"], changes: "8:0x00 10:0x86", line: "in fix 1 I_TTL", written: Anew("8:0x01 10:0x85") },
+    Set { words: &["run", "--hops=0", "a", "b", "10.0.0.0/8"], changes: "8:0x01 10:0x85", line: "in pass 1", written: AsRead },
+    Set { words: &["run", "--hops", "5", "a", "b", "10.0.0.0/8"], changes: "8:0x05 10:0x81", line: "in fix 1 I_TTL", written: Anew("8:0x06 10:0x80") },
+    Set { words: &["run", "--hops", "5", "a", "b", "10.0.0.0/8"], changes: "8:0x06 10:0x80", line: "in pass 1", written: AsRead },
+    Set { words: &["run", "--hops=254", "a", "b", "10.0.0.0/8"], changes: "", line: "in fix 1 I_TTL", written: Anew("8:0xff 10:0x8792") },
+    Set { words: &["run", "--hops=254", "a", "b", "10.0.0.0/8"], changes: OUTWARD, line: "out pass 1", written: AsRead },
+    Set { words: &["run", "a", "b", "10.0.0.0/8"], changes: WRONG_OUTWARD, line: "out drop 0 U_SUM", written: Nothing },
+    Set { words: &["run", "--offload", "a", "b", "10.0.0.0/8"], changes: WRONG_OUTWARD, line: "out fix 1 U_SUM_OUT", written: Anew(OUTWARD) },
+    Set { words: &["run", "--offload", "a", "b", "10.0.0.0/8"], changes: "27:0xbe", line: "in drop 0 U_SUM", written: Nothing },
+    Set { words: &["run", "a", "b", "192.0.2.0/24", "10.0.0.0/8"], changes: "", line: "in pass 1", written: AsRead },
+    Set { words: &["run", "a", "b", "10.0.0.0/8", "192.0.2.0/24"], changes: OUTSIDE, line: "in pass 1", written: AsRead },
+    Set { words: &["run", "a", "b", "10.0.0.0/8", "198.51.100.0/24"], changes: "", line: "- drop 0 I_SIDE", written: Nothing },
+    Set { words: SIXTEEN, changes: "", line: "in pass 1", written: AsRead },
+];
+
+const WRONG_OUTWARD: Changes = "12:0x0a000001c6336407 27:0xbe";
+
+#[test]
+fn what_words_ask_for_counts(rt: HostRuntime) -> Result<(), Fail> {
+    for (number, row) in SETS.iter().enumerate() {
+        let packet = datagram_with(rt.alloc(), row.changes)?;
+        let octets = datagram_in(&packet);
+        let file = one_record(rt.alloc(), octets, 30)?;
+        let ended = ended_run(rt.alloc(), row.words, &file, 65536, NONE)?;
+        assert_eq!(rt; ended.status, 0, "row {number}");
+        let report = report_of(rt.alloc(), row.line, row.written)?;
+        assert_eq!(rt; ended.report.held(), report.as_bytes(), "row {number}");
+        let written = written_file(rt.alloc(), octets, row.written)?;
+        assert_eq!(rt; ended.capture.held(), written.as_slice(), "row {number}");
+    }
+    Ok(())
+}
+
+/// A sink that takes each piece and keeps it back, and cannot hand it on.
+#[derive(Drop)]
+struct Stuck {
+    faults: u64,
+}
+
+impl Sink for Stuck {
+    ghost use Rattle.std.specs.Prelude.{None};
+
+    ghost held = { λ s. None };
+
+    ghost fault_count = { λ s. s.faults };
+
+    fn put(&mut self, _bytes: &[u8]) -> Result<(), Failed> {
+        Ok(())
+    }
+
+    fn flush(&mut self) -> Result<(), Failed> {
+        self.faults = self.faults.saturating_add(1);
+        Err(Failed)
+    }
+
+    fn faults(&self) -> u64 {
+        self.faults
+    }
+}
+
+#[test]
+fn nothing_is_said_of_the_end_before_the_frames_are_handed_on(rt: HostRuntime) -> Result<(), Fail> {
+    let words = line(rt.alloc(), &["run", "a", "b", "10.0.0.0/8"])?;
+    let file = capture_file(rt.alloc(), "", 1, "")?;
+    let mut source = MemSource::new(file, 65536, only(rt.alloc(), 0)?);
+    let mut report = MemSink::new(rt.alloc(), 4096, only(rt.alloc(), 0)?)?;
+    let mut stuck = Stuck { faults: 0 };
+    let status = run(rt.alloc(), &words, &mut source, &mut stuck, &mut report);
+    assert_eq!(rt; status, 6);
+    assert_eq!(rt;
+        report.held(),
+        b"norm 2\n1 in pass 1\nstop capture 70\n".as_slice()
+    );
+    let file = capture_file(rt.alloc(), "", 1, "")?;
+    let mut source = MemSource::new(file, 65536, only(rt.alloc(), 0)?);
+    let mut capture = MemSink::new(rt.alloc(), 4096, only(rt.alloc(), 0)?)?;
+    let status = run(rt.alloc(), &words, &mut source, &mut capture, &mut stuck);
+    assert_eq!(rt; status, 7);
+    assert_eq!(rt; capture.held().len(), 70);
+    Ok(())
+}

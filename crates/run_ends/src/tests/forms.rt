@@ -1,0 +1,115 @@
+//! Captures of every order, unit and network.
+use run_rows::runs::{DATAGRAM, NONE, ended_run};
+use std::alloc::{AllocError, Global};
+use std::test::Fail;
+
+/// A number of four octets in this order.
+fn number(big: bool, value: u32) -> [u8; 4] {
+    if big {
+        value.to_be_bytes()
+    } else {
+        value.to_le_bytes()
+    }
+}
+
+/// The head of a capture, by the classic format: its order, its unit and its network.
+fn head_of(alloc: Global, big: bool, nano: bool, network: u32) -> Result<Vec<u8>, AllocError> {
+    let magic = if nano { 0xa1b2_3c4d } else { 0xa1b2_c3d4 };
+    let version = if big { 0x0002_0004 } else { 0x0004_0002 };
+    let mut head = Vec::new(alloc);
+    for value in [magic, version, 0, 0, 262_144, network] {
+        head.extend_from_slice(&number(big, value))?;
+    }
+    Ok(head)
+}
+
+/// Appends a record of this time and these octets, of which the packet had so many.
+fn add_record(
+    file: &mut Vec<u8>,
+    big: bool,
+    time: (u32, u32),
+    octets: &[u8],
+    original: u32,
+) -> Result<(), AllocError> {
+    for value in [time.0, time.1, octets.len().min(65_535) as u32, original] {
+        file.extend_from_slice(&number(big, value))?;
+    }
+    file.extend_from_slice(octets)
+}
+
+/// An Ethernet header (RFC 894) with this type.
+const fn ethernet(kind: u16) -> [u8; 14] {
+    let [high, low] = kind.to_be_bytes();
+    [2, 0, 0, 0, 0, 1, 2, 0, 0, 0, 0, 2, high, low]
+}
+
+#[test]
+fn captures_of_every_form_are_read_and_written_alike(rt: HostRuntime) -> Result<(), Fail> {
+    for (big, nano, network) in [
+        (false, false, 101),
+        (false, false, 1),
+        (false, true, 101),
+        (false, true, 1),
+        (true, false, 101),
+        (true, false, 1),
+        (true, true, 101),
+        (true, true, 1),
+    ] {
+        let mut frame = Vec::new(rt.alloc());
+        if network == 1 {
+            frame.extend_from_slice(&ethernet(0x0800))?;
+        }
+        frame.extend_from_slice(&DATAGRAM[..30])?;
+        let mut file = head_of(rt.alloc(), big, nano, network)?;
+        let size = frame.len().min(255) as u32;
+        add_record(&mut file, big, (1_700_000_000, 999_999), &frame, size)?;
+        let words = ["run", "a", "b", "10.0.0.0/8"];
+        let ended = ended_run(rt.alloc(), &words, &file, 65536, NONE)?;
+        assert_eq!(rt; ended.status, 0, "{big} {nano} {network}");
+        assert_eq!(rt;
+            ended.report.held(),
+            b"norm 2\n1 in pass 1\nend 1 1\n".as_slice(),
+            "{big} {nano} {network}"
+        );
+        assert_eq!(rt;
+            ended.capture.held(),
+            file.as_slice(),
+            "{big} {nano} {network}"
+        );
+    }
+    Ok(())
+}
+
+/// A SYN (RFC 9293) from 198.51.100.7 port 40000 to 10.0.0.1 port 80 with sequence 999 and window 8192, and six octets of padding.
+const SYN: [u8; 46] = [
+    0x45, 0x00, 0x00, 0x28, 0x00, 0x01, 0x00, 0x00, 0x40, 0x06, 0x46, 0x94, 0xc6, 0x33, 0x64, 0x07,
+    0x0a, 0x00, 0x00, 0x01, 0x9c, 0x40, 0x00, 0x50, 0x00, 0x00, 0x03, 0xe7, 0x00, 0x00, 0x00, 0x00,
+    0x50, 0x02, 0x20, 0x00, 0xbb, 0x2f, 0x00, 0x00, 0, 0, 0, 0, 0, 0,
+];
+
+// ARP, a segment in a padded frame, and a record that was cut off, in a big-endian capture of Ethernet in nanoseconds.
+#[test]
+fn an_ethernet_capture_keeps_its_arp(rt: HostRuntime) -> Result<(), Fail> {
+    let mut arp = Vec::from_slice(rt.alloc(), &ethernet(0x0806))?;
+    arp.extend_from_slice(&[0, 1, 8, 0, 6, 4, 0, 1])?;
+    arp.extend_from_slice(&[7; 20])?;
+    let mut segment = Vec::from_slice(rt.alloc(), &ethernet(0x0800))?;
+    segment.extend_from_slice(&SYN)?;
+    let mut file = head_of(rt.alloc(), true, true, 1)?;
+    add_record(&mut file, true, (0, 0), &arp, 42)?;
+    let mut unpadded = Vec::from_slice(rt.alloc(), &ethernet(0x0800))?;
+    unpadded.extend_from_slice(&SYN[..40])?;
+    let mut written = Vec::from_slice(rt.alloc(), &file)?;
+    add_record(&mut written, true, (0, 0), &unpadded, 54)?;
+    add_record(&mut file, true, (0, 0), &segment, 60)?;
+    add_record(&mut file, true, (0, 0), &segment[..20], 60)?;
+    let words = ["run", "a", "b", "10.0.0.0/8"];
+    let ended = ended_run(rt.alloc(), &words, &file, 65536, NONE)?;
+    assert_eq!(rt; ended.status, 0);
+    assert_eq!(rt;
+        ended.report.held(),
+        b"norm 2\n1 - pass 1\n2 in fix 1 I_TRAIL @1 +1\n3 - drop 0 L_SNAP\nend 3 2\n".as_slice()
+    );
+    assert_eq!(rt; ended.capture.held(), written.as_slice());
+    Ok(())
+}

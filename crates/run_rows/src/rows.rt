@@ -1,0 +1,81 @@
+//! Rows of whole runs: packets that come, the report, and the packets that go out.
+use crate::notation::add_octets;
+use crate::packets::{capture_of, packet_octets};
+use crate::runs::{NONE, ended_run};
+use std::alloc::Global;
+use std::test::Fail;
+
+/// What a row has before its own packets: these pass as they came.
+#[derive(Clone, Copy)]
+pub struct Before {
+    pub packets: &'static str,
+    pub lines: &'static str,
+}
+
+/// Nothing comes before.
+pub const NOTHING: Before = Before {
+    packets: "",
+    lines: "",
+};
+
+/// A host outside opens a connection. The first octet of its stream has the number 1000.
+pub const OPENED: Before = Before {
+    packets: "> S 999; < SA 5000,1000; > A 1000,5001",
+    lines: "1 in pass 1 @1 +1\n2 out pass 1 @1\n3 in pass 1 @1\n",
+};
+
+/// A connection from its first segment to its last.
+#[rattlefmt::skip]
+pub const REQUEST: Before = Before {
+    packets: "> S 999 [opt=$OFFERED]; < SA 5000,1000 [opt=$OFFERED]; > A 1000,5001; \
+        > PA 1000,5001 GET_/_HTTP/1.0+0x0d0a0d0a; < A 5001,1018; < PA 5001,1018 HTTP/1.0_200_OK+0x0d0a0d0a; > A 1018,5020; \
+        < FA 5020,1018; > FA 1018,5021; < A 5021,1019",
+    lines: "1 in pass 1 @1 +1\n2 out pass 1 @1\n3 in pass 1 @1\n4 in pass 1 @1\n5 out pass 1 @1\n6 out pass 1 @1\n7 in pass 1 @1\n\
+        8 out pass 1 @1\n9 in pass 1 @1\n10 out pass 1 @1\n",
+};
+
+/// Options of the command line, and packets that come; the report and the packets that go out, behind those of what is before.
+#[derive(Clone, Copy)]
+pub struct Row {
+    pub options: &'static str,
+    pub before: Before,
+    pub packets: &'static str,
+    pub report: &'static str,
+    pub written: &'static str,
+}
+
+/// Little memory, and enough.
+pub const FEW: &str = "--flows=8 --cells=64 --frags=4 --frag-cells=256";
+
+/// The words of a run with these options.
+fn words_of<'a>(alloc: Global, options: &'a str, seed: &'a str) -> Result<Vec<&'a str>, Fail> {
+    let mut words = Vec::new(alloc);
+    words.push("run")?;
+    for option in options.split_whitespace() {
+        words.push(option)?;
+    }
+    words.extend_from_slice(&[seed, "a", "b", "10.0.0.0/8"])?;
+    Ok(words)
+}
+
+/// Whether a run with this seed puts out what the row says.
+pub fn holds(alloc: Global, row: &Row, seed: &str) -> Result<bool, Fail> {
+    let words = words_of(alloc, row.options, seed)?;
+    let before = row.before;
+    let file = capture_of(alloc, before.packets, row.packets)?;
+    let ended = ended_run(alloc, &words, &file, 65536, NONE)?;
+    let written = capture_of(alloc, before.packets, row.written)?;
+    let (lines, rest) = (before.lines, row.report);
+    let report = format!(in alloc; "norm 2\n{lines}{rest}")?;
+    let is_told = ended.report.held() == report.as_bytes();
+    let is_written = ended.capture.held() == written.as_slice();
+    Ok(ended.status == 0 && is_told && is_written)
+}
+
+/// Whether the packet has these octets.
+pub fn is_spelled(alloc: Global, packet: &str, spelled: &str) -> Result<bool, Fail> {
+    let mut octets = Vec::new(alloc);
+    add_octets(&mut octets, spelled)?;
+    let packet = packet_octets(alloc, packet)?;
+    Ok(packet.as_slice() == octets.as_slice())
+}

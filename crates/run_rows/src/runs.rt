@@ -1,0 +1,115 @@
+//! Runs over captures that are given in pieces, to sinks of which a call may fail.
+ghost use Rattle.std.specs.Prelude.{◌<◌};
+
+use crate::notation::add_octets;
+use bridge_run::run;
+use edge_io::{MemSink, MemSource};
+use std::alloc::{AllocError, Global};
+use std::test::Fail;
+
+/// Little-endian, microseconds, raw IP.
+pub const HEAD: [u8; 24] = [
+    0xd4, 0xc3, 0xb2, 0xa1, 2, 0, 4, 0, 0, 0, 0, 0, 0, 0, 0, 0, 0, 0, 4, 0, 101, 0, 0, 0,
+];
+
+/// The head of a record of 30 octets at time 0.
+pub const FRONT: [u8; 16] = [0, 0, 0, 0, 0, 0, 0, 0, 30, 0, 0, 0, 30, 0, 0, 0];
+
+/// A UDP datagram of 30 octets from 198.51.100.7 port 40000 to 10.0.0.1 port 53 with payload `hi`, and an octet behind it.
+pub const DATAGRAM: [u8; 31] = [
+    0x45, 0x00, 0x00, 0x1e, 0x00, 0x01, 0x00, 0x00, 0x40, 0x11, 0x46, 0x93, 0xc6, 0x33, 0x64, 0x07,
+    0x0a, 0x00, 0x00, 0x01, 0x9c, 0x40, 0x00, 0x35, 0x00, 0x0a, 0xc6, 0xbf, 0x68, 0x69, 0x00,
+];
+
+/// Octets at some places, in the place of those that stand there: `8:0x1e` for one, and `12:0x0a000001` for four from the twelfth on.
+pub type Changes = &'static str;
+
+/// Changes these octets so.
+pub fn change(alloc: Global, octets: &mut [u8], changes: Changes) -> Result<(), Fail> {
+    for change in changes.split_whitespace() {
+        let (place, spelled) = change.split_once(':').unwrap_or((change, ""));
+        let place = place.parse::<usize>()?;
+        let mut others = Vec::new(alloc);
+        add_octets(&mut others, spelled)?;
+        for (there, octet) in octets.iter_mut().skip(place).zip(others.iter()) {
+            *there = *octet;
+        }
+    }
+    Ok(())
+}
+
+/// A head with these changes, and records of the datagram, the last with these changes in its head.
+pub fn capture_file(
+    alloc: Global,
+    head: Changes,
+    records: u8,
+    last: Changes,
+) -> Result<Vec<u8>, Fail> {
+    let mut octets = HEAD;
+    change(alloc, &mut octets, head)?;
+    let mut file = Vec::from_slice(alloc, &octets)?;
+    for number in 1..=records {
+        let mut front = FRONT;
+        if number == records {
+            change(alloc, &mut front, last)?;
+        }
+        file.extend_from_slice(&front)?;
+        file.extend_from_slice(&DATAGRAM[..30])?;
+    }
+    Ok(file)
+}
+
+/// The words of a command line.
+pub fn line(alloc: Global, words: &[&str]) -> Result<Vec<String>, AllocError> {
+    let mut line = Vec::new(alloc);
+    for word in words {
+        line.push(String::from_str(alloc, word)?)?;
+    }
+    Ok(line)
+}
+
+/// The list of this one call, and no call for 0.
+pub fn only(alloc: Global, call: u32) -> Result<Vec<u32>, AllocError> {
+    let mut calls = Vec::new(alloc);
+    if call > 0 {
+        calls.push(call)?;
+    }
+    Ok(calls)
+}
+
+/// What a run answered, and what its sinks hold.
+#[derive(Drop)]
+pub struct Outcome {
+    pub status: u8,
+    pub capture: MemSink,
+    pub report: MemSink,
+}
+
+/// Runs over a file that is given in pieces. Of the source, the capture and the report the call of the given number fails; 0 is none.
+pub fn ended_run(
+    alloc: Global,
+    words: &[&str],
+    file: &[u8],
+    piece: usize,
+    failing: (u32, u32, u32),
+) -> Result<Outcome, Fail>
+    requires { 0 < piece }
+{
+    let words = line(alloc, words)?;
+    let mut source = MemSource::new(
+        Vec::from_slice(alloc, file)?,
+        piece,
+        only(alloc, failing.0)?,
+    );
+    let mut capture = MemSink::new(alloc, 131_072, only(alloc, failing.1)?)?;
+    let mut report = MemSink::new(alloc, 4096, only(alloc, failing.2)?)?;
+    let status = run(alloc, &words, &mut source, &mut capture, &mut report);
+    Ok(Outcome {
+        status,
+        capture,
+        report,
+    })
+}
+
+/// No call fails.
+pub const NONE: (u32, u32, u32) = (0, 0, 0);
