@@ -5,7 +5,8 @@ usage: check/make_captures.py SEED COUNT [FOLDER]
 
 Capture number i is made from SEED and i alone. With FOLDER each is written as FOLDER/i.pcap, and its words, one
 a line, as FOLDER/i.words, in which IN and OUT stand for the two names. At the end the rules that the model
-named in them are printed, each with its number of records, and the rules that it never named.
+named in them are printed, each with its number of records, and of frames in the second engine where both
+sides are protected, and the rules that it never named.
 """
 
 import os
@@ -17,25 +18,31 @@ from makers.files import make_capture  # noqa: E402
 from norm_model.rule_names import RULES  # noqa: E402
 
 
-def main(seed, count, folder=None):
-    rules, records, ends = {}, 0, {}
-    for i in range(count):
+def count(counts, names):
+    for name in names:
+        counts[name] = counts.get(name, 0) + 1
+
+
+def main(seed, number, folder=None):
+    rules, behind, records, ends = {}, {}, 0, {}
+    for i in range(number):
         words, octets, world = make_capture("%s %d" % (seed, i))
         records += len(world.records)
         for entry in world.entries:
-            for rule in entry.rules:
-                rules[rule] = rules.get(rule, 0) + 1
-            for ended in entry.ended:
-                ends[ended.reason] = ends.get(ended.reason, 0) + 1
+            count(rules, entry.rules)
+        for entry in world.entries_behind:
+            count(behind, entry.rules)
+        for entry in world.entries + world.entries_behind:
+            count(ends, [ended.reason for ended in entry.ended])
         if folder is not None:
             os.makedirs(folder, exist_ok=True)
             with open(os.path.join(folder, "%d.pcap" % i), "wb") as file:
                 file.write(octets)
             with open(os.path.join(folder, "%d.words" % i), "w", encoding="utf-8") as file:
                 file.write("".join(word + "\n" for word in words))
-    print("%d captures, %d records" % (count, records))
+    print("%d captures, %d records" % (number, records))
     for rule in RULES:
-        print("%8d %s" % (rules.get(rule, 0), rule))
+        print("%8d %8d %s" % (rules.get(rule, 0), behind.get(rule, 0), rule))
     print("eras ended: " + ", ".join("%s %d" % pair for pair in sorted(ends.items())))
     print("never: " + " ".join(rule for rule in RULES if rule not in rules))
 

@@ -20,12 +20,13 @@ UDP_HI_RECORD_HEAD = bytes.fromhex("00000000 00000000 1e000000 1e000000")
 OPENED = ["1 in pass 1 @1 +1", "2 out pass 1 @1", "3 in pass 1 @1"]
 
 
-def row(name, packets, lines, frames=None, words="", prefixes="10.0.0.0/8", stream=None):
+def row(name, packets, lines, frames=None, words="", prefixes="10.0.0.0/8", stream=None, stream_out=None):
     """`frames` has the frames of a record where they are not its own octets, by its number.
 
-    `stream` has what receivers get of era 1: pairs of a start and octets, and whether they ended.
+    `stream` has what receivers get of era 1: pairs of a start and octets, and whether they ended. `stream_out` has the same of
+    what goes outwards in era 1 of the second engine.
     """
-    ROWS.append(SimpleNamespace(name=name, packets=packets, lines=lines, frames=frames or {}, stream=stream,
+    ROWS.append(SimpleNamespace(name=name, packets=packets, lines=lines, frames=frames or {}, stream=stream, stream_out=stream_out,
                                 words=["run"] + words.split() + ["a", "b"] + prefixes.split()))
 
 

@@ -118,7 +118,7 @@ def changed_report(rng, text):
 def make_audit(number):
     """The octets of the written capture, the text of the report, and the number of routers."""
     rng = random.Random("audit " + number)
-    words, octets, _ = make_capture(number, WHOLE)
+    words, octets, _ = make_capture(number, WHOLE, both=0.02)
     status, written, text = run(words, octets, WHOLE)
     command = read_words(words, WHOLE) if status != 2 else None
     hops = command.settings.hops if command is not None and command.kind == "run" else 30

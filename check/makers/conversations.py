@@ -109,12 +109,19 @@ def payload_at(world, pair, place, length):
     return payload
 
 
+def answered_number(world, pair, era):
+    """The next octet from the other side; where both sides are followed, what the other engine's era would have acknowledged."""
+    other = pair.get("other")
+    seen = None if other is None else live_era(other["world"], other["key"])
+    return (eras.out(era) or 0) if seen is None or chance(world, 30) else acknowledged_number(other["world"], other, seen)
+
+
 def inbound_data(world, pair, era):
     rng = world.rng
     place = place_near_an_edge(world, era)
     payload = payload_at(world, pair, place, length_near_an_edge(world, era, place))
     flags = FIN | ACK if chance(world, 12) else rng.choice([ACK, ACK | PSH])
-    return packet(world, pair, True, eras.base(era) + place, eras.out(era) or 0, flags, payload)
+    return packet(world, pair, True, eras.base(era) + place, answered_number(world, pair, era), flags, payload)
 
 
 def inbound_control(world, pair, era):
@@ -206,12 +213,36 @@ def segments(world, pair):
             yield next_in_era(world, pair, era)
 
 
-def conversation(world):
-    """Segments of one pair of hosts; few of them come in fragments."""
+def wide_host_pair(world):
+    """Mostly with a window that octets fit into."""
     pair = new_host_pair(world)
     if chance(world, 40):
         pair["window"] = world.rng.choice([1000, 8192, 65535])
-    for octets_of_packet in segments(world, pair):
+    return pair
+
+
+def conversation(world):
+    """Segments of one pair of hosts; few of them come in fragments."""
+    return partly_in_fragments(world, segments(world, wide_host_pair(world)))
+
+
+def either_way(world):
+    """One connection between two hosts that both send what stands at an edge: that of the engine which protects the other one."""
+    one = dict(wide_host_pair(world), world=world)
+    outside, outside_port, inside, inside_port = one["key"]
+    other = dict(one, world=world.behind, key=(inside, inside_port, outside, outside_port), base=(one["seq"] + 1) % 2**32,
+                 seq=(one["base"] - 1) % 2**32)
+    one["other"], other["other"] = other, one
+    return partly_in_fragments(world, taken_in_turn(world, segments(world, one), segments(world.behind, other)))
+
+
+def taken_in_turn(world, one, other):
+    while True:
+        yield next(world.rng.choice([one, other]))
+
+
+def partly_in_fragments(world, packets):
+    for octets_of_packet in packets:
         if chance(world, 4) and len(octets_of_packet) > 60:
             yield from fragments_of_packet(world, octets_of_packet)
         else:

@@ -2,14 +2,14 @@
 
 import random
 
-from makers.conversations import conversation
+from makers.conversations import conversation, either_way
 from makers.datagrams import any_message
 from makers.faults import spoilt
 from makers.fragments import fragmented_messages, many_blocks
 from makers.headers import frame_of, odd_frame, original_length, packet_of
 from makers.sections import add_section, octets_of, open_file
-from makers.world import add_record, chance, open_world, pass_time
-from norm_model.built import OPTIONS, RANGES, WHOLE
+from makers.world import add_record, chance, dropped_later, open_world, pass_time
+from norm_model.built import MARKS, OPTIONS, RANGES, WHOLE
 from norm_model.capture import ETHERNET, RAW
 from norm_model.packets import head, record
 from norm_model.words import read_words
@@ -45,19 +45,29 @@ def option_words(rng, name, value):
     return ["--%s=%s" % (name, number)] if rng.random() < 0.5 else ["--" + name, number]
 
 
-def good_words(rng, built, inside=0.01):
+def good_words(rng, built, inside=0.01, both=0.2):
+    """`inside` and `both` say how often these options stand; the second has none of those beside it that would be refused."""
     words = []
-    often = {"offload": 0.25, "inside": inside}
+    often = {"offload": 0.25, "inside": inside, "both": both}
     names = [name for name in built.options if rng.random() < often.get(name, 0.3)]
+    if "both" in names:
+        names = [name for name in names if name not in ("inside", "mtu")]
     rng.shuffle(names)
     for name in names:
-        words += ["--offload"] if name == "offload" else option_words(rng, name, rng.choice(VALUES[name]))
+        words += ["--" + name] if name in MARKS else option_words(rng, name, rng.choice(VALUES[name]))
     prefixes = [rng.choice(PREFIXES)]
     while built.prefixes > 1 and rng.random() < 0.15 and len(prefixes) < built.prefixes:
         prefixes.append(rng.choice(MORE_PREFIXES[:4] if rng.random() < 0.9 else MORE_PREFIXES))
     if built.prefixes > 1 and rng.random() < 0.01:
         prefixes = ["10.0.0.0/8"] * 16
     return ["run"] + words + ["IN", "OUT"] + prefixes
+
+
+def both_words(rng):
+    """Both sides protected: once, twice, with a value, and beside the options with which it does not stand."""
+    beside = rng.choice([["--inside=in"], ["--inside", "in"], ["--mtu=600"], ["--mtu", "600"], ["--offload"], ["--hops=3"]])
+    return [["--both"], ["--both"] + beside, beside + ["--both"],
+            rng.choice([["--both"] * 2, ["--both="], ["--both=1"], ["--both=both"], ["--both", "1"], ["--bot"], ["-both"], ["--Both"], ["--mirror"]])]
 
 
 def spoilt_words(rng, words):
@@ -70,7 +80,8 @@ def spoilt_words(rng, words):
                        ["--%s=%d" % (name, high + 1)], ["--%s=%d" % (name, high)], ["--%s" % name], ["--%s=" % name],
                        ["--%s=%d" % (name, low - 1)], ["--%s" % name, str(low)], ["--offload=1"], ["--hops=" + "0" * 20],
                        ["--hops=" + "0" * 21], ["--help"], ["-h"], ["--"], ["-"], [""], ["--hop=3"], ["--unknown"], ["x"],
-                       ["--hops=1", "--hops", "1"], ["--hops=٣"], ["--hops=+3"], ["--hops= 3"], ["--hops=0x3"], ["--version"]])
+                       ["--hops=1", "--hops", "1"], ["--hops=٣"], ["--hops=+3"], ["--hops= 3"], ["--hops=0x3"], ["--version"]]
+                      + both_words(rng))
     choice = rng.randrange(8)
     if choice < 3:
         return words[:1] + more + words[1:]
@@ -86,7 +97,14 @@ def spoilt_words(rng, words):
 
 
 def sources(world):
-    """The makers of packets of this capture."""
+    """The makers of packets of this capture; with both sides protected some of them work from the inside, and some either way."""
+    if world.behind is None:
+        return sources_of_side(world)
+    chosen = sources_of_side(world.behind) + [either_way(world) for _ in range(world.rng.choice([0, 1, 1, 2]))]
+    return chosen + (sources_of_side(world) if chance(world, 50) else [])
+
+
+def sources_of_side(world):
     rng = world.rng
     chosen = [conversation(world) for _ in range(rng.choice([0, 1, 1, 2, 3]))]
     if chance(world, 45):
@@ -108,6 +126,8 @@ def fill(world, count):
     chosen = sources(world)
     for _ in range(count):
         pass_time(world)
+        if world.behind is not None and chance(world, 2):
+            dropped_later(world)
         if chance(world, 2):
             frame = odd_frame(world)
         else:
@@ -149,10 +169,10 @@ def make_words(number, built=WHOLE):
     return spoilt_words(rng, words) if rng.random() < 0.8 else words
 
 
-def make_capture(number, built=WHOLE):
+def make_capture(number, built=WHOLE, both=0.2):
     """The words and the octets of the capture with this number, and what the model made of it."""
     rng = random.Random(number)
-    words = good_words(rng, built)
+    words = good_words(rng, built, both=both)
     settings = read_words(words, built).settings
     world = open_world(rng, settings, rng.choice([ETHERNET, RAW]))
     fill(world, rng.choice([0, 3, 10, 10, 30, 30, 60, 60, 100, 100]))
@@ -162,10 +182,10 @@ def make_capture(number, built=WHOLE):
     return words, octets, world
 
 
-def make_pcapng(number, built=WHOLE):
+def make_pcapng(number, built=WHOLE, both=0.05):
     """The same in blocks, most of them with one thing off."""
     rng = random.Random("pcapng " + number)
-    words = good_words(rng, built, inside=0.6)
+    words = good_words(rng, built, inside=0.6, both=both)
     world = open_file(open_world(rng, read_words(words, built).settings, rng.choice([ETHERNET, RAW])))
     fill(world, rng.choice([0, 1, 3, 3, 10, 10, 30, 60]))
     if not world.file.plan:

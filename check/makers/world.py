@@ -1,11 +1,12 @@
 """What a capture is made in: the random numbers, the settings, and the model that has seen the records so far.
 
-The model runs beside the maker, so that a maker can ask where an era stands and choose numbers at its edges.
+The model runs beside the maker, so that a maker can ask where an era stands and choose numbers at its edges. With both sides
+protected `behind` is a world too, that of the second engine: what goes inwards there goes outwards here.
 """
 
 from types import SimpleNamespace
 
-from norm_model.engine import open_engine, step
+from norm_model.both_sides import open_engines, step_engines
 from norm_model.packets import address
 from norm_model.words import is_trusted
 
@@ -14,8 +15,17 @@ OUTSIDES = [address(text) for text in ("198.51.100.7", "198.51.100.8", "11.0.0.0
 
 
 def open_world(rng, settings, link):
-    return SimpleNamespace(rng=rng, settings=settings, link=link, engine=open_engine(settings, link), record_of=classic_record,
-                           seconds=rng.choice([0, 0, 1, 1000000, 2**32 - 10]), records=[], entries=[], written=[])
+    engines = open_engines(settings, link)
+    world = open_side(rng, engines.first)
+    world.behind = None if engines.behind is None else open_side(rng, engines.behind)
+    world.engines, world.record_of, world.seconds = engines, classic_record, rng.choice([0, 0, 1, 1000000, 2**32 - 10])
+    world.records, world.entries, world.entries_behind, world.written = [], [], [], []
+    return world
+
+
+def open_side(rng, engine):
+    """What the makers of packets know of."""
+    return SimpleNamespace(rng=rng, engine=engine, settings=engine.settings, link=engine.link)
 
 
 def classic_record(world, frame, original):
@@ -26,9 +36,10 @@ def classic_record(world, frame, original):
 def add_record(world, frame, original=None):
     """Steps the model over one more record."""
     record = world.record_of(world, frame, len(frame) if original is None else original)
-    entry, written = step(world.engine, record)
+    entry, behind, written = step_engines(world.engines, record)
     world.records.append(record)
     world.entries.append(entry)
+    world.entries_behind += behind
     world.written.append(written)
 
 
@@ -60,11 +71,23 @@ def pass_time(world):
     world.seconds = within(world.seconds + rng.choice(steps), 0, 2**32 - 1)
 
 
+def dropped_later(world):
+    """A record that the first engine drops, at a time that the second one sees nothing of: there no era is idle."""
+    before, idle = world.seconds, world.settings.idle
+    world.seconds = within(before + world.rng.choice([1, idle, idle + 1, 2 * idle]), 0, 2**32 - 1)
+    add_record(world, b"")
+    world.seconds = world.rng.choice([before, before, world.seconds])
+
+
+def some_address(world, usual, trusted):
+    known = [one for one in usual if is_trusted(world.settings, one) == trusted]
+    return world.rng.choice(known or usual)
+
+
 def inside_address(world):
-    known = [one for one in INSIDES if is_trusted(world.settings, one)]
-    return world.rng.choice(known or INSIDES)
+    """A trusted one: behind the first engine it is one that stands outside."""
+    return some_address(world, OUTSIDES if world.settings.mirror else INSIDES, True)
 
 
 def outside_address(world):
-    known = [one for one in OUTSIDES if not is_trusted(world.settings, one)]
-    return world.rng.choice(known or OUTSIDES)
+    return some_address(world, INSIDES if world.settings.mirror else OUTSIDES, False)

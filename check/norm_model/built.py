@@ -23,7 +23,10 @@ RANGES = {
 # The option that takes a name, with the least and the greatest number of its octets.
 NAMED = {"inside": (1, 64)}
 
-OPTIONS = [*RANGES, *NAMED, "offload"]
+# The option that is one word.
+MARKS = ["offload", "both"]
+
+OPTIONS = [*RANGES, *NAMED, *MARKS]
 
 
 def built(options, prefixes, load, report_version):

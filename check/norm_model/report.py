@@ -1,6 +1,7 @@
 """The text of a report, and a report read back.
 
-Version 1 writes an ended era as `-E:reason`, version 2 as `-E:reason:N` with the number of its octets.
+Version 1 writes an ended era as `-E:reason`, version 2 as `-E:reason:N` with the number of its octets. With both sides protected
+the first line says so, and a line that begins with `/` is of a frame in the second engine. Such a report is not read back.
 """
 
 import re
@@ -9,8 +10,8 @@ from types import SimpleNamespace
 from norm_model.rule_names import RULES
 
 
-def first_line(version):
-    return "norm %d\n" % version
+def first_line(version, both=False):
+    return "norm %d%s\n" % (version, " both" if both else "")
 
 
 def entry_line(entry, version):
@@ -23,6 +24,11 @@ def entry_line(entry, version):
         text = "-%d:%s" % (ended.era, ended.reason)
         parts.append(text + (":%d" % ended.octets if version == 2 else ""))
     return " ".join(parts) + "\n"
+
+
+def lines_of(entry, behind, version):
+    """The line of a record; with both sides protected, behind it those of its frames in the second engine."""
+    return entry_line(entry, version) + "".join("/" + entry_line(one, version) for one in behind)
 
 
 def end_line(records, packets):

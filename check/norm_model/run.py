@@ -3,8 +3,8 @@
 from types import SimpleNamespace
 
 from norm_model import capture, report
+from norm_model.both_sides import open_engines, step_engines, up_to_most
 from norm_model.cuts import as_written
-from norm_model.engine import open_engine, step
 from norm_model.load import run_load
 from norm_model.pcapng import SECTION, read_sections
 from norm_model.words import read_words
@@ -40,19 +40,20 @@ def read_input(octets, inside):
 
 
 def run_capture(settings, octets, built):
-    """Besides, each entry with its frames."""
-    lines = report.first_line(built.report_version)
+    """Besides, for each record its entry, the entries of its frames in the second engine, and the frames that go out."""
+    lines = report.first_line(built.report_version, settings.both)
     head, records, fault, at = read_input(octets, settings.inside)
     if head is None:
         return STATUS[fault], b"", lines + report.stop_line(fault, at), []
+    records, fault, at = up_to_most(settings, records, fault, at)
     parts, texts, steps = [capture.write_head(head)], [lines], []
-    engine = open_engine(settings, head.link)
+    engines = open_engines(settings, head.link)
     for record in records:
-        entry, written = step(engine, record)
+        entry, behind, written = step_engines(engines, record)
         written = as_written(settings, head.link, entry, written)
         parts += [capture.write_record(head, record.seconds, record.fraction, frame) for frame in written]
-        texts.append(report.entry_line(entry, built.report_version))
-        steps.append((entry, written))
-    packets = sum(len(written) for _, written in steps)
+        texts.append(report.lines_of(entry, behind, built.report_version))
+        steps.append((entry, behind, written))
+    packets = sum(len(written) for _, _, written in steps)
     last = report.end_line(len(records), packets) if fault == "end" else report.stop_line(fault, at)
     return STATUS[fault], b"".join(parts), "".join(texts) + last, steps

@@ -2,7 +2,7 @@
 
 from types import SimpleNamespace
 
-from norm_model.built import NAMED, RANGES
+from norm_model.built import MARKS, NAMED, RANGES
 
 REFUSED, PREFIX, TOO_MANY, SAME = 1, 2, 3, 5
 
@@ -11,7 +11,7 @@ DIGITS = "0123456789"
 
 def default_settings():
     return SimpleNamespace(prefixes=[], hops=30, flows=4096, cells=65536, frags=256, frag_cells=4096,
-                           idle=3600, frag_time=30, seed=0, quota=None, mtu=None, inside=None, offload=False)
+                           idle=3600, frag_time=30, seed=0, quota=None, mtu=None, inside=None, offload=False, both=False, mirror=False)
 
 
 def is_digits(text, least, most):
@@ -49,7 +49,8 @@ def prefix_holds(prefix, address):
 
 
 def is_trusted(settings, address):
-    return any(prefix_holds(prefix, address) for prefix in settings.prefixes)
+    """In a prefix; where the sides are exchanged, in none."""
+    return any(prefix_holds(prefix, address) for prefix in settings.prefixes) != settings.mirror
 
 
 def side_of(settings, given, src, dst):
@@ -74,8 +75,8 @@ def take_option(words, settings, seen, built):
     if not words[0].startswith("--") or name not in built.options or name in seen:
         return None
     seen.append(name)
-    if name == "offload":
-        settings.offload = True
+    if name in MARKS:
+        setattr(settings, name, True)
         return rest if equals == "" else None
     if equals == "":
         if not rest:
@@ -88,6 +89,11 @@ def take_option(words, settings, seen, built):
     return rest
 
 
+def go_together(settings):
+    """Both sides are protected by addresses alone, and what goes out is not cut."""
+    return not (settings.both and (settings.inside is not None or settings.mtu is not None))
+
+
 def read_run(words, built):
     settings = default_settings()
     seen = []
@@ -95,7 +101,7 @@ def read_run(words, built):
         words = take_option(words, settings, seen, built)
         if words is None:
             return REFUSED
-    if len(words) < 3 or any(word == "" or word.startswith("-") for word in words):
+    if len(words) < 3 or any(word == "" or word.startswith("-") for word in words) or not go_together(settings):
         return REFUSED
     names, prefixes = words[:2], words[2:]
     if built.prefixes == 1 and len(prefixes) != 1:
