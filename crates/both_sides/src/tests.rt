@@ -1,5 +1,5 @@
 //! Both sides protected, by worked rows: what each engine says of a packet and of its frames, and what goes out.
-ghost use Rattle.std.specs.Prelude.{◌≡◌, false, IfSome};
+ghost use Rattle.std.specs.Prelude.{◌≡◌, false};
 ghost use Rattle.norm_settings.specs.Settings.{plain_settings, AreInRange};
 
 use super::Both;
@@ -209,50 +209,56 @@ fn holds(out: &Outbox, octets: &[u8]) -> bool {
     out.frames() == 1 && out.frame(0) == octets
 }
 
-/// Whether both engines say so of the packet, which is the record with this number; the second engine has had so many frames before.
-fn relays(both: &mut Both, row: &Row, records: u32, frames: u32, out: &mut Outbox) -> bool {
+/// Whether the first engine says so of the packet, which is the record with this number, and writes as many frames.
+fn fronts(both: &mut Both, row: &Row, records: u32) -> bool {
     if both.records() >= 1000 || both.pending() > 0 {
         return false;
     }
     let length = row.packet.len().min(65_535) as u32;
     let input = Record::new(7, 9, length, 24, row.packet);
-    let entry = both.front(&input);
-    let mut right = says(&entry, &row.front, records) && both.pending() == row.back.len();
+    let right = says(&both.front(&input), &row.front, records);
+    right && both.pending() == row.back.len()
+}
+
+/// Whether the second engine says so of the next frame, which is the one with this number, and these octets go out.
+fn backs(both: &mut Both, told: &Told, octets: &[u8], number: u32, out: &mut Outbox) -> bool {
+    if both.pending() == 0 {
+        return false;
+    }
+    let right = says(&both.back(out), told, number);
+    right && holds(out, octets)
+}
+
+/// Whether both engines say so of the packet, which is the record with this number; the second engine has had so many frames before.
+fn relays(both: &mut Both, row: &Row, records: u32, frames: u32, out: &mut Outbox) -> bool {
+    let mut right = fronts(both, row, records);
     let mut number = frames;
     for (told, octets) in row.back {
-        if both.pending() == 0 {
-            return false;
-        }
         number = number.wrapping_add(1);
-        let entry = both.back(out);
-        right = right && says(&entry, told, number) && holds(out, octets);
+        right = right && backs(both, told, octets, number, out);
     }
     right && both.pending() == 0
 }
 
-/// Two engines on this link.
-fn opened(alloc: Global, link: Link) -> Option<Both>
-    ensures { IfSome result (λ both. both.first.records ≡ 0) }
-{
-    let mut both = Both::open(alloc, settings()).ok()?;
-    both.set_link(link);
-    Some(both)
-}
-
-/// Whether both engines say so of these packets, one after another, on this link.
-fn relay_all(alloc: Global, link: Link, before: &[Row], rows: &[Row]) -> Result<bool, Fail> {
-    let mut out = Outbox::open(alloc).ok().ok_or("no memory")?;
-    let mut both = opened(alloc, link).ok_or("no memory")?;
+/// Whether both engines say so of these packets, one after another.
+fn relay_each(both: &mut Both, before: &[Row], rows: &[Row], out: &mut Outbox) -> bool {
     let mut records = 0u32;
     let mut frames = 0u32;
+    let mut right = true;
     for row in before.iter().chain(rows) {
         records = records.wrapping_add(1);
-        if !relays(&mut both, row, records, frames, &mut out) {
-            return Ok(false);
-        }
+        right = right && relays(both, row, records, frames, out);
         frames = frames.wrapping_add(row.back.len().min(2) as u32);
     }
-    Ok(true)
+    right
+}
+
+/// Whether two engines on this link say so of these packets, one after another.
+fn relay_all(alloc: Global, link: Link, before: &[Row], rows: &[Row]) -> Result<bool, Fail> {
+    let mut out = Outbox::open(alloc)?;
+    let mut both = Both::open(alloc, settings())?;
+    both.set_link(link);
+    Ok(relay_each(&mut both, before, rows, &mut out))
 }
 
 #[test]

@@ -16,7 +16,7 @@ use Rattle.capture_input.specs.Reads.{Continues, GivesPacket, ReachesEnd, StopsA
 use Rattle.capture_input.specs.Laws.{WholeIsInput}
 use Rattle.rule_book.specs.declared.last.Last.TheVariants.{End}
 use Rattle.rule_book.specs.Text.{last_text}
-use Rattle.norm_settings.specs.Settings.{AreInRange, PlainSettings}
+use Rattle.norm_settings.specs.Settings.{AreInRange, GoTogether, PlainSettings}
 use Rattle.norm_engine.specs.Items.{Item, packets}
 use Rattle.record_relay.specs.declared.engines.Engines.{Engines}
 use Rattle.record_relay.specs.declared.engines.Engines.TheVariants.{One, Two}
@@ -25,7 +25,7 @@ use Rattle.record_relay.specs.Laws.{Begins, GoesOn, RunsAreWrittenSoundly, RunsB
 use Rattle.record_relay.specs.Outputs.{Given, heading}
 use Rattle.record_relay.specs.Outputs as relayed
 use Rattle.record_relay.specs.Puts.{IsPut, Put, count_put, next_put, puts, put_outputs, text_put}
-use Rattle.record_relay.specs.Relays.{CanRun, StandsForRun, is_full_of, link_of, most_records, records_of, settings_of}
+use Rattle.record_relay.specs.Relays.{StandsForRun, is_full_of, link_of, most_records, records_of, settings_of}
 use Rattle.record_relay.specs.Runs.{LawfulRun, RunHasNoSide, RunHasOctets, RunTrace, empty_run, next_run, one, packets_of, trace_in, two}
 use Rattle.bridge_run.specs.declared.stop.Stop.{Stop}
 use Rattle.bridge_run.specs.Moments.{Moment, NoneRose}
@@ -243,7 +243,7 @@ module _ (settings : PlainSettings) (head : Head) (a b : Moment) (engines : Engi
     all_taken = whole settings.inside a.source.octets b.source.octets c.source.octets head going.walk ends.farther going.so_far.took ends.whole took_end
 
     -- the last line is written
-    pub normalized : RunsAreWrittenSoundly → AreInRange settings → CanRun settings → Ended count frames b.sinks c.sinks
+    pub normalized : RunsAreWrittenSoundly → AreInRange settings → GoTogether settings → Ended count frames b.sinks c.sinks
         → Normalized settings a.source.octets c.source.octets a.sinks.capture.octets c.sinks.capture.octets a.sinks.report.octets c.sinks.report.octets
     normalized soundly range together ended =
         let run = going.run in

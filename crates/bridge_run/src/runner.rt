@@ -1,9 +1,9 @@
 //! The run over a whole capture.
 ghost use Rattle.std.specs.Prelude.{◌≡◌, ◌⊎◌, ◌≤◌, [], length, map, option_map, string_bytes, vec_len, IfOk, IfErr, IfSome, OnOk};
 ghost use Rattle.edge_io.specs.Faults.{Rose};
-ghost use Rattle.norm_settings.specs.Settings.{plain_settings, AreInRange};
+ghost use Rattle.norm_settings.specs.Settings.{plain_settings, AreInRange, GoTogether};
 ghost use Rattle.record_relay.specs.Outputs.{heading};
-ghost use Rattle.record_relay.specs.Relays.{CanRun, StandsForRun, settings_of};
+ghost use Rattle.record_relay.specs.Relays.{StandsForRun, settings_of};
 ghost use Rattle.record_relay.specs.Runs.{empty_run};
 ghost use Rattle.record_relay.specs.Sinks.{sinks_of};
 ghost use Rattle.bridge_run.specs.Moments.{moment_of};
@@ -135,7 +135,7 @@ pub fn run_capture<S: Source, K: Sink, R: Sink>(
     report: &mut R,
 ) -> u8
     requires range { AreInRange (plain_settings settings.now) }
-    requires together { CanRun (plain_settings settings.now) }
+    requires together { GoTogether (plain_settings settings.now) }
     ensures stopped { stopped.StoppedUnder (plain_settings settings.now) result
         (moment_of (S.left source.old) (S.fault_count source.old) (K.held capture.old) (K.fault_count capture.old)
         (R.held report.old) (R.fault_count report.old))
@@ -191,7 +191,7 @@ fn normalize_in_room<S: Source, K: Sink, R: Sink>(
     report: &mut R,
 ) -> Result<Result<(), Stop>, NoMemory>
     requires range { AreInRange (plain_settings settings.now) }
-    requires together { CanRun (plain_settings settings.now) }
+    requires together { GoTogether (plain_settings settings.now) }
     ensures finished { IfOk result (λ ended. OnOk ended (spec.Normalized (plain_settings settings.now)
         (S.left source.old) (S.left source.new) (K.held capture.old) (K.held capture.new)
         (R.held report.old) (R.held report.new))) }
@@ -225,7 +225,7 @@ fn normalize_in_room<S: Source, K: Sink, R: Sink>(
 // The memory of a run: the buffer of one record, and the relay.
 fn take_room(alloc: Global, settings: &Settings) -> Result<(Vec<u8>, Relay), NoMemory>
     requires range { AreInRange (plain_settings settings.now) }
-    requires together { CanRun (plain_settings settings.now) }
+    requires together { GoTogether (plain_settings settings.now) }
     ensures buffer { IfOk result (λ room. vec_len room.0 ≡ 262144) }
     ensures stands { IfOk result (λ room. StandsForRun room.1 (empty_run (plain_settings settings.now).both)) }
     ensures settings { IfOk result (λ room. settings_of room.1 ≡ plain_settings settings.now) }
@@ -247,7 +247,7 @@ fn normalize<S: Source, K: Sink, R: Sink>(
     requires stands { StandsForRun relay.old (empty_run (plain_settings settings.now).both) }
     requires settings { settings_of relay.old ≡ plain_settings settings.now }
     requires range { AreInRange (plain_settings settings.now) }
-    requires together { CanRun (plain_settings settings.now) }
+    requires together { GoTogether (plain_settings settings.now) }
     requires room { 262144 ≤ length buffer.old }
     ensures finished { OnOk result (spec.Normalized (plain_settings settings.now)
         (S.left source.old) (S.left source.new) (K.held capture.old) (K.held capture.new)

@@ -41,7 +41,7 @@ pub fn cold_probe(seg: &Seg) -> Probe
     ensures { result ≡ cold_probe_of (came seg.now) }
 {
     Probe {
-        seq: seg.seq.wrapping_sub(1),
+        seq: seg.seq.before(),
         ack: seg.ack,
         window: seg.window,
     }

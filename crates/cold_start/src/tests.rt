@@ -6,7 +6,7 @@ use crate::{ColdAnswer, cold, warm_from};
 use era_state::{Seg, Warm};
 use std::alloc::{AllocError, Global};
 use std::test::Fail;
-use wire_base::Flags;
+use wire_base::{Flags, SeqNumber};
 
 /// The flags of a segment; the last three with a mark that no rule reads.
 #[derive(Clone, Copy)]
@@ -82,8 +82,8 @@ fn segment_of(row: &Row) -> Seg
     ensures { tcp.are_legal result.flags.0 ≡ true }
 {
     Seg {
-        seq: row.seq,
-        ack: row.ack,
+        seq: SeqNumber::new(row.seq),
+        ack: SeqNumber::new(row.ack),
         len: row.len,
         window: 8192,
         flags: Flags(flags_of(row.kind)),
@@ -93,9 +93,14 @@ fn segment_of(row: &Row) -> Seg
 
 fn answer_text(alloc: Global, answer: ColdAnswer) -> Result<String, AllocError> {
     match answer {
-        ColdAnswer::Begin(era) => format!(in alloc; "begin {}", era.base),
+        ColdAnswer::Begin(era) => format!(in alloc; "begin {}", era.base.value()),
         ColdAnswer::Probe(probe) => {
-            format!(in alloc; "probe {} {} {}", probe.seq, probe.ack, probe.window)
+            format!(in alloc;
+                "probe {} {} {}",
+                probe.seq.value(),
+                probe.ack.value(),
+                probe.window
+            )
         }
         ColdAnswer::Refuse => String::from_str(alloc, "refuse"),
     }
@@ -106,7 +111,12 @@ fn era_text(alloc: Global, era: Option<Warm>) -> Result<String, AllocError> {
         return String::from_str(alloc, "none");
     };
     let fin = if era.out_fin { " fin" } else { "" };
-    format!(in alloc; "base {} out {} edge {}{fin}", era.base, era.out, era.edge)
+    format!(in alloc;
+        "base {} out {} edge {}{fin}",
+        era.base.value(),
+        era.out.value(),
+        era.edge
+    )
 }
 
 #[test]

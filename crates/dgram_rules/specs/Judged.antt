@@ -1,5 +1,5 @@
 -- What is answered on a datagram, row by row.
-use Rattle.std.specs.Prelude.{Bool, if◌then◌else◌}
+use Rattle.std.specs.Prelude.{◌==◌, Bool, if◌then◌else◌}
 use Rattle.rule_book.specs.declared.rule.Rule.TheVariants as rules
 use Rattle.norm_settings.specs.Settings.{PlainSettings}
 use Rattle.dgram_rules.specs.declared.judged.DgramJudged.{DgramJudged}
@@ -24,3 +24,8 @@ icmp_judged settings live d =
     else if m_type d then Drop rules.MType
     else if m_quote settings live d then Drop rules.MQuote
     else Pass
+
+-- what becomes of a datagram: of UDP (17) and of ICMP (1) what is said of them, and another protocol passes
+abbrev pub dgram_judged : PlainSettings → (live : Bool) → Datagram → DgramJudged
+dgram_judged settings live d =
+    if d.head.protocol.0 == 17 then udp_judged settings d else if d.head.protocol.0 == 1 then icmp_judged settings live d else Pass

@@ -8,7 +8,7 @@ use Rattle.dgram_rules.specs.declared.judged.DgramJudged.{DgramJudged}
 use Rattle.dgram_rules.specs.declared.judged.DgramJudged.TheVariants.{Pass, Mend, Drop}
 use Rattle.ip_rules.specs.Datagrams.{Datagram}
 use Rattle.dgram_rules.specs.Rows.{holds_dgram, dgram_dropped_by}
-use Rattle.dgram_rules.specs.Judged.{udp_judged, icmp_judged}
+use Rattle.dgram_rules.specs.Judged.{dgram_judged}
 
 -- the row that an answer drops by, if it drops
 abbrev pub row_in : DgramJudged → Option Rule
@@ -28,22 +28,16 @@ pub record Tells (dropped : Option Rule) (mended : Bool) (answer : DgramJudged) 
   pub drops : dropped ≡ row_in answer
   pub mends : dropped ≡ None → mended ≡ is_mend answer
 
--- what becomes of UDP tells of the rows, whichever eras are live
-abbrev pub UdpTellsTheRows : Type 0
-UdpTellsTheRows =
-    (settings : PlainSettings) (live : Bool) (d : Datagram) → d.head.protocol ≡ 17
-    → Tells (dgram_dropped_by settings live d) (holds_dgram settings live d rules.USumOut) (udp_judged settings d)
-
--- what becomes of ICMP tells of the rows
-abbrev pub IcmpTellsTheRows : Type 0
-IcmpTellsTheRows =
-    (settings : PlainSettings) (live : Bool) (d : Datagram) → d.head.protocol ≡ 1
-    → Tells (dgram_dropped_by settings live d) (holds_dgram settings live d rules.USumOut) (icmp_judged settings live d)
+-- what becomes of a datagram tells of the rows, whichever eras are live
+abbrev pub DatagramsTellTheRows : Type 0
+DatagramsTellTheRows =
+    (settings : PlainSettings) (live : Bool) (d : Datagram)
+    → Tells (dgram_dropped_by settings live d) (holds_dgram settings live d rules.USumOut) (dgram_judged settings live d)
 
 -- of another protocol no row holds, and none drops it
 abbrev pub OthersHaveNoRow : Type 0
 OthersHaveNoRow =
-    (settings : PlainSettings) (live : Bool) (d : Datagram) → d.head.protocol ≢ 17 → d.head.protocol ≢ 1
+    (settings : PlainSettings) (live : Bool) (d : Datagram) → d.head.protocol.0 ≢ 17 → d.head.protocol.0 ≢ 1
     → (dgram_dropped_by settings live d ≡ None) × ((rule : Rule) → holds_dgram settings live d rule ≡ false)
 
 -- under offload no outbound UDP message is dropped for its checksum

@@ -15,7 +15,7 @@ use Rattle.ip_rules.specs.Datagrams.{Datagram, goes_in}
 
 -- what UDP and TCP sum before the message (RFC 768, RFC 9293 section 3.1)
 abbrev pub pseudo_of : Datagram → ℕ
-pseudo_of d = pseudo_sum d.head.src.0 d.head.dst.0 d.head.protocol (length d.octets)
+pseudo_of d = pseudo_sum d.head.src.0 d.head.dst.0 d.head.protocol.0 (length d.octets)
 
 -- a checksum was made and is not right (RFC 768: 0 says that none was made)
 abbrev pub has_wrong_sum : Datagram → Bool
@@ -62,7 +62,7 @@ m_type d = not (is_error (icmp.kind d.octets) || is_query (icmp.kind d.octets))
 abbrev pub is_stray : PlainSettings → (live : Bool) → Option QuotedKey → Bool
 is_stray settings live None = true
 is_stray settings live (Some quote) =
-    not (is_trusted settings quote.src.0) || is_trusted settings quote.dst.0 || ((quote.protocol == 6) && not live)
+    not (is_trusted settings quote.src.0) || is_trusted settings quote.dst.0 || ((quote.protocol.0 == 6) && not live)
 
 -- M_QUOTE: an inbound error whose quote is no packet that went outward
 abbrev pub m_quote : PlainSettings → (live : Bool) → Datagram → Bool
@@ -74,14 +74,14 @@ u_sum_out settings d = is_offloaded settings d && has_wrong_sum d
 
 -- whether the condition of a row on UDP or ICMP holds of a datagram of its protocol, 17 or 1; the rows of other layers hold of none
 abbrev pub holds_dgram : PlainSettings → (live : Bool) → Datagram → Rule → Bool
-holds_dgram settings live d rules.UShort = (d.head.protocol == 17) && u_short d
-holds_dgram settings live d rules.ULen = (d.head.protocol == 17) && u_len d
-holds_dgram settings live d rules.USum = (d.head.protocol == 17) && u_sum settings d
-holds_dgram settings live d rules.MShort = (d.head.protocol == 1) && m_short d
-holds_dgram settings live d rules.MSum = (d.head.protocol == 1) && m_sum d
-holds_dgram settings live d rules.MType = (d.head.protocol == 1) && m_type d
-holds_dgram settings live d rules.MQuote = (d.head.protocol == 1) && m_quote settings live d
-holds_dgram settings live d rules.USumOut = (d.head.protocol == 17) && u_sum_out settings d
+holds_dgram settings live d rules.UShort = (d.head.protocol.0 == 17) && u_short d
+holds_dgram settings live d rules.ULen = (d.head.protocol.0 == 17) && u_len d
+holds_dgram settings live d rules.USum = (d.head.protocol.0 == 17) && u_sum settings d
+holds_dgram settings live d rules.MShort = (d.head.protocol.0 == 1) && m_short d
+holds_dgram settings live d rules.MSum = (d.head.protocol.0 == 1) && m_sum d
+holds_dgram settings live d rules.MType = (d.head.protocol.0 == 1) && m_type d
+holds_dgram settings live d rules.MQuote = (d.head.protocol.0 == 1) && m_quote settings live d
+holds_dgram settings live d rules.USumOut = (d.head.protocol.0 == 17) && u_sum_out settings d
 holds_dgram settings live d _ = false
 
 -- the first row that drops the datagram, in the order of testing, if there is one

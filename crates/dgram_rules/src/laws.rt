@@ -1,14 +1,9 @@
 //! Laws of the rows on UDP and ICMP.
-ghost use Rattle.dgram_rules.specs.Laws.{IcmpTellsTheRows, OffloadKeepsWrongSums, OthersHaveNoRow, UdpTellsTheRows};
+ghost use Rattle.dgram_rules.specs.Laws.{DatagramsTellTheRows, OffloadKeepsWrongSums, OthersHaveNoRow};
 
-/// What becomes of UDP is what the first row that drops, or else the row that mends, says.
-pub fn udp_tells_the_rows()
-    ensures { UdpTellsTheRows }
-{}
-
-/// What becomes of ICMP is what the first row that drops says.
-pub fn icmp_tells_the_rows()
-    ensures { IcmpTellsTheRows }
+/// What becomes of a datagram is what the first row that drops, or else the row that mends, says.
+pub fn datagrams_tell_the_rows()
+    ensures { DatagramsTellTheRows }
 {}
 
 /// No row is read of another protocol.

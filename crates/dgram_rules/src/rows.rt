@@ -15,10 +15,7 @@ use ipv4_codec::Ipv4;
 use norm_settings::{Settings, side_of};
 use rule_book::Rule;
 use udp_codec::UdpFault;
-use wire_base::{Side, pseudo_sum};
-
-/// The protocol number of TCP (RFC 9293).
-const TCP: u8 = 6;
+use wire_base::{Protocol, Side, pseudo_sum};
 
 /// Judges a packet that carries UDP by the first row that holds; `Mend` where that is U_SUM_OUT.
 pub fn judge_udp(settings: &Settings, packet: &IpPacket<'_>) -> DgramJudged
@@ -37,7 +34,7 @@ pub fn judge_udp(settings: &Settings, packet: &IpPacket<'_>) -> DgramJudged
 
 // What is summed before a message. Where the length field says another length, as of a message too long for it, no sum is asked for.
 fn pseudo_of(head: &Ipv4, message: &[u8]) -> u32
-    ensures { udp.has_other_length message.now ≡ false → result ≡ pseudo_sum head.now.src.0 head.now.dst.0 head.now.protocol (length message.now) }
+    ensures { udp.has_other_length message.now ≡ false → result ≡ pseudo_sum head.now.src.0 head.now.dst.0 head.now.protocol.0 (length message.now) }
 {
     let size = u16::try_from(message.len()).unwrap_or(u16::MAX);
     pseudo_sum(head.src, head.dst, head.protocol, size)
@@ -83,5 +80,5 @@ fn is_stray(settings: &Settings, message: &[u8], live: bool) -> bool
         return true;
     };
     let outward = side_of(settings, quote.src, quote.dst) == Some(Side::Outward);
-    !outward || quote.protocol == TCP && !live
+    !outward || quote.protocol == Protocol::TCP && !live
 }

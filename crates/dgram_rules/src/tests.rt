@@ -8,7 +8,7 @@ use ipv4_codec::Ipv4;
 use norm_settings::Settings;
 use std::alloc::{AllocError, Global};
 use std::test::Fail;
-use wire_base::{Addr, Prefix, Side};
+use wire_base::{Addr, Prefix, Protocol, Side};
 
 /// A UDP message (RFC 768) from port 40000 to port 53 with payload `hi`, an octet behind it, and a right checksum without that octet.
 const UDP: [u8; 11] = [
@@ -133,7 +133,7 @@ fn side_of(way: Way) -> Side {
 }
 
 /// The packet of this protocol that carries these octets.
-fn packet_of(way: Way, protocol: u8, octets: &[u8]) -> IpPacket<'_> {
+fn packet_of(way: Way, protocol: Protocol, octets: &[u8]) -> IpPacket<'_> {
     let side = side_of(way);
     let outside = Addr(0xc633_6407);
     let inside = Addr(0x0a00_0001);
@@ -190,7 +190,7 @@ fn each_udp_row_holds_of_its_message_and_not_of_its_neighbour(rt: HostRuntime) -
     for (number, row) in UDP_ROWS.iter().enumerate() {
         let settings = settings(matches!(row.way, Way::Offload | Way::InOffload));
         let octets = octets_of(rt.alloc(), row)?;
-        let judged = judge_udp(&settings, &packet_of(row.way, 17, &octets));
+        let judged = judge_udp(&settings, &packet_of(row.way, Protocol::UDP, &octets));
         assert_eq!(rt; word_of(judged), row.says, "row {number}");
     }
     Ok(())
@@ -205,7 +205,7 @@ fn each_icmp_row_holds_of_its_message_and_not_of_its_neighbour(
         let octets = octets_of(rt.alloc(), row)?;
         let judged = judge_icmp(
             &settings,
-            &packet_of(row.way, 1, &octets),
+            &packet_of(row.way, Protocol::ICMP, &octets),
             row.way == Way::Live,
         );
         assert_eq!(rt; word_of(judged), row.says, "row {number}");

@@ -4,10 +4,7 @@ ghost use Rattle.emit_mtu.specs.Frames.{IsSent, IsWhole};
 ghost use Rattle.emit_mtu.specs.Long as spec;
 
 use crate::parts::{HEADER, header_length};
-use wire_base::{Flags, FrameKind, Link, frame_kind, packet_in, u16_at};
-
-// The number of the protocol.
-const TCP: u8 = 6;
+use wire_base::{Flags, FrameKind, Link, Protocol, frame_kind, packet_in, u16_at};
 
 /// What becomes of a frame on a link with a largest packet.
 #[derive(Clone, Copy, Debug, PartialEq, Eq)]
@@ -43,7 +40,7 @@ fn may_be_cut(packet: &[u8]) -> bool
     requires { IsWhole packet.now }
     ensures { result ≡ spec.may_be_cut packet.now }
 {
-    if packet[9] != TCP {
+    if Protocol(packet[9]) != Protocol::TCP {
         return false;
     }
     let segment = &packet[HEADER..];

@@ -5,10 +5,9 @@ ghost use Rattle.emit_mtu.specs.Segments as spec;
 
 use crate::parts::{HEADER, Parts};
 use tcp_codec::mend;
-use wire_base::{Addr, Flags, pseudo_sum, put_u16, put_u32, sum_for, u16_at, u32_at};
-
-// The number of the protocol.
-const TCP: u8 = 6;
+use wire_base::{
+    Addr, Flags, Protocol, SeqNumber, pseudo_sum, put_u16, put_u32, sum_for, u16_at, u32_at,
+};
 
 // The weights of the flags that not each piece keeps (RFC 9293 section 3.1).
 const FIN: u8 = 1;
@@ -72,7 +71,7 @@ fn put_message(parts: &Parts<'_>, room: usize, index: u16, message: &mut [u8])
     put_octets(parts, room, index, message);
     let source = Addr(u32_at(parts.ip, 12));
     let destination = Addr(u32_at(parts.ip, 16));
-    let pseudo = pseudo_sum(source, destination, TCP, message.len() as u16);
+    let pseudo = pseudo_sum(source, destination, Protocol::TCP, message.len() as u16);
     mend(message, pseudo);
 }
 
@@ -97,7 +96,8 @@ fn put_tcp_header(parts: &Parts<'_>, room: usize, index: u16, header: &mut [u8])
 {
     header.copy_from_slice(parts.tcp);
     let before = room * usize::from(index);
-    put_u32(header, 4, u32_at(parts.tcp, 4).wrapping_add(before as u32));
+    let sequence = SeqNumber::new(u32_at(parts.tcp, 4)).plus(before as u64);
+    put_u32(header, 4, sequence.value());
     let last = parts.payload.len() <= before + room;
     header[13] = flags_of(Flags(parts.tcp[13]), index == 0, last).0;
 }

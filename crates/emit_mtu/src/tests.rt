@@ -11,7 +11,8 @@ use ipv4_codec::{Ipv4, write_plain};
 use std::test::Fail;
 use tcp_codec::{SegmentParts, SumRule, write_segment};
 use wire_base::{
-    Addr, Flags, FrameKind, Link, frame_kind, packet_in, pseudo_sum, sum_right, u16_at, u32_at,
+    Addr, Flags, FrameKind, Link, Protocol, SeqNumber, frame_kind, packet_in, pseudo_sum,
+    sum_right, u16_at, u32_at,
 };
 
 // An Ethernet header before IPv4, from 02:00:00:00:00:01 to 02:00:00:00:00:02 (RFC 894).
@@ -75,7 +76,7 @@ const ROWS: &[Row] = &[
     ] },
 ];
 
-fn head_of(protocol: u8, ident: u16) -> Ipv4 {
+fn head_of(protocol: Protocol, ident: u16) -> Ipv4 {
     Ipv4 {
         header: HEADER,
         tos: 0x20,
@@ -104,8 +105,8 @@ fn frame_of(row: &Row, buf: &mut [u8; 1400]) -> Result<usize, Fail>
         dst: Addr(0x0a00_0001),
         sport: 40000,
         dport: 80,
-        seq: row.seq,
-        ack: 5001,
+        seq: SeqNumber::new(row.seq),
+        ack: SeqNumber::new(5001),
         flags: Flags(row.flags),
         window: 8192,
         options: ArrayVec::new(),
@@ -116,7 +117,11 @@ fn frame_of(row: &Row, buf: &mut [u8; 1400]) -> Result<usize, Fail>
     }
     let octets = payload();
     let size = write_segment(&parts, &octets[..row.len], &mut buf[at + HEADER..]);
-    write_plain(&head_of(6, row.ident), size as u16, &mut buf[at..]);
+    write_plain(
+        &head_of(Protocol::TCP, row.ident),
+        size as u16,
+        &mut buf[at..],
+    );
     Ok(at + HEADER + size)
 }
 
@@ -148,9 +153,9 @@ fn is_single(head: &Ipv4, len: usize) -> bool
 
 fn is_segment(head: &Ipv4, packet: &[u8]) -> bool
     requires { 20 ≤ length packet.now }
-    ensures { IsTrue result → head.now.protocol ≡ 6 → fault_of Skip 0 (drop 20 packet.now) ≡ None }
+    ensures { IsTrue result → head.now.protocol.0 ≡ 6 → fault_of Skip 0 (drop 20 packet.now) ≡ None }
 {
-    head.protocol != 6 || tcp_codec::parse(&packet[HEADER..], 0, SumRule::Skip).is_ok()
+    head.protocol != Protocol::TCP || tcp_codec::parse(&packet[HEADER..], 0, SumRule::Skip).is_ok()
 }
 
 // The segments of a frame, cut for packets of 576 octets.
@@ -266,14 +271,14 @@ fn pseudo_of(packet: &[u8]) -> u32
     let source = Addr(u32_at(packet, 12));
     let destination = Addr(u32_at(packet, 16));
     let size = packet.len() - HEADER;
-    pseudo_sum(source, destination, 6, (size % 65536) as u16)
+    pseudo_sum(source, destination, Protocol::TCP, (size % 65536) as u16)
 }
 
 // A datagram of another protocol does not go out; what fits does, and ARP always.
 #[test]
 fn other_frames_stay_whole(rt: HostRuntime) -> Result<(), Fail> {
     let mut datagram = [0; 600];
-    write_plain(&head_of(17, 1), 580, &mut datagram);
+    write_plain(&head_of(Protocol::UDP, 1), 580, &mut datagram);
     let sent = is_sent(Link::Raw, &datagram);
     assert!(rt; sent);
     assert_eq!(rt; long_kind(Link::Raw, &datagram, 576), LongKind::Drop);

@@ -5,15 +5,16 @@ ghost use Rattle.wire_base.specs.Tcp as tcp;
 ghost use Rattle.era_state.specs.Read.{sent, came};
 
 use crate::offered::Offered;
-use crate::segment::{Seg, number_after};
+use crate::segment::Seg;
 use crate::syns::Syns;
+use wire_base::SeqNumber;
 
 /// The inside called, and no segment fixed the base yet: the number of its first SYN, the number behind the last segment that it sent, and
 /// its SYNs' scales.
 #[derive(Clone, Copy)]
 pub struct Called {
-    pub iss: u32,
-    pub out: u32,
+    pub iss: SeqNumber,
+    pub out: SeqNumber,
     pub syns: Syns,
     ghost called: { syns.out_seen ≡ true },
     ghost unanswered: { syns.in_seen ≡ false },
@@ -43,7 +44,7 @@ impl Called {
         ensures stands { (ws : List Written) → CalledFor self ws → OfferedFor result (ws ++ came seg.now ∷ []) }
     {
         Offered {
-            base: number_after(seg.seq),
+            base: seg.seq.plus(1),
             iss: Some(self.iss),
             out: Some(self.out),
             syns: self.syns.came(seg),

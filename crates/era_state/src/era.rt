@@ -10,8 +10,9 @@ ghost use Rattle.era_state.specs.Standing.{CalledFor, OfferedFor, WarmFor, is_ov
 use crate::called::Called;
 use crate::offered::Offered;
 use crate::offset::Offset;
-use crate::segment::{Seg, number_after};
+use crate::segment::Seg;
 use crate::warm::Warm;
+use wire_base::SeqNumber;
 
 /// Both sides have closed, and the inbound FIN is acknowledged.
 #[derive(Clone, Copy)]
@@ -38,7 +39,7 @@ pub enum Moved {
 }
 
 // The sequence number lies between what is acknowledged and what comes next.
-fn is_awaited(base: u32, acked: u64, next: u64, sequence: u32) -> bool
+fn is_awaited(base: SeqNumber, acked: u64, next: u64, sequence: SeqNumber) -> bool
     requires acked { acked < 2 ^ 63 + 2 ^ 32 }
     requires next { next < 2 ^ 63 + 2 ^ 33 }
     ensures { result ≡ is_awaited base acked next sequence }
@@ -50,22 +51,22 @@ fn is_awaited(base: u32, acked: u64, next: u64, sequence: u32) -> bool
 }
 
 // The number is the one behind the call, if there is one.
-fn follows(call: Option<u32>, number: u32) -> bool
+fn follows(call: Option<SeqNumber>, number: SeqNumber) -> bool
     ensures { result ≡ follows call number }
 {
     match call {
         None => false,
-        Some(call) => number == number_after(call),
+        Some(call) => number == call.plus(1),
     }
 }
 
 // The sequence number is the one before the base, if one is fixed.
-fn precedes(base: Option<u32>, sequence: u32) -> bool
+fn precedes(base: Option<SeqNumber>, sequence: SeqNumber) -> bool
     ensures { result ≡ precedes base sequence }
 {
     match base {
         None => false,
-        Some(base) => number_after(sequence) == base,
+        Some(base) => sequence.plus(1) == base,
     }
 }
 
@@ -241,7 +242,7 @@ impl Era {
         matches!(self, Era::Closed(_))
     }
 
-    fn base(&self) -> Option<u32>
+    fn base(&self) -> Option<SeqNumber>
         ensures { result ≡ base_in self.now }
     {
         match self {
@@ -252,7 +253,7 @@ impl Era {
         }
     }
 
-    fn first_call(&self) -> Option<u32>
+    fn first_call(&self) -> Option<SeqNumber>
         ensures { result ≡ iss_in self.now }
     {
         match self {

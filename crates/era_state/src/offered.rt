@@ -5,16 +5,17 @@ ghost use Rattle.wire_base.specs.Tcp as tcp;
 ghost use Rattle.era_state.specs.Marks.{ack_of};
 ghost use Rattle.era_state.specs.Read.{sent, came};
 
-use crate::segment::{Seg, number_after};
+use crate::segment::Seg;
 use crate::syns::Syns;
+use wire_base::SeqNumber;
 
 /// The outside's SYN was written, and no place of its stream is acknowledged: the number of the stream's first octet, the number of the first outbound SYN
 /// and the number behind the last outbound segment where there are any, the SYNs' scales, and whether an outbound FIN was written.
 #[derive(Clone, Copy)]
 pub struct Offered {
-    pub base: u32,
-    pub iss: Option<u32>,
-    pub out: Option<u32>,
+    pub base: SeqNumber,
+    pub iss: Option<SeqNumber>,
+    pub out: Option<SeqNumber>,
     pub syns: Syns,
     pub out_fin: bool,
     ghost called: { syns.in_seen ≡ true },
@@ -32,7 +33,7 @@ impl Offered {
         ensures stands { OfferedFor result (came seg.now ∷ []) }
     {
         Offered {
-            base: number_after(seg.seq),
+            base: seg.seq.plus(1),
             iss: None,
             out: None,
             syns: Syns::none().came(seg),

@@ -3,11 +3,10 @@ ghost use Rattle.std.specs.Prelude.{◌≡◌, ℕ, ◌+◌, ◌^◌, ◌<◌, �
 ghost use Rattle.std.specs.Ordering.{int_eq};
 ghost use Rattle.era_state.specs.Offsets.{off, natural, nat_of};
 
+use wire_base::SeqNumber;
+
 /// Half a turn of sequence numbers.
 pub(crate) const HALF: u64 = 2147483648;
-
-/// One turn of sequence numbers.
-pub(crate) const TURN: u64 = 4294967296;
 
 // The offset of a sequence number in a stream, which may lie below 0: it is counted from half a turn below 0.
 #[derive(Clone, Copy)]
@@ -19,13 +18,12 @@ impl Offset {
     ghost use Rattle.era_state.specs.Raised.{offset_in};
 
     // The offset of a number, where so much is acknowledged.
-    pub(crate) fn of(base: u32, acked: u64, number: u32) -> Offset
+    pub(crate) fn of(base: SeqNumber, acked: u64, number: SeqNumber) -> Offset
         requires { acked < 2 ^ 63 + 2 ^ 32 }
         ensures value { offset_in result ≡ off base acked number }
         ensures near { result.raised < acked + 2 ^ 32 }
     {
-        let from = (u64::from(base) + acked) % TURN;
-        let past = (u64::from(number) + TURN - from) % TURN;
+        let past = number.places_behind(base.plus(acked));
         if past < HALF {
             Offset {
                 raised: acked + past + HALF,

@@ -1,26 +1,19 @@
 //! What an era is asked about one segment.
 ghost use Rattle.std.specs.Prelude.{◌≡◌, ℕ, ◌+◌, ◌*◌, ◌%◌, ◌^◌, ◌<◌, ◌≤◌, List, [], length, Some};
 
-use crate::offset::{Offset, TURN};
-use wire_base::Flags;
+use crate::offset::Offset;
+use wire_base::{Flags, SeqNumber};
 
 /// A segment's sequence number, acknowledgment, octets of payload, window, flags, and the shift of its window scale option, if it has one
 /// (RFC 9293 section 3.1, RFC 7323 section 2.2).
 #[derive(Clone, Copy, Debug, PartialEq, Eq)]
 pub struct Seg {
-    pub seq: u32,
-    pub ack: u32,
+    pub seq: SeqNumber,
+    pub ack: SeqNumber,
     pub len: u32,
     pub window: u16,
     pub flags: Flags,
     pub scale: Option<u8>,
-}
-
-// The sequence number behind this one.
-pub(crate) fn number_after(number: u32) -> u32
-    ensures { result ≡ (number + 1) % 2 ^ 32 }
-{
-    ((u64::from(number) + 1) % TURN) as u32
 }
 
 impl Seg {
@@ -28,17 +21,17 @@ impl Seg {
     ghost use Rattle.era_state.specs.Read.{sent};
 
     // The sequence number behind the segment's octets, SYN and FIN.
-    pub(crate) fn behind(&self) -> u32
+    pub(crate) fn behind(&self) -> SeqNumber
         ensures { (octets : List ℕ) → length octets ≡ self.now.len → result ≡ number_behind (sent self.now octets) }
     {
-        let octets = u64::from(self.seq) + u64::from(self.len);
+        let octets = u64::from(self.len);
         let syn = u64::from(self.flags.syn());
         let fin = u64::from(self.flags.fin());
-        ((octets + syn + fin) % TURN) as u32
+        self.seq.plus(octets + syn + fin)
     }
 
     // The place of the stream that it acknowledges, sent outwards.
-    pub(crate) fn acknowledged(&self, base: u32, acked: u64) -> Option<u64>
+    pub(crate) fn acknowledged(&self, base: SeqNumber, acked: u64) -> Option<u64>
         requires { acked < 2 ^ 63 }
         ensures value { result ≡ ack_of base acked (sent self.now []) }
         ensures near { (place : ℕ) → result ≡ Some place → place < acked + 2 ^ 31 }
@@ -67,7 +60,7 @@ impl Seg {
     }
 
     // The number of the first outbound call, with this segment sent.
-    pub(crate) fn first_call(&self, old: Option<u32>) -> Option<u32>
+    pub(crate) fn first_call(&self, old: Option<SeqNumber>) -> Option<SeqNumber>
         ensures { result ≡ iss_after old (sent self.now []) }
     {
         match old {

@@ -7,9 +7,10 @@ ghost use Rattle.era_state.specs.Marks.{edge_place};
 ghost use Rattle.era_state.specs.Read.{sent, received, came};
 
 use crate::interval::Interval;
-use crate::offset::{Offset, TURN};
+use crate::offset::Offset;
 use crate::segment::Seg;
 use crate::syns::Syns;
+use wire_base::SeqNumber;
 
 /// A place of the stream is acknowledged: the number of the stream's first octet, the number of the first outbound SYN where there is one, the
 /// number behind the last outbound segment, the SYNs' scales; the greatest acknowledged place, the greatest place behind what a window allows,
@@ -17,9 +18,9 @@ use crate::syns::Syns;
 /// places have an octet. Places count octets from the stream's begin.
 #[derive(Clone, Copy)]
 pub struct Warm {
-    pub base: u32,
-    pub iss: Option<u32>,
-    pub out: u32,
+    pub base: SeqNumber,
+    pub iss: Option<SeqNumber>,
+    pub out: SeqNumber,
     pub syns: Syns,
     pub acked: u64,
     pub edge: u64,
@@ -75,8 +76,8 @@ impl Warm {
 
     // The era after an outbound segment acknowledges a place, where none was acknowledged before.
     pub(crate) fn open(
-        base: u32,
-        iss: Option<u32>,
+        base: SeqNumber,
+        iss: Option<SeqNumber>,
         syns: Syns,
         out_fin: bool,
         place: u64,
@@ -235,7 +236,7 @@ impl Warm {
 
     /// The sequence number of the frame of an inbound segment: that of its first octet; that of its FIN, where only this goes out; else the
     /// segment's own.
-    pub fn frame_sequence(&self, seg: &Seg, kept: &Interval) -> u32
+    pub fn frame_sequence(&self, seg: &Seg, kept: &Interval) -> SeqNumber
         requires legal { tcp.are_legal seg.now.flags.0 ≡ true }
         requires kept { Keeps (bounds_in self.now) (off self.now.base self.now.acked seg.now.seq) seg.now.len (tcp.has_fin seg.now.flags.0) kept.now }
         ensures { (ws : List Written) (octets : List ℕ) → length octets ≡ seg.now.len → WarmFor self.now ws → result ≡ frame_sequence_of ws (received seg.now octets) }
@@ -249,7 +250,7 @@ impl Warm {
         } else {
             return seg.seq;
         };
-        ((u64::from(self.base) + place) % TURN) as u32
+        self.base.plus(place)
     }
 
     /// The era after the frame with these octets and this FIN, so many of the octets being the first at their places.

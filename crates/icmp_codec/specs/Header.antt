@@ -1,5 +1,6 @@
 -- The header of an ICMP message as a record, and the first fault of one (RFC 792).
-use Rattle.std.specs.Prelude.{ℕ, List, Option, Some, None, Result, Ok, Err, if◌then◌else◌}
+use Rattle.std.specs.Prelude.{ℕ, List, Option, Some, None, Result, if◌then◌else◌}
+use Rattle.wire_base.specs.Reading.{value_or_fault}
 use Rattle.wire_base.specs.Icmp as icmp
 use Rattle.icmp_codec.specs.declared.header.Icmp.{Icmp}
 use Rattle.icmp_codec.specs.declared.header.IcmpFault.{IcmpFault}
@@ -16,11 +17,6 @@ fault_of message =
     else if icmp.has_wrong_sum message then Some Sum
     else None
 
--- the fields, where there is no fault
-abbrev pub result_of : Icmp → Option IcmpFault → Result Icmp IcmpFault
-result_of head None = Ok head
-result_of head (Some fault) = Err fault
-
 -- what is read of a message: its fields, or its first fault
 abbrev pub parsed : List ℕ → Result Icmp IcmpFault
-parsed message = result_of (fields_of message) (fault_of message)
+parsed message = value_or_fault (fields_of message) (fault_of message)

@@ -23,7 +23,7 @@ key_of packet =
     record {
       src = record { 0 = ip.source packet };
       dst = record { 0 = ip.destination packet };
-      protocol = ip.protocol packet;
+      protocol = record { 0 = ip.protocol packet };
       sport = u16_at (behind_header packet) 0;
       dport = u16_at (behind_header packet) 2;
     }

@@ -2,7 +2,7 @@
 ghost use Rattle.std.specs.Prelude.{◌≡◌};
 ghost use Rattle.icmp_codec.specs.Quote.{quoted_in};
 
-use wire_base::{Addr, u16_at, u32_at};
+use wire_base::{Addr, Protocol, u16_at, u32_at};
 
 /// What an error message tells of the packet that it quotes (RFC 792): its addresses, its protocol, and the first four
 /// octets behind its header, where TCP and UDP have their ports.
@@ -10,7 +10,7 @@ use wire_base::{Addr, u16_at, u32_at};
 pub struct QuotedKey {
     pub src: Addr,
     pub dst: Addr,
-    pub protocol: u8,
+    pub protocol: Protocol,
     /// The source port.
     pub sport: u16,
     /// The destination port.
@@ -32,7 +32,7 @@ pub fn quoted(bytes: &[u8]) -> Option<QuotedKey>
     Some(QuotedKey {
         src: Addr(u32_at(packet, 12)),
         dst: Addr(u32_at(packet, 16)),
-        protocol: packet[9],
+        protocol: Protocol(packet[9]),
         sport: u16_at(payload, 0),
         dport: u16_at(payload, 2),
     })
@@ -57,7 +57,7 @@ mod tests {
         Some(QuotedKey {
             src: Addr(0x0a00_0001),
             dst: Addr(0xc633_6407),
-            protocol: 6,
+            protocol: Protocol::TCP,
             sport,
             dport,
         })

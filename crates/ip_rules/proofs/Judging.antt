@@ -1,11 +1,12 @@
 -- Which row on the packet holds, group by group.
 use Rattle.std.proofs.Common.{◌≡◌, ℕ, Bool, true, false, ◌&&◌, ◌||◌, ◌==◌, not, List, ◌++◌, Option, Some, None, Result, Ok, Err, is_none, filter, nat_le, refl, sym, ap, ap₂, ◌∙◌, if◌then◌else◌}
+use Rattle.wire_base.specs.Reading.{value_or_fault}
 use Rattle.wire_base.specs.declared.address.Side.{Side}
 use Rattle.wire_base.specs.Ipv4 as ip
 use Rattle.ipv4_codec.specs.declared.header.Ipv4.{Ipv4}
 use Rattle.ipv4_codec.specs.declared.header.IpFault.{IpFault}
 use Rattle.ipv4_codec.specs.declared.header.IpFault.TheVariants as faults
-use Rattle.ipv4_codec.specs.Header.{fields_of, fault_of, result_of, parsed}
+use Rattle.ipv4_codec.specs.Header.{fields_of, fault_of, parsed}
 use Rattle.ipv4_codec.specs.Options.{facts_of}
 use Rattle.ipv4_codec.specs.declared.option_area.OptionFacts.{OptionFacts}
 use Rattle.ipv4_codec.specs.declared.option_area.BadOption.{BadOption}
@@ -17,15 +18,15 @@ use Rattle.ip_rules.specs.Rows.{side_in, is_inward, tells_side, i_ttl, piece_fix
 use Rattle.ip_rules.specs.Judged.{rule_of, side_or_row, content_row, packet_row, packet_fixes, header_fixes, where_holds}
 
 -- a header is read where it has no fault, with its fields; else its fault is told
-pub read_is_faultless : (fields head : Ipv4) (fault : Option IpFault) → result_of fields fault ≡ Ok head → fault ≡ None
+pub read_is_faultless : (fields head : Ipv4) (fault : Option IpFault) → value_or_fault fields fault ≡ Ok head → fault ≡ None
 read_is_faultless fields head None h = refl
 read_is_faultless fields head (Some fault) h = absurd (cc)
 
-pub read_is_fields : (fields head : Ipv4) (fault : Option IpFault) → result_of fields fault ≡ Ok head → head ≡ fields
+pub read_is_fields : (fields head : Ipv4) (fault : Option IpFault) → value_or_fault fields fault ≡ Ok head → head ≡ fields
 read_is_fields fields head None h = cc
 read_is_fields fields head (Some fault) h = absurd (cc)
 
-pub refused_is_fault : (fields : Ipv4) (fault : Option IpFault) (told : IpFault) → result_of fields fault ≡ Err told → fault ≡ Some told
+pub refused_is_fault : (fields : Ipv4) (fault : Option IpFault) (told : IpFault) → value_or_fault fields fault ≡ Err told → fault ≡ Some told
 refused_is_fault fields None told h = absurd (cc)
 refused_is_fault fields (Some fault) told h = cc
 

@@ -96,7 +96,7 @@ pub record HasSizes (head : Ipv4) : Type 0 where
   pub tos : head.tos < 2 ^ 8
   pub ident : head.ident < 2 ^ 16
   pub ttl : head.ttl < 2 ^ 8
-  pub protocol : head.protocol < 2 ^ 8
+  pub protocol : head.protocol.0 < 2 ^ 8
   pub source : head.src.0 < 2 ^ 32
   pub destination : head.dst.0 < 2 ^ 32
 
@@ -110,7 +110,7 @@ pub record IsPacketOf (settings : PlainSettings) (d : Datagram) (p : Packet) : T
   pub long : length p.header ≡ 20
   pub header : IsPlainHeader (p.header ++ p.octets)
   pub carries : ip.payload (p.header ++ p.octets) ≡ p.octets
-  pub protocol : ip.protocol (p.header ++ p.octets) ≡ d.head.protocol
+  pub protocol : ip.protocol (p.header ++ p.octets) ≡ d.head.protocol.0
   pub source : ip.source (p.header ++ p.octets) ≡ d.head.src.0
   pub destination : ip.destination (p.header ++ p.octets) ≡ d.head.dst.0
   pub passes : goes_in d.side ≡ true → settings.hops < ip.time_to_live (p.header ++ p.octets)
@@ -118,7 +118,7 @@ pub record IsPacketOf (settings : PlainSettings) (d : Datagram) (p : Packet) : T
 -- What is known of a datagram that no row on its header drops: where none mends it, it is such a packet as it was read.
 pub record IsKnown (settings : PlainSettings) (d : Datagram) : Type 0 where
   pub sizes : HasSizes d.head
-  pub known : ((d.head.protocol == 1) || (d.head.protocol == 6) || (d.head.protocol == 17)) ≡ true
+  pub known : ((d.head.protocol.0 == 1) || (d.head.protocol.0 == 6) || (d.head.protocol.0 == 17)) ≡ true
   pub short : length d.octets ≤ 65515
   pub each : AreOctets d.octets
   pub whole : d.fixes ≡ [] → IsPacketOf settings d (as_read d)

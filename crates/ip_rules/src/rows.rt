@@ -12,7 +12,7 @@ use ipv4_codec::{IpFault, Ipv4, options, parse};
 use norm_settings::{Settings, side_of};
 use pcap_file::Record;
 use rule_book::Rule;
-use wire_base::{Addr, FrameKind, Link, Side, frame_kind};
+use wire_base::{Addr, FrameKind, Link, Protocol, Side, frame_kind};
 
 // The octets of the longest frame of ARP that passes: an Ethernet header of 14 and 65,535 behind it.
 const LONGEST_ARP: usize = 65_549;
@@ -206,10 +206,10 @@ fn options_of<'a>(head: &Ipv4, packet: &'a [u8]) -> &'a [u8]
 }
 
 // Whether the protocol is ICMP, TCP or UDP.
-fn is_known(protocol: u8) -> bool
-    ensures { result ≡ ((protocol == 1) || (protocol == 6) || (protocol == 17)) }
+fn is_known(protocol: Protocol) -> bool
+    ensures { result ≡ ((protocol.0 == 1) || (protocol.0 == 6) || (protocol.0 == 17)) }
 {
-    protocol == 1 || protocol == 6 || protocol == 17
+    protocol == Protocol::ICMP || protocol == Protocol::TCP || protocol == Protocol::UDP
 }
 
 // What the packet carries, up to its total length.

@@ -1,5 +1,6 @@
 -- The header of an IPv4 packet as a record, and the first fault of one (RFC 791 section 3.1).
-use Rattle.std.specs.Prelude.{ℕ, List, Option, Some, None, Result, Ok, Err, if◌then◌else◌}
+use Rattle.std.specs.Prelude.{ℕ, List, Option, Some, None, Result, if◌then◌else◌}
+use Rattle.wire_base.specs.Reading.{value_or_fault}
 use Rattle.wire_base.specs.Ipv4 as ip
 use Rattle.ipv4_codec.specs.declared.header.Ipv4.{Ipv4}
 use Rattle.ipv4_codec.specs.declared.header.IpFault.{IpFault}
@@ -18,7 +19,7 @@ fields_of packet =
       more = ip.has_more_fragments packet;
       offset = ip.fragment_offset packet;
       ttl = ip.time_to_live packet;
-      protocol = ip.protocol packet;
+      protocol = record { 0 = ip.protocol packet };
       sum = ip.header_checksum packet;
       src = record { 0 = ip.source packet };
       dst = record { 0 = ip.destination packet };
@@ -34,11 +35,6 @@ fault_of packet =
     else if ip.has_wrong_sum packet then Some Sum
     else None
 
--- the fields, where there is no fault
-abbrev pub result_of : Ipv4 → Option IpFault → Result Ipv4 IpFault
-result_of head None = Ok head
-result_of head (Some fault) = Err fault
-
 -- what is read of a packet: its fields, or its first fault
 abbrev pub parsed : List ℕ → Result Ipv4 IpFault
-parsed packet = result_of (fields_of packet) (fault_of packet)
+parsed packet = value_or_fault (fields_of packet) (fault_of packet)

@@ -10,7 +10,7 @@ abbrev pub octets_of : (head : Ipv4) (total sum : ℕ) → List ℕ
 octets_of head total sum =
     69 ∷ head.tos ∷ u16_octets total
     ++ u16_octets head.ident ++ ((if head.df then 64 else 0) ∷ 0 ∷ [])
-    ++ (head.ttl ∷ head.protocol ∷ []) ++ u16_octets sum
+    ++ (head.ttl ∷ head.protocol.0 ∷ []) ++ u16_octets sum
     ++ u32_octets head.src.0
     ++ u32_octets head.dst.0
 

@@ -3,7 +3,7 @@ ghost use Rattle.std.specs.Prelude.{◌≡◌, ◌≤◌, length, IfOk};
 ghost use Rattle.ipv4_codec.specs.Header.{fields_of, parsed};
 
 use thiserror::Error;
-use wire_base::{Addr, sum_right, u16_at, u32_at};
+use wire_base::{Addr, Protocol, sum_right, u16_at, u32_at};
 
 /// The fields of an IPv4 header, but for its version and its options (RFC 791 section 3.1).
 #[derive(Clone, Copy, Debug, PartialEq, Eq)]
@@ -24,7 +24,7 @@ pub struct Ipv4 {
     pub offset: u32,
     /// How many routers it may still pass.
     pub ttl: u8,
-    pub protocol: u8,
+    pub protocol: Protocol,
     pub sum: u16,
     pub src: Addr,
     pub dst: Addr,
@@ -86,7 +86,7 @@ fn fields(bytes: &[u8]) -> Ipv4
         more: bytes[6] / 32 % 2 == 1,
         offset: 8 * u32::from(u16_at(bytes, 6) % 8192),
         ttl: bytes[8],
-        protocol: bytes[9],
+        protocol: Protocol(bytes[9]),
         sum: u16_at(bytes, 10),
         src: Addr(u32_at(bytes, 12)),
         dst: Addr(u32_at(bytes, 16)),
@@ -131,7 +131,7 @@ mod tests {
             more: false,
             offset: 0,
             ttl: 64,
-            protocol: 17,
+            protocol: Protocol::UDP,
             sum: 0x4693,
             src: Addr(0xc633_6407),
             dst: Addr(0x0a00_0001),
@@ -146,7 +146,7 @@ mod tests {
             more: true,
             offset: 2064,
             ttl: 1,
-            protocol: 6,
+            protocol: Protocol::TCP,
             sum: 0x359a,
             src: Addr(0xc633_6407),
             dst: Addr(0x0a00_0001),

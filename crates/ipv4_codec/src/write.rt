@@ -51,7 +51,7 @@ fn without_sum(head: &Ipv4, payload: u16) -> [u8; 20]
         flags,
         0,
         head.ttl,
-        head.protocol,
+        head.protocol.0,
         0,
         0,
         a,
@@ -68,7 +68,7 @@ fn without_sum(head: &Ipv4, payload: u16) -> [u8; 20]
 #[cfg(test)]
 mod tests {
     use super::*;
-    use wire_base::{Addr, u32_at};
+    use wire_base::{Addr, Protocol, u32_at};
 
     // The fields that a header without options has for itself are other ones here.
     const HEAD: Ipv4 = Ipv4 {
@@ -81,7 +81,7 @@ mod tests {
         more: true,
         offset: 800,
         ttl: 64,
-        protocol: 17,
+        protocol: Protocol::UDP,
         sum: 0xabcd,
         src: Addr(0xc633_6407),
         dst: Addr(0x0a00_0001),

@@ -93,7 +93,7 @@ head_of identification s =
       more = false;
       offset = 0;
       ttl = 64;
-      protocol = 6;
+      protocol = record { 0 = 6 };
       sum = 0;
       src = record { 0 = s.source };
       dst = record { 0 = s.destination };

@@ -9,14 +9,12 @@ use crate::flow::Turn;
 use arrayvec::ArrayVec;
 use ipv4_codec::{Ipv4, write_plain};
 use tcp_codec::{SegmentParts, write_segment};
-use wire_base::{Addr, Flags};
+use wire_base::{Addr, Flags, Protocol, SeqNumber};
 
 // The octets of an IPv4 header and of a TCP header without options (RFC 791 section 3.1, RFC 9293 section 3.1).
 const HEADER: usize = 20;
 
 const SEGMENT: u16 = 20;
-
-const TCP: u8 = 6;
 
 // The address 198.51.100.1 and the port of the first flow outside, and 10.0.0.1 with its port inside.
 const OUTSIDE: u32 = 0xc633_6401;
@@ -57,7 +55,7 @@ pub(crate) fn write_packet(flow: u8, turn: Turn, ident: u16, buf: &mut [u8]) -> 
         more: false,
         offset: 0,
         ttl: 64,
-        protocol: TCP,
+        protocol: Protocol::TCP,
         sum: 0,
         src: parts.src,
         dst: parts.dst,
@@ -129,8 +127,8 @@ fn from_outside(flow: u8, flags: Flags, seq: u64, ack: u64) -> SegmentParts
         dst: INSIDE,
         sport: OUTSIDE_PORT + u16::from(flow),
         dport: INSIDE_PORT,
-        seq: (seq % (1 << 32)) as u32,
-        ack: (ack % (1 << 32)) as u32,
+        seq: SeqNumber::new((seq % (1 << 32)) as u32),
+        ack: SeqNumber::new((ack % (1 << 32)) as u32),
         flags,
         window: u16::MAX,
         options: ArrayVec::new(),
@@ -149,8 +147,8 @@ fn from_inside(flow: u8, flags: Flags, seq: u64, ack: u64) -> SegmentParts
         dst: Addr(OUTSIDE + u32::from(flow)),
         sport: INSIDE_PORT,
         dport: OUTSIDE_PORT + u16::from(flow),
-        seq: (seq % (1 << 32)) as u32,
-        ack: (ack % (1 << 32)) as u32,
+        seq: SeqNumber::new((seq % (1 << 32)) as u32),
+        ack: SeqNumber::new((ack % (1 << 32)) as u32),
         flags,
         window: u16::MAX,
         options: ArrayVec::new(),

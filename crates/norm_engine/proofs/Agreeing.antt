@@ -46,11 +46,11 @@ wholes_back link frame (p ∷ ps) long =
     ap₂ (λ x xs. x ∷ xs) here (wholes_back link frame ps long)
 
 -- such a packet of a segment is read as one
-segment_whole : (settings : PlainSettings) (d : Datagram) (p : Packet) → d.head.protocol ≡ 6 → IsPacketOf settings d p → segment_of (whole p) ≡ Some (fields_of (whole p))
+segment_whole : (settings : PlainSettings) (d : Datagram) (p : Packet) → d.head.protocol.0 ≡ 6 → IsPacketOf settings d p → segment_of (whole p) ≡ Some (fields_of (whole p))
 segment_whole settings d p six is = ap (λ n. cond (n == 6) (Some (fields_of (whole p))) None) (is.protocol ∙ six)
 
 -- the segments of packets are those that they carry
-read_back : (settings : PlainSettings) (d : Datagram) (inward : Bool) (packets : List Packet) → d.head.protocol ≡ 6 → AllByRecursion (IsPacketOf settings d) packets
+read_back : (settings : PlainSettings) (d : Datagram) (inward : Bool) (packets : List Packet) → d.head.protocol.0 ≡ 6 → AllByRecursion (IsPacketOf settings d) packets
     → segments_in inward (map whole packets) ≡ map (λ p. read inward p.octets) packets
 read_back settings d inward [] six own = refl
 read_back settings d inward (p ∷ ps) six own =
@@ -58,7 +58,7 @@ read_back settings d inward (p ∷ ps) six own =
     ap₂ (λ xs ys. xs ++ ys) here (read_back settings d inward ps six own.1)
 
 -- what carries nothing of a stream says nothing of one
-silent_whole : (settings : PlainSettings) (d : Datagram) (p : Packet) → d.head.protocol ≡ 6 → IsPacketOf settings d p → Silent p → IsSilentPacket (whole p)
+silent_whole : (settings : PlainSettings) (d : Datagram) (p : Packet) → d.head.protocol.0 ≡ 6 → IsPacketOf settings d p → Silent p → IsSilentPacket (whole p)
 silent_whole settings d p six is silent s says =
     let same : fields_of (whole p) ≡ s = let stands = segment_whole settings d p six is in cc in
     subst (λ (t : Segment). (t.octets ≡ []) × (tcp.has_syn t.flags ≡ false) × (tcp.has_fin t.flags ≡ false)) same (
@@ -67,7 +67,7 @@ silent_whole settings d p six is silent s says =
       ap (λ m. tcp.has_fin (tcp.flags m)) is.carries ∙ silent.no_fin,
     )
 
-silent_wholes : (settings : PlainSettings) (d : Datagram) (packets : List Packet) → d.head.protocol ≡ 6 → AllByRecursion (IsPacketOf settings d) packets → AllByRecursion Silent packets
+silent_wholes : (settings : PlainSettings) (d : Datagram) (packets : List Packet) → d.head.protocol.0 ≡ 6 → AllByRecursion (IsPacketOf settings d) packets → AllByRecursion Silent packets
     → All IsSilentPacket (map whole packets)
 silent_wholes settings d [] six own silent = All-nil IsSilentPacket
 silent_wholes settings d (p ∷ ps) six own silent =
@@ -97,7 +97,7 @@ with_other hops era sent cs s none is = subst (λ o. IsAsCalled hops era (record
 
 -- what is known of the packets that go out for a segment
 pub record AreOf (settings : PlainSettings) (d : Datagram) (o : Outcome) : Type 0 where
-  pub protocol : d.head.protocol ≡ 6
+  pub protocol : d.head.protocol.0 ≡ 6
   pub own : AllByRecursion (IsPacketOf settings d) o.packets
   pub plain : goes_in d.side ≡ true → AllByRecursion (λ p. Plain settings.hops (whole p)) o.packets
   pub silent : is_written o.verdict ≡ false → AllByRecursion Silent o.packets

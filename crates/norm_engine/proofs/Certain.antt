@@ -86,7 +86,7 @@ whole_of_plain hops p plain six =
     let t = plain.message.tcp six in
     record { header = plain.header; protocol = six; least = t.data_offset; inside = t.inside; legal = t.flags; formed = t.options }
 
-whole_packet : (settings : PlainSettings) (d : Datagram) (p : Packet) → IsPacketOf settings d p → d.head.protocol ≡ 6 → IsHeaded p.octets → IsWholeSegment (p.header ++ p.octets)
+whole_packet : (settings : PlainSettings) (d : Datagram) (p : Packet) → IsPacketOf settings d p → d.head.protocol.0 ≡ 6 → IsHeaded p.octets → IsWholeSegment (p.header ++ p.octets)
 whole_packet settings d p i six h =
     let back = sym i.carries in
     record {
@@ -160,7 +160,7 @@ outward_written : (settings : PlainSettings) (v : View) (d : Datagram) → goes_
 outward_written settings v d outward = ap (λ (o : Outcome). is_written o.verdict) (not_dropped settings v d outward) ∙ fixed_or_passed (d.fixes ++ mended_by settings v d)
 
 -- inward ones are plain
-whole_of_all : (settings : PlainSettings) (d : Datagram) (packets : List Packet) → d.head.protocol ≡ 6 → AllByRecursion (IsPacketOf settings d) packets
+whole_of_all : (settings : PlainSettings) (d : Datagram) (packets : List Packet) → d.head.protocol.0 ≡ 6 → AllByRecursion (IsPacketOf settings d) packets
     → AllByRecursion (λ p. Plain settings.hops (p.header ++ p.octets)) packets → AllByRecursion (λ p. IsWholeSegment (p.header ++ p.octets)) packets
 whole_of_all settings d [] six own plain = tt
 whole_of_all settings d (p ∷ ps) six own plain =
@@ -179,9 +179,9 @@ whole_segments mends settings v d s known false goes =
 
 -- what a message of one of them is, whose datagram no row drops
 record IsMessage (d : Datagram) : Type 0 where
-  protocol : (d.head.protocol ≡ 1) ⊎ (d.head.protocol ≡ 17)
-  icmp : d.head.protocol ≡ 1 → (8 ≤ length d.octets) × (sum_is_right d.octets 0 ≡ true)
-  udp : d.head.protocol ≡ 17 → (8 ≤ length d.octets) × (udp.length_field d.octets ≡ length d.octets) × ((udp.checksum d.octets ≡ 0) ⊎ (sum_is_right d.octets (dgram.pseudo_of d) ≡ true))
+  protocol : (d.head.protocol.0 ≡ 1) ⊎ (d.head.protocol.0 ≡ 17)
+  icmp : d.head.protocol.0 ≡ 1 → (8 ≤ length d.octets) × (sum_is_right d.octets 0 ≡ true)
+  udp : d.head.protocol.0 ≡ 17 → (8 ≤ length d.octets) × (udp.length_field d.octets ≡ length d.octets) × ((udp.checksum d.octets ≡ 0) ⊎ (sum_is_right d.octets (dgram.pseudo_of d) ≡ true))
 
 plain_message : (settings : PlainSettings) (d : Datagram) (p : Packet) → IsPacketOf settings d p → goes_in d.side ≡ true → p.octets ≡ d.octets → IsMessage d → Plain settings.hops (p.header ++ p.octets)
 plain_message settings d p i side same m = record {
@@ -196,11 +196,11 @@ plain_message settings d p i side same m = record {
     back : d.octets ≡ ip.payload (p.header ++ p.octets)
     back = sym forth
 
-    which : (d.head.protocol ≡ 1) ⊎ (d.head.protocol ≡ 17) → (ip.protocol (p.header ++ p.octets) ≡ 1) ⊎ (ip.protocol (p.header ++ p.octets) ≡ 6) ⊎ (ip.protocol (p.header ++ p.octets) ≡ 17)
+    which : (d.head.protocol.0 ≡ 1) ⊎ (d.head.protocol.0 ≡ 17) → (ip.protocol (p.header ++ p.octets) ≡ 1) ⊎ (ip.protocol (p.header ++ p.octets) ≡ 6) ⊎ (ip.protocol (p.header ++ p.octets) ≡ 17)
     which (inl e) = inl (i.protocol ∙ e)
     which (inr e) = inr (inr (i.protocol ∙ e))
 
-    no_tcp : (d.head.protocol ≡ 1) ⊎ (d.head.protocol ≡ 17) → ip.protocol (p.header ++ p.octets) ≡ 6 → ⊥
+    no_tcp : (d.head.protocol.0 ≡ 1) ⊎ (d.head.protocol.0 ≡ 17) → ip.protocol (p.header ++ p.octets) ≡ 6 → ⊥
     no_tcp (inl e) f = let g = sym e ∙ (sym i.protocol ∙ f) in omega (arith, g)
     no_tcp (inr e) f = let g = sym e ∙ (sym i.protocol ∙ f) in omega (arith, g)
 
@@ -247,27 +247,27 @@ of_protocol false false true h other = inr refl
 of_protocol false false false h other = absurd (cc)
 of_protocol false true seventeen h other = absurd (cc)
 
-message_of : (settings : PlainSettings) (live : Bool) (d : Datagram) → IsKnown settings d → goes_in d.side ≡ true → (d.head.protocol == 6) ≡ false → dgram_dropped_by settings live d ≡ None → IsMessage d
+message_of : (settings : PlainSettings) (live : Bool) (d : Datagram) → IsKnown settings d → goes_in d.side ≡ true → (d.head.protocol.0 == 6) ≡ false → dgram_dropped_by settings live d ≡ None → IsMessage d
 unfolding dgram_dropped_by
 message_of settings live d known side other none = record {
-  protocol = which (of_protocol (d.head.protocol == 1) (d.head.protocol == 6) (d.head.protocol == 17) known.known other);
+  protocol = which (of_protocol (d.head.protocol.0 == 1) (d.head.protocol.0 == 6) (d.head.protocol.0 == 17) known.known other);
   icmp = λ e.
-      let is = is_number d.head.protocol 1 e in
-      (ltb-false (length d.octets) 8 (row_fails (d.head.protocol == 1) _ rows.1.1.1.0 is), not-false _ (row_fails (d.head.protocol == 1) _ rows.1.1.1.1.0 is));
+      let is = is_number d.head.protocol.0 1 e in
+      (ltb-false (length d.octets) 8 (row_fails (d.head.protocol.0 == 1) _ rows.1.1.1.0 is), not-false _ (row_fails (d.head.protocol.0 == 1) _ rows.1.1.1.1.0 is));
   udp = λ e.
-      let is = is_number d.head.protocol 17 e in (
-        ltb-false (length d.octets) 8 (row_fails (d.head.protocol == 17) _ rows.0 is),
-        eqb-true (udp.length_field d.octets) (length d.octets) (not-false _ (row_fails (d.head.protocol == 17) _ rows.1.0 is)),
-        summed (sum_right (udp.checksum d.octets == 0) (sum_is_right d.octets (dgram.pseudo_of d)) (goes_in d.side) settings.offload side (row_fails (d.head.protocol == 17) _ rows.1.1.0 is)),
+      let is = is_number d.head.protocol.0 17 e in (
+        ltb-false (length d.octets) 8 (row_fails (d.head.protocol.0 == 17) _ rows.0 is),
+        eqb-true (udp.length_field d.octets) (length d.octets) (not-false _ (row_fails (d.head.protocol.0 == 17) _ rows.1.0 is)),
+        summed (sum_right (udp.checksum d.octets == 0) (sum_is_right d.octets (dgram.pseudo_of d)) (goes_in d.side) settings.offload side (row_fails (d.head.protocol.0 == 17) _ rows.1.1.0 is)),
       );
 }
   where
     rows : AllByRecursion (λ rule. holds_dgram settings live d rule ≡ false) datagram_rows
     rows = none_found (holds_dgram settings live d) datagram_rows none
 
-    which : ((d.head.protocol == 1) ≡ true) ⊎ ((d.head.protocol == 17) ≡ true) → (d.head.protocol ≡ 1) ⊎ (d.head.protocol ≡ 17)
-    which (inl e) = inl (eqb-true d.head.protocol 1 e)
-    which (inr e) = inr (eqb-true d.head.protocol 17 e)
+    which : ((d.head.protocol.0 == 1) ≡ true) ⊎ ((d.head.protocol.0 == 17) ≡ true) → (d.head.protocol.0 ≡ 1) ⊎ (d.head.protocol.0 ≡ 17)
+    which (inl e) = inl (eqb-true d.head.protocol.0 1 e)
+    which (inr e) = inr (eqb-true d.head.protocol.0 17 e)
 
     summed : ((udp.checksum d.octets == 0) ≡ true) ⊎ (sum_is_right d.octets (dgram.pseudo_of d) ≡ true) → (udp.checksum d.octets ≡ 0) ⊎ (sum_is_right d.octets (dgram.pseudo_of d) ≡ true)
     summed (inl e) = inl (eqb-true (udp.checksum d.octets) 0 e)
@@ -276,8 +276,8 @@ message_of settings live d known side other none = record {
 -- what goes inwards of such a datagram is what was read
 sent_is_read : (settings : PlainSettings) (d : Datagram) → goes_in d.side ≡ true → octets_sent settings d ≡ d.octets
 sent_is_read settings d side =
-    ap (λ b. cond ((d.head.protocol == 17) && ((not b && settings.offload) && dgram.has_wrong_sum d)) (mended (dgram.pseudo_of d) d.octets) d.octets) side
-    ∙ ap (λ b. cond b (mended (dgram.pseudo_of d) d.octets) d.octets) (and_right (d.head.protocol == 17) false refl)
+    ap (λ b. cond ((d.head.protocol.0 == 17) && ((not b && settings.offload) && dgram.has_wrong_sum d)) (mended (dgram.pseudo_of d) d.octets) d.octets) side
+    ∙ ap (λ b. cond b (mended (dgram.pseudo_of d) d.octets) d.octets) (and_right (d.head.protocol.0 == 17) false refl)
 
 -- records that are no segments
 
@@ -368,9 +368,9 @@ module _ (fresh : AnewIsPacket) (known : DatagramsAreKnown) (settings : PlainSet
       rows = no_rows _ _ (sym (datagram_row_is settings link (past_of settings link history r) r d (made_of settings link (past_of settings link history r) r d makes) other) ∙ undropped)
 
       message : IsMessage d
-      message = message_of settings live d k side (not_six (d.head.protocol == 6) refl) rows.0
+      message = message_of settings live d k side (not_six (d.head.protocol.0 == 6) refl) rows.0
         where
-          not_six : (six : Bool) → (d.head.protocol == 6) ≡ six → six ≡ false
+          not_six : (six : Bool) → (d.head.protocol.0 == 6) ≡ six → six ≡ false
           not_six false e = refl
           not_six true e =
               let seen : is_segment settings d ≡ true = λ i. e i && is_none (rows.1 i) in

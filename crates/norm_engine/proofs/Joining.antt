@@ -402,7 +402,7 @@ segment_tests settings d h = by (is_tcp d) (find (holds_tcp settings d) segment_
     by false row h = absurd (cc)
 
 -- no row on UDP and ICMP holds of TCP
-pub no_row_on_tcp : (settings : PlainSettings) (live : Bool) (d : Datagram) → d.head.protocol ≡ 6 → (dgram_dropped_by settings live d ≡ None) × (holds_dgram settings live d rules.USumOut ≡ false)
+pub no_row_on_tcp : (settings : PlainSettings) (live : Bool) (d : Datagram) → d.head.protocol.0 ≡ 6 → (dgram_dropped_by settings live d ≡ None) × (holds_dgram settings live d rules.USumOut ≡ false)
 no_row_on_tcp settings live d six =
     let none = others_have_none settings live d (λ e. let both = sym six ∙ e in omega (arith, both)) (λ e. let both = sym six ∙ e in omega (arith, both)) in
     (none.0, none.1 rules.USumOut)
@@ -464,7 +464,7 @@ module _ (settings : PlainSettings) (link : Link) (past : Past) (r : Packet) whe
       let p = passes (is_segment settings) (datagram_by settings link past.pieces r) d segment in
       let m = made_of settings link past r d p.0 in
       let tests = segment_tests settings d p.1 in
-      let six = eqb-true d.head.protocol 6 tests.0 in
+      let six = eqb-true d.head.protocol.0 6 tests.0 in
       let row = (no_row_on_tcp settings (is_quoted_live past.calls (quoted_in d.octets)) d six).0 in
       let sum = (no_row_on_tcp settings false d six).1 in
       let era_row = row_of_era settings past.calls (Some d) in

@@ -331,7 +331,7 @@ mended_is_whole : (settings : PlainSettings) (live : Bool) (d : Datagram) → da
 unfolding dgram_dropped_by
 mended_is_whole settings live d none mended =
     let rows = none_found (holds_dgram settings live d) datagram_rows (first_none (find (holds_dgram settings live d) datagram_rows) (find (holds_tcp settings d) segment_rows) none) in
-    ltb-false (length d.octets) 8 (carried_fails (d.head.protocol == 17) (u_short d) rows.0 (and_parts (d.head.protocol == 17) (u_sum_out settings d) mended).0)
+    ltb-false (length d.octets) 8 (carried_fails (d.head.protocol.0 == 17) (u_short d) rows.0 (and_parts (d.head.protocol.0 == 17) (u_sum_out settings d) mended).0)
 
 -- the header of what is judged a segment was read
 pub head_read : (packet : IpPacket) (answer : Judged) → HeadIsRead (datagram_with [] packet) answer → SegmentIsRead (joined packet answer)
@@ -418,7 +418,7 @@ module _ (settings : PlainSettings) (link : Link) (past : Past) (r : Packet) (d 
         is = stands.is;
         known = stands.known;
         told = told;
-        protocol = eqb-true d.head.protocol 6 (and_parts (d.head.protocol == 6) (is_none (find (holds_tcp settings d) segment_rows)) follows.0).0;
+        protocol = eqb-true d.head.protocol.0 6 (and_parts (d.head.protocol.0 == 6) (is_none (find (holds_tcp settings d) segment_rows)) follows.0).0;
         held = made.held;
         dropped = rows.dropped;
         noted = rows.noted;

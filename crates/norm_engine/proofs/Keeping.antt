@@ -68,7 +68,7 @@ module _ (settings : PlainSettings) (link : Link) (r : records.Packet) (d : Data
   long = not_short link r.octets (link_kept settings link r c.undropped)
 
   -- the payload of a packet of the datagram in its frame, and of the record
-  sent_payload : (p : Packet) → IsPacketOf settings d p → payload_in link (frame_of (link_octets link r.octets) p) ≡ payload_by d.head.protocol p.octets
+  sent_payload : (p : Packet) → IsPacketOf settings d p → payload_in link (frame_of (link_octets link r.octets) p) ≡ payload_by d.head.protocol.0 p.octets
   sent_payload p is =
       let rest = p.header ++ p.octets in
       let whole : frame_of (link_octets link r.octets) p ≡ link_octets link r.octets ++ rest = append_assoc (link_octets link r.octets) p.header p.octets in
@@ -77,10 +77,10 @@ module _ (settings : PlainSettings) (link : Link) (r : records.Packet) (d : Data
       ∙ (ap (λ b. cond b (payload_of (packet_in link (link_octets link r.octets ++ rest))) (link_octets link r.octets ++ rest)) carried
       ∙ (ap payload_of (behind link r.octets rest long) ∙ ap₂ payload_by is.protocol is.carries))
 
-  read_payload : payload_in link r.octets ≡ payload_by d.head.protocol d.octets
+  read_payload : payload_in link r.octets ≡ payload_by d.head.protocol.0 d.octets
   read_payload =
       ap (λ b. cond b (payload_of (packet_in link r.octets)) r.octets) c.carried
-      ∙ ap (λ (e : Datagram). payload_by e.head.protocol e.octets) c.is
+      ∙ ap (λ (e : Datagram). payload_by e.head.protocol.0 e.octets) c.is
 
 -- a mended message has all octets behind its header as they were
 
@@ -99,16 +99,16 @@ both_true false b h = absurd (cc)
 
 -- what goes out of a datagram has its payload, and its length
 record SendsPayload (settings : PlainSettings) (d : Datagram) : Type 0 where
-  payload : payload_by d.head.protocol (octets_sent settings d) ≡ payload_by d.head.protocol d.octets
+  payload : payload_by d.head.protocol.0 (octets_sent settings d) ≡ payload_by d.head.protocol.0 d.octets
   size : length (octets_sent settings d) ≡ length d.octets
 
 sent_by : (b : Bool) (settings : PlainSettings) (d : Datagram) → holds_dgram settings false d rules.USumOut ≡ b → (b ≡ true → 8 ≤ length d.octets) → SendsPayload settings d
 sent_by false settings d is whole =
     let same : octets_sent settings d ≡ d.octets = ap (λ b. cond b (mended (pseudo_of d) d.octets) d.octets) is in
-    record { payload = ap (payload_by d.head.protocol) same; size = ap length same }
+    record { payload = ap (payload_by d.head.protocol.0) same; size = ap length same }
 sent_by true settings d is whole =
     let long = whole refl in
-    let udp : d.head.protocol ≡ 17 = eqb-true d.head.protocol 17 (both_true (d.head.protocol == 17) (u_sum_out settings d) is) in
+    let udp : d.head.protocol.0 ≡ 17 = eqb-true d.head.protocol.0 17 (both_true (d.head.protocol.0 == 17) (u_sum_out settings d) is) in
     let same : octets_sent settings d ≡ mended (pseudo_of d) d.octets = ap (λ b. cond b (mended (pseudo_of d) d.octets) d.octets) is in
     record {
       payload = ap₂ payload_by udp same ∙ (behind_checksum d.octets _ long ∙ sym (ap (λ n. payload_by n d.octets) udp));
@@ -128,9 +128,9 @@ short_by false short rest h u = absurd (cc)
 whole_message : (octets : ℕ) → nat_lt octets 8 ≡ false → 8 ≤ octets
 whole_message octets h = grind (arith, nat_tests)
 
-not_short_udp : (settings : PlainSettings) (live : Bool) (d : Datagram) → dgram_dropped_by settings live d ≡ None → (d.head.protocol == 17) ≡ true → 8 ≤ length d.octets
+not_short_udp : (settings : PlainSettings) (live : Bool) (d : Datagram) → dgram_dropped_by settings live d ≡ None → (d.head.protocol.0 == 17) ≡ true → 8 ≤ length d.octets
 unfolding dgram_dropped_by
-not_short_udp settings live d none udp = whole_message (length d.octets) (short_by (d.head.protocol == 17) (u_short d) _ none udp)
+not_short_udp settings live d none udp = whole_message (length d.octets) (short_by (d.head.protocol.0 == 17) (u_short d) _ none udp)
 
 -- the item of a clean record, by its segment and its datagram
 
@@ -263,7 +263,7 @@ module _ (known : DatagramsAreKnown) (fresh : AnewIsPacket) (own : PacketsAreIts
       (first_none _ _ (first_none _ _ (first_none _ _ (sym (dropped_by_layers settings link r read) ∙ undropped)).1).1).0 in
       let passes : dgram_dropped_by settings live d ≡ None = sym (ap (row_of_datagram settings read.past.calls) (own_datagram bare ∙ made)) ∙ row in
       let sends = sent_by (holds_dgram settings false d rules.USumOut) settings d refl
-      (λ mends. not_short_udp settings live d passes (both_true (d.head.protocol == 17) (u_sum_out settings d) mends)) in
+      (λ mends. not_short_udp settings live d passes (both_true (d.head.protocol.0 == 17) (u_sum_out settings d) mends)) in
       let k = known settings link r d octets made in
       let short = k.short in
       let size = sends.size in

@@ -95,7 +95,7 @@ right_inward true false offload e h = absurd (cc)
 pub segment_known : (settings : PlainSettings) (d : Datagram) → IsKnown settings d → is_segment settings d ≡ true → IsSegment settings d
 segment_known settings d known is =
     let parts = both (is_tcp d) (is_none (find (holds_tcp settings d) segment_rows)) is in
-    let six : d.head.protocol ≡ 6 = eqb-true d.head.protocol 6 parts.0 in
+    let six : d.head.protocol.0 ≡ 6 = eqb-true d.head.protocol.0 6 parts.0 in
     let none = no_fault (is_tcp d) (t_short d) (t_hlen d) (t_sum settings d) (t_flags d) (t_opt_bad d) parts.0 parts.1 in
     let sizes = header_fits (tcp.header_length d.octets) (length d.octets) none.is_hlen in
     record {

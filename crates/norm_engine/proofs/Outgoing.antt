@@ -223,14 +223,14 @@ carries_of settings link calls r d (carried c) = c.carried
 carries_of settings link calls r d (joined j) = (fragment_is settings link r j.piece j.offered).carried
 
 -- one of TCP that no row drops is a segment
-no_tcp : (settings : PlainSettings) (live : Bool) (d : Datagram) → is_segment settings d ≡ false → datagram_row settings live d ≡ None → d.head.protocol ≡ 6 → ⊥
+no_tcp : (settings : PlainSettings) (live : Bool) (d : Datagram) → is_segment settings d ≡ false → datagram_row settings live d ≡ None → d.head.protocol.0 ≡ 6 → ⊥
 no_tcp settings live d other row six =
     let none = (first_none (dgram_dropped_by settings live d) (find (holds_tcp settings d) segment_rows) row).1 in
     let tcp : is_tcp d ≡ true = ap (λ n. n == 6) six in
     let e : true ≡ false = sym (λ i. tcp i && is_none (none i)) ∙ other in
     cc
 
-other_whole : (settings : PlainSettings) (d : Datagram) (p : Packet) → IsPacketOf settings d p → (d.head.protocol ≡ 6 → ⊥) → IsWholePacket (whole p)
+other_whole : (settings : PlainSettings) (d : Datagram) (p : Packet) → IsPacketOf settings d p → (d.head.protocol.0 ≡ 6 → ⊥) → IsWholePacket (whole p)
 other_whole settings d p is other = record { header = is.header; segment = λ six. absurd (other (sym is.protocol ∙ six)) }
 
 mended_short : (m : List ℕ) (value : ℕ) → length m ≤ 65515 → length (with_u16 m 6 value) ≤ 65515
@@ -268,7 +268,7 @@ module _ (known : DatagramsAreKnown) (fresh : AnewIsPacket) (settings : PlainSet
     made : IsMade settings link read r d
     made = made_of settings link past r d h
 
-    no_six : d.head.protocol ≡ 6 → ⊥
+    no_six : d.head.protocol.0 ≡ 6 → ⊥
     no_six = no_tcp settings (is_quoted_live past.calls (quoted_in d.octets)) d other (sym (datagram_row_is settings link past r d made other) ∙ undropped)
 
     long : link ≡ Ethernet → 14 ≤ length r.octets

@@ -1,15 +1,16 @@
 -- The rows on the header of a segment, by the fault of that header.
-use Rattle.std.proofs.Common.{◌≡◌, ◌≢◌, ℕ, ◌≤◌, ◌==◌, Bool, true, false, ◌&&◌, ◌||◌, not, length, find, Option, Some, None, Ok, Err, refl, sym, ap, ◌∙◌, if◌then◌else◌}
+use Rattle.std.proofs.Common.{◌≡◌, ◌≢◌, ℕ, ◌≤◌, ◌==◌, Bool, true, false, ◌&&◌, ◌||◌, not, length, find, Option, Some, None, Ok, Err, refl, sym, ap, subst, ◌∙◌, if◌then◌else◌}
 use Rattle.std.specs.Prelude.{option_map, is_none, slice_range}
 use Rattle.std.specs.Option.{option_or}
 use Rattle.std.proofs.lemmas.Bool.{ne_eqb}
+use Rattle.wire_base.specs.Reading.{value_or_fault}
 use Rattle.wire_base.specs.Tcp as tcp
 use Rattle.wire_base.specs.Options.{are_well_formed}
 use Rattle.tcp_codec.specs.declared.header.Tcp.{Tcp}
 use Rattle.tcp_codec.specs.declared.header.SumRule.{SumRule}
 use Rattle.tcp_codec.specs.declared.header.TcpFault.{TcpFault}
 use Rattle.tcp_codec.specs.declared.header.TcpFault.TheVariants as faults
-use Rattle.tcp_codec.specs.Header.{is_judged, fields_of, fault_of, result_of, parsed}
+use Rattle.tcp_codec.specs.Header.{is_judged, fields_of, fault_of, parsed}
 use Rattle.rule_book.specs.declared.rule.Rule.{Rule}
 use Rattle.rule_book.specs.declared.rule.Rule.TheVariants as rules
 use Rattle.rule_book.specs.Rules.{segment_rows}
@@ -18,6 +19,7 @@ use Rattle.ip_rules.specs.Datagrams.{Datagram}
 use Rattle.dgram_rules.specs.declared.judged.DgramJudged.{DgramJudged}
 use Rattle.dgram_rules.specs.declared.judged.DgramJudged.TheVariants as dgram
 use Rattle.dgram_rules.specs.Rows.{pseudo_of, is_offloaded, holds_dgram, dgram_dropped_by}
+use Rattle.dgram_rules.specs.Judged.{dgram_judged, icmp_judged, udp_judged}
 use Rattle.dgram_rules.specs.Laws.{Tells}
 use Rattle.norm_engine.specs.declared.judge.Judged.{Judged}
 use Rattle.norm_engine.specs.declared.judge.Judged.TheVariants as judged
@@ -53,11 +55,11 @@ row_by_fault settings d rule pseudo judged summed =
     ∙ (by_faults (t_short d) (t_hlen d) (tcp.has_wrong_sum (pseudo_of d) d.octets) (is_judged rule) (t_flags d) (t_opt_bad d)
     ∙ ap (λ j. by_tests (t_short d) (t_hlen d) (tcp.has_wrong_sum (pseudo_of d) d.octets && j) (t_flags d) (t_opt_bad d)) judged)
 
-faultless : (fields head : Tcp) (fault : Option TcpFault) → result_of fields fault ≡ Ok head → (option_map rule_of fault ≡ None) × (head ≡ fields)
+faultless : (fields head : Tcp) (fault : Option TcpFault) → value_or_fault fields fault ≡ Ok head → (option_map rule_of fault ≡ None) × (head ≡ fields)
 faultless fields head None h = (refl, cc)
 faultless fields head (Some fault) h = absurd (cc)
 
-refused : (fields : Tcp) (fault : Option TcpFault) (told : TcpFault) → result_of fields fault ≡ Err told → option_map rule_of fault ≡ Some (rule_of told)
+refused : (fields : Tcp) (fault : Option TcpFault) (told : TcpFault) → value_or_fault fields fault ≡ Err told → option_map rule_of fault ≡ Some (rule_of told)
 refused fields None told h = absurd (cc)
 refused fields (Some fault) told h = let same : fault ≡ told = cc in ap (λ f. Some (rule_of f)) same
 
@@ -97,6 +99,13 @@ six_is_left p known udp icmp = by (p == 1) (p == 6) (p == 17) known (ne_eqb p 1 
     by true six seventeen known a b = absurd (cc)
     by false true seventeen known a b = refl
     by false false seventeen known a b = absurd (cc)
+
+-- what becomes of a datagram of this protocol tells of the rows
+pub tells_of : (settings : PlainSettings) (live : Bool) (d : Datagram) (number : ℕ) → d.head.protocol.0 ≡ number
+    → Tells (dgram_dropped_by settings live d) (holds_dgram settings live d rules.USumOut) (dgram_judged settings live d)
+    → Tells (dgram_dropped_by settings live d) (holds_dgram settings live d rules.USumOut) (if number == 17 then udp_judged settings d else if number == 1 then icmp_judged settings live d else dgram.Pass)
+tells_of settings live d number is =
+    subst (Tells (dgram_dropped_by settings live d) (holds_dgram settings live d rules.USumOut)) (ap (λ n. if n == 17 then udp_judged settings d else if n == 1 then icmp_judged settings live d else dgram.Pass) is)
 
 -- a datagram that is no TCP is no segment, and follows the rows on UDP and ICMP
 pub by_tells : (settings : PlainSettings) (live : Bool) (d : Datagram) (answer : DgramJudged) → is_tcp d ≡ false

@@ -20,7 +20,7 @@ side_of_record settings link r = if carries_ip link r.octets then side_in settin
 
 -- the datagram carries TCP (protocol 6)
 abbrev pub is_tcp : Datagram → Bool
-is_tcp d = d.head.protocol == 6
+is_tcp d = d.head.protocol.0 == 6
 
 -- T_SHORT: TCP of fewer than 20 octets
 abbrev pub t_short : Datagram → Bool

@@ -16,7 +16,7 @@ ghost use Rattle.norm_engine.specs.Calls.{Past};
 ghost use Rattle.norm_engine.specs.Trace.{is_quoted_live};
 ghost use Rattle.norm_engine.specs.Engine as spec;
 
-use dgram_rules::laws::{icmp_tells_the_rows, others_have_no_row, udp_tells_the_rows};
+use dgram_rules::laws::{datagrams_tell_the_rows, others_have_no_row};
 use dgram_rules::{DgramJudged, judge_icmp, judge_udp};
 use icmp_codec::quoted;
 use ip_rules::laws::datagrams_are_known;
@@ -27,12 +27,7 @@ use reassembly::{Assembly, Offered, Piece, Whole};
 use rule_book::Rule;
 use tcp_codec::{SumRule, Tcp, TcpFault};
 use tcp_norm::TcpNorm;
-use wire_base::{FlowKey, Link, Side, pseudo_sum};
-
-// The protocol numbers of ICMP (RFC 792) and UDP (RFC 768).
-const ICMP: u8 = 1;
-
-const UDP: u8 = 17;
+use wire_base::{FlowKey, Link, Protocol, Side, pseudo_sum};
 
 /// What becomes of a record.
 #[derive(Debug, Drop)]
@@ -107,7 +102,7 @@ fn judge_piece<'a>(
     requires buffer { 65515 ≤ length buffer.old }
     requires late { fragments.last_time pieces.old ≤ now }
     requires piece { IsPiece (fragment_with packet.head packet.payload.now) }
-    requires known { ((packet.head.protocol == 1) || (packet.head.protocol == 6) || (packet.head.protocol == 17)) ≡ true }
+    requires known { ((packet.head.protocol.0 == 1) || (packet.head.protocol.0 == 6) || (packet.head.protocol.0 == 17)) ≡ true }
     requires few { length packet.fixes.items ≤ 4 }
     ensures read { spec.SegmentIsRead result }
     ensures rows { (calls : List Call) (offers : List reassembly.Call) → flows.StandsFor (plain_settings settings.now) norm.now calls →
@@ -133,7 +128,7 @@ fn judge_piece<'a>(
 // Judges a whole datagram by the rows on it.
 fn judge_whole<'a>(settings: &Settings, norm: &TcpNorm, packet: IpPacket<'a>) -> Judgment<'a>
     requires prefixes { All (λ prefix. prefix.len ≤ 32) settings.now.prefixes.items }
-    requires known { ((packet.head.protocol == 1) || (packet.head.protocol == 6) || (packet.head.protocol == 17)) ≡ true }
+    requires known { ((packet.head.protocol.0 == 1) || (packet.head.protocol.0 == 6) || (packet.head.protocol.0 == 17)) ≡ true }
     requires size { length packet.payload.now < 2 ^ 16 }
     requires few { length packet.fixes.items < 16 }
     ensures read { spec.SegmentIsRead result }
@@ -201,18 +196,17 @@ fn joined(packet: IpPacket<'_>, judged: Judged) -> Judgment<'_>
 // What becomes of the datagram that a whole packet is.
 fn judge_datagram(settings: &Settings, norm: &TcpNorm, packet: &IpPacket<'_>) -> Judged
     requires prefixes { All (λ prefix. prefix.len ≤ 32) settings.now.prefixes.items }
-    requires known { ((packet.now.head.protocol == 1) || (packet.now.head.protocol == 6) || (packet.now.head.protocol == 17)) ≡ true }
+    requires known { ((packet.now.head.protocol.0 == 1) || (packet.now.head.protocol.0 == 6) || (packet.now.head.protocol.0 == 17)) ≡ true }
     requires size { length packet.now.payload.now < 2 ^ 16 }
     ensures read { (header : List ℕ) → spec.HeadIsRead (datagram_with header packet.now) result }
     ensures rows { (calls : List Call) (header : List ℕ) → flows.StandsFor (plain_settings settings.now) norm.now calls →
         spec.Follows (plain_settings settings.now) (is_quoted_live calls (quoted_in packet.now.payload.now)) (datagram_with header packet.now) result }
 {
-    udp_tells_the_rows();
-    icmp_tells_the_rows();
+    datagrams_tell_the_rows();
     others_have_no_row();
     match packet.head.protocol {
-        UDP => of_rows(judge_udp(settings, packet)),
-        ICMP => {
+        Protocol::UDP => of_rows(judge_udp(settings, packet)),
+        Protocol::ICMP => {
             let live = quotes_live(norm, packet.payload);
             of_rows(judge_icmp(settings, packet, live))
         }

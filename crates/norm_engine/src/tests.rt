@@ -8,7 +8,7 @@ use norm_settings::Settings;
 use pcap_file::Record;
 use rule_book::{Entry, Rule, Verdict};
 use std::test::Fail;
-use wire_base::{Addr, Link, Prefix, pseudo_sum, put_u16, sum_for};
+use wire_base::{Addr, Link, Prefix, Protocol, pseudo_sum, put_u16, sum_for};
 
 /// A SYN (RFC 9293) from 198.51.100.7 port 40000 to 10.0.0.1 port 80 with sequence 999 and window 8192.
 const SYN: [u8; 40] = [
@@ -194,7 +194,7 @@ fn syn_from(port: u16) -> [u8; 40] {
     put_u16(&mut packet, 36, 0);
     let sum = sum_for(
         &packet[20..],
-        pseudo_sum(Addr(0xc633_6407), Addr(0x0a00_0001), 6, 20),
+        pseudo_sum(Addr(0xc633_6407), Addr(0x0a00_0001), Protocol::TCP, 20),
     );
     put_u16(&mut packet, 36, sum);
     packet

@@ -29,7 +29,7 @@ mtu_unset (Some value) (Some name) (Some number) h t = absurd (cc)
 
 told_together : (uses : List PlainUse) (prefixes : List wire.Prefix) → go_together uses ≡ true → GoTogether (settings_of (λ choice. given choice uses) prefixes)
 told_together uses prefixes h = record {
-  mirror = refl;
+  mirror = λ _. refl;
   inside = λ t. inside_unset (given Both uses) (given Inside uses) (given Mtu uses) h t;
   mtu = λ t. mtu_unset (given Both uses) (given Inside uses) (given Mtu uses) h t;
 }

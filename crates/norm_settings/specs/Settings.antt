@@ -102,8 +102,9 @@ pub record AreInRange (s : PlainSettings) : Type 0 where
   pub quota : IfSome s.quota (IsWithin 1 262144)
   pub mtu : IfSome s.mtu (IsWithin 576 65535)
 
--- no word exchanges the sides, and a second engine goes neither with sides of interfaces nor with a longest packet
+-- Settings of a run: where both sides are protected, the second engine alone has the sides exchanged, and neither the sides of interfaces nor a longest packet
+-- is given.
 pub record GoTogether (s : PlainSettings) : Type 0 where
-  pub mirror : s.mirror ≡ false
+  pub mirror : s.both ≡ true → s.mirror ≡ false
   pub inside : s.both ≡ true → s.inside ≡ None
   pub mtu : s.both ≡ true → s.mtu ≡ None

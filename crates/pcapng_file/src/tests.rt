@@ -1,9 +1,9 @@
 //! Files of the worked examples, cut into pieces, and a file for each fault.
-ghost use Rattle.std.specs.Prelude.{◌≡◌, ◌<◌, ◌≤◌, true, length};
+ghost use Rattle.std.specs.Prelude.{◌≡◌, ◌<◌, ◌≤◌, IfSome, true, length};
 
 use crate::{NgFault, NgReader};
 use edge_io::{MemSource, Source};
-use pcap_file::Order;
+use pcap_file::{Order, Record};
 use std::test::Fail;
 use wire_base::{Link, Side};
 
@@ -91,6 +91,15 @@ const OTHER: [u8; 16] = [0xad, 0x0b, 0, 0, 16, 0, 0, 0, 1, 2, 3, 4, 16, 0, 0, 0]
 // The least block.
 const LEAST: [u8; 12] = [0xad, 0x0b, 0, 0, 12, 0, 0, 0, 12, 0, 0, 0];
 
+// The seconds, the fraction, the original length, the offset, the side and the octets of a packet.
+type Packet<'a> = (u32, u32, u32, u64, Option<Side>, &'a [u8]);
+
+// How many packets there are, at most two, the fault behind them, and its offset; the end is no fault.
+type Outcome = (u32, Option<NgFault>, u64);
+
+// How the head is written, the offsets of the first interface and of the end, and whether the packets between them are those that are wanted.
+type Reading = ((Order, bool, Link), (u64, u64), bool);
+
 fn joined(rt: HostRuntime, parts: &[&[u8]]) -> Result<Vec<u8>, Fail> {
     let mut octets = Vec::new(rt.alloc());
     for part in parts {
@@ -99,42 +108,144 @@ fn joined(rt: HostRuntime, parts: &[&[u8]]) -> Result<Vec<u8>, Fail> {
     Ok(octets)
 }
 
-fn source(rt: HostRuntime, parts: &[&[u8]], piece: usize) -> Result<MemSource, Fail>
-    requires { 0 < piece }
-{
-    let octets = joined(rt, parts)?;
-    Ok(MemSource::new(octets, piece, Vec::new(rt.alloc())))
-}
-
-// How many packets there are, at most one, the fault behind them, and its offset; the end is no fault.
-fn read_to_end(
-    reader: &mut NgReader,
-    source: &mut MemSource,
-    buf: &mut [u8],
-) -> Result<(u32, Option<NgFault>, u64), Fail>
+fn read_to_end(reader: &mut NgReader, source: &mut MemSource, buf: &mut [u8]) -> Outcome
     requires open { reader.old.is_open ≡ true }
     requires room { 262144 ≤ length buf.old }
 {
     match reader.next(source, buf) {
         Ok(Some(_)) => {}
-        Ok(None) => return Ok((0, None, reader.offset())),
-        Err(fault) => return Ok((0, Some(fault), reader.offset())),
+        Ok(None) => return (0, None, reader.offset()),
+        Err(fault) => return (0, Some(fault), reader.offset()),
     }
     match reader.next(source, buf) {
-        Ok(Some(_)) => Err("a second packet".into()),
-        Ok(None) => Ok((1, None, reader.offset())),
-        Err(fault) => Ok((1, Some(fault), reader.offset())),
+        Ok(Some(_)) => (2, None, reader.offset()),
+        Ok(None) => (1, None, reader.offset()),
+        Err(fault) => (1, Some(fault), reader.offset()),
     }
 }
 
-fn outcome(rt: HostRuntime, octets: Vec<u8>) -> Result<(u32, Option<NgFault>, u64), Fail> {
-    let mut source = MemSource::new(octets, 65536, Vec::new(rt.alloc()));
-    let mut reader = match NgReader::open_behind(None, &[], &mut source) {
-        Ok(reader) => reader,
-        Err(stop) => return Ok((0, Some(stop.fault), stop.offset)),
-    };
+fn outcome_of(source: &mut MemSource, buf: &mut [u8]) -> Outcome
+    requires { 262144 ≤ length buf.old }
+{
+    match NgReader::open_behind(None, &[], source) {
+        Ok(mut reader) => read_to_end(&mut reader, source, buf),
+        Err(stop) => (0, Some(stop.fault), stop.offset),
+    }
+}
+
+fn outcome(rt: HostRuntime, octets: Vec<u8>) -> Result<Outcome, Fail> {
     let mut buf = vec![in rt.alloc(); 0u8; 262144]?;
-    read_to_end(&mut reader, &mut source, &mut buf)
+    let mut source = MemSource::new(octets, 65536, Vec::new(rt.alloc()));
+    Ok(outcome_of(&mut source, &mut buf))
+}
+
+// What comes of blocks of which one octet is changed.
+fn changed(rt: HostRuntime, blocks: &[&[u8]], place: usize, octet: u8) -> Result<Outcome, Fail> {
+    let mut octets = joined(rt, blocks)?;
+    *octets.get_mut(place).ok_or("no such place")? = octet;
+    outcome(rt, octets)
+}
+
+fn is_packet(record: &Record<'_>, packet: &Packet<'_>) -> bool {
+    let (seconds, fraction, original, offset, side, bytes) = *packet;
+    record.seconds == seconds
+        && record.fraction == fraction
+        && record.original == original
+        && record.offset == offset
+        && record.side == side
+        && record.bytes == bytes
+}
+
+// Whether the reader is open, and this packet is the next.
+fn is_next(
+    reader: &mut NgReader,
+    source: &mut MemSource,
+    buf: &mut [u8],
+    packet: &Packet<'_>,
+) -> bool
+    requires { 262144 ≤ length buf.old }
+{
+    if !reader.is_open() {
+        return false;
+    }
+    match reader.next(source, buf) {
+        Ok(Some(record)) => is_packet(&record, packet),
+        _ => false,
+    }
+}
+
+// Whether the reader is open until the end, which is next.
+fn ends(reader: &mut NgReader, source: &mut MemSource, buf: &mut [u8]) -> bool
+    requires { 262144 ≤ length buf.old }
+{
+    reader.is_open() && matches!(reader.next(source, buf), Ok(None)) && !reader.is_open()
+}
+
+// Whether these packets are left, and the end behind them.
+fn are_left(
+    reader: &mut NgReader,
+    source: &mut MemSource,
+    buf: &mut [u8],
+    packets: &[Packet<'_>],
+) -> bool
+    requires { 262144 ≤ length buf.old }
+{
+    for packet in packets {
+        if !is_next(reader, source, buf, packet) {
+            return false;
+        }
+    }
+    ends(reader, source, buf)
+}
+
+fn reading_behind(
+    reader: &mut NgReader,
+    source: &mut MemSource,
+    buf: &mut [u8],
+    packets: &[Packet<'_>],
+) -> Reading
+    requires { 262144 ≤ length buf.old }
+{
+    let head = reader.head();
+    let first = reader.offset();
+    let wanted = are_left(reader, source, buf, packets);
+    (
+        (head.order, head.nano, head.link),
+        (first, reader.offset()),
+        wanted,
+    )
+}
+
+fn reading_of(
+    inside: Option<&[u8]>,
+    source: &mut MemSource,
+    buf: &mut [u8],
+    packets: &[Packet<'_>],
+) -> Result<Reading, NgFault>
+    requires small { IfSome inside (λ name. length name.now ≤ 64) }
+    requires room { 262144 ≤ length buf.old }
+{
+    match NgReader::open(inside, source) {
+        Ok(mut reader) => Ok(reading_behind(&mut reader, source, buf, packets)),
+        Err(fault) => Err(fault),
+    }
+}
+
+// What is read of these blocks in pieces, where these packets are wanted.
+fn reading(
+    rt: HostRuntime,
+    inside: Option<&[u8]>,
+    blocks: &[&[u8]],
+    piece: usize,
+    packets: &[Packet<'_>],
+) -> Result<Result<Reading, NgFault>, Fail>
+    requires small { IfSome inside (λ name. length name.now ≤ 64) }
+    requires some { 0 < piece }
+{
+    let octets = joined(rt, blocks)?;
+    let mut buf = vec![in rt.alloc(); 0u8; 262144]?;
+    let mut source = MemSource::new(octets, piece, Vec::new(rt.alloc()));
+    Ok(reading_of(inside, &mut source, &mut buf, packets))
 }
 
 #[test]
@@ -147,33 +258,13 @@ fn a_packet_has_the_side_of_its_interface(rt: HostRuntime) -> Result<(), Fail> {
         (None, &BEFORE, None),
     ];
     for (inside, before, side) in rows {
+        let blocks: [&[u8]; 6] = [&SECTION, &IN, &EX, before, &DATAGRAM, &BEHIND];
+        let packets: [Packet<'_>; 1] = [(0, 0, 30, 92, side, &DATAGRAM)];
         for piece in [1, 7, 65536] {
-            let parts: [&[u8]; 6] = [&SECTION, &IN, &EX, before, &DATAGRAM, &BEHIND];
-            let mut source = source(rt, &parts, piece)?;
-            let mut reader = NgReader::open(inside, &mut source)?;
-            let head = reader.head();
             assert_eq!(rt;
-                (head.order, head.nano, head.link),
-                (Order::Little, true, Link::Raw)
+                reading(rt, inside, &blocks, piece, &packets)??,
+                ((Order::Little, true, Link::Raw), (28, 156), true)
             );
-            assert_eq!(rt; reader.offset(), 28);
-            let mut buf = vec![in rt.alloc(); 0u8; 262144]?;
-            let record = reader.next(&mut source, &mut buf)?.ok_or("a packet")?;
-            assert_eq!(rt; record.side, side);
-            assert_eq!(rt;
-                (
-                    record.seconds,
-                    record.fraction,
-                    record.original,
-                    record.offset
-                ),
-                (0, 0, 30, 92)
-            );
-            assert_eq!(rt; record.bytes, DATAGRAM.as_slice());
-            assert!(rt; reader.is_open());
-            assert!(rt; reader.next(&mut source, &mut buf)?.is_none());
-            assert!(rt; !reader.is_open());
-            assert_eq!(rt; reader.offset(), 156);
         }
     }
     Ok(())
@@ -194,28 +285,24 @@ fn an_interface_that_is_not_described_is_a_fault_at_its_packet(
 #[test]
 fn times_and_lengths_are_those_of_the_interface(rt: HostRuntime) -> Result<(), Fail> {
     // 4294967301 microseconds, and as many nanoseconds.
-    let rows: [(&[u8], u32, u32); 2] = [(&PLAIN, 4294, 967_301_000), (&NANO, 4, 294_967_301)];
-    for (interface, seconds, fraction) in rows {
+    // The offsets are those of the two packets and of the end.
+    let rows: [(&[u8], u32, u32, [u64; 3]); 2] = [
+        (&PLAIN, 4294, 967_301_000, [76, 120, 160]),
+        (&NANO, 4, 294_967_301, [88, 132, 172]),
+    ];
+    for (interface, seconds, fraction, [stamped, simple, end]) in rows {
+        let blocks: [&[u8]; 7] = [
+            &SECTION, &OTHER, interface, &LEAST, &STAMPED, &SIMPLE, &OTHER,
+        ];
+        let packets: [Packet<'_>; 2] = [
+            (seconds, fraction, 4, stamped, None, &[7, 8, 9]),
+            (seconds, fraction, 5, simple, None, &[1, 2, 3, 4, 5]),
+        ];
         for piece in [1, 7, 65536] {
-            let parts: [&[u8]; 7] = [
-                &SECTION, &OTHER, interface, &LEAST, &STAMPED, &SIMPLE, &OTHER,
-            ];
-            let mut source = source(rt, &parts, piece)?;
-            let mut reader = NgReader::open(None, &mut source)?;
-            let mut buf = vec![in rt.alloc(); 0u8; 262144]?;
-            let stamped = reader.next(&mut source, &mut buf)?.ok_or("a packet")?;
             assert_eq!(rt;
-                (stamped.seconds, stamped.fraction, stamped.original),
-                (seconds, fraction, 4)
+                reading(rt, None, &blocks, piece, &packets)??,
+                ((Order::Little, true, Link::Raw), (44, end), true)
             );
-            assert_eq!(rt; stamped.bytes, [7u8, 8, 9].as_slice());
-            let simple = reader.next(&mut source, &mut buf)?.ok_or("a packet")?;
-            assert_eq!(rt;
-                (simple.seconds, simple.fraction, simple.original),
-                (seconds, fraction, 5)
-            );
-            assert_eq!(rt; simple.bytes, [1u8, 2, 3, 4, 5].as_slice());
-            assert!(rt; reader.next(&mut source, &mut buf)?.is_none());
         }
     }
     Ok(())
@@ -223,15 +310,11 @@ fn times_and_lengths_are_those_of_the_interface(rt: HostRuntime) -> Result<(), F
 
 #[test]
 fn a_simple_packet_is_clipped_to_the_snap_length(rt: HostRuntime) -> Result<(), Fail> {
-    let mut source = source(rt, &[&SECTION, &NANO, &CLIPPED], 7)?;
-    let mut reader = NgReader::open(None, &mut source)?;
-    let mut buf = vec![in rt.alloc(); 0u8; 262144]?;
-    let record = reader.next(&mut source, &mut buf)?.ok_or("a packet")?;
+    let packets: [Packet<'_>; 1] = [(0, 0, 9, 60, None, &[1, 2, 3, 4, 5, 6])];
     assert_eq!(rt;
-        (record.seconds, record.fraction, record.original),
-        (0, 0, 9)
+        reading(rt, None, &[&SECTION, &NANO, &CLIPPED], 7, &packets)??,
+        ((Order::Little, true, Link::Raw), (28, 84), true)
     );
-    assert_eq!(rt; record.bytes, [1u8, 2, 3, 4, 5, 6].as_slice());
     Ok(())
 }
 
@@ -241,16 +324,17 @@ fn a_section_may_have_the_highest_octet_first(rt: HostRuntime) -> Result<(), Fai
         0, 0, 0, 6, 0, 0, 0, 36, 0, 0, 0, 0, 0, 0, 0, 0, 0, 0x1e, 0x84, 0x81, 0, 0, 0, 3, 0, 0, 0,
         3, 7, 8, 9, 0, 0, 0, 0, 36,
     ];
-    let mut source = source(rt, &[&BIG_SECTION, &BIG_ETHERNET, &packet], 7)?;
-    let mut reader = NgReader::open(None, &mut source)?;
-    assert!(rt; reader.head().link == Link::Ethernet);
-    let mut buf = vec![in rt.alloc(); 0u8; 262144]?;
-    let record = reader.next(&mut source, &mut buf)?.ok_or("a packet")?;
+    let packets: [Packet<'_>; 1] = [(2, 1000, 3, 48, None, &[7, 8, 9])];
     assert_eq!(rt;
-        (record.seconds, record.fraction, record.original),
-        (2, 1000, 3)
+        reading(
+            rt,
+            None,
+            &[&BIG_SECTION, &BIG_ETHERNET, &packet],
+            7,
+            &packets
+        )??,
+        ((Order::Little, true, Link::Ethernet), (28, 84), true)
     );
-    assert_eq!(rt; record.bytes, [7u8, 8, 9].as_slice());
     // A section in the other order, whose first interface has another link.
     let parts: [&[u8]; 4] = [&BIG_SECTION, &BIG_ETHERNET, &SECTION, &PLAIN];
     assert_eq!(rt;
@@ -260,61 +344,62 @@ fn a_section_may_have_the_highest_octet_first(rt: HostRuntime) -> Result<(), Fai
     Ok(())
 }
 
-// What comes of three blocks of which one octet is changed.
-fn changed(
-    rt: HostRuntime,
-    blocks: &[&[u8]],
-    place: usize,
-    octet: u8,
-) -> Result<(u32, Option<NgFault>, u64), Fail> {
-    let mut octets = joined(rt, blocks)?;
-    *octets.get_mut(place).ok_or("no such place")? = octet;
-    outcome(rt, octets)
-}
-
 #[test]
 fn a_file_has_its_first_fault(rt: HostRuntime) -> Result<(), Fail> {
-    let stamped: [&[u8]; 3] = [&SECTION, &IN, &STAMPED];
-    assert_eq!(rt; outcome(rt, joined(rt, &stamped)?)?, (1, None, 104));
     // The sections begin at 0, the interface at 28 and the packet at 60.
-    let rows: [(usize, u8, NgFault, u64); 16] = [
-        (8, 0x4e, NgFault::Magic, 0),
-        (0, 1, NgFault::Magic, 0),
-        (12, 2, NgFault::Version, 0),
-        (4, 8, NgFault::Block, 0),
-        (4, 30, NgFault::Block, 0),
-        (24, 27, NgFault::Block, 0),
-        (36, 113, NgFault::Link, 28),
-        (32, 31, NgFault::Block, 28),
-        // An option that reaches past the options, and a packet before the first interface.
-        (46, 9, NgFault::Block, 28),
-        (28, 3, NgFault::Block, 28),
-        // A packet of the old type, and one of another interface.
-        (60, 2, NgFault::Block, 60),
-        (68, 1, NgFault::Block, 60),
-        // A captured length that the block does not hold, one above 262144, 2^32 seconds, and another size at the end.
-        (80, 13, NgFault::Block, 60),
-        (82, 5, NgFault::Long, 60),
-        (74, 255, NgFault::Block, 60),
-        (100, 40, NgFault::Block, 60),
+    let files: [([&[u8]; 3], &[(usize, u8, Outcome)]); 4] = [
+        (
+            [&SECTION, &IN, &STAMPED],
+            &[
+                // No octet is another one.
+                (0, 0x0a, (1, None, 104)),
+                (8, 0x4e, (0, Some(NgFault::Magic), 0)),
+                (0, 1, (0, Some(NgFault::Magic), 0)),
+                (12, 2, (0, Some(NgFault::Version), 0)),
+                (4, 8, (0, Some(NgFault::Block), 0)),
+                (4, 30, (0, Some(NgFault::Block), 0)),
+                (24, 27, (0, Some(NgFault::Block), 0)),
+                (36, 113, (0, Some(NgFault::Link), 28)),
+                (32, 31, (0, Some(NgFault::Block), 28)),
+                // An option that reaches past the options, and a packet before the first interface.
+                (46, 9, (0, Some(NgFault::Block), 28)),
+                (28, 3, (0, Some(NgFault::Block), 28)),
+                // A packet of the old type, and one of another interface.
+                (60, 2, (0, Some(NgFault::Block), 60)),
+                (68, 1, (0, Some(NgFault::Block), 60)),
+                // A captured length that the block does not hold, one above 262144, 2^32 seconds, and another size at the end.
+                (80, 13, (0, Some(NgFault::Block), 60)),
+                (82, 5, (0, Some(NgFault::Long), 60)),
+                (74, 255, (0, Some(NgFault::Block), 60)),
+                (100, 40, (0, Some(NgFault::Block), 60)),
+            ],
+        ),
+        // Times in other units than those that are read.
+        (
+            [&SECTION, &NANO, &STAMPED],
+            &[
+                (48, 3, (0, Some(NgFault::Block), 28)),
+                (46, 2, (0, Some(NgFault::Block), 28)),
+            ],
+        ),
+        // Simple packets of too many octets, and a second interface of another link.
+        (
+            [&SECTION, &IN, &SIMPLE],
+            &[
+                (70, 5, (0, Some(NgFault::Long), 60)),
+                (68, 9, (0, Some(NgFault::Block), 60)),
+            ],
+        ),
+        (
+            [&SECTION, &IN, &IN],
+            &[(68, 1, (0, Some(NgFault::Link), 60))],
+        ),
     ];
-    for (place, octet, fault, offset) in rows {
-        assert_eq!(rt;
-            changed(rt, &stamped, place, octet)?,
-            (0, Some(fault), offset),
-            "{place}"
-        );
+    for (blocks, rows) in files {
+        for (place, octet, wanted) in rows {
+            assert_eq!(rt; changed(rt, &blocks, *place, *octet)?, *wanted, "{place}");
+        }
     }
-    // Times in other units than those that are read.
-    let nano: [&[u8]; 3] = [&SECTION, &NANO, &STAMPED];
-    assert_eq!(rt; changed(rt, &nano, 48, 3)?, (0, Some(NgFault::Block), 28));
-    assert_eq!(rt; changed(rt, &nano, 46, 2)?, (0, Some(NgFault::Block), 28));
-    // Simple packets of too many octets, and a second interface of another link.
-    let simple: [&[u8]; 3] = [&SECTION, &IN, &SIMPLE];
-    assert_eq!(rt; changed(rt, &simple, 70, 5)?, (0, Some(NgFault::Long), 60));
-    assert_eq!(rt; changed(rt, &simple, 68, 9)?, (0, Some(NgFault::Block), 60));
-    let twice: [&[u8]; 3] = [&SECTION, &IN, &IN];
-    assert_eq!(rt; changed(rt, &twice, 68, 1)?, (0, Some(NgFault::Link), 60));
     Ok(())
 }
 
@@ -342,23 +427,34 @@ fn a_file_that_is_cut_short_is_told(rt: HostRuntime) -> Result<(), Fail> {
     Ok(())
 }
 
+// Whether the source fails at the first packet, and the reader is not open behind it.
+fn fails(source: &mut MemSource, buf: &mut [u8]) -> Result<bool, NgFault>
+    requires { 262144 ≤ length buf.old }
+{
+    match NgReader::open(None, source) {
+        Ok(mut reader) => Ok(is_failed(&mut reader, source, buf)),
+        Err(fault) => Err(fault),
+    }
+}
+
+fn is_failed(reader: &mut NgReader, source: &mut MemSource, buf: &mut [u8]) -> bool
+    requires open { reader.old.is_open ≡ true }
+    requires room { 262144 ≤ length buf.old }
+{
+    matches!(reader.next(source, buf), Err(NgFault::ReadFault)) && !reader.is_open()
+}
+
+// Each call gives ten octets at most, and the fifteenth fails.
+fn failing(rt: HostRuntime) -> Result<(Result<bool, NgFault>, u64), Fail> {
+    let octets = joined(rt, &[&SECTION, &IN, &SIMPLE, &OTHER])?;
+    let mut buf = vec![in rt.alloc(); 0u8; 262144]?;
+    let mut source = MemSource::new(octets, 10, vec![in rt.alloc(); 15]?);
+    let failed = fails(&mut source, &mut buf);
+    Ok((failed, source.faults()))
+}
+
 #[test]
 fn a_source_that_fails_is_told(rt: HostRuntime) -> Result<(), Fail> {
-    let mut octets = Vec::new(rt.alloc());
-    for part in [
-        SECTION.as_slice(),
-        IN.as_slice(),
-        SIMPLE.as_slice(),
-        OTHER.as_slice(),
-    ] {
-        octets.extend_from_slice(part)?;
-    }
-    // Each call gives ten octets at most.
-    let mut source = MemSource::new(octets, 10, vec![in rt.alloc(); 15]?);
-    let mut reader = NgReader::open(None, &mut source)?;
-    let mut buf = vec![in rt.alloc(); 0u8; 262144]?;
-    assert!(rt; matches!(reader.next(&mut source, &mut buf), Err(NgFault::ReadFault)));
-    assert!(rt; !reader.is_open());
-    assert_eq!(rt; source.faults(), 1);
+    assert_eq!(rt; failing(rt)?, (Ok(true), 1));
     Ok(())
 }

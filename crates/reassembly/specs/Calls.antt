@@ -25,7 +25,7 @@ pub record Gathered : Type 0 where
 
 -- pieces of the same datagram
 abbrev pub is_id : DatagramId → DatagramId → Bool
-is_id a b = (a.src.0 == b.src.0) && (a.dst.0 == b.dst.0) && (a.protocol == b.protocol) && (a.ident == b.ident)
+is_id a b = (a.src.0 == b.src.0) && (a.dst.0 == b.dst.0) && (a.protocol.0 == b.protocol.0) && (a.ident == b.ident)
 
 -- the datagrams but for this one
 abbrev pub of_others : DatagramId → List Gathered → List Gathered

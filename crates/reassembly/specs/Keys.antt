@@ -5,4 +5,4 @@ use Rattle.linked_table.specs.Hashes.{hash_of_words}
 
 -- the seed, and then the source with the identification, and the destination with the protocol
 abbrev pub hash_of : DatagramId → ℕ → ℕ
-hash_of id seed = hash_of_words seed (id.src.0 * 65536 + id.ident) (id.dst.0 * 65536 + id.protocol)
+hash_of id seed = hash_of_words seed (id.src.0 * 65536 + id.ident) (id.dst.0 * 65536 + id.protocol.0)

@@ -12,7 +12,7 @@ use Rattle.reassembly.specs.Rows.{view_of, offered_at, call_of}
 -- a piece with TTL 64
 abbrev pub part : (ident offset : ℕ) → (more : Bool) → List ℕ → Fragment
 part ident offset more octets =
-    record { id = record { src = record { 0 = 3325256711 }; dst = record { 0 = 167772161 }; protocol = 17; ident = ident }; offset = offset; more = more; df = false; tos = 0; ttl = 64; octets = octets }
+    record { id = record { src = record { 0 = 3325256711 }; dst = record { 0 = 167772161 }; protocol = record { 0 = 17 }; ident = ident }; offset = offset; more = more; df = false; tos = 0; ttl = 64; octets = octets }
 
 -- something that is asked at a time: that a piece be taken, or that old datagrams be forgotten
 pub data Asked : Type 0 where

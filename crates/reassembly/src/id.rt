@@ -4,14 +4,14 @@ ghost use Rattle.std.proofs.Common.{rules};
 ghost use Rattle.reassembly.specs.Keys.{hash_of};
 
 use linked_table::{Key, hash_words};
-use wire_base::Addr;
+use wire_base::{Addr, Protocol};
 
 /// What the pieces of one datagram have in common (RFC 791 section 3.2).
 #[derive(Clone, Copy, PartialEq, Eq)]
 pub struct DatagramId {
     pub src: Addr,
     pub dst: Addr,
-    pub protocol: u8,
+    pub protocol: Protocol,
     pub ident: u16,
 }
 
@@ -28,7 +28,7 @@ impl Key for DatagramId {
     fn hash_with(&self, seed: u64) -> u64 {
         let id = *self;
         let from = joined(id.src, id.ident);
-        let to = joined(id.dst, u16::from(id.protocol));
+        let to = joined(id.dst, u16::from(id.protocol.0));
         hash_words(seed, from, to)
     }
 

@@ -4,14 +4,14 @@ ghost use Rattle.reassembly.specs.Pieces.{fragment_of, end_of, IsPiece};
 
 use crate::id::DatagramId;
 use rule_book::Rule;
-use wire_base::Addr;
+use wire_base::{Addr, Protocol};
 
 /// A fragment of a datagram (RFC 791 section 3.2).
 #[derive(Clone, Copy)]
 pub struct Piece<'a> {
     pub src: Addr,
     pub dst: Addr,
-    pub protocol: u8,
+    pub protocol: Protocol,
     pub ident: u16,
     /// Where its octets begin in the datagram, in octets.
     pub offset: u32,

@@ -7,7 +7,7 @@ use arrayvec::ArrayVec;
 use norm_settings::Settings;
 use rule_book::Rule;
 use std::test::Fail;
-use wire_base::Addr;
+use wire_base::{Addr, Protocol};
 
 // A UDP message: its header and 16 octets.
 const WHOLE: [u8; 24] = [
@@ -29,7 +29,7 @@ fn part(ident: u16, offset: u32, more: bool, ttl: u8, bytes: &[u8]) -> Piece<'_>
     Piece {
         src: Addr(0xc6336407),
         dst: Addr(0x0a000001),
-        protocol: 17,
+        protocol: Protocol::UDP,
         ident,
         offset,
         more,

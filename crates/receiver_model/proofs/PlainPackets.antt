@@ -3,6 +3,7 @@ use Rattle.std.proofs.Common.{◌≡◌, ◌↔◌, ◌⊎◌, inl, inr, ℕ, �
 use Rattle.std.proofs.lemmas.Bool.{eqb-true, not-true}
 use Rattle.std.proofs.lemmas.Bool.Decides.{nat_tests}
 use Rattle.std.proofs.lemmas.List.{drop_all}
+use Rattle.wire_base.specs.Reading.{value_or_fault}
 use Rattle.wire_base.specs.Ipv4 as ip
 use Rattle.wire_base.specs.Udp as udp
 use Rattle.wire_base.specs.Tcp as tcp
@@ -45,7 +46,7 @@ both true b e = (refl, e)
 both false b e = cc
 
 -- a header that was read: its fields, and no fault
-tcp-read : (fields head : Tcp) (fault : Option TcpFault) → Ok head ≡ tcp_header.result_of fields fault → (head ≡ fields) × (fault ≡ None)
+tcp-read : (fields head : Tcp) (fault : Option TcpFault) → Ok head ≡ value_or_fault fields fault → (head ≡ fields) × (fault ≡ None)
 tcp-read fields head None e = (cc, refl)
 tcp-read fields head (Some f) e = cc
 
@@ -106,7 +107,7 @@ tcp-sound p head e bare kept =
 pub tcp-reads : (p : List ℕ) → IsPlainTcp p → tcp_header.parsed Must (pseudo_of p) (ip.payload p) ≡ Ok (tcp_header.fields_of (pseudo_of p) (ip.payload p))
 tcp-reads p t =
     let m = ip.payload p in
-    ap (tcp_header.result_of (tcp_header.fields_of (pseudo_of p) m)) (fault_of-options Must (pseudo_of p) m true t.whole_header t.data_offset t.inside (ap not t.sum) t.flags t.options)
+    ap (value_or_fault (tcp_header.fields_of (pseudo_of p) m)) (fault_of-options Must (pseudo_of p) m true t.whole_header t.data_offset t.inside (ap not t.sum) t.flags t.options)
 
 pub tcp-bare : (p : List ℕ) → IsPlainTcp p → is_bare (tcp_header.fields_of (pseudo_of p) (ip.payload p)) (length (ip.payload p)) ≡ true
 tcp-bare p t =
@@ -180,7 +181,7 @@ udp-decides p m pseudo result e f r =
     )
 
 -- what is summed before a message, of the fields that were read
-pub pseudo_is : (p m : List ℕ) (head : Ipv4) → ip.payload p ≡ m → head ≡ ip_header.fields_of p → pseudo_of p ≡ pseudo_sum head.src.0 head.dst.0 head.protocol (length m)
+pub pseudo_is : (p m : List ℕ) (head : Ipv4) → ip.payload p ≡ m → head ≡ ip_header.fields_of p → pseudo_of p ≡ pseudo_sum head.src.0 head.dst.0 head.protocol.0 (length m)
 pseudo_is p m head e fields =
     let back : ip_header.fields_of p ≡ head = sym fields in
-    λ i. pseudo_sum (back i).src.0 (back i).dst.0 (back i).protocol (length (e i))
+    λ i. pseudo_sum (back i).src.0 (back i).dst.0 (back i).protocol.0 (length (e i))

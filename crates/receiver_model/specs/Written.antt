@@ -20,7 +20,7 @@ pub record IsPlainSegment (s : Segment) : Type 0 where
 
 -- the header of a packet that carries the segment between its addresses
 pub record Carries (head : Ipv4) (s : Segment) : Type 0 where
-  pub protocol : head.protocol ≡ 6
+  pub protocol : head.protocol.0 ≡ 6
   pub source : head.src.0 ≡ s.source
   pub destination : head.dst.0 ≡ s.destination
 

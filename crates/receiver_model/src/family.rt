@@ -11,6 +11,7 @@ use crate::stream::Stream;
 use edge_io::NoMemory;
 use std::alloc::Global;
 use std::marker::Model;
+use wire_base::SeqNumber;
 
 /// A stream of each policy.
 #[derive(Drop)]
@@ -32,7 +33,7 @@ impl Model for Family {
 impl Family {
     /// Four receivers that took nothing; `base` is the sequence number of the octet at offset 0, and the streams begin at the
     /// offset `start`.
-    pub fn open(alloc: Global, base: u32, start: u32) -> Result<Family, NoMemory>
+    pub fn open(alloc: Global, base: SeqNumber, start: u32) -> Result<Family, NoMemory>
         ensures fresh { IfOk result (λ f. f ≡ fresh_family base start) }
         ensures stands { IfOk result (λ f. (distance : ℕ) → AllStandFor distance base start f []) }
     {

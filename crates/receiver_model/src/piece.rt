@@ -5,12 +5,13 @@ ghost use Rattle.receiver_model.specs.Policies.{is_near, octet_for, brought};
 
 use crate::policy::Waiting;
 use std::marker::Model;
+use wire_base::SeqNumber;
 
 /// A segment's octets, the sequence number of the first one, and the offset at which the stream went on when it came.
 #[derive(Drop)]
 pub(crate) struct Piece {
     pub next: u64,
-    pub sequence: u32,
+    pub sequence: SeqNumber,
     pub octets: Vec<u8>,
 }
 
@@ -25,21 +26,16 @@ impl Model for Piece {
     ghost invariant = { λ p. (length p.octets.items < 2 ^ 32) × (p.next < 2 ^ 63 + 2 ^ 32) };
 }
 
-/// One turn of sequence numbers.
-const TURN: u64 = 1 << 32;
-
 /// Half a turn of sequence numbers.
 pub(crate) const HALF: u64 = 1 << 31;
 
 /// The offset for which a sequence number stands, counted from half a turn below 0.
-pub(crate) fn raised_offset(base: u32, next: u64, number: u64) -> u64
-    requires next { next < 2 ^ 63 + 2 ^ 32 }
-    requires number { number < 2 ^ 33 }
+pub(crate) fn raised_offset(base: SeqNumber, next: u64, number: SeqNumber) -> u64
+    requires { next < 2 ^ 63 + 2 ^ 32 }
     ensures value { result ≡ raised_of base next number }
     ensures near { result < next + 2 ^ 32 }
 {
-    let before = u64::from(base) + next % TURN;
-    next + (number + 2 * TURN + HALF - before) % TURN
+    next + number.plus(HALF).places_behind(base.plus(next))
 }
 
 // The offset lies within half a turn of the next one.
@@ -54,23 +50,22 @@ fn is_near(next: u64, offset: u64) -> bool
 }
 
 impl Piece {
-    fn octet_at(&self, base: u32, offset: u64) -> Option<u8>
+    fn octet_at(&self, base: SeqNumber, offset: u64) -> Option<u8>
         ensures { result ≡ octet_for base self.now (pos offset) }
     {
         if !is_near(self.next, offset) {
             return None;
         }
-        let sequence = self.sequence;
-        let at = (offset % TURN + u64::from(base) + TURN - u64::from(sequence)) % TURN;
+        let at = base.plus(offset).places_behind(self.sequence);
         self.octets.get(at as usize).copied()
     }
 
     /// The octet for an offset as it waits.
-    pub fn waiting_at(&self, base: u32, offset: u64) -> Option<Waiting>
+    pub fn waiting_at(&self, base: SeqNumber, offset: u64) -> Option<Waiting>
         ensures { result ≡ brought base self.now (pos offset) }
     {
         let octet = self.octet_at(base, offset)?;
-        let begin = raised_offset(base, self.next, u64::from(self.sequence));
+        let begin = raised_offset(base, self.next, self.sequence);
         let end = begin + self.octets.len() as u64;
         Some(Waiting { octet, begin, end })
     }

@@ -8,20 +8,13 @@ ghost use Rattle.receiver_model.specs.Tests as test;
 
 use ipv4_codec::Ipv4;
 use tcp_codec::{SumRule, Tcp, clean_options};
-use wire_base::pseudo_sum;
+use wire_base::{Protocol, pseudo_sum};
 
 // The octets of a header without options, of IP and of TCP (RFC 791 section 3.1, RFC 9293 section 3.1), and the most that the
 // options of a TCP header have.
 const HEADER: usize = 20;
 
 const OPTIONS: usize = 40;
-
-// The numbers of the protocols that are read.
-const ICMP: u8 = 1;
-
-const TCP: u8 = 6;
-
-const UDP: u8 = 17;
 
 /// Whether each host behind at most `hops` routers gets this packet and reads it as its fields say (this project's profile).
 pub fn plain(hops: u8, bytes: &[u8]) -> bool
@@ -68,9 +61,9 @@ fn is_plain_message(head: &Ipv4, bytes: &[u8]) -> bool
     let message = &bytes[HEADER..];
     let pseudo = pseudo_sum(head.src, head.dst, head.protocol, message.len() as u16);
     match head.protocol {
-        ICMP => icmp_codec::parse(message).is_ok(),
-        TCP => is_plain_tcp(message, pseudo),
-        UDP => udp_codec::parse(message, pseudo).is_ok(),
+        Protocol::ICMP => icmp_codec::parse(message).is_ok(),
+        Protocol::TCP => is_plain_tcp(message, pseudo),
+        Protocol::UDP => udp_codec::parse(message, pseudo).is_ok(),
         _ => false,
     }
 }

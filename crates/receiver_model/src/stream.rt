@@ -15,6 +15,7 @@ use crate::segment::read_plain;
 use edge_io::NoMemory;
 use std::alloc::Global;
 use std::marker::Model;
+use wire_base::SeqNumber;
 
 /// A receiver of one connection's octets. `base` is the sequence number of the octet at offset 0, and the stream begins
 /// at the offset `start`. Octets that wait are never forgotten, so that each look-up goes over all segments that were taken.
@@ -22,7 +23,7 @@ use std::marker::Model;
 pub struct Stream {
     alloc: Global,
     policy: Policy,
-    base: u32,
+    base: SeqNumber,
     start: u32,
     pieces: Vec<Piece>,
     octets: Vec<u8>,
@@ -48,7 +49,7 @@ impl Model for Stream {
 }
 
 // What waits for an offset after these segments.
-fn waiting_in(policy: Policy, base: u32, pieces: &[Piece], offset: u64) -> Option<Waiting>
+fn waiting_in(policy: Policy, base: SeqNumber, pieces: &[Piece], offset: u64) -> Option<Waiting>
     ensures { result ≡ waiting_after policy base pieces.now (pos offset) }
 {
     pieces.iter().fold(None, |waiting, piece| {
@@ -59,7 +60,7 @@ fn waiting_in(policy: Policy, base: u32, pieces: &[Piece], offset: u64) -> Optio
 // The same after one more.
 fn waiting_with(
     policy: Policy,
-    base: u32,
+    base: SeqNumber,
     pieces: &[Piece],
     new: &Piece,
     offset: u64,
@@ -77,7 +78,7 @@ fn extend(
     octets: &mut Vec<u8>,
     start: u32,
     policy: Policy,
-    base: u32,
+    base: SeqNumber,
     pieces: &[Piece],
     new: &Piece,
 ) -> Result<(), NoMemory>
@@ -100,7 +101,12 @@ fn extend(
 
 impl Stream {
     /// A receiver that took nothing.
-    pub fn open(alloc: Global, policy: Policy, base: u32, start: u32) -> Result<Stream, NoMemory>
+    pub fn open(
+        alloc: Global,
+        policy: Policy,
+        base: SeqNumber,
+        start: u32,
+    ) -> Result<Stream, NoMemory>
         ensures fresh { IfOk result (λ s. s ≡ fresh policy base start) }
         ensures stands { IfOk result (λ s. (distance : ℕ) → StandsFor distance s []) }
     {
@@ -132,7 +138,7 @@ impl Stream {
         self.put(segment.seq, segment.flags.fin(), &bytes[segment.start..])
     }
 
-    fn put(&mut self, sequence: u32, has_fin: bool, payload: &[u8]) -> Result<(), NoMemory>
+    fn put(&mut self, sequence: SeqNumber, has_fin: bool, payload: &[u8]) -> Result<(), NoMemory>
         requires { length payload.now < 2 ^ 32 }
         ensures taken { let taken : Taken = record { next = next_of self.old; sequence = sequence; octets = payload.now } in
             OnOk result (Takes taken has_fin self.old self.new) }
@@ -155,7 +161,7 @@ impl Stream {
             &piece,
         )?;
         self.pieces.push_reserved(piece);
-        let end = u64::from(sequence) + payload.len() as u64;
+        let end = sequence.plus(payload.len() as u64);
         let place = raised_offset(self.base, next, end);
         self.fin = self.fin.or(has_fin.then_some(place));
         let behind = u64::from(self.start) + self.octets.len() as u64;

@@ -1,14 +1,10 @@
 //! Worked packets that are plain or nearly so, and what each policy delivers of small overlaps.
-ghost use Rattle.std.specs.Prelude.{◌≡◌};
-ghost use Rattle.wire_base.specs.Ipv4 as ip;
-ghost use Rattle.wire_base.specs.Plain.{Plain};
-
 use crate::{Family, Policy, Segment, Stream, plain, read_plain};
 use edge_io::NoMemory;
 use std::alloc::Global;
 use std::process::Abort;
 use std::test::Fail;
-use wire_base::{Addr, Flags};
+use wire_base::{Addr, Flags, SeqNumber};
 
 // Segments from 198.51.100.7 port 40000 to 10.0.0.1 port 80, PSH ACK, with the acknowledgment 5001 and the window 8192.
 
@@ -67,29 +63,30 @@ fn changed(octets: &[(usize, u8)]) -> [u8; 44] {
 
 // Routers; another protocol; wrong sums; reserved flag, more fragments, an offset, don't fragment; a total length of one octet
 // less; URG, urgent pointer, reserved bits; no flag that goes alone. The sums are right but where they are what is wrong.
+const MARKS: [(&[(usize, u8)], u8, bool); 15] = [
+    (&[], 30, true),
+    (&[], 63, true),
+    (&[], 64, false),
+    (&[(9, 2), (11, 0x94)], 30, false),
+    (&[(11, 0x91)], 30, false),
+    (&[(37, 0xc5)], 30, false),
+    (&[(6, 0x80), (10, 0xc6), (11, 0x8f)], 30, false),
+    (&[(6, 0x20), (10, 0x26)], 30, false),
+    (&[(7, 1), (11, 0x8f)], 30, false),
+    (&[(6, 0x40), (10, 0x06)], 30, true),
+    (&[(3, 0x2b), (11, 0x91)], 30, false),
+    (&[(33, 0x38), (37, 0xa4)], 30, false),
+    (&[(37, 0xc3), (39, 1)], 30, false),
+    (&[(32, 0x51), (36, 0xe1)], 30, false),
+    (&[(33, 0x08), (37, 0xd4)], 30, false),
+];
+
 #[test]
 fn a_plain_packet_has_no_mark(rt: HostRuntime) {
-    let rows: [(&[(usize, u8)], u8, bool); 15] = [
-        (&[], 30, true),
-        (&[], 63, true),
-        (&[], 64, false),
-        (&[(9, 2), (11, 0x94)], 30, false),
-        (&[(11, 0x91)], 30, false),
-        (&[(37, 0xc5)], 30, false),
-        (&[(6, 0x80), (10, 0xc6), (11, 0x8f)], 30, false),
-        (&[(6, 0x20), (10, 0x26)], 30, false),
-        (&[(7, 1), (11, 0x8f)], 30, false),
-        (&[(6, 0x40), (10, 0x06)], 30, true),
-        (&[(3, 0x2b), (11, 0x91)], 30, false),
-        (&[(33, 0x38), (37, 0xa4)], 30, false),
-        (&[(37, 0xc3), (39, 1)], 30, false),
-        (&[(32, 0x51), (36, 0xe1)], 30, false),
-        (&[(33, 0x08), (37, 0xd4)], 30, false),
-    ];
-    for (octets, hops, expected) in rows {
+    for (octets, hops, expected) in &MARKS {
         assert_eq!(rt;
-            plain(hops, &changed(octets)),
-            expected,
+            plain(*hops, &changed(octets)),
+            *expected,
             "{octets:?} and {hops}"
         );
     }
@@ -99,110 +96,111 @@ fn a_plain_packet_has_no_mark(rt: HostRuntime) {
 
 // A SYN, and with an octet; a RST with one; a segment size on a SYN, and without it; an octet after the end option; an option of
 // IP; UDP with a right checksum, none and a wrong one; an echo with a right and a wrong sum.
+const MESSAGES: [(&[u8], bool); 12] = [
+    (
+        &[
+            0x45, 0x00, 0x00, 0x28, 0x00, 0x01, 0x00, 0x00, 0x40, 0x06, 0x46, 0x94, 0xc6, 0x33,
+            0x64, 0x07, 0x0a, 0x00, 0x00, 0x01, 0x9c, 0x40, 0x00, 0x50, 0x00, 0x00, 0x03, 0xe7,
+            0x00, 0x00, 0x00, 0x00, 0x50, 0x02, 0x20, 0x00, 0xbb, 0x2f, 0x00, 0x00,
+        ],
+        true,
+    ),
+    (
+        &[
+            0x45, 0x00, 0x00, 0x29, 0x00, 0x01, 0x00, 0x00, 0x40, 0x06, 0x46, 0x93, 0xc6, 0x33,
+            0x64, 0x07, 0x0a, 0x00, 0x00, 0x01, 0x9c, 0x40, 0x00, 0x50, 0x00, 0x00, 0x03, 0xe7,
+            0x00, 0x00, 0x00, 0x00, 0x50, 0x02, 0x20, 0x00, 0x5a, 0x2e, 0x00, 0x00, 0x61,
+        ],
+        false,
+    ),
+    (
+        &[
+            0x45, 0x00, 0x00, 0x29, 0x00, 0x01, 0x00, 0x00, 0x40, 0x06, 0x46, 0x93, 0xc6, 0x33,
+            0x64, 0x07, 0x0a, 0x00, 0x00, 0x01, 0x9c, 0x40, 0x00, 0x50, 0x00, 0x00, 0x03, 0xe8,
+            0x00, 0x00, 0x13, 0x89, 0x50, 0x04, 0x20, 0x00, 0x46, 0xa2, 0x00, 0x00, 0x61,
+        ],
+        false,
+    ),
+    (
+        &[
+            0x45, 0x00, 0x00, 0x2c, 0x00, 0x01, 0x00, 0x00, 0x40, 0x06, 0x46, 0x90, 0xc6, 0x33,
+            0x64, 0x07, 0x0a, 0x00, 0x00, 0x01, 0x9c, 0x40, 0x00, 0x50, 0x00, 0x00, 0x03, 0xe7,
+            0x00, 0x00, 0x00, 0x00, 0x60, 0x02, 0x20, 0x00, 0xa3, 0x73, 0x00, 0x00, 0x02, 0x04,
+            0x05, 0xb4,
+        ],
+        true,
+    ),
+    (
+        &[
+            0x45, 0x00, 0x00, 0x2d, 0x00, 0x01, 0x00, 0x00, 0x40, 0x06, 0x46, 0x8f, 0xc6, 0x33,
+            0x64, 0x07, 0x0a, 0x00, 0x00, 0x01, 0x9c, 0x40, 0x00, 0x50, 0x00, 0x00, 0x03, 0xe8,
+            0x00, 0x00, 0x13, 0x89, 0x60, 0x18, 0x20, 0x00, 0x2e, 0xd2, 0x00, 0x00, 0x02, 0x04,
+            0x05, 0xb4, 0x61,
+        ],
+        false,
+    ),
+    (
+        &[
+            0x45, 0x00, 0x00, 0x2c, 0x00, 0x01, 0x00, 0x00, 0x40, 0x06, 0x46, 0x90, 0xc6, 0x33,
+            0x64, 0x07, 0x0a, 0x00, 0x00, 0x01, 0x9c, 0x40, 0x00, 0x50, 0x00, 0x00, 0x03, 0xe8,
+            0x00, 0x00, 0x13, 0x89, 0x60, 0x18, 0x20, 0x00, 0x96, 0x83, 0x00, 0x00, 0x01, 0x01,
+            0x00, 0x07,
+        ],
+        false,
+    ),
+    (
+        &[
+            0x46, 0x00, 0x00, 0x30, 0x00, 0x01, 0x00, 0x00, 0x40, 0x06, 0x43, 0x8a, 0xc6, 0x33,
+            0x64, 0x07, 0x0a, 0x00, 0x00, 0x01, 0x01, 0x01, 0x01, 0x01, 0x9c, 0x40, 0x00, 0x50,
+            0x00, 0x00, 0x03, 0xe8, 0x00, 0x00, 0x13, 0x89, 0x50, 0x18, 0x20, 0x00, 0xe2, 0xc4,
+            0x00, 0x00, 0x61, 0x62, 0x63, 0x64,
+        ],
+        false,
+    ),
+    (
+        &[
+            0x45, 0x00, 0x00, 0x1e, 0x00, 0x01, 0x00, 0x00, 0x40, 0x11, 0x46, 0x93, 0xc6, 0x33,
+            0x64, 0x07, 0x0a, 0x00, 0x00, 0x01, 0x9c, 0x40, 0x00, 0x35, 0x00, 0x0a, 0xc6, 0xbf,
+            0x68, 0x69,
+        ],
+        true,
+    ),
+    (
+        &[
+            0x45, 0x00, 0x00, 0x1e, 0x00, 0x01, 0x00, 0x00, 0x40, 0x11, 0x46, 0x93, 0xc6, 0x33,
+            0x64, 0x07, 0x0a, 0x00, 0x00, 0x01, 0x9c, 0x40, 0x00, 0x35, 0x00, 0x0a, 0x00, 0x00,
+            0x68, 0x69,
+        ],
+        true,
+    ),
+    (
+        &[
+            0x45, 0x00, 0x00, 0x1e, 0x00, 0x01, 0x00, 0x00, 0x40, 0x11, 0x46, 0x93, 0xc6, 0x33,
+            0x64, 0x07, 0x0a, 0x00, 0x00, 0x01, 0x9c, 0x40, 0x00, 0x35, 0x00, 0x0a, 0xc6, 0xbe,
+            0x68, 0x69,
+        ],
+        false,
+    ),
+    (
+        &[
+            0x45, 0x00, 0x00, 0x1c, 0x00, 0x01, 0x00, 0x00, 0x40, 0x01, 0x46, 0xa5, 0xc6, 0x33,
+            0x64, 0x07, 0x0a, 0x00, 0x00, 0x01, 0x08, 0x00, 0xf7, 0xfd, 0x00, 0x01, 0x00, 0x01,
+        ],
+        true,
+    ),
+    (
+        &[
+            0x45, 0x00, 0x00, 0x1c, 0x00, 0x01, 0x00, 0x00, 0x40, 0x01, 0x46, 0xa5, 0xc6, 0x33,
+            0x64, 0x07, 0x0a, 0x00, 0x00, 0x01, 0x08, 0x00, 0xf7, 0xfe, 0x00, 0x01, 0x00, 0x01,
+        ],
+        false,
+    ),
+];
+
 #[test]
 fn a_plain_packet_has_a_plain_message(rt: HostRuntime) {
-    let rows: [(&[u8], bool); 12] = [
-        (
-            &[
-                0x45, 0x00, 0x00, 0x28, 0x00, 0x01, 0x00, 0x00, 0x40, 0x06, 0x46, 0x94, 0xc6, 0x33,
-                0x64, 0x07, 0x0a, 0x00, 0x00, 0x01, 0x9c, 0x40, 0x00, 0x50, 0x00, 0x00, 0x03, 0xe7,
-                0x00, 0x00, 0x00, 0x00, 0x50, 0x02, 0x20, 0x00, 0xbb, 0x2f, 0x00, 0x00,
-            ],
-            true,
-        ),
-        (
-            &[
-                0x45, 0x00, 0x00, 0x29, 0x00, 0x01, 0x00, 0x00, 0x40, 0x06, 0x46, 0x93, 0xc6, 0x33,
-                0x64, 0x07, 0x0a, 0x00, 0x00, 0x01, 0x9c, 0x40, 0x00, 0x50, 0x00, 0x00, 0x03, 0xe7,
-                0x00, 0x00, 0x00, 0x00, 0x50, 0x02, 0x20, 0x00, 0x5a, 0x2e, 0x00, 0x00, 0x61,
-            ],
-            false,
-        ),
-        (
-            &[
-                0x45, 0x00, 0x00, 0x29, 0x00, 0x01, 0x00, 0x00, 0x40, 0x06, 0x46, 0x93, 0xc6, 0x33,
-                0x64, 0x07, 0x0a, 0x00, 0x00, 0x01, 0x9c, 0x40, 0x00, 0x50, 0x00, 0x00, 0x03, 0xe8,
-                0x00, 0x00, 0x13, 0x89, 0x50, 0x04, 0x20, 0x00, 0x46, 0xa2, 0x00, 0x00, 0x61,
-            ],
-            false,
-        ),
-        (
-            &[
-                0x45, 0x00, 0x00, 0x2c, 0x00, 0x01, 0x00, 0x00, 0x40, 0x06, 0x46, 0x90, 0xc6, 0x33,
-                0x64, 0x07, 0x0a, 0x00, 0x00, 0x01, 0x9c, 0x40, 0x00, 0x50, 0x00, 0x00, 0x03, 0xe7,
-                0x00, 0x00, 0x00, 0x00, 0x60, 0x02, 0x20, 0x00, 0xa3, 0x73, 0x00, 0x00, 0x02, 0x04,
-                0x05, 0xb4,
-            ],
-            true,
-        ),
-        (
-            &[
-                0x45, 0x00, 0x00, 0x2d, 0x00, 0x01, 0x00, 0x00, 0x40, 0x06, 0x46, 0x8f, 0xc6, 0x33,
-                0x64, 0x07, 0x0a, 0x00, 0x00, 0x01, 0x9c, 0x40, 0x00, 0x50, 0x00, 0x00, 0x03, 0xe8,
-                0x00, 0x00, 0x13, 0x89, 0x60, 0x18, 0x20, 0x00, 0x2e, 0xd2, 0x00, 0x00, 0x02, 0x04,
-                0x05, 0xb4, 0x61,
-            ],
-            false,
-        ),
-        (
-            &[
-                0x45, 0x00, 0x00, 0x2c, 0x00, 0x01, 0x00, 0x00, 0x40, 0x06, 0x46, 0x90, 0xc6, 0x33,
-                0x64, 0x07, 0x0a, 0x00, 0x00, 0x01, 0x9c, 0x40, 0x00, 0x50, 0x00, 0x00, 0x03, 0xe8,
-                0x00, 0x00, 0x13, 0x89, 0x60, 0x18, 0x20, 0x00, 0x96, 0x83, 0x00, 0x00, 0x01, 0x01,
-                0x00, 0x07,
-            ],
-            false,
-        ),
-        (
-            &[
-                0x46, 0x00, 0x00, 0x30, 0x00, 0x01, 0x00, 0x00, 0x40, 0x06, 0x43, 0x8a, 0xc6, 0x33,
-                0x64, 0x07, 0x0a, 0x00, 0x00, 0x01, 0x01, 0x01, 0x01, 0x01, 0x9c, 0x40, 0x00, 0x50,
-                0x00, 0x00, 0x03, 0xe8, 0x00, 0x00, 0x13, 0x89, 0x50, 0x18, 0x20, 0x00, 0xe2, 0xc4,
-                0x00, 0x00, 0x61, 0x62, 0x63, 0x64,
-            ],
-            false,
-        ),
-        (
-            &[
-                0x45, 0x00, 0x00, 0x1e, 0x00, 0x01, 0x00, 0x00, 0x40, 0x11, 0x46, 0x93, 0xc6, 0x33,
-                0x64, 0x07, 0x0a, 0x00, 0x00, 0x01, 0x9c, 0x40, 0x00, 0x35, 0x00, 0x0a, 0xc6, 0xbf,
-                0x68, 0x69,
-            ],
-            true,
-        ),
-        (
-            &[
-                0x45, 0x00, 0x00, 0x1e, 0x00, 0x01, 0x00, 0x00, 0x40, 0x11, 0x46, 0x93, 0xc6, 0x33,
-                0x64, 0x07, 0x0a, 0x00, 0x00, 0x01, 0x9c, 0x40, 0x00, 0x35, 0x00, 0x0a, 0x00, 0x00,
-                0x68, 0x69,
-            ],
-            true,
-        ),
-        (
-            &[
-                0x45, 0x00, 0x00, 0x1e, 0x00, 0x01, 0x00, 0x00, 0x40, 0x11, 0x46, 0x93, 0xc6, 0x33,
-                0x64, 0x07, 0x0a, 0x00, 0x00, 0x01, 0x9c, 0x40, 0x00, 0x35, 0x00, 0x0a, 0xc6, 0xbe,
-                0x68, 0x69,
-            ],
-            false,
-        ),
-        (
-            &[
-                0x45, 0x00, 0x00, 0x1c, 0x00, 0x01, 0x00, 0x00, 0x40, 0x01, 0x46, 0xa5, 0xc6, 0x33,
-                0x64, 0x07, 0x0a, 0x00, 0x00, 0x01, 0x08, 0x00, 0xf7, 0xfd, 0x00, 0x01, 0x00, 0x01,
-            ],
-            true,
-        ),
-        (
-            &[
-                0x45, 0x00, 0x00, 0x1c, 0x00, 0x01, 0x00, 0x00, 0x40, 0x01, 0x46, 0xa5, 0xc6, 0x33,
-                0x64, 0x07, 0x0a, 0x00, 0x00, 0x01, 0x08, 0x00, 0xf7, 0xfe, 0x00, 0x01, 0x00, 0x01,
-            ],
-            false,
-        ),
-    ];
-    for (packet, expected) in rows {
-        assert_eq!(rt; plain(30, packet), expected, "{packet:?}");
+    for (packet, expected) in &MESSAGES {
+        assert_eq!(rt; plain(30, packet), *expected, "{packet:?}");
     }
 }
 
@@ -213,8 +211,8 @@ fn a_segment_is_read_by_its_fields(rt: HostRuntime) {
         dst: Addr(0x0a00_0001),
         sport: 40000,
         dport: 80,
-        seq: 1000,
-        ack: 5001,
+        seq: SeqNumber::new(1000),
+        ack: SeqNumber::new(5001),
         flags: Flags(0x18),
         window: 8192,
         start: 40,
@@ -222,137 +220,218 @@ fn a_segment_is_read_by_its_fields(rt: HostRuntime) {
     assert_eq!(rt; read_plain(&ABCD), segment);
 }
 
-#[test]
-fn a_stream_takes_a_segment(rt: HostRuntime) -> Result<(), Fail> {
-    let mut stream = Stream::open(rt.alloc(), Policy::First, 1000, 0)?;
-    assert!(rt; plain(0, &ABCD));
-    assert_eq!(rt; ABCD[9], 6);
-    stream.take(&ABCD)?;
-    assert_eq!(rt; stream.octets(), b"abcd".as_slice());
+/// Gives a stream a packet that is plain and holds a segment of TCP.
+fn give(rt: &impl Abort, stream: &mut Stream, packet: &[u8]) -> Result<(), NoMemory> {
+    assert!(rt; plain(0, packet));
+    assert_eq!(rt; packet[9], 6);
+    stream.take(packet)
+}
+
+/// The policy of a stream, its base and its begin.
+#[derive(Clone, Copy)]
+struct Begin {
+    policy: Policy,
+    base: u32,
+    start: u32,
+}
+
+/// A stream that was opened so and takes these packets, one after another, delivers these octets.
+fn follow(
+    rt: &impl Abort,
+    stream: &mut Stream,
+    begin: &Begin,
+    packets: &[&[u8]],
+    want: &[u8],
+) -> Result<(), NoMemory> {
+    for packet in packets {
+        give(rt, stream, packet)?;
+    }
+    assert_eq!(rt;
+        stream.octets(),
+        want,
+        "{:?} from {}",
+        begin.policy,
+        begin.start
+    );
     assert!(rt; !stream.ended());
     Ok(())
 }
 
-// The base is the number 1003, so that `abcd` begins 3 below it: a stream that begins there reads it before the turn, one at 0 below its begin.
-#[test]
-fn numbers_are_read_where_the_stream_goes_on(rt: HostRuntime) -> Result<(), Fail> {
-    let alloc = rt.alloc();
-    let mut late = Stream::open(alloc, Policy::First, 1003, 4_294_967_293)?;
-    let mut early = Stream::open(alloc, Policy::First, 1003, 0)?;
-    assert!(rt; plain(0, &ABCD));
-    assert_eq!(rt; ABCD[9], 6);
-    late.take(&ABCD)?;
-    early.take(&ABCD)?;
-    assert_eq!(rt; late.octets(), b"abcd".as_slice());
-    assert_eq!(rt; early.octets(), b"d".as_slice());
-    Ok(())
-}
-
-/// What a stream of this policy, with this base and begin, delivers of two segments that come ahead of the first octet, `a`.
-fn delivered(
-    alloc: Global,
-    policy: Policy,
-    base: u32,
-    start: u32,
-    one: &[u8],
-    two: &[u8],
-) -> Result<Stream, NoMemory>
-    requires one_plain { Plain 0 one.now }
-    requires one_tcp { ip.protocol one.now ≡ 6 }
-    requires two_plain { Plain 0 two.now }
-    requires two_tcp { ip.protocol two.now ≡ 6 }
-{
-    let mut stream = Stream::open(alloc, policy, base, start)?;
-    stream.take(one)?;
-    stream.take(two)?;
-    stream.take(&A)?;
-    Ok(stream)
-}
-
-/// The streams of the four policies, in their order, deliver these, from their base on, and where the octets pass offset 2^32.
+/// So does a new one.
 fn deliver(
     rt: &impl Abort,
     alloc: Global,
-    one: &[u8],
-    two: &[u8],
-    want: [&[u8]; 4],
-) -> Result<(), Fail>
-    requires one_plain { Plain 0 one.now }
-    requires one_tcp { ip.protocol one.now ≡ 6 }
-    requires two_plain { Plain 0 two.now }
-    requires two_tcp { ip.protocol two.now ≡ 6 }
-{
-    let policies = [Policy::First, Policy::Newest, Policy::Left, Policy::Right];
-    for (base, start) in [(1000, 0), (1003, 4_294_967_293)] {
-        for i in 0..4 {
-            let stream = delivered(alloc, policies[i], base, start, one, two)?;
-            assert_eq!(rt; stream.octets(), want[i], "{:?} from {start}", policies[i]);
-        }
+    begin: &Begin,
+    packets: &[&[u8]],
+    want: &[u8],
+) -> Result<(), NoMemory> {
+    let base = SeqNumber::new(begin.base);
+    let mut stream = Stream::open(alloc, begin.policy, base, begin.start)?;
+    follow(rt, &mut stream, begin, packets, want)
+}
+
+const FIRST: Begin = Begin {
+    policy: Policy::First,
+    base: 1000,
+    start: 0,
+};
+
+#[test]
+fn a_stream_takes_a_segment(rt: HostRuntime) -> Result<(), Fail> {
+    deliver(&rt, rt.alloc(), &FIRST, &[&ABCD], b"abcd")?;
+    Ok(())
+}
+
+// The base is the number 1003, so that `abcd` begins 3 below it: a stream that begins there reads it before the turn, one at 0 below its begin.
+const LATE: Begin = Begin {
+    policy: Policy::First,
+    base: 1003,
+    start: 4_294_967_293,
+};
+
+const EARLY: Begin = Begin {
+    policy: Policy::First,
+    base: 1003,
+    start: 0,
+};
+
+#[test]
+fn numbers_are_read_where_the_stream_goes_on(rt: HostRuntime) -> Result<(), Fail> {
+    deliver(&rt, rt.alloc(), &LATE, &[&ABCD], b"abcd")?;
+    deliver(&rt, rt.alloc(), &EARLY, &[&ABCD], b"d")?;
+    Ok(())
+}
+
+const POLICIES: [Policy; 4] = [Policy::First, Policy::Newest, Policy::Left, Policy::Right];
+
+/// Two segments that come ahead of the first octet, `a`, and what the streams of the four policies, in their order, deliver of the three.
+struct Overlap {
+    one: &'static [u8],
+    two: &'static [u8],
+    want: [&'static [u8]; 4],
+}
+
+// The same place; the newer segment lies further right, and further left; it encloses the older one, and is enclosed.
+const OVERLAPS: [Overlap; 5] = [
+    Overlap {
+        one: &BC,
+        two: &XY,
+        want: [b"abc", b"aXY", b"abc", b"abc"],
+    },
+    Overlap {
+        one: &BC,
+        two: &CD,
+        want: [b"abcD", b"abCD", b"abcD", b"abCD"],
+    },
+    Overlap {
+        one: &CD,
+        two: &BC,
+        want: [b"abCD", b"abcD", b"abcD", b"abCD"],
+    },
+    Overlap {
+        one: &CD,
+        two: &WXYZ,
+        want: [b"awCDz", b"awxyz", b"awxyz", b"awxyz"],
+    },
+    Overlap {
+        one: &WXYZ,
+        two: &CD,
+        want: [b"awxyz", b"awCDz", b"awxyz", b"awxyz"],
+    },
+];
+
+/// The streams of the four policies deliver so, with this base and begin.
+fn settle(
+    rt: &impl Abort,
+    alloc: Global,
+    overlap: &Overlap,
+    base: u32,
+    start: u32,
+) -> Result<(), NoMemory> {
+    let packets = [overlap.one, overlap.two, &A];
+    for i in 0..4 {
+        let begin = Begin {
+            policy: POLICIES[i],
+            base,
+            start,
+        };
+        deliver(rt, alloc, &begin, &packets, overlap.want[i])?;
     }
     Ok(())
 }
 
+// From the base on, and where the octets pass offset 2^32.
 #[test]
 fn each_policy_settles_an_overlap_its_way(rt: HostRuntime) -> Result<(), Fail> {
-    let alloc = rt.alloc();
-    // the same place
-    deliver(&rt, alloc, &BC, &XY, [b"abc", b"aXY", b"abc", b"abc"])?;
-    // the newer segment lies further right, and further left
-    deliver(&rt, alloc, &BC, &CD, [b"abcD", b"abCD", b"abcD", b"abCD"])?;
-    deliver(&rt, alloc, &CD, &BC, [b"abCD", b"abcD", b"abcD", b"abCD"])?;
-    // it encloses the older one, and is enclosed
-    deliver(
-        &rt,
-        alloc,
-        &CD,
-        &WXYZ,
-        [b"awCDz", b"awxyz", b"awxyz", b"awxyz"],
-    )?;
-    deliver(
-        &rt,
-        alloc,
-        &WXYZ,
-        &CD,
-        [b"awxyz", b"awCDz", b"awxyz", b"awxyz"],
-    )?;
+    for overlap in &OVERLAPS {
+        settle(&rt, rt.alloc(), overlap, 1000, 0)?;
+        settle(&rt, rt.alloc(), overlap, 1003, 4_294_967_293)?;
+    }
     Ok(())
 }
 
-/// What the four streams, with the base 1000, make of two segments and then `a`.
-fn family_of(alloc: Global, one: &[u8], two: &[u8]) -> Result<Family, NoMemory>
-    requires one_plain { Plain 0 one.now }
-    requires one_tcp { ip.protocol one.now ≡ 6 }
-    requires two_plain { Plain 0 two.now }
-    requires two_tcp { ip.protocol two.now ≡ 6 }
-{
-    let mut family = Family::open(alloc, 1000, 0)?;
-    family.take(one)?;
-    family.take(two)?;
-    family.take(&A)?;
-    Ok(family)
+/// What the four streams of a family, in the order of their policies, deliver, and whether they end and agree.
+struct Told {
+    octets: [&'static [u8]; 4],
+    ended: bool,
+    agree: bool,
 }
+
+/// Gives a family a packet that is plain and holds a segment of TCP.
+fn give_family(rt: &impl Abort, family: &mut Family, packet: &[u8]) -> Result<(), NoMemory> {
+    assert!(rt; plain(0, packet));
+    assert_eq!(rt; packet[9], 6);
+    family.take(packet)
+}
+
+/// A family tells so.
+fn tells(rt: &impl Abort, family: &Family, told: &Told) {
+    for i in 0..4 {
+        let policy = POLICIES[i];
+        assert_eq!(rt; family.octets(policy), told.octets[i], "{policy:?}");
+        assert_eq!(rt; family.ended(policy), told.ended, "{policy:?}");
+    }
+    assert_eq!(rt; family.agree(), told.agree);
+}
+
+/// It does so of two segments and then `a`.
+fn follow_family(
+    rt: &impl Abort,
+    family: &mut Family,
+    packets: [&[u8]; 2],
+    told: &Told,
+) -> Result<(), NoMemory> {
+    let [one, two] = packets;
+    give_family(rt, family, one)?;
+    give_family(rt, family, two)?;
+    give_family(rt, family, &A)?;
+    tells(rt, family, told);
+    Ok(())
+}
+
+/// So does a new one, with the base 1000.
+fn tell(rt: &impl Abort, alloc: Global, packets: [&[u8]; 2], told: &Told) -> Result<(), NoMemory> {
+    let mut family = Family::open(alloc, SeqNumber::new(1000), 0)?;
+    follow_family(rt, &mut family, packets, told)
+}
+
+const ALIKE: Told = Told {
+    octets: [b"abcd", b"abcd", b"abcd", b"abcd"],
+    ended: true,
+    agree: true,
+};
+
+const APART: Told = Told {
+    octets: [b"abc", b"aXY", b"abc", b"abc"],
+    ended: false,
+    agree: false,
+};
 
 // `abcd` with a FIN comes twice and then `a`: all end. `XY` comes where `bc` waits, which the policies settle in two ways.
 #[test]
 fn a_family_tells_whether_its_streams_agree(rt: HostRuntime) -> Result<(), Fail> {
     let last = changed(&[(33, 0x19), (37, 0xc3)]);
-    assert!(rt; plain(0, &last));
-    assert_eq!(rt; last[9], 6);
-    let alike = family_of(rt.alloc(), &last, &last)?;
-    let apart = family_of(rt.alloc(), &BC, &XY)?;
-    let rows: [(Policy, &[u8]); 4] = [
-        (Policy::First, b"abc"),
-        (Policy::Newest, b"aXY"),
-        (Policy::Left, b"abc"),
-        (Policy::Right, b"abc"),
-    ];
-    for (policy, octets) in rows {
-        assert_eq!(rt; alike.octets(policy), b"abcd".as_slice(), "{policy:?}");
-        assert!(rt; alike.ended(policy), "{policy:?}");
-        assert_eq!(rt; apart.octets(policy), octets, "{policy:?}");
-        assert!(rt; !apart.ended(policy), "{policy:?}");
-    }
-    assert!(rt; alike.agree());
-    assert!(rt; !apart.agree());
+    tell(&rt, rt.alloc(), [&last, &last], &ALIKE)?;
+    tell(&rt, rt.alloc(), [&BC, &XY], &APART)?;
     Ok(())
 }

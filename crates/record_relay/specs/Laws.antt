@@ -5,7 +5,7 @@ use Rattle.pcap_file.specs.declared.order.Order.{Order}
 use Rattle.pcap_file.specs.Records.{Packet}
 use Rattle.rule_book.specs.declared.last.Last.{Last}
 use Rattle.rule_book.specs.Text.{report_text}
-use Rattle.norm_settings.specs.Settings.{AreInRange, PlainSettings}
+use Rattle.norm_settings.specs.Settings.{AreInRange, GoTogether, PlainSettings}
 use Rattle.norm_engine.specs.Items.{Item, entries}
 use Rattle.norm_engine.specs.Agreement.{Agree}
 use Rattle.norm_engine.specs.Clean.{CleanIsKept}
@@ -15,7 +15,6 @@ use Rattle.both_sides.specs.Traces.{mirrored, AreLawful}
 use Rattle.record_relay.specs.Cut.{IsWrittenSoundly, written}
 use Rattle.record_relay.specs.Frames.{frame_count, frames_octets}
 use Rattle.record_relay.specs.Puts.{count_put, next_put, octets_put, puts, report_of}
-use Rattle.record_relay.specs.Relays.{CanRun}
 use Rattle.record_relay.specs.Runs.{LawfulRun, RunHasNoSide, RunHasOctets, RunTrace, empty_run, next_run, one, packets_of, two}
 
 -- The run has no records, is lawful, and nothing is put out for it.
@@ -83,5 +82,5 @@ RunIsWrittenSoundly settings link (two trace mirror) = AreWrittenSoundly setting
 -- This holds of each lawful run over records of octets, which have no side of their own where both sides are protected.
 abbrev pub RunsAreWrittenSoundly : Type 0
 RunsAreWrittenSoundly =
-    (settings : PlainSettings) (link : Link) (run : RunTrace) → AreInRange settings → CanRun settings → LawfulRun settings link run → RunHasOctets settings run
+    (settings : PlainSettings) (link : Link) (run : RunTrace) → AreInRange settings → GoTogether settings → LawfulRun settings link run → RunHasOctets settings run
     → RunHasNoSide run → RunIsWrittenSoundly settings link run

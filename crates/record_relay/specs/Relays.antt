@@ -8,13 +8,6 @@ use Rattle.record_relay.specs.declared.engines.Engines.{Engines}
 use Rattle.record_relay.specs.declared.engines.Engines.TheVariants.{One, Two}
 use Rattle.record_relay.specs.Runs.{RunHasOctets, RunTrace, one, two}
 
--- Settings of a run: where both sides are protected, the second engine alone has the sides exchanged, and neither the sides of interfaces nor a largest packet is
--- given.
-pub record CanRun (s : PlainSettings) : Type 0 where
-  pub mirror : s.both ≡ true → s.mirror ≡ false
-  pub inside : s.both ≡ true → s.inside ≡ None
-  pub mtu : s.both ≡ true → s.mtu ≡ None
-
 -- the settings that the words asked for, which are those of the first engine
 abbrev pub settings_of : Engines → PlainSettings
 settings_of (One engine) = engine.settings

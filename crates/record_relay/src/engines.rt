@@ -1,8 +1,8 @@
 //! One engine, or two where both sides are protected.
 ghost use Rattle.std.specs.Prelude.{◌≡◌, IfOk};
 ghost use Rattle.wire_base.specs.declared.address.Link.TheVariants.{Raw};
-ghost use Rattle.norm_settings.specs.Settings.{plain_settings, AreInRange};
-ghost use Rattle.record_relay.specs.Relays.{CanRun, StandsForRun, link_of, settings_of};
+ghost use Rattle.norm_settings.specs.Settings.{plain_settings, AreInRange, GoTogether};
+ghost use Rattle.record_relay.specs.Relays.{StandsForRun, link_of, settings_of};
 ghost use Rattle.record_relay.specs.Runs.{empty_run};
 
 use both_sides::Both;
@@ -23,7 +23,7 @@ impl Engines {
     /// The engines that these settings ask for, for records of a raw link, before the first of them.
     pub fn open(alloc: Global, settings: Settings) -> Result<Engines, NoMemory>
         requires range { AreInRange (plain_settings settings) }
-        requires together { CanRun (plain_settings settings) }
+        requires together { GoTogether (plain_settings settings) }
         ensures settings { IfOk result (λ engines. settings_of engines ≡ plain_settings settings) }
         ensures link { IfOk result (λ engines. link_of engines ≡ Raw) }
         ensures stands { IfOk result (λ engines. StandsForRun engines (empty_run settings.both)) }

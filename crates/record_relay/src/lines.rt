@@ -9,14 +9,20 @@ ghost use Rattle.record_relay.specs.Judged.{line_for};
 use edge_io::{Failed, Sink};
 use rule_book::{Entry, entry_line};
 
+/// Room for a line, in octets.
+pub const LINE: usize = 400;
+
 /// Writes the line of an entry.
-pub fn write_line<R: Sink>(entry: &Entry, report: &mut R) -> Result<(), Failed>
+pub fn write_line<R: Sink>(
+    entry: &Entry,
+    line: &mut [u8; LINE],
+    report: &mut R,
+) -> Result<(), Failed>
     requires { IsOfVersion 2 (plain entry.now) }
     ensures octets { Puts (R.held report.old) (R.held report.new) result (entry_text (plain entry.now)) }
     ensures cause { HasCause (R.fault_count report.old) (R.fault_count report.new) result }
 {
-    let mut line = [0u8; 400];
-    let size = entry_line(entry, &mut line);
+    let size = entry_line(entry, &mut line[..]);
     report.put(&line[..size])
 }
 
@@ -29,7 +35,7 @@ pub fn write_answer<R: Sink>(answer: &Option<Entry>, report: &mut R) -> Result<(
     let Some(entry) = answer else {
         return Ok(());
     };
-    let mut line = [0u8; 401];
+    let mut line = [0u8; LINE + 1];
     line[0] = b'/';
     let size = entry_line(entry, &mut line[1..]);
     report.put(&line[..size + 1])

@@ -13,7 +13,7 @@ ghost use Rattle.record_relay.specs.Sinks.{OnlyRose, sinks_of};
 
 use crate::RelayFault;
 use crate::cut::{frames_have_octets, have_octets, write_item};
-use crate::lines::write_line;
+use crate::lines::{LINE, write_line};
 use edge_io::{Outbox, Sink};
 use emit_mtu::laws::{plain_packets_go_out, segments_fit};
 use norm_engine::Engine;
@@ -28,6 +28,7 @@ pub fn relay_one<K: Sink, R: Sink>(
     mtu: Option<u16>,
     input: &Record<'_>,
     segment: &mut [u8],
+    line: &mut [u8; LINE],
     capture: &mut K,
     report: &mut R,
 ) -> Result<u64, RelayFault>
@@ -72,7 +73,7 @@ pub fn relay_one<K: Sink, R: Sink>(
     if write_item(out, head, mtu, input, segment, capture, &mut entry).is_err() {
         return Err(RelayFault::Capture);
     }
-    if write_line(&entry, report).is_err() {
+    if write_line(&entry, line, report).is_err() {
         return Err(RelayFault::Report);
     }
     Ok(u64::from(entry.packets))

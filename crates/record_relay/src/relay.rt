@@ -1,6 +1,7 @@
 //! The relay: each record of a capture is judged, and what goes out for it is written.
 use crate::RelayFault;
 use crate::engines::Engines;
+use crate::lines::LINE;
 use crate::one::relay_one;
 use crate::two::relay_two;
 use edge_io::{MAX_FRAME, NoMemory, Outbox, Sink};
@@ -22,6 +23,8 @@ pub struct Relay {
     behind: Outbox,
     /// The octets of one segment of a frame that is cut.
     segment: Vec<u8>,
+    /// One line of the report.
+    line: [u8; LINE],
 }
 
 impl Model for Relay {
@@ -40,17 +43,17 @@ impl Relay {
     ghost use Rattle.std.specs.Prelude.{◌≡◌, ◌≤◌, ◌<◌, false, [], IfOk, IfErr};
     ghost use Rattle.wire_base.specs.declared.address.Link.TheVariants.{Raw};
     ghost use Rattle.pcap_file.specs.Reads.{shown};
-    ghost use Rattle.norm_settings.specs.Settings.{plain_settings, AreInRange};
+    ghost use Rattle.norm_settings.specs.Settings.{plain_settings, AreInRange, GoTogether};
     ghost use Rattle.record_relay.specs.Outputs.{BreaksOff};
     ghost use Rattle.record_relay.specs.Puts.{IsPut, next_put, put_outputs};
-    ghost use Rattle.record_relay.specs.Relays.{CanRun, StandsForRun, is_full_of, link_of, records_of, settings_of};
+    ghost use Rattle.record_relay.specs.Relays.{StandsForRun, is_full_of, link_of, records_of, settings_of};
     ghost use Rattle.record_relay.specs.Runs.{RunHasOctets, RunTrace, empty_run, next_run};
     ghost use Rattle.record_relay.specs.Sinks.{OnlyRose, sinks_of};
 
     /// A relay for records of a raw link, before the first of them, with one engine, or with two where both sides are protected.
     pub fn open(alloc: Global, settings: Settings) -> Result<Relay, NoMemory>
         requires range { AreInRange (plain_settings settings) }
-        requires together { CanRun (plain_settings settings) }
+        requires together { GoTogether (plain_settings settings) }
         ensures settings { IfOk result (λ relay. settings_of relay ≡ plain_settings settings) }
         ensures link { IfOk result (λ relay. link_of relay ≡ Raw) }
         ensures stands { IfOk result (λ relay. StandsForRun relay (empty_run settings.both)) }
@@ -66,6 +69,7 @@ impl Relay {
             out,
             behind,
             segment,
+            line: [0; LINE],
         })
     }
 
@@ -141,6 +145,7 @@ impl Relay {
                 self.mtu,
                 input,
                 &mut self.segment,
+                &mut self.line,
                 capture,
                 report,
             ),
@@ -150,6 +155,7 @@ impl Relay {
                 &mut self.behind,
                 head,
                 input,
+                &mut self.line,
                 capture,
                 report,
             ),

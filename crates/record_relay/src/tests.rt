@@ -1,8 +1,8 @@
 //! Records by one engine and by two, by worked rows: what goes out, and the lines.
 ghost use Rattle.std.specs.Prelude.{◌≡◌};
 ghost use Rattle.wire_base.specs.declared.address.Link.TheVariants.{Raw};
-ghost use Rattle.norm_settings.specs.Settings.{plain_settings, AreInRange};
-ghost use Rattle.record_relay.specs.Relays.{CanRun, link_of};
+ghost use Rattle.norm_settings.specs.Settings.{plain_settings, AreInRange, GoTogether};
+ghost use Rattle.record_relay.specs.Relays.{link_of};
 
 use super::{Relay, RelayFault};
 use arrayvec::ArrayVec;
@@ -75,7 +75,7 @@ const RAW: Head = Head {
 
 fn settings(both: bool) -> Settings
     ensures range { AreInRange (plain_settings result) }
-    ensures together { CanRun (plain_settings result) }
+    ensures together { GoTogether (plain_settings result) }
 {
     let mut prefixes = ArrayVec::new();
     prefixes.push(Prefix {

@@ -19,7 +19,7 @@ ghost use Rattle.record_relay.specs.Sinks.{OnlyRose, sinks_of};
 
 use crate::RelayFault;
 use crate::cut::{have_octets, write_frames};
-use crate::lines::{write_answer, write_line};
+use crate::lines::{LINE, write_answer, write_line};
 use both_sides::Both;
 use edge_io::{Failed, Outbox, Sink};
 use norm_engine::laws::items_are_counted;
@@ -41,6 +41,7 @@ pub fn relay_two<K: Sink, R: Sink>(
     behind: &mut Outbox,
     head: &Head,
     input: &Record<'_>,
+    line: &mut [u8; LINE],
     capture: &mut K,
     report: &mut R,
 ) -> Result<u64, RelayFault>
@@ -78,7 +79,7 @@ pub fn relay_two<K: Sink, R: Sink>(
     if write_both(out, behind, head, input, capture).is_err() {
         return Err(RelayFault::Capture);
     }
-    if write_told(&told, report).is_err() {
+    if write_told(&told, line, report).is_err() {
         return Err(RelayFault::Report);
     }
     Ok((out.frames() + behind.frames()) as u64)
@@ -137,7 +138,7 @@ fn write_both<K: Sink>(
 }
 
 // Writes the line of the record, and then those of the second engine.
-fn write_told<R: Sink>(told: &Told, report: &mut R) -> Result<(), Failed>
+fn write_told<R: Sink>(told: &Told, line: &mut [u8; LINE], report: &mut R) -> Result<(), Failed>
     requires own { IsOfVersion 2 (plain told.now.own) }
     requires first { IfSome (option_map plain told.now.first) (IsOfVersion 2) }
     requires second { IfSome (option_map plain told.now.second) (IsOfVersion 2) }
@@ -145,7 +146,7 @@ fn write_told<R: Sink>(told: &Told, report: &mut R) -> Result<(), Failed>
         (entry_text (plain told.now.own) ++ (line_for (option_map plain told.now.first) ++ line_for (option_map plain told.now.second))) }
     ensures cause { HasCause (R.fault_count report.old) (R.fault_count report.new) result }
 {
-    if write_line(&told.own, report).is_err() {
+    if write_line(&told.own, line, report).is_err() {
         return Err(Failed);
     }
     if write_answer(&told.first, report).is_err() {

@@ -31,7 +31,7 @@ probe_octets head source_port destination_port probe = plain_header head 20 ++ s
 -- a probe between addresses of 32 bits is plain for every host that it reaches
 abbrev pub ProbesArePlain : Type 0
 ProbesArePlain =
-    (head : Ipv4) (source_port destination_port : ℕ) (probe : Probe) → head.src.0 < 2 ^ 32 → head.dst.0 < 2 ^ 32 → head.protocol ≡ 6 → (hops : ℕ) → hops < head.ttl
+    (head : Ipv4) (source_port destination_port : ℕ) (probe : Probe) → head.src.0 < 2 ^ 32 → head.dst.0 < 2 ^ 32 → head.protocol.0 ≡ 6 → (hops : ℕ) → hops < head.ttl
     → Plain hops (probe_octets head source_port destination_port probe)
 
 -- read of its octets a probe brings nothing: it has neither octets nor SYN nor FIN

@@ -9,6 +9,7 @@ ghost use Rattle.reset_probe.specs.Rules.{era_probe, probe_before};
 ghost use Rattle.reset_probe.specs.Answers.{reset_answer};
 
 use era_state::{Era, Probe, Seg, Warm};
+use wire_base::SeqNumber;
 
 /// What becomes of an inbound reset of a live era.
 #[derive(Clone, Copy)]
@@ -52,16 +53,15 @@ pub fn probe_of(era: &Era, seg: &Seg) -> Option<Probe>
 fn warm_probe(era: &Warm, seg: &Seg) -> Probe
     ensures { result ≡ probe_before (era.now.base + era.now.acked) era.now.out (came seg.now) }
 {
-    let awaited = era.base.wrapping_add((era.acked % (1 << 32)) as u32);
-    before(awaited, era.out, seg)
+    before(era.base.plus(era.acked), era.out, seg)
 }
 
 // The probe from one below a number.
-fn before(number: u32, ack: u32, seg: &Seg) -> Probe
+fn before(number: SeqNumber, ack: SeqNumber, seg: &Seg) -> Probe
     ensures { result ≡ probe_before number ack (came seg.now) }
 {
     Probe {
-        seq: number.wrapping_sub(1),
+        seq: number.before(),
         ack,
         window: seg.window,
     }

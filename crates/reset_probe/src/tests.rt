@@ -6,8 +6,9 @@ use crate::{ResetAnswer, judge_reset, probe_of, write_probe};
 use era_state::{Called, Era, Moved, Offered, Probe, Seg, Warm};
 use ipv4_codec::Ipv4;
 use std::alloc::{AllocError, Global};
+use std::process::Abort;
 use std::test::Fail;
-use wire_base::{Addr, Flags, u32_at};
+use wire_base::{Addr, Flags, Protocol, SeqNumber, u32_at};
 
 const SYN: u8 = 2;
 
@@ -82,8 +83,8 @@ fn segment(flags: u8, seq: u32, ack: u32, len: u32) -> Seg
     ensures { result.flags.0 ≡ flags }
 {
     Seg {
-        seq,
-        ack,
+        seq: SeqNumber::new(seq),
+        ack: SeqNumber::new(ack),
         len,
         window: 8192,
         flags: Flags(flags),
@@ -102,39 +103,43 @@ fn reset_of(row: &Row) -> Seg
 }
 
 // An outbound segment goes on with the era.
-fn goes_out(era: Era, seg: &Seg) -> Result<Era, Fail>
+fn goes_out(rt: &impl Abort, era: Era, seg: &Seg) -> Era
     requires { tcp.are_legal seg.now.flags.0 ≡ true }
 {
-    if era.acknowledged() >= 1 << 63 {
-        return Err("too long")?;
-    }
+    assert!(rt; era.acknowledged() < 1 << 63, "too long");
     match era.outbound(seg) {
-        Moved::Next(era) => Ok(era),
-        Moved::Reopen => Err("reopened")?,
-        Moved::Reset => Err("reset")?,
-    }
-}
-
-fn warm_of(era: Era) -> Result<Warm, Fail> {
-    match era {
-        Era::Warm(warm) => Ok(warm),
-        _ => Err("not warm")?,
+        Moved::Next(next) => next,
+        _ => {
+            assert!(rt; false, "the era does not go on");
+            offered()
+        }
     }
 }
 
 // The era after an inbound segment that is forwarded.
-fn comes_in(era: Era, seg: &Seg) -> Result<Era, Fail>
+fn comes_in(rt: &impl Abort, era: Era, seg: &Seg) -> Era
     requires legal { tcp.are_legal seg.now.flags.0 ≡ true }
     requires no_syn { tcp.has_syn seg.now.flags.0 ≡ false }
     requires no_rst { tcp.has_rst seg.now.flags.0 ≡ false }
 {
-    let warm = warm_of(era)?;
+    match era {
+        Era::Warm(warm) => forwarded(rt, warm, seg),
+        _ => {
+            assert!(rt; false, "not warm");
+            offered()
+        }
+    }
+}
+
+fn forwarded(rt: &impl Abort, warm: Warm, seg: &Seg) -> Era
+    requires legal { tcp.are_legal seg.now.flags.0 ≡ true }
+    requires no_syn { tcp.has_syn seg.now.flags.0 ≡ false }
+    requires no_rst { tcp.has_rst seg.now.flags.0 ≡ false }
+{
     let kept = warm.interval(seg);
     let fresh = (kept.hi - kept.lo) as u32;
-    if warm.octets >= 1 << 63 {
-        return Err("too many")?;
-    }
-    Ok(Era::settled(warm.forwarded(&kept, fresh)))
+    assert!(rt; warm.octets < 1 << 63, "too many");
+    Era::settled(warm.forwarded(&kept, fresh))
 }
 
 fn called() -> Era {
@@ -145,44 +150,54 @@ fn offered() -> Era {
     Era::Offered(Offered::offer(&segment(SYN, 999, 0, 0)))
 }
 
-fn opened() -> Result<Era, Fail> {
-    goes_out(offered(), &segment(SYN_ACK, 5000, 1000, 0))
+fn opened(rt: &impl Abort) -> Era {
+    goes_out(rt, offered(), &segment(SYN_ACK, 5000, 1000, 0))
 }
 
-fn sent() -> Result<Era, Fail> {
-    comes_in(opened()?, &segment(PSH_ACK, 1000, 5001, 4))
+fn sent(rt: &impl Abort) -> Era {
+    comes_in(rt, opened(rt), &segment(PSH_ACK, 1000, 5001, 4))
 }
 
-fn closed() -> Result<Era, Fail> {
-    let era = goes_out(opened()?, &segment(FIN_ACK, 5001, 1000, 0))?;
-    let era = comes_in(era, &segment(FIN_ACK, 1000, 5002, 0))?;
-    goes_out(era, &segment(ACK, 5002, 1001, 0))
+fn closed(rt: &impl Abort) -> Era {
+    let era = goes_out(rt, opened(rt), &segment(FIN_ACK, 5001, 1000, 0));
+    let era = comes_in(rt, era, &segment(FIN_ACK, 1000, 5002, 0));
+    goes_out(rt, era, &segment(ACK, 5002, 1001, 0))
 }
 
-fn turned() -> Result<Era, Fail> {
-    let era = goes_out(opened()?, &segment(ACK, 5001, 2147484647, 0))?;
-    let era = goes_out(era, &segment(ACK, 5001, 998, 0))?;
-    goes_out(era, &segment(ACK, 5001, 1001, 0))
+fn turned(rt: &impl Abort) -> Era {
+    let era = goes_out(rt, opened(rt), &segment(ACK, 5001, 2147484647, 0));
+    let era = goes_out(rt, era, &segment(ACK, 5001, 998, 0));
+    goes_out(rt, era, &segment(ACK, 5001, 1001, 0))
 }
 
-fn era_of(history: History) -> Result<Era, Fail> {
+fn era_of(rt: &impl Abort, history: History) -> Era {
     match history {
-        History::Called => Ok(called()),
-        History::Answered => Ok(called().seen_syn(&segment(SYN_ACK, 999, 5001, 0))),
-        History::Offered => Ok(offered()),
-        History::Open => opened(),
-        History::Sent => sent(),
-        History::Acked => goes_out(sent()?, &segment(ACK, 5001, 1004, 0)),
-        History::Closed => closed(),
-        History::Turned => turned(),
+        History::Called => called(),
+        History::Answered => called().seen_syn(&segment(SYN_ACK, 999, 5001, 0)),
+        History::Offered => offered(),
+        History::Open => opened(rt),
+        History::Sent => sent(rt),
+        History::Acked => goes_out(rt, sent(rt), &segment(ACK, 5001, 1004, 0)),
+        History::Closed => closed(rt),
+        History::Turned => turned(rt),
     }
+}
+
+fn answer_of(rt: &impl Abort, row: &Row) -> ResetAnswer {
+    let era = era_of(rt, row.history);
+    judge_reset(&era, &reset_of(row))
 }
 
 fn answer_text(alloc: Global, answer: ResetAnswer) -> Result<String, AllocError> {
     match answer {
         ResetAnswer::Pass(None) => String::from_str(alloc, "pass"),
         ResetAnswer::Pass(Some(probe)) => {
-            format!(in alloc; "pass, probe {} {} {}", probe.seq, probe.ack, probe.window)
+            format!(in alloc;
+                "pass, probe {} {} {}",
+                probe.seq.value(),
+                probe.ack.value(),
+                probe.window
+            )
         }
         ResetAnswer::Refuse => String::from_str(alloc, "refuse"),
     }
@@ -191,8 +206,7 @@ fn answer_text(alloc: Global, answer: ResetAnswer) -> Result<String, AllocError>
 #[test]
 fn a_reset_passes_with_its_probe_or_is_refused(rt: HostRuntime) -> Result<(), Fail> {
     for (number, row) in RESETS.iter().enumerate() {
-        let era = era_of(row.history)?;
-        let text = answer_text(rt.alloc(), judge_reset(&era, &reset_of(row)))?;
+        let text = answer_text(rt.alloc(), answer_of(&rt, row))?;
         assert_eq!(rt; text.as_str(), row.says, "row {number}");
     }
     Ok(())
@@ -200,7 +214,7 @@ fn a_reset_passes_with_its_probe_or_is_refused(rt: HostRuntime) -> Result<(), Fa
 
 // Another call from outside asks the host, and that probe is written; what stands behind it in the buffer stays.
 #[test]
-fn another_call_is_asked_about(rt: HostRuntime) -> Result<(), Fail> {
+fn another_call_is_asked_about(rt: HostRuntime) {
     let head = Ipv4 {
         header: 60,
         tos: 0,
@@ -211,21 +225,18 @@ fn another_call_is_asked_about(rt: HostRuntime) -> Result<(), Fail> {
         more: true,
         offset: 800,
         ttl: 64,
-        protocol: 6,
+        protocol: Protocol::TCP,
         sum: 0xabcd,
         src: Addr(0xc633_6407),
         dst: Addr(0x0a00_0001),
     };
     let call = segment(SYN, 7000, 0, 0);
-    let probe = probe_of(&opened()?, &call).ok_or("no probe")?;
-    assert!(rt;
-        probe
-            == Probe {
-                seq: 999,
-                ack: 5001,
-                window: 8192
-            }
-    );
+    let probe = Probe {
+        seq: SeqNumber::new(999),
+        ack: SeqNumber::new(5001),
+        window: 8192,
+    };
+    assert!(rt; probe_of(&opened(&rt), &call) == Some(probe));
     let mut buf = [0xee; 44];
     assert_eq!(rt; write_probe(&head, 40000, 80, &probe, &mut buf), 40);
     let words = [
@@ -244,5 +255,4 @@ fn another_call_is_asked_about(rt: HostRuntime) -> Result<(), Fail> {
     for (i, word) in words.iter().enumerate() {
         assert_eq!(rt; u32_at(&buf, 4 * i), *word, "word {i}");
     }
-    Ok(())
 }

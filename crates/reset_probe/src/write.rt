@@ -22,7 +22,7 @@ pub fn write_probe(head: &Ipv4, sport: u16, dport: u16, probe: &Probe, buf: &mut
     requires room { 40 ≤ length buf.old }
     ensures exact { buf.new ≡ probe_octets head.now sport dport probe.now ++ drop 40 buf.old }
     ensures size { result ≡ 40 }
-    ensures plain { (hops : ℕ) → head.now.protocol ≡ 6 → hops < head.now.ttl → Plain hops (probe_octets head.now sport dport probe.now) }
+    ensures plain { (hops : ℕ) → head.now.protocol.0 ≡ 6 → hops < head.now.ttl → Plain hops (probe_octets head.now sport dport probe.now) }
 {
     let parts = probe_parts(head, sport, dport, probe);
     let (header, segment) = buf.split_at_mut(HEADER);

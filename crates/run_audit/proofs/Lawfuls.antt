@@ -7,6 +7,7 @@ use Rattle.std.proofs.lemmas.List.{reverse-append, length-reverse}
 use Rattle.std.proofs.lemmas.List.Concat.{flat_map-append}
 use Rattle.std.proofs.lemmas.List.Elements.{All-drop, recursion_from_All}
 use Rattle.std.proofs.Math.Seq.{drop-append_seam}
+use Rattle.wire_base.specs.Reading.{value_or_fault}
 use Rattle.wire_base.specs.declared.address.Link.{Link}
 use Rattle.wire_base.specs.declared.address.Side.{Side}
 use Rattle.wire_base.specs.declared.address.Side.TheVariants.{Inward, Outward}
@@ -188,7 +189,7 @@ module _ (p : List ℕ) (s : IsWholeSegment p) where
       let first : ip.has_bad_header_length p ≡ false = grind (arith, nat_tests, long, size) in
       let whole : ip.has_bad_total_length p ≡ false = grind (arith, nat_tests, long, size, total) in
       let sum : ip.has_wrong_sum p ≡ false = ap not s.header.sum in
-      λ i. is_ok (header.result_of (header.fields_of p)
+      λ i. is_ok (value_or_fault (header.fields_of p)
       (cond (short i) (Some ip_faults.Short) (cond (version i) (Some ip_faults.Version) (cond (first i) (Some ip_faults.HeaderLength) (cond (whole i) (Some ip_faults.Length) (cond (sum i) (Some ip_faults.Sum) None))))))
 
   segment_read : is_ok (segment.parsed Skip 0 m) ≡ true
@@ -199,7 +200,7 @@ module _ (p : List ℕ) (s : IsWholeSegment p) where
       let first : tcp.has_bad_header_length m ≡ false = grind (arith, nat_tests, least, inside) in
       let legal : tcp.has_illegal_flags m ≡ false = ap not s.legal in
       let formed : tcp.has_bad_options m ≡ false = ap not s.formed in
-      λ i. is_ok (segment.result_of (segment.fields_of 0 m)
+      λ i. is_ok (value_or_fault (segment.fields_of 0 m)
       (cond (short i) (Some tcp_faults.Short) (cond (first i) (Some tcp_faults.DataOffset) (cond (legal i) (Some tcp_faults.Flags) (cond (formed i) (Some tcp_faults.Options) None)))))
 
   is_read : is_segment p ≡ true

@@ -2,6 +2,7 @@
 use Rattle.std.proofs.Common.{◌≡◌, ℕ, ◌+◌, ◌-◌, ◌==◌, ◌&&◌, ◌≤◌, List, take, drop, Option, Some, None, Bool, true, false, refl, sym, ap, ap₂, ◌∙◌, arith}
 use Rattle.std.specs.Prelude.{Ok, Err, is_ok}
 use Rattle.std.proofs.lemmas.List.{drop-take}
+use Rattle.wire_base.specs.Reading.{value_or_fault}
 use Rattle.wire_base.specs.Ipv4 as ip
 use Rattle.wire_base.specs.Tcp as tcp
 use Rattle.ipv4_codec.specs.Header as header
@@ -18,18 +19,18 @@ use Rattle.run_audit.specs.Read.{IsSegment}
 fields_read : (p : List ℕ) (head : Ipv4) → header.parsed p ≡ Ok head → head ≡ header.fields_of p
 fields_read p head e = by (header.fault_of p) e
   where
-    by : (f : Option IpFault) → header.result_of (header.fields_of p) f ≡ Ok head → head ≡ header.fields_of p
+    by : (f : Option IpFault) → value_or_fault (header.fields_of p) f ≡ Ok head → head ≡ header.fields_of p
     by None e = cc e
     by (Some f) e = absurd (cc e)
 
 head_read : (m : List ℕ) (head : Tcp) → segment.parsed Skip 0 m ≡ Ok head → head ≡ segment.fields_of 0 m
 head_read m head e = by (segment.fault_of Skip 0 m) e
   where
-    by : (f : Option TcpFault) → segment.result_of (segment.fields_of 0 m) f ≡ Ok head → head ≡ segment.fields_of 0 m
+    by : (f : Option TcpFault) → value_or_fault (segment.fields_of 0 m) f ≡ Ok head → head ≡ segment.fields_of 0 m
     by None e = cc e
     by (Some f) e = absurd (cc e)
 
-pub segment_read : (p m : List ℕ) (h : Ipv4) (head : Tcp) → header.parsed p ≡ Ok h → h.protocol ≡ 6 → m ≡ ip.payload p → segment.parsed Skip 0 m ≡ Ok head → IsSegment p head
+pub segment_read : (p m : List ℕ) (h : Ipv4) (head : Tcp) → header.parsed p ≡ Ok h → h.protocol.0 ≡ 6 → m ≡ ip.payload p → segment.parsed Skip 0 m ≡ Ok head → IsSegment p head
 segment_read p m h head read six whole told = record {
   is = ap₂ (λ (a b : Bool). a && b && is_ok (segment.parsed Skip 0 (ip.payload p))) (ap is_ok read) tcp_is ∙ ap is_ok (ap (segment.parsed Skip 0) (sym whole) ∙ told);
   protocol = protocol_is;
@@ -38,7 +39,7 @@ segment_read p m h head read six whole told = record {
 }
   where
     protocol_is : ip.protocol p ≡ 6
-    protocol_is = sym (ap (λ (i : Ipv4). i.protocol) (fields_read p h read)) ∙ six
+    protocol_is = sym (ap (λ (i : Ipv4). i.protocol.0) (fields_read p h read)) ∙ six
 
     tcp_is : (ip.protocol p == 6) ≡ true
     tcp_is = ap (λ n. n == 6) protocol_is

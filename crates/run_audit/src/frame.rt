@@ -20,9 +20,7 @@ use era_state::laws::acked_grows_near;
 use receiver_model::{plain, read_plain};
 use rule_book::Entry;
 use tcp_codec::{SumRule, Tcp};
-use wire_base::{Flags, Side};
-
-const TCP: u8 = 6;
+use wire_base::{Flags, Protocol, SeqNumber, Side};
 
 /// What is wrong with a packet that belongs to this entry; where nothing is, it is noted in its era.
 pub(crate) fn judge(
@@ -79,12 +77,12 @@ fn judge_in_stream(
         IsJudged hops before (record { packet = packet.now; side = Some Side.Inward; era = Some era }) eras.old eras.new verdict) }
 {
     acked_grows_near();
-    if packet[9] != TCP {
+    if Protocol(packet[9]) != Protocol::TCP {
         return Ok(Some(Reason::Plain));
     }
     let fields = read_plain(packet);
     let segment = Inward {
-        seq: fields.seq,
+        seq: fields.seq.value(),
         flags: fields.flags,
         octets: &packet[fields.start..],
     };
@@ -114,7 +112,7 @@ fn segment_in(packet: &[u8]) -> Option<Tcp>
     let Ok(head) = ipv4_codec::parse(packet) else {
         return None;
     };
-    if head.protocol != TCP {
+    if head.protocol != Protocol::TCP {
         return None;
     }
     let segment = &packet[head.header..usize::from(head.total)];
@@ -139,7 +137,7 @@ fn take_inward(eras: &mut Eras, era: u32, segment: Inward<'_>) -> Result<Option<
 }
 
 // A segment that went outwards is taken in its era.
-fn take_outward(eras: &mut Eras, era: u32, flags: Flags, number: u32) -> Result<(), NoMemory>
+fn take_outward(eras: &mut Eras, era: u32, flags: Flags, number: SeqNumber) -> Result<(), NoMemory>
     requires there { IsSome (get nat_eq eras.old era) }
     requires room { EraHasRoom (get nat_eq eras.old era) }
     ensures { IfOk result (λ _. (ws : List Written) (w : Written) → EraStands (get nat_eq eras.old era) ws →

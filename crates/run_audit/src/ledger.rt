@@ -6,10 +6,10 @@ ghost use Rattle.era_state.specs.Offsets.{natural, number_in, off};
 
 use crate::Reason;
 use crate::octets::Octets;
-use crate::offset::{Offset, begin, number_after};
+use crate::offset::{Offset, begin};
 use edge_io::NoMemory;
 use std::alloc::Global;
-use wire_base::Flags;
+use wire_base::{Flags, SeqNumber};
 
 /// A segment that went inwards, as far as its era is told by it: its sequence number, its flags and its octets.
 #[derive(Clone, Copy)]
@@ -20,6 +20,13 @@ pub(crate) struct Inward<'a> {
 }
 
 impl Inward<'_> {
+    // Its sequence number.
+    fn number(&self) -> SeqNumber
+        ensures { result ≡ self.now.seq }
+    {
+        SeqNumber::new(self.seq)
+    }
+
     // Octets or a FIN.
     fn brings_something(&self) -> bool
         ensures { result ≡ (nat_lt 0 (length self.now.octets.now) || has_fin self.now.flags.0) }
@@ -32,8 +39,8 @@ impl Inward<'_> {
 /// octets; the end, once it is pinned; and the first octets at their offsets.
 #[derive(Drop)]
 pub(crate) struct Ledger {
-    base: Option<u32>,
-    resets: Vec<u32>,
+    base: Option<SeqNumber>,
+    resets: Vec<SeqNumber>,
     acked: u64,
     top: Offset,
     end: Option<Offset>,
@@ -58,7 +65,7 @@ impl Ledger {
     }
 
     /// Takes a segment that went outwards, with these flags and this acknowledgment.
-    pub(crate) fn acknowledge(&mut self, flags: Flags, number: u32) -> Result<(), NoMemory>
+    pub(crate) fn acknowledge(&mut self, flags: Flags, number: SeqNumber) -> Result<(), NoMemory>
         requires { HasRoom self.old }
         ensures { IfOk result (λ _. (ws : List Written) (w : Written) → StandsFor self.old ws → IsOutward flags.0 number w → StandsFor self.new (ws ++ w ∷ [])) }
     {
@@ -84,7 +91,7 @@ impl Ledger {
         requires short { length segment.octets.now < 2 ^ 16 }
         ensures { IfOk result (λ verdict. (ws : List Written) (w : Written) → StandsFor self.old ws → IsInward segment.entry w → IsVerdict self.new ws w verdict) }
     {
-        let behind = number_after(segment.seq);
+        let behind = segment.number().plus(1);
         let syn = segment.flags.syn();
         let Some(base) = self.base_with(syn, behind) else {
             if segment.brings_something() {
@@ -99,7 +106,7 @@ impl Ledger {
     }
 
     // The base, which a SYN fixes by the number behind it, where none is fixed.
-    fn base_with(&mut self, syn: bool, behind: u32) -> Option<u32>
+    fn base_with(&mut self, syn: bool, behind: SeqNumber) -> Option<SeqNumber>
         requires { HasRoom self.old }
         ensures changes { self.new ≡ settled self.old syn behind }
         ensures base { result ≡ self.new.base }
@@ -112,14 +119,18 @@ impl Ledger {
     }
 
     // Takes the octets and the FIN of a segment that went inwards, where this base is fixed.
-    fn judge_octets(&mut self, base: u32, segment: Inward<'_>) -> Result<Option<Reason>, NoMemory>
+    fn judge_octets(
+        &mut self,
+        base: SeqNumber,
+        segment: Inward<'_>,
+    ) -> Result<Option<Reason>, NoMemory>
         requires room { self.old.acked < 2 ^ 63 }
         requires short { length segment.octets.now < 2 ^ 16 }
         ensures same_base { IfOk result (λ _. self.new.base ≡ self.old.base) }
         ensures same_resets { IfOk result (λ _. self.new.resets ≡ self.old.resets) }
         ensures verdict { IfOk result (λ verdict. (ws : List Written) (w : Written) → IsInward segment.entry w → IsVerdictAt base self.old self.new ws w verdict) }
     {
-        let place = Offset::of(base, self.acked, segment.seq);
+        let place = Offset::of(base, self.acked, segment.number());
         let behind = place.after(segment.octets.len());
         if !self.octets.add(place, segment.octets, self.end)? {
             return Ok(Some(Reason::Octet));
@@ -160,7 +171,7 @@ impl Ledger {
     }
 
     // The base is fixed: what resets acknowledged before is read by it.
-    fn fix(&mut self, base: u32)
+    fn fix(&mut self, base: SeqNumber)
         requires { vec_len self.old.resets < 2 ^ 32 }
         ensures changes { self.new ≡ fixed self.old base }
         ensures near { self.new.acked < 2 ^ 63 }
@@ -174,7 +185,7 @@ impl Ledger {
     }
 
     // A number is acknowledged.
-    fn reach(&mut self, base: u32, number: u32)
+    fn reach(&mut self, base: SeqNumber, number: SeqNumber)
         requires { self.old.acked < 2 ^ 63 }
         ensures { self.new ≡ record self.old { acked = acked_with_number base self.old.acked number } }
     {
@@ -183,14 +194,14 @@ impl Ledger {
 }
 
 // A SYN, where there is one, has another number than the one before the base.
-fn is_another(syn: bool, behind: u32, base: u32) -> bool
+fn is_another(syn: bool, behind: SeqNumber, base: SeqNumber) -> bool
     ensures { result ≡ (syn && not (behind == base)) }
 {
     syn && behind != base
 }
 
 // What is acknowledged, with one more number that is acknowledged.
-fn acked_with(base: u32, acked: u64, number: u32) -> u64
+fn acked_with(base: SeqNumber, acked: u64, number: SeqNumber) -> u64
     requires { acked < 2 ^ 63 }
     ensures value { result ≡ max acked (number_in (natural (off base acked number))) }
     ensures near { result < acked + 2 ^ 31 }

@@ -3,10 +3,10 @@ ghost use Rattle.std.specs.Prelude.{◌≡◌, ◌+◌, ◌%◌, ◌^◌, ◌<�
 ghost use Rattle.receiver_model.specs.Offsets as receiver;
 ghost use Rattle.era_state.specs.Offsets.{off, nat_of};
 
-// Half a turn of sequence numbers, and a turn.
-const HALF: u64 = 2147483648;
+use wire_base::SeqNumber;
 
-const TURN: u64 = 4294967296;
+// Half a turn of sequence numbers.
+const HALF: u64 = 2147483648;
 
 /// An offset in a stream, which may lie below 0: it is counted from half a turn below 0.
 #[derive(Clone, Copy, Debug, PartialEq, Eq)]
@@ -23,13 +23,12 @@ pub(crate) fn begin() -> Offset
 
 impl Offset {
     /// The offset of a sequence number, where so much is acknowledged.
-    pub(crate) fn of(base: u32, acked: u64, number: u32) -> Offset
+    pub(crate) fn of(base: SeqNumber, acked: u64, number: SeqNumber) -> Offset
         requires { acked < 2 ^ 63 }
         ensures value { receiver.offset_in result.raised ≡ off base acked number }
         ensures near { result.raised < acked + 2 ^ 32 }
     {
-        let from = (u64::from(base) + acked) % TURN;
-        let past = (u64::from(number) + TURN - from) % TURN;
+        let past = number.places_behind(base.plus(acked));
         if past < HALF {
             Offset {
                 raised: acked + past + HALF,
@@ -57,11 +56,4 @@ impl Offset {
     {
         self.raised.saturating_sub(HALF)
     }
-}
-
-/// The sequence number behind this one.
-pub(crate) fn number_after(number: u32) -> u32
-    ensures { result ≡ (number + 1) % 2 ^ 32 }
-{
-    ((u64::from(number) + 1) % TURN) as u32
 }

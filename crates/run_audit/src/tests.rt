@@ -8,7 +8,7 @@ use ipv4_codec::{Ipv4, write_plain};
 use std::alloc::{AllocError, Global};
 use std::test::Fail;
 use tcp_codec::{SegmentParts, write_segment};
-use wire_base::{Addr, Flags};
+use wire_base::{Addr, Flags, Protocol, SeqNumber};
 
 /// Little-endian, microseconds, raw IP.
 const HEAD: [u8; 24] = [
@@ -65,8 +65,8 @@ fn packet_octets(alloc: Global, packet: Packet) -> Result<Vec<u8>, AllocError> {
         dst,
         sport,
         dport,
-        seq,
-        ack,
+        seq: SeqNumber::new(seq),
+        ack: SeqNumber::new(ack),
         flags: Flags(flags & 31),
         window: 8192,
         options: ArrayVec::new(),
@@ -82,7 +82,7 @@ fn packet_octets(alloc: Global, packet: Packet) -> Result<Vec<u8>, AllocError> {
         more: false,
         offset: 0,
         ttl: 64,
-        protocol: 6,
+        protocol: Protocol::TCP,
         sum: 0,
         src,
         dst,

@@ -9,6 +9,7 @@
 //! Octets are parts joined by `+`: a text, in which `_` is a space, or `0x` and digits; `*` and a number behind a part repeat it. All octets may
 //! instead be one of `NAMED`.
 use std::test::Fail;
+use wire_base::Protocol;
 
 #[rattlefmt::skip]
 const MARKS: [&str; 18] = [
@@ -44,7 +45,7 @@ const NAMED: [(&str, &str); 6] = [
 #[derive(Clone, Copy)]
 pub struct Packet<'a> {
     pub inward: bool,
-    pub protocol: u8,
+    pub protocol: Protocol,
     kind: &'a str,
     numbers: &'a str,
     pub payload: &'a str,
@@ -62,7 +63,7 @@ impl<'a> Packet<'a> {
         let inward = is_inward(words.next().unwrap_or(""))?;
         let kind = words.next().unwrap_or("");
         let protocol = protocol_of(kind);
-        let numbers = if protocol == 6 {
+        let numbers = if protocol == Protocol::TCP {
             words.next().unwrap_or("")
         } else {
             ""
@@ -144,12 +145,12 @@ fn is_inward(sign: &str) -> Result<bool, Fail> {
     }
 }
 
-fn protocol_of(kind: &str) -> u8 {
+fn protocol_of(kind: &str) -> Protocol {
     match kind {
-        "ICMP" => 1,
-        "IGMP" => 2,
-        "UDP" => 17,
-        _ => 6,
+        "ICMP" => Protocol::ICMP,
+        "IGMP" => Protocol(2),
+        "UDP" => Protocol::UDP,
+        _ => Protocol::TCP,
     }
 }
 

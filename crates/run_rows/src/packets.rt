@@ -4,7 +4,7 @@ use crate::notation::{Packet, add_octets};
 use crate::runs::HEAD;
 use std::alloc::Global;
 use std::test::Fail;
-use wire_base::{Addr, pseudo_sum, sum_for};
+use wire_base::{Addr, Protocol, pseudo_sum, sum_for};
 
 // The flags of the IPv4 header, in the upper half of the octet that they share with the offset.
 const RESERVED: u8 = 128;
@@ -84,7 +84,7 @@ fn unsummed(alloc: Global, packet: &Packet<'_>) -> Result<Vec<u8>, Fail> {
 fn segment_octets(alloc: Global, packet: &Packet<'_>) -> Result<Vec<u8>, Fail> {
     let mut octets = unsummed(alloc, packet)?;
     let (from, to) = addresses(packet);
-    let pseudo = pseudo_sum(Addr(from), Addr(to), 6, length_of(&octets));
+    let pseudo = pseudo_sum(Addr(from), Addr(to), Protocol::TCP, length_of(&octets));
     let right = sum_for(&octets, pseudo);
     let sum = if packet.mark("zerosum").is_some() {
         0
@@ -99,7 +99,7 @@ fn segment_octets(alloc: Global, packet: &Packet<'_>) -> Result<Vec<u8>, Fail> {
 
 /// The whole message.
 fn message_octets(alloc: Global, packet: &Packet<'_>) -> Result<Vec<u8>, Fail> {
-    if packet.protocol == 6 {
+    if packet.protocol == Protocol::TCP {
         return segment_octets(alloc, packet);
     }
     let mut octets = Vec::new(alloc);
@@ -159,7 +159,7 @@ fn header_octets(alloc: Global, packet: &Packet<'_>, piece: &Piece<'_>) -> Resul
     octets.extend_from_slice(&[0x40 | words(&options) / 16, service, 0, 0])?;
     octets.extend_from_slice(&ident.to_be_bytes())?;
     octets.extend_from_slice(&fragmentation(packet, piece))?;
-    octets.extend_from_slice(&[ttl, packet.protocol, 0, 0])?;
+    octets.extend_from_slice(&[ttl, packet.protocol.0, 0, 0])?;
     octets.extend_from_slice(&from.to_be_bytes())?;
     octets.extend_from_slice(&to.to_be_bytes())?;
     octets.extend_from_slice(&options)?;
@@ -237,7 +237,10 @@ pub fn add_inward(list: &mut Vec<Vec<u8>>, alloc: Global, packets: &str) -> Resu
     }
     for line in packets.split(';') {
         let packet = Packet::read(line.trim())?;
-        if packet.inward && packet.protocol == 6 && packet.number("port", 40_000)? == 40_000 {
+        if packet.inward
+            && packet.protocol == Protocol::TCP
+            && packet.number("port", 40_000)? == 40_000
+        {
             list.push(octets_of(alloc, &packet)?)?;
         }
     }

@@ -1,11 +1,11 @@
 -- Cleaning as one walk over the octets, and that it is what is said of the list of options.
-use Rattle.std.proofs.Common.{◌≡◌, ℕ, zero, suc, ◌+◌, ◌-◌, ◌≤◌, ◌<◌, ◌⊎◌, ◌==◌, ◌&&◌, ◌||◌, nat_lt, not, inl, inr, Bool, true, false, List, [], ◌∷◌, ◌++◌, length, get_or, take, drop, replicate, if◌then◌else◌, refl, sym, ap, ◌∙◌, ⊎_elim, arith}
+use Rattle.std.proofs.Common.{◌≡◌, ℕ, zero, suc, ◌+◌, ◌-◌, ◌≤◌, ◌<◌, ◌==◌, ◌&&◌, ◌||◌, nat_lt, not, Bool, true, false, List, [], ◌∷◌, ◌++◌, length, get_or, take, drop, replicate, if◌then◌else◌, refl, sym, ap, ◌∙◌, ⊎_elim, arith}
 use Rattle.std.specs.List.{flat_map, list_any}
 use Rattle.std.proofs.lemmas.Bool.{ne_eqb}
 use Rattle.std.proofs.lemmas.Bool.Decides.{nat_tests}
 use Rattle.std.proofs.lemmas.List.{append_assoc, length-take-le}
 use Rattle.std.proofs.lemmas.List.Folds.{list_any-append}
-use Rattle.wire_base.specs.Options.{Listed, OptionList, options_from, may_be_kept, may_stay, is_kept, cleaned_option, cleaned_list, cleaned, end_of}
+use Rattle.wire_base.specs.Options.{Listed, OptionList, options_from, may_be_kept, may_stay, is_kept, cleaned_option, cleaned, end_of}
 use Rattle.wire_base.proofs.OptionLists.{at_front, options_from-size, front-size, which}
 use Rattle.tcp_codec.specs.Cleaning.{is_kept_after}
 

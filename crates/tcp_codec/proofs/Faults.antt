@@ -7,7 +7,8 @@ use Rattle.wire_base.specs.Options.{are_well_formed}
 use Rattle.tcp_codec.specs.declared.header.Tcp.{Tcp}
 use Rattle.tcp_codec.specs.declared.header.SumRule.{SumRule}
 use Rattle.tcp_codec.specs.declared.header.TcpFault.TheVariants.{Options}
-use Rattle.tcp_codec.specs.Header.{fields_of, fault_of, is_judged, parsed, result_of}
+use Rattle.wire_base.specs.Reading.{value_or_fault}
+use Rattle.tcp_codec.specs.Header.{fields_of, fault_of, is_judged, parsed}
 
 -- the option area, as it is taken out of a segment with a header of this length
 pub area_is : (m : List ℕ) (header : ℕ) → header ≡ tcp.header_length m → 20 ≤ header → take (header - 20) (drop 20 m) ≡ tcp.options m
@@ -31,8 +32,8 @@ parsed-options rule pseudo m head formed e whole some inside judged legal area =
     let flags = ap (λ (h : Tcp). tcp.are_legal h.flags.0) (sym e) ∙ legal in
     let options = ap are_well_formed (sym (area_is m head.header header some)) ∙ area in
     let fault = fault_of-options rule pseudo m formed whole (omega arith) (omega arith) sum flags options in
-    ap (result_of (fields_of pseudo m)) fault ∙ ap (λ h. result_of h (if not formed then Some Options else None)) (sym e) ∙ by_area head formed
+    ap (value_or_fault (fields_of pseudo m)) fault ∙ ap (λ h. value_or_fault h (if not formed then Some Options else None)) (sym e) ∙ by_area head formed
   where
-    by_area : (head : Tcp) (formed : Bool) → result_of head (if not formed then Some Options else None) ≡ (if formed then Ok head else Err Options)
+    by_area : (head : Tcp) (formed : Bool) → value_or_fault head (if not formed then Some Options else None) ≡ (if formed then Ok head else Err Options)
     by_area head true = refl
     by_area head false = refl

@@ -8,7 +8,8 @@ use Rattle.wire_base.specs.Options.{are_well_formed}
 use Rattle.wire_base.proofs.Mending.{word_sum-with_u16, checksum_for-below, is_right-checked}
 use Rattle.tcp_codec.specs.declared.header.SumRule.{SumRule}
 use Rattle.tcp_codec.specs.declared.header.SumRule.TheVariants.{Must, Skip}
-use Rattle.tcp_codec.specs.Header.{fields_of, is_judged, result_of}
+use Rattle.wire_base.specs.Reading.{value_or_fault}
+use Rattle.tcp_codec.specs.Header.{fields_of, is_judged}
 use Rattle.tcp_codec.specs.Write.{AreReadBack, Fits, checksum_of, header_of, octets_with, pseudo_of, segment_octets}
 use Rattle.tcp_codec.proofs.Faults.{fault_of-options}
 
@@ -78,7 +79,7 @@ read_back s fits = record {
       let header : tcp.header_length m ≡ 20 + length s.options = header-words (length s.options) fits.words fits.room in
       let count : length m ≡ 20 + length s.options + length s.octets = length-octets_with s (checksum_of s) in
       let none = fault_of-options rule (pseudo_of s) m true (omega arith) (omega arith) (omega arith) (let_through rule (ap not (sum-written s))) legal (ap are_well_formed (options-written s (checksum_of s) fits) ∙ formed) in
-      (λ i. result_of (fields-written s fits i) (none i));
+      (λ i. value_or_fault (fields-written s fits i) (none i));
 }
   where
     let_through : (rule : SumRule) {wrong : Bool} → wrong ≡ false → (is_judged rule && wrong) ≡ false

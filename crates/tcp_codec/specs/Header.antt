@@ -1,5 +1,6 @@
 -- The header of a TCP segment as a record, and the first fault of one (RFC 9293 section 3.1).
-use Rattle.std.specs.Prelude.{ℕ, ◌&&◌, Bool, true, false, List, Option, Some, None, Result, Ok, Err, if◌then◌else◌}
+use Rattle.std.specs.Prelude.{ℕ, ◌&&◌, Bool, true, false, List, Option, Some, None, Result, if◌then◌else◌}
+use Rattle.wire_base.specs.Reading.{value_or_fault}
 use Rattle.wire_base.specs.Sums.{sum_is_right}
 use Rattle.wire_base.specs.Tcp as tcp
 use Rattle.tcp_codec.specs.declared.header.Tcp.{Tcp}
@@ -39,11 +40,6 @@ fault_of rule pseudo segment =
     else if tcp.has_bad_options segment then Some Options
     else None
 
--- the fields, where there is no fault
-abbrev pub result_of : Tcp → Option TcpFault → Result Tcp TcpFault
-result_of head None = Ok head
-result_of head (Some fault) = Err fault
-
 -- what is read of a segment: its fields, or its first fault
 abbrev pub parsed : SumRule → (pseudo : ℕ) → List ℕ → Result Tcp TcpFault
-parsed rule pseudo segment = result_of (fields_of pseudo segment) (fault_of rule pseudo segment)
+parsed rule pseudo segment = value_or_fault (fields_of pseudo segment) (fault_of rule pseudo segment)

@@ -6,7 +6,7 @@ ghost use Rattle.wire_base.specs.Tcp as tcp;
 
 use crate::option_area::are_well_formed;
 use thiserror::Error;
-use wire_base::{Flags, sum_right, u16_at, u32_at};
+use wire_base::{Flags, SeqNumber, sum_right, u16_at, u32_at};
 
 // The octets of a header without options.
 const HEADER: usize = 20;
@@ -19,9 +19,9 @@ pub struct Tcp {
     /// The destination port.
     pub dport: u16,
     /// The sequence number.
-    pub seq: u32,
+    pub seq: SeqNumber,
     /// The acknowledgment number.
-    pub ack: u32,
+    pub ack: SeqNumber,
     /// The header's length in octets, options included.
     pub header: usize,
     /// The four bits between the data offset and the flags.
@@ -107,8 +107,8 @@ fn fields(bytes: &[u8], pseudo: u32) -> Tcp
     Tcp {
         sport: u16_at(bytes, 0),
         dport: u16_at(bytes, 2),
-        seq: u32_at(bytes, 4),
-        ack: u32_at(bytes, 8),
+        seq: SeqNumber::new(u32_at(bytes, 4)),
+        ack: SeqNumber::new(u32_at(bytes, 8)),
         header: 4 * usize::from(bytes[12] / 16),
         reserved: bytes[12] % 16,
         flags: Flags(bytes[13]),
@@ -132,7 +132,7 @@ fn are_legal(flags: Flags) -> bool
 #[cfg(test)]
 mod tests {
     use super::*;
-    use wire_base::{Addr, pseudo_sum};
+    use wire_base::{Addr, Protocol, pseudo_sum};
 
     /// `abcd` from port 40000 to port 80, PSH ACK, at the sequence number 1000 with the acknowledgment 5001.
     const SEGMENT: [u8; 24] = [
@@ -149,7 +149,7 @@ mod tests {
 
     /// What is summed before a segment of so many octets from 198.51.100.7 to 10.0.0.1.
     fn pseudo(len: u16) -> u32 {
-        pseudo_sum(Addr(0xc633_6407), Addr(0x0a00_0001), 6, len)
+        pseudo_sum(Addr(0xc633_6407), Addr(0x0a00_0001), Protocol::TCP, len)
     }
 
     /// The segment with another data offset octet, flags, and last four octets, and the old checksum.
@@ -166,8 +166,8 @@ mod tests {
         let segment = Tcp {
             sport: 40000,
             dport: 80,
-            seq: 1000,
-            ack: 5001,
+            seq: SeqNumber::new(1000),
+            ack: SeqNumber::new(5001),
             header: 20,
             reserved: 0,
             flags: Flags(0x18),
@@ -178,8 +178,8 @@ mod tests {
         let marked = Tcp {
             sport: 0x0102,
             dport: 0x0304,
-            seq: 0x0506_0708,
-            ack: 0x090a_0b0c,
+            seq: SeqNumber::new(0x0506_0708),
+            ack: SeqNumber::new(0x090a_0b0c),
             header: 28,
             reserved: 13,
             flags: Flags(0x12),

@@ -6,12 +6,10 @@ ghost use Rattle.tcp_codec.specs.Mending.{mended};
 ghost use Rattle.tcp_codec.specs.Write.{header_octets, octets_with, pseudo_of, segment_octets, segment_of};
 
 use arrayvec::ArrayVec;
-use wire_base::{Addr, Flags, pseudo_sum, put_u16, sum_for};
+use wire_base::{Addr, Flags, Protocol, SeqNumber, pseudo_sum, put_u16, sum_for};
 
-// The octets of a header without options, and the protocol's number (RFC 9293 section 3.1).
+// The octets of a header without options (RFC 9293 section 3.1).
 const HEADER: usize = 20;
-
-const TCP: u8 = 6;
 
 // Where the checksum stands in a segment, in octets.
 const CHECKSUM: usize = 16;
@@ -27,9 +25,9 @@ pub struct SegmentParts {
     /// The destination port.
     pub dport: u16,
     /// The sequence number.
-    pub seq: u32,
+    pub seq: SeqNumber,
     /// The acknowledgment number.
-    pub ack: u32,
+    pub ack: SeqNumber,
     pub flags: Flags,
     pub window: u16,
     /// The octets of the option area.
@@ -50,7 +48,10 @@ pub fn write_segment(parts: &SegmentParts, payload: &[u8], buf: &mut [u8]) -> us
     let size = HEADER + parts.options.len() + payload.len();
     let segment = &mut buf[..size];
     put_parts(parts, payload, segment);
-    let sum = sum_for(segment, pseudo_sum(parts.src, parts.dst, TCP, size as u16));
+    let sum = sum_for(
+        segment,
+        pseudo_sum(parts.src, parts.dst, Protocol::TCP, size as u16),
+    );
     put_u16(segment, CHECKSUM, sum);
     size
 }
@@ -84,8 +85,8 @@ fn without_sum(parts: &SegmentParts) -> [u8; 20]
 {
     let [sport_high, sport_low] = parts.sport.to_be_bytes();
     let [dport_high, dport_low] = parts.dport.to_be_bytes();
-    let [a, b, c, d] = parts.seq.to_be_bytes();
-    let [e, f, g, h] = parts.ack.to_be_bytes();
+    let [a, b, c, d] = parts.seq.value().to_be_bytes();
+    let [e, f, g, h] = parts.ack.value().to_be_bytes();
     let words = (HEADER + parts.options.len()) / 4;
     let [window_high, window_low] = parts.window.to_be_bytes();
     [
@@ -127,8 +128,8 @@ mod tests {
             dst: Addr(0x0a00_0001),
             sport: 40000,
             dport: 80,
-            seq,
-            ack,
+            seq: SeqNumber::new(seq),
+            ack: SeqNumber::new(ack),
             flags,
             window: 8192,
             options: ArrayVec::new(),

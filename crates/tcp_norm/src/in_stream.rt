@@ -35,8 +35,8 @@ impl TcpNorm {
     pub(crate) fn in_stream(
         &mut self,
         slot: Slot,
-        flow: Flow,
-        warm: Warm,
+        flow: &Flow,
+        warm: &Warm,
         now: u32,
         packet: &IpPacket<'_>,
         link: &[u8],
@@ -46,14 +46,14 @@ impl TcpNorm {
     )
         requires inside { IsIn self.old.table.entries slot }
         requires key { Wherever self.old.table.entries slot (λ e. e.key.0 ≡ key_at Inward packet.now.head packet.now.payload.now) }
-        requires entry { Wherever self.old.table.entries slot (λ e. e.value ≡ flow) }
+        requires entry { Wherever self.old.table.entries slot (λ e. e.value ≡ flow.now) }
         requires no_syn { tcp.has_syn head.now.flags.0 ≡ false }
         requires no_rst { tcp.has_rst head.now.flags.0 ≡ false }
-        requires settled { (ws : List Written) → eras.StandsFor flow.era ws → WarmFor warm ws }
-        requires state { is_acknowledged (eras.state_in flow.era) ≡ true }
-        requires acked { warm.acked ≡ eras.acked_in flow.era }
-        requires octets { warm.octets ≡ eras.octets_in flow.era }
-        requires near { IsNear self.old.calls flow.era }
+        requires settled { (ws : List Written) → eras.StandsFor flow.now.era ws → WarmFor warm.now ws }
+        requires state { is_acknowledged (eras.state_in flow.now.era) ≡ true }
+        requires acked { warm.now.acked ≡ eras.acked_in flow.now.era }
+        requires octets { warm.now.octets ≡ eras.octets_in flow.now.era }
+        requires near { IsNear self.old.calls flow.now.era }
         requires side { packet.now.side ≡ Inward }
         requires short { length packet.now.payload.now ≤ 65515 }
         requires head { IsHead packet.now.payload.now head.now }
@@ -76,7 +76,7 @@ impl TcpNorm {
         let _count = self.table.len();
         let _free = self.store.free();
         self.arrive(now);
-        match self.pass(slot, flow, warm, now, packet.payload, head) {
+        match self.pass(slot, *flow, *warm, now, packet.payload, head) {
             Err(rule) => tell_dropped(rule, Some(flow.number), 0, entry),
             Ok(passed) => {
                 let rows = passed.rows;

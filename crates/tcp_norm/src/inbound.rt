@@ -96,15 +96,15 @@ impl TcpNorm {
         if head.flags.rst() {
             return self.in_reset(slot, flow, now, packet, link, head, out, entry);
         }
-        match flow.era {
+        match &flow.era {
             Era::Called(_) | Era::Offered(_) => self.in_early(
                 slot, flow, now, packet, link, head, out, entry,
             ),
             Era::Warm(warm) => self.in_stream(
-                slot, flow, warm, now, packet, link, head, out, entry,
+                slot, &flow, warm, now, packet, link, head, out, entry,
             ),
             Era::Closed(era) => self.in_stream(
-                slot, flow, era.last, now, packet, link, head, out, entry,
+                slot, &flow, &era.last, now, packet, link, head, out, entry,
             ),
         }
     }

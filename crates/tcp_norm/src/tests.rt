@@ -7,7 +7,7 @@ ghost use Rattle.tcp_norm.specs.Heads.{IsHead};
 
 use crate::TcpNorm;
 use arrayvec::ArrayVec;
-use edge_io::Outbox;
+use edge_io::{NoMemory, Outbox};
 use ip_rules::IpPacket;
 use ipv4_codec::{Ipv4, write_plain};
 use norm_settings::Settings;
@@ -16,7 +16,7 @@ use std::alloc::Global;
 use std::process::Abort;
 use std::test::Fail;
 use tcp_codec::{SegmentParts, SumRule, Tcp, mend, parse, write_segment};
-use wire_base::{Addr, Flags, Side, pseudo_sum};
+use wire_base::{Addr, Flags, Protocol, SeqNumber, Side, pseudo_sum};
 
 const FIN_ACK: u8 = 17;
 
@@ -284,7 +284,7 @@ fn head_of(way: Side, ttl: u8) -> Ipv4 {
         more: false,
         offset: 0,
         ttl,
-        protocol: 6,
+        protocol: Protocol::TCP,
         sum: 0,
         src,
         dst,
@@ -347,8 +347,8 @@ fn write_sent(sent: &Sent, buf: &mut [u8; 400]) -> usize
         dst: head.dst,
         sport,
         dport,
-        seq,
-        ack,
+        seq: SeqNumber::new(seq),
+        ack: SeqNumber::new(ack),
         flags: Flags(flags % 32),
         window: more.window,
         options: options_of(more.options),
@@ -359,7 +359,7 @@ fn write_sent(sent: &Sent, buf: &mut [u8; 400]) -> usize
     let size = write_segment(&parts, &octets[..count], back);
     mark(
         &mut back[..size],
-        pseudo_sum(head.src, head.dst, 6, size as u16),
+        pseudo_sum(head.src, head.dst, Protocol::TCP, size as u16),
         &more,
     );
     write_plain(&head, size as u16, front) + size
@@ -420,6 +420,9 @@ fn hand(
     number: u32,
     out: &mut Outbox,
 ) -> Result<Entry, Fail> {
+    if norm.latest > now {
+        return Err("no time")?;
+    }
     let mut frame = [0; 400];
     let size = write_sent(sent, &mut frame);
     let Sent(way, _, _, _, _, more) = *sent;
@@ -427,8 +430,13 @@ fn hand(
     let octets = &frame[20..size];
     let tcp = read_head(
         octets,
-        pseudo_sum(head.src, head.dst, 6, octets.len() as u16),
+        pseudo_sum(head.src, head.dst, Protocol::TCP, octets.len() as u16),
     )?;
+    let mut entry = entry_of(number, way);
+    norm.expire(now, &mut entry);
+    if norm.calls >= 1000 || norm.latest > now || entry.ended.len() > 2 {
+        return Err("no room")?;
+    }
     let packet = IpPacket {
         side: way,
         head,
@@ -436,14 +444,6 @@ fn hand(
         payload: octets,
         fixes: ArrayVec::new(),
     };
-    if norm.latest > now {
-        return Err("no time")?;
-    }
-    let mut entry = entry_of(number, way);
-    norm.expire(now, &mut entry);
-    if norm.calls >= 1000 || norm.latest > now || entry.ended.len() > 2 {
-        return Err("no room")?;
-    }
     out.clear();
     match way {
         Inward => norm.inbound(now, &packet, &[], &tcp, out, &mut entry),
@@ -452,33 +452,70 @@ fn hand(
     Ok(entry)
 }
 
-// Hands the rows of a run over, one after another.
-fn follow(rt: &impl Abort, alloc: Global, run: &Run) -> Result<(), Fail> {
-    let mut norm = TcpNorm::open(alloc, &settings_of(run))?;
-    let mut out = Outbox::open(alloc)?;
-    for (i, row) in run.rows.iter().enumerate() {
-        let number = (i % 1000) as u32 + 1;
-        let entry = hand(&mut norm, row.0, &row.1, number, &mut out)?;
-        if !has_octets(&entry) {
-            return Err("no octets")?;
-        }
-        let mut line = [0; 400];
-        let size = entry_line(&entry, &mut line);
-        assert_eq!(rt; &line[..size], row.2.as_bytes(), "line {i}");
-        let own = [row.1];
-        let sent = if entry.verdict == Verdict::Pass {
-            own.as_slice()
-        } else {
-            row.3
-        };
-        assert_eq!(rt; out.frames(), sent.len(), "frames of {i}");
-        for (k, packet) in sent.iter().enumerate() {
-            let mut frame = [0; 400];
-            let size = write_sent(packet, &mut frame);
-            assert_eq!(rt; out.frame(k), &frame[..size], "frame {k} of {i}");
-        }
+// The packets that went out are these segments.
+fn sends(rt: &impl Abort, out: &Outbox, sent: &[Sent], line: usize) {
+    assert_eq!(rt; out.frames(), sent.len(), "frames of {line}");
+    for (k, packet) in sent.iter().enumerate() {
+        let mut frame = [0; 400];
+        let size = write_sent(packet, &mut frame);
+        assert_eq!(rt; out.frame(k), &frame[..size], "frame {k} of {line}");
+    }
+}
+
+// What became of a segment is what its row says.
+fn says(rt: &impl Abort, entry: &Entry, out: &Outbox, row: &Row, i: usize) -> Result<(), Fail> {
+    if !has_octets(entry) {
+        return Err("no octets")?;
+    }
+    let mut line = [0; 400];
+    let size = entry_line(entry, &mut line);
+    assert_eq!(rt; &line[..size], row.2.as_bytes(), "line {i}");
+    let own = [row.1];
+    let sent = if entry.verdict == Verdict::Pass {
+        own.as_slice()
+    } else {
+        row.3
+    };
+    sends(rt, out, sent, i);
+    Ok(())
+}
+
+// Hands the segment of a row over.
+fn follow_row(
+    rt: &impl Abort,
+    norm: &mut TcpNorm,
+    out: &mut Outbox,
+    row: &Row,
+    i: usize,
+) -> Result<(), Fail> {
+    let number = (i % 1000) as u32 + 1;
+    let entry = hand(norm, row.0, &row.1, number, out)?;
+    says(rt, &entry, out, row, i)
+}
+
+// Hands these rows over, one after another.
+fn follow_rows(
+    rt: &impl Abort,
+    norm: &mut TcpNorm,
+    out: &mut Outbox,
+    rows: &[Row],
+) -> Result<(), Fail> {
+    for (i, row) in rows.iter().enumerate() {
+        follow_row(rt, norm, out, row, i)?;
     }
     Ok(())
+}
+
+fn open(alloc: Global, run: &Run) -> Result<TcpNorm, NoMemory> {
+    let settings = settings_of(run);
+    TcpNorm::open(alloc, &settings)
+}
+
+// Hands the rows of a run over.
+fn follow(rt: &impl Abort, alloc: Global, run: &Run) -> Result<(), Fail> {
+    let mut out = Outbox::open(alloc)?;
+    let mut norm = open(alloc, run)?;
+    follow_rows(rt, &mut norm, &mut out, run.rows)
 }
 
 fn follow_each(rt: &impl Abort, alloc: Global, runs: &[Run]) -> Result<(), Fail> {

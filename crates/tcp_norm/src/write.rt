@@ -17,10 +17,7 @@ use ipv4_codec::Ipv4;
 use reset_probe::write_probe;
 use tcp_codec::laws::mended_say_the_same;
 use tcp_codec::{Tcp, mend};
-use wire_base::pseudo_sum;
-
-// The protocol's number (RFC 9293 section 3.1).
-const TCP: u8 = 6;
+use wire_base::{Protocol, pseudo_sum};
 
 /// Puts a packet with its header anew and with its segment's checksum mended into the empty outbox.
 pub(crate) fn put_mended(
@@ -44,7 +41,7 @@ pub(crate) fn put_mended(
     copy.copy_from_slice(segment);
     mend(
         copy,
-        pseudo_sum(head.src, head.dst, TCP, segment.len() as u16),
+        pseudo_sum(head.src, head.dst, Protocol::TCP, segment.len() as u16),
     );
     put_anew(link, head, copy, out);
 }

@@ -1,5 +1,6 @@
 -- The header of a UDP message as a record, and the first fault of one (RFC 768).
-use Rattle.std.specs.Prelude.{ℕ, List, Option, Some, None, Result, Ok, Err, if◌then◌else◌}
+use Rattle.std.specs.Prelude.{ℕ, List, Option, Some, None, Result, if◌then◌else◌}
+use Rattle.wire_base.specs.Reading.{value_or_fault}
 use Rattle.wire_base.specs.Udp as udp
 use Rattle.udp_codec.specs.declared.header.Udp.{Udp}
 use Rattle.udp_codec.specs.declared.header.UdpFault.{UdpFault}
@@ -23,11 +24,6 @@ fault_of pseudo message =
     else if udp.has_wrong_sum pseudo message then Some Sum
     else None
 
--- the fields, where there is no fault
-abbrev pub result_of : Udp → Option UdpFault → Result Udp UdpFault
-result_of head None = Ok head
-result_of head (Some fault) = Err fault
-
 -- what is read of a message: its fields, or its first fault
 abbrev pub parsed : (pseudo : ℕ) → List ℕ → Result Udp UdpFault
-parsed pseudo message = result_of (fields_of message) (fault_of pseudo message)
+parsed pseudo message = value_or_fault (fields_of message) (fault_of pseudo message)

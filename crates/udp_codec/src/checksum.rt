@@ -25,7 +25,7 @@ pub fn mend(bytes: &mut [u8], pseudo: u32)
 #[cfg(test)]
 mod tests {
     use super::*;
-    use wire_base::{Addr, pseudo_sum};
+    use wire_base::{Addr, Protocol, pseudo_sum};
 
     // None made; a wrong one; a right one; one that comes to 0.
     #[test]
@@ -36,7 +36,7 @@ mod tests {
             ([0xc6, 0xbf], [0x68, 0x69], [0xc6, 0xbf]),
             ([0, 0], [0x2f, 0x29], [0xff, 0xff]),
         ];
-        let pseudo = pseudo_sum(Addr(0xc633_6407), Addr(0x0a00_0001), 17, 10);
+        let pseudo = pseudo_sum(Addr(0xc633_6407), Addr(0x0a00_0001), Protocol::UDP, 10);
         for ([a, b], [h, i], [c, d]) in rows {
             let mut message = [0x9c, 0x40, 0, 0x35, 0, 10, a, b, h, i];
             mend(&mut message, pseudo);

@@ -65,11 +65,11 @@ fn fields(bytes: &[u8]) -> Udp
 #[cfg(test)]
 mod tests {
     use super::*;
-    use wire_base::{Addr, pseudo_sum};
+    use wire_base::{Addr, Protocol, pseudo_sum};
 
     /// What is summed before a message of ten octets from 198.51.100.7 to 10.0.0.1.
     fn pseudo() -> u32 {
-        pseudo_sum(Addr(0xc633_6407), Addr(0x0a00_0001), 17, 10)
+        pseudo_sum(Addr(0xc633_6407), Addr(0x0a00_0001), Protocol::UDP, 10)
     }
 
     /// A message from port 40000 to port 53 as it is read.

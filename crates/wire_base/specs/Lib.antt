@@ -1,4 +1,5 @@
 pub mod Numbers
+pub mod Reading
 pub mod Sums
 pub mod Frames
 pub mod Prefixes

@@ -6,6 +6,7 @@ use run_rows::packets::add_inward;
 use run_rows::rows::{FEW, NOTHING, OPENED, Row, holds};
 use std::alloc::Global;
 use std::test::Fail;
+use wire_base::SeqNumber;
 
 /// A run, and what receivers deliver of the connection that comes first: from which offset on, the octets where there are some, and `FIN` where the
 /// stream ends; with `;` between streams.
@@ -186,7 +187,7 @@ fn is_heard(
     order: Order,
     told: &Told,
 ) -> Result<bool, NoMemory> {
-    let mut family = Family::open(alloc, 1000, told.start)?;
+    let mut family = Family::open(alloc, SeqNumber::new(1000), told.start)?;
     let heard = hears(&mut family, packets, order, told);
     heard
 }

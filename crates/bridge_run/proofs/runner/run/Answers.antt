@@ -4,9 +4,7 @@ use Rattle.norm_settings.specs.Settings.{plain_settings}
 use Rattle.bridge_run.proofs.runner.run.Goals as goal
 
 pub run_capture-requires-clause-together : goal.run_capture-requires-clause-together
-run_capture-requires-clause-together g c =
-    let words = rw c.in-Run.is at c.in-Ok.ensures.together in
-    record { mirror = λ both. words.mirror; inside = words.inside; mtu = words.mtu }
+run_capture-requires-clause-together g c = rw c.in-Run.is at c.in-Ok.ensures.together
 
 pub returns-in-Run-clause-finished : goal.returns-in-Run-clause-finished
 returns-in-Run-clause-finished g c = λ e. inl (record {

@@ -3,7 +3,8 @@ use Rattle.std.proofs.lemmas.Bool.Decides.{nat_tests}
 use Rattle.wire_base.specs.Tcp as tcp
 use Rattle.wire_base.specs.Options.{are_well_formed}
 use Rattle.tcp_codec.specs.declared.header.TcpFault.TheVariants.{DataOffset}
-use Rattle.tcp_codec.specs.Header.{fault_of, fields_of, result_of}
+use Rattle.wire_base.specs.Reading.{value_or_fault}
+use Rattle.tcp_codec.specs.Header.{fault_of, fields_of}
 use Rattle.tcp_codec.proofs.Faults.{area_is, parsed-options}
 use Rattle.tcp_codec.proofs.header.parse.Goals as goal
 use Rattle.tcp_codec.proofs.header.parse.Goals.{then-head-lt-HEADER-via-then-head-lt-HEADER, then-head-lt-HEADER-via-else-head-lt-HEADER+then-bytes-head}
@@ -18,7 +19,7 @@ returns-then-head-lt-HEADER-clause-exact c =
       | then-head-lt-HEADER-via-else-head-lt-HEADER+then-bytes-head w ↦ inr (omega arith)
     ] in
     let fault : fault_of c.args.rule c.args.pseudo segment ≡ Some DataOffset = grind (arith, nat_tests) in
-    sym (ap (result_of (fields_of c.args.pseudo segment)) fault)
+    sym (ap (value_or_fault (fields_of c.args.pseudo segment)) fault)
 
 pub returns-then-not-are_well_formed-clause-exact : goal.returns-then-not-are_well_formed-clause-exact
 returns-then-not-are_well_formed-clause-exact c =

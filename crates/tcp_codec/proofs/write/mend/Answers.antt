@@ -1,4 +1,4 @@
-use Rattle.std.proofs.Common.{◌≡◌, ◌+◌, ap, ap₂, sym, subst, ◌∙◌, true}
+use Rattle.std.proofs.Common.{◌≡◌, ◌+◌, ap, ap₂, ◌∙◌}
 use Rattle.wire_base.specs.Numbers.{with_u16}
 use Rattle.wire_base.specs.Sums.{word_sum, checksum_for, sum_is_right}
 use Rattle.tcp_codec.specs.Mending.{mended}

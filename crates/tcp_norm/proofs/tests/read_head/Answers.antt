@@ -1,11 +1,12 @@
 use Rattle.std.proofs.Common.{◌≡◌, Option, Some, None, Ok}
+use Rattle.wire_base.specs.Reading.{value_or_fault}
 use Rattle.tcp_codec.specs.declared.header.Tcp.{Tcp}
 use Rattle.tcp_codec.specs.declared.header.TcpFault.{TcpFault}
 use Rattle.tcp_codec.specs.declared.header.SumRule.TheVariants.{Skip}
-use Rattle.tcp_codec.specs.Header.{fields_of, fault_of, result_of}
+use Rattle.tcp_codec.specs.Header.{fields_of, fault_of}
 use Rattle.tcp_norm.proofs.tests.read_head.Goals as goal
 
-faultless : (fields head : Tcp) (fault : Option TcpFault) → Ok head ≡ result_of fields fault → head ≡ fields
+faultless : (fields head : Tcp) (fault : Option TcpFault) → Ok head ≡ value_or_fault fields fault → head ≡ fields
 faultless fields head None e = cc
 faultless fields head (Some x) e = cc
 

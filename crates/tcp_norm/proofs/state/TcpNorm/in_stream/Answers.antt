@@ -41,29 +41,29 @@ tell_in-requires-clause-rows c = omega (arith, c.in-Ok.ensures.few)
 
 pub returns-in-Err-clause-stands : goal.returns-in-Err-clause-stands
 returns-in-Err-clause-stands c settings calls d st is =
-    let n = c.args.flow.number in
+    let n = c.args.flow.now.number in
     let v = view_of settings calls d in
     let w = segment_in d in
     let side = side_is c.args.packet.now c.args.link.now d c.requires.side is in
     let key_is = keyed c.args.packet.now c.args.link.now d _ c.requires.side is refl in
-    let live = view_live settings calls _ _ _ c.args.slot c.args.flow _ d st.holds c.requires.inside c.len-count.ensures.slots_apart c.len-count.ensures.keys_apart c.requires.entry c.requires.key key_is in
-    let stood = era_at (eras calls) (λ m. segments m calls) _ _ _ c.args.slot c.args.flow st.holds c.requires.inside c.len-count.ensures.slots_apart c.len-count.ensures.keys_apart c.requires.entry in
+    let live = view_live settings calls _ _ _ c.args.slot c.args.flow.now _ d st.holds c.requires.inside c.len-count.ensures.slots_apart c.len-count.ensures.keys_apart c.requires.entry c.requires.key key_is in
+    let stood = era_at (eras calls) (λ m. segments m calls) _ _ _ c.args.slot c.args.flow.now st.holds c.requires.inside c.len-count.ensures.slots_apart c.len-count.ensures.keys_apart c.requires.entry in
     let flags = flags_are c.args.packet.now c.args.link.now d c.args.head.now is c.requires.head in
     let syn : tcp.has_syn w.flags ≡ false = sym (ap tcp.has_syn flags) ∙ c.requires.no_syn in
     let rst : tcp.has_rst w.flags ≡ false = sym (ap tcp.has_rst flags) ∙ c.requires.no_rst in
-    let stream = stream_is v.segments w _ ((c.states_are_the_lists.ensures c.args.flow.era (segments n calls) stood).state_is ∙ ap state_of (sym live.segments_are)) c.requires.state side syn rst in
+    let stream = stream_is v.segments w _ ((c.states_are_the_lists.ensures c.args.flow.now.era (segments n calls) stood).state_is ∙ ap state_of (sym live.segments_are)) c.requires.state side syn rst in
     let f = of_stream v.segments w stream in
-    let warm = subst (WarmFor c.args.warm) (sym live.segments_are) (c.requires.settled (segments n calls) stood) in
+    let warm = subst (WarmFor c.args.warm.now) (sym live.segments_are) (c.requires.settled (segments n calls) stood) in
     let total = held_is calls _ _ _ _ st.holds (st.opened.chains ∙ sym st.opened.flows) c.len-count.ensures.slots_below c.len-count.ensures.slots_apart in
     let room : v.room ≡ c.args.self.now.store.free = omega (arith, total, c.free-free.ensures.total, st.opened.store) in
     let roomy : v.room ≡ c.arrive.new.self.store.free = room ∙ sym (ap (λ (s : Store). s.free) c.arrive.ensures.store) in
     let keeps : Keeps (chain_of c.arrive.new.self.store c.args.slot.0) v.segments =
     subst (λ (s : Store). Keeps (chain_of s c.args.slot.0) v.segments) (sym c.arrive.ensures.store)
     (subst (Keeps (chain_of c.args.self.now.store c.args.slot.0)) (sym live.segments_are)
-    (keeps_at (eras calls) (λ m. segments m calls) _ _ _ c.args.slot c.args.flow st.holds c.requires.inside c.len-count.ensures.slots_apart c.len-count.ensures.keys_apart c.requires.entry)) in
+    (keeps_at (eras calls) (λ m. segments m calls) _ _ _ c.args.slot c.args.flow.now st.holds c.requires.inside c.len-count.ensures.slots_apart c.len-count.ensures.keys_apart c.requires.entry)) in
     let count : length (chain_of c.arrive.new.self.store c.args.slot.0) ≡ held_of v.segments =
     ap (λ (s : Store). length (chain_of s c.args.slot.0)) c.arrive.ensures.store
-    ∙ (count_at (eras calls) (λ m. segments m calls) _ _ _ c.args.slot c.args.flow st.holds c.requires.inside c.len-count.ensures.slots_apart c.len-count.ensures.keys_apart c.requires.entry ∙ ap held_of (sym live.segments_are)) in
+    ∙ (count_at (eras calls) (λ m. segments m calls) _ _ _ c.args.slot c.args.flow.now st.holds c.requires.inside c.len-count.ensures.slots_apart c.len-count.ensures.keys_apart c.requires.entry ∙ ap held_of (sym live.segments_are)) in
     let bound = (c.arrive.ensures.opened settings st.opened).quota in
     let is_live' = ap is_some live.era_is in
     let drops = c.in-Err.ensures.drops settings v d keeps count roomy bound is.octets side is_live' warm stream in
@@ -76,29 +76,29 @@ returns-in-Err-clause-stands c settings calls d st is =
 
 pub returns-in-Err-clause-entry : goal.returns-in-Err-clause-entry
 returns-in-Err-clause-entry c settings calls d st is =
-    let n = c.args.flow.number in
+    let n = c.args.flow.now.number in
     let v = view_of settings calls d in
     let w = segment_in d in
     let side = side_is c.args.packet.now c.args.link.now d c.requires.side is in
     let key_is = keyed c.args.packet.now c.args.link.now d _ c.requires.side is refl in
-    let live = view_live settings calls _ _ _ c.args.slot c.args.flow _ d st.holds c.requires.inside c.len-count.ensures.slots_apart c.len-count.ensures.keys_apart c.requires.entry c.requires.key key_is in
-    let stood = era_at (eras calls) (λ m. segments m calls) _ _ _ c.args.slot c.args.flow st.holds c.requires.inside c.len-count.ensures.slots_apart c.len-count.ensures.keys_apart c.requires.entry in
+    let live = view_live settings calls _ _ _ c.args.slot c.args.flow.now _ d st.holds c.requires.inside c.len-count.ensures.slots_apart c.len-count.ensures.keys_apart c.requires.entry c.requires.key key_is in
+    let stood = era_at (eras calls) (λ m. segments m calls) _ _ _ c.args.slot c.args.flow.now st.holds c.requires.inside c.len-count.ensures.slots_apart c.len-count.ensures.keys_apart c.requires.entry in
     let flags = flags_are c.args.packet.now c.args.link.now d c.args.head.now is c.requires.head in
     let syn : tcp.has_syn w.flags ≡ false = sym (ap tcp.has_syn flags) ∙ c.requires.no_syn in
     let rst : tcp.has_rst w.flags ≡ false = sym (ap tcp.has_rst flags) ∙ c.requires.no_rst in
-    let stream = stream_is v.segments w _ ((c.states_are_the_lists.ensures c.args.flow.era (segments n calls) stood).state_is ∙ ap state_of (sym live.segments_are)) c.requires.state side syn rst in
+    let stream = stream_is v.segments w _ ((c.states_are_the_lists.ensures c.args.flow.now.era (segments n calls) stood).state_is ∙ ap state_of (sym live.segments_are)) c.requires.state side syn rst in
     let f = of_stream v.segments w stream in
-    let warm = subst (WarmFor c.args.warm) (sym live.segments_are) (c.requires.settled (segments n calls) stood) in
+    let warm = subst (WarmFor c.args.warm.now) (sym live.segments_are) (c.requires.settled (segments n calls) stood) in
     let total = held_is calls _ _ _ _ st.holds (st.opened.chains ∙ sym st.opened.flows) c.len-count.ensures.slots_below c.len-count.ensures.slots_apart in
     let room : v.room ≡ c.args.self.now.store.free = omega (arith, total, c.free-free.ensures.total, st.opened.store) in
     let roomy : v.room ≡ c.arrive.new.self.store.free = room ∙ sym (ap (λ (s : Store). s.free) c.arrive.ensures.store) in
     let keeps : Keeps (chain_of c.arrive.new.self.store c.args.slot.0) v.segments =
     subst (λ (s : Store). Keeps (chain_of s c.args.slot.0) v.segments) (sym c.arrive.ensures.store)
     (subst (Keeps (chain_of c.args.self.now.store c.args.slot.0)) (sym live.segments_are)
-    (keeps_at (eras calls) (λ m. segments m calls) _ _ _ c.args.slot c.args.flow st.holds c.requires.inside c.len-count.ensures.slots_apart c.len-count.ensures.keys_apart c.requires.entry)) in
+    (keeps_at (eras calls) (λ m. segments m calls) _ _ _ c.args.slot c.args.flow.now st.holds c.requires.inside c.len-count.ensures.slots_apart c.len-count.ensures.keys_apart c.requires.entry)) in
     let count : length (chain_of c.arrive.new.self.store c.args.slot.0) ≡ held_of v.segments =
     ap (λ (s : Store). length (chain_of s c.args.slot.0)) c.arrive.ensures.store
-    ∙ (count_at (eras calls) (λ m. segments m calls) _ _ _ c.args.slot c.args.flow st.holds c.requires.inside c.len-count.ensures.slots_apart c.len-count.ensures.keys_apart c.requires.entry ∙ ap held_of (sym live.segments_are)) in
+    ∙ (count_at (eras calls) (λ m. segments m calls) _ _ _ c.args.slot c.args.flow.now st.holds c.requires.inside c.len-count.ensures.slots_apart c.len-count.ensures.keys_apart c.requires.entry ∙ ap held_of (sym live.segments_are)) in
     let bound = (c.arrive.ensures.opened settings st.opened).quota in
     let is_live' = ap is_some live.era_is in
     let drops = c.in-Err.ensures.drops settings v d keeps count roomy bound is.octets side is_live' warm stream in
@@ -107,29 +107,29 @@ returns-in-Err-clause-entry c settings calls d st is =
 
 pub returns-in-Err-clause-frames : goal.returns-in-Err-clause-frames
 returns-in-Err-clause-frames c settings calls d st is =
-    let n = c.args.flow.number in
+    let n = c.args.flow.now.number in
     let v = view_of settings calls d in
     let w = segment_in d in
     let side = side_is c.args.packet.now c.args.link.now d c.requires.side is in
     let key_is = keyed c.args.packet.now c.args.link.now d _ c.requires.side is refl in
-    let live = view_live settings calls _ _ _ c.args.slot c.args.flow _ d st.holds c.requires.inside c.len-count.ensures.slots_apart c.len-count.ensures.keys_apart c.requires.entry c.requires.key key_is in
-    let stood = era_at (eras calls) (λ m. segments m calls) _ _ _ c.args.slot c.args.flow st.holds c.requires.inside c.len-count.ensures.slots_apart c.len-count.ensures.keys_apart c.requires.entry in
+    let live = view_live settings calls _ _ _ c.args.slot c.args.flow.now _ d st.holds c.requires.inside c.len-count.ensures.slots_apart c.len-count.ensures.keys_apart c.requires.entry c.requires.key key_is in
+    let stood = era_at (eras calls) (λ m. segments m calls) _ _ _ c.args.slot c.args.flow.now st.holds c.requires.inside c.len-count.ensures.slots_apart c.len-count.ensures.keys_apart c.requires.entry in
     let flags = flags_are c.args.packet.now c.args.link.now d c.args.head.now is c.requires.head in
     let syn : tcp.has_syn w.flags ≡ false = sym (ap tcp.has_syn flags) ∙ c.requires.no_syn in
     let rst : tcp.has_rst w.flags ≡ false = sym (ap tcp.has_rst flags) ∙ c.requires.no_rst in
-    let stream = stream_is v.segments w _ ((c.states_are_the_lists.ensures c.args.flow.era (segments n calls) stood).state_is ∙ ap state_of (sym live.segments_are)) c.requires.state side syn rst in
+    let stream = stream_is v.segments w _ ((c.states_are_the_lists.ensures c.args.flow.now.era (segments n calls) stood).state_is ∙ ap state_of (sym live.segments_are)) c.requires.state side syn rst in
     let f = of_stream v.segments w stream in
-    let warm = subst (WarmFor c.args.warm) (sym live.segments_are) (c.requires.settled (segments n calls) stood) in
+    let warm = subst (WarmFor c.args.warm.now) (sym live.segments_are) (c.requires.settled (segments n calls) stood) in
     let total = held_is calls _ _ _ _ st.holds (st.opened.chains ∙ sym st.opened.flows) c.len-count.ensures.slots_below c.len-count.ensures.slots_apart in
     let room : v.room ≡ c.args.self.now.store.free = omega (arith, total, c.free-free.ensures.total, st.opened.store) in
     let roomy : v.room ≡ c.arrive.new.self.store.free = room ∙ sym (ap (λ (s : Store). s.free) c.arrive.ensures.store) in
     let keeps : Keeps (chain_of c.arrive.new.self.store c.args.slot.0) v.segments =
     subst (λ (s : Store). Keeps (chain_of s c.args.slot.0) v.segments) (sym c.arrive.ensures.store)
     (subst (Keeps (chain_of c.args.self.now.store c.args.slot.0)) (sym live.segments_are)
-    (keeps_at (eras calls) (λ m. segments m calls) _ _ _ c.args.slot c.args.flow st.holds c.requires.inside c.len-count.ensures.slots_apart c.len-count.ensures.keys_apart c.requires.entry)) in
+    (keeps_at (eras calls) (λ m. segments m calls) _ _ _ c.args.slot c.args.flow.now st.holds c.requires.inside c.len-count.ensures.slots_apart c.len-count.ensures.keys_apart c.requires.entry)) in
     let count : length (chain_of c.arrive.new.self.store c.args.slot.0) ≡ held_of v.segments =
     ap (λ (s : Store). length (chain_of s c.args.slot.0)) c.arrive.ensures.store
-    ∙ (count_at (eras calls) (λ m. segments m calls) _ _ _ c.args.slot c.args.flow st.holds c.requires.inside c.len-count.ensures.slots_apart c.len-count.ensures.keys_apart c.requires.entry ∙ ap held_of (sym live.segments_are)) in
+    ∙ (count_at (eras calls) (λ m. segments m calls) _ _ _ c.args.slot c.args.flow.now st.holds c.requires.inside c.len-count.ensures.slots_apart c.len-count.ensures.keys_apart c.requires.entry ∙ ap held_of (sym live.segments_are)) in
     let bound = (c.arrive.ensures.opened settings st.opened).quota in
     let is_live' = ap is_some live.era_is in
     let drops = c.in-Err.ensures.drops settings v d keeps count roomy bound is.octets side is_live' warm stream in
@@ -138,29 +138,29 @@ returns-in-Err-clause-frames c settings calls d st is =
 
 pub returns-in-Ok-clause-stands : goal.returns-in-Ok-clause-stands
 returns-in-Ok-clause-stands c settings calls d st is =
-    let n = c.args.flow.number in
+    let n = c.args.flow.now.number in
     let v = view_of settings calls d in
     let w = segment_in d in
     let side = side_is c.args.packet.now c.args.link.now d c.requires.side is in
     let key_is = keyed c.args.packet.now c.args.link.now d _ c.requires.side is refl in
-    let live = view_live settings calls _ _ _ c.args.slot c.args.flow _ d st.holds c.requires.inside c.len-count.ensures.slots_apart c.len-count.ensures.keys_apart c.requires.entry c.requires.key key_is in
-    let stood = era_at (eras calls) (λ m. segments m calls) _ _ _ c.args.slot c.args.flow st.holds c.requires.inside c.len-count.ensures.slots_apart c.len-count.ensures.keys_apart c.requires.entry in
+    let live = view_live settings calls _ _ _ c.args.slot c.args.flow.now _ d st.holds c.requires.inside c.len-count.ensures.slots_apart c.len-count.ensures.keys_apart c.requires.entry c.requires.key key_is in
+    let stood = era_at (eras calls) (λ m. segments m calls) _ _ _ c.args.slot c.args.flow.now st.holds c.requires.inside c.len-count.ensures.slots_apart c.len-count.ensures.keys_apart c.requires.entry in
     let flags = flags_are c.args.packet.now c.args.link.now d c.args.head.now is c.requires.head in
     let syn : tcp.has_syn w.flags ≡ false = sym (ap tcp.has_syn flags) ∙ c.requires.no_syn in
     let rst : tcp.has_rst w.flags ≡ false = sym (ap tcp.has_rst flags) ∙ c.requires.no_rst in
-    let stream = stream_is v.segments w _ ((c.states_are_the_lists.ensures c.args.flow.era (segments n calls) stood).state_is ∙ ap state_of (sym live.segments_are)) c.requires.state side syn rst in
+    let stream = stream_is v.segments w _ ((c.states_are_the_lists.ensures c.args.flow.now.era (segments n calls) stood).state_is ∙ ap state_of (sym live.segments_are)) c.requires.state side syn rst in
     let f = of_stream v.segments w stream in
-    let warm = subst (WarmFor c.args.warm) (sym live.segments_are) (c.requires.settled (segments n calls) stood) in
+    let warm = subst (WarmFor c.args.warm.now) (sym live.segments_are) (c.requires.settled (segments n calls) stood) in
     let total = held_is calls _ _ _ _ st.holds (st.opened.chains ∙ sym st.opened.flows) c.len-count.ensures.slots_below c.len-count.ensures.slots_apart in
     let room : v.room ≡ c.args.self.now.store.free = omega (arith, total, c.free-free.ensures.total, st.opened.store) in
     let roomy : v.room ≡ c.arrive.new.self.store.free = room ∙ sym (ap (λ (s : Store). s.free) c.arrive.ensures.store) in
     let keeps : Keeps (chain_of c.arrive.new.self.store c.args.slot.0) v.segments =
     subst (λ (s : Store). Keeps (chain_of s c.args.slot.0) v.segments) (sym c.arrive.ensures.store)
     (subst (Keeps (chain_of c.args.self.now.store c.args.slot.0)) (sym live.segments_are)
-    (keeps_at (eras calls) (λ m. segments m calls) _ _ _ c.args.slot c.args.flow st.holds c.requires.inside c.len-count.ensures.slots_apart c.len-count.ensures.keys_apart c.requires.entry)) in
+    (keeps_at (eras calls) (λ m. segments m calls) _ _ _ c.args.slot c.args.flow.now st.holds c.requires.inside c.len-count.ensures.slots_apart c.len-count.ensures.keys_apart c.requires.entry)) in
     let count : length (chain_of c.arrive.new.self.store c.args.slot.0) ≡ held_of v.segments =
     ap (λ (s : Store). length (chain_of s c.args.slot.0)) c.arrive.ensures.store
-    ∙ (count_at (eras calls) (λ m. segments m calls) _ _ _ c.args.slot c.args.flow st.holds c.requires.inside c.len-count.ensures.slots_apart c.len-count.ensures.keys_apart c.requires.entry ∙ ap held_of (sym live.segments_are)) in
+    ∙ (count_at (eras calls) (λ m. segments m calls) _ _ _ c.args.slot c.args.flow.now st.holds c.requires.inside c.len-count.ensures.slots_apart c.len-count.ensures.keys_apart c.requires.entry ∙ ap held_of (sym live.segments_are)) in
     let bound = (c.arrive.ensures.opened settings st.opened).quota in
     let is_live' = ap is_some live.era_is in
     let passes = c.in-Ok.ensures.passes settings v d keeps count roomy bound is.octets side is_live' warm stream in
@@ -188,29 +188,29 @@ returns-in-Ok-clause-stands c settings calls d st is =
 
 pub returns-in-Ok-clause-entry : goal.returns-in-Ok-clause-entry
 returns-in-Ok-clause-entry c settings calls d st is =
-    let n = c.args.flow.number in
+    let n = c.args.flow.now.number in
     let v = view_of settings calls d in
     let w = segment_in d in
     let side = side_is c.args.packet.now c.args.link.now d c.requires.side is in
     let key_is = keyed c.args.packet.now c.args.link.now d _ c.requires.side is refl in
-    let live = view_live settings calls _ _ _ c.args.slot c.args.flow _ d st.holds c.requires.inside c.len-count.ensures.slots_apart c.len-count.ensures.keys_apart c.requires.entry c.requires.key key_is in
-    let stood = era_at (eras calls) (λ m. segments m calls) _ _ _ c.args.slot c.args.flow st.holds c.requires.inside c.len-count.ensures.slots_apart c.len-count.ensures.keys_apart c.requires.entry in
+    let live = view_live settings calls _ _ _ c.args.slot c.args.flow.now _ d st.holds c.requires.inside c.len-count.ensures.slots_apart c.len-count.ensures.keys_apart c.requires.entry c.requires.key key_is in
+    let stood = era_at (eras calls) (λ m. segments m calls) _ _ _ c.args.slot c.args.flow.now st.holds c.requires.inside c.len-count.ensures.slots_apart c.len-count.ensures.keys_apart c.requires.entry in
     let flags = flags_are c.args.packet.now c.args.link.now d c.args.head.now is c.requires.head in
     let syn : tcp.has_syn w.flags ≡ false = sym (ap tcp.has_syn flags) ∙ c.requires.no_syn in
     let rst : tcp.has_rst w.flags ≡ false = sym (ap tcp.has_rst flags) ∙ c.requires.no_rst in
-    let stream = stream_is v.segments w _ ((c.states_are_the_lists.ensures c.args.flow.era (segments n calls) stood).state_is ∙ ap state_of (sym live.segments_are)) c.requires.state side syn rst in
+    let stream = stream_is v.segments w _ ((c.states_are_the_lists.ensures c.args.flow.now.era (segments n calls) stood).state_is ∙ ap state_of (sym live.segments_are)) c.requires.state side syn rst in
     let f = of_stream v.segments w stream in
-    let warm = subst (WarmFor c.args.warm) (sym live.segments_are) (c.requires.settled (segments n calls) stood) in
+    let warm = subst (WarmFor c.args.warm.now) (sym live.segments_are) (c.requires.settled (segments n calls) stood) in
     let total = held_is calls _ _ _ _ st.holds (st.opened.chains ∙ sym st.opened.flows) c.len-count.ensures.slots_below c.len-count.ensures.slots_apart in
     let room : v.room ≡ c.args.self.now.store.free = omega (arith, total, c.free-free.ensures.total, st.opened.store) in
     let roomy : v.room ≡ c.arrive.new.self.store.free = room ∙ sym (ap (λ (s : Store). s.free) c.arrive.ensures.store) in
     let keeps : Keeps (chain_of c.arrive.new.self.store c.args.slot.0) v.segments =
     subst (λ (s : Store). Keeps (chain_of s c.args.slot.0) v.segments) (sym c.arrive.ensures.store)
     (subst (Keeps (chain_of c.args.self.now.store c.args.slot.0)) (sym live.segments_are)
-    (keeps_at (eras calls) (λ m. segments m calls) _ _ _ c.args.slot c.args.flow st.holds c.requires.inside c.len-count.ensures.slots_apart c.len-count.ensures.keys_apart c.requires.entry)) in
+    (keeps_at (eras calls) (λ m. segments m calls) _ _ _ c.args.slot c.args.flow.now st.holds c.requires.inside c.len-count.ensures.slots_apart c.len-count.ensures.keys_apart c.requires.entry)) in
     let count : length (chain_of c.arrive.new.self.store c.args.slot.0) ≡ held_of v.segments =
     ap (λ (s : Store). length (chain_of s c.args.slot.0)) c.arrive.ensures.store
-    ∙ (count_at (eras calls) (λ m. segments m calls) _ _ _ c.args.slot c.args.flow st.holds c.requires.inside c.len-count.ensures.slots_apart c.len-count.ensures.keys_apart c.requires.entry ∙ ap held_of (sym live.segments_are)) in
+    ∙ (count_at (eras calls) (λ m. segments m calls) _ _ _ c.args.slot c.args.flow.now st.holds c.requires.inside c.len-count.ensures.slots_apart c.len-count.ensures.keys_apart c.requires.entry ∙ ap held_of (sym live.segments_are)) in
     let bound = (c.arrive.ensures.opened settings st.opened).quota in
     let is_live' = ap is_some live.era_is in
     let passes = c.in-Ok.ensures.passes settings v d keeps count roomy bound is.octets side is_live' warm stream in
@@ -223,29 +223,29 @@ returns-in-Ok-clause-entry c settings calls d st is =
 
 pub returns-in-Ok-clause-frames : goal.returns-in-Ok-clause-frames
 returns-in-Ok-clause-frames c settings calls d st is =
-    let n = c.args.flow.number in
+    let n = c.args.flow.now.number in
     let v = view_of settings calls d in
     let w = segment_in d in
     let side = side_is c.args.packet.now c.args.link.now d c.requires.side is in
     let key_is = keyed c.args.packet.now c.args.link.now d _ c.requires.side is refl in
-    let live = view_live settings calls _ _ _ c.args.slot c.args.flow _ d st.holds c.requires.inside c.len-count.ensures.slots_apart c.len-count.ensures.keys_apart c.requires.entry c.requires.key key_is in
-    let stood = era_at (eras calls) (λ m. segments m calls) _ _ _ c.args.slot c.args.flow st.holds c.requires.inside c.len-count.ensures.slots_apart c.len-count.ensures.keys_apart c.requires.entry in
+    let live = view_live settings calls _ _ _ c.args.slot c.args.flow.now _ d st.holds c.requires.inside c.len-count.ensures.slots_apart c.len-count.ensures.keys_apart c.requires.entry c.requires.key key_is in
+    let stood = era_at (eras calls) (λ m. segments m calls) _ _ _ c.args.slot c.args.flow.now st.holds c.requires.inside c.len-count.ensures.slots_apart c.len-count.ensures.keys_apart c.requires.entry in
     let flags = flags_are c.args.packet.now c.args.link.now d c.args.head.now is c.requires.head in
     let syn : tcp.has_syn w.flags ≡ false = sym (ap tcp.has_syn flags) ∙ c.requires.no_syn in
     let rst : tcp.has_rst w.flags ≡ false = sym (ap tcp.has_rst flags) ∙ c.requires.no_rst in
-    let stream = stream_is v.segments w _ ((c.states_are_the_lists.ensures c.args.flow.era (segments n calls) stood).state_is ∙ ap state_of (sym live.segments_are)) c.requires.state side syn rst in
+    let stream = stream_is v.segments w _ ((c.states_are_the_lists.ensures c.args.flow.now.era (segments n calls) stood).state_is ∙ ap state_of (sym live.segments_are)) c.requires.state side syn rst in
     let f = of_stream v.segments w stream in
-    let warm = subst (WarmFor c.args.warm) (sym live.segments_are) (c.requires.settled (segments n calls) stood) in
+    let warm = subst (WarmFor c.args.warm.now) (sym live.segments_are) (c.requires.settled (segments n calls) stood) in
     let total = held_is calls _ _ _ _ st.holds (st.opened.chains ∙ sym st.opened.flows) c.len-count.ensures.slots_below c.len-count.ensures.slots_apart in
     let room : v.room ≡ c.args.self.now.store.free = omega (arith, total, c.free-free.ensures.total, st.opened.store) in
     let roomy : v.room ≡ c.arrive.new.self.store.free = room ∙ sym (ap (λ (s : Store). s.free) c.arrive.ensures.store) in
     let keeps : Keeps (chain_of c.arrive.new.self.store c.args.slot.0) v.segments =
     subst (λ (s : Store). Keeps (chain_of s c.args.slot.0) v.segments) (sym c.arrive.ensures.store)
     (subst (Keeps (chain_of c.args.self.now.store c.args.slot.0)) (sym live.segments_are)
-    (keeps_at (eras calls) (λ m. segments m calls) _ _ _ c.args.slot c.args.flow st.holds c.requires.inside c.len-count.ensures.slots_apart c.len-count.ensures.keys_apart c.requires.entry)) in
+    (keeps_at (eras calls) (λ m. segments m calls) _ _ _ c.args.slot c.args.flow.now st.holds c.requires.inside c.len-count.ensures.slots_apart c.len-count.ensures.keys_apart c.requires.entry)) in
     let count : length (chain_of c.arrive.new.self.store c.args.slot.0) ≡ held_of v.segments =
     ap (λ (s : Store). length (chain_of s c.args.slot.0)) c.arrive.ensures.store
-    ∙ (count_at (eras calls) (λ m. segments m calls) _ _ _ c.args.slot c.args.flow st.holds c.requires.inside c.len-count.ensures.slots_apart c.len-count.ensures.keys_apart c.requires.entry ∙ ap held_of (sym live.segments_are)) in
+    ∙ (count_at (eras calls) (λ m. segments m calls) _ _ _ c.args.slot c.args.flow.now st.holds c.requires.inside c.len-count.ensures.slots_apart c.len-count.ensures.keys_apart c.requires.entry ∙ ap held_of (sym live.segments_are)) in
     let bound = (c.arrive.ensures.opened settings st.opened).quota in
     let is_live' = ap is_some live.era_is in
     let passes = c.in-Ok.ensures.passes settings v d keeps count roomy bound is.octets side is_live' warm stream in
