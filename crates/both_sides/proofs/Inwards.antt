@@ -26,7 +26,7 @@ use Rattle.rule_book.specs.declared.rule.Rule.TheVariants as rules
 use Rattle.rule_book.specs.Rules.{datagram_rows, segment_rows}
 use Rattle.norm_settings.specs.Settings.{PlainSettings}
 use Rattle.norm_settings.specs.Side.{side}
-use Rattle.ip_rules.specs.Rows.{carries_ip, carries_arp, side_in, holds_ip, holds_in, packet_drop_rows, ip_drop_rows, ip_dropped_by, ip_fixes, whole_fix_rows, piece_fix_rows, l_short, l_type}
+use Rattle.ip_rules.specs.Rows.{carries_ip, carries_arp, is_bad_destination, is_bad_source, i_dst, i_src, side_in, holds_ip, holds_in, packet_drop_rows, ip_drop_rows, ip_dropped_by, ip_fixes, whole_fix_rows, piece_fix_rows, l_short, l_type}
 use Rattle.ip_rules.specs.Datagrams.{Datagram, Packet, DatagramsAreKnown, AnewIsPacket, IsKnown, IsPacketOf, datagram_of, datagram_in, goes_in, frame_of, frames_of, as_read, anew}
 use Rattle.ip_rules.proofs.Undropped.{none_found}
 use Rattle.dgram_rules.specs.Rows.{pseudo_of, has_wrong_sum, is_offloaded, is_error, is_query, holds_dgram, dgram_dropped_by, u_short, u_len, u_sum, u_sum_out, m_short, m_sum, m_type}
@@ -56,8 +56,8 @@ use Rattle.both_sides.proofs.Relaying.{FramesRelay}
 
 -- the rows on the addresses of a record that no row on the header drops
 record IsAllowed (settings : PlainSettings) (given : Option Side) (p : List ℕ) : Type 0 where
-  source : ip.has_bad_source p ≡ false
-  destination : ip.has_bad_destination p ≡ false
+  source : i_src p ≡ false
+  destination : i_dst p ≡ false
   sided : is_none (side_in settings given p) ≡ false
 
 packet_rows : (settings : PlainSettings) (link : Link) (r : records.Packet) → ip_dropped_by settings link r ≡ None → carries_ip link r.octets ≡ true
@@ -148,8 +148,8 @@ relayed settings link r d p sideless g is plain kind =
       long = long_same link r.octets whole long;
       carries = carries_same link r.octets whole long ∙ g.carries;
       plain = subst (Plain settings.hops) (sym (behind link r.octets whole long)) plain;
-      source = ap ip.has_bad_source (behind link r.octets whole long) ∙ (ap₂ ip.is_bad_source source destination ∙ a.source);
-      destination = ap ip.has_bad_destination (behind link r.octets whole long) ∙ (ap ip.is_bad_destination destination ∙ a.destination);
+      source = ap i_src (behind link r.octets whole long) ∙ (ap₂ is_bad_source source destination ∙ a.source);
+      destination = ap i_dst (behind link r.octets whole long) ∙ (ap is_bad_destination destination ∙ a.destination);
       told = ap (side_in settings None) (behind link r.octets whole long) ∙ (ap₂ (side settings None) source destination ∙ (ap (λ given. side_in settings given (packet_in link r.octets)) (sym sideless) ∙ g.told));
       kind = λ one.
           ap (λ q. is_error (icmp.kind (ip.payload q)) || is_query (icmp.kind (ip.payload q))) (behind link r.octets whole long)

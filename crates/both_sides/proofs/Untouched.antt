@@ -25,7 +25,7 @@ use Rattle.rule_book.specs.declared.rule.Rule.TheVariants as rules
 use Rattle.rule_book.specs.Rules.{datagram_rows, segment_rows}
 use Rattle.norm_settings.specs.Settings.{PlainSettings}
 use Rattle.norm_settings.specs.Side.{is_listed, side_by}
-use Rattle.ip_rules.specs.Rows.{carries_ip, carries_arp, side_in, is_inward, holds_ip, holds_in, packet_drop_rows, ip_drop_rows, whole_fix_rows, piece_fix_rows, ip_dropped_by, ip_fixes, l_short, l_type}
+use Rattle.ip_rules.specs.Rows.{carries_ip, carries_arp, i_dst, i_src, side_in, is_inward, holds_ip, holds_in, packet_drop_rows, ip_drop_rows, whole_fix_rows, piece_fix_rows, ip_dropped_by, ip_fixes, l_short, l_type}
 use Rattle.ip_rules.specs.Datagrams.{Datagram, datagram_of, datagram_in}
 use Rattle.dgram_rules.specs.Rows.{pseudo_of, has_wrong_sum, is_offloaded, is_error, is_query, holds_dgram, dgram_dropped_by, u_short, u_len, u_sum, u_sum_out, m_short, m_sum, m_type}
 use Rattle.tcp_norm.specs.Calls.{Call}
@@ -47,8 +47,8 @@ pub record IsRelayed (settings : PlainSettings) (link : Link) (frame : List ℕ)
   pub long : l_short link frame ≡ false
   pub carries : carries_ip link frame ≡ true
   pub plain : Plain settings.hops (packet_in link frame)
-  pub source : ip.has_bad_source (packet_in link frame) ≡ false
-  pub destination : ip.has_bad_destination (packet_in link frame) ≡ false
+  pub source : i_src (packet_in link frame) ≡ false
+  pub destination : i_dst (packet_in link frame) ≡ false
   pub told : side_in settings None (packet_in link frame) ≡ Some Inward
   pub kind : ip.protocol (packet_in link frame) ≡ 1
       → (is_error (icmp.kind (ip.payload (packet_in link frame))) || is_query (icmp.kind (ip.payload (packet_in link frame)))) ≡ true

@@ -32,10 +32,11 @@ AsksRun words settings = (names : PlainNames) × (asked words ≡ Ok (command.ru
 abbrev pub IsFew : PlainSettings → RunTrace → Type 0
 IsFew settings run = settings.both ≡ true → length (packets_of run) ≤ 2 ^ 31 - 1
 
--- A capture was normalized: what the source had left is an input, all of it was taken, and what was written is the frames and the report of its one lawful run
--- under these settings, as they go out; every clean packet of an engine's trace has exactly one frame with its payload there, or is cut into segments that carry
--- it, unless its frame is too long and can't be cut; after no record more is held than the settings allow; in each era all receivers agree on what was written, on
--- either side where both are protected; and no frame is too long.
+-- A capture was normalized: what the source had left is an input, whose octets are below 256, and all of it was taken; where both sides are protected it has fewer
+-- than 2^31 records; what was written is the head, and the frames and the report of its one lawful run under these settings, as they go out; every clean packet of
+-- an engine's trace has exactly one frame with its payload there, or is cut into segments that carry it, unless its frame is too long and can't be cut; after no
+-- record more is held than the settings allow; in each era all receivers agree on what was written, on either side where both are protected; and no frame is too
+-- long. Where a source or a sink does not tell its octets, nothing is claimed of these.
 pub record Normalized (settings : PlainSettings) (source source' capture capture' report report' : Option (List ℕ)) : Type 0 where
   pub head : Head
   pub run : RunTrace
@@ -74,7 +75,8 @@ IsLoad words = (seed : ℕ) × (count : ℕ) × AsksLoad words seed count
 abbrev pub IsRefused : List (List ℕ) → Type 0
 IsRefused words = (fault : WordFault) × (asked words ≡ Err fault)
 
--- so far: a lawful run over the packets that were taken, of which the frames and lines were written as they go out, and nothing failed
+-- So far: a lawful run over the packets that were taken, with what `Normalized` says of its octets, their sides and how many came; its head, first line, frames and
+-- lines were written as they go out, and nothing failed.
 pub record SoFar (settings : PlainSettings) (head : Head) (before now : Moment) (walk : Walk) (run : RunTrace) : Type 0 where
   pub lawful : LawfulRun settings head.link run
   pub octets : RunHasOctets settings run
@@ -85,7 +87,8 @@ pub record SoFar (settings : PlainSettings) (head : Head) (before now : Moment) 
   pub given : Given (outputs_of settings.both head (puts settings head.link run)) before.sinks now.sinks
   pub none_rose : NoneRose before now
 
--- the same of some run, which the engines stand for, with the input behind its packets and so many frames written
+-- The same of some run, which the engines stand for under these settings and on the link of the head, with the input behind its packets, and so many frames
+-- written, at most 255 for each record.
 pub record Going (settings : PlainSettings) (head : Head) (before now : Moment) (engines : Engines) (input : Input) (frames : ℕ) : Type 0 where
   pub walk : Walk
   pub run : RunTrace
@@ -109,7 +112,7 @@ pub record Begun (settings : PlainSettings) (input : Input) (before now : Moment
   pub given : Given (outputs_of settings.both (head_in input) []) before.sinks now.sinks
   pub none_rose : NoneRose before now
 
--- the last line was written
+-- the last line, which counts records and frames, was written, and no sink failed
 pub record Ended (records frames : ℕ) (before now : Sinks) : Type 0 where
   pub given : Given (end_outputs records frames) before now
   pub none_rose : NoSinkRose before now

@@ -1,5 +1,6 @@
--- What stands when a run has stopped: what was taken from the source, and what was given to the sinks, by the lawful run over the records that were judged (this project's profile). Where an object does not tell its octets nothing is claimed of them. A run stops at a moment (`Stands`), and then tells
--- why (`StoppedShort`): up to `Stands`, `now` is that moment.
+-- What stands when a run has stopped: what was taken from the source, and what was given to the sinks, by the lawful run over the records that were judged (this
+-- project's profile). Where an object does not tell its octets nothing is claimed of them. A run stops at a moment (`Stands`), and then tells why
+-- (`StoppedShort`): up to `Stands`, `now` is that moment.
 use Rattle.std.specs.Prelude.{◌≡◌, ℕ, ◌-◌, ◌^◌, ◌⊎◌, true, List, [], ◌∷◌, length, Option, Err}
 use Rattle.pcap_file.specs.declared.head.Head.{Head}
 use Rattle.pcap_file.specs.Records.{Packet}
@@ -28,8 +29,8 @@ pub record StopsAtHead (settings : PlainSettings) (fault : InputFault) (offset :
   pub found : StopsInHead settings.inside before.source.octets now.source.octets fault offset
   pub given : Given (first_outputs settings.both) before.sinks now.sinks
 
--- The record or block behind those of a lawful run, which has no more records than may come, could not be read: this is its fault, and what was taken of it. The
--- head and all records or blocks before it were taken, and all that the run's packets put out was given.
+-- The record or block behind those of a lawful run, which where both sides are protected has fewer than 2^31 records, could not be read: this is its fault, and what
+-- was taken of it. The head and all records or blocks before it were taken, and all that the run's packets put out was given.
 pub record StopsAtRecord (settings : PlainSettings) (fault : InputFault) (offset : ℕ) (before now : Moment) : Type 0 where
   pub head : Head
   pub run : RunTrace
@@ -77,8 +78,8 @@ pub record StopsAtWrittenHead (settings : PlainSettings) (stop : Stop) (before n
   pub took : Took settings.inside before.source.octets now.source.octets head walk
   pub broke : BreaksOff (first_outputs settings.both) (head_outputs head) 0 stop before.sinks now.sinks
 
--- Something of what the newest packet puts out failed, and no more came than may. The head and the run's packets were taken, nothing behind the record or block
--- of that one, and all that the older ones put out was given.
+-- Something of what the newest packet puts out failed, and where both sides are protected fewer than 2^31 records had come. The head and the run's packets were
+-- taken, nothing behind the record or block of that one, and all that the older ones put out was given.
 pub record StopsAtPacket (settings : PlainSettings) (stop : Stop) (before now : Moment) : Type 0 where
   pub head : Head
   pub packet : Packet
@@ -91,7 +92,7 @@ pub record StopsAtPacket (settings : PlainSettings) (stop : Stop) (before now : 
   pub took : Took settings.inside before.source.octets now.source.octets head walk
   pub broke : BreaksOff (outputs_of settings.both head (puts settings head.link older)) (put_outputs head.order (next_put settings head.link older packet)) (newest_place walk) stop before.sinks now.sinks
 
--- The end could not be told. All was taken, no more records than may come, and all that the packets put out was given.
+-- The end could not be told. All was taken, where both sides are protected fewer than 2^31 records, and all that the packets put out was given.
 pub record StopsAtEnd (settings : PlainSettings) (stop : Stop) (before now : Moment) : Type 0 where
   pub head : Head
   pub run : RunTrace

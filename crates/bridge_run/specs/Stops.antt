@@ -83,11 +83,11 @@ pub record BeginsTooMany (settings : PlainSettings) (octets : List ℕ) (offset 
   pub count : length (packets_in walk) ≡ 2 ^ 31
   pub place : offset ≡ newest_place walk
 
--- No more records than may come.
+-- Where both sides are protected, the octets do not begin with 2^31 records.
 abbrev pub AreFew : PlainSettings → List ℕ → Type 0
 AreFew settings octets = (offset : ℕ) → BeginsTooMany settings octets offset → ⊥
 
--- The source tells its octets, their first fault is that they are cut short, and they have no more records than may come.
+-- The source tells its octets, their first fault is that they are cut short, and where both sides are protected they have fewer than 2^31 records.
 pub record IsCutShort (settings : PlainSettings) (source : Option (List ℕ)) : Type 0 where
   pub octets : List ℕ
   pub told : source ≡ Some octets
@@ -106,7 +106,7 @@ pub record IsFaulty (settings : PlainSettings) (source : Option (List ℕ)) : Ty
   pub told : source ≡ Some octets
   pub faulty : HasFault settings octets
 
--- The source tells its octets, and they are an input, with its end and no fault, and no more records than may come.
+-- The source tells its octets, and they are an input, with its end and no fault, which where both sides are protected has fewer than 2^31 records.
 pub record IsWhole (settings : PlainSettings) (source : Option (List ℕ)) : Type 0 where
   pub octets : List ℕ
   pub told : source ≡ Some octets
@@ -115,12 +115,12 @@ pub record IsWhole (settings : PlainSettings) (source : Option (List ℕ)) : Typ
   pub input : IsInput settings.inside octets head packets
   pub few : AreFew settings octets
 
--- Where the source tells its octets, they have no more records than may come.
+-- Where the source tells its octets, and both sides are protected, they have fewer than 2^31 records.
 abbrev pub WereFew : PlainSettings → (source : Option (List ℕ)) → Type 0
 WereFew settings None = Unit {0}
 WereFew settings (Some octets) = AreFew settings octets
 
--- Where the source tells its octets, their first fault is that they are cut short, and they have no more records than may come.
+-- Where the source tells its octets, their first fault is that they are cut short, and where both sides are protected they have fewer than 2^31 records.
 pub record WasCut (settings : PlainSettings) (source : Option (List ℕ)) : Type 0 where
   pub offset : ℕ
   pub fails : HasFaultAt settings.inside source faults.Cut offset

@@ -1,5 +1,6 @@
 -- The rows of the rule table on UDP and ICMP, one definition each, in the order of their numbers (this project's profile).
--- A row is read of one whole datagram under settings; of other packets it knows only whether the TCP connection that an ICMP error quotes is live.
+-- A row is read of one whole datagram under settings; of other packets it knows only whether the TCP connection that an ICMP error quotes is live. That rows on UDP
+-- are read of UDP alone, and those on ICMP of ICMP, is said once for all of them (`holds_dgram`).
 use Rattle.std.specs.Prelude.{ℕ, ◌==◌, ◌&&◌, ◌||◌, not, Bool, true, false, length, Option, Some, None, find}
 use Rattle.wire_base.specs.Sums.{pseudo_sum}
 use Rattle.wire_base.specs.Udp as udp
@@ -25,7 +26,7 @@ has_wrong_sum d = udp.has_wrong_sum (pseudo_of d) d.octets
 abbrev pub is_offloaded : PlainSettings → Datagram → Bool
 is_offloaded settings d = not (goes_in d.side) && settings.offload
 
--- U_SHORT: UDP of fewer than 8 octets
+-- U_SHORT: the message has fewer than 8 octets
 abbrev pub u_short : Datagram → Bool
 u_short d = udp.is_short d.octets
 
@@ -37,7 +38,7 @@ u_len d = udp.has_other_length d.octets
 abbrev pub u_sum : PlainSettings → Datagram → Bool
 u_sum settings d = has_wrong_sum d && not (is_offloaded settings d)
 
--- M_SHORT: ICMP of fewer than 8 octets
+-- M_SHORT: the message has fewer than 8 octets
 abbrev pub m_short : Datagram → Bool
 m_short d = icmp.is_short d.octets
 

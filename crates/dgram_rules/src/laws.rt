@@ -6,7 +6,7 @@ pub fn datagrams_tell_the_rows()
     ensures { DatagramsTellTheRows }
 {}
 
-/// No row is read of another protocol.
+/// No row holds of a datagram of another protocol.
 pub fn others_have_no_row()
     ensures { OthersHaveNoRow }
 {}

@@ -14,7 +14,7 @@ use Rattle.rule_book.specs.declared.rule.Rule.{Rule}
 use Rattle.rule_book.specs.declared.rule.Rule.TheVariants as rules
 use Rattle.norm_settings.specs.Settings.{PlainSettings}
 use Rattle.norm_settings.specs.Side.{side}
-use Rattle.ip_rules.specs.Rows.{side_in, is_inward, tells_side, i_ttl, piece_fix_rows, whole_fix_rows, i_trail, i_opt, i_res, i_opt_bad, i_route, p_proto}
+use Rattle.ip_rules.specs.Rows.{side_in, is_inward, i_src, i_dst, tells_side, i_ttl, piece_fix_rows, whole_fix_rows, i_trail, i_opt, i_res, i_opt_bad, i_route, p_proto}
 use Rattle.ip_rules.specs.Judged.{rule_of, side_or_row, content_row, packet_row, packet_fixes, header_fixes, where_holds}
 
 -- a header is read where it has no fault, with its fields; else its fault is told
@@ -62,7 +62,7 @@ by_groups : (settings : PlainSettings) (given : Option Side) (p : List ℕ)
 unfolding packet_row
 by_groups settings given p =
     header_first (ip.is_short p) (ip.has_other_version p) (ip.has_bad_header_length p) (ip.has_bad_total_length p) (ip.has_wrong_sum p) _
-    ∙ ap (by_fault (fault_of p)) (addresses_next (ip.has_bad_source p) (ip.has_bad_destination p) (side_in settings given p) (content_row p))
+    ∙ ap (by_fault (fault_of p)) (addresses_next (i_src p) (i_dst p) (side_in settings given p) (content_row p))
 
 -- the side or the row of a header that is read
 abbrev pub addressed : PlainSettings → (given : Option Side) → Ipv4 → Result Side Rule

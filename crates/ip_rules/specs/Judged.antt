@@ -17,7 +17,7 @@ use Rattle.ip_rules.specs.declared.judged.IpJudged.{IpJudged}
 use Rattle.ip_rules.specs.declared.judged.IpJudged.TheVariants.{Arp, Drop, Piece, Whole}
 use Rattle.ip_rules.specs.declared.rows.Linked.{Linked}
 use Rattle.ip_rules.specs.declared.rows.Linked.TheVariants as linked
-use Rattle.ip_rules.specs.Rows.{carries_ip, carries_arp, side_in, l_snap, l_short, l_type, i_opt_bad, i_route, p_proto, i_trail, i_opt, i_res, holds_in, packet_drop_rows, whole_fix_rows, piece_fix_rows, ip_dropped_by, ip_fixes, tells_side}
+use Rattle.ip_rules.specs.Rows.{carries_ip, carries_arp, is_bad_destination, is_bad_source, side_in, l_snap, l_short, l_type, i_opt_bad, i_route, p_proto, i_trail, i_opt, i_res, holds_in, packet_drop_rows, whole_fix_rows, piece_fix_rows, ip_dropped_by, ip_fixes, tells_side}
 
 -- the packet of a frame: its side, the fields of its header, the whole frame, the payload up to the total length, and these fix rows
 pub record IsRead (settings : PlainSettings) (given : Option Side) (octets p : List ℕ) (named : List Rule) (packet : IpPacket) : Type 0 where
@@ -67,8 +67,8 @@ rule_of faults.Sum = rules.ISum
 -- the side from the one address to the other, in a record that has this side, or the first row on addresses that holds
 abbrev pub side_or_row : PlainSettings → (given : Option Side) → (source destination : ℕ) → Result Side Rule
 side_or_row settings given source destination =
-    if ip.is_bad_source source destination then Err rules.ISrc
-    else if ip.is_bad_destination destination then Err rules.IDst
+    if is_bad_source source destination then Err rules.ISrc
+    else if is_bad_destination destination then Err rules.IDst
     else elim (side settings given source destination) [ Some side ↦ Ok side | None ↦ Err rules.ISide ]
 
 -- the first row on the options and the protocol that holds, if there is one

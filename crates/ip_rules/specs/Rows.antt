@@ -1,6 +1,6 @@
 -- The rows of the rule table on the link, the IPv4 header and the protocol, one definition each, in the order of their numbers (this project's profile).
 -- A row is read of one record, or of the packet in it, under settings and on a link; it knows nothing of other records.
-use Rattle.std.specs.Prelude.{ℕ, ◌==◌, ◌&&◌, ◌||◌, nat_lt, nat_le, not, Bool, true, false, List, [], ◌∷◌, ◌++◌, length, take, drop, Option, Some, None, is_none, find, filter}
+use Rattle.std.specs.Prelude.{ℕ, ◌==◌, ◌/◌, ◌&&◌, ◌||◌, nat_lt, nat_le, not, Bool, true, false, List, [], ◌∷◌, ◌++◌, length, take, drop, Option, Some, None, is_none, find, filter}
 use Rattle.wire_base.specs.declared.address.Link.{Link}
 use Rattle.wire_base.specs.declared.address.Link.TheVariants.{Ethernet, Raw}
 use Rattle.wire_base.specs.declared.address.Side.{Side}
@@ -67,13 +67,29 @@ i_len p = ip.has_bad_total_length p
 abbrev pub i_sum : (packet : List ℕ) → Bool
 i_sum p = ip.has_wrong_sum p
 
+-- the first of the four octets of an address
+abbrev pub first_octet : (address : ℕ) → ℕ
+first_octet address = address / 16777216
+
+-- A source that no packet on a link between networks has. From loopback, multicast and broadcast no host sends, and from "this network" only one that asks for
+-- its address (RFC 1122 section 3.2.1.3); that this one falls under it too, all above multicast, and a packet to its own source, is this project's profile.
+abbrev pub is_bad_source : (source destination : ℕ) → Bool
+is_bad_source source destination =
+    (first_octet source == 0) || (first_octet source == 127) || nat_le 224 (first_octet source) || (source == destination)
+
+-- A destination that no packet is passed on to. To "this network" and to loopback none is sent (RFC 1122 section 3.2.1.3); that all above multicast falls under it
+-- too, and with it a broadcast on the own link, is this project's profile.
+abbrev pub is_bad_destination : (destination : ℕ) → Bool
+is_bad_destination destination =
+    (first_octet destination == 0) || (first_octet destination == 127) || nat_le 240 (first_octet destination)
+
 -- I_SRC: the source's first octet is 0, 127, or 224 and above, or source and destination are equal
 abbrev pub i_src : (packet : List ℕ) → Bool
-i_src p = ip.has_bad_source p
+i_src p = is_bad_source (ip.source p) (ip.destination p)
 
 -- I_DST: the destination's first octet is 0, 127, or 240 and above
 abbrev pub i_dst : (packet : List ℕ) → Bool
-i_dst p = ip.has_bad_destination p
+i_dst p = is_bad_destination (ip.destination p)
 
 -- I_SIDE: the record has no side, and both addresses are trusted, or neither
 abbrev pub i_side : PlainSettings → (given : Option Side) → (packet : List ℕ) → Bool

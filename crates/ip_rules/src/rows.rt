@@ -160,7 +160,7 @@ fn side_or_row(settings: &Settings, given: Option<Side>, src: Addr, dst: Addr) -
 
 // Whether no packet comes from this address, or none to that one.
 fn is_bad_source(src: Addr, dst: Addr) -> bool
-    ensures { result ≡ ip.is_bad_source src.0 dst.0 }
+    ensures { result ≡ table.is_bad_source src.0 dst.0 }
 {
     let first = src.0 / 0x100_0000;
     first == 0 || first == 127 || first >= 224 || src.0 == dst.0
@@ -168,7 +168,7 @@ fn is_bad_source(src: Addr, dst: Addr) -> bool
 
 // Whether no packet goes to this address.
 fn is_bad_destination(dst: Addr) -> bool
-    ensures { result ≡ ip.is_bad_destination dst.0 }
+    ensures { result ≡ table.is_bad_destination dst.0 }
 {
     let first = dst.0 / 0x100_0000;
     first == 0 || first == 127 || first >= 240

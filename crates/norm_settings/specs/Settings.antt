@@ -102,8 +102,8 @@ pub record AreInRange (s : PlainSettings) : Type 0 where
   pub quota : IfSome s.quota (IsWithin 1 262144)
   pub mtu : IfSome s.mtu (IsWithin 576 65535)
 
--- Settings of a run: where both sides are protected, the second engine alone has the sides exchanged, and neither the sides of interfaces nor a longest packet
--- is given.
+-- Settings that go together: where both sides are protected, they exchange no sides (the second engine has settings of its own), and give neither the sides of
+-- interfaces nor a longest packet.
 pub record GoTogether (s : PlainSettings) : Type 0 where
   pub mirror : s.both ≡ true → s.mirror ≡ false
   pub inside : s.both ≡ true → s.inside ≡ None

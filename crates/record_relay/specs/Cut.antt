@@ -49,7 +49,7 @@ rules_cut cut kept_back = (if cut then rules.ECut ∷ [] else []) ++ (if kept_ba
 abbrev pub verdict_cut : (cut kept_back : Bool) → Verdict → Verdict
 verdict_cut cut kept_back verdict = if kept_back then verdicts.Drop else if cut then verdicts.Fix else verdict
 
--- the entry of an item with these frames, where some are cut or do not go out; it counts the frames that do
+-- the entry of an item, where some of its frames are cut, or do not go out, and so many packets do
 abbrev pub entry_cut : (cut kept_back : Bool) → (packets : ℕ) → PlainEntry → PlainEntry
 entry_cut cut kept_back packets entry =
     record entry { verdict = verdict_cut cut kept_back entry.verdict; packets = packets; rules = entry.rules ++ rules_cut cut kept_back }
@@ -110,8 +110,8 @@ abbrev pub NoneIsLong : (mtu : Option ℕ) → Link → List Item → Type 0
 NoneIsLong None link trace = Unit {0}
 NoneIsLong (Some mtu) link trace = AllByRecursion (λ item. All (λ frame. is_long link mtu frame ≡ false) item.frames) trace
 
--- What is written of a trace: its clean records keep their payload, receivers agree, and no frame is too long; and after no record more is held than the settings
--- allow.
+-- What is written of a trace. Of each clean record it is one frame with the record's payload, or the segments that carry that, unless a frame of the record is too
+-- long and does not go out; receivers agree on it; no frame of it is too long; and after no record more is held than the settings allow.
 pub record IsWrittenSoundly (settings : PlainSettings) (link : Link) (trace : List Item) : Type 0 where
   pub clean_kept : CleanIsWritten settings link trace
   pub within : IsAlwaysWithin settings link trace
@@ -127,7 +127,7 @@ FramesHaveOctets (Some mtu) frames = All AreOctets frames
 abbrev pub HaveFrameOctets : (mtu : Option ℕ) → List Item → Type 0
 HaveFrameOctets mtu trace = AllByRecursion (λ item. FramesHaveOctets mtu item.frames) trace
 
--- This holds of each lawful trace of records of octets.
+-- This holds of each sound trace under settings in their ranges, whose frames that may be cut are octets.
 abbrev pub LawfulIsWrittenSoundly : Type 0
 LawfulIsWrittenSoundly =
     (settings : PlainSettings) (link : Link) (trace : List Item) → AreInRange settings → IsSound settings link trace → HaveFrameOctets settings.mtu trace

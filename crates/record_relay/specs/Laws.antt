@@ -17,7 +17,7 @@ use Rattle.record_relay.specs.Frames.{frame_count, frames_octets}
 use Rattle.record_relay.specs.Puts.{count_put, next_put, octets_put, puts, report_of}
 use Rattle.record_relay.specs.Runs.{LawfulRun, RunHasNoSide, RunHasOctets, RunTrace, empty_run, next_run, one, packets_of, two}
 
--- The run has no records, is lawful, and nothing is put out for it.
+-- The run has no records, so that all octets are below 256 and none has a side of its own; it is lawful, and nothing is put out for it.
 pub record Begins (settings : PlainSettings) (link : Link) (run : RunTrace) : Type 0 where
   pub lawful : LawfulRun settings link run
   pub taken : packets_of run ≡ []
@@ -29,7 +29,8 @@ pub record Begins (settings : PlainSettings) (link : Link) (run : RunTrace) : Ty
 abbrev pub RunsBegin : Type 0
 RunsBegin = (settings : PlainSettings) (link : Link) → Begins settings link (empty_run settings.both)
 
--- A run with one record more has that record, is lawful where the run was, and puts out more what is put out for the record.
+-- A run with one record more has that record, is lawful where the run was, and puts out more what is put out for the record; where both sides are protected, no
+-- record of it has a side of its own if none of the run had and this one has none.
 pub record GoesOn (settings : PlainSettings) (link : Link) (run : RunTrace) (r : Packet) : Type 0 where
   pub lawful : LawfulRun settings link run → LawfulRun settings link (next_run settings link run r)
   pub taken : packets_of (next_run settings link run r) ≡ r ∷ packets_of run
@@ -48,7 +49,7 @@ pub record PutsItsTrace (settings : PlainSettings) (link : Link) (trace : List I
 abbrev pub OnePutsItsTrace : Type 0
 OnePutsItsTrace = (settings : PlainSettings) (link : Link) (trace : List Item) → PutsItsTrace settings link trace
 
--- What is put out by two engines is the trace of the second: its frames, each with the time of its record, and how many there are.
+-- What is put out by two engines with such traces is the trace of the second: its frames, each with the time of its record, and how many there are.
 pub record PutsItsMirror (settings : PlainSettings) (link : Link) (trace mirror : List Item) : Type 0 where
   pub octets : (order : Order) → octets_put order (puts settings link (two trace mirror)) ≡ frames_octets order mirror
   pub count : count_put (puts settings link (two trace mirror)) ≡ frame_count mirror
@@ -57,7 +58,7 @@ abbrev pub TwoPutTheirMirror : Type 0
 TwoPutTheirMirror =
     (settings : PlainSettings) (link : Link) (trace mirror : List Item) → AreLawful settings link trace mirror → PutsItsMirror settings link trace mirror
 
--- Records have at most one lawful run.
+-- Under given settings, and on a given link, records have at most one lawful run.
 abbrev pub LawfulRunsAreOne : Type 0
 LawfulRunsAreOne =
     (settings : PlainSettings) (link : Link) (run other : RunTrace) → LawfulRun settings link run → LawfulRun settings link other → packets_of run ≡ packets_of other
@@ -79,7 +80,8 @@ abbrev pub RunIsWrittenSoundly : PlainSettings → Link → RunTrace → Type 0
 RunIsWrittenSoundly settings link (one trace) = IsWrittenSoundly settings link trace
 RunIsWrittenSoundly settings link (two trace mirror) = AreWrittenSoundly settings link trace mirror
 
--- This holds of each lawful run over records of octets, which have no side of their own where both sides are protected.
+-- This holds of each lawful run under settings that are in their ranges and go together, whose records and frames are octets, and whose records have no side of
+-- their own where both sides are protected.
 abbrev pub RunsAreWrittenSoundly : Type 0
 RunsAreWrittenSoundly =
     (settings : PlainSettings) (link : Link) (run : RunTrace) → AreInRange settings → GoTogether settings → LawfulRun settings link run → RunHasOctets settings run

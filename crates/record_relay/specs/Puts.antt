@@ -98,7 +98,7 @@ text_put (put ∷ older) = text_put older ++ put.text
 abbrev pub report_of : (both : Bool) → List Put → Last → List ℕ
 report_of both puts last = heading both ++ text_put puts ++ last_text last
 
--- what is put out for a record was written, and there are so many frames
+-- what is put out for a record was written, there are so many frames, and no sink failed
 pub record IsPut (order : Order) (put : Put) (frames : ℕ) (before now : Sinks) : Type 0 where
   pub frames_are : frames ≡ length put.frames
   pub given : Given (put_outputs order put) before now

@@ -8,7 +8,7 @@ use Rattle.record_relay.specs.declared.engines.Engines.{Engines}
 use Rattle.record_relay.specs.declared.engines.Engines.TheVariants.{One, Two}
 use Rattle.record_relay.specs.Runs.{RunHasOctets, RunTrace, one, two}
 
--- the settings that the words asked for, which are those of the first engine
+-- the settings of a relay, which are those of its first engine
 abbrev pub settings_of : Engines → PlainSettings
 settings_of (One engine) = engine.settings
 settings_of (Two both) = both.first.settings
@@ -38,7 +38,7 @@ StandsForRun (One engine) (two trace mirror) = ⊥
 StandsForRun (Two both) (one trace) = ⊥
 StandsForRun (Two both) (two trace mirror) = double.StandsFor both trace mirror
 
--- one engine has its largest packet and the room of one segment; of two the second has had each frame of the first
+-- one engine has this largest packet, settings in their ranges, and the room of one segment; of two the second has had each frame of the first
 abbrev pub IsReady : Engines → (mtu : Option ℕ) → (room : ℕ) → Type 0
 IsReady (One engine) mtu room = (engine.settings.mtu ≡ mtu) × AreInRange engine.settings × (65549 ≤ room)
 IsReady (Two both) mtu room = length both.pending ≡ 0

@@ -29,7 +29,8 @@ abbrev pub empty_run : (both : Bool) → RunTrace
 empty_run false = one []
 empty_run true = two [] []
 
--- One engine has a lawful trace. Two have a pair of lawful ones: the frames of the first are the records of the second, whose sides are exchanged.
+-- Where one side is protected, one engine has a lawful trace. Where both are, two have a pair of lawful ones: the frames of the first are the records of the second,
+-- whose sides are exchanged.
 abbrev pub LawfulRun : PlainSettings → Link → RunTrace → Type 0
 LawfulRun settings link (one trace) = (settings.both ≡ false) × Lawful settings link trace
 LawfulRun settings link (two trace mirror) = (settings.both ≡ true) × AreLawful settings link trace mirror

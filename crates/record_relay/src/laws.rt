@@ -28,7 +28,7 @@ pub fn two_put_their_mirror()
     ensures { TwoPutTheirMirror }
 {}
 
-/// Records have at most one lawful run, by one engine or by two.
+/// Under given settings, and on a given link, records have at most one lawful run, by one engine or by two.
 pub fn lawful_runs_are_one()
     ensures { LawfulRunsAreOne }
 {
@@ -40,8 +40,8 @@ pub fn unbounded_is_written_whole()
     ensures { WrittenWhole }
 {}
 
-/// Of each lawful trace is written what its clean records carry, what all receivers agree on, and nothing that is too long; and no more is held than the
-/// settings allow.
+/// What is written of each sound trace has of a clean record its payload, in one frame or in segments, unless a frame of the record is too long and does not
+/// go out; receivers agree on it; nothing of it is too long; and no more is held than the settings allow.
 pub fn lawful_is_written_soundly()
     ensures { LawfulIsWrittenSoundly }
 {
@@ -57,8 +57,8 @@ pub fn lawful_is_written_soundly()
     members_agree();
 }
 
-/// The same of each lawful run, by one engine or by two: clean records keep their payload, no more is held than the settings allow, and receivers agree on
-/// either side that is protected.
+/// The same of each lawful run by one engine. Of one by two, clean records keep their payload in each trace, no more is held in either than the settings allow,
+/// and receivers agree on either side.
 pub fn runs_are_written_soundly()
     ensures { RunsAreWrittenSoundly }
 {

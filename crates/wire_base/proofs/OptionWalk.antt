@@ -4,7 +4,7 @@ use Rattle.std.proofs.Common.{◌≡◌, length-drop, ℕ, zero, suc, ◌+◌, �
 use Rattle.std.proofs.Math.Bool.{and-false}
 use Rattle.std.proofs.Math.Dec.{eqb-suc-zero}
 use Rattle.std.proofs.lemmas.Bool.{ne_eqb, le-leb, lt-leb}
-use Rattle.std.proofs.lemmas.List.{drop_more, drop-drop, get_or-drop, get_or_past}
+use Rattle.std.proofs.lemmas.List.{drop_more, drop-drop, get_or-drop}
 
 -- before the end option or the end of the area every option has a length octet of at least 2 and lies inside
 abbrev pub formed_from : (left : ℕ) → List ℕ → Bool

@@ -1,7 +1,6 @@
 -- Totals that count alike.
-use Rattle.std.proofs.Common.{◌≡◌, ℕ, ◌+◌, ◌≤◌, List, length, drop, ◌*◌, refl, arith}
-use Rattle.wire_base.specs.Numbers.{u16_at, u32_at}
-use Rattle.wire_base.specs.Sums.{CountsAs, word_sum}
+use Rattle.std.proofs.Common.{◌≡◌, ℕ, ◌+◌, ◌≤◌, List, length, drop, slice_index, ◌*◌, refl, arith}
+use Rattle.wire_base.specs.Sums.{CountsAs, lowest_first_at, word_sum}
 use Rattle.wire_base.proofs.Words.{word_sum-drop}
 
 pub CountsAs-refl : (a : ℕ) → CountsAs a a
@@ -19,13 +18,18 @@ CountsAs-add x a b p = record { up = p.up; down = p.down; same = omega (arith, p
 pub CountsAs-carry : (high low total : ℕ) → total ≡ 65536 * high + low → CountsAs (high + low) total
 CountsAs-carry high low total e = record { up = high; down = 0; same = omega arith; zero = λ z. omega arith; back = λ z. omega arith }
 
--- a word of 32 bits and what is left behind it count as what was left before it
-pub CountsAs-word : (octets : List ℕ) (sum total at next : ℕ) → at + 4 ≤ length octets → next ≡ at + 4 → CountsAs (sum + word_sum (drop at octets)) total → CountsAs (sum + u32_at octets at + word_sum (drop next octets)) total
-CountsAs-word octets sum total at next inside e before =
-    let high = word_sum-drop octets at (omega arith) in
-    let low = word_sum-drop octets (at + 2) (omega arith) in
+-- 256 times the number of four octets, the lowest first, counts as their two words
+CountsAs-swapped : (a b c d sum rest : ℕ) → CountsAs (256 * (sum + (a + 256 * b + 65536 * c + 16777216 * d)) + rest) (256 * sum + (256 * a + b + (256 * c + d + rest)))
+CountsAs-swapped a b c d sum rest = record { up = 0; down = b + 256 * c + 65537 * d; same = omega arith; zero = λ z. omega arith; back = λ z. omega arith }
+
+-- four octets and what is left behind them count as what was left before them
+pub CountsAs-four : (octets : List ℕ) (sum total at next : ℕ) → at + 4 ≤ length octets → next ≡ at + 4 → CountsAs (256 * sum + word_sum (drop at octets)) total → CountsAs (256 * (sum + lowest_first_at octets at) + word_sum (drop next octets)) total
+CountsAs-four octets sum total at next inside e before =
+    let first = word_sum-drop octets at (omega arith) in
+    let second = word_sum-drop octets (at + 2) (omega arith) in
+    let third : at + 2 + 1 ≡ at + 3 = omega arith in
     let four : next ≡ at + 2 + 2 = omega arith in
-    let step : CountsAs (sum + u32_at octets at + word_sum (drop next octets)) (sum + word_sum (drop at octets)) = rw (four, high, low) (record { up = 0; down = u16_at octets at; same = omega arith; zero = λ z. omega arith; back = λ z. omega arith }) in
+    let step : CountsAs (256 * (sum + lowest_first_at octets at) + word_sum (drop next octets)) (256 * sum + word_sum (drop at octets)) = rw (four, first, second, third) (CountsAs-swapped (slice_index octets at) (slice_index octets (at + 1)) (slice_index octets (at + 2)) (slice_index octets (at + 3)) sum (word_sum (drop (at + 2 + 2) octets))) in
     CountsAs-trans _ _ _ step before
 
 -- a folded total and what is left behind a piece count as the total before and what was left before the piece

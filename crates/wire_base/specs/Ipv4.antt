@@ -1,6 +1,6 @@
 -- The IPv4 header (RFC 791 section 3.1): its fields at their places in the octets of a packet, and what its octets are parted into.
 -- What stands past the end of the octets reads as 0.
-use Rattle.std.specs.Prelude.{ℕ, ◌*◌, ◌/◌, ◌%◌, ◌==◌, ◌||◌, nat_lt, nat_le, not, Bool, List, length, take, drop, slice_index}
+use Rattle.std.specs.Prelude.{ℕ, ◌*◌, ◌/◌, ◌%◌, ◌==◌, ◌||◌, nat_lt, not, Bool, List, length, take, drop, slice_index}
 use Rattle.wire_base.specs.Numbers.{u16_at, u32_at}
 use Rattle.wire_base.specs.Sums.{sum_is_right}
 
@@ -50,7 +50,7 @@ source p = u32_at p 12
 abbrev pub destination : List ℕ → ℕ
 destination p = u32_at p 16
 
--- the octets of the header, of its options, of what it carries up to the total length, and of what stands after that
+-- the octets of the header, of its options, and of what it carries up to the total length
 abbrev pub header : List ℕ → List ℕ
 header p = take (header_length p) p
 
@@ -59,9 +59,6 @@ options p = drop 20 (header p)
 
 abbrev pub payload : List ℕ → List ℕ
 payload p = drop (header_length p) (take (total_length p) p)
-
-abbrev pub trailer : List ℕ → List ℕ
-trailer p = drop (total_length p) p
 
 -- a piece of a datagram: more fragments follow, or some stand before
 abbrev pub is_fragment : List ℕ → Bool
@@ -85,28 +82,6 @@ has_bad_total_length p = nat_lt (total_length p) (header_length p) || nat_lt (le
 -- the words of the header do not sum right
 abbrev pub has_wrong_sum : List ℕ → Bool
 has_wrong_sum p = not (sum_is_right (header p) 0)
-
--- the first of the four octets of an address
-abbrev pub first_octet : ℕ → ℕ
-first_octet address = address / 16777216
-
--- a source that no packet on a link between networks has: "this network", loopback, multicast and above (RFC 1122 section 3.2.1.3), or the
--- destination itself; that a host which asks for its address falls under it is this project's profile
-abbrev pub is_bad_source : (source destination : ℕ) → Bool
-is_bad_source source destination =
-    (first_octet source == 0) || (first_octet source == 127) || nat_le 224 (first_octet source) || (source == destination)
-
-abbrev pub has_bad_source : List ℕ → Bool
-has_bad_source p = is_bad_source (source p) (destination p)
-
--- a destination that no packet is passed on to: "this network", loopback, or above multicast (RFC 1122 section 3.2.1.3); that a broadcast on the
--- own link falls under it is this project's profile
-abbrev pub is_bad_destination : ℕ → Bool
-is_bad_destination destination =
-    (first_octet destination == 0) || (first_octet destination == 127) || nat_le 240 (first_octet destination)
-
-abbrev pub has_bad_destination : List ℕ → Bool
-has_bad_destination p = is_bad_destination (destination p)
 
 -- octets stand after the total length
 abbrev pub has_trailer : List ℕ → Bool

@@ -1,5 +1,5 @@
 -- Checksums: the ones' complement sum of 16-bit words (RFC 1071 section 1, RFC 791 section 3.1, RFC 768, RFC 792, RFC 9293 section 3.1).
-use Rattle.std.specs.Prelude.{◌≡◌, ℕ, ◌+◌, ◌-◌, ◌*◌, ◌/◌, ◌%◌, ◌==◌, ◌&&◌, nat_lt, Bool, List, [], ◌∷◌, if◌then◌else◌}
+use Rattle.std.specs.Prelude.{◌≡◌, ℕ, ◌+◌, ◌-◌, ◌*◌, ◌/◌, ◌%◌, ◌==◌, ◌&&◌, nat_lt, Bool, List, [], ◌∷◌, slice_index, if◌then◌else◌}
 
 -- the sum of the words of two octets each; an odd last octet is the high octet of its word
 abbrev pub word_sum : List ℕ → ℕ
@@ -23,6 +23,11 @@ checksum_for total = if is_right total then 0 else 65535 - total % 65535
 abbrev pub pseudo_sum : (source destination protocol size : ℕ) → ℕ
 pseudo_sum source destination protocol size =
     source / 65536 + source % 65536 + destination / 65536 + destination % 65536 + protocol + size
+
+-- the number of four octets that begins at this place, the lowest first
+abbrev pub lowest_first_at : List ℕ → ℕ → ℕ
+lowest_first_at octets at =
+    slice_index octets at + 256 * slice_index octets (at + 1) + 65536 * slice_index octets (at + 2) + 16777216 * slice_index octets (at + 3)
 
 -- two totals that count alike wherever sums are compared: they differ by multiples of 65,535, and one is 0 exactly where the other is
 pub record CountsAs (a b : ℕ) : Type 0 where

@@ -31,9 +31,6 @@ flags m = slice_index m 13
 abbrev pub window : List ℕ → ℕ
 window m = u16_at m 14
 
-abbrev pub checksum : List ℕ → ℕ
-checksum m = u16_at m 16
-
 abbrev pub urgent_pointer : List ℕ → ℕ
 urgent_pointer m = u16_at m 18
 

@@ -1,4 +1,4 @@
-//! What stands on the wire: numbers, sums, addresses and sides, and the formats of the public standards.
+//! What stands on the wire: numbers, sequence numbers, sums, addresses and sides, flags, protocols and frames, by the public standards.
 #![tactic(auto)]
 
 pub mod address;

@@ -50,7 +50,7 @@ impl SeqNumber {
         SeqNumber(self.0.wrapping_sub(1))
     }
 
-    /// How many places this number lies behind another, of which each is below 2^32.
+    /// How many places this number lies behind another, which like each is below 2^32.
     pub fn places_behind(self, other: SeqNumber) -> u64
         ensures places { result ≡ (self + 2 ^ 32 - other) % 2 ^ 32 }
         ensures small { other < 2 ^ 32 }

@@ -2,7 +2,8 @@
 ghost use Rattle.std.specs.Prelude.{◌≡◌, ◌+◌, ◌*◌, ◌≤◌, ◌<◌, ◌^◌, length};
 ghost use Rattle.wire_base.specs.Sums as sums;
 
-use crate::{Addr, Protocol, u32_at};
+use crate::{Addr, Protocol};
+use byteorder::{ByteOrder, LittleEndian};
 
 // Octets that are summed before carries are folded.
 const PIECE: usize = 65536;
@@ -59,25 +60,34 @@ fn folded_sum(bytes: &[u8], extra: u32) -> u64
 
 // The sum with what stands above its low 16 bits added to them.
 fn folded(total: u64) -> u64
-    requires { total < 2 ^ 48 }
+    requires { total < 2 ^ 56 }
     ensures alike { sums.CountsAs result total }
-    ensures small { result < 2 ^ 33 }
+    ensures small { result < 2 ^ 41 }
 {
     (total >> 16) + (total & 0xffff)
 }
 
-// The sum of a piece, by words of 32 bits: 65,536 times a word counts as the word.
+// The sum of a piece, by words of 32 bits as this machine has them, the lowest octet first: their octets are put into the order of the wire once, behind the
+// sum (RFC 1071 section 2), where 256 times an octet that stands too low counts as it would in its place.
 fn sum_of_piece(piece: &[u8]) -> u64
     requires { length piece.now ≤ PIECE }
     ensures alike { sums.CountsAs result (sums.word_sum piece.now) }
-    ensures small { result < 2 ^ 47 }
+    ensures small { result < 2 ^ 55 }
 {
     let words = piece.len() / 4;
     let mut sum: u64 = 0;
     for i in 0..words {
-        sum += u64::from(u32_at(piece, 4 * i));
+        sum += u64::from(lowest_first_at(piece, 4 * i));
     }
-    sum + sum_of_rest(&piece[4 * words..])
+    256 * sum + sum_of_rest(&piece[4 * words..])
+}
+
+// The number of four octets that begins at this place, the lowest first.
+fn lowest_first_at(bytes: &[u8], at: usize) -> u32
+    requires { at + 4 ≤ length bytes.now }
+    ensures { result ≡ sums.lowest_first_at bytes.now at }
+{
+    LittleEndian::read_u32(&bytes[at..])
 }
 
 // The sum of what is left of a piece after its words of 32 bits.

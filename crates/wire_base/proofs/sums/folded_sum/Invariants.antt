@@ -6,7 +6,7 @@ use Rattle.wire_base.proofs.sums.folded_sum.Given as goal
 abbrev pub invariant-loop-rest : goal.invariant-loop-rest
 invariant-loop-rest l = record {
   alike : sums.CountsAs (l.total + sums.word_sum l.rest) (l.extra + sums.word_sum l.bytes);
-  small : l.total < 2 ^ 33;
+  small : l.total < 2 ^ 41;
 }
 
 abbrev pub decreases-loop-rest : goal.decreases-loop-rest

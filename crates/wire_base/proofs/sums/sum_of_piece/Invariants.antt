@@ -5,6 +5,6 @@ use Rattle.wire_base.proofs.sums.sum_of_piece.Given as goal
 -- what is left of the piece makes the sum count as that of the whole
 abbrev pub invariant-loop-i : goal.invariant-loop-i
 invariant-loop-i l = record {
-  alike : sums.CountsAs (l.sum + sums.word_sum (drop (4 * l.i) l.piece)) (sums.word_sum l.piece);
+  alike : sums.CountsAs (256 * l.sum + sums.word_sum (drop (4 * l.i) l.piece)) (sums.word_sum l.piece);
   small : l.sum ≤ 4294967295 * l.i;
 }
