@@ -1,10 +1,13 @@
 //! Whole runs, with expected octets from the formats' standards and the worked captures.
+ghost use Rattle.std.specs.Prelude.{◌<◌};
+
 use bridge_run::run;
 use edge_io::{Failed, MemSink, MemSource, Sink};
 use run_rows::runs::{
     Changes, DATAGRAM, FRONT, HEAD, NONE, capture_file, change, ended_run, line, only,
 };
 use std::alloc::{AllocError, Global};
+use std::process::Abort;
 use std::test::Fail;
 
 mod forms;
@@ -26,7 +29,7 @@ struct Whole {
 }
 
 #[rattlefmt::skip]
-const WHOLES: [Whole; 15] = [
+const WHOLES: &[Whole] = &[
     Whole { head: "", records: 1, last: "", size: 70, failing: NONE, status: 0, report: "norm 2\n1 in pass 1\nend 1 1\n", written: 70 },
     Whole { head: "", records: 0, last: "", size: 24, failing: NONE, status: 0, report: "norm 2\nend 0 0\n", written: 24 },
     Whole { head: "", records: 0, last: "", size: 0, failing: NONE, status: 4, report: "norm 2\nstop cut 0\n", written: 0 },
@@ -44,29 +47,46 @@ const WHOLES: [Whole; 15] = [
     Whole { head: "", records: 1, last: "", size: 70, failing: (0, 0, 1), status: 7, report: "", written: 0 },
 ];
 
-#[test]
-fn runs_tell_how_they_end(rt: HostRuntime) -> Result<(), Fail> {
-    for (number, row) in WHOLES.iter().enumerate() {
-        let mut file = capture_file(rt.alloc(), row.head, row.records, row.last)?;
-        file.truncate(row.size);
-        for piece in [1usize, 7, 65536] {
-            let words = ["run", "a", "b", "10.0.0.0/8"];
-            let ended = ended_run(rt.alloc(), &words, &file, piece, row.failing)?;
-            assert_eq!(rt; ended.status, row.status, "row {number}");
-            assert_eq!(rt; ended.report.held(), row.report.as_bytes(), "row {number}");
-            file.truncate(row.size);
-            assert_eq!(rt;
-                Some(ended.capture.held()),
-                file.as_slice().get(..row.written),
-                "row {number}"
-            );
-        }
+/// The words of a run.
+const WORDS: &[&str] = &["run", "a", "b", "10.0.0.0/8"];
+
+/// A run over a file that is given in pieces of so many octets ends as the row says.
+fn ends(rt: &impl Abort, alloc: Global, row: &Whole, piece: usize) -> Result<(), Fail>
+    requires { 0 < piece }
+{
+    let mut file = capture_file(alloc, row.head, row.records, row.last)?;
+    file.truncate(row.size);
+    let ended = ended_run(alloc, WORDS, &file, piece, row.failing)?;
+    let report = row.report;
+    assert_eq!(rt; ended.status, row.status, "{report}");
+    assert_eq!(rt; ended.report.held(), report.as_bytes(), "{report}");
+    assert_eq!(rt;
+        Some(ended.capture.held()),
+        file.get(..row.written),
+        "{report}"
+    );
+    Ok(())
+}
+
+/// The same of each row.
+fn each_ends(rt: &impl Abort, alloc: Global, rows: &[Whole], piece: usize) -> Result<(), Fail>
+    requires { 0 < piece }
+{
+    for row in rows {
+        ends(rt, alloc, row, piece)?;
     }
     Ok(())
 }
 
+#[test]
+fn runs_tell_how_they_end(rt: HostRuntime) -> Result<(), Fail> {
+    each_ends(&rt, rt.alloc(), WHOLES, 1)?;
+    each_ends(&rt, rt.alloc(), WHOLES, 7)?;
+    each_ends(&rt, rt.alloc(), WHOLES, 65536)
+}
+
 #[rattlefmt::skip]
-const REFUSED: [(&[&str], &str); 8] = [
+const REFUSED: &[(&[&str], &str)] = &[
     (&["run", "a"], "stop words 1\n"),
     (&["run", "a", "a", "10.0.0.0/8"], "stop words 5\n"),
     (&["run", "a", "b", "0.0.0.0/8", "1.0.0.0/8", "2.0.0.0/8", "3.0.0.0/8", "4.0.0.0/8", "5.0.0.0/8", "6.0.0.0/8", "7.0.0.0/8", "8.0.0.0/8",
@@ -78,15 +98,20 @@ const REFUSED: [(&[&str], &str); 8] = [
     (&["load", "1", "0"], "stop words 1\n"),
 ];
 
-#[test]
-fn refused_words_leave_one_line(rt: HostRuntime) -> Result<(), Fail> {
-    for (words, report) in REFUSED {
-        let ended = ended_run(rt.alloc(), words, &HEAD, 7, (1, 1, 0))?;
+/// Each of these words is refused, with this report.
+fn each_is_refused(rt: &impl Abort, alloc: Global, rows: &[(&[&str], &str)]) -> Result<(), Fail> {
+    for (words, report) in rows {
+        let ended = ended_run(alloc, words, &HEAD, 7, (1, 1, 0))?;
         assert_eq!(rt; ended.status, 2, "{report}");
         assert_eq!(rt; ended.report.held(), report.as_bytes(), "{report}");
         assert!(rt; ended.capture.held().is_empty(), "{report}");
     }
     Ok(())
+}
+
+#[test]
+fn refused_words_leave_one_line(rt: HostRuntime) -> Result<(), Fail> {
+    each_is_refused(&rt, rt.alloc(), REFUSED)
 }
 
 /// What is written of the datagram.
@@ -120,7 +145,7 @@ const INSIDE: Changes = "10:0x66cc0a000002 26:0xe6f8";
 const OUTSIDE: Changes = "10:0x8e92 16:0xc0 18:0x02 26:0x0e";
 
 #[rattlefmt::skip]
-const JUDGED: [Judged; 27] = [
+const JUDGED: &[Judged] = &[
     Judged { changes: "", captured: 30, original: 30, line: "in pass 1", written: AsRead },
     Judged { changes: "", captured: 30, original: 31, line: "- drop 0 L_SNAP", written: Nothing },
     Judged { changes: "", captured: 30, original: 29, line: "in pass 1", written: AsRead },
@@ -194,24 +219,42 @@ fn report_of(alloc: Global, line: &str, written: Written) -> Result<String, Allo
     format!(in alloc; "norm 2\n1 {line}\nend 1 {frames}\n")
 }
 
-#[test]
-fn each_row_judges_its_packet(rt: HostRuntime) -> Result<(), Fail> {
-    for row in &JUDGED {
-        let packet = datagram_with(rt.alloc(), row.changes)?;
+/// Of a run with these words over a record of these octets this is the line, and this is written.
+fn judges(
+    rt: &impl Abort,
+    alloc: Global,
+    words: &[&str],
+    record: (&[u8], u8),
+    line: &str,
+    written: Written,
+) -> Result<(), Fail> {
+    let (octets, original) = record;
+    let file = one_record(alloc, octets, original)?;
+    let ended = ended_run(alloc, words, &file, 65536, NONE)?;
+    let report = report_of(alloc, line, written)?;
+    let written = written_file(alloc, octets, written)?;
+    assert_eq!(rt; ended.status, 0, "{line}");
+    assert_eq!(rt; ended.report.held(), report.as_bytes(), "{line}");
+    assert_eq!(rt; ended.capture.held(), written.as_slice(), "{line}");
+    Ok(())
+}
+
+/// Each row's packet is judged as the row says.
+fn each_is_judged(rt: &impl Abort, alloc: Global, rows: &[Judged]) -> Result<(), Fail> {
+    for row in rows {
+        let packet = datagram_with(alloc, row.changes)?;
         let Some(octets) = packet.get(..usize::from(row.captured)) else {
             return Err(Fail::new("more octets than there are"));
         };
-        let file = one_record(rt.alloc(), octets, row.original)?;
-        let words = ["run", "a", "b", "10.0.0.0/8"];
-        let ended = ended_run(rt.alloc(), &words, &file, 65536, NONE)?;
-        let line = row.line;
-        let report = report_of(rt.alloc(), line, row.written)?;
-        assert_eq!(rt; ended.status, 0, "{line}");
-        assert_eq!(rt; ended.report.held(), report.as_bytes(), "{line}");
-        let written = written_file(rt.alloc(), octets, row.written)?;
-        assert_eq!(rt; ended.capture.held(), written.as_slice(), "{line}");
+        let record = (octets, row.original);
+        judges(rt, alloc, WORDS, record, row.line, row.written)?;
     }
     Ok(())
+}
+
+#[test]
+fn each_row_judges_its_packet(rt: HostRuntime) -> Result<(), Fail> {
+    each_is_judged(&rt, rt.alloc(), JUDGED)
 }
 
 /// Words, the changes of the datagram, and what becomes of it.
@@ -231,7 +274,7 @@ const SIXTEEN: &[&str] = &[
 ];
 
 #[rattlefmt::skip]
-const SETS: [Set; 13] = [
+const SETS: &[Set] = &[
     Set { words: &["run", "--hops", "0", "a", "b", "10.0.0.0/8"], changes: "8:0x00 10:0x86", line: "in fix 1 I_TTL", written: Anew("8:0x01 10:0x85") },
     Set { words: &["run", "--hops=0", "a", "b", "10.0.0.0/8"], changes: "8:0x01 10:0x85", line: "in pass 1", written: AsRead },
     Set { words: &["run", "--hops", "5", "a", "b", "10.0.0.0/8"], changes: "8:0x05 10:0x81", line: "in fix 1 I_TTL", written: Anew("8:0x06 10:0x80") },
@@ -249,20 +292,19 @@ const SETS: [Set; 13] = [
 
 const WRONG_OUTWARD: Changes = "12:0x0a000001c6336407 27:0xbe";
 
-#[test]
-fn what_words_ask_for_counts(rt: HostRuntime) -> Result<(), Fail> {
-    for (number, row) in SETS.iter().enumerate() {
-        let packet = datagram_with(rt.alloc(), row.changes)?;
-        let octets = datagram_in(&packet);
-        let file = one_record(rt.alloc(), octets, 30)?;
-        let ended = ended_run(rt.alloc(), row.words, &file, 65536, NONE)?;
-        assert_eq!(rt; ended.status, 0, "row {number}");
-        let report = report_of(rt.alloc(), row.line, row.written)?;
-        assert_eq!(rt; ended.report.held(), report.as_bytes(), "row {number}");
-        let written = written_file(rt.alloc(), octets, row.written)?;
-        assert_eq!(rt; ended.capture.held(), written.as_slice(), "row {number}");
+/// Each row's words count as the row says.
+fn each_counts(rt: &impl Abort, alloc: Global, rows: &[Set]) -> Result<(), Fail> {
+    for row in rows {
+        let packet = datagram_with(alloc, row.changes)?;
+        let record = (datagram_in(&packet), 30);
+        judges(rt, alloc, row.words, record, row.line, row.written)?;
     }
     Ok(())
+}
+
+#[test]
+fn what_words_ask_for_counts(rt: HostRuntime) -> Result<(), Fail> {
+    each_counts(&rt, rt.alloc(), SETS)
 }
 
 /// A sink that takes each piece and keeps it back, and cannot hand it on.
@@ -294,7 +336,7 @@ impl Sink for Stuck {
 
 #[test]
 fn nothing_is_said_of_the_end_before_the_frames_are_handed_on(rt: HostRuntime) -> Result<(), Fail> {
-    let words = line(rt.alloc(), &["run", "a", "b", "10.0.0.0/8"])?;
+    let words = line(rt.alloc(), WORDS)?;
     let file = capture_file(rt.alloc(), "", 1, "")?;
     let mut source = MemSource::new(file, 65536, only(rt.alloc(), 0)?);
     let mut report = MemSink::new(rt.alloc(), 4096, only(rt.alloc(), 0)?)?;

@@ -47,14 +47,18 @@ pub struct Row {
 /// Little memory, and enough.
 pub const FEW: &str = "--flows=8 --cells=64 --frags=4 --frag-cells=256";
 
-/// The words of a run with these options.
-fn words_of<'a>(alloc: Global, options: &'a str, seed: &'a str) -> Result<Vec<&'a str>, Fail> {
+/// The words of a run with these options, and one more.
+pub(crate) fn words_of<'a>(
+    alloc: Global,
+    options: &'a str,
+    more: &'a str,
+) -> Result<Vec<&'a str>, Fail> {
     let mut words = Vec::new(alloc);
     words.push("run")?;
     for option in options.split_whitespace() {
         words.push(option)?;
     }
-    words.extend_from_slice(&[seed, "a", "b", "10.0.0.0/8"])?;
+    words.extend_from_slice(&[more, "a", "b", "10.0.0.0/8"])?;
     Ok(words)
 }
 

@@ -1,6 +1,8 @@
 //! Captures of every order, unit and network.
+use super::WORDS;
 use run_rows::runs::{DATAGRAM, NONE, ended_run};
 use std::alloc::{AllocError, Global};
+use std::process::Abort;
 use std::test::Fail;
 
 /// A number of four octets in this order.
@@ -43,41 +45,46 @@ const fn ethernet(kind: u16) -> [u8; 14] {
     [2, 0, 0, 0, 0, 1, 2, 0, 0, 0, 0, 2, high, low]
 }
 
-#[test]
-fn captures_of_every_form_are_read_and_written_alike(rt: HostRuntime) -> Result<(), Fail> {
-    for (big, nano, network) in [
-        (false, false, 101),
-        (false, false, 1),
-        (false, true, 101),
-        (false, true, 1),
-        (true, false, 101),
-        (true, false, 1),
-        (true, true, 101),
-        (true, true, 1),
-    ] {
-        let mut frame = Vec::new(rt.alloc());
-        if network == 1 {
-            frame.extend_from_slice(&ethernet(0x0800))?;
+/// A capture of this order, unit and network, with one record of these octets.
+fn capture_of(
+    alloc: Global,
+    big: bool,
+    nano: bool,
+    network: u32,
+    frame: &[u8],
+) -> Result<Vec<u8>, AllocError> {
+    let mut file = head_of(alloc, big, nano, network)?;
+    let size = frame.len().min(255) as u32;
+    add_record(&mut file, big, (1_700_000_000, 999_999), frame, size)?;
+    Ok(file)
+}
+
+/// A capture of the network with these octets is read and written alike, in either order and unit.
+fn each_form_is_kept(
+    rt: &impl Abort,
+    alloc: Global,
+    network: u32,
+    frame: &[u8],
+) -> Result<(), Fail> {
+    for big in [false, true] {
+        for nano in [false, true] {
+            let file = capture_of(alloc, big, nano, network, frame)?;
+            let ended = ended_run(alloc, WORDS, &file, 65536, NONE)?;
+            let report = "norm 2\n1 in pass 1\nend 1 1\n";
+            assert_eq!(rt; ended.status, 0, "{big} {nano}");
+            assert_eq!(rt; ended.report.held(), report.as_bytes(), "{big} {nano}");
+            assert_eq!(rt; ended.capture.held(), file.as_slice(), "{big} {nano}");
         }
-        frame.extend_from_slice(&DATAGRAM[..30])?;
-        let mut file = head_of(rt.alloc(), big, nano, network)?;
-        let size = frame.len().min(255) as u32;
-        add_record(&mut file, big, (1_700_000_000, 999_999), &frame, size)?;
-        let words = ["run", "a", "b", "10.0.0.0/8"];
-        let ended = ended_run(rt.alloc(), &words, &file, 65536, NONE)?;
-        assert_eq!(rt; ended.status, 0, "{big} {nano} {network}");
-        assert_eq!(rt;
-            ended.report.held(),
-            b"norm 2\n1 in pass 1\nend 1 1\n".as_slice(),
-            "{big} {nano} {network}"
-        );
-        assert_eq!(rt;
-            ended.capture.held(),
-            file.as_slice(),
-            "{big} {nano} {network}"
-        );
     }
     Ok(())
+}
+
+#[test]
+fn captures_of_every_form_are_read_and_written_alike(rt: HostRuntime) -> Result<(), Fail> {
+    let mut framed = Vec::from_slice(rt.alloc(), &ethernet(0x0800))?;
+    framed.extend_from_slice(&DATAGRAM[..30])?;
+    each_form_is_kept(&rt, rt.alloc(), 101, &DATAGRAM[..30])?;
+    each_form_is_kept(&rt, rt.alloc(), 1, &framed)
 }
 
 /// A SYN (RFC 9293) from 198.51.100.7 port 40000 to 10.0.0.1 port 80 with sequence 999 and window 8192, and six octets of padding.
@@ -103,8 +110,7 @@ fn an_ethernet_capture_keeps_its_arp(rt: HostRuntime) -> Result<(), Fail> {
     add_record(&mut written, true, (0, 0), &unpadded, 54)?;
     add_record(&mut file, true, (0, 0), &segment, 60)?;
     add_record(&mut file, true, (0, 0), &segment[..20], 60)?;
-    let words = ["run", "a", "b", "10.0.0.0/8"];
-    let ended = ended_run(rt.alloc(), &words, &file, 65536, NONE)?;
+    let ended = ended_run(rt.alloc(), WORDS, &file, 65536, NONE)?;
     assert_eq!(rt; ended.status, 0);
     assert_eq!(rt;
         ended.report.held(),

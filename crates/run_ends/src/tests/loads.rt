@@ -1,30 +1,39 @@
 //! Loads: records that are made from a number.
 use load_make::{Load, MAX_RECORD};
 use run_rows::runs::{HEAD, ended_run};
+use std::alloc::Global;
+use std::process::Abort;
 use std::test::Fail;
+
+/// The words of a load of one record, and its summary.
+const LOAD: &[&str] = &["load", "01", "001"];
+
+const SUMMARY: &str = "load 1 1\nrecords 1\npackets 1\neras 1\nend\n";
+
+/// A call of the report that fails, or 0, the status, and how many octets of the summary stand.
+const CALLS: &[(u32, u8, usize)] = &[(0, 0, 40), (1, 7, 0), (3, 7, 19), (5, 7, 36)];
+
+/// Where each of these calls fails, this stands.
+fn each_call_leaves(
+    rt: &impl Abort,
+    alloc: Global,
+    calls: &[(u32, u8, usize)],
+) -> Result<(), Fail> {
+    for (call, status, size) in calls {
+        let ended = ended_run(alloc, LOAD, &HEAD, 7, (1, 1, *call))?;
+        let told = SUMMARY.as_bytes().get(..*size);
+        assert_eq!(rt; ended.status, *status, "call {call}");
+        assert_eq!(rt; Some(ended.report.held()), told, "call {call}");
+        assert!(rt; ended.capture.held().is_empty(), "call {call}");
+    }
+    Ok(())
+}
 
 // A load of one record is one call, which begins an era. Where a line fails, the report ends before it; the source and the
 // capture would fail too, and are not asked.
 #[test]
 fn a_load_of_one_record_is_one_call(rt: HostRuntime) -> Result<(), Fail> {
-    let text = b"load 1 1\nrecords 1\npackets 1\neras 1\nend\n";
-    for (failing, status, size) in [(0, 0, 40), (1, 7, 0), (3, 7, 19), (5, 7, 36)] {
-        let ended = ended_run(
-            rt.alloc(),
-            &["load", "01", "001"],
-            &HEAD,
-            7,
-            (1, 1, failing),
-        )?;
-        assert_eq!(rt; ended.status, status, "call {failing}");
-        assert_eq!(rt;
-            Some(ended.report.held()),
-            text.get(..size),
-            "call {failing}"
-        );
-        assert!(rt; ended.capture.held().is_empty(), "call {failing}");
-    }
-    Ok(())
+    each_call_leaves(&rt, rt.alloc(), CALLS)
 }
 
 /// What the records of a load are.

@@ -1,9 +1,10 @@
 //! Whole runs that protect both sides.
 
 use crate::packets::capture_of;
-use crate::rows::{Before, FEW, OPENED, REQUEST};
+use crate::rows::{Before, FEW, OPENED, REQUEST, words_of};
 use crate::runs::{NONE, ended_run};
 use std::alloc::Global;
+use std::process::Abort;
 use std::test::Fail;
 
 /// Packets that come, behind those that pass as they came; the report behind its first line; and the packets that go out.
@@ -15,7 +16,7 @@ struct Row {
 }
 
 #[rattlefmt::skip]
-const ROWS: [Row; 3] = [
+const ROWS: &[Row] = &[
     // A whole connection passes both engines.
     Row { before: REQUEST, packets: "", written: "",
         report: "1 in pass 1 @1 +1\n/1 out pass 1 @1 +1\n2 out pass 1 @1\n/2 in pass 1 @1\n3 in pass 1 @1\n/3 out pass 1 @1\n\
@@ -32,29 +33,29 @@ const ROWS: [Row; 3] = [
             4 in drop 0 T_RST @1\n5 in pass 1 @1\n/4 out pass 1 @1\nend 5 4\n" },
 ];
 
-/// The words of a run that protects both sides, with little memory.
-fn words(alloc: Global) -> Result<Vec<&'static str>, Fail> {
-    let mut words = Vec::new(alloc);
-    words.extend_from_slice(&["run", "--both"])?;
-    for option in FEW.split_whitespace() {
-        words.push(option)?;
+/// A run with these words puts out what the row says.
+fn tells(rt: &impl Abort, alloc: Global, words: &[&str], row: &Row) -> Result<(), Fail> {
+    let (first, lines) = (row.before.packets, row.report);
+    let file = capture_of(alloc, first, row.packets)?;
+    let ended = ended_run(alloc, words, &file, 65536, NONE)?;
+    let report = format!(in alloc; "norm 2 both\n{lines}")?;
+    let written = capture_of(alloc, first, row.written)?;
+    assert_eq!(rt; ended.status, 0, "{lines}");
+    assert_eq!(rt; ended.report.held(), report.as_bytes(), "{lines}");
+    assert_eq!(rt; ended.capture.held(), written.as_slice(), "{lines}");
+    Ok(())
+}
+
+/// The same of each row.
+fn each_tells(rt: &impl Abort, alloc: Global, words: &[&str], rows: &[Row]) -> Result<(), Fail> {
+    for row in rows {
+        tells(rt, alloc, words, row)?;
     }
-    words.extend_from_slice(&["a", "b", "10.0.0.0/8"])?;
-    Ok(words)
+    Ok(())
 }
 
 #[test]
 fn both_engines_tell_their_lines(rt: HostRuntime) -> Result<(), Fail> {
-    let words = words(rt.alloc())?;
-    for (number, row) in ROWS.iter().enumerate() {
-        let first = row.before.packets;
-        let file = capture_of(rt.alloc(), first, row.packets)?;
-        let ended = ended_run(rt.alloc(), &words, &file, 65536, NONE)?;
-        let report = format!(in rt.alloc(); "norm 2 both\n{}", row.report)?;
-        assert_eq!(rt; ended.status, 0, "row {number}");
-        assert_eq!(rt; ended.report.held(), report.as_bytes(), "row {number}");
-        let written = capture_of(rt.alloc(), first, row.written)?;
-        assert_eq!(rt; ended.capture.held(), written.as_slice(), "row {number}");
-    }
-    Ok(())
+    let words = words_of(rt.alloc(), FEW, "--both")?;
+    each_tells(&rt, rt.alloc(), &words, ROWS)
 }

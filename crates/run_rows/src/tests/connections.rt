@@ -1,5 +1,8 @@
 //! Whole runs over connections, by worked captures: what comes, the whole report, and what goes out.
-use crate::rows::{Before, FEW, NOTHING, OPENED, REQUEST, Row, holds, is_spelled};
+use super::each_holds;
+use crate::rows::{Before, FEW, NOTHING, OPENED, REQUEST, Row, is_spelled};
+use std::alloc::Global;
+use std::process::Abort;
 use std::test::Fail;
 
 /// A host outside opens a connection, and the host inside takes four octets.
@@ -9,7 +12,7 @@ const NARROW: Before = Before {
 };
 
 #[rattlefmt::skip]
-const ROWS: [Row; 26] = [
+const ROWS: &[Row] = &[
     // A whole connection.
     Row { options: "", before: REQUEST, packets: "", report: "end 10 10\n", written: "" },
     // The same octets again, and others at their places.
@@ -92,27 +95,28 @@ const ROWS: [Row; 26] = [
 
 #[test]
 fn connections_go_on_as_their_rows_say(rt: HostRuntime) -> Result<(), Fail> {
-    for (number, row) in ROWS.iter().enumerate() {
-        for seed in ["--seed=0", "--seed=7"] {
-            assert!(rt; holds(rt.alloc(), row, seed)?, "row {number} {seed}");
-        }
-    }
-    Ok(())
+    each_holds(&rt, rt.alloc(), ROWS, "--seed=0")?;
+    each_holds(&rt, rt.alloc(), ROWS, "--seed=7")
 }
 
 /// Packets octet for octet: a SYN, the datagram, four octets, and a probe.
 #[rattlefmt::skip]
-const SPELLED: [(&str, &str); 4] = [
+const SPELLED: &[(&str, &str)] = &[
     ("> S 999", "0x450000280001000040064694c63364070a000001+0x9c400050000003e70000000050022000bb2f0000"),
     ("> UDP $SUMMED", "0x4500001e0001000040114693c63364070a000001+0x9c400035000ac6bf6869"),
     ("> PA 1000,5001 abcd", "0x4500002c0001000040064690c63364070a000001+0x9c400050000003e80000138950182000e2c4000061626364"),
     ("> A 999,5001", "0x450000280001000040064694c63364070a000001+0x9c400050000003e70000138950102000a7980000"),
 ];
 
-#[test]
-fn packets_are_made_by_their_formats(rt: HostRuntime) -> Result<(), Fail> {
-    for (packet, octets) in SPELLED {
-        assert!(rt; is_spelled(rt.alloc(), packet, octets)?, "{packet}");
+/// Each packet has its octets.
+fn each_is_spelled(rt: &impl Abort, alloc: Global, rows: &[(&str, &str)]) -> Result<(), Fail> {
+    for (packet, octets) in rows {
+        assert!(rt; is_spelled(alloc, packet, octets)?, "{packet}");
     }
     Ok(())
+}
+
+#[test]
+fn packets_are_made_by_their_formats(rt: HostRuntime) -> Result<(), Fail> {
+    each_is_spelled(&rt, rt.alloc(), SPELLED)
 }
