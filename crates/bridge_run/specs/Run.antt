@@ -75,8 +75,8 @@ IsLoad words = (seed : ℕ) × (count : ℕ) × AsksLoad words seed count
 abbrev pub IsRefused : List (List ℕ) → Type 0
 IsRefused words = (fault : WordFault) × (asked words ≡ Err fault)
 
--- So far: a lawful run over the packets that were taken, with what `Normalized` says of its octets, their sides and how many came; its head, first line, frames and
--- lines were written as they go out, and nothing failed.
+-- So far: a lawful run over the packets that were taken, whose octets are below 256; where both sides are protected none of them has a side of its own, and fewer
+-- than 2^31 came; the first line, the head, and the frames and lines of the run were written as they go out, and nothing failed.
 pub record SoFar (settings : PlainSettings) (head : Head) (before now : Moment) (walk : Walk) (run : RunTrace) : Type 0 where
   pub lawful : LawfulRun settings head.link run
   pub octets : RunHasOctets settings run
