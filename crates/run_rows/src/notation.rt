@@ -43,17 +43,17 @@ const NAMED: [(&str, &str); 6] = [
 
 /// A line in its parts.
 #[derive(Clone, Copy)]
-pub struct Packet<'a> {
-    pub inward: bool,
-    pub protocol: Protocol,
+pub(crate) struct Packet<'a> {
+    pub(crate) inward: bool,
+    pub(crate) protocol: Protocol,
     kind: &'a str,
     numbers: &'a str,
-    pub payload: &'a str,
+    pub(crate) payload: &'a str,
     marks: &'a str,
 }
 
 impl<'a> Packet<'a> {
-    pub fn read(line: &'a str) -> Result<Packet<'a>, Fail> {
+    pub(crate) fn read(line: &'a str) -> Result<Packet<'a>, Fail> {
         let (head, marks) = line.split_once('[').unwrap_or((line, "]"));
         let Some(marks) = marks.strip_suffix("]") else {
             return Err(Fail::new("no closing bracket"));
@@ -83,7 +83,7 @@ impl<'a> Packet<'a> {
     }
 
     /// What stands behind a mark, where the line has it.
-    pub fn mark(&self, name: &str) -> Option<&'a str> {
+    pub(crate) fn mark(&self, name: &str) -> Option<&'a str> {
         for mark in self.marks.split_whitespace() {
             let (known, value) = mark.split_once('=').unwrap_or((mark, ""));
             if known == name {
@@ -94,7 +94,7 @@ impl<'a> Packet<'a> {
     }
 
     /// The number behind a mark, or that of most packets.
-    pub fn number(&self, name: &str, usual: u32) -> Result<u32, Fail> {
+    pub(crate) fn number(&self, name: &str, usual: u32) -> Result<u32, Fail> {
         match self.mark(name) {
             Some(value) => Ok(value.parse()?),
             None => Ok(usual),
@@ -102,23 +102,23 @@ impl<'a> Packet<'a> {
     }
 
     /// The same of two octets.
-    pub fn word(&self, name: &str, usual: u16) -> Result<u16, Fail> {
+    pub(crate) fn word(&self, name: &str, usual: u16) -> Result<u16, Fail> {
         Ok(u16::try_from(self.number(name, u32::from(usual))?)?)
     }
 
     /// The same of one.
-    pub fn octet(&self, name: &str, usual: u8) -> Result<u8, Fail> {
+    pub(crate) fn octet(&self, name: &str, usual: u8) -> Result<u8, Fail> {
         Ok(u8::try_from(self.number(name, u32::from(usual))?)?)
     }
 
     /// The sequence number and the acknowledgment number.
-    pub fn numbers(&self) -> Result<(u32, u32), Fail> {
+    pub(crate) fn numbers(&self) -> Result<(u32, u32), Fail> {
         let (sequence, ack) = self.numbers.split_once(',').unwrap_or((self.numbers, "0"));
         Ok((sequence.parse()?, ack.parse()?))
     }
 
     /// The flags of the TCP header.
-    pub fn flags(&self) -> Result<u8, Fail> {
+    pub(crate) fn flags(&self) -> Result<u8, Fail> {
         let mut flags = if self.mark("urg").is_some() { 32 } else { 0 };
         for letter in self.kind.chars() {
             flags |= flag(letter)?;

@@ -181,7 +181,7 @@ fn octets_of(alloc: Global, packet: &Packet<'_>) -> Result<Vec<u8>, Fail> {
 }
 
 /// The octets of the packet of one line.
-pub fn packet_octets(alloc: Global, line: &str) -> Result<Vec<u8>, Fail> {
+pub(crate) fn packet_octets(alloc: Global, line: &str) -> Result<Vec<u8>, Fail> {
     octets_of(alloc, &Packet::read(line.trim())?)
 }
 
@@ -210,7 +210,7 @@ fn add_packets(file: &mut Vec<u8>, alloc: Global, packets: &str) -> Result<(), F
 }
 
 /// A capture of raw IP of some packets and then others.
-pub fn capture_of(alloc: Global, first: &str, then: &str) -> Result<Vec<u8>, Fail> {
+pub(crate) fn capture_of(alloc: Global, first: &str, then: &str) -> Result<Vec<u8>, Fail> {
     let mut file = Vec::from_slice(alloc, &HEAD)?;
     add_packets(&mut file, alloc, first)?;
     add_packets(&mut file, alloc, then)?;
