@@ -8,9 +8,12 @@ use std::hash::{DefaultHasher, Hasher};
 pub fn hash_words(seed: u64, first: u64, second: u64) -> u64
     ensures { result ≡ hash_of_words seed first second }
 {
+    let words = [
+        seed.to_le_bytes(),
+        first.to_le_bytes(),
+        second.to_le_bytes(),
+    ];
     let mut hasher = DefaultHasher::new();
-    hasher.write_u64(seed);
-    hasher.write_u64(first);
-    hasher.write_u64(second);
+    hasher.write(words.as_flattened());
     hasher.finish()
 }

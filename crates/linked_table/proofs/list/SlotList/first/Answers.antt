@@ -1,4 +1,4 @@
-use Rattle.std.proofs.Common.{◌≡◌, ap, sym, arith}
+use Rattle.std.proofs.Common.{ap, arith}
 use Rattle.linked_table.specs.Listing.{Listing}
 use Rattle.linked_table.proofs.Listings.{first_seen}
 use Rattle.linked_table.proofs.list.SlotList.first.Goals as goal
