@@ -85,9 +85,10 @@ impl Assembly {
             return Offered::Drop(rule);
         }
         let _held = self.store.held(chain);
-        let need = self.store.need(chain, u64::from(piece.offset), piece.len());
-        let free = self.store.free();
-        if need > free {
+        let fits = self
+            .store
+            .has_room(chain, u64::from(piece.offset), piece.len());
+        if !fits {
             return Offered::Drop(Rule::FRoom);
         }
         self.accept(slot, &progress, piece, buf)

@@ -28,7 +28,6 @@ pub(crate) fn take(
     ensures count { let p = fragment_of piece.now in (ps : List Fragment) → Keeps (chain_of store.old chain.0) ps → length (chain_of store.new chain.0) ≡ cells_of (p ∷ ps) }
 {
     let from = u64::from(piece.offset);
-    let fresh = store.fresh(chain, from, piece.len());
-    store.place(chain, from, piece.bytes);
-    progress.with(piece, fresh)
+    let fresh = store.place(chain, from, piece.bytes);
+    progress.with(piece, fresh as u32)
 }

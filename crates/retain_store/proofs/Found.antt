@@ -8,7 +8,7 @@ use Rattle.retain_store.specs.Maps.{Block, block_at, octet_at, fresh, Agrees, Co
 use Rattle.retain_store.specs.Seats.{blocks_of, blocks_in, IsCellOf}
 use Rattle.retain_store.proofs.Walks.{stands}
 use Rattle.retain_store.proofs.Blocks.{found_in, missing_at}
-use Rattle.retain_store.proofs.Counts.{all_counted, none_counted, count_most, parts}
+use Rattle.retain_store.proofs.Counts.{all_counted, none_counted, count_agree, count_most, parts}
 
 -- an offset of a piece, by its place in the block
 offset_in : (blocks : List Block) (from i : ℕ) → from % 256 + i < 256 →
@@ -38,6 +38,12 @@ pub fresh_none : (blocks : List Block) (from len : ℕ) → Covers blocks from l
 fresh_none blocks from len some = none_counted (λ offset. is_none (octet_at blocks offset)) from len (λ m low high.
     let place : from + (m - from) ≡ m = omega arith in
     ap (λ o. is_none (octet_at blocks o)) (sym place) ∙ some_not_none (octet_at blocks (from + (m - from))) (some (m - from) (omega arith)))
+
+-- where the octets are the same from here on, as many are fresh
+pub fresh_same : (old new : List Block) (from len : ℕ) → ((offset : ℕ) → from ≤ offset → octet_at new offset ≡ octet_at old offset) →
+    fresh new from len ≡ fresh old from len
+fresh_same old new from len same = count_agree (λ offset. is_none (octet_at new offset)) (λ offset. is_none (octet_at old offset)) from len
+    (λ offset low. ap is_none (same offset low))
 
 -- the octets of a run are those that are kept
 module _ (blocks : List Block) (from : ℕ) where

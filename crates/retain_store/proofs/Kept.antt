@@ -1,7 +1,8 @@
 -- A chain that has these octets, and no others, has their blocks.
-use Rattle.std.proofs.Common.{◌≡◌, ℕ, zero, suc, ◌+◌, ◌*◌, ◌/◌, ◌%◌, ◌==◌, ◌<◌, ◌≤◌, Bool, true, false, cond, not, List, [], ◌∷◌, length, get_or, Option, None, is_some, refl, sym, ap, ap₂, ◌∙◌, arith, add-one}
+use Rattle.std.proofs.Common.{◌≡◌, ℕ, zero, suc, ◌+◌, ◌*◌, ◌/◌, ◌%◌, ◌==◌, nat_lt, ◌<◌, ◌≤◌, ◌↔◌, inl, inr, Bool, true, false, IsTrue, cond, not, List, [], ◌∷◌, length, get_or, Option, None, is_some, refl, sym, ap, ap₂, ◌∙◌, arith, add-one, lt-ltb, le-ltb}
 use Rattle.std.specs.Prelude.{◌||◌}
 use Rattle.std.specs.List.{AllByRecursion, list_any, count_by, range_with_len}
+use Rattle.std.proofs.lemmas.Bool.{cases_lt}
 use Rattle.std.proofs.lemmas.List.Elements.{recursion_from_All}
 use Rattle.retain_store.specs.Maps.{Block, IsMap, IsFull, IsWithin, block_at, octet_at, holds, has_octet, missing, touched}
 use Rattle.retain_store.proofs.Sums.{sum_agree}
@@ -63,3 +64,14 @@ count_is blocks octets n map keeps below counted =
     counted n (λ o some. below o (sym (ap is_some (keeps o)) ∙ some))
     ∙ sum_agree (λ m. cond (holds blocks m) 1 0) (λ m. cond (has_octet octets m) 1 0) (range_with_len 0 n)
     (all_of _ (range_with_len 0 n) (λ m. ap (λ b. cond {A = ℕ} b 1 0) (holds_are blocks octets m map keeps)))
+
+-- what the answer says of room
+pub no_room : (free n : ℕ) (fits : Bool) → IsTrue fits ↔ n ≤ free → fits ≡ false → nat_lt free n ≡ true
+no_room free n fits says refused = elim (cases_lt free n) [
+  | inl lt ↦ lt-ltb free n lt
+  | inr le ↦ let given : fits ≡ true = says.1 le in cc
+]
+
+pub some_room : (free n : ℕ) (fits : Bool) → IsTrue fits ↔ n ≤ free → fits ≡ true → nat_lt free n ≡ false
+some_room free n true says given = le-ltb free n (says.0 refl)
+some_room free n false says given = cc

@@ -36,6 +36,10 @@ changed_by old {new = new} c cells free inside is total =
       cells = omega (arith, total, same, ap length here);
     }
 
+-- the cell of the block
+abbrev pub opened_cell : {old new : Lists} {c n : ℕ} {name : CellId} → Opens old new c n name → IsCellOf (chain_at new c) n name
+opened_cell opens = record { before = opens.before; cell = opens.cell; after = opens.after; at = opens.at; numbered = opens.numbered }
+
 -- the block has a cell
 pub opens_found : {pool : Lists} {c n : ℕ} {name : CellId} → IsKept (chain_at pool c) → IsCellOf (chain_at pool c) n name →
     Opens pool pool c n name

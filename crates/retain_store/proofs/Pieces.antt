@@ -16,7 +16,7 @@ use Rattle.retain_store.specs.Changes.{IsChanged, Opens, PlacesPiece, with_octet
 use Rattle.retain_store.proofs.Walks.{stands}
 use Rattle.retain_store.proofs.Blocks.{found_in, full_more, other_in}
 use Rattle.retain_store.proofs.Segments.{got_with, length_with, octet_before, octet_past, or_none}
-use Rattle.retain_store.proofs.Opens.{chain_is, changed_by}
+use Rattle.retain_store.proofs.Opens.{chain_is, changed_by, opened_cell}
 
 -- the chain is still one of the chains
 pub inside_then : {old new : Lists} {c : ℕ} → c < length old.chains → IsChanged old new c → c < length new.chains
@@ -77,13 +77,7 @@ places_piece {old = old} {mid = mid} {new = new} {c = c} {from = from} {piece = 
       at = record { splits = here; named = opens.at.named };
       numbered = opens.numbered;
     }) in
-    let found_mid : block_at (blocks_in mid c) n ≡ x.octets = found_in {name = name} opens.rising (record {
-      before = opens.before;
-      cell = x;
-      after = opens.after;
-      at = opens.at;
-      numbered = opens.numbered;
-    }) in
+    let found_mid : block_at (blocks_in mid c) n ≡ x.octets = found_in {name = name} opens.rising (opened_cell opens) in
     let other : (m : ℕ) → n ≢ m → block_at (blocks_in new c) m ≡ block_at (blocks_in mid c) m =
     λ m differ.
     let differs : x.block ≢ m = λ e. differ (sym opens.numbered ∙ e) in

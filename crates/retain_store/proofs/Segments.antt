@@ -28,6 +28,12 @@ octet_before from octets i lt = rw (lt-ltb i from lt) refl
 pub octet_past : (from : ℕ) (octets : List ℕ) (i : ℕ) → from + length octets ≤ i → octet_in from octets i ≡ None
 octet_past from octets i le = rw (le-ltb i from (omega arith)) (slice_get_past octets (i - from) (omega arith))
 
+-- behind the octets that were added, what stands is as it was
+pub placed_behind : (old new : List Block) (from : ℕ) (octets : List ℕ) → Places old new from octets → (offset : ℕ) → from + length octets ≤ offset →
+    octet_at new offset ≡ octet_at old offset
+placed_behind old new from octets places offset le =
+    places offset ∙ (ap (option_or (octet_at old offset)) (octet_past from octets offset le) ∙ or_none (octet_at old offset))
+
 -- a segment of one octet has it at its begin alone
 octet_here : (from y : ℕ) → octet_in from (y ∷ []) from ≡ Some y
 octet_here from y =

@@ -2,10 +2,10 @@
 ghost use Rattle.std.specs.Prelude.{◌≡◌, ℕ, ◌+◌, ◌-◌, ◌<◌, ◌≤◌, ◌/◌, ◌^◌, ◌↔◌, Some, false, length, slice_index, IsTrue};
 ghost use Rattle.std.specs.List.{range_with_len};
 ghost use Rattle.cell_pool.specs.Lists.{chain_at, IsRising};
-ghost use Rattle.retain_store.specs.Maps.{holds, octet_at, touched, missing, fresh, Agrees, Covers, Settles};
+ghost use Rattle.retain_store.specs.Maps.{holds, octet_at, touched, missing, Agrees, Covers, Settles};
 ghost use Rattle.retain_store.specs.Seats.{blocks_in, IsKept, IsNear};
 
-use crate::runs::{agrees_piece, copy_piece, covers_piece, fresh_piece, piece_len, settle_piece};
+use crate::runs::{agrees_piece, copy_piece, covers_piece, piece_len, settle_piece};
 use crate::seat::{Seat, seek};
 use cell_pool::{CellId, ChainId, Pool};
 
@@ -58,34 +58,6 @@ pub(crate) fn count_missing(
             count += 1;
         }
         near = next;
-    }
-    count
-}
-
-/// How many of the offsets have no octet.
-pub(crate) fn count_fresh(
-    pool: &Pool,
-    chain: ChainId,
-    near: Option<CellId>,
-    from: u64,
-    len: u32,
-) -> u32
-    requires chain_in_range { chain.0 < length pool.now.chains }
-    requires near_in_chain { IsNear (chain_at pool.now chain.0) near }
-    requires rising { IsRising (chain_at pool.now chain.0) }
-    requires offsets { from + len ≤ 2 ^ 64 - 1 }
-    ensures { result ≡ fresh (blocks_in pool.now chain.0) from len }
-{
-    let mut near = near;
-    let mut count = 0;
-    let mut done = 0;
-    while done < len {
-        let at = from + u64::from(done);
-        let size = piece_len(at, (len - done) as usize) as u32;
-        let (none, next) = fresh_piece(pool, chain, near, at, size);
-        count += none;
-        near = next;
-        done += size;
     }
     count
 }

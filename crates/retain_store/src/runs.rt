@@ -1,10 +1,10 @@
 //! What is read of a piece, whose offsets are of one block.
 ghost use Rattle.std.specs.Prelude.{◌≡◌, ℕ, ◌+◌, ◌-◌, ◌<◌, ◌≤◌, ◌/◌, ◌%◌, ◌^◌, ◌↔◌, Some, false, length, slice_index, IsTrue};
 ghost use Rattle.cell_pool.specs.Lists.{chain_at, IsRising};
-ghost use Rattle.retain_store.specs.Maps.{octet_at, fresh, Agrees, Covers, Settles};
+ghost use Rattle.retain_store.specs.Maps.{octet_at, Agrees, Covers, Settles};
 ghost use Rattle.retain_store.specs.Seats.{blocks_in, IsCellOf, IsNear};
 
-use crate::each::{agrees_each, count_each, settle_each};
+use crate::each::{agrees_each, settle_each};
 use crate::seat::{Seat, place_of, seek};
 use cell_pool::{CellId, ChainId, Pool};
 
@@ -15,47 +15,6 @@ pub(crate) fn piece_len(from: u64, left: usize) -> usize
     ensures some { 0 < left → 0 < result }
 {
     left.min(256 - usize::from(place_of(from)))
-}
-
-// How many of the offsets have no octet, in the cell of their block.
-fn fresh_in(pool: &Pool, chain: ChainId, cell: CellId, from: u64, len: u32) -> u32
-    requires chain_in_range { chain.0 < length pool.now.chains }
-    requires cell { IsCellOf (chain_at pool.now chain.0) (from / 256) cell }
-    requires rising { IsRising (chain_at pool.now chain.0) }
-    requires fits { from % 256 + len ≤ 256 }
-    requires offsets { from + len ≤ 2 ^ 64 - 1 }
-    ensures { result ≡ fresh (blocks_in pool.now chain.0) from len }
-{
-    let at = place_of(from);
-    if pool.is_blank(cell, at, len as usize) {
-        return len;
-    }
-    if pool.is_covered(cell, at, len as usize) {
-        return 0;
-    }
-    count_each(pool, chain, Some(cell), from, len)
-}
-
-/// How many of the offsets have no octet, and a cell from which the next walk may begin.
-pub(crate) fn fresh_piece(
-    pool: &Pool,
-    chain: ChainId,
-    near: Option<CellId>,
-    from: u64,
-    len: u32,
-) -> (u32, Option<CellId>)
-    requires chain_in_range { chain.0 < length pool.now.chains }
-    requires near_in_chain { IsNear (chain_at pool.now chain.0) near }
-    requires rising { IsRising (chain_at pool.now chain.0) }
-    requires fits { from % 256 + len ≤ 256 }
-    requires offsets { from + len ≤ 2 ^ 64 - 1 }
-    ensures count { result.0 ≡ fresh (blocks_in pool.now chain.0) from len }
-    ensures near { IsNear (chain_at pool.now chain.0) result.1 }
-{
-    match seek(pool, chain, near, from / 256) {
-        Seat::Cell(cell) => (fresh_in(pool, chain, cell, from, len), Some(cell)),
-        Seat::After(after) => (len, after),
-    }
 }
 
 /// Whether each of the offsets, of which there are some, has its octet, and a cell from which the next walk may begin.

@@ -40,8 +40,12 @@ fn seek_far(pool: &Pool, chain: ChainId, block: u64) -> Seat
     requires { chain.0 < length pool.now.chains }
     ensures { IsSeat (chain_at pool.now chain.0) block result }
 {
+    let first = pool.first(chain);
+    if first.is_none() {
+        return Seat::After(None);
+    }
     let Some(cell) = pool.landmark(chain, block) else {
-        return walk(pool, chain, None, pool.first(chain), block);
+        return walk(pool, chain, None, first, block);
     };
     if pool.block(cell) == block {
         return Seat::Cell(cell);

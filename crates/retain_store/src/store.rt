@@ -4,7 +4,7 @@ ghost use Rattle.std.specs.List.{count_by, range_with_len, sum_by};
 ghost use Rattle.retain_store.specs.Maps.{chain_of, has_octet, holds, octet_at, missing, fresh, Agrees, ChangesOnly, Covers, ForgetsBelow, IsMap, IsWithin, Places, Settles};
 
 use crate::forgets::{forget_before, forget_chain};
-use crate::reads::{agrees_all, copy, count_fresh, count_missing, covers_all, settle_all};
+use crate::reads::{agrees_all, blocks_touched, copy, count_missing, covers_all, settle_all};
 use crate::writes::place_all;
 use cell_pool::{CellId, ChainId, Pool};
 use edge_io::NoMemory;
@@ -71,22 +71,27 @@ impl Retain {
         count_missing(&self.pool, chain, self.hints[chain.0 as usize], from, len)
     }
 
-    /// How many of so many offsets have no octet: as many as `place` would add there.
-    pub fn fresh(&self, chain: ChainId, from: u64, len: u32) -> u32
+    /// Whether as many cells are free as the blocks touched need. They are counted only where fewer are free than blocks are touched.
+    pub fn has_room(&self, chain: ChainId, from: u64, len: u32) -> bool
         requires chain_in_range { chain.0 < length self.now.chains }
         requires offsets { from + len ≤ 2 ^ 64 - 1 }
-        ensures value { result ≡ fresh (chain_of self.now chain.0) from len }
-        ensures most { result ≤ len }
+        ensures { IsTrue result ↔ missing (chain_of self.now chain.0) from len ≤ self.now.free }
     {
-        count_fresh(&self.pool, chain, self.hints[chain.0 as usize], from, len)
+        let free = self.free();
+        if blocks_touched(from, len) <= free {
+            return true;
+        }
+        self.need(chain, from, len) <= free
     }
 
-    /// Adds the octets at offsets that have none. It takes no memory.
-    pub fn place(&mut self, chain: ChainId, from: u64, bytes: &[u8])
+    /// Adds the octets at offsets that have none, and answers how many these are. It takes no memory.
+    pub fn place(&mut self, chain: ChainId, from: u64, bytes: &[u8]) -> usize
         requires chain_in_range { chain.0 < length self.old.chains }
         requires offsets { from + length bytes.now ≤ 2 ^ 64 - 1 }
         requires room { missing (chain_of self.old chain.0) from (length bytes.now) ≤ self.old.free }
         ensures octets { Places (chain_of self.old chain.0) (chain_of self.new chain.0) from bytes.now }
+        ensures fresh { result ≡ fresh (chain_of self.old chain.0) from (length bytes.now) }
+        ensures most { result ≤ length bytes.now }
         ensures free { self.new.free + missing (chain_of self.old chain.0) from (length bytes.now) ≡ self.old.free }
         ensures changed { ChangesOnly self.old self.new chain.0 }
         ensures map { IsMap (chain_of self.new chain.0) }
@@ -94,8 +99,9 @@ impl Retain {
             length (chain_of self.new chain.0) ≡ count_by (holds (chain_of self.new chain.0)) (range_with_len 0 n) }
     {
         let near = self.hints[chain.0 as usize];
-        let near = place_all(&mut self.pool, chain, near, from, bytes);
+        let (near, fresh) = place_all(&mut self.pool, chain, near, from, bytes);
         self.hints[chain.0 as usize] = near;
+        fresh
     }
 
     /// Whether none of the octets differs from the one kept at its offset.

@@ -13,11 +13,9 @@ fn the_octet_that_came_first_stays(rt: HostRuntime) -> Result<(), Fail> {
     let from = (1 << 62) + 254;
     assert_eq!(rt; store.need(chain, from, 3), 2);
     assert_eq!(rt; store.free(), 3);
-    assert_eq!(rt; store.fresh(chain, from, 3), 3);
-    store.place(chain, from, b"abc");
+    assert_eq!(rt; store.place(chain, from, b"abc"), 3);
     assert_eq!(rt; store.need(chain, from + 1, 4), 0);
-    assert_eq!(rt; store.fresh(chain, from + 1, 4), 2);
-    store.place(chain, from + 1, b"XYZW");
+    assert_eq!(rt; store.place(chain, from + 1, b"XYZW"), 2);
     let mut octets = [0; 5];
     assert!(rt; store.covers(chain, from, 5));
     store.copy_out(chain, from, &mut octets);
@@ -33,7 +31,7 @@ fn calls_at_the_end_of_a_long_chain_walk_nothing(rt: HostRuntime) -> Result<(), 
         let from = 256 * block;
         assert_eq!(rt; store.need(ChainId(0), from, 256), 1);
         assert!(rt; store.free() >= 1);
-        store.place(ChainId(0), from, &octets);
+        assert_eq!(rt; store.place(ChainId(0), from, &octets), 256);
         assert!(rt; !store.settle(ChainId(0), from, &mut octets));
     }
     assert_eq!(rt; store.free(), 0);
@@ -55,7 +53,7 @@ fn calls_anywhere_in_a_long_chain_walk_little(rt: HostRuntime) -> Result<(), Fai
         let from = 16_384 * (40_503 * index % 65_536);
         assert_eq!(rt; store.need(ChainId(0), from, 1), 1);
         assert!(rt; store.free() >= 1);
-        store.place(ChainId(0), from, b"a");
+        assert_eq!(rt; store.place(ChainId(0), from, b"a"), 1);
     }
     assert_eq!(rt; store.free(), 0);
     Ok(())
@@ -87,16 +85,18 @@ impl Plain {
         self.octets.get(&(chain.0, offset)).copied()
     }
 
-    fn place(&mut self, chain: ChainId, from: u64, bytes: &[u8]) -> Result<(), Fail>
+    // Places octets, and answers how many are new.
+    fn place(&mut self, chain: ChainId, from: u64, bytes: &[u8]) -> Result<usize, Fail>
         requires { from + length bytes.now < 2 ^ 64 }
     {
+        let before = self.octets.len();
         for (index, octet) in bytes.iter().enumerate() {
             let offset = from + index as u64;
             if self.octet_at(chain, offset).is_none() {
                 self.octets.insert((chain.0, offset), *octet)?;
             }
         }
-        Ok(())
+        Ok(self.octets.len().saturating_sub(before))
     }
 
     fn settle(&self, chain: ChainId, from: u64, bytes: &mut [u8])
@@ -170,10 +170,11 @@ impl Both {
         requires offsets { from + length bytes.now < 2 ^ 64 }
         requires short { length bytes.now ≤ 600 }
     {
-        self.need(rt, chain, from, bytes.len() as u32);
-        if self.store.need(chain, from, bytes.len() as u32) <= self.store.free() {
-            self.store.place(chain, from, bytes);
-            self.plain.place(chain, from, bytes)?;
+        let fits = self.need(rt, chain, from, bytes.len() as u32) <= self.store.free();
+        assert_eq!(rt; self.store.has_room(chain, from, bytes.len() as u32), fits);
+        if self.store.has_room(chain, from, bytes.len() as u32) {
+            let plain = self.plain.place(chain, from, bytes)?;
+            assert_eq!(rt; self.store.place(chain, from, bytes), plain);
         }
         Ok(())
     }

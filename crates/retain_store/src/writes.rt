@@ -1,10 +1,11 @@
 //! What is added to a chain.
 ghost use Rattle.std.specs.Prelude.{◌≡◌, ℕ, ◌+◌, ◌-◌, ◌<◌, ◌≤◌, ◌/◌, ◌%◌, ◌^◌, Some, true, length};
-ghost use Rattle.cell_pool.specs.Lists.{chain_at, IsHeld, Writes};
-ghost use Rattle.retain_store.specs.Maps.{holds, missing, Places};
-ghost use Rattle.retain_store.specs.Seats.{blocks_in, IsKept, IsNear};
+ghost use Rattle.cell_pool.specs.Lists.{chain_at, IsHeld, IsRising, Writes};
+ghost use Rattle.retain_store.specs.Maps.{fresh, holds, missing, Places};
+ghost use Rattle.retain_store.specs.Seats.{blocks_in, IsCellOf, IsKept, IsNear};
 ghost use Rattle.retain_store.specs.Changes.{with_octet, with_octets, IsChanged, Opens, PlacesPiece};
 
+use crate::each::count_each;
 use crate::seat::{Seat, place_of, seek};
 use cell_pool::{CellId, ChainId, Pool};
 
@@ -29,20 +30,28 @@ fn fill_each(pool: &mut Pool, cell: CellId, at: u8, piece: &[u8])
     }
 }
 
-// Puts octets into a cell, from a place on, where there are none.
-fn fill(pool: &mut Pool, cell: CellId, at: u8, piece: &[u8])
-    requires held { IsHeld pool.old cell }
-    requires fits { at + length piece.now ≤ 256 }
-    ensures { Writes pool.old pool.new cell (λ octets. with_octets octets at piece.now) }
+// Adds octets of one block, in its cell, where there are none, and answers how many they are.
+fn fill(pool: &mut Pool, chain: ChainId, cell: CellId, from: u64, piece: &[u8]) -> u32
+    requires chain_in_range { chain.0 < length pool.old.chains }
+    requires cell { IsCellOf (chain_at pool.old chain.0) (from / 256) cell }
+    requires rising { IsRising (chain_at pool.old chain.0) }
+    requires fits { from % 256 + length piece.now ≤ 256 }
+    requires offsets { from + length piece.now ≤ 2 ^ 64 - 1 }
+    ensures written { Writes pool.old pool.new cell (λ octets. with_octets octets (from % 256) piece.now) }
+    ensures fresh { result ≡ fresh (blocks_in pool.old chain.0) from (length piece.now) }
 {
+    let at = place_of(from);
+    let size = piece.len() as u32;
     if pool.is_blank(cell, at, piece.len()) {
         pool.set_run(cell, at, piece);
-        return;
+        return size;
     }
     if pool.is_covered(cell, at, piece.len()) {
-        return;
+        return 0;
     }
+    let fresh = count_each(pool, chain, Some(cell), from, size);
     fill_each(pool, cell, at, piece);
+    fresh
 }
 
 // The cell of a block, taken where there is none.
@@ -64,54 +73,60 @@ fn cell_for(pool: &mut Pool, chain: ChainId, near: Option<CellId>, block: u64) -
     }
 }
 
-// Adds octets of one block where there are none, and answers its cell.
+// Adds octets of one block where there are none, and answers its cell and how many they are.
 fn place_piece(
     pool: &mut Pool,
     chain: ChainId,
     near: Option<CellId>,
     from: u64,
     piece: &[u8],
-) -> CellId
+) -> (CellId, u32)
     requires chain_in_range { chain.0 < length pool.old.chains }
     requires near_in_chain { IsNear (chain_at pool.old chain.0) near }
     requires kept { IsKept (chain_at pool.old chain.0) }
     requires room { pool.old.free ≡ 0 → holds (blocks_in pool.old chain.0) (from / 256) ≡ true }
     requires some { 0 < length piece.now }
     requires fits { from % 256 + length piece.now ≤ 256 }
-    ensures { PlacesPiece pool.old pool.new chain.0 from piece.now result }
+    requires offsets { from + length piece.now ≤ 2 ^ 64 - 1 }
+    ensures placed { PlacesPiece pool.old pool.new chain.0 from piece.now result.0 }
+    ensures fresh { result.1 ≡ fresh (blocks_in pool.old chain.0) from (length piece.now) }
 {
     let cell = cell_for(pool, chain, near, from / 256);
-    fill(pool, cell, place_of(from), piece);
-    cell
+    let fresh = fill(pool, chain, cell, from, piece);
+    (cell, fresh)
 }
 
-/// Adds octets at the offsets that have none, and answers a cell from which the next walk may begin.
+/// Adds octets at the offsets that have none, and answers a cell from which the next walk may begin and how many they are.
 pub(crate) fn place_all(
     pool: &mut Pool,
     chain: ChainId,
     near: Option<CellId>,
     from: u64,
     bytes: &[u8],
-) -> Option<CellId>
+) -> (Option<CellId>, usize)
     requires chain_in_range { chain.0 < length pool.old.chains }
     requires near_in_chain { IsNear (chain_at pool.old chain.0) near }
     requires kept { IsKept (chain_at pool.old chain.0) }
     requires offsets { from + length bytes.now ≤ 2 ^ 64 - 1 }
     requires room { missing (blocks_in pool.old chain.0) from (length bytes.now) ≤ pool.old.free }
-    ensures near { IsNear (chain_at pool.new chain.0) result }
+    ensures near { IsNear (chain_at pool.new chain.0) result.0 }
     ensures kept { IsKept (chain_at pool.new chain.0) }
     ensures changed { IsChanged pool.old pool.new chain.0 }
     ensures free { pool.new.free + missing (blocks_in pool.old chain.0) from (length bytes.now) ≡ pool.old.free }
     ensures octets { Places (blocks_in pool.old chain.0) (blocks_in pool.new chain.0) from bytes.now }
+    ensures fresh { result.1 ≡ fresh (blocks_in pool.old chain.0) from (length bytes.now) }
 {
     let mut near = near;
+    let mut count = 0;
     let mut done = 0;
     while done < bytes.len() {
         let at = from + done as u64;
         let left = 256 - usize::from(place_of(at));
         let end = bytes.len().min(done + left);
-        near = Some(place_piece(pool, chain, near, at, &bytes[done..end]));
+        let (cell, fresh) = place_piece(pool, chain, near, at, &bytes[done..end]);
+        near = Some(cell);
+        count += fresh as usize;
         done = end;
     }
-    near
+    (near, count)
 }

@@ -1,8 +1,8 @@
 -- The least recently touched era that holds nothing, as the table finds it.
 use Rattle.std.proofs.Common.{◌≡◌, ◌≢◌, ℕ, ◌==◌, Bool, true, false, cond, List, [], ◌∷◌, ◌++◌, length, map, filter, Option, Some, None, refl, sym, ap, subst, ◌∙◌, suc, arith}
 use Rattle.std.specs.Prelude.{IfSome, IfNone}
-use Rattle.std.specs.List.{AllByRecursion, All, AllPairs}
-use Rattle.std.proofs.lemmas.List.Elements.{recursion_from_All, All-from_recursion}
+use Rattle.std.specs.List.{AllByRecursion, AllPairs}
+use Rattle.std.proofs.lemmas.List.Elements.{All-from_recursion}
 use Rattle.linked_table.specs.declared.table.Slot.{Slot}
 use Rattle.wire_base.specs.Segments.{Written}
 use Rattle.rule_book.specs.declared.entry.Ended.{Ended}

@@ -103,7 +103,7 @@ clash_is ws w own new clash sent owned same =
     (λ none. same.1 (sent ∙ (differ_nowhere (octet_sent ws w) (own_octet ws w) offsets none ∙ sym owned)))
 
 -- the blocks that are wanted
-pub wanted_is : (ws : List Written) (w : Written) (kept : Interval) (blocks : List Block) (need size : ℕ) → IsMap blocks → Keeps blocks ws → KeptOf ws w kept
-    → need ≡ missing blocks kept.lo size → size ≡ kept.hi - kept.lo → need ≡ missing_of ws (low_of ws w) (high_of ws w - low_of ws w)
-wanted_is ws w kept blocks need size map keeps is needs sized =
-    needs ∙ (missing_are blocks ws kept.lo size map keeps ∙ (ap (missing_of ws kept.lo) sized ∙ ap₂ (λ l h. missing_of ws l (h - l)) is.spans.lo_is is.spans.hi_is))
+pub wanted_is : (ws : List Written) (w : Written) (kept : Interval) (blocks : List Block) → IsMap blocks → Keeps blocks ws → KeptOf ws w kept
+    → missing blocks kept.lo (kept.hi - kept.lo) ≡ missing_of ws (low_of ws w) (high_of ws w - low_of ws w)
+wanted_is ws w kept blocks map keeps is =
+    missing_are blocks ws kept.lo (kept.hi - kept.lo) map keeps ∙ ap₂ (λ l h. missing_of ws l (h - l)) is.spans.lo_is is.spans.hi_is

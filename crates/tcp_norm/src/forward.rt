@@ -59,10 +59,9 @@ impl TcpNorm {
         intervals_fit();
         let _count = self.table.len();
         let chain = ChainId(slot.0);
-        let fresh = self.store.fresh(chain, kept.lo, size as u32);
-        self.store.place(chain, kept.lo, &self.scratch[..size]);
+        let fresh = self.store.place(chain, kept.lo, &self.scratch[..size]);
         let _held = self.store.held(chain);
-        let new = warm.forwarded(kept, fresh);
+        let new = warm.forwarded(kept, fresh as u32);
         let era = Era::settled(new);
         let number = flow.number;
         let _before = self.table.put(

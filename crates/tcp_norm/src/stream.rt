@@ -54,14 +54,19 @@ fn own_octets<'a>(warm: &Warm, seg: &Seg, kept: &Interval, payload: &'a [u8]) ->
     }
 }
 
-// The number is above the bound, if one is set.
-fn exceeds(most: Option<u32>, number: u64) -> bool
-    ensures { result ≡ exceeds most number }
+// Whether an era would hold more cells than the quota, if one is set, with the octets that go inwards.
+fn is_over(store: &Retain, chain: ChainId, kept: &Interval, quota: Option<u32>) -> bool
+    requires chain_in_range { chain.0 < length store.now.chains }
+    requires order { kept.now.lo ≤ kept.now.hi }
+    requires short { kept.now.hi ≤ kept.now.lo + 65515 }
+    ensures { result ≡ exceeds quota (length (chain_of store.now chain.0) + missing (chain_of store.now chain.0) kept.now.lo (kept.now.hi - kept.now.lo)) }
 {
-    match most {
-        None => false,
-        Some(most) => u64::from(most) < number,
-    }
+    let Some(most) = quota else {
+        return false;
+    };
+    let _end = kept.hi;
+    let wanted = store.need(chain, kept.lo, size_of(kept));
+    u64::from(most) < u64::from(store.held(chain)) + u64::from(wanted)
 }
 
 /// The row that drops an inbound segment of the stream, if its octets need more cells than its era may take, or than are free.
@@ -79,14 +84,14 @@ pub(crate) fn refusal(
     ensures free { IfNone result (missing (chain_of store.now chain.0) kept.now.lo (kept.now.hi - kept.now.lo) ≤ store.now.free) }
     ensures within { IfNone result (IsAtMost quota (length (chain_of store.now chain.0) + missing (chain_of store.now chain.0) kept.now.lo (kept.now.hi - kept.now.lo))) }
 {
-    let held = store.held(chain);
+    let _held = store.held(chain);
     let _end = kept.hi;
-    let wanted = store.need(chain, kept.lo, size_of(kept));
-    let over = exceeds(quota, u64::from(held) + u64::from(wanted));
+    let over = is_over(store, chain, kept, quota);
     if over {
         return Some(Rule::TQuota);
     }
-    if wanted > store.free() {
+    let fits = store.has_room(chain, kept.lo, size_of(kept));
+    if !fits {
         return Some(Rule::TRoom);
     }
     None

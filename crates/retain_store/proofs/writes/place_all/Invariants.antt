@@ -1,6 +1,6 @@
 use Rattle.std.proofs.Common.{◌≡◌, ◌+◌, ◌-◌, ◌≤◌, length, take}
 use Rattle.cell_pool.specs.Lists.{chain_at}
-use Rattle.retain_store.specs.Maps.{missing, Places}
+use Rattle.retain_store.specs.Maps.{fresh, missing, Places}
 use Rattle.retain_store.specs.Seats.{blocks_in, IsKept, IsNear}
 use Rattle.retain_store.specs.Changes.{IsChanged}
 use Rattle.retain_store.proofs.writes.place_all.Given as goal
@@ -14,6 +14,7 @@ invariant-loop-done l = record {
   spent : l.pool.free + missing (blocks_in l.fn.pool l.fn.chain.0) l.fn.from (length l.fn.bytes)
       ≡ l.fn.pool.free + missing (blocks_in l.pool l.fn.chain.0) (l.fn.from + l.done) (length l.fn.bytes - l.done);
   octets : Places (blocks_in l.fn.pool l.fn.chain.0) (blocks_in l.pool l.fn.chain.0) l.fn.from (take l.done l.fn.bytes);
+  counted : l.count ≡ fresh (blocks_in l.fn.pool l.fn.chain.0) l.fn.from l.done;
 }
 
 abbrev pub decreases-loop-done : goal.decreases-loop-done

@@ -1,11 +1,31 @@
-use Rattle.std.proofs.Common.{◌∙◌, length, sym, ap, subst}
+use Rattle.std.proofs.Common.{◌∙◌, length, sym, ap, subst, arith}
 use Rattle.std.proofs.lemmas.List.{length-map}
 use Rattle.cell_pool.specs.Lists.{chain_at}
-use Rattle.retain_store.specs.Maps.{IsMap}
-use Rattle.retain_store.specs.Seats.{block_of}
+use Rattle.retain_store.specs.Maps.{Store, IsMap, fresh, missing}
+use Rattle.retain_store.specs.Seats.{block_of, blocks_in}
+use Rattle.retain_store.proofs.Found.{fresh_most}
 use Rattle.retain_store.proofs.Holdings.{held_counted}
-use Rattle.retain_store.proofs.Shown.{change_shown, kept_map, shown_after}
+use Rattle.retain_store.proofs.Shown.{chain_shown, change_shown, kept_map, shown_after}
 use Rattle.retain_store.proofs.store.Retain.place.Goals as goal
+
+pub returns-clause-fresh : goal.returns-clause-fresh
+returns-clause-fresh c = c.place_all-near.ensures.fresh
+    ∙ ap (λ blocks. fresh blocks c.args.from (length c.args.bytes.now)) (chain_shown c.self.inside.pool c.args.self.now c.args.chain.0 c.self.view_is c.requires.chain_in_range)
+
+pub returns-clause-free : goal.returns-clause-free
+returns-clause-free c = omega (
+  arith,
+  c.place_all-near.ensures.free,
+  ap (λ (s : Store). s.free) c.self.view_is,
+  ap (λ blocks. missing blocks c.args.from (length c.args.bytes.now)) (chain_shown c.self.inside.pool c.args.self.now c.args.chain.0 c.self.view_is c.requires.chain_in_range),
+)
+
+pub returns-clause-most : goal.returns-clause-most
+returns-clause-most c = omega (
+  arith,
+  c.place_all-near.ensures.fresh,
+  fresh_most (blocks_in c.self.inside.pool c.args.chain.0) c.args.from (length c.args.bytes.now),
+)
 
 pub returns-clause-changed : goal.returns-clause-changed
 returns-clause-changed c = change_shown c.self.inside.pool c.place_all-near.new.pool c.args.self.now c.args.chain.0 c.self.view_is c.requires.chain_in_range c.place_all-near.ensures.changed
