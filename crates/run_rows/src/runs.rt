@@ -1,5 +1,5 @@
 //! Runs over captures that are given in pieces, to sinks of which a call may fail.
-ghost use Rattle.std.specs.Prelude.{◌<◌};
+ghost use Rattle.std.specs.Prelude.{◌≡◌, ◌<◌, ◌==◌, [], ◌∷◌, map, string_bytes, if◌then◌else◌, IfOk};
 
 use crate::notation::add_octets;
 use bridge_run::run;
@@ -60,7 +60,9 @@ pub fn capture_file(
 }
 
 /// The words of a command line.
-pub fn line(alloc: Global, words: &[&str]) -> Result<Vec<String>, AllocError> {
+pub fn line(alloc: Global, words: &[&str]) -> Result<Vec<String>, AllocError>
+    ensures { IfOk result (λ line. map string_bytes line.items ≡ map (λ w. w.now) words.now) }
+{
     let mut line = Vec::new(alloc);
     for word in words {
         line.push(String::from_str(alloc, word)?)?;
@@ -69,7 +71,9 @@ pub fn line(alloc: Global, words: &[&str]) -> Result<Vec<String>, AllocError> {
 }
 
 /// The list of this one call, and no call for 0.
-pub fn only(alloc: Global, call: u32) -> Result<Vec<u32>, AllocError> {
+pub fn only(alloc: Global, call: u32) -> Result<Vec<u32>, AllocError>
+    ensures { IfOk result (λ calls. calls.items ≡ (if call == 0 then [] else call ∷ [])) }
+{
     let mut calls = Vec::new(alloc);
     if call > 0 {
         calls.push(call)?;
