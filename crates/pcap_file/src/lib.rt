@@ -1,4 +1,10 @@
-//! Classic pcap files: a head, and records that are read and written one by one.
+//! Classic pcap files: the head, and records that are read and written one by one.
+//!
+//! Proved, however the source splits the octets: `read_head` and `Reader::next` return heads of
+//! either byte order, either time unit and either link, and records, or their fault, exactly by the
+//! grammar of a capture, and the octets taken are known for each result. What `write_head` and
+//! `write_record` append is read back as that head and that record. All octets are a capture with
+//! one head and one list of records, or have one first fault at one offset (`laws`).
 #![tactic(auto)]
 
 pub mod head;

@@ -48,9 +48,11 @@ impl Order {
     pub(crate) fn u32_octets(self, number: u32) -> [u8; 4]
         ensures { result ≡ numbers.u32_octets self number }
     {
-        match self {
-            Order::Little => number.to_le_bytes(),
-            Order::Big => number.to_be_bytes(),
-        }
+        // A choice between numbers and not between arrays, so that the octets are one store.
+        let stored = match self {
+            Order::Little => number,
+            Order::Big => number.swap_bytes(),
+        };
+        stored.to_le_bytes()
     }
 }

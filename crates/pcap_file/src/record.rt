@@ -14,10 +14,10 @@ pub struct Record<'a> {
     pub original: u32,
     /// Where the record begins, in octets from the first of the file.
     pub offset: u64,
-    /// The way that the packet went, where its capture tells it. A classic capture file tells none.
-    pub side: Option<Side>,
     /// The octets captured, at most 262,144.
     pub bytes: &'a [u8],
+    /// The direction of the packet where its capture names it, as a classic capture file never does.
+    pub side: Option<Side>,
 }
 
 impl<'a> Record<'a> {

@@ -50,10 +50,13 @@ fn record_head(order: Order, seconds: u32, fraction: u32, size: u32) -> [u8; 16]
     let s = order.u32_octets(seconds);
     let f = order.u32_octets(fraction);
     let n = order.u32_octets(size);
-    [
-        s[0], s[1], s[2], s[3], f[0], f[1], f[2], f[3], n[0], n[1], n[2], n[3], n[0], n[1], n[2],
-        n[3],
-    ]
+    // Four octets at a time: each is one store.
+    let mut head = [0; 16];
+    head[..4].copy_from_slice(&s);
+    head[4..8].copy_from_slice(&f);
+    head[8..12].copy_from_slice(&n);
+    head[12..].copy_from_slice(&n);
+    head
 }
 
 /// Writes the head, with version 2.4, zone 0, accuracy 0 and snap length 262,144.

@@ -7,6 +7,7 @@ pub mod Lines
 pub mod Marks
 pub mod Options
 pub mod Outcomes
+pub mod Pieces
 pub mod Reading
 pub mod Rising
 pub mod Solids

@@ -1,5 +1,5 @@
 -- A line that is being written.
-use Rattle.std.specs.Prelude.{◌≡◌, ℕ, ◌+◌, List, ◌++◌, length, take}
+use Rattle.std.specs.Prelude.{◌≡◌, ℕ, ◌+◌, ◌/◌, ◌%◌, List, [], ◌∷◌, ◌++◌, length, take}
 use Rattle.rule_book.specs.declared.line.Line.{Line}
 
 -- what is written of it: the front of its buffer
@@ -11,3 +11,21 @@ pub record Adds (old new : Line) (piece : List ℕ) : Type 0 where
   pub text : written new ≡ written old ++ piece
   pub len : new.len ≡ old.len + length piece
   pub room : length new.buf.now ≡ length old.buf.now
+
+-- the piece was written into the buffer from one place to the other, what stood before it stays, and the buffer is as long as it was
+pub record Puts (old new : List ℕ) (at end : ℕ) (piece : List ℕ) : Type 0 where
+  pub text : take end new ≡ take at old ++ piece
+  pub len : end ≡ at + length piece
+  pub room : length new ≡ length old
+
+-- the two digits of a number below 100
+abbrev pub two_digits : ℕ → List ℕ
+two_digits number = (48 + number / 10) ∷ (48 + number % 10) ∷ []
+
+-- the four digits of a number below 10,000
+abbrev pub four_digits : ℕ → List ℕ
+four_digits number = two_digits (number / 100) ++ two_digits (number % 100)
+
+-- the eight digits of a number below 100,000,000
+abbrev pub eight_digits : ℕ → List ℕ
+eight_digits number = four_digits (number / 10000) ++ four_digits (number % 10000)

@@ -62,6 +62,10 @@ ended_word ended = decimal ended.era ++ 58 ∷ (reason_word ended.reason ++ octe
 abbrev pub ended_part : Ended → List ℕ
 ended_part ended = part (45 ∷ ended_word ended)
 
+-- the four words that each line begins with
+abbrev pub front_text : PlainEntry → List ℕ
+front_text entry = decimal entry.number ++ part (side_word entry.side) ++ part (verdict_word entry.verdict) ++ part (decimal entry.packets)
+
 -- the line of an entry; it is the same function in each version, since an era that ended is written with the octets that it has
 abbrev pub entry_text : PlainEntry → List ℕ
 entry_text entry =

@@ -1,5 +1,5 @@
 //! What the report says of one record, and its line.
-ghost use Rattle.std.specs.Prelude.{◌≡◌, ◌+◌, ◌*◌, ◌≤◌, length, take};
+ghost use Rattle.std.specs.Prelude.{◌≡◌, ◌+◌, ◌*◌, ◌≤◌, [], ◌∷◌, ◌++◌, length, take};
 ghost use Rattle.std.specs.List.{flat_map};
 ghost use Rattle.rule_book.specs.Entries.{IsOfVersion, plain};
 ghost use Rattle.rule_book.specs.Lines.{Adds};
@@ -69,19 +69,6 @@ pub struct Entry {
 }
 
 impl Verdict {
-    /// The word of the report.
-    fn word(self) -> &'static str
-        ensures text { result.now ≡ text.verdict_word self }
-        ensures bound { length result.now ≤ 4 }
-    {
-        match self {
-            Verdict::Pass => "pass",
-            Verdict::Fix => "fix",
-            Verdict::Hold => "hold",
-            Verdict::Drop => "drop",
-        }
-    }
-
     /// The verdict of this word.
     pub(crate) fn of_word(word: &[u8]) -> Option<Verdict>
         ensures { (verdict : Verdict) → word.now ≡ text.verdict_word verdict → result ≡ Some verdict }
@@ -97,19 +84,6 @@ impl Verdict {
 }
 
 impl Reason {
-    /// The word of the report.
-    fn word(self) -> &'static str
-        ensures text { result.now ≡ text.reason_word self }
-        ensures bound { length result.now ≤ 8 }
-    {
-        match self {
-            Reason::Reset => "reset",
-            Reason::Evicted => "evicted",
-            Reason::Idle => "idle",
-            Reason::Reopened => "reopened",
-        }
-    }
-
     /// The reason of this word.
     pub(crate) fn of_word(word: &[u8]) -> Option<Reason>
         ensures { (reason : Reason) → word.now ≡ text.reason_word reason → result ≡ Some reason }
@@ -142,27 +116,73 @@ pub(crate) fn line_of(entry: &Entry, buf: &mut [u8]) -> usize
     ensures bound { result ≤ 376 }
 {
     let mut line = Line::new(buf);
-    line.number(entry.number);
-    line.part(side_word(entry.side));
-    line.part(entry.verdict.word());
-    line.part_number(u32::from(entry.packets));
+    put_front(&mut line, entry);
     put_rules(&mut line, entry.rules.as_slice());
     put_era(&mut line, b'@', entry.era);
     put_era(&mut line, b'+', entry.begun);
     put_ended(&mut line, entry.ended.as_slice());
-    line.text("\n");
+    line.octet(b'\n');
     line.len()
 }
 
-/// The word of the report for a side.
-fn side_word(side: Option<Side>) -> &'static str
-    ensures text { result.now ≡ text.side_word side }
-    ensures bound { length result.now ≤ 3 }
+/// Writes the four words that each line has.
+fn put_front(line: &mut Line<'_>, entry: &Entry)
+    requires { line.old.len + 24 ≤ length line.old.buf.now }
+    ensures same_buffer { line.new.buf.ghost_name ≡ line.old.buf.ghost_name }
+    ensures adds { Adds line.old line.new (text.front_text (plain entry.now)) }
+    ensures bound { line.new.len ≤ line.old.len + 23 }
+{
+    line.number(entry.number);
+    put_side(line, entry.side);
+    put_verdict(line, entry.verdict);
+    line.small_number(entry.packets);
+}
+
+/// Writes the word for a side between two spaces. A piece of constant size, of 1, 4 or 8 octets, is one store.
+fn put_side(line: &mut Line<'_>, side: Option<Side>)
+    requires { line.old.len + 5 ≤ length line.old.buf.now }
+    ensures same_buffer { line.new.buf.ghost_name ≡ line.old.buf.ghost_name }
+    ensures adds { Adds line.old line.new (text.part (text.side_word side) ++ 32 ∷ []) }
+    ensures bound { line.new.len ≤ line.old.len + 5 }
 {
     match side {
-        Some(Side::Inward) => "in",
-        Some(Side::Outward) => "out",
-        None => "-",
+        Some(Side::Inward) => line.text(" in "),
+        Some(Side::Outward) => {
+            line.text(" out");
+            line.octet(b' ');
+        }
+        None => line.text(" - "),
+    }
+}
+
+/// Writes the word for a verdict before a space.
+fn put_verdict(line: &mut Line<'_>, verdict: Verdict)
+    requires { line.old.len + 5 ≤ length line.old.buf.now }
+    ensures same_buffer { line.new.buf.ghost_name ≡ line.old.buf.ghost_name }
+    ensures adds { Adds line.old line.new (text.verdict_word verdict ++ 32 ∷ []) }
+    ensures bound { line.new.len ≤ line.old.len + 5 }
+{
+    match verdict {
+        Verdict::Pass => line.text("pass"),
+        Verdict::Fix => line.text("fix"),
+        Verdict::Hold => line.text("hold"),
+        Verdict::Drop => line.text("drop"),
+    }
+    line.octet(b' ');
+}
+
+/// Writes the word for the reason why an era ended behind `:`.
+fn put_reason(line: &mut Line<'_>, reason: Reason)
+    requires { line.old.len + 9 ≤ length line.old.buf.now }
+    ensures same_buffer { line.new.buf.ghost_name ≡ line.old.buf.ghost_name }
+    ensures adds { Adds line.old line.new (58 ∷ text.reason_word reason) }
+    ensures bound { line.new.len ≤ line.old.len + 9 }
+{
+    match reason {
+        Reason::Reset => line.text(":reset"),
+        Reason::Evicted => line.text(":evicted"),
+        Reason::Idle => line.text(":idle"),
+        Reason::Reopened => line.text(":reopened"),
     }
 }
 
@@ -186,7 +206,8 @@ fn put_era(line: &mut Line<'_>, mark: u8, era: Option<u32>)
     ensures bound { line.new.len ≤ line.old.len + 12 }
 {
     if let Some(number) = era {
-        line.octets(&[b' ', mark]);
+        line.octet(b' ');
+        line.octet(mark);
         line.number(number);
     }
 }
@@ -210,10 +231,10 @@ fn put_end(line: &mut Line<'_>, ended: Ended)
     ensures adds { Adds line.old line.new (text.ended_part ended) }
     ensures bound { line.new.len ≤ line.old.len + 42 }
 {
-    line.text(" -");
+    line.octet(b' ');
+    line.octet(b'-');
     line.number(ended.era);
-    line.text(":");
-    line.text(ended.reason.word());
+    put_reason(line, ended.reason);
     put_octets(line, ended.octets);
 }
 
@@ -225,7 +246,7 @@ fn put_octets(line: &mut Line<'_>, octets: Option<u64>)
     ensures bound { line.new.len ≤ line.old.len + 21 }
 {
     if let Some(number) = octets {
-        line.text(":");
+        line.octet(b':');
         line.long_number(number);
     }
 }

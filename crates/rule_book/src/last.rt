@@ -14,8 +14,6 @@ pub enum StopKind {
     Version,
     /// The capture's link type is another.
     Link,
-    /// A block of the capture is malformed.
-    Block,
     /// A record's captured length is above the bound.
     Long,
     /// There are more records than can be numbered.
@@ -28,6 +26,8 @@ pub enum StopKind {
     Capture,
     /// No memory was left.
     Memory,
+    /// A block of the capture is malformed.
+    Block,
 }
 
 /// What the last line says: the numbers of records and of frames written, or why the run stopped and the offset in
@@ -97,6 +97,6 @@ pub fn last_line(last: &Last, buf: &mut [u8]) -> usize
             line.part_long_number(offset);
         }
     }
-    line.text("\n");
+    line.octet(b'\n');
     line.len()
 }

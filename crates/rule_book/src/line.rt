@@ -1,9 +1,10 @@
 //! A line that is being written.
-ghost use Rattle.std.specs.Prelude.{◌≡◌, ◌+◌, ◌≤◌, length, decimal};
+ghost use Rattle.std.specs.Prelude.{◌≡◌, ◌+◌, ◌<◌, ◌≤◌, [], ◌∷◌, length, decimal};
 ghost use Rattle.rule_book.specs.Lines.{Adds};
 ghost use Rattle.rule_book.specs.Text.{part};
 
-use crate::digits::{put_digits, put_long_digits};
+use crate::digits::{put_long_number, put_number, put_small_number};
+use crate::puts::{put, put_octet, put_word};
 
 /// The front of a buffer, as far as it is written.
 #[derive(Drop)]
@@ -35,9 +36,7 @@ impl<'a> Line<'a> {
         ensures same_buffer { self.new.buf.ghost_name ≡ self.old.buf.ghost_name }
         ensures adds { Adds self.old self.new piece.now }
     {
-        let end = self.len + piece.len();
-        self.buf[self.len..end].copy_from_slice(piece);
-        self.len = end;
+        self.len = put(self.buf, self.len, piece);
     }
 
     /// Writes a text.
@@ -49,6 +48,25 @@ impl<'a> Line<'a> {
         self.octets(piece.as_bytes());
     }
 
+    /// Writes one octet.
+    pub fn octet(&mut self, octet: u8)
+        requires { self.old.len < length self.old.buf.now }
+        ensures same_buffer { self.new.buf.ghost_name ≡ self.old.buf.ghost_name }
+        ensures adds { Adds self.old self.new (octet ∷ []) }
+    {
+        self.len = put_octet(self.buf, self.len, octet);
+    }
+
+    /// Writes a small number.
+    pub fn small_number(&mut self, number: u8)
+        requires { self.old.len + 4 ≤ length self.old.buf.now }
+        ensures same_buffer { self.new.buf.ghost_name ≡ self.old.buf.ghost_name }
+        ensures adds { Adds self.old self.new (decimal number) }
+        ensures bound { self.new.len ≤ self.old.len + 3 }
+    {
+        self.len = put_small_number(self.buf, self.len, number);
+    }
+
     /// Writes a number.
     pub fn number(&mut self, number: u32)
         requires { self.old.len + 10 ≤ length self.old.buf.now }
@@ -56,9 +74,7 @@ impl<'a> Line<'a> {
         ensures adds { Adds self.old self.new (decimal number) }
         ensures bound { self.new.len ≤ self.old.len + 10 }
     {
-        let mut digits = [0; 10];
-        let begin = put_digits(number, &mut digits, 10);
-        self.octets(&digits[begin..]);
+        self.len = put_number(self.buf, self.len, number);
     }
 
     /// Writes a long number.
@@ -68,9 +84,7 @@ impl<'a> Line<'a> {
         ensures adds { Adds self.old self.new (decimal number) }
         ensures bound { self.new.len ≤ self.old.len + 20 }
     {
-        let mut digits = [0; 20];
-        let begin = put_long_digits(number, &mut digits, 20);
-        self.octets(&digits[begin..]);
+        self.len = put_long_number(self.buf, self.len, number);
     }
 
     /// Writes a space and a text.
@@ -79,8 +93,8 @@ impl<'a> Line<'a> {
         ensures same_buffer { self.new.buf.ghost_name ≡ self.old.buf.ghost_name }
         ensures adds { Adds self.old self.new (part piece.now) }
     {
-        self.text(" ");
-        self.text(piece);
+        self.octet(b' ');
+        self.len = put_word(self.buf, self.len, piece.as_bytes());
     }
 
     /// Writes a space and a number.
@@ -90,7 +104,7 @@ impl<'a> Line<'a> {
         ensures adds { Adds self.old self.new (part (decimal number)) }
         ensures bound { self.new.len ≤ self.old.len + 11 }
     {
-        self.text(" ");
+        self.octet(b' ');
         self.number(number);
     }
 
@@ -101,7 +115,7 @@ impl<'a> Line<'a> {
         ensures adds { Adds self.old self.new (part (decimal number)) }
         ensures bound { self.new.len ≤ self.old.len + 21 }
     {
-        self.text(" ");
+        self.octet(b' ');
         self.long_number(number);
     }
 }

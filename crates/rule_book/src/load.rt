@@ -54,6 +54,6 @@ pub fn load_line(line: LoadLine, buf: &mut [u8]) -> usize
         }
         LoadLine::End => text.text("end"),
     }
-    text.text("\n");
+    text.octet(b'\n');
     text.len()
 }

@@ -12,10 +12,10 @@ use std::alloc::Global;
 /// What a run reports: an entry for each record, and how the run ended.
 #[derive(Debug, Drop)]
 pub struct Report {
-    /// 1 or 2: a report of version 2 tells the octets of each era that ended.
-    pub version: u8,
     pub entries: Vec<Entry>,
     pub last: Last,
+    /// 1 or 2: a report of version 2 has the number of octets of each era that ended.
+    pub version: u8,
 }
 
 /// The report, of either version, whose text these octets are. The numbers in the last line are not compared with the

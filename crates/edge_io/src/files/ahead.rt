@@ -38,7 +38,24 @@ impl<R: Read> ReadAhead<R> {
     }
 
     /// Moves octets that are ahead in the buffer to the front of `buf`.
+    #[inline]
     pub(super) fn fetch(&mut self, buf: &mut [u8]) -> Result<usize, Failed>
+        ensures { Fetches (octets_left R.remaining self.old)
+            (octets_left R.remaining self.new) result buf.new }
+    {
+        let count = buf.len();
+        if count > self.filled - self.start {
+            let some = self.fetch_some(buf)?;
+            return Ok(some);
+        }
+        buf.copy_from_slice(&self.buffer[self.start..self.start + count]);
+        self.start += count;
+        Ok(count)
+    }
+
+    // Does what `fetch` does where the buffer may hold fewer octets than are asked for.
+    #[cold]
+    fn fetch_some(&mut self, buf: &mut [u8]) -> Result<usize, Failed>
         ensures { Fetches (octets_left R.remaining self.old)
             (octets_left R.remaining self.new) result buf.new }
     {

@@ -1,23 +1,17 @@
-use Rattle.std.proofs.Common.{rules, ◌≡◌, ◌≤◌, ◌+◌, ◌++◌, take, drop, arith}
-use Rattle.std.proofs.lemmas.Result.{err_from_is_err_and}
-use Rattle.edge_io.proofs.Moves.{copied}
-use Rattle.edge_io.proofs.Buffered.{Keeps-Consumes, taken_ahead, end_ahead}
+use Rattle.std.proofs.Common.{rules, ◌≡◌, ◌≤◌, ◌+◌, take, drop, length, ap, ◌∙◌, arith}
+use Rattle.std.proofs.lemmas.List.{take_all}
+use Rattle.edge_io.proofs.Buffered.{taken_ahead}
 use Rattle.edge_io.proofs.files.ahead.ReadAhead.fetch.Goals as goal
-
-pub returns-in_err-refill : goal.returns-in_err-refill
-returns-in_err-refill g c =
-    let p = err_from_is_err_and c.from_residual.result c.from_residual.ensures.1 in
-    rw p.1 c.in_err-refill.ensures.kept
 
 pub returns : goal.returns
 returns g c =
-    let now = c.refill.new.self in
-    let n = c.min-count.result in
+    let now = c.args.self.now in
+    let n = length c.args.buf.now in
     let got = c.copy_from_slice.new.self in
-    let buf = c.args.buf.now in
     let ahead : now.start + n ≤ now.filled = search rules in
-    let stands : take n (got ++ drop n buf) ≡ take n (drop now.start now.buffer) = copied now.buffer buf got now.start n _ c.copy_from_slice.ensures.after (omega arith) (search rules) in (
+    let stands : take n got ≡ take n (drop now.start now.buffer) =
+    take_all n got (omega (arith, c.copy_from_slice.ensures.len)) ∙ c.copy_from_slice.ensures.after ∙ ap (λ k. take k (drop now.start now.buffer)) (omega arith) in (
       search rules,
-      Keeps-Consumes _ _ _ _ c.in_ok-refill.ensures.kept (taken_ahead _ now.buffer _ now.start now.filled n ahead stands),
-      λ none some. end_ahead _ now.buffer (now.start + n) now.filled (search rules) (c.in_ok-refill.ensures.end (search rules)),
+      taken_ahead _ now.buffer _ now.start now.filled n ahead stands,
+      λ none some. absurd (omega (arith, none, some, c.copy_from_slice.ensures.len)),
     )

@@ -1,6 +1,0 @@
-use Rattle.std.proofs.Common.{arith}
-use Rattle.std.proofs.lemmas.Fmt.{length-decimal-le}
-use Rattle.rule_book.proofs.line.Line.number.Goals as goal
-
-pub put_digits-begin-requires-clause-room : goal.put_digits-begin-requires-clause-room
-put_digits-begin-requires-clause-room c = length-decimal-le 10 c.args.number (omega arith) (omega arith) (omega arith)
