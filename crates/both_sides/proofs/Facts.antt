@@ -1,4 +1,4 @@
--- What tests tell, and lists whose elements all fail one.
+-- Consequences of tests, and lists whose elements all fail one.
 use Rattle.std.proofs.Common.{◌≡◌, ℕ, ◌&&◌, ◌||◌, ◌==◌, not, Bool, true, false, cond, List, [], ◌∷◌, Option, Some, None, find, filter, refl, sym, ap, ◌∙◌}
 use Rattle.std.specs.List.{AllByRecursion}
 use Rattle.std.proofs.lemmas.Bool.{eqb-true}
@@ -19,7 +19,7 @@ pub stands : (a : Bool) → not a ≡ false → a ≡ true
 stands true h = refl
 stands false h = absurd (cc)
 
--- a row of one number, which fails where the number is this one
+-- a rule for one number, which fails if the number is this one
 pub row_of : (n k : ℕ) (row : Bool) → (n ≡ k → row ≡ false) → ((n == k) && row) ≡ false
 row_of n k row fails = by (n == k) refl
   where
@@ -27,11 +27,11 @@ row_of n k row fails = by (n == k) refl
     by true is = fails (eqb-true n k is)
     by false is = refl
 
--- what holds of a row of this number
+-- what holds of a rule for this number
 pub row_told : (n k : ℕ) (row : Bool) → ((n == k) && row) ≡ false → (n == k) ≡ true → row ≡ false
 row_told n k row h is = sym (ap (λ b. b && row) is) ∙ h
 
--- none is found, and none is named, where all fail
+-- none is found, and none is named, if all fail
 pub not_found : {X : Type 0} (test : X → Bool) (xs : List X) → AllByRecursion (λ x. test x ≡ false) xs → find test xs ≡ None
 not_found test [] all = refl
 not_found test (x ∷ xs) all = ap (λ b. cond b (Some x) (find test xs)) all.0 ∙ not_found test xs all.1

@@ -1,4 +1,4 @@
--- What the first engine writes for a record that does not go outwards: packets that are plain, whose addresses and kind of message no row drops, or ARP.
+-- The frames that the first engine writes for a record that does not go outwards: plain packets, whose addresses and kind of message no rule drops, or ARP.
 use Rattle.std.proofs.Common.{◌≡◌, ℕ, ◌+◌, ◌*◌, ◌<◌, ◌≤◌, ◌⊎◌, inl, inr, ◌&&◌, ◌||◌, ◌==◌, not, nat_lt, nat_le, Bool, true, false, cond, List, [], ◌∷◌, ◌++◌, length, take, drop, map, Option, Some, None, is_none, find, filter, refl, sym, ap, ap₂, ◌∙◌, subst, arith, le-ltb, eq-eqb, get_or}
 use Rattle.std.specs.Prelude.{option_map}
 use Rattle.std.specs.Option.{option_or}
@@ -54,7 +54,7 @@ use Rattle.both_sides.proofs.Facts.{second_fails, stands, row_told}
 use Rattle.both_sides.proofs.Untouched.{IsRelayed, IsAddressed, Relays}
 use Rattle.both_sides.proofs.Relaying.{FramesRelay}
 
--- the rows on the addresses of a record that no row on the header drops
+-- the rules on the addresses of a record that no rule on the header drops
 record IsAllowed (settings : PlainSettings) (given : Option Side) (p : List ℕ) : Type 0 where
   source : i_src p ≡ false
   destination : i_dst p ≡ false
@@ -73,7 +73,7 @@ allowed settings link r undropped carries =
     let rows = packet_rows settings link r undropped carries in
     record { source = rows.1.1.1.1.1.0; destination = rows.1.1.1.1.1.1.0; sided = rows.1.1.1.1.1.1.1.0 }
 
--- a frame behind the link octets of another one carries IPv4 as that one does, and is long enough
+-- a frame after the link octets of another one carries IPv4 if that one does, and is long enough
 
 header_octet : (frame rest : List ℕ) (at : ℕ) → at < 14 → 14 ≤ length frame → get_or (take 14 frame ++ rest) at 0 ≡ get_or frame at 0
 header_octet frame rest at lt long =
@@ -136,7 +136,7 @@ goes_in_of settings link calls r d h inward = by (either_of settings link calls 
 -- a plain packet of such a datagram is relayed
 
 relayed : (settings : PlainSettings) (link : Link) (r : records.Packet) (d : Datagram) (p : Packet) → r.side ≡ None → GoesIn settings link r d → IsPacketOf settings d p
-    → Plain settings.hops (p.header ++ p.octets) → (d.head.protocol.0 ≡ 1 → (is_error (icmp.kind p.octets) || is_query (icmp.kind p.octets)) ≡ true)
+    → Plain settings.hops (p.header ++ p.octets) → (d.head.protocol ≡ 1 → (is_error (icmp.kind p.octets) || is_query (icmp.kind p.octets)) ≡ true)
     → IsRelayed settings link (frame_of (link_octets link r.octets) p)
 relayed settings link r d p sideless g is plain kind =
     let whole = p.header ++ p.octets in
@@ -160,7 +160,7 @@ relayed settings link r d p sideless g is plain kind =
 
 -- the packets of a segment
 
-all_relayed : (settings : PlainSettings) (link : Link) (r : records.Packet) (d : Datagram) (packets : List Packet) → r.side ≡ None → GoesIn settings link r d → d.head.protocol.0 ≡ 6
+all_relayed : (settings : PlainSettings) (link : Link) (r : records.Packet) (d : Datagram) (packets : List Packet) → r.side ≡ None → GoesIn settings link r d → d.head.protocol ≡ 6
     → AllByRecursion (IsPacketOf settings d) packets → AllByRecursion (λ p. Plain settings.hops (p.header ++ p.octets)) packets
     → AllByRecursion (Relays settings link) (frames_of (link_octets link r.octets) packets)
 all_relayed settings link r d [] sideless g six own plain = tt
@@ -169,9 +169,9 @@ all_relayed settings link r d (p ∷ packets) sideless g six own plain = (
   all_relayed settings link r d packets sideless g six own.1 plain.1,
 )
 
--- a datagram that is no segment
+-- a datagram that is not a segment
 
--- of two rows none was found
+-- of two rules none was found
 first_none : (one other : Option Rule) → option_or one other ≡ None → (one ≡ None) × (other ≡ None)
 first_none None other h = (refl, h)
 first_none (Some rule) other h = absurd (cc)
@@ -187,14 +187,14 @@ sums_by m pseudo true right none_is right_is h = inl (eqb-true (udp.checksum m) 
 sums_by m pseudo false true none_is right_is h = inr right_is
 sums_by m pseudo false false none_is right_is h = absurd (cc)
 
--- what is known of the message of a datagram that no row on UDP and ICMP drops
+-- what is known of the message of a datagram that no rule on UDP and ICMP drops
 record IsMessage (settings : PlainSettings) (d : Datagram) : Type 0 where
-  protocol : (d.head.protocol.0 ≡ 1) ⊎ (d.head.protocol.0 ≡ 17)
+  protocol : (d.head.protocol ≡ 1) ⊎ (d.head.protocol ≡ 17)
   long : 8 ≤ length d.octets
-  icmp_sum : d.head.protocol.0 ≡ 1 → sum_is_right d.octets 0 ≡ true
-  kind : d.head.protocol.0 ≡ 1 → (is_error (icmp.kind d.octets) || is_query (icmp.kind d.octets)) ≡ true
-  size : d.head.protocol.0 ≡ 17 → udp.length_field d.octets ≡ length d.octets
-  udp_sum : d.head.protocol.0 ≡ 17 → (udp.checksum d.octets ≡ 0) ⊎ (sum_is_right d.octets (pseudo_of d) ≡ true)
+  icmp_sum : d.head.protocol ≡ 1 → sum_is_right d.octets 0 ≡ true
+  kind : d.head.protocol ≡ 1 → (is_error (icmp.kind d.octets) || is_query (icmp.kind d.octets)) ≡ true
+  size : d.head.protocol ≡ 17 → udp.length_field d.octets ≡ length d.octets
+  udp_sum : d.head.protocol ≡ 17 → (udp.checksum d.octets ≡ 0) ⊎ (sum_is_right d.octets (pseudo_of d) ≡ true)
   unmended : holds_dgram settings false d rules.USumOut ≡ false
 
 one_of_two : (n : ℕ) → ((n == 1) || (n == 6) || (n == 17)) ≡ true → (n == 6) ≡ false → (n ≡ 1) ⊎ (n ≡ 17)
@@ -210,10 +210,10 @@ dgram_rows : (settings : PlainSettings) (live : Bool) (d : Datagram) → dgram_d
 unfolding dgram_dropped_by
 dgram_rows settings live d none = none_found (holds_dgram settings live d) datagram_rows none
 
-message_of : (settings : PlainSettings) (live : Bool) (d : Datagram) → IsKnown settings d → goes_in d.side ≡ true → (d.head.protocol.0 == 6) ≡ false → dgram_dropped_by settings live d ≡ None
+message_of : (settings : PlainSettings) (live : Bool) (d : Datagram) → IsKnown settings d → goes_in d.side ≡ true → (d.head.protocol == 6) ≡ false → dgram_dropped_by settings live d ≡ None
     → IsMessage settings d
 message_of settings live d known inward other none =
-    let n = d.head.protocol.0 in
+    let n = d.head.protocol in
     let m = d.octets in
     let rows = dgram_rows settings live d none in
     let udp_long : n ≡ 17 → 8 ≤ length m = λ e. ltb-false (length m) 8 (row_told n 17 (u_short d) rows.0 (eq-eqb _ _ e)) in
@@ -231,7 +231,7 @@ message_of settings live d known inward other none =
       unmended = second_fails (n == 17) (u_sum_out settings d) (ap (λ b. (not b && settings.offload) && has_wrong_sum d) inward);
     }
   where
-    either : (d.head.protocol.0 ≡ 1) ⊎ (d.head.protocol.0 ≡ 17) → (d.head.protocol.0 ≡ 1 → 8 ≤ length d.octets) → (d.head.protocol.0 ≡ 17 → 8 ≤ length d.octets) → 8 ≤ length d.octets
+    either : (d.head.protocol ≡ 1) ⊎ (d.head.protocol ≡ 17) → (d.head.protocol ≡ 1 → 8 ≤ length d.octets) → (d.head.protocol ≡ 17 → 8 ≤ length d.octets) → 8 ≤ length d.octets
     either (inl e) one other = one e
     either (inr e) one other = other e
 
@@ -243,11 +243,11 @@ plain_message settings d p says is same =
     record {
       protocol = kinds says.protocol;
       icmp = λ one.
-          let e : d.head.protocol.0 ≡ 1 = sym is.protocol ∙ one in
+          let e : d.head.protocol ≡ 1 = sym is.protocol ∙ one in
           record { whole_header = subst (λ m. 8 ≤ length m) (sym body) says.long; sum = ap (λ m. sum_is_right m 0) body ∙ says.icmp_sum e };
       tcp = λ six. absurd (no_tcp says.protocol six);
       udp = λ seventeen.
-          let e : d.head.protocol.0 ≡ 17 = sym is.protocol ∙ seventeen in
+          let e : d.head.protocol ≡ 17 = sym is.protocol ∙ seventeen in
           record {
             whole_header = subst (λ m. 8 ≤ length m) (sym body) says.long;
             size = subst (λ m. udp.length_field m ≡ length m) (sym body) (says.size e);
@@ -255,11 +255,11 @@ plain_message settings d p says is same =
           };
     }
   where
-    kinds : (d.head.protocol.0 ≡ 1) ⊎ (d.head.protocol.0 ≡ 17) → (ip.protocol (p.header ++ p.octets) ≡ 1) ⊎ (ip.protocol (p.header ++ p.octets) ≡ 6) ⊎ (ip.protocol (p.header ++ p.octets) ≡ 17)
+    kinds : (d.head.protocol ≡ 1) ⊎ (d.head.protocol ≡ 17) → (ip.protocol (p.header ++ p.octets) ≡ 1) ⊎ (ip.protocol (p.header ++ p.octets) ≡ 6) ⊎ (ip.protocol (p.header ++ p.octets) ≡ 17)
     kinds (inl e) = inl (is.protocol ∙ e)
     kinds (inr e) = inr (inr (is.protocol ∙ e))
 
-    no_tcp : (d.head.protocol.0 ≡ 1) ⊎ (d.head.protocol.0 ≡ 17) → ip.protocol (p.header ++ p.octets) ≡ 6 → ⊥
+    no_tcp : (d.head.protocol ≡ 1) ⊎ (d.head.protocol ≡ 17) → ip.protocol (p.header ++ p.octets) ≡ 6 → ⊥
     no_tcp (inl e) six = let both = sym six ∙ (is.protocol ∙ e) in omega (arith, both)
     no_tcp (inr e) six = let both = sym six ∙ (is.protocol ∙ e) in omega (arith, both)
 
@@ -274,7 +274,7 @@ message_relays settings link r d p sideless g says is same =
     relayed settings link r d p sideless g is (record { header = is.header; passes = is.passes g.inward; message = plain_message settings d p says is same })
     (λ one. ap (λ m. is_error (icmp.kind m) || is_query (icmp.kind m)) same ∙ says.kind one)
 
--- where no row mends it, its frame is the record's
+-- if no rule rewrites it, its frame is the record's
 same_frame : (settings : PlainSettings) (link : Link) (calls : List reassembly.Call) (r : records.Packet) (d : Datagram) → datagram_by settings link calls r ≡ Some d → d.fixes ≡ []
     → r.octets ≡ frame_of (link_octets link r.octets) (as_read d)
 same_frame settings link calls r d h none = by (either_of settings link calls r d h)
@@ -285,7 +285,7 @@ same_frame settings link calls r d h none = by (either_of settings link calls r 
         ∙ ap (λ (e : Datagram). link_octets link r.octets ++ e.header ++ e.octets) c.is
     by (joined j) = absurd (not_nil _ rules.FDone (ap (λ (e : Datagram). e.fixes) j.is ∙ none))
 
--- no datagram is made of a record that no row drops and that is not held back: it carries ARP
+-- no datagram is made of a record that no rule drops and that is not held: it carries ARP
 
 told_by : (told : Option Side) → is_none told ≡ false → (side : Side) × (told ≡ Some side)
 told_by None h = absurd (cc)
@@ -384,7 +384,7 @@ module _ (laws : FrameLaws) (settings : PlainSettings) (link : Link) (older : Li
       subst (AllByRecursion (Relays settings link)) (sym (segment_frames settings link read r d t))
       (all_relayed settings link r d (outcome_of settings read d).packets sideless g s.protocol (laws.own settings v d hops s) (laws.plain settings v d hops s g.inward))
 
-  -- a datagram that is no segment, mended by these rows
+  -- a datagram that is not a segment, rewritten by these rules
   of_message : (d : Datagram) (named : List Rule) → datagram_after settings link older r ≡ Some d → is_segment settings d ≡ false → dropped_by settings link read r ≡ None
       → named_rows settings link read r ≡ named → is_outward item.entry.side ≡ false → Relays settings link (frame_by settings (link_octets link r.octets) r.octets (Some d) named)
   of_message d named datagram other undropped is inward =
@@ -395,7 +395,7 @@ module _ (laws : FrameLaws) (settings : PlainSettings) (link : Link) (older : Li
       let side : item.entry.side ≡ Some d.side = ap (λ x. side_by x (side_of_record settings link r)) undropped ∙ made.told in
       let g = goes_in_of settings link past.pieces r d datagram (sym (ap is_outward side) ∙ inward) in
       let known = datagram_known laws.known settings link older r d before octets datagram in
-      let six : (d.head.protocol.0 == 6) ≡ false = not_six (is_tcp d) (is_none (find (holds_tcp settings d) segment_rows)) other (ap is_none rows.1) in
+      let six : (d.head.protocol == 6) ≡ false = not_six (is_tcp d) (is_none (find (holds_tcp settings d) segment_rows)) other (ap is_none rows.1) in
       let says = message_of settings live d known g.inward six rows.0 in
       by named is g known says
     where

@@ -1,4 +1,4 @@
--- The items of the second engine that stand for the frames of one item of the first.
+-- The items of the second engine for the frames of one item of the first.
 use Rattle.std.proofs.Common.{◌≡◌, ℕ, zero, suc, ◌≤◌, Bool, true, false, not, List, [], ◌∷◌, length, take, drop, map, Option, Some, None, is_none, refl, sym, ap, subst, ◌∙◌}
 use Rattle.std.specs.List.{AllByRecursion, list_any}
 use Rattle.std.specs.Prelude.{◌&&◌}
@@ -14,7 +14,7 @@ use Rattle.both_sides.specs.Traces.{mirrored, record_of, records_for, behind, re
 use Rattle.both_sides.specs.Laws.{GoesThrough, InwardGoesThrough, is_outward}
 use Rattle.both_sides.proofs.Untouched.{IsUntouched, Relays, untouched}
 
--- an item goes through where its record is a frame that does
+-- an item passes if its record is a frame that does
 abbrev WillGo : PlainSettings → Link → Item → Type 0
 WillGo settings link m = (seconds fraction : ℕ) (frame : List ℕ) → m.packet ≡ record_of seconds fraction frame → Relays settings link frame → GoesThrough m
 
@@ -57,7 +57,7 @@ one_behind zero (x ∷ xs) y ys e = cc
 one_behind (suc n) [] y ys e = absurd (cc)
 one_behind (suc n) (x ∷ xs) y ys e = one_behind n xs y ys e
 
--- the first item and those behind it, where its record is told
+-- the first item and those after it, if its record is known
 record IsNext (items : List Item) (r : Packet) (older : List Packet) : Type 0 where
   item : Item
   rest : List Item
@@ -88,7 +88,7 @@ items_go settings link seconds fraction (frame ∷ more) rest mirror same will r
     one_more GoesThrough (length more) mirror next.item next.rest next.is (items_go settings link seconds fraction more (record_of seconds fraction frame ∷ rest) mirror same will relays.1)
     (its seconds fraction frame next.packet relays.0)
 
--- each frame goes through that is written for a record which does not go outwards
+-- each frame that is written for a record which does not go outwards passes
 abbrev pub FramesRelay : PlainSettings → Link → List Item → Type 0
 FramesRelay settings link [] = Unit {0}
 FramesRelay settings link (item ∷ older) = FramesRelay settings link older × (is_outward item.entry.side ≡ false → AllByRecursion (Relays settings link) item.frames)

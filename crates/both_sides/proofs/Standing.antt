@@ -1,4 +1,4 @@
--- What two engines stand for, as records and frames come, and how many there are.
+-- What two engines represent, as records and frames are read, and how many there are.
 use Rattle.std.proofs.Common.{◌≡◌, ℕ, suc, ◌+◌, ◌*◌, ◌-◌, ◌^◌, ◌<◌, ◌≤◌, List, [], ◌∷◌, length, map, drop, slice_get, Some, add-one, refl, sym, ap, ap₂, subst, ◌∙◌, arith}
 use Rattle.std.proofs.Math.Logic.{∥∥₁_map, ∥∥₁_elim}
 use Rattle.std.proofs.Math.Seq.{drop-cons}
@@ -18,7 +18,7 @@ use Rattle.norm_engine.specs.Engine as engine
 use Rattle.both_sides.specs.Traces.{mirrored, record_of, records_for, behind, records_of}
 use Rattle.both_sides.specs.Both.{Joined, StandsFor, StandsForSome, IsWithin, joined}
 
--- settings that are turned round are in range as the others
+-- settings with exchanged sides are in range as the others
 pub turned_in_range : (settings other : PlainSettings) → other ≡ mirrored settings → AreInRange settings → AreInRange other
 turned_in_range settings other is range = subst AreInRange (sym is) (record {
   prefixes = range.prefixes;
@@ -45,7 +45,7 @@ within_first first second a b =
     let nothing = b.counted in
     record { records = omega (arith, none); frames = omega (arith, none, nothing) }
 
--- both engines with another link
+-- both engines with another link type
 abbrev pub on_link : Link → Joined → Joined
 on_link link both = record both { first = record both.first { link = link }; second = record both.second { link = link } }
 
@@ -67,7 +67,7 @@ no_item : (items : List Item) → length items ≡ 0 → items ≡ []
 no_item [] h = refl
 no_item (item ∷ older) h = absurd (cc)
 
--- the same of some traces, where no record came
+-- the same of some traces, before the first record
 pub some_on_link : (link : Link) (both : Joined) → both.first.records ≡ 0 → IsWithin both → StandsForSome both → StandsForSome (on_link link both)
 some_on_link link both none within some =
     let s = some.stands in
@@ -109,7 +109,7 @@ module _ (old new : Joined) (trace mirror : List Item) (r : Packet) (s : StandsF
       let second : new.second.records ≡ old.second.records = ap (λ (e : Engaged). e.records) same in
       (omega (arith, now, before, few), omega (arith, now, before, frames, two, long, second))
 
--- a frame, which the second engine has then had
+-- a frame, which the second engine has then read
 
 module _ (old new : Joined) (trace mirror : List Item) (r : Packet) (more : List Packet) (s : StandsFor old trace mirror) (next : old.pending ≡ r ∷ more) (same : new.first ≡ old.first)
     (settings : new.second.settings ≡ old.second.settings) (link : new.second.link ≡ old.second.link) (octets : HasOctets r) (pending : new.pending ≡ more)
@@ -142,7 +142,7 @@ module _ (old new : Joined) (trace mirror : List Item) (r : Packet) (more : List
       let left : length new.pending ≡ length more = ap length pending in
       (omega (arith, first, records), omega (arith, now, before, frames, first, long, left))
 
--- what the engine's step says of a record
+-- the contract of the engine's step for a record
 
 pub record Steps (old new : Engaged) (r : Packet) (frames : List (List ℕ)) (entry : PlainEntry) : Type 0 where
   pub settings : new.settings ≡ old.settings
@@ -173,7 +173,7 @@ module _ (old : Joined) (first' : Engaged) (r : Packet) (frames : List (List ℕ
           front_within old given k.trace k.mirror r k.stands (none_pending old.pending none) refl steps.settings steps.link (steps.stands k.trace k.stands.first) (front_pending k.trace k.mirror k.stands)
           counts within few
 
--- the frame that comes next
+-- the next frame
 pub left_next : (seconds fraction : ℕ) (frames : List (List ℕ)) (had : ℕ) (frame : List ℕ) → slice_get frames had ≡ Some frame
     → map (record_of seconds fraction) (drop had frames) ≡ record_of seconds fraction frame ∷ map (record_of seconds fraction) (drop (had + 1) frames)
 left_next seconds fraction frames had frame h =

@@ -1,4 +1,4 @@
--- No row of the second engine stops or changes a packet that is plain and that the first let pass inwards, and none a frame of ARP.
+-- No rule of the second engine drops or changes a plain packet that the first passed inwards, or a frame of ARP.
 use Rattle.std.proofs.Common.{◌≡◌, ℕ, ◌<◌, ◌≤◌, ◌⊎◌, inl, inr, ◌&&◌, ◌||◌, ◌==◌, not, nat_lt, nat_le, Bool, true, false, cond, List, [], ◌∷◌, ◌++◌, length, take, drop, Option, Some, None, is_none, is_some, find, filter, refl, sym, ap, ap₂, ◌∙◌, subst, arith, eq-eqb, le-ltb}
 use Rattle.std.specs.Prelude.{option_map}
 use Rattle.std.specs.Option.{option_or}
@@ -42,7 +42,7 @@ use Rattle.norm_engine.proofs.Judging.{arp_passes}
 use Rattle.both_sides.specs.Traces.{mirrored, record_of}
 use Rattle.both_sides.proofs.Facts.{second_fails, neither, row_of, not_found, not_named}
 
--- a frame that the first engine writes inwards: a plain packet, whose addresses and kind of message no row drops
+-- a frame that the first engine writes inwards: a plain packet, whose addresses and kind of message no rule drops
 pub record IsRelayed (settings : PlainSettings) (link : Link) (frame : List ℕ) : Type 0 where
   pub long : l_short link frame ≡ false
   pub carries : carries_ip link frame ≡ true
@@ -53,7 +53,7 @@ pub record IsRelayed (settings : PlainSettings) (link : Link) (frame : List ℕ)
   pub kind : ip.protocol (packet_in link frame) ≡ 1
       → (is_error (icmp.kind (ip.payload (packet_in link frame))) || is_query (icmp.kind (ip.payload (packet_in link frame)))) ≡ true
 
--- a frame of ARP that no row drops
+-- a frame of ARP that no rule drops
 pub record IsAddressed (link : Link) (frame : List ℕ) : Type 0 where
   pub long : l_short link frame ≡ false
   pub type : l_type link frame ≡ false
@@ -79,7 +79,7 @@ one_of_three n (inl e) = ap (λ k. not ((k == 1) || (k == 6) || (k == 17))) e
 one_of_three n (inr (inl e)) = ap (λ k. not ((k == 1) || (k == 6) || (k == 17))) e
 one_of_three n (inr (inr e)) = ap (λ k. not ((k == 1) || (k == 6) || (k == 17))) e
 
--- no row on connections mends an outbound segment but for its sum
+-- no rule on connections rewrites an outbound segment except for its checksum
 outward_mends : (settings : PlainSettings) (v : View) (live : Option ℕ) (head : Ipv4) (header octets : List ℕ) (fixes : List Rule)
     → let d : Datagram = record { side = Outward; head = head; header = header; octets = octets; fixes = fixes } in
     filter (era.holds_era settings (record v { era = live }) d) era.mends ≡ cond (era.t_sum_out settings d) (rules.TSumOut ∷ []) []
@@ -114,7 +114,7 @@ module _ (settings : PlainSettings) (link : Link) (seconds fraction : ℕ) (fram
   part : ip.is_fragment p ≡ false
   part = neither (ip.has_more_fragments p) (nat_lt 0 (ip.fragment_offset p)) is.plain.header.more_fragments (ap (nat_lt 0) is.plain.header.fragment_offset)
 
-  -- no row on the link, the header and the protocol holds
+  -- no rule on the link, the header and the protocol holds
   ip_rows : AllByRecursion (λ rule. holds_ip s link r rule ≡ false) ip_drop_rows
   ip_rows =
       let h = is.plain.header in
@@ -169,7 +169,7 @@ module _ (settings : PlainSettings) (link : Link) (seconds fraction : ℕ) (fram
   unfolding ip_dropped_by
   undropped = not_found (holds_ip s link r) ip_drop_rows ip_rows
 
-  -- none mends the packet
+  -- none rewrites the packet
   fix_rows : AllByRecursion (λ rule. holds_ip s link r rule ≡ false) whole_fix_rows
   fix_rows =
       let h = is.plain.header in
@@ -199,7 +199,7 @@ module _ (settings : PlainSettings) (link : Link) (seconds fraction : ℕ) (fram
   carries : datagram_in s link r ≡ Some d
   carries = λ i. cond (is_none (undropped i) && (is.carries i && not (part i))) (option_map (datagram_of p (unmended i)) (told i)) None
 
-  -- no row on UDP, ICMP and the header of a segment holds of it
+  -- no rule on UDP, ICMP and the header of a segment holds of it
   udp_sum : ip.protocol p ≡ 17 → has_wrong_sum d ≡ false
   udp_sum seventeen = by (is.plain.message.udp seventeen).sum
     where
@@ -334,13 +334,13 @@ arp_undropped : (settings : PlainSettings) (link : Link) (seconds fraction : ℕ
 unfolding ip_dropped_by
 arp_undropped settings link seconds fraction frame is = not_found (holds_ip settings link (record_of seconds fraction frame)) ip_drop_rows (arp_rows settings link seconds fraction frame is)
 
--- no row drops the record, none mends it, and it is not held back
+-- no rule drops the record, none rewrites it, and it is not held
 pub record IsUntouched (settings : PlainSettings) (link : Link) (history : List Item) (r : Packet) : Type 0 where
   pub undropped : dropped_by settings link (read_after settings link history r) r ≡ None
   pub unmended : named_rows settings link (read_after settings link history r) r ≡ []
   pub unheld : is_held (read_after settings link history r) ≡ false
 
--- a frame that goes through: one that goes inwards, or one of ARP
+-- a frame that passes: one that goes inwards, or one of ARP
 abbrev pub Relays : PlainSettings → Link → (frame : List ℕ) → Type 0
 Relays settings link frame = IsRelayed settings link frame ⊎ IsAddressed link frame
 

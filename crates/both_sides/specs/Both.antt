@@ -1,4 +1,4 @@
--- What two engines hold, one behind the other, and for which traces they stand.
+-- The state of two engines in sequence, and the traces that they represent.
 use Rattle.std.specs.Prelude.{◌≡◌, ℕ, ◌+◌, ◌*◌, ◌^◌, ◌<◌, ◌≤◌, List, length, map, drop}
 use Rattle.pcap_file.specs.Records.{Packet}
 use Rattle.norm_engine.specs.Items.{Item, packets}
@@ -8,14 +8,14 @@ use Rattle.norm_engine.specs.Engine.{Engaged}
 use Rattle.norm_engine.specs.Engine as engine
 use Rattle.both_sides.specs.Traces.{mirrored, record_of, behind, records_of}
 
--- both engines as contracts see them, and the records of the frames that the second has not had yet, the next one at the head
+-- both engines as contracts see them, and the records of the frames that the second has not read yet, the next one at the head
 pub record Joined : Type 0 where
   pub first : Engaged
   pub second : Engaged
   pub pending : List Packet
 
--- The engines stand for a pair of traces: each for its own; the second has the settings and the link of the first, its sides exchanged; and its trace is the
--- lawful one of the frames of the other but for those that it has not had yet.
+-- The engines represent a pair of traces: each its own; the second has the settings and the link type of the first, with exchanged sides; and its trace is the
+-- lawful one of the other's frames, except those that it has not read yet.
 pub record StandsFor (both : Joined) (trace mirror : List Item) : Type 0 where
   pub first : engine.StandsFor both.first trace
   pub second : engine.StandsFor both.second mirror
@@ -25,18 +25,18 @@ pub record StandsFor (both : Joined) (trace mirror : List Item) : Type 0 where
   pub octets : HaveOctets mirror
   pub handed : records_of trace ≡ behind both.pending (packets mirror)
 
--- the engines stand for some pair of traces
+-- the engines represent some pair of traces
 pub record StandsForSome (both : Joined) : Type 0 where
   pub trace : List Item
   pub mirror : List Item
   pub stands : StandsFor both trace mirror
 
--- how many records came: the second engine gets at most two for each of the first, whose number has room for twice as many
+-- bounds on the number of records: the second engine reads at most two for each of the first, whose number has room for twice as many
 pub record IsWithin (both : Joined) : Type 0 where
   pub records : both.first.records < 2 ^ 31
   pub frames : both.second.records + length both.pending ≤ 2 * both.first.records
 
--- both engines with the frames of a record of this time, of which the second engine has had so many
+-- both engines with the frames of a record with this time, of which the second engine has read `had`
 abbrev pub joined : (first second : Engaged) (seconds fraction : ℕ) (frames : List (List ℕ)) (had : ℕ) → Joined
 joined first second seconds fraction frames had =
     record { first = first; second = second; pending = map (record_of seconds fraction) (drop had frames) }

@@ -22,7 +22,7 @@ abbrev pub HaveNoSide : List Item → Type 0
 HaveNoSide [] = Unit {0}
 HaveNoSide (item ∷ older) = HaveNoSide older × (item.packet.side ≡ None)
 
--- A pair of lawful traces: of records of octets without a side of their own, and for settings of at most 254 routers that no word turned round.
+-- A pair of lawful traces: of records of octets without a side of their own, and for settings of at most 254 routers without exchanged sides.
 pub record AreSound (settings : PlainSettings) (link : Link) (trace mirror : List Item) : Type 0 where
   pub hops : settings.hops ≤ 254
   pub upright : settings.mirror ≡ false
@@ -31,13 +31,13 @@ pub record AreSound (settings : PlainSettings) (link : Link) (trace mirror : Lis
   pub frames : HaveOctets mirror
   pub lawful : AreLawful settings link trace mirror
 
--- a record passed, and went out octet for octet
+-- a record passed, and was written octet for octet
 pub record GoesThrough (item : Item) : Type 0 where
   pub passes : item.entry.verdict ≡ verdicts.Pass
   pub whole : item.frames ≡ item.packet.octets ∷ []
 
 -- Each frame that the first engine writes for a record which does not go outwards passes the second engine octet for octet: the frames that go inwards, and
--- those of ARP. So what the first writes inwards is what is written.
+-- those of ARP. So the bridge writes inwards what the first engine writes.
 abbrev pub InwardGoesThrough : (trace mirror : List Item) → Type 0
 InwardGoesThrough [] mirror = Unit {0}
 InwardGoesThrough (item ∷ older) mirror =
@@ -47,7 +47,7 @@ InwardGoesThrough (item ∷ older) mirror =
 abbrev pub FramesGoThrough : Type 0
 FramesGoThrough = (settings : PlainSettings) (link : Link) (trace mirror : List Item) → AreSound settings link trace mirror → InwardGoesThrough trace mirror
 
--- Receivers agree on what is written to either side, where the records and the frames are of octets, and at most 254 routers stand behind.
+-- Receivers agree on what is written to either side, if the records and the frames are of octets, with at most 254 routers.
 abbrev pub BothAgree : Type 0
 BothAgree =
     (settings : PlainSettings) (link : Link) (trace mirror : List Item) → settings.hops ≤ 254 → HaveOctets trace → HaveOctets mirror

@@ -1,4 +1,4 @@
--- The traces of two engines, one behind the other (this project's profile). Traces are lists of items with the newest at the head.
+-- The traces of two engines in sequence (this project's profile). Traces are lists of items with the newest at the head.
 use Rattle.std.specs.Prelude.{◌≡◌, ℕ, true, List, [], ◌∷◌, length, map, None}
 use Rattle.wire_base.specs.declared.address.Link.{Link}
 use Rattle.pcap_file.specs.Records.{Packet}
@@ -10,21 +10,21 @@ use Rattle.norm_engine.specs.Trace.{Lawful}
 abbrev pub mirrored : PlainSettings → PlainSettings
 mirrored settings = record settings { mirror = true }
 
--- the record that a frame is for the second engine: with the time of the record for which it was written, with its own length as the original one, and
--- without a side of its own, as a capture of the frame would be read
+-- the record of a frame for the second engine: with the time of the record for which it was written, with its own length as the original one, and without a
+-- side of its own, as a capture of the frame would be read
 abbrev pub record_of : (seconds fraction : ℕ) → (frame : List ℕ) → Packet
 record_of seconds fraction frame = record { seconds = seconds; fraction = fraction; original = length frame; side = None; octets = frame }
 
--- the records that the frames of an item are, in their order
+-- the records of the frames of an item, in order
 abbrev pub records_for : Item → List Packet
 records_for item = map (record_of item.packet.seconds item.packet.fraction) item.frames
 
--- records with these before them, which come one after another: the newest at the head
+-- these records, one after another, in front of older ones: the newest at the head
 abbrev pub behind : (records older : List Packet) → List Packet
 behind [] older = older
 behind (r ∷ more) older = behind more (r ∷ older)
 
--- the records that the frames of a trace are, the newest at the head
+-- the records of the frames of a trace, newest at the head
 abbrev pub records_of : List Item → List Packet
 records_of [] = []
 records_of (item ∷ older) = behind (records_for item) (records_of older)

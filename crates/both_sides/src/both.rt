@@ -1,4 +1,5 @@
-//! Two engines, one behind the other: each frame that the first writes is a record of the second, whose sides are exchanged.
+//! Two engines in sequence: each frame that the first writes is a record of the second, whose sides
+//! are exchanged.
 use edge_io::{NoMemory, Outbox};
 use norm_engine::Engine;
 use norm_engine::laws::items_are_counted;
@@ -9,19 +10,19 @@ use std::alloc::Global;
 use std::marker::Model;
 use wire_base::Link;
 
-/// Two engines that protect both sides of the bridge. It takes all its memory when it is opened.
+/// Two engines that protect both sides of the bridge. Allocates all its memory when it is opened.
 #[derive(Drop)]
 pub struct Both {
     first: Engine,
     second: Engine,
-    /// The frames of the first engine's last record.
+    /// Frames of the first engine's last record.
     frames: Outbox,
-    /// How many of them the second engine has had.
+    /// Number of these frames that the second engine has read.
     had: usize,
-    /// The time of that record, in seconds, and the fraction of one.
+    /// Time of that record, in seconds, and the fraction of a second.
     seconds: u32,
     fraction: u32,
-    /// Where that record begins, in octets from the first of the file.
+    /// Offset of that record in the file, in octets.
     offset: u64,
 }
 
@@ -50,7 +51,7 @@ impl Both {
     ghost use Rattle.both_sides.specs.Traces.{mirrored, records_for};
     ghost use Rattle.both_sides.specs.Both.{StandsFor};
 
-    /// Two engines for records of a raw link, before the first of them.
+    /// Creates two engines for records of a raw link, before the first of them.
     pub fn open(alloc: Global, settings: Settings) -> Result<Both, NoMemory>
         requires range { AreInRange (plain_settings settings) }
         requires upright { settings.mirror ≡ false }
@@ -74,7 +75,7 @@ impl Both {
         })
     }
 
-    /// Takes the records from here on as those of this link. No record came before.
+    /// Sets the link type of the records. No record may precede this call.
     pub fn set_link(&mut self, link: Link)
         requires { self.old.first.records ≡ 0 }
         ensures linked { self.new ≡ record self.old { first = record self.old.first { link = link }; second = record self.old.second { link = link } } }
@@ -84,14 +85,15 @@ impl Both {
         self.second.set_link(link);
     }
 
-    /// The number of records so far; the frames that the second engine had are not counted.
+    /// Returns the number of records so far, without the frames that the second engine read.
     pub fn records(&self) -> u32
         ensures { result ≡ self.now.first.records }
     {
         self.first.records()
     }
 
-    /// How many frames of the last record the second engine has not had yet, at most two.
+    /// Returns the number of frames of the last record that the second engine has not read yet, at
+    /// most two.
     pub fn pending(&self) -> usize
         ensures number { result ≡ length self.now.pending }
         ensures few { result ≤ 2 }
@@ -99,7 +101,8 @@ impl Both {
         self.frames.frames() - self.had
     }
 
-    /// Gives the record to the first engine and answers its entry; its frames are then pending. It takes no memory.
+    /// Gives the record to the first engine and returns its entry; its frames are then pending.
+    /// Allocates no memory.
     pub fn front(&mut self, input: &Record<'_>) -> Entry
         requires empty { length self.old.pending ≡ 0 }
         requires few { self.old.first.records < 2 ^ 31 - 1 }
@@ -121,8 +124,9 @@ impl Both {
         entry
     }
 
-    /// Gives the next pending frame to the second engine and answers its entry, whose number counts these frames; what goes out for it is put into
-    /// the outbox, in place of what was there. It takes no memory.
+    /// Gives the next pending frame to the second engine and returns its entry, whose number counts
+    /// these frames. Replaces the frames in the outbox by those written for it. Allocates no
+    /// memory.
     pub fn back(&mut self, out: &mut Outbox) -> Entry
         requires { 0 < length self.old.pending }
         ensures settings { self.new.first.settings ≡ self.old.first.settings }

@@ -1,11 +1,12 @@
-//! Laws of the traces of two engines, one behind the other.
+//! Laws of the traces of two engines in sequence.
 ghost use Rattle.both_sides.specs.Laws.{BothAgree, FramesGoThrough};
 
 use ip_rules::laws::{anew_is_packet, datagrams_are_known};
 use norm_engine::laws::{lawful_agrees, lawful_keeps_clean};
 use tcp_norm::laws::{packets_are_its_own, packets_are_plain};
 
-/// Each frame that the first engine writes for a record which does not go outwards passes the second octet for octet.
+/// Proves that each frame which the first engine writes for a record that does not go outwards
+/// passes the second octet for octet.
 pub fn frames_go_through()
     ensures { FramesGoThrough }
 {
@@ -16,7 +17,7 @@ pub fn frames_go_through()
     lawful_keeps_clean();
 }
 
-/// Receivers of the family agree on what is written to either side.
+/// Proves that receivers of the family agree on what is written to either side.
 pub fn both_agree()
     ensures { BothAgree }
 {

@@ -1,4 +1,5 @@
-//! Both sides protected, by worked rows: what each engine says of a packet and of its frames, and what goes out.
+//! Both sides protected, by worked cases: the entries of each engine for a packet and its frames,
+//! and the frames written.
 ghost use Rattle.std.specs.Prelude.{◌≡◌, false};
 ghost use Rattle.norm_settings.specs.Settings.{plain_settings, AreInRange};
 
@@ -12,49 +13,50 @@ use std::alloc::Global;
 use std::test::Fail;
 use wire_base::{Addr, Link, Prefix};
 
-/// A SYN (RFC 9293) from 198.51.100.7 port 40000 to 10.0.0.1 port 80 with sequence 999 and window 8192.
+/// SYN (RFC 9293) from 198.51.100.7 port 40000 to 10.0.0.1 port 80 with sequence number 999 and
+/// window 8192.
 const SYN: [u8; 40] = [
     0x45, 0x00, 0x00, 0x28, 0x00, 0x01, 0x00, 0x00, 0x40, 0x06, 0x46, 0x94, 0xc6, 0x33, 0x64, 0x07,
     0x0a, 0x00, 0x00, 0x01, 0x9c, 0x40, 0x00, 0x50, 0x00, 0x00, 0x03, 0xe7, 0x00, 0x00, 0x00, 0x00,
     0x50, 0x02, 0x20, 0x00, 0xbb, 0x2f, 0x00, 0x00,
 ];
 
-/// The answer to it, with sequence 5000.
+/// Answer to it, with sequence number 5000.
 const SYN_ACK: [u8; 40] = [
     0x45, 0x00, 0x00, 0x28, 0x00, 0x01, 0x00, 0x00, 0x40, 0x06, 0x46, 0x94, 0x0a, 0x00, 0x00, 0x01,
     0xc6, 0x33, 0x64, 0x07, 0x00, 0x50, 0x9c, 0x40, 0x00, 0x00, 0x13, 0x88, 0x00, 0x00, 0x03, 0xe8,
     0x50, 0x12, 0x20, 0x00, 0xa7, 0x96, 0x00, 0x00,
 ];
 
-/// The acknowledgment of that.
+/// Acknowledgment of that.
 const ACK: [u8; 40] = [
     0x45, 0x00, 0x00, 0x28, 0x00, 0x01, 0x00, 0x00, 0x40, 0x06, 0x46, 0x94, 0xc6, 0x33, 0x64, 0x07,
     0x0a, 0x00, 0x00, 0x01, 0x9c, 0x40, 0x00, 0x50, 0x00, 0x00, 0x03, 0xe8, 0x00, 0x00, 0x13, 0x89,
     0x50, 0x10, 0x20, 0x00, 0xa7, 0x97, 0x00, 0x00,
 ];
 
-/// Outwards, the four octets `abcd` with sequence 5001.
+/// Outwards, the four octets `abcd` with sequence number 5001.
 const ABCD: [u8; 44] = [
     0x45, 0x00, 0x00, 0x2c, 0x00, 0x01, 0x00, 0x00, 0x40, 0x06, 0x46, 0x90, 0x0a, 0x00, 0x00, 0x01,
     0xc6, 0x33, 0x64, 0x07, 0x00, 0x50, 0x9c, 0x40, 0x00, 0x00, 0x13, 0x89, 0x00, 0x00, 0x03, 0xe8,
     0x50, 0x18, 0x20, 0x00, 0xe2, 0xc4, 0x00, 0x00, 0x61, 0x62, 0x63, 0x64,
 ];
 
-/// Outwards, other octets at the same places.
+/// Outwards, other octets at the same sequence numbers.
 const ABXD: [u8; 44] = [
     0x45, 0x00, 0x00, 0x2c, 0x00, 0x01, 0x00, 0x00, 0x40, 0x06, 0x46, 0x90, 0x0a, 0x00, 0x00, 0x01,
     0xc6, 0x33, 0x64, 0x07, 0x00, 0x50, 0x9c, 0x40, 0x00, 0x00, 0x13, 0x89, 0x00, 0x00, 0x03, 0xe8,
     0x50, 0x18, 0x20, 0x00, 0xed, 0xc4, 0x00, 0x00, 0x61, 0x62, 0x58, 0x64,
 ];
 
-/// Inwards, a RST with sequence 1000.
+/// Inwards, a RST with sequence number 1000.
 const RESET: [u8; 40] = [
     0x45, 0x00, 0x00, 0x28, 0x00, 0x01, 0x00, 0x00, 0x40, 0x06, 0x46, 0x94, 0xc6, 0x33, 0x64, 0x07,
     0x0a, 0x00, 0x00, 0x01, 0x9c, 0x40, 0x00, 0x50, 0x00, 0x00, 0x03, 0xe8, 0x00, 0x00, 0x00, 0x00,
     0x50, 0x04, 0x20, 0x00, 0xbb, 0x2c, 0x00, 0x00,
 ];
 
-/// The probe of the connection, with the number before the one that is awaited.
+/// Probe of the connection, with the number before the one that is awaited.
 const PROBE: [u8; 40] = [
     0x45, 0x00, 0x00, 0x28, 0x00, 0x01, 0x00, 0x00, 0x40, 0x06, 0x46, 0x94, 0xc6, 0x33, 0x64, 0x07,
     0x0a, 0x00, 0x00, 0x01, 0x9c, 0x40, 0x00, 0x50, 0x00, 0x00, 0x03, 0xe7, 0x00, 0x00, 0x13, 0x89,
@@ -69,14 +71,14 @@ const UNREACHABLE: [u8; 56] = [
     0x00, 0x50, 0x9c, 0x40, 0x00, 0x00, 0x00, 0x00,
 ];
 
-/// ARP (RFC 826) behind an Ethernet header, with padding.
+/// ARP (RFC 826) after an Ethernet header, with padding.
 const ARP: [u8; 60] = [
     0xff, 0xff, 0xff, 0xff, 0xff, 0xff, 2, 0, 0, 0, 0, 1, 8, 6, 0, 1, 8, 0, 6, 4, 0, 1, 2, 0, 0, 0,
     0, 1, 10, 0, 0, 1, 0, 0, 0, 0, 0, 0, 10, 0, 0, 2, 0, 0, 0, 0, 0, 0, 0, 0, 0, 0, 0, 0, 0, 0, 0,
     0, 0, 0,
 ];
 
-/// What is said of a record.
+/// Expected entry of a record.
 struct Told {
     verdict: Verdict,
     rules: &'static [Rule],
@@ -95,7 +97,8 @@ const BESIDE: Told = Told {
     era: None,
 };
 
-/// A packet, what the first engine says of it, and for each frame that this writes what the second engine says, and what goes out.
+/// Packet, its entry in the first engine, and for each frame that this writes the entry in the
+/// second engine and the frame written.
 struct Row {
     packet: &'static [u8],
     front: Told,
@@ -120,7 +123,7 @@ const OPENED: [Row; 3] = [
     },
 ];
 
-/// The octets that go outwards stay those that went first.
+/// The octets written outwards first replace those that differ.
 const CLASHED: [Row; 2] = [
     Row {
         packet: &ABCD,
@@ -141,7 +144,8 @@ const CLASHED: [Row; 2] = [
     },
 ];
 
-/// An error of the connection, and a reset, behind which the probe goes in: each frame passes the second engine.
+/// An error of the connection, and a reset, followed by the probe: each frame passes the second
+/// engine.
 const INWARDS: [Row; 2] = [
     Row {
         packet: &UNREACHABLE,
@@ -169,7 +173,7 @@ const INWARDS: [Row; 2] = [
     },
 ];
 
-/// A reset of no connection is dropped, so the second engine has nothing.
+/// A reset of no connection is dropped, so the second engine reads nothing.
 const STRAY: [Row; 1] = [Row {
     packet: &RESET,
     front: Told {
@@ -198,18 +202,19 @@ fn settings() -> Settings
     Settings::standard(prefixes)
 }
 
-/// Whether an entry says so, with this number.
+/// Returns whether an entry is the expected one, with this number.
 fn says(entry: &Entry, told: &Told, number: u32) -> bool {
     let same = entry.verdict == told.verdict && entry.rules.as_slice() == told.rules;
     same && entry.era == told.era && entry.number == number
 }
 
-/// Whether the only frame is this one.
+/// Returns whether the only frame is this one.
 fn holds(out: &Outbox, octets: &[u8]) -> bool {
     out.frames() == 1 && out.frame(0) == octets
 }
 
-/// Whether the first engine says so of the packet, which is the record with this number, and writes as many frames.
+/// Returns whether the first engine gives the expected entry for the packet, which is the record
+/// with this number, and writes the expected number of frames.
 fn fronts(both: &mut Both, row: &Row, records: u32) -> bool {
     if both.records() >= 1000 || both.pending() > 0 {
         return false;
@@ -220,7 +225,8 @@ fn fronts(both: &mut Both, row: &Row, records: u32) -> bool {
     right && both.pending() == row.back.len()
 }
 
-/// Whether the second engine says so of the next frame, which is the one with this number, and these octets go out.
+/// Returns whether the second engine gives the expected entry for the next frame, which is the one
+/// with this number, and these octets are written.
 fn backs(both: &mut Both, told: &Told, octets: &[u8], number: u32, out: &mut Outbox) -> bool {
     if both.pending() == 0 {
         return false;
@@ -229,7 +235,8 @@ fn backs(both: &mut Both, told: &Told, octets: &[u8], number: u32, out: &mut Out
     right && holds(out, octets)
 }
 
-/// Whether both engines say so of the packet, which is the record with this number; the second engine has had so many frames before.
+/// Returns whether both engines give the expected entries for the packet, which is the record with
+/// this number; the second engine has read `frames` frames before.
 fn relays(both: &mut Both, row: &Row, records: u32, frames: u32, out: &mut Outbox) -> bool {
     let mut right = fronts(both, row, records);
     let mut number = frames;
@@ -240,7 +247,7 @@ fn relays(both: &mut Both, row: &Row, records: u32, frames: u32, out: &mut Outbo
     right && both.pending() == 0
 }
 
-/// Whether both engines say so of these packets, one after another.
+/// Returns whether both engines give the expected entries for these packets, one after another.
 fn relay_each(both: &mut Both, before: &[Row], rows: &[Row], out: &mut Outbox) -> bool {
     let mut records = 0u32;
     let mut frames = 0u32;
@@ -253,7 +260,8 @@ fn relay_each(both: &mut Both, before: &[Row], rows: &[Row], out: &mut Outbox) -
     right
 }
 
-/// Whether two engines on this link say so of these packets, one after another.
+/// Returns whether two engines on this link give the expected entries for these packets, one after
+/// another.
 fn relay_all(alloc: Global, link: Link, before: &[Row], rows: &[Row]) -> Result<bool, Fail> {
     let mut out = Outbox::open(alloc)?;
     let mut both = Both::open(alloc, settings())?;

@@ -1,4 +1,4 @@
--- All octets are an input or have a first fault; and what a stop says of them.
+-- All octets are an input or have a first fault; a fault of a call is this fault.
 use Rattle.std.proofs.Common.{◌≡◌, ◌⊎◌, ℕ, Bool, true, false, List, Option, Some, None, Result, Ok, Err, refl, sym, ap, ◌∙◌, subst, inl, inr}
 use Rattle.wire_base.specs.declared.address.Link.{Link}
 use Rattle.pcap_file.specs.declared.head.Head.{Head}

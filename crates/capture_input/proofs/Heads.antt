@@ -1,4 +1,4 @@
--- How an input is opened: what its first octets say, and what its head is.
+-- Opening of an input: its kind by its first octets, and its head.
 use Rattle.std.proofs.Common.{◌≡◌, ℕ, ◌<◌, ◌≤◌, Bool, true, false, List, [], ◌∷◌, ◌++◌, length, take, Option, Some, None, IsSome, Result, Ok, Err, refl, sym, ap, ◌∙◌, subst, arith, inl, inr, append-nil}
 use Rattle.std.proofs.lemmas.Bool.{cases_lt}
 use Rattle.std.proofs.lemmas.List.{take_all, take_at}
@@ -32,7 +32,7 @@ use Rattle.capture_input.specs.Faults.{of_flaw, of_head, at_first, at_block}
 use Rattle.capture_input.specs.Inputs.{records, blocks, section_octets, is_sections, classic_head, IsHeadOf, BlocksEndAt, Took}
 use Rattle.capture_input.specs.Reads as reads
 
--- the head of a classic file, where fewer than 24 octets came
+-- the head of a classic file of fewer than 24 octets
 short_reads : (a b : Option (List ℕ)) (x : List ℕ) (result : Result Head HeadFault) → Begins a b (Err cut_short) → head_of x ≡ Err cut_short → Judges x result → ReadsHead a b result
 short_reads a b x (Ok head) p is says = absurd cc
 short_reads a b x (Err heads.Cut) p is says = p
@@ -171,7 +171,7 @@ kind_classic (Some y) first few end is = elim (cases_lt (length first) 4) [
   | inr more ↦ ap (λ l. bytes_eq l section_octets) (take_at first y 4 (omega arith)) ∙ is
 ]
 
--- what is said of octets that are told holds of untold ones
+-- a statement about known octets holds without known octets
 untold_classic : (inside a b : Option (List ℕ)) (fault : InputFault) → reads.StopsClassic inside a b fault → reads.StopsClassic inside None b fault
 untold_classic inside a b faults.Cut p = tt
 untold_classic inside a b faults.Magic p = tt
@@ -199,7 +199,7 @@ untold inside a b (Err stop) (inr p) = inr (record {
   is = p.is;
 })
 
--- the first octets were taken, and the others behind them
+-- the first octets were taken, and then the others
 pub opens_behind : (inside a m b : Option (List ℕ)) (first : List ℕ) (result : Result Input OpenFault) → Consumes a m first → reads.Opens inside (prepend_known first m) b result → reads.Opens inside a b result
 opens_behind inside None m b first result p q = untold inside (prepend_known first m) b result q
 opens_behind inside (Some x) None b first result p q = absurd p

@@ -1,4 +1,4 @@
--- Octets begin with no more packets than those before their end, or before a fault.
+-- Octets begin with no more records than those before their end, or before a fault.
 use Rattle.std.proofs.Common.{◌≡◌, ℕ, ◌+◌, ◌<◌, ◌≤◌, false, List, [], ◌∷◌, length, drop, Option, Some, None, Ok, Err, refl, sym, ap, ◌∙◌, subst, arith, inl, inr}
 use Rattle.std.proofs.lemmas.Bool.{cases_lt}
 use Rattle.std.proofs.lemmas.List.{length-append}
@@ -26,7 +26,7 @@ use Rattle.capture_input.proofs.Unique.{accepted, ends_by, one_kind}
 
 -- ---- records
 
--- behind fewer records another one stands
+-- after fewer records another one follows
 record_behind : (order : Order) (all : List ℕ) (ps qs : List Packet) (r s : List ℕ) → ReadsTo order all ps r → ReadsTo order all qs s → length ps < length qs → HasNoRecord order (length ps) r → ⊥
 record_behind order all ps [] r s p q less last = absurd (omega arith)
 record_behind order all ps (y ∷ qs) r s p q less last =
@@ -41,7 +41,7 @@ record_behind order all ps (y ∷ qs) r s p q less last =
 
 -- ---- blocks
 
--- no block stands behind these
+-- no block follows after these
 abbrev HasNoBlock : (inside : Option (List ℕ)) → List Step → List ℕ → Type 0
 HasNoBlock inside steps rest = (step : Step) (left : List ℕ) → block_at inside (behind no_section steps) rest ≡ Ok (Some (step, left)) → ⊥
 
@@ -77,7 +77,7 @@ module _ (inside : Option (List ℕ)) (all : List ℕ) (ps qs : List Step) (r t 
 
 -- ---- either
 
--- nothing can be read behind what was read
+-- nothing can be read after the entries read
 abbrev IsLast : (inside : Option (List ℕ)) → Head → Walk → List ℕ → Type 0
 IsLast inside head (records packets) rest = HasNoRecord head.order (length packets) rest
 IsLast inside head (blocks steps) rest = HasNoBlock inside steps rest

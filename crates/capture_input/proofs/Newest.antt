@@ -1,4 +1,4 @@
--- Octets begin in one way with so many packets and nothing behind the newest of them.
+-- Octets begin in one way with a given number of records and nothing after the newest of them.
 use Rattle.std.proofs.Common.{◌≡◌, ℕ, ◌+◌, ◌<◌, ◌≤◌, List, [], ◌∷◌, ◌++◌, length, drop, Option, Some, None, Ok, refl, sym, ap, ◌∙◌, subst, arith, inl, inr}
 use Rattle.std.proofs.lemmas.Bool.{cases_lt}
 use Rattle.std.proofs.lemmas.List.{length-append, nil_from_length}
@@ -18,18 +18,18 @@ use Rattle.capture_input.proofs.Unique.{accepted, head_one, one_kind}
 use Rattle.capture_input.proofs.Heads.{behind_interface}
 use Rattle.capture_input.proofs.Walking.{some_link}
 
--- Blocks that go on from others.
+-- Blocks that continue others.
 pub record GoOn (inside : Option (List ℕ)) (ps qs : List Step) (r t : List ℕ) : Type 0 where
   pub newer : List Step
   pub are : qs ≡ newer ++ ps
   pub walks : Walks inside (behind no_section ps) r newer t
 
--- where the older blocks have all the packets, the newest one gives none
+-- if the older blocks have all the records, the newest one has none
 none_given : (given : Option Packet) (older : List Packet) (count : ℕ) → count ≤ length older → length (with_given given older) ≡ count → given ≡ None
 none_given None older count few same = refl
 none_given (Some packet) older count few same = absurd (omega arith)
 
--- where the newest block has no packet, it is the first interface, and there is no packet
+-- if the newest block has no record, it is the first interface, and there is no record
 silent_end : (packets : List Packet) (step : Step) (older : List Step) → step.given ≡ None → BlocksEndAt packets (step ∷ older) → (packets ≡ []) × ((behind no_section older).link ≡ None)
 silent_end [] step older none ends = (refl, ends.0)
 silent_end (packet ∷ others) step older none ends = let given : step.given ≡ Some packet = ends in absurd cc
@@ -53,7 +53,7 @@ module _ (inside : Option (List ℕ)) (all : List ℕ) where
         }
   ]
 
-  -- no more blocks with as many packets end so
+  -- a longer list of blocks with as many records does not end this way
   none_more : (ps qs : List Step) (r t : List ℕ) → Walks inside no_section all ps r → Walks inside no_section all qs t → BlocksEndAt (packets_of ps) ps → BlocksEndAt (packets_of qs) qs
       → length (packets_of ps) ≡ length (packets_of qs) → length ps < length qs → ⊥
   none_more ps [] r t p q first last same less = absurd (omega arith)

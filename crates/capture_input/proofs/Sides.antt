@@ -1,4 +1,4 @@
--- Where no name of the inside is given, no packet has a side.
+-- If the name of the inside interface is not given, no record has a side.
 use Rattle.std.proofs.Common.{◌≡◌, ℕ, ◌+◌, ◌*◌, ◌/◌, ◌%◌, ◌-◌, ◌==◌, ◌^◌, not, nat_lt, Bool, true, false, List, [], ◌∷◌, ◌++◌, length, take, drop, slice_get, Option, Some, None, Result, Ok, Err, refl, ap, ◌∙◌, subst, if◌then◌else◌}
 use Rattle.std.specs.Prelude.{IfSome, option_map}
 use Rattle.wire_base.specs.declared.address.Link.{Link}
@@ -40,7 +40,7 @@ choose P false x y p q = q
 
 -- ---- a pcapng file
 
--- a packet that is told has no side
+-- a packet block has no side
 abbrev SaysNone : Content → Type 0
 SaysNone (says.Packet stamp) = stamp.side ≡ None
 SaysNone _ = Unit {0}
@@ -49,7 +49,7 @@ abbrev IsNone : Found → Type 0
 IsNone (is.Packet stamp) = stamp.side ≡ None
 IsNone _ = Unit {0}
 
--- so has a packet that is given
+-- a record that is returned has no side
 abbrev GivesNone : Result (Option (Step × List ℕ)) NgFault → Type 0
 GivesNone (Ok (Some next)) = (packet : Packet) → next.0.given ≡ Some packet → packet.side ≡ None
 GivesNone (Ok None) = Unit {0}
@@ -190,7 +190,7 @@ block_none sections octets =
     (choose GivesNone (nat_lt (length octets) 12) (Err faults.Cut) room tt
     (choose GivesNone (sections.blocks == 4294967295) (Err faults.Many) ordered tt (ordered_none sections (order_at sections.order octets) octets)))
 
--- what is read of a pcapng file
+-- a record that is read of a pcapng file has no side
 pub sections_none : (reader reader' : NgReading) (walk : Walk) (a b : Option (List ℕ)) (given : Option Record)
     → sections.Reads reader reader' a b (Ok given) → Behind (kinds.Sections reader) None walk → IfSome given (λ r. r.side ≡ None)
 sections_none reader reader' (records packets) a b given reads q = absurd q
@@ -232,7 +232,7 @@ leaves_none order count (Some xs) (Some ys) packet leaves =
     let none : packet.side ≡ None = subst HasNone leaves (front_none order count xs) in
     leaves ∙ ap (λ side. Ok (Some (record packet { side = side }, ys))) none
 
--- what is read of a classic file, without the side that its records do not have
+-- a result of reading a classic file holds also of its record without a side
 pub classic_none : (inside : Option (List ℕ)) (head : Head) (reader reader' : Reading) (walk : Walk) (a b : Option (List ℕ)) (given : Option Record)
     → classic.Reads reader.head.order reader.given a b (Ok given) → reader'.head ≡ reader.head → reader'.asked ≡ reader.place → classic.IfRecord (Ok given) (λ r. r.offset ≡ reader.place)
     → reader'.is_open ≡ classic.is_record (Ok given) → classic.IfRecord (Ok given) (λ r. classic.Advances reader reader' (length r.bytes.now))

@@ -1,4 +1,4 @@
--- What a stop, or the end, says of the octets that a source told.
+-- The known octets of a source where a call fails, or at the end.
 use Rattle.std.proofs.Common.{◌≡◌, ℕ, false, List, ◌++◌, length, Option, Some, None, Err, refl, sym, ap, ◌∙◌, subst, inl, inr, append-nil}
 use Rattle.std.specs.Io.KnownBytes.{Consumes}
 use Rattle.pcap_file.specs.declared.head.Head.{Head}
@@ -35,7 +35,7 @@ classic_head_stops inside None b fault offset other p = tt
 classic_head_stops inside (Some x) None fault offset other p = absurd (refuses inside (Some x) None fault other p.stops)
 classic_head_stops inside (Some x) (Some y) fault offset other p = inl (inl (record { kind = p.kind; refused = (refuses inside (Some x) (Some y) fault other p.stops).0; place = p.place }))
 
--- a block that is at fault
+-- a block with a fault
 cut_here : (inside : Option (List ℕ)) (s : Sections) (y : List ℕ) (b : Option (List ℕ)) → sections.IsCut inside s (Some y) b → block_at inside s y ≡ Err block_faults.Cut
 cut_here inside s y None p = absurd p.taken
 cut_here inside s y (Some z) p =
@@ -90,7 +90,7 @@ pub head_stops : HeadStopsAreFaults
 head_stops inside a b fault offset other (inl p) = classic_head_stops inside a b fault offset other p
 head_stops inside a b fault offset other (inr p) = sections_head_stops inside a b fault offset other p
 
--- a record that is at fault
+-- a record with a fault
 pub record_flawed : (head : Head) (count : ℕ) (y : List ℕ) (b : Option (List ℕ)) (cause : RecordFault) (fault : InputFault) → is_read_fault fault ≡ false → fault ≡ of_record cause
     → classic.FailsWith head.order count (Some y) b cause → IsFlawedRecord head count y fault
 record_flawed head count y b record_faults.Cut fault other is p = record { flaw = cut_short; flawed = p.flawed; is = is }

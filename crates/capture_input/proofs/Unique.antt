@@ -1,4 +1,4 @@
--- An input has one head, one list of packets and one way to end.
+-- An input has one head, one list of records and one way to end.
 use Rattle.std.proofs.Common.{◌≡◌, ◌⊎◌, ℕ, true, false, List, [], Option, Some, None, Result, Ok, Err, refl, sym, ap, ◌∙◌, subst, inl, inr}
 use Rattle.wire_base.specs.declared.address.Link.{Link}
 use Rattle.pcap_file.specs.declared.head.Head.{Head}
@@ -20,19 +20,19 @@ use Rattle.capture_input.specs.Faults.{of_flaw, of_block}
 use Rattle.capture_input.specs.Inputs.{Walk, records, blocks, is_sections, classic_head, IsHeadOf, packets_in, BeginsWith, BeginsClassic, BeginsSections, IsFlawed, FailsAt, place_behind}
 use Rattle.capture_input.specs.Laws.{InputIsOne, FaultIsOne, FaultExcludesEnd}
 
--- a classic head that is accepted is one that the octets have
+-- an accepted classic head is the head of the octets
 pub accepted : (inside : Option (List ℕ)) (found : Result Head Flaw) (head : Head) → classic_head inside found ≡ Ok head → found ≡ Ok head
 accepted None (Ok other) head e = let same : other ≡ head = cc in ap Ok same
 accepted None (Err flaw) head e = absurd cc
 accepted (Some name) (Ok other) head e = absurd cc
 accepted (Some name) (Err flaw) head e = absurd cc
 
--- a head of a pcapng file is one
+-- a pcapng file has one head
 pub head_one : (link : Option Link) (head other : Head) → IsHeadOf link head → IsHeadOf link other → head ≡ other
 head_one None head other p q = absurd p
 head_one (Some link) head other p q = p ∙ sym q
 
--- behind an interface octets end well
+-- octets may end after an interface
 pub ends_by : (link : Option Link) (head : Head) → IsHeadOf link head → end_by link ≡ Ok None
 ends_by None head p = absurd p
 ends_by (Some link) head p = refl
@@ -76,7 +76,7 @@ record RefusesClassic (inside : Option (List ℕ)) (octets : List ℕ) (fault : 
   refused : classic_head inside (head_of octets) ≡ Err fault
   place : offset ≡ 0
 
--- a fault of a pcapng file, in its head or behind it
+-- a fault of a pcapng file, in its head or after it
 record FailsSections (inside : Option (List ℕ)) (octets : List ℕ) (fault : InputFault) (offset : ℕ) : Type 0 where
   kind : is_sections octets ≡ true
   flaw : NgFault

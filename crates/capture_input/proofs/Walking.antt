@@ -1,4 +1,4 @@
--- How an input goes on from packet to packet.
+-- The steps of a reader from record to record.
 use Rattle.std.proofs.Common.{◌≡◌, ℕ, ◌+◌, Bool, true, false, List, [], ◌∷◌, ◌++◌, length, Option, Some, None, IsSome, Ok, Err, refl, sym, ap, ap₂, ◌∙◌, subst, arith}
 use Rattle.std.proofs.lemmas.List.{length-append}
 use Rattle.std.specs.Io.KnownBytes.{Consumes, IsAtEnd}
@@ -101,7 +101,7 @@ module _ (inside : Option (List ℕ)) (head : Head) (reader reader' : Reading) (
     closed = closed;
   }
 
--- what a call of the reader of a classic file says
+-- the result of a call of the reader of a classic file
 pub classic_reads : (inside : Option (List ℕ)) (head : Head) (reader reader' : Reading) (walk : Walk) (a b : Option (List ℕ)) (given : Option Record)
     → classic.Reads reader.head.order reader.given a b (Ok given) → reader'.head ≡ reader.head → reader'.asked ≡ reader.place → classic.IfRecord (Ok given) (λ r. r.offset ≡ reader.place)
     → reader'.is_open ≡ classic.is_record (Ok given) → classic.IfRecord (Ok given) (λ r. classic.Advances reader reader' (length r.bytes.now))
@@ -128,7 +128,7 @@ is_some (Some other) l e = refl
 
 module _ (inside : Option (List ℕ)) (reader reader' : NgReading) (steps newer : List Step) (a b : Option (List ℕ)) (q : BehindBlocks inside reader steps)
     (p : sections.TakesSteps reader.inside reader.sections a b newer) where
-  -- the blocks that follow, as those behind the others
+  -- the blocks that follow, after the others
   here : (rest : List ℕ) → Walks inside (behind no_section steps) (p.octets ++ rest) newer rest
   here rest = subst (λ (s : Sections). Walks inside s (p.octets ++ rest) newer rest) q.sections (subst (λ (i : Option (List ℕ)). Walks i reader.sections (p.octets ++ rest) newer rest) q.named (p.walks rest))
 
@@ -243,7 +243,7 @@ module _ (inside : Option (List ℕ)) (reader reader' : NgReading) (steps : List
         closed = p.moves.goes_on;
       }
 
--- what a call of the reader of a pcapng file says
+-- the result of a call of the reader of a pcapng file
 pub sections_reads : (inside : Option (List ℕ)) (reader reader' : NgReading) (walk : Walk) (a b : Option (List ℕ)) (given : Option Record)
     → sections.Reads reader reader' a b (Ok given) → sections.IfPacket (Ok given) (λ r. r.offset ≡ reader'.asked)
     → Behind (kinds.Sections reader) inside walk → Reads (kinds.Sections reader) (kinds.Sections reader') inside walk a b (Ok given)

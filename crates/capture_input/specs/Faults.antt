@@ -12,7 +12,7 @@ use Rattle.capture_input.specs.declared.fault.InputFault.{InputFault}
 use Rattle.capture_input.specs.declared.fault.InputFault.TheVariants as faults
 use Rattle.capture_input.specs.declared.fault.OpenFault.{OpenFault}
 
--- the fault that a flaw of a classic file is
+-- the input fault of a flaw of a classic file
 abbrev pub of_flaw : classic.Flaw → InputFault
 of_flaw classic.cut_short = faults.Cut
 of_flaw classic.bad_magic = faults.Magic
@@ -44,7 +44,7 @@ of_block blocks.Long = faults.Long
 of_block blocks.Many = faults.Many
 of_block blocks.ReadFault = faults.ReadFault
 
--- a fault at the first octet
+-- a fault at offset 0
 abbrev pub at_first : InputFault → OpenFault
 at_first fault = record { fault = fault; offset = 0 }
 
@@ -57,12 +57,12 @@ abbrev pub is_read_fault : InputFault → Bool
 is_read_fault faults.ReadFault = true
 is_read_fault _ = false
 
--- whether a call failed since the source itself failed
+-- whether a call failed because the source itself failed
 abbrev pub has_read_fault : {T : Type 0} → Result T InputFault → Bool
 has_read_fault (Ok value) = false
 has_read_fault (Err fault) = is_read_fault fault
 
--- the fault alone, without its place
+-- the fault alone, without its offset
 abbrev pub only_fault : {T : Type 0} → Result T OpenFault → Result T InputFault
 only_fault (Ok value) = Ok value
 only_fault (Err stop) = Err stop.fault

@@ -1,4 +1,4 @@
--- Where an input stands (this project's profile).
+-- The state of a reader of an input (this project's profile).
 use Rattle.std.specs.Prelude.{◌≡◌, ℕ, ◌≤◌, Bool, List, length, Option, None, IsSome}
 use Rattle.pcap_file.specs.declared.head.Head.{Head}
 use Rattle.pcap_file.specs.Records.{Packet}
@@ -12,29 +12,29 @@ use Rattle.capture_input.specs.declared.input.Input.{Input}
 use Rattle.capture_input.specs.declared.input.Input.TheVariants.{Classic, Sections}
 use Rattle.capture_input.specs.Inputs.{Walk, records, blocks}
 
--- the head of the file that is written from these packets
+-- the head of the file that is written from these records
 abbrev pub head_in : Input → Head
 head_in (Classic head reader) = head
 head_in (Sections reader) = written_head reader.sections.link
 
--- the offset of the record or block that was looked at last
+-- the offset of the record or block read last
 abbrev pub asked_in : Input → ℕ
 asked_in (Classic head reader) = reader.asked
 asked_in (Sections reader) = reader.asked
 
--- whether the next packet may be asked for
+-- whether the next record may be read
 abbrev pub is_open_in : Input → Bool
 is_open_in (Classic head reader) = reader.is_open
 is_open_in (Sections reader) = reader.is_open
 
--- The reader of a classic file stands behind these records.
+-- The reader of a classic file is after these records.
 pub record BehindRecords (inside : Option (List ℕ)) (head : Head) (reader : Reading) (packets : List Packet) : Type 0 where
   pub unnamed : inside ≡ None
   pub same : reader.head ≡ head
   pub given : reader.given ≡ length packets
   pub place : reader.place ≡ offset_of packets
 
--- The reader of a pcapng file stands behind these blocks, an interface among them.
+-- The reader of a pcapng file is after these blocks, an interface among them.
 pub record BehindBlocks (inside : Option (List ℕ)) (reader : NgReading) (steps : List Step) : Type 0 where
   pub named : reader.inside ≡ inside
   pub sections : reader.sections ≡ behind no_section steps
@@ -43,7 +43,7 @@ pub record BehindBlocks (inside : Option (List ℕ)) (reader : NgReading) (steps
   pub counted : reader.sections.blocks ≡ length steps
   pub few : length steps ≤ 4294967295
 
--- The input stands behind what was read.
+-- The reader of the input is after these entries.
 abbrev pub Behind : Input → (inside : Option (List ℕ)) → Walk → Type 0
 Behind (Classic head reader) inside (records packets) = BehindRecords inside head reader packets
 Behind (Sections reader) inside (blocks steps) = BehindBlocks inside reader steps

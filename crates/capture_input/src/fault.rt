@@ -1,4 +1,4 @@
-//! Why a capture is not read on.
+//! Faults of a capture.
 ghost use Rattle.std.specs.Prelude.{◌≡◌};
 ghost use Rattle.capture_input.specs.Faults.{of_head, of_record, of_block};
 
@@ -7,7 +7,7 @@ use pcap_file::{HeadFault, RecordFault};
 use pcapng_file::NgFault;
 use thiserror::Error;
 
-/// Why there is no further packet.
+/// Reasons why there is no further record.
 #[derive(Clone, Copy, Debug, PartialEq, Eq, Error)]
 pub enum InputFault {
     #[error("the octets end inside the head, a record or a block")]
@@ -28,7 +28,8 @@ pub enum InputFault {
     ReadFault,
 }
 
-/// Why no capture was opened, and the place of the head or block that is at fault, in octets from the first of the capture.
+/// The reason why no capture was opened, and the offset of the malformed head or block, in octets
+/// from the start of the capture.
 #[derive(Clone, Copy, Debug, PartialEq, Eq, Error)]
 #[error("{fault}, at octet {offset}")]
 pub struct OpenFault {
@@ -36,7 +37,7 @@ pub struct OpenFault {
     pub offset: u64,
 }
 
-// The fault of a classic head.
+// Returns the input fault of a fault of a classic head.
 fn head_fault(fault: HeadFault) -> InputFault
     ensures { result ≡ of_head fault }
 {
@@ -49,7 +50,7 @@ fn head_fault(fault: HeadFault) -> InputFault
     }
 }
 
-// The fault of a block.
+// Returns the input fault of a fault of a block.
 fn block_fault(fault: NgFault) -> InputFault
     ensures { result ≡ of_block fault }
 {

@@ -1,4 +1,4 @@
-//! Reads the packets of a capture one by one.
+//! A reader of the records of a capture, one by one.
 ghost use Rattle.std.specs.Prelude.{◌≡◌, ◌≤◌, ℕ, List, length, true, false, None, option_map, IfOk, IfSome};
 ghost use Rattle.std.specs.declared.option.Option.{Option};
 ghost use Rattle.edge_io.specs.Faults.{Rose};
@@ -13,10 +13,10 @@ use edge_io::{Source, read_full};
 use pcap_file::{Head, Reader, Record};
 use pcapng_file::NgReader;
 
-// The type of a section block, by which a pcapng file begins.
+// The type of a section block, the first octets of a pcapng file.
 const SECTION: [u8; 4] = [0x0a, 0x0d, 0x0d, 0x0a];
 
-/// Where reading stands in a capture of either kind.
+/// A reader of a capture of either kind.
 #[derive(Debug, Drop)]
 pub enum Input {
     Classic(Head, Reader),
@@ -24,8 +24,9 @@ pub enum Input {
 }
 
 impl Input {
-    /// Reads the head: of a classic file its 24 octets, of a pcapng file all up to the end of the first interface block. A classic
-    /// file is refused where the name of the interface on the inside is given, since it tells none.
+    /// Reads the head: of a classic file its 24 octets, of a pcapng file all octets up to the end
+    /// of the first interface block. Fails for a classic file if the name of the inside interface
+    /// is given, since such a file has no interfaces.
     pub fn open<S: Source>(inside: Option<&[u8]>, source: &mut S) -> Result<Input, OpenFault>
         requires { IfSome inside (λ name. length name.now ≤ 64) }
         ensures octets { Opens (option_map (λ name. name.now) inside.entry) (S.left source.old) (S.left source.new) result }
@@ -41,8 +42,8 @@ impl Input {
         open_classic(inside, &first[..count], source)
     }
 
-    /// The head of the file that is written from these packets: a classic file's own; and of a pcapng file lowest octet first,
-    /// nanoseconds, the link of the first interface.
+    /// Returns the head of the file that is written from these records: a classic file's own; for a
+    /// pcapng file least significant octet first, nanoseconds, the link of the first interface.
     pub fn head(&self) -> Head
         ensures { result ≡ head_in self.now }
     {
@@ -52,7 +53,7 @@ impl Input {
         }
     }
 
-    /// Whether the next packet may be asked for.
+    /// Returns whether `next` may be called.
     pub fn is_open(&self) -> bool
         ensures { result ≡ is_open_in self.now }
     {
@@ -62,7 +63,8 @@ impl Input {
         }
     }
 
-    /// The place of the record or block that was looked at last, in octets from the first of the capture.
+    /// Returns the offset of the record or block read last, in octets from the start of the
+    /// capture.
     pub fn offset(&self) -> u64
         ensures { result ≡ asked_in self.now }
     {
@@ -72,8 +74,8 @@ impl Input {
         }
     }
 
-    /// The next packet, its octets in the buffer, at the place of its record or block. It has a side of its own only where the name of the interface on the
-    /// inside is given.
+    /// Returns the next record, with its octets in the buffer, and the offset of its record or
+    /// block. It has a side of its own only if the name of the inside interface is given.
     pub fn next<'a, S: Source>(
         &mut self,
         source: &mut S,
@@ -95,7 +97,7 @@ impl Input {
     }
 }
 
-// A record of a classic file, which tells no sides.
+// Returns a record of a classic file, which has no sides.
 fn without_side(given: Option<Record<'_>>) -> Option<Record<'_>>
     ensures { result ≡ option_map sideless given.entry }
 {

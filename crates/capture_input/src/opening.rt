@@ -1,4 +1,4 @@
-//! Opens a capture whose first octets were read before.
+//! Opening of a capture whose first octets were read before.
 ghost use Rattle.std.specs.Prelude.{◌≡◌, ◌≤◌, length, true, false, option_map, IfSome, IsErrOf};
 ghost use Rattle.std.specs.Io.KnownBytes.{prepend_known};
 ghost use Rattle.edge_io.specs.Faults.{Rose};
@@ -11,7 +11,7 @@ use edge_io::{Failed, Source};
 use pcap_file::{Head, HeadFault, Reader, read_head};
 use pcapng_file::{Ahead, NgReader, read_behind};
 
-// A source that has no octet left.
+// A source without octets.
 #[derive(Drop)]
 struct Nothing;
 
@@ -37,7 +37,7 @@ impl Source for Nothing {
     }
 }
 
-// What these octets say as the head of a classic file.
+// Parses these octets as the head of a classic file.
 fn judge(octets: &[u8]) -> Result<Head, HeadFault>
     ensures { Judges octets.now result }
 {
@@ -46,7 +46,7 @@ fn judge(octets: &[u8]) -> Result<Head, HeadFault>
     read_head(&mut ahead)
 }
 
-// Reads the head of a classic file, of which these octets, at most 24, were read before.
+// Reads the head of a classic file; its first octets `first`, at most 24, were read before.
 fn read_classic<S: Source>(first: &[u8], source: &mut S) -> Result<Head, HeadFault>
     requires { length first.now ≤ 24 }
     ensures octets { ReadsHead (prepend_known first.now (S.left source.old)) (S.left source.new) result }
@@ -59,7 +59,7 @@ fn read_classic<S: Source>(first: &[u8], source: &mut S) -> Result<Head, HeadFau
     judge(&octets[..count])
 }
 
-/// Opens a classic file, of which these octets, at most 24, were read before.
+/// Opens a classic file; its first octets `first`, at most 24, were read before.
 pub(crate) fn open_classic<S: Source>(
     inside: Option<&[u8]>,
     first: &[u8],
@@ -82,7 +82,7 @@ pub(crate) fn open_classic<S: Source>(
     Ok(Input::Classic(head, Reader::new(head)))
 }
 
-/// Opens a pcapng file, of which these octets, at most 12, were read before.
+/// Opens a pcapng file; its first octets `first`, at most 12, were read before.
 pub(crate) fn open_sections<S: Source>(
     inside: Option<&[u8]>,
     first: &[u8],

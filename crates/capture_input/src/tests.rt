@@ -1,4 +1,4 @@
-//! Captures of both kinds, given in pieces.
+//! Captures of both kinds, read in parts.
 ghost use Rattle.std.specs.Prelude.{◌<◌};
 
 use crate::{Input, InputFault};
@@ -7,7 +7,7 @@ use pcap_file::Order;
 use std::test::Fail;
 use wire_base::{Link, Side};
 
-// A section, lowest octet first, with the interfaces `in` and `ex`, both of raw IP.
+// A section, least significant octet first, with the interfaces `in` and `ex`, both of raw IP.
 const SECTION: [u8; 92] = [
     0x0a, 0x0d, 0x0d, 0x0a, 28, 0, 0, 0, 0x4d, 0x3c, 0x2b, 0x1a, 1, 0, 0, 0, 255, 255, 255, 255,
     255, 255, 255, 255, 28, 0, 0, 0, 1, 0, 0, 0, 32, 0, 0, 0, 101, 0, 0, 0, 0, 0, 0, 0, 2, 0, 2, 0,
@@ -22,7 +22,8 @@ const PACKET: [u8; 64] = [
     0, 0x35, 0, 0x0a, 0xc6, 0xbf, 0x68, 0x69, 0, 0, 64, 0, 0, 0,
 ];
 
-// A section, highest octet first, with one interface of raw IP and a packet of three octets at 2,000,001 microseconds.
+// A section, most significant octet first, with one interface of raw IP and a packet block of three
+// octets at 2,000,001 microseconds.
 const BIG: [u8; 84] = [
     0x0a, 0x0d, 0x0d, 0x0a, 0, 0, 0, 28, 0x1a, 0x2b, 0x3c, 0x4d, 0, 1, 0, 2, 255, 255, 255, 255,
     255, 255, 255, 255, 0, 0, 0, 28, 0, 0, 0, 1, 0, 0, 0, 20, 0, 101, 0, 0, 0, 0, 0, 0, 0, 0, 0,
@@ -30,13 +31,14 @@ const BIG: [u8; 84] = [
     3, 7, 8, 9, 0, 0, 0, 0, 36,
 ];
 
-// A classic file, highest octet first, in microseconds, of Ethernet, with a record of three octets.
+// A classic file, most significant octet first, in microseconds, of Ethernet, with a record of
+// three octets.
 const CLASSIC: [u8; 43] = [
     0xa1, 0xb2, 0xc3, 0xd4, 0, 2, 0, 4, 0, 0, 0, 0, 0, 0, 0, 0, 0, 4, 0, 0, 0, 0, 0, 1, 0, 0, 0, 5,
     0, 0, 0, 6, 0, 0, 0, 3, 0, 0, 0, 9, 7, 8, 9,
 ];
 
-// What was found of a packet.
+// The fields of a record that was read.
 #[derive(Clone, Copy, Debug, PartialEq, Eq)]
 struct Found {
     time: (u32, u32),
@@ -46,7 +48,8 @@ struct Found {
     side: Option<Side>,
 }
 
-// What became of a capture: its head, its packets, at most four, and how it ended, at what place.
+// The result of reading a capture: its head, its records, at most four, the fault at its end, and
+// the offset of that.
 #[derive(Clone, Copy, Debug, PartialEq, Eq)]
 struct Outcome {
     head: Option<(Order, bool, Link)>,
@@ -63,7 +66,7 @@ fn joined(rt: HostRuntime, parts: &[&[u8]]) -> Result<Vec<u8>, Fail> {
     Ok(octets)
 }
 
-// Reads a capture to its end, in pieces of so many octets.
+// Reads a capture to its end, in parts of `piece` octets.
 fn read_all(
     rt: HostRuntime,
     inside: Option<&[u8]>,
@@ -211,7 +214,7 @@ fn a_classic_file_is_read_as_before(rt: HostRuntime) -> Result<(), Fail> {
 fn a_classic_file_without_faults_is_refused_where_an_interface_is_asked_for(
     rt: HostRuntime,
 ) -> Result<(), Fail> {
-    // The octet that is changed, to what, and the fault.
+    // The offset of the changed octet, its new value, and the fault.
     let rows: [(usize, u8, InputFault); 4] = [
         (24, 0, InputFault::Block),
         (0, 0, InputFault::Magic),
@@ -265,7 +268,8 @@ fn a_capture_that_is_cut_short_is_told_at_its_head_record_or_block(
 
 #[test]
 fn a_source_that_fails_is_told(rt: HostRuntime) -> Result<(), Fail> {
-    // The call that fails, each giving four octets at most, and the place that is told.
+    // The call that fails, where each call returns at most four octets, and the offset of the
+    // fault.
     let rows: [(u32, u64); 6] = [(1, 0), (2, 0), (9, 28), (24, 60), (26, 92), (39, 92)];
     for (call, offset) in rows {
         let octets = joined(rt, &[&SECTION, &PACKET])?;

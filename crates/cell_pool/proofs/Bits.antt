@@ -1,4 +1,4 @@
--- What reads and writes of the packed bits do to the list of octets.
+-- The effect of reads and writes of the packed bits on the list of octets.
 use Rattle.std.proofs.Common.{◌≡◌, ℕ, zero, suc, ◌+◌, ◌-◌, ◌*◌, ◌/◌, ◌%◌, ◌^◌, ◌<◌, ◌≢◌, List, [], ◌∷◌, replicate, drop, min, length, get_or, set, Option, Some, None, IsNone, IsTrue, Bool, true, false, ◌↔◌, refl, sym, ap, ◌∙◌, arith, inl, inr, bit_and, bit_or, w64, length-set, length-append, length-drop, if◌then◌else◌, ◌==◌, ◌&&◌, nat_lt}
 use Rattle.std.specs.Int.{bit_at}
 use Rattle.std.specs.List.{All}
@@ -10,7 +10,7 @@ use Rattle.std.proofs.lemmas.Nat.Bits.{shr_and_one, bit_at_set_same, bit_at_set_
 use Rattle.cell_pool.specs.Packed.{octet_at, octets_of, HasBitsFrom}
 use Rattle.cell_pool.specs.Lists.{without_below}
 
--- `word & (MAX << place)` has the bits of the word from the place on
+-- `word & (MAX << place)` has the bits of `word` from `place` on
 pub bits_above : (word place : ℕ) → place < 64 → HasBitsFrom place word
     (bit_and word ((2 ^ 64 - 1) * 2 ^ place % 2 ^ 64))
 bits_above word place place_lt i i_lt =
@@ -30,7 +30,7 @@ pub length-octets_of : (values known : List ℕ) → length (octets_of values kn
 unfolding octets_of
 length-octets_of values known = length-map-range_with_len (octet_at values known) 0 256
 
--- a list of 256 places is the packed list if each place is
+-- a list of 256 elements is the packed list if each element is
 pub octets_by : (values known : List ℕ) (xs : List (Option ℕ)) → length xs ≡ 256 →
     ((i : ℕ) → i < 256 → get_or xs i None ≡ octet_at values known i) → octets_of values known ≡ xs
 unfolding octets_of
@@ -49,7 +49,7 @@ octet_none values known i not_one =
     let same = shr_and_one (get_or known (i / 64) 0) (i % 64) in
     grind (arith, nat_tests)
 
--- one octet is written, and its bit set
+-- one octet is written, and its bit is set
 module _ (values known : List ℕ) (at octet : ℕ) (lt : at < 256) (values_are : length values ≡ 256)
     (known_are : length known ≡ 4) where
   abbrev pub word : ℕ
@@ -91,7 +91,7 @@ module _ (values known : List ℕ) (at octet : ℕ) (lt : at < 256) (values_are 
       (set (octets_of values known) at (Some octet)) (length-set (octets_of values known) at (Some octet)
       ∙ length-octets_of values known) set_read
 
--- what stands at a place after those before `at` were cleared
+-- the element at an offset after those below `at` were cleared
 module _ (at : ℕ) (xs : List (Option ℕ)) where
   abbrev cleared : List (Option ℕ)
   cleared = replicate (min at (length xs)) None
@@ -117,7 +117,7 @@ module _ (at : ℕ) (xs : List (Option ℕ)) where
         ∙ (get_or-drop at xs (k - at) None ∙ ap (λ i. get_or xs i None) place))
   ]
 
--- each word has the bits of the old one for the places from `at` on
+-- each word has the old bits for the offsets from `at` on
 abbrev IsFrom : ℕ → List ℕ → List ℕ → Type 0
 IsFrom at known new = (j : ℕ) → j < 4 → HasBitsFrom (at - 64 * j) (get_or known j 0) (get_or new j 0)
 
@@ -137,7 +137,7 @@ octets_from values new known at from = octets_by values new (without_below at (o
     (λ k lt. without_read at (octets_of values known) k (omega (arith, length-octets_of values known))
     ∙ rw (octet_read values known k lt) (sym (from_read values new known at k lt from)))
 
--- the four words with the bits from these places on
+-- the four words with the bits from these offsets on
 module _ (values known : List ℕ) (at p q r s a b c d : ℕ) (p_is : p ≡ at) (q_is : q ≡ p - 64) (r_is : r ≡ p - 128)
     (s_is : s ≡ p - 192) where
   words_from : HasBitsFrom p (get_or known 0 0) a → HasBitsFrom q (get_or known 1 0) b →
@@ -155,7 +155,7 @@ module _ (values known : List ℕ) (at p q r s a b c d : ℕ) (p_is : p ≡ at) 
   octets_clear first second third fourth = octets_from values (a ∷ b ∷ c ∷ d ∷ []) known at
       (words_from first second third fourth)
 
--- where no bit is set no octet is there
+-- without a set bit there is no octet
 pub octets_none : (values : List ℕ) → octets_of values (0 ∷ 0 ∷ 0 ∷ 0 ∷ []) ≡ replicate 256 None
 unfolding octets_of
 octets_none values = refl
@@ -174,7 +174,7 @@ zero_bit n i v e = elim (cases_eq (bit_at n i) 1) [
   | inr not ↦ let lt = bit_at-lt n i in omega arith
 ]
 
--- a word is 0 where none of its places has an octet
+-- a word is 0 if none of its offsets has an octet
 zero_word : (values known : List ℕ) (j : ℕ) → j < 4 → get_or known j 0 < 2 ^ 64 →
     All (λ o. IsNone o) (octets_of values known) → get_or known j 0 ≡ 0
 zero_word values known j lt small all = same_from_bits_below 64 (get_or known j 0) 0 small (omega arith) (λ i i_lt.
@@ -187,7 +187,7 @@ zero_word values known j lt small all = same_from_bits_below 64 (get_or known j 
     let here : bit_at (get_or known j 0) i ≡ 0 = rw (word, bit) at zero_there in
     here ∙ sym (bit_at-zero i))
 
--- all words are 0 exactly where no place has an octet
+-- all words are 0 exactly if no offset has an octet
 pub none_left : (values : List ℕ) (a b c d : ℕ) (r : Bool) → a < 2 ^ 64 → b < 2 ^ 64 → c < 2 ^ 64 → d < 2 ^ 64 →
     r ≡ ((a == 0) && ((b == 0) && ((c == 0) && ((d == 0) && true)))) →
     IsTrue r ↔ All (λ o. IsNone o) (octets_of values (a ∷ b ∷ c ∷ d ∷ []))

@@ -1,4 +1,4 @@
--- What the free list is after a cell was taken from it or put in front of it.
+-- The free list after a cell was taken from it or put in front of it.
 use Rattle.std.proofs.Common.{◌≡◌, ℕ, zero, suc, ◌+◌, ◌-◌, ◌<◌, List, ◌∷◌, length, Option, Some, None, refl, sym, subst, arith}
 use Rattle.cell_pool.specs.declared.cells.Cell.{Cell}
 use Rattle.cell_pool.specs.declared.cells.Head.{Head}

@@ -1,4 +1,4 @@
--- What a pool is after a cell of a chain was given back.
+-- A pool after a cell of a chain was freed.
 use Rattle.std.proofs.Common.{◌≡◌, ℕ, ◌+◌, ◌-◌, ◌<◌, ◌≤◌, ◌≢◌, List, [], ◌∷◌, ◌++◌, length, get_or, set, Option, Some, None, refl, sym, ap, subst, ◌∙◌, arith, length-append}
 use Rattle.std.proofs.lemmas.List.{get_or-set_same, get_or_default}
 use Rattle.cell_pool.specs.declared.cells.Cell.{Cell}
@@ -67,7 +67,7 @@ module _ {heads : List Head} {cells : List Cell} {spare : Option CellId} {free :
       } in
       rw (x_read ∙ get_or_default cells given.0 _ blank_cell at.inside, head_read shows inside h_read) update
 
-  -- the cell behind a cell is freed
+  -- the cell after a cell is freed
   pub give_behind : {given a : CellId} {x y : Cell} (w : Cell) {mid : List Cell} {h : Head} {before : List Held}
       {z : Held} {rest : List Held} → y ≡ get_or cells a.0 y → y.next ≡ Some given → x ≡ get_or cells given.0 x →
       mid ≡ with_next cells a.0 x.next → w.next ≡ spare → w.owner ≡ None → h ≡ get_or heads c h →
@@ -107,7 +107,7 @@ module _ {heads : List Head} {cells : List Cell} {spare : Option CellId} {free :
       } in
       rw (mid_is, x_read ∙ get_or_default cells given.0 _ blank_cell at.inside, head_read shows inside h_read) update
 
-  -- where there is a first cell, the head names it
+  -- if there is a first cell, the head has its identifier
   pub front_given : {h : Head} → h ≡ get_or heads c h → HasCellAfter (chain_at pool c) None → h.first ≢ None
   front_given h_read has none =
       let (empty, z_first, z_at) = front_cell has.place in
@@ -127,7 +127,7 @@ module _ {heads : List Head} {cells : List Cell} {spare : Option CellId} {free :
   pub behind_inside : {a : CellId} → HasCellAfter (chain_at pool c) (Some a) → a.0 < length cells
   behind_inside has = (place_last shows inside has.place).inside
 
-  -- where there is a cell after this one, its link names it
+  -- if there is a cell after this one, its link has the identifier
   pub behind_given : {a : CellId} {y : Cell} → y ≡ get_or cells a.0 y → HasCellAfter (chain_at pool c) (Some a) →
       y.next ≢ None
   behind_given {a = a} y_read has none =
@@ -145,7 +145,7 @@ module _ {heads : List Head} {cells : List Cell} {spare : Option CellId} {free :
       let named : has.cell.id ≡ given = cc in
       subst (λ (k : CellId). k.0 < length cells) named z_at.inside
 
-  -- a chain with a cell has a count
+  -- a chain with a cell has a count of at least 1
   pub has_count : {after : Option CellId} {h : Head} → h ≡ get_or heads c h → HasCellAfter (chain_at pool c) after →
       1 ≤ h.count
   has_count h_read has =

@@ -1,4 +1,4 @@
--- What follows from links that lead through a list of cells, and what a write leaves of them.
+-- Consequences of links that lead through a list of cells, and what a write preserves of them.
 use Rattle.std.proofs.Common.{◌≡◌, ℕ, ◌<◌, ◌≤◌, ◌≢◌, List, [], ◌∷◌, ◌++◌, length, Option, Some, None, refl, sym, ap, subst, ◌∙◌, arith, length-append}
 use Rattle.cell_pool.specs.declared.cells.Cell.{Cell}
 use Rattle.cell_pool.specs.declared.cells.CellId.{CellId}
@@ -11,7 +11,7 @@ abbrev pub owner_number : Option ChainId → ℕ
 owner_number None = 0
 owner_number (Some k) = k.0
 
--- a list whose last cell has no name is empty
+-- a list whose last cell has no identifier is empty
 pub no_last : (xs : List Held) → last_id xs ≡ None → xs ≡ []
 no_last [] e = refl
 no_last (x ∷ []) e = absurd (let f : Some x.id ≡ None = e in cc)
@@ -29,7 +29,7 @@ pub record FoundAt (cells : List Cell) (o : Option ChainId) (i : CellId) (after 
   pub leads : Leads cells o (next_at cells i) after
 
 module _ (cells : List Cell) (o : Option ChainId) where
-  -- the links from one place lead through one list
+  -- the links from one start lead through one list
   pub Leads_unique : (link : Option CellId) (l m : List Held) → Leads cells o link l → Leads cells o link m → l ≡ m
   Leads_unique link [] [] p q = refl
   Leads_unique link [] (y ∷ ys) p q = let e : link ≡ Some y.id = q.0.named in cc
@@ -50,7 +50,7 @@ module _ (cells : List Cell) (o : Option ChainId) where
   first_is link [] p = p
   first_is link (x ∷ xs) p = p.0.named
 
-  -- from a cell itself the links lead through it
+  -- the links from a cell itself lead through it
   pub from_here : (i : CellId) (after : List Held) → FoundAt cells o i after →
       Leads cells o (Some i) (held_at cells i ∷ after)
   from_here i after at = (record { named = refl; inside = at.inside; owned = at.owned; is = refl }, at.leads)
@@ -62,7 +62,7 @@ module _ (cells : List Cell) (o : Option ChainId) where
       (record { inside = p.0.inside; owned = p.0.owned; leads = p.1 }, p.0.is)
   found link i (b ∷ bs) x after p named = found (next_at cells b.id) i bs x after p.1 named
 
-  -- the last cell of the part before a place
+  -- the last cell of the part before a position
   pub last_found : (link : Option CellId) (a : CellId) (before rest : List Held) →
       Leads cells o link (before ++ rest) → last_id before ≡ Some a → FoundAt cells o a rest
   last_found link a [] rest p last = absurd (let f : None ≡ Some a = last in cc)
@@ -71,7 +71,7 @@ module _ (cells : List Cell) (o : Option ChainId) where
       (found link a [] b rest p name).0
   last_found link a (b ∷ b2 ∷ bs) rest p last = last_found (next_at cells b.id) a (b2 ∷ bs) rest p.1 last
 
-  -- a cell of another owner is avoided
+  -- a list does not contain a cell of another owner
   pub avoids_other : (at : ℕ) (link : Option CellId) (l : List Held) → (cell_at cells at).owner ≢ o →
       Leads cells o link l → Avoids at l
   avoids_other at link [] other p = tt
@@ -80,7 +80,7 @@ module _ (cells : List Cell) (o : Option ChainId) where
     avoids_other at (next_at cells x.id) xs other p.1,
   )
 
-  -- a cell from which the list is not longer than what follows that cell is avoided
+  -- a list that is not longer than what follows a cell does not contain that cell
   pub avoids_farther : (i : CellId) (after : List Held) (link : Option CellId) (l : List Held) →
       FoundAt cells o i after → Leads cells o link l → length l ≤ length after → Avoids i.0 l
   avoids_farther i after link [] at p le = tt
@@ -100,13 +100,13 @@ module _ (cells : List Cell) (o : Option ChainId) where
   pub avoids_itself : (i : CellId) (after : List Held) → FoundAt cells o i after → Avoids i.0 after
   avoids_itself i after at = avoids_farther i after _ after at at.leads (omega arith)
 
-  -- a cell that leads to a longer list is another one
+  -- a cell that leads to a longer list is another cell
   pub is_other : (a i : CellId) (l m : List Held) → FoundAt cells o a l → FoundAt cells o i m → length l < length m →
       i.0 ≢ a.0
   is_other a i l m at at2 lt same = (avoids_farther i m _ (held_at cells a ∷ l) at2 (from_here a l at)
       (omega arith)).0 (sym same)
 
--- the list that was found is the one that is counted
+-- the list that was found is the list that is counted
 pub record IsWalked (cells : List Cell) (o : Option ChainId) (link : Option CellId) (n : ℕ)
     (l : List Held) : Type 0 where
   pub list : IsList cells o link n
@@ -118,7 +118,7 @@ walked cells o link n l leads count =
     let is : walk cells n link ≡ l = rw count (walk_is cells o link l leads) in
     record { list = record { leads = rw is leads; counted = rw is (sym count) }; is = is }
 
--- two lists of cells differ at most at these two places
+-- two lists of cells differ at most at these two indices
 pub record Changes (cells new : List Cell) (a i : ℕ) : Type 0 where
   pub len : length new ≡ length cells
   pub others : (j : ℕ) → j ≢ a → j ≢ i → cell_at new j ≡ cell_at cells j
@@ -136,7 +136,7 @@ module _ (cells new : List Cell) (a i : CellId) (changes : Changes cells new a.0
             p.is;
       }
 
-  -- a list that avoids both places is kept
+  -- a list that contains neither of the two cells is unchanged
   pub Leads-kept : (link : Option CellId) (l : List Held) → Avoids a.0 l → Avoids i.0 l → Leads cells o link l →
       Leads new o link l
   Leads-kept link [] p q leads = leads
@@ -144,7 +144,7 @@ module _ (cells new : List Cell) (a i : CellId) (changes : Changes cells new a.0
       let same = changes.others x.id.0 p.0 q.0 in
       (kept_next link x p.0 q.0 leads.0, rw (same, next_at) (Leads-kept (next_at cells x.id) xs p.1 q.1 leads.1))
 
-  -- cell i, of no owner or another, is put behind cell a
+  -- cell i, free or of another owner, is put after cell a
   pub insert_at : (cell_at cells i.0).owner ≢ o → cell_at new a.0 ≡ record (cell_at cells a.0) { next = Some i } →
       next_at new i ≡ next_at cells a → (cell_at new i.0).owner ≡ o → i.0 < length cells →
       (link : Option CellId) (before rest : List Held) → Leads cells o link (before ++ rest) →
@@ -184,7 +184,7 @@ module _ (cells new : List Cell) (a i : CellId) (changes : Changes cells new a.0
             (insert_at other linked fresh owned inside (next_at cells b.id) (b2 ∷ bs) rest p.1 last),
       )
 
-  -- cell i is taken out from behind cell a
+  -- cell i is removed from after cell a
   pub remove_at : cell_at new a.0 ≡ record (cell_at cells a.0) { next = next_at cells i } →
       (link : Option CellId) (before : List Held) (z : Held) (rest : List Held) →
       Leads cells o link (before ++ z ∷ rest) → last_id before ≡ Some a → z.id ≡ i → Leads new o link (before ++ rest)

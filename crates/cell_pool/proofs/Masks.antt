@@ -1,4 +1,4 @@
--- Masks of places, and what their bits tell of the packed octets.
+-- Masks of offsets, and what their bits mean for the packed octets.
 use Rattle.std.proofs.Common.{◌≡◌, ℕ, zero, suc, ◌+◌, ◌-◌, ◌*◌, ◌/◌, ◌%◌, ◌^◌, ◌<◌, ◌≤◌, List, [], ◌∷◌, min, get_or, Option, Some, None, IsSome, is_some, IsTrue, Bool, true, false, ◌↔◌, refl, sym, ap, ap₂, subst, ◌∙◌, arith, eq-eqb, inl, inr, bit_and, bit_xor, ◌==◌, ◌&&◌}
 use Rattle.std.specs.Int.{bit_at}
 use Rattle.std.proofs.lemmas.Bool.{cases_eq, cases_lt, lt-ltb, le-ltb}
@@ -9,7 +9,7 @@ use Rattle.cell_pool.specs.Packed.{octet_at, octets_of, HasBitsFrom, HasOnesBetw
 use Rattle.cell_pool.specs.Lists.{IsBlank, IsCovered}
 use Rattle.cell_pool.proofs.Bits.{octet_read}
 
--- the bits of `MAX` from a place on
+-- the bits of `MAX` from a bit on
 max_low : (place word i : ℕ) → HasBitsFrom place (2 ^ 64 - 1) word → i < 64 → i < place → bit_at word i ≡ 0
 max_low place word i from lt below = from i lt ∙ rw (lt-ltb i place below) refl
 
@@ -43,7 +43,7 @@ four P first second third fourth (suc (suc zero)) lt = third
 four P first second third fourth (suc (suc (suc zero))) lt = fourth
 four P first second third fourth (suc (suc (suc (suc j)))) lt = absurd (omega arith)
 
--- each word has the ones of its own places
+-- each word has the ones of its own offsets
 abbrev AreOnes : ℕ → ℕ → List ℕ → Type 0
 AreOnes at end words = (j : ℕ) → j < 4 → HasOnesBetween (at - 64 * j) (end - 64 * j) (get_or words j 0)
 
@@ -71,7 +71,7 @@ module _ (at end q r s x y z a b c d : ℕ) (q_is : q ≡ at - 64) (x_is : x ≡
   mask_words a_lt b_lt c_lt d_lt first second third fourth = mask_of at end (a ∷ b ∷ c ∷ d ∷ [])
       (four (λ j. get_or (a ∷ b ∷ c ∷ d ∷ []) j 0 < 2 ^ 64) a_lt b_lt c_lt d_lt) (words_ones first second third fourth)
 
--- what stands at a place, by its bit
+-- the element at an offset, by its bit
 pub octet_off : (values known : List ℕ) (i : ℕ) → bit_of known i ≡ 0 → octet_at values known i ≡ None
 octet_off values known i off = rw off refl
 
@@ -94,7 +94,7 @@ bit_on values known i some = elim (cases_eq (bit_of known i) 1) [
       cc
 ]
 
--- the bits of known places, where none of a run has an octet, or each
+-- the bits of the known offsets, if none of a run has an octet, or each has
 module _ (values known : List ℕ) (at len : ℕ) (fits : at + len ≤ 256) where
   blank_bits : IsBlank at len (octets_of values known) → (k : ℕ) → at ≤ k → k < at + len → bit_of known k ≡ 0
   blank_bits blank k above below =
@@ -113,7 +113,7 @@ module _ (values known : List ℕ) (at len : ℕ) (fits : at + len ≤ 256) wher
   covered_read covered i lt = octet_read values known (at + i) (omega arith)
       ∙ octet_on values known (at + i) (covered_bits covered (at + i) (omega arith) (omega arith))
 
--- the bits that the known places have in common with a mask
+-- the bits that the known offsets have in common with a mask
 module _ (values known mask : List ℕ) (at len : ℕ) (fits : at + len ≤ 256) (is : IsMask at (at + len) mask) where
   abbrev pub common : ℕ → ℕ
   common j = bit_and (get_or known j 0) (get_or mask j 0)
@@ -139,14 +139,14 @@ module _ (values known mask : List ℕ) (at len : ℕ) (fits : at + len ≤ 256)
       ∙ is.inside (at + i) (omega arith) (omega arith) (omega arith) in
       rw (octet_read values known (at + i) (omega arith), octet_on values known (at + i) (sym (common_inside i lt) ∙ one_there)) refl
 
-  -- a bit of a word, by its place
+  -- a bit of a word, by its offset
   place_bit : (words : List ℕ) (j i : ℕ) → i < 64 → bit_of words (64 * j + i) ≡ bit_at (get_or words j 0) i
   place_bit words j i lt =
       let word : (64 * j + i) / 64 ≡ j = omega arith in
       let bit : (64 * j + i) % 64 ≡ i = omega arith in
       rw (word, bit) refl
 
-  -- where the known places have this bit at each place of the mask, the common ones are so
+  -- if the known offsets have this bit at each offset of the mask, so have the common bits
   common_bits : (b : ℕ) → ((k : ℕ) → at ≤ k → k < at + len → bit_of known k ≡ b) → (j i : ℕ) → j < 4 → i < 64 →
       bit_at (common j) i ≡ min b (bit_at (get_or mask j 0) i)
   common_bits b each j i j_lt i_lt =

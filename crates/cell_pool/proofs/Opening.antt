@@ -1,4 +1,4 @@
--- The fields of a pool that was just opened.
+-- The fields of a new pool.
 use Rattle.std.proofs.Common.{◌≡◌, ℕ, zero, suc, ◌+◌, ◌-◌, ◌<◌, ◌^◌, List, [], ◌∷◌, ◌++◌, map, Option, Some, None, refl, ap, subst, arith, replicate, length-append}
 use Rattle.std.specs.List.{sum_by}
 use Rattle.std.proofs.lemmas.List.{length-replicate, get_or_append_left}
@@ -12,7 +12,7 @@ use Rattle.cell_pool.specs.Lists.{Held}
 use Rattle.cell_pool.specs.Links.{cell_at, next_at, held_at, head_at, walk, cells_of, lists_of, blank_cell, blank_head, Leads, IsSound, IsSpare}
 use Rattle.cell_pool.proofs.Links.{walked}
 
--- one cell more at the end changes no list of those before it
+-- a cell pushed at the end changes no list of the cells before it
 Leads-push : (cells : List Cell) (y : Cell) (o : Option ChainId) (link : Option CellId) (l : List Held) →
     Leads cells o link l → Leads (cells ++ y ∷ []) o link l
 Leads-push cells y o link [] p = p
@@ -48,7 +48,7 @@ spare_push cells n first y spare next owner =
           (omega (arith, spare.free_list.counted))).list;
     }
 
--- the heads of chains with no cell
+-- the heads of empty chains
 head_at-blank : (n c : ℕ) → head_at (replicate n blank_head) c ≡ blank_head
 head_at-blank zero c = refl
 head_at-blank (suc n) zero = refl

@@ -1,4 +1,4 @@
--- What a pool is after the octets of one cell were written.
+-- A pool after the octets of one cell were written.
 use Rattle.std.proofs.Common.{◌≡◌, ℕ, List, ◌∷◌, ◌++◌, length, get_or, set, Option, None, refl, sym, ap, subst, ◌∙◌, arith, length-append}
 use Rattle.std.proofs.lemmas.List.{get_or-set_same, get_or_default, set-get_or}
 use Rattle.cell_pool.specs.declared.cells.Cell.{Cell}

@@ -1,4 +1,4 @@
--- A cell whose owner is a chain is in that chain: all lists together have as many cells as there are, and none stands twice.
+-- A cell whose owner is a chain is in that chain: the lengths of all lists add up to the number of cells, and no cell occurs twice.
 use Rattle.std.proofs.Common.{◌≡◌, ℕ, zero, suc, ◌+◌, ◌<◌, ◌≤◌, ◌≢◌, ◌⊎◌, inl, inr, List, [], ◌∷◌, ◌++◌, map, length, get_or, Option, Some, None, true, false, refl, sym, ap, subst, ◌∙◌, arith, length-append}
 use Rattle.std.specs.List.{sum_by, list_any, AllByRecursion, IsDistinct}
 use Rattle.std.proofs.Math.Dec.{eqb}
@@ -20,7 +20,7 @@ use Rattle.cell_pool.proofs.Views.{Shows, within, chain_is, stands_is}
 abbrev index : Held → ℕ
 index x = x.id.0
 
--- none of the cells stands twice
+-- no cell occurs twice
 abbrev IsApart : List Held → Type 0
 IsApart [] = Unit {0}
 IsApart (x ∷ xs) = Avoids x.id.0 xs × IsApart xs
@@ -62,7 +62,7 @@ IsBelow-append : (n : ℕ) (xs ys : List Held) → IsBelow n xs → IsBelow n ys
 IsBelow-append n [] ys p q = q
 IsBelow-append n (x ∷ xs) ys p q = (p.0, IsBelow-append n xs ys p.1 q)
 
--- cells that do not stand twice are at most as many as there are indices
+-- cells that do not occur twice are at most as many as there are indices
 differs : (at : ℕ) (xs : List Held) → Avoids at xs → AllByRecursion (λ y. eqb at y ≡ false) (map index xs)
 differs at [] p = tt
 differs at (x ∷ xs) p = (
@@ -92,7 +92,7 @@ module _ (cells : List Cell) where
   leads_below o link [] p = tt
   leads_below o link (x ∷ xs) p = (p.0.inside, leads_below o (next_at cells x.id) xs p.1)
 
-  -- a list of one owner, before others that avoid its cells
+  -- a list of one owner, before others that do not contain its cells
   leads_apart : (o : Option ChainId) (link : Option CellId) (l others : List Held) → Leads cells o link l →
       IsApart others → ((i : ℕ) → (cell_at cells i).owner ≡ o → Avoids i others) → IsApart (l ++ others)
   leads_apart o link [] others p apart away = apart
@@ -124,7 +124,7 @@ module _ (cells : List Cell) where
             (each (suc c) (omega arith))),
       )
 
-  -- a cell is avoided by chains that do not own it
+  -- chains that do not own a cell do not contain it
   away : (k : ℕ) (heads : List Head) → AreLists k heads → (i : ℕ) →
       ((j : ℕ) → k ≤ j → (cell_at cells i).owner ≢ owner_of j) → Avoids i (gathered heads)
   away k [] lists i other = tt
@@ -132,7 +132,7 @@ module _ (cells : List Cell) where
       (avoids_other cells (owner_of k) i h.first (cells_of cells h) (other k (omega arith)) lists.0.leads)
       (away (suc k) hs lists.1 i (λ j le. other j (omega arith)))
 
-  -- and by the others where the one that owns it avoids it
+  -- no chain contains the cell if the chain that owns it does not
   away_but : (k : ℕ) (heads : List Head) → AreLists k heads → (i c : ℕ) → (cell_at cells i).owner ≡ owner_of (k + c) →
       c < length heads → Avoids i (cells_of cells (head_at heads c)) → Avoids i (gathered heads)
   away_but k [] lists i c owned lt avoids = tt
@@ -176,7 +176,7 @@ module _ {heads : List Head} {cells : List Cell} {spare : Option CellId} {free :
       subst (λ n. IsList cells (owner_of n) (head_at heads k).first (head_at heads k).count) same
       (shows.sound.chain_lists k lt))
 
-  -- no cell of the chain is avoided by its list
+  -- the list of the chain contains each cell of that owner
   not_avoided : (i : CellId) → i.0 < length cells → (cell_at cells i.0).owner ≡ owner_of c →
       Avoids i.0 (cells_of cells (head_at heads c)) → ⊥
   not_avoided i lt owned avoids =
@@ -207,7 +207,7 @@ module _ {heads : List Head} {cells : List Cell} {spare : Option CellId} {free :
         shows.sound.total,
       )
 
-  -- a cell of the chain stands in it
+  -- a cell of this owner is in the chain
   pub owned_stands : (i : CellId) (block : ℕ) → i.0 < length cells → (cell_at cells i.0).owner ≡ owner_of c →
       (cell_at cells i.0).block ≤ block → StandsUpTo pool c block i
   owned_stands i block lt owned up_to = elim (look i.0 (cells_of cells (head_at heads c))) [
@@ -228,7 +228,7 @@ module _ {heads : List Head} {cells : List Cell} {spare : Option CellId} {free :
         }
   ]
 
-  -- a cell that was read, of this owner
+  -- the same of a cell that was read
   pub read_stands : {i : CellId} {block : ℕ} {x : Cell} {owner : ChainId} {read : List Cell} → read ≡ cells →
       i.0 < length read → x ≡ get_or read i.0 blank_cell → x.owner ≡ Some owner → owner.0 ≡ c → x.block ≤ block →
       StandsUpTo pool c block i

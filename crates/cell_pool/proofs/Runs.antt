@@ -1,4 +1,4 @@
--- Runs of octets: compared, copied out, and put in.
+-- Runs of octets: compared, copied out, and written.
 use Rattle.std.proofs.Common.{◌≡◌, ℕ, ◌+◌, ◌-◌, ◌/◌, ◌%◌, ◌<◌, ◌≤◌, List, [], ◌∷◌, ◌++◌, map, length, get_or, take, drop, Option, Some, None, IsTrue, Bool, Decides, ◌↔◌, if◌then◌else◌, ◌==◌, refl, sym, ap, ap₂, ◌∙◌, arith, inl, inr, bit_or, length-append, max}
 use Rattle.std.specs.Int.{bit_at}
 use borrow.Rule.Slice.PartMut.{put_mid}
@@ -12,7 +12,7 @@ use Rattle.cell_pool.specs.Lists.{IsCovered, StandsFrom, with_run}
 use Rattle.cell_pool.proofs.Bits.{octet_read, octets_by, length-octets_of}
 use Rattle.cell_pool.proofs.Masks.{covered_read, octet_on, four}
 
--- the octets in place of a run of values
+-- the values of a run at whose offsets octets are known
 module _ (values known : List ℕ) (at len : ℕ) (fits : at + len ≤ 256) (long : length values ≡ 256)
     (covered : IsCovered at len (octets_of values known)) where
   part_read : (i : ℕ) → i < len → get_or (between at (at + len) values) i 0 ≡ get_or values (at + i) 0
@@ -79,7 +79,7 @@ octet_same : (values other known words : List ℕ) (i : ℕ) → bit_of known i 
     octet_at values known i ≡ octet_at other words i
 octet_same values other known words i bit value = ap₂ (λ b v. if b == 1 then Some v else None) bit value
 
--- a run is put in, and its bits are set
+-- a run is written, and its bits are set
 module _ (values known mask run : List ℕ) (at len : ℕ) (size : length run ≡ len) (fits : at + len ≤ 256)
     (is : IsMask at (at + len) mask) (long : length values ≡ 256) where
   abbrev pub words : List ℕ

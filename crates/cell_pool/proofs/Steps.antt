@@ -1,10 +1,10 @@
--- What one call more leaves of a pool whose chains are known.
+-- The effect of one call on a pool whose chains are known.
 use Rattle.std.proofs.Common.{◌≡◌, ℕ, suc, ◌+◌, ◌-◌, ◌<◌, List, [], ◌∷◌, ◌++◌, length, get_or, set, Option, Some, None, IsNone, IfSome, refl, sym, ap, ◌∙◌, arith}
 use Rattle.std.proofs.lemmas.List.{append-nil}
 use Rattle.cell_pool.specs.declared.cells.CellId.{CellId}
 use Rattle.cell_pool.specs.Lists.{Lists, Held, chain_at, empty_cell, last_id, BeginsAbove, EndsBelow, IsPlace, HasPlaceFor, HasCellAfter, TakesAfter, GivesBackAfter}
 
--- the pool has these chains, and so many cells are free
+-- the pool has these chains, and `free` cells are free
 pub record Has (pool : Lists) (chains : List (List Held)) (free : ℕ) : Type 0 where
   pub chains_are : pool.chains ≡ chains
   pub free_is : pool.free ≡ free
@@ -83,7 +83,7 @@ has_first has =
     let here = ap (λ (l : List (List Held)). get_or l 0 []) has.chains_are in
     record { chains_are = rw here has.chains_are; free_is = has.free_is }
 
--- the first chain ends with this cell, and its block numbers are below this one
+-- the first chain ends with this cell, and its block numbers are below `block`
 pub record IsFilled (pool : Lists) (free block : ℕ) (last : Option CellId) : Type 0 where
   pub has : HasFirst pool free
   pub last_is : last_id (chain_at pool 0) ≡ last

@@ -1,4 +1,4 @@
--- What a pool is after a free cell was taken into a chain.
+-- A pool after a free cell was taken into a chain.
 use Rattle.std.proofs.Common.{◌≡◌, ℕ, ◌+◌, ◌-◌, ◌<◌, ◌≢◌, List, ◌∷◌, ◌++◌, length, get_or, set, Option, Some, None, IfSome, refl, sym, ap, subst, ◌∙◌, arith, length-append}
 use Rattle.std.proofs.lemmas.List.{get_or-set_same, get_or_default}
 use Rattle.cell_pool.specs.declared.cells.Cell.{Cell}
@@ -51,7 +51,7 @@ module _ {heads : List Head} {cells : List Cell} {spare : Option CellId} {free :
       rw (y_is, x_read ∙ get_or_default cells taken.0 _ blank_cell head.at.inside, head_read shows inside h_read)
       update
 
-  -- a free cell is put behind a cell
+  -- a free cell is put after a cell
   pub take_behind : {taken a : CellId} {block : ℕ} {x y z : Cell} {mid : List Cell} {h : Head}
       {before rest : List Held} → spare ≡ Some taken → x ≡ get_or cells taken.0 x → y ≡ get_or cells a.0 y →
       mid ≡ with_next cells a.0 (Some taken) → z ≡ fresh_cell y.next (record { 0 = c }) block → h ≡ get_or heads c h → IsPlace (chain_at pool c) (Some a) before rest →
@@ -106,7 +106,7 @@ module _ {heads : List Head} {cells : List Cell} {spare : Option CellId} {free :
   take_rises cell has = IsRising-more has.before has.rest cell
       (subst IsRising has.place.splits (chain_rises shows inside)) has.above has.below
 
--- at the front nothing stands before the new cell
+-- at the front no cell is before the new one
 pub front_order : (l : List Held) (after : Option CellId) (block : ℕ) → after ≡ None → HasPlaceFor l after block →
     BeginsAbove block l
 front_order l after block front has =

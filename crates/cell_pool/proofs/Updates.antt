@@ -1,4 +1,4 @@
--- What a pool is after one chain, the free list and at most two cells were written.
+-- A pool after one chain, the free list and at most two cells were written.
 use Rattle.std.proofs.Common.{◌≡◌, ℕ, zero, suc, ◌+◌, ◌<◌, ◌≢◌, List, [], ◌∷◌, map, length, set, Option, None, refl, sym, ap, ◌∙◌, arith, inl, inr, length-set}
 use Rattle.std.proofs.lemmas.Bool.{cases_eq}
 use Rattle.std.proofs.lemmas.List.{get_or-set_same, get_or-set_other}
@@ -109,7 +109,7 @@ one_change cells i x = record {
       blank_cell ne;
 }
 
--- the cells after a link of one and then another were written
+-- the cells after a link of one and then another cell were written
 module _ (cells : List Cell) (a i : CellId) (next : Option CellId) (x : Cell) where
   pub two_changes : Changes cells (set (with_next cells a.0 next) i.0 x) a.0 i.0
   two_changes = record {

@@ -1,4 +1,4 @@
--- What stands in the fields of a pool, from what contracts see of it.
+-- The fields of a pool, from what contracts see of it.
 use Rattle.std.proofs.Common.{◌≡◌, ℕ, ◌<◌, List, ◌++◌, length, get_or, Option, Some, sym, ap, subst, ◌∙◌, arith}
 use Rattle.std.proofs.lemmas.List.{length-map, get_or-map, get_or_default}
 use Rattle.cell_pool.specs.declared.cells.Cell.{Cell}
@@ -42,7 +42,7 @@ module _ {heads : List Head} {cells : List Cell} {spare : Option CellId} {free :
     pub chain_rises : IsRising (chain_at pool c)
     chain_rises = subst IsRising chain_is (shows.sound.rising c within)
 
-    -- what was read is the head of the chain
+    -- the value read is the head of the chain
     pub head_read : {h : Head} → h ≡ get_or heads c h → h ≡ head_at heads c
     head_read read = read ∙ get_or_default heads c _ blank_head within
 
@@ -51,7 +51,7 @@ module _ {heads : List Head} {cells : List Cell} {spare : Option CellId} {free :
         (before ++ rest)
     place_leads place = subst (Leads cells (owner_of c) (head_at heads c).first) place.splits chain_leads
 
-    -- the cell before a place
+    -- the cell before a position
     pub place_last : {a : CellId} {before rest : List Held} → IsPlace (chain_at pool c) (Some a) before rest →
         FoundAt cells (owner_of c) a rest
     place_last {a = a} {before = before} {rest = rest} place = last_found cells (owner_of c) _ a before rest
@@ -74,10 +74,10 @@ module _ {heads : List Head} {cells : List Cell} {spare : Option CellId} {free :
     pub held_inside : IsHeld pool name → name.0 < length cells
     held_inside held = (stands_at held.stands).inside
 
-    -- what was read is the cell of this name
+    -- the value read is the cell with this identifier
     pub cell_read : IsHeld pool name → {x : Cell} → x ≡ get_or cells name.0 x → x ≡ cell_at cells name.0
     cell_read held read = read ∙ get_or_default cells name.0 _ blank_cell (held_inside held)
 
--- a cell of which something holds is in a chain
+-- a cell of whose octets something holds is in a chain
 pub just_held : {pool : Lists} {name : CellId} {P : List (Option ℕ) → Type 0} → IsHeldWith pool name P → IsHeld pool name
 just_held held = record { chain = held.chain; before = held.before; cell = held.cell; after = held.after; stands = held.stands }

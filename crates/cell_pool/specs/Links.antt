@@ -1,4 +1,4 @@
--- How the cells of each chain and the free cells are threaded by index through one list of cells (this project's profile).
+-- How chains and the free list are linked by index through one list of cells (this project's profile).
 use Rattle.std.specs.Prelude.{◌≡◌, ℕ, zero, suc, ◌+◌, ◌<◌, ◌^◌, List, [], ◌∷◌, length, map, Option, Some, None, replicate, slice_index_or, slice_set}
 use Rattle.std.specs.List.{sum_by}
 use Rattle.cell_pool.specs.declared.cells.Cell.{Cell}
@@ -7,54 +7,54 @@ use Rattle.cell_pool.specs.declared.cells.CellId.{CellId}
 use Rattle.cell_pool.specs.declared.cells.ChainId.{ChainId}
 use Rattle.cell_pool.specs.Lists.{Lists, Held, IsRising}
 
--- What is read past the end of the cells.
+-- The value of a read past the end of the cells.
 abbrev pub blank_cell : Cell
 blank_cell = record { next = None; owner = None; block = 0; octets = [] }
 
--- The head of a chain with no cell.
+-- The head of an empty chain.
 abbrev pub blank_head : Head
 blank_head = record { first = None; count = 0 }
 
--- The cell of this index.
+-- The cell at this index, or `blank_cell` past the end.
 abbrev pub cell_at : List Cell → ℕ → Cell
 cell_at cells i = slice_index_or cells i blank_cell
 
--- The head of this chain.
+-- The head of this chain, or `blank_head` past the end.
 abbrev pub head_at : List Head → ℕ → Head
 head_at heads c = slice_index_or heads c blank_head
 
--- The link of the cell of this name.
+-- The link of the cell with this identifier.
 abbrev pub next_at : List Cell → CellId → Option CellId
 next_at cells i = (cell_at cells i.0).next
 
--- The cell of this name, as contracts see it.
+-- The cell with this identifier, as contracts see it.
 abbrev pub held_at : List Cell → CellId → Held
 held_at cells i = record { id = i; block = (cell_at cells i.0).block; octets = (cell_at cells i.0).octets }
 
--- The first n cells along the links from this one on.
+-- At most `n` cells along the links, from this link on.
 abbrev pub walk : List Cell → ℕ → Option CellId → List Held
 walk cells zero link = []
 walk cells (suc n) None = []
 walk cells (suc n) (Some i) = held_at cells i ∷ walk cells n (next_at cells i)
 
--- The link leads to this cell, which is one of the cells and has this owner.
+-- The link leads to this cell, which is inside the list of cells and has this owner.
 pub record IsNext (cells : List Cell) (owner : Option ChainId) (link : Option CellId) (x : Held) : Type 0 where
   pub named : link ≡ Some x.id
   pub inside : x.id.0 < length cells
   pub owned : (cell_at cells x.id.0).owner ≡ owner
   pub is : held_at cells x.id ≡ x
 
--- The links from this one on lead through exactly these cells, each of this owner, to the end.
+-- The links from this one on visit exactly these cells, each of this owner, and end.
 abbrev pub Leads : List Cell → Option ChainId → Option CellId → List Held → Type 0
 Leads cells owner link [] = link ≡ None
 Leads cells owner link (x ∷ xs) = IsNext cells owner link x × Leads cells owner (next_at cells x.id) xs
 
--- The links from this one on lead through exactly n cells, each of this owner, to the end.
+-- The links from this one on visit exactly `n` cells, each of this owner, and end.
 pub record IsList (cells : List Cell) (owner : Option ChainId) (link : Option CellId) (n : ℕ) : Type 0 where
   pub leads : Leads cells owner link (walk cells n link)
   pub counted : length (walk cells n link) ≡ n
 
--- The cells of a chain.
+-- The cells of the chain with this head.
 abbrev pub cells_of : List Cell → Head → List Held
 cells_of cells head = walk cells head.count head.first
 
@@ -62,12 +62,12 @@ cells_of cells head = walk cells head.count head.first
 abbrev pub lists_of : List Head → List Cell → ℕ → Lists
 lists_of heads cells free = record { chains = map (cells_of cells) heads; free = free; cells = length cells }
 
--- The owner of the cells of a chain.
+-- The owner field of the cells of chain `c`.
 abbrev pub owner_of : ℕ → Option ChainId
 owner_of c = Some (record { 0 = c })
 
--- Each cell is in exactly one list, a chain or the free list; block numbers rise along a chain.
--- For each list ends and has only cells that it owns, so no cell stands twice, and together they have as many as there are.
+-- Each cell is in exactly one list: one of the chains, or the free list. Block numbers rise along a chain. This follows because each list ends and contains
+-- only cells that it owns, and the lengths of all lists add up to the number of cells.
 pub record IsSound (heads : List Head) (cells : List Cell) (spare : Option CellId) (free : ℕ) : Type 0 where
   pub free_list : IsList cells None spare free
   pub chain_lists : (c : ℕ) → c < length heads →
@@ -76,15 +76,15 @@ pub record IsSound (heads : List Head) (cells : List Cell) (spare : Option CellI
   pub total : free + sum_by (λ h. h.count) heads ≡ length cells
   pub room : length cells + length heads < 2 ^ 32
 
--- The cells where one leads on to another.
+-- The cells after the link of cell `i` is set to `next`.
 abbrev pub with_next : List Cell → ℕ → Option CellId → List Cell
 with_next cells i next = slice_set cells i (record (cell_at cells i) { next = next })
 
--- An empty cell of a chain, before the next.
+-- An empty cell of chain `owner`, linked to `next`.
 abbrev pub fresh_cell : Option CellId → ChainId → ℕ → Cell
 fresh_cell next owner block = record { next = next; owner = Some owner; block = block; octets = replicate 256 None }
 
--- So many cells, all in the free list.
+-- The list has `count` cells, all of them in the free list.
 pub record IsSpare (cells : List Cell) (count : ℕ) (first : Option CellId) : Type 0 where
   pub number : length cells ≡ count
   pub free_list : IsList cells None first count

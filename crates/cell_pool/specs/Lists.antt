@@ -1,14 +1,14 @@
--- What contracts see of a pool (this project's profile): per chain a list of cells, and how many cells are free.
+-- What contracts see of a pool (this project's profile): the list of cells of each chain, and the number of free cells.
 use Rattle.std.specs.Prelude.{◌≡◌, ℕ, ◌+◌, ◌-◌, ◌<◌, ◌≤◌, List, [], ◌∷◌, ◌++◌, length, map, Option, Some, None, IsSome, replicate, slice_index, slice_index_or, slice_set, min, take, drop}
 use Rattle.cell_pool.specs.declared.cells.CellId.{CellId}
 
--- A cell of a chain: its name, its block number, and at each of its 256 places an octet or nothing.
+-- A cell of a chain: its identifier, its block number, and an octet or nothing at each of its 256 offsets.
 pub record Held : Type 0 where
   pub id : CellId
   pub block : ℕ
   pub octets : List (Option ℕ)
 
--- The cells of each chain, in order; how many cells are free; how many there were at opening.
+-- The cells of each chain, in order; the number of free cells; the number of cells at opening.
 pub record Lists : Type 0 where
   pub chains : List (List Held)
   pub free : ℕ
@@ -18,67 +18,67 @@ pub record Lists : Type 0 where
 abbrev pub chain_at : Lists → ℕ → List Held
 chain_at pool chain = slice_index_or pool.chains chain []
 
--- The pool where this chain has these cells, and so many cells are free; all else stays.
+-- The pool in which this chain has these cells and `free` cells are free; all else is unchanged.
 abbrev pub with_chain : Lists → ℕ → List Held → ℕ → Lists
 with_chain pool chain cells free = record pool { chains = slice_set pool.chains chain cells; free = free }
 
--- A cell with no octet.
+-- A cell without octets.
 abbrev pub empty_cell : CellId → ℕ → Held
 empty_cell id block = record { id = id; block = block; octets = replicate 256 None }
 
--- The octets without those before this place.
+-- The octets, with nothing at the offsets below `at`.
 abbrev pub without_below : ℕ → List (Option ℕ) → List (Option ℕ)
 without_below at octets = replicate (min at (length octets)) None ++ drop at octets
 
--- The octets with these from this place on, whatever stood there.
+-- The octets, with `run` written from offset `at` on.
 abbrev pub with_run : ℕ → List ℕ → List (Option ℕ) → List (Option ℕ)
 with_run at run octets = take at octets ++ map (λ octet. Some octet) run ++ drop (at + length run) octets
 
--- None of so many places from this one on has an octet.
+-- None of the `len` offsets from `at` on has an octet.
 abbrev pub IsBlank : ℕ → ℕ → List (Option ℕ) → Type 0
 IsBlank at len octets = (i : ℕ) → i < len → slice_index_or octets (at + i) None ≡ None
 
--- Each of so many places from this one on has an octet.
+-- Each of the `len` offsets from `at` on has an octet.
 abbrev pub IsCovered : ℕ → ℕ → List (Option ℕ) → Type 0
 IsCovered at len octets = (i : ℕ) → i < len → IsSome (slice_index_or octets (at + i) None)
 
--- These octets stand from this place on.
+-- The octets from offset `at` on are those of `run`.
 abbrev pub StandsFrom : ℕ → List ℕ → List (Option ℕ) → Type 0
 StandsFrom at run octets = (i : ℕ) → i < length run → slice_index_or octets (at + i) None ≡ Some (slice_index run i)
 
--- The name of the first cell.
+-- The identifier of the first cell.
 abbrev pub first_id : List Held → Option CellId
 first_id [] = None
 first_id (x ∷ xs) = Some x.id
 
--- The name of the last cell.
+-- The identifier of the last cell.
 abbrev pub last_id : List Held → Option CellId
 last_id [] = None
 last_id (x ∷ []) = Some x.id
 last_id (x ∷ y ∷ ys) = last_id (y ∷ ys)
 
--- The first cell, if there is one, has a block number above this one.
+-- The first cell, if there is one, has a block number above `block`.
 abbrev pub BeginsAbove : ℕ → List Held → Type 0
 BeginsAbove block [] = Unit {0}
 BeginsAbove block (x ∷ xs) = block < x.block
 
--- The last cell, if there is one, has a block number below this one.
+-- The last cell, if there is one, has a block number below `block`.
 abbrev pub EndsBelow : ℕ → List Held → Type 0
 EndsBelow block [] = Unit {0}
 EndsBelow block (x ∷ []) = x.block < block
 EndsBelow block (x ∷ y ∷ ys) = EndsBelow block (y ∷ ys)
 
--- The block numbers rise.
+-- The block numbers rise strictly.
 abbrev pub IsRising : List Held → Type 0
 IsRising [] = Unit {0}
 IsRising (x ∷ xs) = BeginsAbove x.block xs × IsRising xs
 
--- The place after this cell, or at the front where none is given, is between these two parts of the chain.
+-- The position after the cell `after` (the front where it is `None`) splits the chain into these two parts.
 pub record IsPlace (cells : List Held) (after : Option CellId) (before rest : List Held) : Type 0 where
   pub splits : cells ≡ before ++ rest
   pub ends : last_id before ≡ after
 
--- There is a place after this cell, where a cell of this block number keeps the order.
+-- The position after this cell exists, and a cell of this block number keeps the order there.
 pub record HasPlaceFor (cells : List Held) (after : Option CellId) (block : ℕ) : Type 0 where
   pub before : List Held
   pub rest : List Held
@@ -86,32 +86,32 @@ pub record HasPlaceFor (cells : List Held) (after : Option CellId) (block : ℕ)
   pub above : EndsBelow block before
   pub below : BeginsAbove block rest
 
--- A cell stands at the place after this one.
+-- A cell follows the position after this one.
 pub record HasCellAfter (cells : List Held) (after : Option CellId) : Type 0 where
   pub before : List Held
   pub cell : Held
   pub rest : List Held
   pub place : IsPlace cells after before (cell ∷ rest)
 
--- The chain has one cell more at this place, one cell fewer is free, and all else stays.
+-- The chain has gained `cell` at this position, one cell fewer is free, and all else is unchanged.
 abbrev pub TakesAfter : Lists → Lists → ℕ → Option CellId → Held → Type 0
 TakesAfter old new chain after cell =
     (before rest : List Held) → IsPlace (chain_at old chain) after before rest →
     new ≡ with_chain old chain (before ++ cell ∷ rest) (old.free - 1)
 
--- The chain no longer has the cell at this place, one cell more is free, and all else stays.
+-- The chain has lost the cell at this position, one cell more is free, and all else is unchanged.
 abbrev pub GivesBackAfter : Lists → Lists → ℕ → Option CellId → Type 0
 GivesBackAfter old new chain after =
     (before : List Held) (x : Held) (rest : List Held) → IsPlace (chain_at old chain) after before (x ∷ rest) →
     new ≡ with_chain old chain (before ++ rest) (old.free + 1)
 
--- The cell of this name stands in this chain between these.
+-- The cell with this identifier is in this chain, between these cells.
 pub record Stands (pool : Lists) (chain : ℕ) (name : CellId) (before : List Held) (x : Held) (after : List Held) : Type 0 where
   pub inside : chain < length pool.chains
   pub splits : chain_at pool chain ≡ before ++ x ∷ after
   pub named : x.id ≡ name
 
--- The cell of this name is in a chain.
+-- The cell with this identifier is in a chain.
 pub record IsHeld (pool : Lists) (name : CellId) : Type 0 where
   pub chain : ℕ
   pub before : List Held
@@ -119,7 +119,7 @@ pub record IsHeld (pool : Lists) (name : CellId) : Type 0 where
   pub after : List Held
   pub stands : Stands pool chain name before cell after
 
--- The cell of this name is in this chain, and its block number is not above this one.
+-- The cell with this identifier is in this chain, and its block number is at most `block`.
 pub record StandsUpTo (pool : Lists) (chain block : ℕ) (name : CellId) : Type 0 where
   pub before : List Held
   pub cell : Held
@@ -127,7 +127,7 @@ pub record StandsUpTo (pool : Lists) (chain block : ℕ) (name : CellId) : Type 
   pub stands : Stands pool chain name before cell after
   pub up_to : cell.block ≤ block
 
--- The cell of this name is in a chain, and this holds of its octets.
+-- The cell with this identifier is in a chain, and `P` holds of its octets.
 pub record IsHeldWith (pool : Lists) (name : CellId) (P : List (Option ℕ) → Type 0) : Type 0 where
   pub chain : ℕ
   pub before : List Held
@@ -136,24 +136,24 @@ pub record IsHeldWith (pool : Lists) (name : CellId) (P : List (Option ℕ) → 
   pub stands : Stands pool chain name before cell after
   pub holds : P cell.octets
 
--- Wherever the cell of this name stands, this holds of it and of the cells after it.
+-- Wherever the cell with this identifier is, `P` holds of it and of the cells after it.
 abbrev pub Wherever : Lists → CellId → (Held → List Held → Type 0) → Type 0
 Wherever pool name P =
     (chain : ℕ) (before : List Held) (x : Held) (after : List Held) →
     Stands pool chain name before x after → P x after
 
--- Wherever the cell of this name stands, its octets have become these, and all else stays.
+-- Wherever the cell with this identifier is, `f` has been applied to its octets, and all else is unchanged.
 abbrev pub Writes : Lists → Lists → CellId → (List (Option ℕ) → List (Option ℕ)) → Type 0
 Writes old new name f =
     (chain : ℕ) (before : List Held) (x : Held) (after : List Held) → Stands old chain name before x after →
     new ≡ with_chain old chain (before ++ record x { octets = f x.octets } ∷ after) old.free
 
--- Two places are one.
+-- Two positions are the same.
 pub record IsOnePlace (chain other : ℕ) (before other_before : List Held) : Type 0 where
   pub chain_is : chain ≡ other
   pub before_is : before ≡ other_before
 
--- The name stands at one place at most in all chains.
+-- The identifier occurs at most once in all chains.
 abbrev pub StandsOnce : Lists → CellId → Type 0
 StandsOnce pool name =
     (chain other : ℕ) (before other_before : List Held) (x y : Held) (after other_after : List Held) →

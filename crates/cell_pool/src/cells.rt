@@ -6,26 +6,27 @@ use crate::octets::Octets;
 use edge_io::NoMemory;
 use std::alloc::Global;
 
-/// The number of a chain, below the number of chains of its pool.
+/// Number of a chain, below the number of chains of its pool.
 #[derive(Clone, Copy, Debug, PartialEq, Eq)]
 pub struct ChainId(pub u32);
 
-/// The name of a cell, which holds while the cell is in a chain.
+/// Identifier of a cell, valid while the cell is in a chain.
 #[derive(Clone, Copy, Debug, PartialEq, Eq)]
 pub struct CellId(pub(crate) u32);
 
-/// A cell of a chain or of the free list.
+/// Cell of a chain or of the free list.
 #[derive(Drop)]
 pub(crate) struct Cell {
-    /// The next cell of the same chain, or of the free list.
+    /// Next cell of the same chain, or of the free list.
     pub(crate) next: Option<CellId>,
-    /// The chain that the cell is in, or none where it is free: by this the lists are kept apart.
+    /// Chain that contains the cell, or none for a free cell. The invariant uses it to keep the
+    /// lists disjoint.
     pub(crate) owner: Option<ChainId>,
     pub(crate) block: u64,
     pub(crate) octets: Octets,
 }
 
-/// Where a chain begins, and how many cells it has.
+/// First cell of a chain, and the number of its cells.
 #[derive(Clone, Copy)]
 pub(crate) struct Head {
     pub(crate) first: Option<CellId>,
@@ -33,7 +34,7 @@ pub(crate) struct Head {
 }
 
 impl Cell {
-    /// Makes this an empty cell of the chain, before `next`.
+    /// Makes this an empty cell of chain `owner`, linked to `next`.
     pub(crate) fn begin(&mut self, next: Option<CellId>, owner: ChainId, block: u64)
         ensures { self.new ≡ fresh_cell next owner block }
     {
@@ -43,7 +44,7 @@ impl Cell {
         self.octets.clear();
     }
 
-    /// Makes this a free cell, before `next`. Its octets go when it is taken again.
+    /// Makes this a free cell, linked to `next`. Its octets stay until `begin` clears them.
     pub(crate) fn release(&mut self, next: Option<CellId>)
         ensures { self.new ≡ record self.old { next = next; owner = None } }
     {
@@ -52,7 +53,7 @@ impl Cell {
     }
 }
 
-/// Lets a cell lead on to another.
+/// Links the cell `at` to `next`.
 pub(crate) fn set_next(cells: &mut Vec<Cell>, at: CellId, next: Option<CellId>)
     requires { at.0 < length cells.old.items }
     ensures { cells.new.items ≡ with_next cells.old.items at.0 next }
@@ -61,7 +62,7 @@ pub(crate) fn set_next(cells: &mut Vec<Cell>, at: CellId, next: Option<CellId>)
     cell.next = next;
 }
 
-/// Free cells, threaded from the last to the first, and the head of that list.
+/// Returns `count` free cells, linked from the last to the first, and the head of that list.
 pub(crate) fn spare_cells(
     alloc: Global,
     count: u32,
@@ -82,7 +83,7 @@ pub(crate) fn spare_cells(
     Ok((cells, first))
 }
 
-/// The heads of chains with no cell.
+/// Returns the heads of `count` empty chains.
 pub(crate) fn empty_heads(alloc: Global, count: u32) -> Result<Vec<Head>, NoMemory>
     ensures { IfOk result (λ heads. heads.items ≡ replicate count blank_head) }
 {

@@ -1,4 +1,4 @@
-//! The octets of one cell, packed: 256 values, and a bit for each place that has one.
+//! The octets of one cell, packed: 256 values, and one bit for each offset that has an octet.
 ghost use Rattle.std.specs.Prelude.{◌≡◌, ◌↔◌, ◌+◌, ◌≤◌, length, IsTrue, IsNone, None, Some, replicate, slice_index_or, slice_set};
 ghost use Rattle.std.specs.List.{All};
 ghost use Rattle.cell_pool.specs.Lists.{without_below, with_run, IsBlank, IsCovered, StandsFrom};
@@ -6,11 +6,11 @@ ghost use Rattle.cell_pool.specs.Packed.{HasBitsFrom, HasOnesBetween, IsMask};
 
 use std::marker::Model;
 
-/// 256 places, each with an octet or with nothing.
+/// 256 offsets, each with an octet or nothing.
 #[derive(Drop)]
 pub(crate) struct Octets {
     values: [u8; 256],
-    // A bit for each place that has an octet.
+    // One bit for each offset that has an octet.
     known: [u64; 4],
 }
 
@@ -23,7 +23,7 @@ impl Model for Octets {
     ghost view = { λ o. octets_of o.values o.known };
 }
 
-// The word with its bits below `place` cleared; `place` may be past its end.
+// Clears the bits of `word` below `place`, which may be 64 or more.
 fn bits_from(word: u64, place: usize) -> u64
     ensures { HasBitsFrom place word result }
 {
@@ -34,7 +34,7 @@ fn bits_from(word: u64, place: usize) -> u64
     }
 }
 
-// The word with a bit for each place from `at` up to `end`; both may be past its end.
+// Returns the word with 1 at the bits from `at` up to `end`; both may be 64 or more.
 fn ones_between(at: usize, end: usize) -> u64
     requires { at ≤ end }
     ensures { HasOnesBetween at end result }
@@ -42,7 +42,7 @@ fn ones_between(at: usize, end: usize) -> u64
     bits_from(u64::MAX, at) ^ bits_from(u64::MAX, end)
 }
 
-// Four words with a bit for each of the 256 places from `at` up to `end`.
+// Returns four words with 1 at the bits of the offsets from `at` up to `end`.
 fn mask(at: usize, end: usize) -> [u64; 4]
     requires { at ≤ end }
     ensures { IsMask at end result }
@@ -56,7 +56,7 @@ fn mask(at: usize, end: usize) -> [u64; 4]
 }
 
 impl Octets {
-    /// Nothing at each place.
+    /// Returns a value without octets.
     #[tactic(auto, unfolding(crate::specs::Packed::octets_of))]
     pub(crate) fn empty() -> Octets
         ensures { result ≡ replicate 256 None }
@@ -67,7 +67,7 @@ impl Octets {
         }
     }
 
-    /// The octet at `at`, if there is one.
+    /// Returns the octet at `at`, if there is one.
     #[tactic(auto, unfolding(crate::specs::Packed::octets_of))]
     pub(crate) fn get(&self, at: u8) -> Option<u8>
         ensures value { result ≡ slice_index_or self.now at None }
@@ -81,7 +81,7 @@ impl Octets {
         }
     }
 
-    /// Puts an octet at `at`.
+    /// Writes an octet at `at`.
     pub(crate) fn set(&mut self, at: u8, octet: u8)
         ensures { self.new ≡ slice_set self.old at (Some octet) }
     {
@@ -90,7 +90,7 @@ impl Octets {
         self.known[place / 64] |= 1 << (place % 64);
     }
 
-    /// Forgets the octets before `at`, and answers whether none is left.
+    /// Removes the octets below `at`, and returns whether none is left.
     pub(crate) fn clear_below(&mut self, at: u16) -> bool
         ensures forgotten { self.new ≡ without_below at self.old }
         ensures none_left { IsTrue result ↔ All (λ o. IsNone o) self.new }
@@ -105,14 +105,14 @@ impl Octets {
         self.known == [0; 4]
     }
 
-    /// Forgets all octets.
+    /// Removes all octets.
     pub(crate) fn clear(&mut self)
         ensures { self.new ≡ replicate 256 None }
     {
         self.known = [0; 4];
     }
 
-    /// Whether none of so many places from `at` on has an octet.
+    /// Returns whether none of the `len` offsets from `at` on has an octet.
     pub(crate) fn is_blank(&self, at: u8, len: usize) -> bool
         requires { at + len ≤ 256 }
         ensures value { IsTrue result ↔ IsBlank at len self.now }
@@ -128,7 +128,7 @@ impl Octets {
         ] == [0; 4]
     }
 
-    /// Whether each of so many places from `at` on has an octet.
+    /// Returns whether each of the `len` offsets from `at` on has an octet.
     pub(crate) fn is_covered(&self, at: u8, len: usize) -> bool
         requires { at + len ≤ 256 }
         ensures { IsTrue result ↔ IsCovered at len self.now }
@@ -143,7 +143,8 @@ impl Octets {
         ] == [places[0], places[1], places[2], places[3]]
     }
 
-    /// Whether these octets stand from `at` on, where each of the places has one.
+    /// Returns whether the octets from `at` on are `octets`; each of those offsets must have an
+    /// octet.
     pub(crate) fn has_run(&self, at: u8, octets: &[u8]) -> bool
         requires fits { at + length octets.now ≤ 256 }
         requires covered { IsCovered at (length octets.now) self.now }
@@ -153,7 +154,7 @@ impl Octets {
         &self.values[first..first + octets.len()] == octets
     }
 
-    /// Copies out the octets from `at` on, where each of the places has one.
+    /// Copies the octets from `at` on into `out`; each of those offsets must have an octet.
     pub(crate) fn copy_run(&self, at: u8, out: &mut [u8])
         requires fits { at + length out.old ≤ 256 }
         requires covered { IsCovered at (length out.old) self.now }
@@ -164,7 +165,7 @@ impl Octets {
         out.copy_from_slice(&self.values[first..end]);
     }
 
-    /// Puts octets at the places from `at` on.
+    /// Writes octets from `at` on.
     pub(crate) fn set_run(&mut self, at: u8, octets: &[u8])
         requires { at + length octets.now ≤ 256 }
         ensures { self.new ≡ with_run at octets.now self.old }

@@ -14,10 +14,10 @@ use std::marker::Model;
 pub struct Pool {
     heads: Vec<Head>,
     cells: Vec<Cell>,
-    // The first free cell.
+    // First free cell.
     spare: Option<CellId>,
     free: u32,
-    // Where a walk along a chain may begin.
+    // Cells at which a walk along a chain may start.
     trees: Trees,
 }
 
@@ -33,7 +33,7 @@ impl Model for Pool {
 }
 
 impl Pool {
-    /// A pool of so many free cells, and of so many chains with no cell.
+    /// Creates a pool of `cells` free cells and `chains` empty chains.
     pub fn open(alloc: Global, cells: u32, chains: u32) -> Result<Pool, NoMemory>
         requires { cells + chains < 2 ^ 32 - 1 }
         ensures { IfOk result
@@ -51,7 +51,7 @@ impl Pool {
         })
     }
 
-    /// How many cells are free.
+    /// Returns the number of free cells.
     pub fn free(&self) -> u32
         ensures value { result ≡ self.now.free }
         ensures total { self.now.free + sum_by length self.now.chains ≡ self.now.cells }
@@ -59,7 +59,7 @@ impl Pool {
         self.free
     }
 
-    /// How many cells the chain has.
+    /// Returns the number of cells of the chain.
     pub fn count(&self, chain: ChainId) -> u32
         requires { chain.0 < length self.now.chains }
         ensures { result ≡ length (chain_at self.now chain.0) }
@@ -67,7 +67,7 @@ impl Pool {
         self.heads[chain.0 as usize].count
     }
 
-    /// The first cell of the chain.
+    /// Returns the first cell of the chain.
     pub fn first(&self, chain: ChainId) -> Option<CellId>
         requires { chain.0 < length self.now.chains }
         ensures value { result ≡ first_id (chain_at self.now chain.0) }
@@ -76,7 +76,7 @@ impl Pool {
         self.heads[chain.0 as usize].first
     }
 
-    /// The cell after this one in its chain.
+    /// Returns the cell after this one in its chain.
     pub fn next_of(&self, cell: CellId) -> Option<CellId>
         requires { IsHeld self.now cell }
         ensures value { Wherever self.now cell (λ x after. result ≡ first_id after) }
@@ -85,7 +85,10 @@ impl Pool {
         self.cells[cell.0 as usize].next
     }
 
-    /// A cell of the chain whose block is not above this one, near to it: no more than 16 cells are passed from there, or from the front where this is none.
+    /// Returns a cell of the chain whose block number is at most `block`. The choice of landmarks
+    /// keeps it near: at most 16 cells lie between it and the block (or between the front and the
+    /// block, where the result is none). No clause states this distance; only a timing test covers
+    /// it.
     pub fn landmark(&self, chain: ChainId, block: u64) -> Option<CellId>
         requires { chain.0 < length self.now.chains }
         ensures { IfSome result (λ cell. StandsUpTo self.now chain.0 block cell) }
@@ -100,7 +103,7 @@ impl Pool {
         }
     }
 
-    /// The block number of the cell.
+    /// Returns the block number of the cell.
     pub fn block(&self, cell: CellId) -> u64
         requires { IsHeld self.now cell }
         ensures { Wherever self.now cell (λ x after. result ≡ x.block) }
@@ -108,7 +111,7 @@ impl Pool {
         self.cells[cell.0 as usize].block
     }
 
-    /// The octet of the cell at `at`, if there is one.
+    /// Returns the octet of the cell at `at`, if there is one.
     pub fn get(&self, cell: CellId, at: u8) -> Option<u8>
         requires { IsHeld self.now cell }
         ensures value { Wherever self.now cell (λ x after. result ≡ slice_index_or x.octets at None) }
@@ -117,7 +120,7 @@ impl Pool {
         self.cells[cell.0 as usize].octets.get(at)
     }
 
-    /// Whether none of so many places of the cell from `at` on has an octet.
+    /// Returns whether none of the `len` offsets of the cell from `at` on has an octet.
     pub fn is_blank(&self, cell: CellId, at: u8, len: usize) -> bool
         requires held { IsHeld self.now cell }
         requires fits { at + len ≤ 256 }
@@ -127,7 +130,7 @@ impl Pool {
         self.cells[cell.0 as usize].octets.is_blank(at, len)
     }
 
-    /// Whether each of so many places of the cell from `at` on has an octet.
+    /// Returns whether each of the `len` offsets of the cell from `at` on has an octet.
     pub fn is_covered(&self, cell: CellId, at: u8, len: usize) -> bool
         requires held { IsHeld self.now cell }
         requires fits { at + len ≤ 256 }
@@ -136,7 +139,8 @@ impl Pool {
         self.cells[cell.0 as usize].octets.is_covered(at, len)
     }
 
-    /// Whether these octets stand in the cell from `at` on, where each of the places has one.
+    /// Returns whether the octets of the cell from `at` on are `octets`; each of those offsets must
+    /// have an octet.
     pub fn has_run(&self, cell: CellId, at: u8, octets: &[u8]) -> bool
         requires fits { at + length octets.now ≤ 256 }
         requires covered { IsHeldWith self.now cell (IsCovered at (length octets.now)) }
@@ -145,7 +149,8 @@ impl Pool {
         self.cells[cell.0 as usize].octets.has_run(at, octets)
     }
 
-    /// Copies out the octets of the cell from `at` on, where each of the places has one.
+    /// Copies the octets of the cell from `at` on into `out`; each of those offsets must have an
+    /// octet.
     pub fn copy_run(&self, cell: CellId, at: u8, out: &mut [u8])
         requires fits { at + length out.old ≤ 256 }
         requires covered { IsHeldWith self.now cell (IsCovered at (length out.old)) }
@@ -154,7 +159,7 @@ impl Pool {
         self.cells[cell.0 as usize].octets.copy_run(at, out);
     }
 
-    /// Takes a free cell into the chain, with no octet, after the given cell or at the front.
+    /// Takes a free cell into the chain, without octets, after the given cell or at the front.
     pub fn take_after(
         &mut self,
         chain: ChainId,
@@ -173,7 +178,7 @@ impl Pool {
         Some(taken)
     }
 
-    /// Frees the cell after the given one, or the first.
+    /// Frees the cell after the given one, or the first cell.
     pub fn give_back_after(&mut self, chain: ChainId, after: Option<CellId>)
         requires chain_in_range { chain.0 < length self.old.chains }
         requires place { HasCellAfter (chain_at self.old chain.0) after }
@@ -183,7 +188,7 @@ impl Pool {
         self.give(chain, after);
     }
 
-    /// Puts an octet into the cell at `at`.
+    /// Writes an octet into the cell at `at`.
     pub fn set(&mut self, cell: CellId, at: u8, octet: u8)
         requires { IsHeld self.old cell }
         ensures { Writes self.old self.new cell (λ octets. slice_set octets at (Some octet)) }
@@ -192,7 +197,7 @@ impl Pool {
         cell.octets.set(at, octet);
     }
 
-    /// Puts octets into the cell from `at` on, whatever stood there.
+    /// Writes octets into the cell from `at` on, over any octets that are there.
     pub fn set_run(&mut self, cell: CellId, at: u8, octets: &[u8])
         requires held { IsHeld self.old cell }
         requires fits { at + length octets.now ≤ 256 }
@@ -202,8 +207,8 @@ impl Pool {
         cell.octets.set_run(at, octets);
     }
 
-    /// Forgets the octets of the cell before `at`, all of them where `at` is 256 or more, and answers whether none is
-    /// left.
+    /// Removes the octets of the cell below `at` (all of them from 256 on), and returns whether
+    /// none is left.
     pub fn clear_below(&mut self, cell: CellId, at: u16) -> bool
         requires { IsHeld self.old cell }
         ensures forgotten { Writes self.old self.new cell (without_below at) }
@@ -214,12 +219,11 @@ impl Pool {
         cell.octets.clear_below(at)
     }
 
-    // The block of a cell, if one is given.
     fn block_at(&self, cell: Option<CellId>) -> Option<u64> {
         Some(self.cells.get(cell?.0 as usize)?.block)
     }
 
-    // The cell behind one, or the first.
+    // Returns the cell after `after`, or the first cell.
     fn behind(&self, chain: ChainId, after: Option<CellId>) -> Option<CellId> {
         match after {
             Some(cell) => self.cells.get(cell.0 as usize)?.next,
@@ -227,7 +231,7 @@ impl Pool {
         }
     }
 
-    // Keeps the landmarks where this cell was taken after the other.
+    // Updates the landmarks after `taken` was taken in behind `after`.
     fn mark_taken(&mut self, chain: ChainId, after: Option<CellId>, taken: CellId)
         ensures { self.new ≡ self.old }
     {
@@ -243,7 +247,7 @@ impl Pool {
             .remark(&self.cells, chain, Some(taken), None, before);
     }
 
-    // Keeps the landmarks where the cell after this one, or the first, will be free.
+    // Updates the landmarks before the cell after `after`, or the first cell, is freed.
     fn mark_given(&mut self, chain: ChainId, after: Option<CellId>)
         ensures { self.new ≡ self.old }
     {
@@ -279,7 +283,7 @@ impl Pool {
         }
     }
 
-    // Frees the cell after the given one, or the first.
+    // Frees the cell after the given one, or the first cell.
     fn give(&mut self, chain: ChainId, after: Option<CellId>)
         requires chain_in_range { chain.0 < length self.old.chains }
         requires place { HasCellAfter (chain_at self.old chain.0) after }
@@ -291,7 +295,6 @@ impl Pool {
         }
     }
 
-    // Takes a free cell to the front of the chain.
     fn take_front(&mut self, chain: ChainId, block: u64) -> Option<CellId>
         requires chain_in_range { chain.0 < length self.old.chains }
         requires order { BeginsAbove block (chain_at self.old chain.0) }
@@ -314,7 +317,6 @@ impl Pool {
         Some(taken)
     }
 
-    // Takes a free cell behind a cell of the chain.
     fn take_behind(&mut self, chain: ChainId, after: CellId, block: u64) -> Option<CellId>
         requires chain_in_range { chain.0 < length self.old.chains }
         requires place { HasPlaceFor (chain_at self.old chain.0) (Some after) block }
@@ -336,7 +338,6 @@ impl Pool {
         Some(taken)
     }
 
-    // Frees the first cell of the chain.
     fn give_front(&mut self, chain: ChainId)
         requires chain_in_range { chain.0 < length self.old.chains }
         requires place { HasCellAfter (chain_at self.old chain.0) None }
@@ -356,7 +357,6 @@ impl Pool {
         self.free += 1;
     }
 
-    // Frees the cell behind a cell of the chain.
     fn give_behind(&mut self, chain: ChainId, after: CellId)
         requires chain_in_range { chain.0 < length self.old.chains }
         requires place { HasCellAfter (chain_at self.old chain.0) (Some after) }

@@ -1,4 +1,5 @@
-//! The pool at its limits: no cell left, cells that go round, and calls whose time does not grow with the pool.
+//! The pool at its limits: no free cell, cells taken and freed many times, and calls whose time
+//! does not grow with the pool.
 use crate::{ChainId, Pool};
 use std::test::Fail;
 

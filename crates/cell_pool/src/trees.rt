@@ -1,24 +1,25 @@
-//! The landmarks of each chain, in a tree by the bits of their blocks. Only speed rests on it: what it tells is tested before it is used.
+//! The landmarks of each chain, in a tree over the bits of their block numbers. Only speed depends
+//! on it: callers check each result before use.
 use crate::cells::{Cell, CellId, ChainId};
 use edge_io::NoMemory;
 use std::alloc::Global;
 
-// No way through a tree is longer: it has a fork for each bit of a block at the most, and a leaf.
+// Longest path through a tree: at most one fork for each of the 64 bits, and a leaf.
 const LONGEST_WAY: u32 = 65;
 
-// Blocks go by so many to a region.
+// Block numbers in one region.
 const REGION: u64 = 16;
 
-// A part of a tree.
+// Subtree.
 #[derive(Clone, Copy)]
 enum Branch {
     /// One landmark.
     Leaf(CellId),
-    /// The fork of this name. It stands above the leaf of the landmark of that name.
+    /// Fork with this identifier. It is above the leaf of the landmark with the same identifier.
     Fork(CellId),
 }
 
-// Two branches: blocks on them agree above this bit, and differ in it.
+// Two subtrees: their block numbers agree above this bit, and differ in it.
 #[derive(Clone, Copy)]
 struct Fork {
     bit: u32,
@@ -26,36 +27,35 @@ struct Fork {
     high: Branch,
 }
 
-// A way from the root on, along the bits of a block: as far as blocks there can agree with it, or to a leaf.
+// Path from the root along the bits of a block number, up to the first subtree whose block numbers
+// cannot agree with it, or to a leaf.
 #[derive(Clone, Copy)]
 struct Way {
     end: Branch,
-    /// The fork that leads to the end, and the one that leads to that.
+    /// Fork that leads to the end, and the fork above that one.
     last: Option<CellId>,
     last_but_one: Option<CellId>,
-    /// The branch with the greatest blocks below those on the way.
+    /// Subtree with the greatest block numbers below those on the path.
     below: Option<Branch>,
 }
 
-/// A tree for each chain.
+/// One tree for each chain.
 #[derive(Drop)]
 pub(crate) struct Trees {
     roots: Vec<Option<Branch>>,
-    // By name.
+    // Indexed by the identifier of the landmark.
     forks: Vec<Fork>,
 }
 
-// Whether a block has this bit.
 fn has_bit(block: u64, bit: u32) -> bool {
     block.wrapping_shr(bit) & 1 == 1
 }
 
-// The block of a cell.
 fn block_of(cells: &[Cell], name: CellId) -> Option<u64> {
     Some(cells.get(name.0 as usize)?.block)
 }
 
-// Whether a cell is a landmark: the cell before it is of another region.
+// Returns whether a cell is a landmark: the cell before it is in another region.
 fn is_landmark(before: Option<u64>, block: u64) -> bool {
     match before {
         Some(before) => before / REGION != block / REGION,
@@ -64,7 +64,7 @@ fn is_landmark(before: Option<u64>, block: u64) -> bool {
 }
 
 impl Branch {
-    // The name of a landmark on this branch.
+    // Returns the identifier of one of the landmarks in this subtree.
     fn name(self) -> CellId {
         match self {
             Branch::Leaf(name) => name,
@@ -74,7 +74,7 @@ impl Branch {
 }
 
 impl Fork {
-    // The branch on the side of a block, and the other one.
+    // Returns the subtree on the side of a block number, and the other one.
     fn parted(self, block: u64) -> (Branch, Branch) {
         if has_bit(block, self.bit) {
             (self.high, self.low)
@@ -83,7 +83,7 @@ impl Fork {
         }
     }
 
-    // With another branch on the side of a block.
+    // Replaces the subtree on the side of a block number.
     fn grafted(self, block: u64, branch: Branch) -> Fork {
         if has_bit(block, self.bit) {
             Fork {
@@ -100,7 +100,7 @@ impl Fork {
 }
 
 impl Way {
-    // One fork further.
+    // Extends the path by one fork.
     fn past(self, fork: Fork, block: u64) -> Way {
         let (end, beside) = fork.parted(block);
         let below = if has_bit(block, fork.bit) {
@@ -118,7 +118,7 @@ impl Way {
 }
 
 impl Trees {
-    /// Trees with no landmark.
+    /// Creates trees without landmarks.
     pub(crate) fn open(alloc: Global, cells: u32, chains: u32) -> Result<Trees, NoMemory> {
         let nothing = Branch::Leaf(CellId(0));
         let fork = Fork {
@@ -131,7 +131,8 @@ impl Trees {
         Ok(Trees { roots, forks })
     }
 
-    /// The last landmark of the chain whose block is not above this one. Between both all cells are of its region.
+    /// Returns the last landmark of the chain whose block number is at most `block`. All cells
+    /// between it and `block` are in its region.
     pub(crate) fn last_up_to(&self, cells: &[Cell], chain: ChainId, block: u64) -> Option<CellId> {
         let way = self.way(cells, chain, block)?;
         if block_of(cells, way.end.name())? <= block {
@@ -141,7 +142,8 @@ impl Trees {
         }
     }
 
-    /// Keeps the landmarks of a chain where the block before a cell was one and is another, none at the front or outside of the chain.
+    /// Updates the landmarks when the block number before `cell` changes from `was` to `is`. Either
+    /// is none if the cell is at the front or in no chain.
     #[inline]
     pub(crate) fn remark(
         &mut self,
@@ -164,7 +166,6 @@ impl Trees {
         }
     }
 
-    // Adds a landmark, or removes one.
     #[cold]
     fn change(&mut self, cells: &[Cell], chain: ChainId, name: CellId, block: u64, is: bool) {
         if is {
@@ -174,17 +175,16 @@ impl Trees {
         }
     }
 
-    // The root of a chain's tree, if it has a landmark.
     fn root(&self, chain: ChainId) -> Option<Branch> {
         *self.roots.get(chain.0 as usize)?
     }
 
-    // The fork of this name.
     fn fork(&self, name: CellId) -> Option<Fork> {
         Some(*self.forks.get(name.0 as usize)?)
     }
 
-    // The fork at which a branch parts, where blocks on it agree with this one above its bit.
+    // Returns the fork of a subtree, where block numbers in it agree with `block` above the fork's
+    // bit.
     fn fork_toward(&self, cells: &[Cell], branch: Branch, block: u64) -> Option<Fork> {
         let Branch::Fork(name) = branch else {
             return None;
@@ -197,7 +197,7 @@ impl Trees {
         Some(fork)
     }
 
-    // The way toward a block, where the chain has a landmark.
+    // Returns the path toward a block number, if the chain has a landmark.
     fn way(&self, cells: &[Cell], chain: ChainId, block: u64) -> Option<Way> {
         let mut way = Way {
             end: self.root(chain)?,
@@ -214,7 +214,7 @@ impl Trees {
         Some(way)
     }
 
-    // The landmark with the greatest block on a branch.
+    // Returns the landmark with the greatest block number in a subtree.
     fn greatest(&self, branch: Branch) -> Option<CellId> {
         let mut branch = branch;
         for _ in 0..LONGEST_WAY {
@@ -226,21 +226,19 @@ impl Trees {
         None
     }
 
-    // Writes the root of a chain's tree.
     fn set_root(&mut self, chain: ChainId, root: Option<Branch>) {
         if let Some(place) = self.roots.get_mut(chain.0 as usize) {
             *place = root;
         }
     }
 
-    // Writes the fork of this name.
     fn set_fork(&mut self, name: CellId, fork: Fork) {
         if let Some(place) = self.forks.get_mut(name.0 as usize) {
             *place = fork;
         }
     }
 
-    // Puts a branch below a fork, on the side of a block, or at the root.
+    // Replaces the subtree of a fork on the side of a block number, or the root.
     fn graft(&mut self, chain: ChainId, above: Option<CellId>, block: u64, branch: Branch) {
         let Some(name) = above else {
             self.set_root(chain, Some(branch));
@@ -251,7 +249,6 @@ impl Trees {
         }
     }
 
-    // Adds a landmark.
     fn insert(&mut self, cells: &[Cell], chain: ChainId, name: CellId, block: u64) {
         let leaf = Branch::Leaf(name);
         let Some(way) = self.way(cells, chain, block) else {
@@ -274,7 +271,8 @@ impl Trees {
         self.graft(chain, way.last, block, Branch::Fork(name));
     }
 
-    // Removes a landmark, with the fork above it. That fork's name goes to the fork that has the landmark's.
+    // Removes a landmark and the fork above it. The fork that had the landmark's identifier takes
+    // that of the removed fork.
     fn remove(&mut self, cells: &[Cell], chain: ChainId, name: CellId, block: u64) {
         let Some(way) = self.way(cells, chain, block) else {
             return;
@@ -293,7 +291,7 @@ impl Trees {
         }
     }
 
-    // Gives another name to the fork of this name, where there is one on the way toward a block.
+    // Changes the identifier of fork `old` to `new`, if it is on the path toward a block number.
     fn rename(&mut self, chain: ChainId, block: u64, old: CellId, new: CellId) {
         let Some(root) = self.root(chain) else {
             return;

@@ -1,4 +1,4 @@
--- What is answered on an inbound segment that has no live era.
+-- The answer to an inbound segment without a live era.
 use Rattle.std.specs.Prelude.{◌≡◌, Bool, true, false, [], ◌∷◌}
 use Rattle.era_state.specs.declared.segment.Seg.{Seg}
 use Rattle.era_state.specs.Read.{came}
@@ -13,19 +13,19 @@ is_begin (Begin era) = true
 is_begin (Probe probe) = false
 is_begin Refuse = false
 
--- a probe goes out
+-- a probe is sent
 abbrev pub is_probe : ColdAnswer → Bool
 is_probe (Begin era) = false
 is_probe (Probe probe) = true
 is_probe Refuse = false
 
--- the segment is refused, and nothing goes out
+-- the segment is refused, and nothing is sent
 abbrev pub is_refuse : ColdAnswer → Bool
 is_refuse (Begin era) = false
 is_refuse (Probe probe) = false
 is_refuse Refuse = true
 
--- an era that begins stands for the list of the one segment, and a probe is the segment's cold probe
+-- an era that begins represents the list of the one segment, and a probe is the segment's cold probe
 abbrev pub AnswersTo : Seg → ColdAnswer → Type 0
 AnswersTo s (Begin era) = OfferedFor era (came s ∷ [])
 AnswersTo s (Probe probe) = probe ≡ cold_probe_of (came s)

@@ -1,4 +1,4 @@
-//! An inbound segment for which no era is live.
+//! An inbound segment without a live era.
 ghost use Rattle.std.specs.Prelude.{◌≡◌, true};
 ghost use Rattle.wire_base.specs.Tcp as tcp;
 ghost use Rattle.era_state.specs.Read.{came};
@@ -6,19 +6,20 @@ ghost use Rattle.cold_start.specs.Rules.{cold_probe_of, is_asked, is_call, t_col
 ghost use Rattle.cold_start.specs.Answers.{AnswersTo, is_begin, is_probe, is_refuse};
 
 use era_state::{Offered, Probe, Seg};
+use wire_base::sequence_before;
 
-/// What becomes of an inbound segment for which no era is live.
+/// Answer to an inbound segment without a live era.
 #[derive(Clone, Copy)]
 pub enum ColdAnswer {
     /// It begins this era.
     Begin(Offered),
-    /// It stays outside, and this asks the host whether it holds the connection.
+    /// It is dropped, and this probe finds out whether the host holds the connection.
     Probe(Probe),
-    /// T_COLD: it stays outside.
+    /// T_COLD: it is dropped.
     Refuse,
 }
 
-/// Judges an inbound segment for which no era is live.
+/// Judges an inbound segment without a live era.
 pub fn cold(seg: &Seg) -> ColdAnswer
     requires legal { tcp.are_legal seg.now.flags.0 ≡ true }
     ensures begins { is_begin result ≡ is_call (came seg.now) }
@@ -36,12 +37,13 @@ pub fn cold(seg: &Seg) -> ColdAnswer
     ColdAnswer::Probe(cold_probe(seg))
 }
 
-/// The probe that asks a host about an inbound segment: from one below its sequence number, with its acknowledgment and its window.
+/// Returns the probe of a host about an inbound segment: one below the segment's sequence number,
+/// with its acknowledgment and its window.
 pub fn cold_probe(seg: &Seg) -> Probe
     ensures { result ≡ cold_probe_of (came seg.now) }
 {
     Probe {
-        seq: seg.seq.before(),
+        seq: sequence_before(seg.seq),
         ack: seg.ack,
         window: seg.window,
     }

@@ -1,4 +1,8 @@
-//! What becomes of a TCP segment for which no era is live: an era begins with it, a host is asked about it, or it is refused.
+//! A TCP segment for which no era is live: it begins an era, its host is probed, or it is refused.
+//!
+//! Proved (`cold`, `cold_probe`, `warm_from`): a segment begins exactly the era of the list of that
+//! one segment, is answered by exactly its cold probe, or is refused, each exactly if its rule says
+//! so.
 #![tactic(auto)]
 
 pub mod inbound;

@@ -1,4 +1,4 @@
-//! An outbound segment for which no era is live.
+//! An outbound segment without a live era.
 ghost use Rattle.std.specs.Prelude.{◌≡◌, ℕ, List, [], ◌∷◌, length, IfSome, is_some, true};
 ghost use Rattle.wire_base.specs.Tcp as tcp;
 ghost use Rattle.era_state.specs.Read.{sent};
@@ -7,7 +7,8 @@ ghost use Rattle.cold_start.specs.Rules.{begins_warm};
 
 use era_state::{Seg, Warm};
 
-/// The era that an outbound segment begins, where it has ACK and no RST: what it acknowledges is the base.
+/// Returns the era that an outbound segment begins, if it has ACK and no RST. Its acknowledgment is
+/// the base.
 pub fn warm_from(seg: &Seg) -> Option<Warm>
     requires legal { tcp.are_legal seg.now.flags.0 ≡ true }
     ensures begins { is_some result ≡ begins_warm (sent seg.now []) }

@@ -1,4 +1,4 @@
-//! Segments for which no era is live, and what was worked out of them by hand.
+//! Segments without a live era, and their answers, computed by hand.
 ghost use Rattle.std.specs.Prelude.{◌≡◌, true};
 ghost use Rattle.wire_base.specs.Tcp as tcp;
 
@@ -6,9 +6,9 @@ use crate::{ColdAnswer, cold, warm_from};
 use era_state::{Seg, Warm};
 use std::alloc::{AllocError, Global};
 use std::test::Fail;
-use wire_base::{Flags, SeqNumber};
+use wire_base::Flags;
 
-/// The flags of a segment; the last three with a mark that no rule reads.
+/// Flags of a segment; the last three include a flag that no rule reads.
 #[derive(Clone, Copy)]
 enum Kind {
     Syn,
@@ -40,7 +40,8 @@ fn flags_of(kind: Kind) -> u8
     }
 }
 
-/// A segment's flags, sequence number, acknowledgment and octets, with a window of 8192; and what becomes of it.
+/// Segment's flags, sequence number, acknowledgment and number of octets, with a window of 8192;
+/// and its answer.
 struct Row {
     kind: Kind,
     seq: u32,
@@ -65,7 +66,8 @@ const INBOUND: &[Row] = &[
     Row { kind: Ack, seq: 0, ack: 0, len: 0, says: "probe 4294967295 0 8192" },
 ];
 
-// A window of 8192 allows 8192 octets behind what a SYN acknowledges, and behind another segment's 134,217,728, at the greatest scale.
+// A window of 8192 allows 8,192 octets after the acknowledgment of a SYN, and 134,217,728 after
+// that of another segment, at the greatest scale.
 #[rattlefmt::skip]
 const OUTBOUND: &[Row] = &[
     Row { kind: SynAck, seq: 5000, ack: 1000, len: 0, says: "base 1000 out 5001 edge 8192" },
@@ -82,8 +84,8 @@ fn segment_of(row: &Row) -> Seg
     ensures { tcp.are_legal result.flags.0 ≡ true }
 {
     Seg {
-        seq: SeqNumber::new(row.seq),
-        ack: SeqNumber::new(row.ack),
+        seq: row.seq,
+        ack: row.ack,
         len: row.len,
         window: 8192,
         flags: Flags(flags_of(row.kind)),
@@ -93,14 +95,9 @@ fn segment_of(row: &Row) -> Seg
 
 fn answer_text(alloc: Global, answer: ColdAnswer) -> Result<String, AllocError> {
     match answer {
-        ColdAnswer::Begin(era) => format!(in alloc; "begin {}", era.base.value()),
+        ColdAnswer::Begin(era) => format!(in alloc; "begin {}", era.base),
         ColdAnswer::Probe(probe) => {
-            format!(in alloc;
-                "probe {} {} {}",
-                probe.seq.value(),
-                probe.ack.value(),
-                probe.window
-            )
+            format!(in alloc; "probe {} {} {}", probe.seq, probe.ack, probe.window)
         }
         ColdAnswer::Refuse => String::from_str(alloc, "refuse"),
     }
@@ -111,12 +108,7 @@ fn era_text(alloc: Global, era: Option<Warm>) -> Result<String, AllocError> {
         return String::from_str(alloc, "none");
     };
     let fin = if era.out_fin { " fin" } else { "" };
-    format!(in alloc;
-        "base {} out {} edge {}{fin}",
-        era.base.value(),
-        era.out.value(),
-        era.edge
-    )
+    format!(in alloc; "base {} out {} edge {}{fin}", era.base, era.out, era.edge)
 }
 
 #[test]

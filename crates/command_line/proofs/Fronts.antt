@@ -1,4 +1,4 @@
--- What stands behind a front of a text.
+-- The text after a front.
 use Rattle.std.proofs.Common.{◌≡◌, ◌≢◌, ℕ, ◌==◌, Bool, true, false, List, [], ◌∷◌, ◌++◌, Option, Some, None, option_map, Bor, refl, sym, ap, ◌∙◌, if◌then◌else◌, arith}
 use Rattle.std.specs.Option.{MatchOption}
 use Rattle.command_line.specs.Line.{after_front}
@@ -17,7 +17,7 @@ step : (b : Bool) (x c : ℕ) (text front rest : List ℕ) → (x == c) ≡ b �
 step true x c text front rest t ih e = let tail = ih e in let head = same_octet x c t in cc
 step false x c text front rest t ih e = cc
 
--- a text of which something stands behind the front
+-- a text with this rest after the front is the front and the rest
 pub front-whole : (front text rest : List ℕ) → after_front front text ≡ Some rest → text ≡ front ++ rest
 front-whole [] text rest e = cc
 front-whole (c ∷ front) [] rest e = cc
@@ -27,7 +27,7 @@ none_behind : (front text : List ℕ) (o : Option (List ℕ)) → after_front fr
 none_behind front text None e h = refl
 none_behind front text (Some rest) e h = absurd (h rest (front-whole front text rest e))
 
--- what the library finds behind a front
+-- the result of the library call that strips a front
 pub behind_front : (front text : List ℕ) (found : Option (Bor (List ℕ))) → MatchOption found ((rest : List ℕ) → text ≢ front ++ rest) (λ x. text ≡ front ++ x.now) → option_map (λ rest. rest.now) found ≡ after_front front text
 behind_front front text None h = none_behind front text _ refl h
 behind_front front text (Some x) e = sym (ap (after_front front) e ∙ after_front-append front x.now)

@@ -1,4 +1,4 @@
--- A line is read exactly where it is written.
+-- Words are read as a line exactly if they are written as one.
 use Rattle.std.proofs.Common.{◌≡◌, List, [], ◌∷◌, ◌++◌, Bool, true, false, Some, None, refl, sym, ap, ◌∙◌, codes, subst, rules, if◌then◌else◌}
 use Rattle.std.specs.declared.option.Option.{Option}
 use Rattle.command_line.specs.Options.{Text, name_of, kind_of, takes_value}
@@ -22,12 +22,12 @@ Behind words = (waiting : Option Choice) (line : PlainLine) → parts waiting wo
 abbrev used : Choice → Text → PlainLine → PlainLine
 used c v line = record { uses = record { choice = c; value = v } ∷ line.uses; names = line.names }
 
--- a line with a use is a line without it, and the use
+-- a line with a use is the use and a line
 use_off : (c : Choice) (v : Text) (found : Option PlainLine) (line : PlainLine) → with_use c v found ≡ Some line → (rest : PlainLine) × (found ≡ Some rest) × (used c v rest ≡ line)
 use_off c v None line e = absurd (cc)
 use_off c v (Some rest) line e = (rest, refl, cc)
 
--- one more use in front
+-- one more use before a line
 use_on : (c : Choice) (v : Text) (front rest words : List Text) (inner line : PlainLine) → words ≡ front ++ rest → IsWritten (record { choice = c; value = v }) front → used c v inner ≡ line → Writes rest inner → Writes words line
 use_on c v front rest words inner line e w same h = subst (Writes words) same ((front, rest, e, w, h.0), h.1)
 
@@ -78,7 +78,7 @@ read (Some inner) words line p e =
 pub read_is_written : (words : List Text) (line : PlainLine) → line_of words ≡ Some line → IsWrittenAs words line
 read_is_written words line e = read (parts None words) words line refl e
 
--- ---- what is written as a line is read as one
+-- ---- words that are written as a line are read as one
 
 word_joined : (c : Choice) (v : Text) → takes_value (kind_of c) ≡ true → word_of (45 ∷ 45 ∷ (name_of c ++ 61 ∷ v)) ≡ joined c v
 word_joined Hops v t = search rules

@@ -1,4 +1,4 @@
--- The words of a line read one by one, with the uses so far: what the code's loop does.
+-- The words of a line read one by one with the uses so far, as in the loop of the code.
 use Rattle.std.proofs.Common.{◌≡◌, ◌&&◌, List, [], ◌∷◌, ◌++◌, Bool, true, false, Some, None, refl, sym, ap, ◌∙◌, codes, append-nil, append_assoc, if◌then◌else◌}
 use Rattle.std.specs.declared.option.Option.{Option}
 use Rattle.command_line.specs.Options.{Text}
@@ -8,7 +8,7 @@ use Rattle.command_line.specs.declared.options.Choice.{Choice}
 abbrev pub with_more : List PlainUse → Choice → Text → List PlainUse
 with_more uses choice value = uses ++ record { choice = choice; value = value } ∷ []
 
--- the line that these words continue, after uses and perhaps an option that waits for its value
+-- the line of these words after the uses so far, with the option that waits for its value, if any
 abbrev pub line_from : List PlainUse → Option Choice → List Text → Option PlainLine
 line_from uses (Some choice) [] = None
 line_from uses None [] = Some (record { uses = uses; names = [] })
@@ -21,7 +21,7 @@ line_from uses waiting (text ∷ words) =
       | unknown ↦ None
     ]
 
--- a line behind uses, where its own uses fit behind them
+-- a line after these uses, if its own uses fit after them
 abbrev behind : List PlainUse → Option PlainLine → Option PlainLine
 behind uses None = None
 behind uses (Some line) = if are_fit uses line.uses then Some (record { uses = uses ++ line.uses; names = line.names }) else None

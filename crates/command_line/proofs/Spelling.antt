@@ -1,4 +1,4 @@
--- How a word is spelled that is an option.
+-- The form of a word that is an option.
 use Rattle.std.proofs.Common.{◌≡◌, ℕ, ◌==◌, ◌&&◌, List, [], ◌∷◌, ◌++◌, Bool, true, false, Some, None, refl, sym, ap, ◌∙◌, codes, append-nil, if◌then◌else◌}
 use Rattle.std.specs.declared.option.Option.{Option}
 use Rattle.command_line.specs.Options.{Text, name_of, kind_of, all_choices, takes_value}
@@ -6,7 +6,7 @@ use Rattle.command_line.specs.Line.{Word, names, alone, joined, parted, unknown,
 use Rattle.command_line.specs.declared.options.Choice.{Choice}
 use Rattle.command_line.proofs.Fronts.{front-whole, same_octet}
 
--- the text behind `--` that a word of this kind has
+-- the text after `--` of a word of this kind
 abbrev Behind : Word → Text → Type 0
 Behind names text = ⊥
 Behind (alone c) text = (text ≡ name_of c) × (takes_value (kind_of c) ≡ false)
@@ -53,7 +53,7 @@ behind_in : (cs : List Choice) (text : Text) → Behind (word_in cs text) text
 behind_in [] text = tt
 behind_in (c ∷ cs) text = behind_found (word_as c text) c text (word_in cs text) refl (behind_in cs text)
 
--- how a word is spelled that is read so: the first of the names does not begin with `-` (45), and an option is `--name` or `--name=value` (61)
+-- the form of a word of this kind: the first of the names does not begin with `-` (45), and an option is `--name` or `--name=value` (61)
 abbrev pub IsSpelled : Word → Text → Type 0
 IsSpelled names word = begins_with_dash word ≡ false
 IsSpelled (alone c) word = (word ≡ 45 ∷ 45 ∷ name_of c) × (takes_value (kind_of c) ≡ false)

@@ -8,8 +8,7 @@ use Rattle.command_line.specs.declared.line.Line.{Line}
 use Rattle.command_line.specs.declared.line.Met.{Met}
 use Rattle.command_line.specs.declared.line.Met.TheVariants.{Names, Alone, Joined, Parted, Unknown}
 
--- what a word is before IN: the first of the names; an option that stands alone, one with its value, or one whose value is the next word; or, unknown, none
--- of these
+-- the kind of a word before IN: the first of the names; an option without a value, with its value, or with its value in the next word; or unknown
 pub data Word : Type 0 where
   names : Word
   alone : Choice → Word
@@ -17,7 +16,7 @@ pub data Word : Type 0 where
   parted : Choice → Word
   unknown : Word
 
--- what the code met, over plain values
+-- the kind of a word in the code, over plain values
 abbrev pub plain_word : Met → Word
 plain_word Names = names
 plain_word (Alone choice) = alone choice
@@ -25,23 +24,23 @@ plain_word (Joined choice value) = joined choice value.now
 plain_word (Parted choice) = parted choice
 plain_word Unknown = unknown
 
--- what stands behind this front of a text
+-- the text after this front, or None if it does not begin with it
 abbrev pub after_front : (front text : Text) → Option Text
 after_front [] text = Some text
 after_front (c ∷ front) [] = None
 after_front (c ∷ front) (x ∷ text) = if x == c then after_front front text else None
 
--- the option, where behind its name stands nothing, or `=` (61) and a value
+-- the option with the text after its name: nothing, or `=` (61) and a value; None if it is neither
 abbrev pub word_by : Choice → Option Text → Option Word
 word_by choice None = None
 word_by choice (Some []) = Some (if takes_value (kind_of choice) then parted choice else alone choice)
 word_by choice (Some (x ∷ value)) = if x == 61 && takes_value (kind_of choice) then Some (joined choice value) else None
 
--- the option, where the text behind `--` is of it
+-- the option, if the text after `--` is a use of it
 abbrev pub word_as : Choice → Text → Option Word
 word_as choice text = word_by choice (after_front (name_of choice) text)
 
--- the first of the options that the text behind `--` is of
+-- the first of the options of which the text after `--` is a use
 abbrev pub word_in : List Choice → Text → Word
 word_in [] text = unknown
 word_in (choice ∷ choices) text = elim (word_as choice text) [ Some word ↦ word | None ↦ word_in choices text ]
@@ -51,16 +50,16 @@ abbrev pub begins_with_dash : Text → Bool
 begins_with_dash [] = false
 begins_with_dash (first ∷ _) = first == 45
 
--- the option of the text behind `--`, where a word begins so
+-- the option of the text after `--`; unknown if the word does not begin with `--`
 abbrev pub option_in : Option Text → Word
 option_in None = unknown
 option_in (Some text) = word_in all_choices text
 
--- what a word is before IN: an option, or something unknown, where it begins with `-`, and else the first of the names
+-- the kind of a word before IN: an option or unknown if it begins with `-`, else the first of the names
 abbrev pub word_of : Text → Word
 word_of text = if begins_with_dash text then option_in (after_front (codes "--") text) else names
 
--- a use of an option, with its value; that of an option that stands alone is `true`
+-- a use of an option with its value, which is `true` for an option without a value
 pub record PlainUse : Type 0 where
   pub choice : Choice
   pub value : Text
@@ -69,16 +68,16 @@ pub record PlainUse : Type 0 where
 abbrev pub plain_use : Use → PlainUse
 plain_use use_ = record { choice = use_.choice; value = use_.value.now }
 
--- the value that the uses give an option
+-- the value of an option in the uses; None if it is not used
 abbrev pub given : Choice → List PlainUse → Option Text
 given choice [] = None
 given choice (u ∷ uses) = if bytes_eq (name_of u.choice) (name_of choice) then Some u.value else given choice uses
 
--- the option may be used so after these uses: the value fits, and none of them is of the option
+-- the option may be used with this value after these uses: the value fits, and the option was not used before
 abbrev pub may_use : Choice → Text → List PlainUse → Bool
 may_use choice value uses = is_value (kind_of choice) value && not (is_some (given choice uses))
 
--- options that were used, and the words from IN on
+-- a line: the uses of options, and the words from IN on
 pub record PlainLine : Type 0 where
   pub uses : List PlainUse
   pub names : List Text
@@ -87,17 +86,17 @@ pub record PlainLine : Type 0 where
 abbrev pub plain_line : Line → PlainLine
 plain_line line = record { uses = map plain_use line.uses.items; names = map string_bytes line.names.now }
 
--- what the next word is, where an option may wait for its value
+-- the kind of the next word: the value of the option that waits for one, if there is such an option
 abbrev pub next_word : Option Choice → Text → Word
 next_word (Some choice) text = joined choice text
 next_word None text = word_of text
 
--- the line with one use more in front
+-- the line with one more use before the others
 abbrev pub with_use : Choice → Text → Option PlainLine → Option PlainLine
 with_use choice value = option_map (λ line. record { uses = record { choice = choice; value = value } ∷ line.uses; names = line.names })
 
--- the uses that words are, and the words from the first of the names on, where an option may wait for its value; none where a word before the names is
--- no option, or the last option has no value
+-- the uses in the words, and the words from the first of the names on; the first argument is the option that waits for its value, if any. None if a word before
+-- the names is no option, or the last option has no value
 abbrev pub parts : Option Choice → List Text → Option PlainLine
 parts (Some choice) [] = None
 parts None [] = Some (record { uses = []; names = [] })
@@ -110,16 +109,16 @@ parts waiting (text ∷ words) =
       | unknown ↦ None
     ]
 
--- after these uses, each of these is of an option that no use before it is of, and its value fits
+-- each of the uses, after those of `before`, is the first one of its option, and its value fits
 abbrev pub are_fit : (before uses : List PlainUse) → Bool
 are_fit before [] = true
 are_fit before (u ∷ uses) = may_use u.choice u.value before && are_fit (before ++ u ∷ []) uses
 
--- the line, where its uses are fit
+-- the line, if its uses fit
 abbrev pub fit_line : Option PlainLine → Option PlainLine
 fit_line None = None
 fit_line (Some line) = if are_fit [] line.uses then Some line else None
 
--- the line that the words behind `run` are, where each option stands once and its value fits
+-- the line that the words after `run` are; None unless each option is given at most once and its value fits
 abbrev pub line_of : List Text → Option PlainLine
 line_of words = fit_line (parts None words)

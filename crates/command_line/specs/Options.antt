@@ -1,4 +1,4 @@
--- The options of a run (this project's profile): one table, of which the grammar, the command that reads the words and the help text speak.
+-- The options of a run (this project's profile): one table, for the grammar, the clap command that parses the words, and the help text.
 use Rattle.std.specs.Prelude.{ℕ, ◌≤◌, ◌==◌, ◌&&◌, nat_le, Bool, true, false, List, [], ◌∷◌, length, Option, Some, None, is_some, codes, if◌then◌else◌}
 use Rattle.wire_base.specs.Prefixes.{is_number, number_of}
 use Rattle.command_line.specs.declared.options.Choice.{Choice}
@@ -10,7 +10,7 @@ use Rattle.command_line.specs.declared.options.Kind.TheVariants.{Number, Limit, 
 abbrev pub Text : Type 0
 Text = List ℕ
 
--- the name that stands after `--`
+-- the name of an option, without `--`
 abbrev pub name_of : Choice → Text
 name_of Hops = codes "hops"
 name_of Flows = codes "flows"
@@ -26,8 +26,7 @@ name_of Inside = codes "inside"
 name_of Offload = codes "offload"
 name_of Both = codes "both"
 
--- what stands after the name: a number from one to another, with the one that is meant where the option is not given; a bound from one number to another,
--- none where the option is not given; a name; nothing
+-- the value that an option takes: a number (least, greatest, default); a limit (least, greatest; no limit if not given); a name; none
 abbrev pub kind_of : Choice → Kind
 kind_of Hops = Number 0 254 30
 kind_of Flows = Number 1 65536 4096
@@ -43,16 +42,16 @@ kind_of Inside = Name
 kind_of Offload = Alone
 kind_of Both = Alone
 
--- the rows of the table, in order
+-- the options, in the order of the table
 abbrev pub all_choices : List Choice
 all_choices = Hops ∷ Flows ∷ Cells ∷ Frags ∷ FragCells ∷ Idle ∷ FragTime ∷ Seed ∷ Quota ∷ Mtu ∷ Inside ∷ Offload ∷ Both ∷ []
 
--- an option of this kind does not stand alone
+-- an option of this kind takes a value
 abbrev pub takes_value : Kind → Bool
 takes_value Alone = false
 takes_value _ = true
 
--- the number that 1 to 20 decimal digits are, where it is in the range
+-- the value of 1 to 20 decimal digits, if it is in the range
 abbrev pub number_within : (least greatest : ℕ) → Text → Option ℕ
 number_within least greatest text =
     if is_number 20 text && nat_le least (number_of text) && nat_le (number_of text) greatest then Some (number_of text) else None
@@ -62,13 +61,13 @@ abbrev pub is_name : Text → Bool
 is_name [] = false
 is_name (first ∷ _) = if first == 45 then false else true
 
--- the number that is told by an option of this kind with this value
+-- the number of an option of this kind with this value
 abbrev pub number_by : Kind → Text → Option ℕ
 number_by (Number least greatest standard) text = number_within least greatest text
 number_by (Limit least greatest) text = number_within least greatest text
 number_by _ text = None
 
--- the value fits the option; none that fits begins with `-`
+-- the value fits an option of this kind; no value of an option that takes one may begin with `-`
 abbrev pub is_value : Kind → Text → Bool
 is_value (Number least greatest standard) text = is_some (number_within least greatest text)
 is_value (Limit least greatest) text = is_some (number_within least greatest text)
@@ -94,12 +93,12 @@ IsWithin least greatest n = (least ≤ n) × (n ≤ greatest)
 abbrev pub IsInRange : Kind → ℕ → Type 0
 IsInRange kind n = IsWithin (least_of kind) (greatest_of kind) n
 
--- the number that is meant where an option of this kind is not given
+-- the default number of an option of this kind
 abbrev pub standard_of : Kind → ℕ
 standard_of (Number least greatest standard) = standard
 standard_of _ = 0
 
--- the option has a number that is meant where it is not given, and this one is in the range
+-- the option has a default number, and it is in the range
 abbrev pub HasStandard : Kind → Type 0
 HasStandard (Number least greatest standard) = IsWithin least greatest standard
 HasStandard _ = ⊥

@@ -1,4 +1,4 @@
-//! The words behind `run`: options, each once and with a value that fits, and then the names.
+//! The words after `run`: options, each once and with a value that fits, and then the names.
 ghost use Rattle.std.specs.Prelude.{◌≡◌, ◌++◌, ◌∷◌, [], map, option_map, string_bytes, is_some, true, None, IfOk};
 ghost use Rattle.command_line.specs.Options.{all_choices, is_value as is_value_of};
 ghost use Rattle.command_line.specs.Line.{after_front as behind, word_of, word_as, word_in, plain_word, plain_use, plain_line, given, may_use};
@@ -12,11 +12,11 @@ use std::alloc::{AllocError, Global};
 #[derive(Clone, Copy)]
 pub struct Use<'a> {
     pub choice: Choice,
-    /// The octets of the value; `true` for an option that stands alone.
+    /// The octets of the value; `true` for an option without a value.
     pub value: &'a [u8],
 }
 
-/// The words behind `run`.
+/// The words after `run`, parsed.
 #[derive(Drop)]
 pub struct Line<'a> {
     pub uses: Vec<Use<'a>>,
@@ -24,7 +24,7 @@ pub struct Line<'a> {
     pub names: &'a [String],
 }
 
-/// What a word before IN is.
+/// The kind of a word before IN.
 #[derive(Clone, Copy)]
 pub enum Met<'a> {
     /// The first of the names.
@@ -36,7 +36,8 @@ pub enum Met<'a> {
     Unknown,
 }
 
-/// The line that the words behind `run` are; none where an option is unknown, stands twice, or has no value that fits.
+/// Parses the words after `run`. Returns None if an option is unknown, is given twice, or has no
+/// value that fits.
 pub fn line_of<'a>(alloc: Global, words: &'a [String]) -> Result<Option<Line<'a>>, AllocError>
     ensures { IfOk result (λ line. option_map plain_line line ≡ spec.line_of (map string_bytes words.entry.now)) }
 {
@@ -73,7 +74,8 @@ pub fn line_of<'a>(alloc: Global, words: &'a [String]) -> Result<Option<Line<'a>
     Ok(Some(Line { uses, names: &[] }))
 }
 
-// Adds a use and answers true, where the value fits and no use before is of the option.
+// Adds a use and returns true, or returns false if the value does not fit or the option was used
+// before.
 fn add_use<'a>(uses: &mut Vec<Use<'a>>, choice: Choice, value: &'a [u8]) -> Result<bool, AllocError>
     ensures may { IfOk result (λ added. added ≡ may_use choice value.entry.now (map plain_use uses.old.items)) }
     ensures added { IfOk result (λ added. added ≡ true → map plain_use uses.new.items ≡ map plain_use uses.old.items ++ record { choice = choice; value = value.entry.now } ∷ []) }
@@ -85,7 +87,7 @@ fn add_use<'a>(uses: &mut Vec<Use<'a>>, choice: Choice, value: &'a [u8]) -> Resu
     Ok(true)
 }
 
-/// Whether one of the uses is of the option.
+/// Returns whether the option is used.
 pub fn is_given(uses: &[Use<'_>], choice: Choice) -> bool
     ensures { result ≡ is_some (given choice (map plain_use uses.now)) }
 {
@@ -98,7 +100,7 @@ pub fn is_given(uses: &[Use<'_>], choice: Choice) -> bool
     false
 }
 
-/// Whether the value fits an option of this kind.
+/// Returns whether the value fits an option of this kind.
 pub fn is_value(kind: Kind, value: &[u8]) -> bool
     ensures { result ≡ is_value_of kind value.now }
 {
@@ -114,7 +116,7 @@ pub fn is_value(kind: Kind, value: &[u8]) -> bool
     }
 }
 
-// What a word before IN is.
+// Returns the kind of a word before IN.
 fn word_met(word: &[u8]) -> Met<'_>
     ensures { plain_word result ≡ word_of word.entry.now }
 {
@@ -127,7 +129,7 @@ fn word_met(word: &[u8]) -> Met<'_>
     }
 }
 
-// The option that the text behind `--` is of.
+// Returns the use of an option that the text after `--` is.
 fn option_met(text: &[u8]) -> Met<'_>
     ensures { plain_word result ≡ word_in all_choices text.entry.now }
 {
@@ -139,7 +141,8 @@ fn option_met(text: &[u8]) -> Met<'_>
     Met::Unknown
 }
 
-// The option, where behind its name stands nothing, or `=` and a value.
+// Returns the use of this option that the text is: its name, or its name, `=` and a value. None if
+// it is neither.
 fn met_as(choice: Choice, text: &[u8]) -> Option<Met<'_>>
     ensures { option_map plain_word result ≡ word_as choice text.entry.now }
 {
@@ -153,7 +156,7 @@ fn met_as(choice: Choice, text: &[u8]) -> Option<Met<'_>>
     }
 }
 
-// What stands behind this front of a text.
+// Returns the text after this front, or None if it does not begin with it.
 fn after_front<'a>(front: &[u8], text: &'a [u8]) -> Option<&'a [u8]>
     ensures { option_map (λ rest. rest.now) result ≡ behind front.now text.entry.now }
 {

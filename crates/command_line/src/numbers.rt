@@ -3,7 +3,7 @@ ghost use Rattle.std.specs.Prelude.{◌≡◌, Some, None, if◌then◌else◌};
 ghost use Rattle.wire_base.specs.Prefixes.{is_number, number_of};
 ghost use Rattle.command_line.specs.Options.{number_within as number_that_is_within};
 
-/// The number that 1 to 20 decimal digits are, where it is from `least` to `greatest`.
+/// Parses a number of 1 to 20 decimal digits, from `least` to `greatest`.
 pub fn number_within(text: &[u8], least: u64, greatest: u64) -> Option<u64>
     ensures { result ≡ number_that_is_within least greatest text.now }
 {
@@ -14,7 +14,7 @@ pub fn number_within(text: &[u8], least: u64, greatest: u64) -> Option<u64>
     Some(number as u64)
 }
 
-// The number that 1 to 20 decimal digits are.
+// Parses a number of 1 to 20 decimal digits.
 fn read_number(text: &[u8]) -> Option<u128>
     ensures { result ≡ (if is_number 20 text.now then Some (number_of text.now) else None) }
 {

@@ -1,4 +1,4 @@
-//! The options of a run: one table.
+//! The table of the options of a run.
 ghost use Rattle.std.specs.Prelude.{◌≡◌};
 ghost use Rattle.command_line.specs.Options.{name_of, kind_of, all_choices, standard_of as standard_of_kind, IsInRange, HasStandard};
 
@@ -20,16 +20,16 @@ pub enum Choice {
     Both,
 }
 
-/// What stands after an option's name.
+/// The kind of value that an option takes.
 #[derive(Clone, Copy, Debug, PartialEq, Eq)]
 pub enum Kind {
-    /// A number from `least` to `greatest`; `standard` is meant where the option is not given.
+    /// A number from `least` to `greatest`; `standard` is the default.
     Number {
         least: u64,
         greatest: u64,
         standard: u64,
     },
-    /// A bound from `least` to `greatest`; there is none where the option is not given.
+    /// A limit from `least` to `greatest`; there is no limit if the option is not given.
     Limit {
         least: u64,
         greatest: u64,
@@ -39,15 +39,15 @@ pub enum Kind {
     Alone,
 }
 
-/// A row of the table of options.
+/// An entry of the table of options.
 #[derive(Clone, Copy)]
 pub struct Row<'a> {
-    /// What stands after `--`.
+    /// The name of the option, without `--`.
     pub name: &'a str,
     pub kind: Kind,
 }
 
-// The row of an option that takes a number.
+// Returns the entry of an option that takes a number.
 fn number<'a>(name: &'a str, least: u64, greatest: u64, standard: u64) -> Row<'a>
     ensures name { result.name.now ≡ name.entry.now }
     ensures kind { result.kind ≡ Kind.Number least greatest standard }
@@ -79,7 +79,7 @@ impl Choice {
         Choice::Both,
     ];
 
-    /// The option's row of the table.
+    /// Returns the option's entry of the table.
     pub fn row<'a>(self) -> Row<'a>
         ensures name { result.name.now ≡ name_of self }
         ensures kind { result.kind ≡ kind_of self }
@@ -122,7 +122,7 @@ impl Choice {
         }
     }
 
-    /// The number that is meant where the option is not given.
+    /// Returns the default number of the option.
     pub fn standard(self) -> u64
         requires { HasStandard (kind_of self) }
         ensures exact { result ≡ standard_of_kind (kind_of self) }
@@ -131,7 +131,7 @@ impl Choice {
         standard_of(self.row().kind)
     }
 
-    /// Each option, in the order of the table.
+    /// Returns all options, in the order of the table.
     pub fn all() -> [Choice; 13]
         ensures { result ≡ all_choices }
     {
@@ -139,7 +139,7 @@ impl Choice {
     }
 }
 
-// The number that is meant where an option of this kind is not given.
+// Returns the default number of an option of this kind.
 fn standard_of(kind: Kind) -> u64
     requires { HasStandard kind }
     ensures exact { result ≡ standard_of_kind kind }

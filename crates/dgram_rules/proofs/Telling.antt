@@ -1,4 +1,4 @@
--- What the rows say of a datagram, in its protocol's answer.
+-- The rules on a datagram, and the result for its protocol.
 use Rattle.std.proofs.Common.{◌≡◌, Bool, true, false, ◌&&◌, ◌==◌, not, List, [], ◌∷◌, Option, Some, None, refl, sym, ap, ◌∙◌, subst, find, cond, if◌then◌else◌}
 use Rattle.std.proofs.lemmas.Bool.{and_parts, and_right, eqb-true, ne_eqb, both_ways}
 use Rattle.rule_book.specs.declared.rule.Rule.{Rule}
@@ -12,7 +12,7 @@ use Rattle.dgram_rules.specs.Rows.{has_wrong_sum, u_short, u_len, u_sum, u_sum_o
 use Rattle.dgram_rules.specs.Judged.{dgram_judged, icmp_judged, udp_judged}
 use Rattle.dgram_rules.specs.Laws.{Tells, DatagramsTellTheRows, OthersHaveNoRow, OffloadKeepsWrongSums}
 
--- the three answers tell of their rows
+-- the three results are those of their rules
 drop_tells : (rule : Rule) (mended : Bool) → Tells (Some rule) mended (Drop rule)
 drop_tells rule mended = record { drops = refl; mends = λ none. absurd (cc) }
 
@@ -22,7 +22,7 @@ mend_tells = record { drops = refl; mends = λ none. refl }
 pass_tells : Tells None false Pass
 pass_tells = record { drops = refl; mends = λ none. refl }
 
--- the first row that drops, by the tests of the protocol and those of the rows
+-- the first drop rule that holds, by the tests of the protocol and those of the rules
 abbrev first_row : (udp icmp : Bool) (u_short u_len u_sum m_short m_sum m_type m_quote : Bool) → Option Rule
 first_row udp icmp a b c d e f g =
     if udp && a then Some rules.UShort else if udp && b then Some rules.ULen else if udp && c then Some rules.USum
@@ -33,7 +33,7 @@ abbrev row_of : (udp icmp : Bool) → PlainSettings → Bool → Datagram → Op
 row_of udp icmp settings live d =
     first_row udp icmp (u_short d) (u_len d) (u_sum settings d) (m_short d) (m_sum d) (m_type d) (m_quote settings live d)
 
-by_tests : (settings : PlainSettings) (live : Bool) (d : Datagram) → dgram_dropped_by settings live d ≡ row_of (d.head.protocol.0 == 17) (d.head.protocol.0 == 1) settings live d
+by_tests : (settings : PlainSettings) (live : Bool) (d : Datagram) → dgram_dropped_by settings live d ≡ row_of (d.head.protocol == 17) (d.head.protocol == 1) settings live d
 unfolding dgram_dropped_by
 by_tests settings live d = refl
 
@@ -46,7 +46,7 @@ udp_by false false true d e f g mended = drop_tells rules.USum mended
 udp_by false false false d e f g true = mend_tells
 udp_by false false false d e f g false = pass_tells
 
-udp_tells : (settings : PlainSettings) (live : Bool) (d : Datagram) → d.head.protocol.0 ≡ 17
+udp_tells : (settings : PlainSettings) (live : Bool) (d : Datagram) → d.head.protocol ≡ 17
     → Tells (dgram_dropped_by settings live d) (holds_dgram settings live d rules.USumOut) (udp_judged settings d)
 udp_tells settings live d h =
     let row : dgram_dropped_by settings live d ≡ row_of true false settings live d =
@@ -65,7 +65,7 @@ icmp_by a b c false false true g = drop_tells rules.MType false
 icmp_by a b c false false false true = drop_tells rules.MQuote false
 icmp_by a b c false false false false = pass_tells
 
-icmp_tells : (settings : PlainSettings) (live : Bool) (d : Datagram) → d.head.protocol.0 ≡ 1
+icmp_tells : (settings : PlainSettings) (live : Bool) (d : Datagram) → d.head.protocol ≡ 1
     → Tells (dgram_dropped_by settings live d) (holds_dgram settings live d rules.USumOut) (icmp_judged settings live d)
 icmp_tells settings live d h =
     let row : dgram_dropped_by settings live d ≡ row_of false true settings live d =
@@ -75,8 +75,8 @@ icmp_tells settings live d h =
     subst (λ dropped. P dropped (holds_dgram settings live d rules.USumOut)) (sym row)
     (subst (P (row_of false true settings live d)) (sym mended) (icmp_by (u_short d) (u_len d) (u_sum settings d) (m_short d) (m_sum d) (m_type d) (m_quote settings live d)))
 
--- no row holds where both tests of the protocol fail
-none_holds : (settings : PlainSettings) (live : Bool) (d : Datagram) → (d.head.protocol.0 == 17) ≡ false → (d.head.protocol.0 == 1) ≡ false → (rule : Rule) → holds_dgram settings live d rule ≡ false
+-- no rule holds if both tests of the protocol fail
+none_holds : (settings : PlainSettings) (live : Bool) (d : Datagram) → (d.head.protocol == 17) ≡ false → (d.head.protocol == 1) ≡ false → (rule : Rule) → holds_dgram settings live d rule ≡ false
 none_holds settings live d a b rules.UShort = ap (λ t. t && u_short d) a
 none_holds settings live d a b rules.ULen = ap (λ t. t && u_len d) a
 none_holds settings live d a b rules.USum = ap (λ t. t && u_sum settings d) a
@@ -89,23 +89,23 @@ none_holds settings live d a b _ = refl
 
 pub others_have_none : OthersHaveNoRow
 others_have_none settings live d a b =
-    let udp : (d.head.protocol.0 == 17) ≡ false = ne_eqb d.head.protocol.0 17 a in
-    let icmp : (d.head.protocol.0 == 1) ≡ false = ne_eqb d.head.protocol.0 1 b in
+    let udp : (d.head.protocol == 17) ≡ false = ne_eqb d.head.protocol 17 a in
+    let icmp : (d.head.protocol == 1) ≡ false = ne_eqb d.head.protocol 1 b in
     (by_tests settings live d ∙ (λ i. row_of (udp i) (icmp i) settings live d), none_holds settings live d udp icmp)
 
--- the answer, by the tests of the protocol
+-- the result, by the tests of the protocol
 abbrev answer_by : (udp icmp : Bool) → PlainSettings → Bool → Datagram → DgramJudged
 answer_by udp icmp settings live d = if udp then udp_judged settings d else if icmp then icmp_judged settings live d else Pass
 
--- this answer tells of the rows
+-- this result is that of the rules
 abbrev told : PlainSettings → Bool → Datagram → DgramJudged → Type 0
 told settings live d = Tells (dgram_dropped_by settings live d) (holds_dgram settings live d rules.USumOut)
 
 pub datagrams_tell : DatagramsTellTheRows
-datagrams_tell settings live d = by (d.head.protocol.0 == 17) (d.head.protocol.0 == 1) refl refl
+datagrams_tell settings live d = by (d.head.protocol == 17) (d.head.protocol == 1) refl refl
   where
-    by : (udp icmp : Bool) → (d.head.protocol.0 == 17) ≡ udp → (d.head.protocol.0 == 1) ≡ icmp → told settings live d (dgram_judged settings live d)
-    by true icmp u m = subst (told settings live d) (sym (ap (λ b. answer_by b (d.head.protocol.0 == 1) settings live d) u)) (udp_tells settings live d (eqb-true _ _ u))
+    by : (udp icmp : Bool) → (d.head.protocol == 17) ≡ udp → (d.head.protocol == 1) ≡ icmp → told settings live d (dgram_judged settings live d)
+    by true icmp u m = subst (told settings live d) (sym (ap (λ b. answer_by b (d.head.protocol == 1) settings live d) u)) (udp_tells settings live d (eqb-true _ _ u))
     by false true u m = subst (told settings live d) (sym (λ i. answer_by (u i) (m i) settings live d)) (icmp_tells settings live d (eqb-true _ _ m))
     by false false u m =
         let row : dgram_dropped_by settings live d ≡ None = by_tests settings live d ∙ (λ i. row_of (u i) (m i) settings live d) in
@@ -113,7 +113,7 @@ datagrams_tell settings live d = by (d.head.protocol.0 == 17) (d.head.protocol.0
         (subst (λ dropped. Tells dropped (holds_dgram settings live d rules.USumOut) Pass) (sym row)
         (subst (λ mended. Tells None mended Pass) (sym (none_holds settings live d u m rules.USumOut)) pass_tells))
 
--- what is found passes the test
+-- the rule that is found passes the test
 first_passes : (p : Rule → Bool) (told : Bool) (y x : Rule) (rest : Option Rule) → p y ≡ told → (rest ≡ Some x → p x ≡ true) → cond told (Some y) rest ≡ Some x → p x ≡ true
 first_passes p true y x rest e later h = let same : y ≡ x = cc in ap p (sym same) ∙ e
 first_passes p false y x rest e later h = later h
@@ -127,5 +127,5 @@ unfolding dgram_dropped_by
 offload_keeps settings live d offload side h =
     let spared : u_sum settings d ≡ false =
     (λ i. has_wrong_sum d && not (not (goes_in (side i)) && offload i)) ∙ and_right (has_wrong_sum d) false refl in
-    let holds = and_parts (d.head.protocol.0 == 17) (u_sum settings d) (found_passes (holds_dgram settings live d) datagram_rows rules.USum h) in
+    let holds = and_parts (d.head.protocol == 17) (u_sum settings d) (found_passes (holds_dgram settings live d) datagram_rows rules.USum h) in
     both_ways (u_sum settings d) spared holds.1

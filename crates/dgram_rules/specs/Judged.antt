@@ -1,4 +1,4 @@
--- What is answered on a datagram, row by row.
+-- The results of judging a datagram, rule by rule.
 use Rattle.std.specs.Prelude.{◌==◌, Bool, if◌then◌else◌}
 use Rattle.rule_book.specs.declared.rule.Rule.TheVariants as rules
 use Rattle.norm_settings.specs.Settings.{PlainSettings}
@@ -7,7 +7,7 @@ use Rattle.dgram_rules.specs.declared.judged.DgramJudged.TheVariants.{Pass, Mend
 use Rattle.ip_rules.specs.Datagrams.{Datagram}
 use Rattle.dgram_rules.specs.Rows.{u_short, u_len, u_sum, u_sum_out, m_short, m_sum, m_type, m_quote}
 
--- what becomes of UDP: the first drop row that holds drops it, U_SUM_OUT mends what none drops, and else it passes
+-- the result for UDP: the first drop rule that holds drops the datagram, else U_SUM_OUT rewrites its checksum if it holds, else the datagram passes
 abbrev pub udp_judged : PlainSettings → Datagram → DgramJudged
 udp_judged settings d =
     if u_short d then Drop rules.UShort
@@ -16,7 +16,7 @@ udp_judged settings d =
     else if u_sum_out settings d then Mend
     else Pass
 
--- what becomes of ICMP: the first drop row that holds drops it, and else it passes
+-- the result for ICMP: the first drop rule that holds drops the datagram, else it passes
 abbrev pub icmp_judged : PlainSettings → (live : Bool) → Datagram → DgramJudged
 icmp_judged settings live d =
     if m_short d then Drop rules.MShort
@@ -25,7 +25,7 @@ icmp_judged settings live d =
     else if m_quote settings live d then Drop rules.MQuote
     else Pass
 
--- what becomes of a datagram: of UDP (17) and of ICMP (1) what is said of them, and another protocol passes
+-- the result for a datagram: by the rules of UDP (17) or ICMP (1); another protocol passes
 abbrev pub dgram_judged : PlainSettings → (live : Bool) → Datagram → DgramJudged
 dgram_judged settings live d =
-    if d.head.protocol.0 == 17 then udp_judged settings d else if d.head.protocol.0 == 1 then icmp_judged settings live d else Pass
+    if d.head.protocol == 17 then udp_judged settings d else if d.head.protocol == 1 then icmp_judged settings live d else Pass

@@ -1,4 +1,4 @@
--- Laws of the rows on UDP and ICMP.
+-- Laws of the rules on UDP and ICMP.
 use Rattle.std.specs.Prelude.{◌≡◌, ◌≢◌, Bool, true, false, Option, Some, None}
 use Rattle.wire_base.specs.declared.address.Side.TheVariants.{Outward}
 use Rattle.rule_book.specs.declared.rule.Rule.{Rule}
@@ -10,37 +10,37 @@ use Rattle.ip_rules.specs.Datagrams.{Datagram}
 use Rattle.dgram_rules.specs.Rows.{holds_dgram, dgram_dropped_by}
 use Rattle.dgram_rules.specs.Judged.{dgram_judged}
 
--- the row that an answer drops by, if it drops
+-- the rule of a result that drops
 abbrev pub row_in : DgramJudged → Option Rule
 row_in (Drop rule) = Some rule
 row_in Mend = None
 row_in Pass = None
 
--- the answer mends
+-- the result rewrites the checksum
 abbrev pub is_mend : DgramJudged → Bool
 is_mend (Drop rule) = false
 is_mend Mend = true
 is_mend Pass = false
 
--- the answer tells of the rows: it drops by a rule exactly where that is the first row that drops, and where none does, it mends exactly
--- where the row that mends holds
+-- the result is that of the rules: it drops by a rule exactly if that is the first drop rule that holds, and if none holds, it rewrites the checksum exactly if
+-- the fix rule holds
 pub record Tells (dropped : Option Rule) (mended : Bool) (answer : DgramJudged) : Type 0 where
   pub drops : dropped ≡ row_in answer
   pub mends : dropped ≡ None → mended ≡ is_mend answer
 
--- what becomes of a datagram tells of the rows, whichever eras are live
+-- the result for a datagram is that of the rules, whichever eras are live
 abbrev pub DatagramsTellTheRows : Type 0
 DatagramsTellTheRows =
     (settings : PlainSettings) (live : Bool) (d : Datagram)
     → Tells (dgram_dropped_by settings live d) (holds_dgram settings live d rules.USumOut) (dgram_judged settings live d)
 
--- of another protocol no row holds, and none drops it
+-- no rule holds of a datagram of another protocol, and none drops it
 abbrev pub OthersHaveNoRow : Type 0
 OthersHaveNoRow =
-    (settings : PlainSettings) (live : Bool) (d : Datagram) → d.head.protocol.0 ≢ 17 → d.head.protocol.0 ≢ 1
+    (settings : PlainSettings) (live : Bool) (d : Datagram) → d.head.protocol ≢ 17 → d.head.protocol ≢ 1
     → (dgram_dropped_by settings live d ≡ None) × ((rule : Rule) → holds_dgram settings live d rule ≡ false)
 
--- under offload no outbound UDP message is dropped for its checksum
+-- with `offload` no outbound UDP message is dropped for its checksum
 abbrev pub OffloadKeepsWrongSums : Type 0
 OffloadKeepsWrongSums =
     (settings : PlainSettings) (live : Bool) (d : Datagram) → settings.offload ≡ true → d.side ≡ Outward

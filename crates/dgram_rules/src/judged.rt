@@ -1,13 +1,13 @@
-//! What the rows on UDP and ICMP say of a datagram.
+//! The results of judging a datagram by the rules on UDP and ICMP.
 use rule_book::Rule;
 
-/// What becomes of a whole datagram; of these rows none holds where it is neither UDP nor ICMP.
+/// The result of judging a whole datagram; no rule holds of one that is neither UDP nor ICMP.
 #[derive(Clone, Copy, Debug, PartialEq, Eq)]
 pub enum DgramJudged {
-    /// No row that drops or mends holds.
+    /// No drop rule and no fix rule holds.
     Pass,
-    /// It goes out with a right UDP checksum in place of its wrong one.
+    /// The datagram is written with a right UDP checksum instead of its wrong one.
     Mend,
-    /// This row drops it.
+    /// This rule drops the datagram.
     Drop(Rule),
 }

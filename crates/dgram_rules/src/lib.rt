@@ -1,4 +1,8 @@
-//! The rows of the rule table on UDP and ICMP: which datagram is dropped, and which UDP checksum is mended.
+//! The rules on UDP and ICMP: which datagram is dropped, and which UDP checksum is rewritten.
+//!
+//! Proved: `judge_udp` and `judge_icmp` drop a message under exactly the first of their rules that
+//! holds. A message that no rule drops gets a new checksum exactly if its UDP checksum is wrong, it
+//! goes outward, and `--offload` is set. No rule of this crate holds of another protocol (`laws`).
 #![tactic(auto)]
 
 pub mod judged;

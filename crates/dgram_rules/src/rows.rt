@@ -1,4 +1,4 @@
-//! The rows on UDP and ICMP, in the order of their numbers.
+//! The rules on UDP and ICMP, in the order of their numbers.
 ghost use Rattle.std.specs.Prelude.{◌≡◌, ◌≤◌, ◌&&◌, not, ℕ, List, All, false, length};
 ghost use Rattle.wire_base.specs.Udp as udp;
 ghost use Rattle.wire_base.specs.Sums.{pseudo_sum};
@@ -15,9 +15,10 @@ use ipv4_codec::Ipv4;
 use norm_settings::{Settings, side_of};
 use rule_book::Rule;
 use udp_codec::UdpFault;
-use wire_base::{Protocol, Side, pseudo_sum};
+use wire_base::{Side, protocol, pseudo_sum};
 
-/// Judges a packet that carries UDP by the first row that holds; `Mend` where that is U_SUM_OUT.
+/// Judges a packet that carries UDP by the first rule that holds; returns `Mend` if that is
+/// U_SUM_OUT.
 pub fn judge_udp(settings: &Settings, packet: &IpPacket<'_>) -> DgramJudged
     ensures { (header : List ℕ) → result ≡ spec.udp_judged (plain_settings settings.now) (datagram_with header packet.now) }
 {
@@ -32,15 +33,16 @@ pub fn judge_udp(settings: &Settings, packet: &IpPacket<'_>) -> DgramJudged
     }
 }
 
-// What is summed before a message. Where the length field says another length, as of a message too long for it, no sum is asked for.
+// Returns the sum of the pseudo-header. A message longer than the length field can state is dropped
+// by U_LEN, so its sum does not matter.
 fn pseudo_of(head: &Ipv4, message: &[u8]) -> u32
-    ensures { udp.has_other_length message.now ≡ false → result ≡ pseudo_sum head.now.src.0 head.now.dst.0 head.now.protocol.0 (length message.now) }
+    ensures { udp.has_other_length message.now ≡ false → result ≡ pseudo_sum head.now.src.0 head.now.dst.0 head.now.protocol (length message.now) }
 {
     let size = u16::try_from(message.len()).unwrap_or(u16::MAX);
     pseudo_sum(head.src, head.dst, head.protocol, size)
 }
 
-// Whether the packet's sender leaves checksums to its interface.
+// Returns whether the packet is outbound and its sender leaves checksums to its network card.
 fn is_offloaded(settings: &Settings, packet: &IpPacket<'_>) -> bool
     ensures { result ≡ (not (goes_in packet.now.side) && settings.now.offload) }
 {
@@ -50,8 +52,8 @@ fn is_offloaded(settings: &Settings, packet: &IpPacket<'_>) -> bool
     }
 }
 
-/// Judges a packet that carries ICMP by the first row that holds. `live` says whether an era is live for the TCP connection
-/// that it quotes.
+/// Judges a packet that carries ICMP by the first rule that holds. `live` says whether an era is
+/// live for the TCP connection that it quotes.
 pub fn judge_icmp(settings: &Settings, packet: &IpPacket<'_>, live: bool) -> DgramJudged
     requires prefixes { All (λ prefix. prefix.len ≤ 32) settings.now.prefixes.items }
     ensures { (header : List ℕ) → result ≡ spec.icmp_judged (plain_settings settings.now) live (datagram_with header packet.now) }
@@ -71,7 +73,7 @@ pub fn judge_icmp(settings: &Settings, packet: &IpPacket<'_>, live: bool) -> Dgr
     }
 }
 
-// Whether what an error quotes is no packet that went outward.
+// Returns whether an error does not quote a packet that went outwards.
 fn is_stray(settings: &Settings, message: &[u8], live: bool) -> bool
     requires { All (λ prefix. prefix.len ≤ 32) settings.now.prefixes.items }
     ensures { result ≡ table.is_stray (plain_settings settings.now) live (quoted_in message.now) }
@@ -80,5 +82,5 @@ fn is_stray(settings: &Settings, message: &[u8], live: bool) -> bool
         return true;
     };
     let outward = side_of(settings, quote.src, quote.dst) == Some(Side::Outward);
-    !outward || quote.protocol == Protocol::TCP && !live
+    !outward || quote.protocol == protocol::TCP && !live
 }

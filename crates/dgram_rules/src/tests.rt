@@ -1,4 +1,4 @@
-//! Each row on a datagram of which it holds, and on datagrams of which it almost does.
+//! Each rule on a datagram for which it holds, and on datagrams for which it almost holds.
 ghost use Rattle.std.specs.Prelude.{◌≤◌, All};
 
 use super::*;
@@ -8,28 +8,31 @@ use ipv4_codec::Ipv4;
 use norm_settings::Settings;
 use std::alloc::{AllocError, Global};
 use std::test::Fail;
-use wire_base::{Addr, Prefix, Protocol, Side};
+use wire_base::{Addr, Prefix, Side, protocol};
 
-/// A UDP message (RFC 768) from port 40000 to port 53 with payload `hi`, an octet behind it, and a right checksum without that octet.
+/// A UDP message (RFC 768) from port 40000 to port 53 with payload `hi`, an octet after it, and a
+/// right checksum without that octet.
 const UDP: [u8; 11] = [
     0x9c, 0x40, 0x00, 0x35, 0x00, 0x0a, 0xc6, 0xbf, 0x68, 0x69, 0x00,
 ];
 
-/// An echo message (RFC 792) of nine octets; its sum is right with the last octet as the high one of its word.
+/// An echo message (RFC 792) of nine octets; its sum is right with the last octet as the high octet
+/// of its word.
 const ECHO: [u8; 9] = [0x08, 0x00, 0x4c, 0xfd, 0x00, 0x01, 0x00, 0x01, 0xab];
 
-/// A message without any mark.
+/// A message of zeros.
 const ZERO: [u8; 8] = [0, 0, 0, 0, 0, 0, 0, 0];
 
-/// A host that cannot be reached (RFC 792): it quotes eight octets of a TCP segment from 10.0.0.1 port 80 to 198.51.100.7 port 40000.
+/// A host unreachable message (RFC 792): it quotes eight octets of a TCP segment from 10.0.0.1 port
+/// 80 to 198.51.100.7 port 40000.
 const QUOTE: [u8; 36] = [
     0x03, 0x01, 0x5c, 0x87, 0x00, 0x00, 0x00, 0x00, 0x45, 0x00, 0x00, 0x28, 0x00, 0x01, 0x00, 0x00,
     0x40, 0x06, 0x46, 0x94, 0x0a, 0x00, 0x00, 0x01, 0xc6, 0x33, 0x64, 0x07, 0x00, 0x50, 0x9c, 0x40,
     0x00, 0x00, 0x03, 0xe7,
 ];
 
-/// Which way a message goes between 198.51.100.7 and 10.0.0.1, which is trusted, and what is said beside it; the message, the octets that are put
-/// into it, and how many of it stand; and the answer.
+/// A case: the direction of a message between 198.51.100.7 and 10.0.0.1, which is trusted, and the
+/// settings; the message, the octets changed in it, and its number of octets; and the result.
 struct Row {
     way: Way,
     octets: &'static [u8],
@@ -42,11 +45,11 @@ struct Row {
 enum Way {
     In,
     Out,
-    /// Outward, with checksums left to the interface.
+    /// Outward, with checksums left to the network card.
     Offload,
-    /// Inward, with checksums left to the interface.
+    /// Inward, with checksums left to the network card.
     InOffload,
-    /// Inward, with an era that is live for what is quoted.
+    /// Inward, with a live era for the quoted connection.
     Live,
 }
 
@@ -132,8 +135,8 @@ fn side_of(way: Way) -> Side {
     }
 }
 
-/// The packet of this protocol that carries these octets.
-fn packet_of(way: Way, protocol: Protocol, octets: &[u8]) -> IpPacket<'_> {
+/// Returns the packet of this protocol that carries these octets.
+fn packet_of(way: Way, protocol: u8, octets: &[u8]) -> IpPacket<'_> {
     let side = side_of(way);
     let outside = Addr(0xc633_6407);
     let inside = Addr(0x0a00_0001);
@@ -165,7 +168,7 @@ fn packet_of(way: Way, protocol: Protocol, octets: &[u8]) -> IpPacket<'_> {
     }
 }
 
-/// The octets of the row's message that stand.
+/// Returns the octets of the message of a case.
 fn octets_of(alloc: Global, row: &Row) -> Result<Vec<u8>, AllocError> {
     let mut octets = Vec::from_slice(alloc, row.octets)?;
     for (at, octet) in row.changes {
@@ -190,7 +193,7 @@ fn each_udp_row_holds_of_its_message_and_not_of_its_neighbour(rt: HostRuntime) -
     for (number, row) in UDP_ROWS.iter().enumerate() {
         let settings = settings(matches!(row.way, Way::Offload | Way::InOffload));
         let octets = octets_of(rt.alloc(), row)?;
-        let judged = judge_udp(&settings, &packet_of(row.way, Protocol::UDP, &octets));
+        let judged = judge_udp(&settings, &packet_of(row.way, protocol::UDP, &octets));
         assert_eq!(rt; word_of(judged), row.says, "row {number}");
     }
     Ok(())
@@ -205,7 +208,7 @@ fn each_icmp_row_holds_of_its_message_and_not_of_its_neighbour(
         let octets = octets_of(rt.alloc(), row)?;
         let judged = judge_icmp(
             &settings,
-            &packet_of(row.way, Protocol::ICMP, &octets),
+            &packet_of(row.way, protocol::ICMP, &octets),
             row.way == Way::Live,
         );
         assert_eq!(rt; word_of(judged), row.says, "row {number}");

@@ -1,4 +1,4 @@
--- Pieces counted.
+-- The number of parts.
 use Rattle.std.proofs.Common.{◌≡◌, ℕ, suc, ◌+◌, ◌-◌, ◌*◌, ◌<◌, ◌≤◌, [], ◌∷◌, length, map, ap, ⊎_elim, arith}
 use Rattle.std.specs.List.{range_with_len}
 use Rattle.std.proofs.Math.Nat.{mul-le-mul_left}
@@ -15,22 +15,22 @@ above : (size room index n : ℕ) → n * room < size + room → size ≤ room *
 above size room index n bound ended =
     ⊎_elim (λ lt. let more : room * (index + 1) ≤ room * n = mul-le-mul_left room (omega arith) in absurd (omega arith)) (λ ge. ge) (cases_lt index n)
 
--- a piece that begins inside the payload is one of those that are counted
+-- a part that begins inside the payload is counted
 pub within : (room index : ℕ) (parts : Parts) → 0 < room → room * index < length parts.payload → index < count_of room parts
 within room index parts some begins = below (length parts.payload) room index (count_of room parts) (div_ceil_times (length parts.payload) room some).0 begins
 
--- one that would begin at its end or behind it is not
+-- a part that would begin at the payload's end or after it is not
 pub past : (room index : ℕ) (parts : Parts) → 0 < room → length parts.payload ≤ room * index → count_of room parts ≤ index
 past room index parts some ended = above (length parts.payload) room index (count_of room parts) (div_ceil_times (length parts.payload) room some).1 ended
 
--- then no segment is left
+-- in this case no segment is left
 pub none-left : (room index : ℕ) (parts : Parts) → 0 < room → length parts.payload ≤ room * index → segments_from index room parts ≡ []
 none-left room index parts some ended =
     let bound = past room index parts some ended in
     let none : count_of room parts - index ≡ 0 = omega arith in
     ap (λ n. map (segment_of room parts) (range_with_len index n)) none
 
--- else that of the piece is the next
+-- otherwise the segment of the part is the next one
 pub next-left : (room index : ℕ) (parts : Parts) → 0 < room → room * index < length parts.payload → segments_from index room parts ≡ segment_of room parts index ∷ segments_from (index + 1) room parts
 next-left room index parts some begins =
     let bound = within room index parts some begins in

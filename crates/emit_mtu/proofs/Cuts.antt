@@ -11,7 +11,7 @@ use Rattle.emit_mtu.specs.Frames.{IsSent, IsWhole, link_size}
 use Rattle.emit_mtu.specs.Long.{e_cut, e_mtu, is_ip, is_marked, long_kind}
 use Rattle.emit_mtu.proofs.Facts.{both, less}
 
--- what is known of the packet of a frame that is cut
+-- the facts of the packet of a frame that is cut
 pub record IsCut (mtu : ℕ) (p : List ℕ) : Type 0 where
   pub long : mtu < ip.total_length p
   pub protocol : ip.protocol p ≡ 6
@@ -37,7 +37,7 @@ is_cut link mtu frame h =
       some = less _ _ may.1;
     }
 
--- it carries a whole datagram
+-- the frame carries a whole packet
 pub carried : (link : Link) (mtu : ℕ) (frame : List ℕ) → IsSent link frame → long_kind link mtu frame ≡ Cut → (kind_of link frame ≡ Ip (link_size link)) × IsWhole (packet_in link frame)
 carried link mtu frame sent h =
     ⊎_elim (λ arp. absurd (let long = (both (is_ip (kind_of link frame)) _ (both _ _ (cut link mtu frame _ _ refl refl h)).0).0 in let none = ap is_ip arp in cc)) (λ found. found) sent

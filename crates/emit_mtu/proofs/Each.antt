@@ -1,4 +1,4 @@
--- What holds of each segment of a frame.
+-- The facts of each segment of a frame.
 use Rattle.std.proofs.Common.{◌≡◌, ℕ, ◌+◌, ◌-◌, ◌*◌, ◌%◌, ◌^◌, ◌<◌, ◌≤◌, zero, suc, false, List, [], ◌++◌, length, map, drop, All, Some, refl, sym, ap, subst, ◌∙◌, arith, length-drop, ⊎_elim}
 use Rattle.std.specs.List.{flat_map, range_with_len}
 use Rattle.std.specs.Prelude.{slice_get}
@@ -61,13 +61,13 @@ cutting link mtu frame h =
       some = omega (arith, joined.sized.ip, joined.sized.options, h.least);
     }
 
--- a property of each piece's frame is one of all segments
+-- a property of the frame of each part is one of all segments
 pub all_segments : (P : List ℕ → Type 0) (room : ℕ) (parts : Parts) → ((index : ℕ) → P (segment_of room parts index)) → All P (segments_from 0 room parts)
 all_segments P room parts each k d inside =
     let count : k < count_of room parts - 0 = omega (arith, length-map-range_with_len (segment_of room parts) 0 (count_of room parts - 0)) in
     subst P (sym (get_or-map-range_with_len (segment_of room parts) 0 (count_of room parts - 0) k k d count (omega arith))) (each k)
 
--- one of the segments is that of its piece
+-- each segment is that of its part
 pub segment_at : (room : ℕ) (parts : Parts) (index : ℕ) (segment : List ℕ) → slice_get (segments_from 0 room parts) index ≡ Some segment → segment ≡ segment_of room parts index
 segment_at room parts index segment stands =
     let inside = slice_get_within (segments_from 0 room parts) index segment stands in
@@ -75,7 +75,7 @@ segment_at room parts index segment stands =
     sym (get_or_from_slice_get (segments_from 0 room parts) index segment [] stands)
     ∙ get_or-map-range_with_len (segment_of room parts) 0 (count_of room parts - 0) index index [] count (omega arith)
 
--- the packet of a segment has at most the MTU's octets, and its total length says how many
+-- the packet of a segment has at most `mtu` octets, and its total length is their number
 pub small : (link : Link) (mtu : ℕ) (frame : List ℕ) → Cutting link mtu frame → (index : ℕ) → let p = packet_in link (segment_of (room_of mtu (parts_of link frame)) (parts_of link frame) index) in (length p ≤ mtu) × (ip.total_length p ≡ length p)
 small link mtu frame c index =
     let parts = parts_of link frame in
@@ -90,7 +90,7 @@ none_is_long link mtu frame h =
     let c = cutting link mtu frame h in
     all_segments (λ segment. length (packet_in link segment) ≤ mtu) (room_of mtu (parts_of link frame)) (parts_of link frame) (λ index. (small link mtu frame c index).0)
 
--- so none is long
+-- so no segment is long
 pub none_too_long : (link : Link) (mtu : ℕ) (frame : List ℕ) → IsToBeCut link mtu frame → All (λ segment. is_long link mtu segment ≡ false) (segments link mtu frame)
 none_too_long link mtu frame h =
     let parts = parts_of link frame in
@@ -115,7 +115,7 @@ are_few link mtu frame h =
     few : (size tcp room mtu n : ℕ) → n * room < size + room → room * 133 ≤ room * n → 20 + tcp + room ≡ mtu → 576 ≤ mtu → tcp ≤ 60 → 20 + tcp + size ≤ 65535 → ⊥
     few size tcp room mtu n a b c d e f = omega arith
 
--- the payload of a segment is its piece
+-- the payload of a segment is its part
 payload_is_piece : (link : Link) (mtu : ℕ) (frame : List ℕ) → Cutting link mtu frame → (index : ℕ) → payload_in link (segment_of (room_of mtu (parts_of link frame)) (parts_of link frame) index) ≡ piece_of (room_of mtu (parts_of link frame)) index (parts_of link frame)
 payload_is_piece link mtu frame c index =
     let parts = parts_of link frame in
@@ -125,7 +125,7 @@ payload_is_piece link mtu frame c index =
     ∙ ap tcp.payload own.carried.payload
     ∙ (behind-own room index parts c.joined.sized.tcp c.joined.data_offset).payload
 
--- pieces one after another, from one on to the end
+-- the parts one after another, from one on to the end
 pieces : (link : Link) (room : ℕ) (parts : Parts) (n first : ℕ) → ((index : ℕ) → payload_in link (segment_of room parts index) ≡ piece_of room index parts) → length parts.payload ≤ room * (first + n) → flat_map (payload_in link) (map (segment_of room parts) (range_with_len first n)) ≡ drop (room * first) parts.payload
 pieces link room parts zero first each ended =
     sym (drop_all (room * first) parts.payload (let e : first + 0 ≡ first = omega arith in subst (λ n. length parts.payload ≤ room * n) e ended))

@@ -1,13 +1,13 @@
--- What tests tell.
+-- The meaning of tests.
 use Rattle.std.proofs.Common.{◌≡◌, ℕ, ◌<◌, ◌≤◌, ◌&&◌, ◌||◌, not, nat_le, nat_lt, Bool, true, false, Some, None, if◌then◌else◌, refl, arith}
 use Rattle.std.proofs.lemmas.Bool.Decides.{nat_tests}
 
--- both of two, where both hold together
+-- each of two tests, if both hold
 pub both : (a b : Bool) → (a && b) ≡ true → (a ≡ true) × (b ≡ true)
 both true b e = (refl, e)
 both false b e = cc
 
--- neither of two
+-- neither of two tests, if not one of them holds
 pub neither : (a b : Bool) → (a || b) ≡ false → (a ≡ false) × (b ≡ false)
 neither true b e = cc
 neither false b e = (refl, e)
@@ -29,7 +29,7 @@ at_most a b h = grind (arith, nat_tests)
 pub covers : (a b : ℕ) → nat_le a b ≡ true → a ≤ b
 covers a b e = grind (arith, nat_tests)
 
--- neither a mark nor a number above 0
+-- neither a flag nor a number above 0
 pub not_one : (a : Bool) (n : ℕ) → a ≡ false → n ≡ 0 → (a || nat_lt 0 n) ≡ false
 not_one a n e f = rw (e, f) refl
 

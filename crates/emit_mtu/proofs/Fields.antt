@@ -1,4 +1,4 @@
--- A segment of a frame, read.
+-- The fields of a segment of a frame.
 use Rattle.std.proofs.Common.{◌≡◌, ℕ, ◌+◌, ◌-◌, ◌*◌, ◌%◌, ◌^◌, List, ◌++◌, length, take, drop, sym, ap, ◌∙◌, arith, length-drop}
 use Rattle.wire_base.specs.Ipv4 as ip
 use Rattle.wire_base.specs.Tcp as tcp
@@ -36,7 +36,7 @@ fields_of-packet_of p room index parts joined payload =
       octets = (ap tcp.payload here ∙ behind.payload ∙ (λ j. take room (drop (room * index) (payload j)))) i;
     }
 
--- the room that the headers leave, by the options
+-- the number of octets that the headers leave, by the options
 pub room_is : (p : List ℕ) (mtu : ℕ) (parts : Parts) → AreJoined p parts → spec.room_of mtu parts ≡ room_for mtu (fields_of p)
 room_is p mtu parts joined =
     let area = behind-front parts.tcp parts.payload joined.sized.tcp joined.data_offset in

@@ -1,4 +1,4 @@
--- The flags of a piece.
+-- The flags of a part.
 use Rattle.std.proofs.Common.{◌≡◌, ℕ, ◌*◌, ◌/◌, ◌%◌, ◌==◌, ◌&&◌, ◌||◌, Bool, true, false, if◌then◌else◌, refl, sym, ap, ◌∙◌, arith}
 use Rattle.std.proofs.lemmas.Bool.Decides.{nat_tests}
 use Rattle.wire_base.specs.Tcp as tcp
@@ -6,7 +6,7 @@ use Rattle.emit_mtu.specs.Long.{is_marked}
 use Rattle.emit_mtu.specs.Segments.{flags_of, lost}
 use Rattle.emit_mtu.specs.Laws.{FlagsAreKept}
 
--- what a piece loses of a flag that it keeps, and of one that it does not
+-- the value that a part loses by a flag that it keeps, and by one that it does not
 none_lost : (weight flags : ℕ) → lost weight flags true ≡ 0
 none_lost weight flags = pick (tcp.has_flag weight flags)
   where
@@ -56,7 +56,7 @@ bits false false flags =
     let d = cwr_lost flags in
     record { fin = omega arith; syn = omega arith; rst = omega arith; psh = omega arith; ack = omega arith; urg = omega arith; ece = omega arith; cwr = omega arith }
 
--- a bit that is kept where this is so
+-- a bit that is kept if `kept` is true
 kept_where : (kept : Bool) (n bit : ℕ) → n ≡ (if kept then bit else 0) → (n == 1) ≡ (kept && (bit == 1))
 kept_where true n bit e = ap (λ m. m == 1) e
 kept_where false n bit e = ap (λ m. m == 1) e
@@ -90,13 +90,13 @@ neither false false false e = (refl, refl, refl)
 pub is_unmarked : (flags : ℕ) → is_marked flags ≡ false → IsUnmarked flags
 is_unmarked flags e = let parts = neither _ _ _ e in record { syn = parts.0; rst = parts.1; urg = parts.2 }
 
--- its flags are legal where it has ACK
+-- its flags are legal exactly if it has ACK
 legal_by_ack : (syn fin rst ack : Bool) → syn ≡ false → rst ≡ false → tcp.go_together syn fin rst ack ≡ ack
 legal_by_ack true fin rst ack e f = cc
 legal_by_ack false fin true ack e f = cc
 legal_by_ack false fin false ack e f = refl
 
--- so those of its pieces are legal where its own are
+-- so the flags of its parts are legal if its own are
 pub legal_pieces : (first last : Bool) (flags : ℕ) → IsUnmarked flags → tcp.are_legal flags ≡ true → tcp.are_legal (flags_of first last flags) ≡ true
 legal_pieces first last flags none legal =
     let same = flags_are_kept first last flags in

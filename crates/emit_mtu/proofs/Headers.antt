@@ -1,4 +1,4 @@
--- What is read of the headers of a segment.
+-- The fields of the headers of a segment.
 use Rattle.std.proofs.Common.{◌≡◌, ℕ, ◌+◌, ◌*◌, ◌/◌, ◌%◌, ◌^◌, ◌≤◌, ◌<◌, true, List, [], ◌∷◌, ◌++◌, length, take, drop, refl, sym, ap, ◌∙◌, arith, length-drop}
 use Rattle.std.proofs.Math.Seq.{take-length}
 use Rattle.std.proofs.lemmas.List.{drop-take, drop-drop, take_at, drop_at, length-append}
@@ -10,7 +10,7 @@ use Rattle.emit_mtu.specs.Frames.{Parts}
 use Rattle.emit_mtu.specs.Segments as spec
 use Rattle.emit_mtu.proofs.Twenty.{by_twenty, by_exactly_twenty}
 
--- a packet has the fields of this IPv4 header, but for its total length, its identification and its checksum
+-- a packet has the fields of this IPv4 header, except its total length, its identification and its checksum
 pub record SameHeader (p header : List ℕ) : Type 0 where
   pub version : ip.version p ≡ ip.version header
   pub header_length : ip.header_length p ≡ ip.header_length header
@@ -35,13 +35,13 @@ header-own size index parts rest twenty =
 two-octets : (n : ℕ) → n < 65536 → 256 * (n / 256 % 256) + n % 256 ≡ n
 two-octets n small = omega arith
 
--- its total length is its own
+-- the total length is its own
 pub total-own : (size index : ℕ) (parts : Parts) (rest : List ℕ) → length parts.ip ≡ 20 → 20 + size < 65536 → ip.total_length (spec.ip_header size index parts ++ rest) ≡ 20 + size
 total-own size index parts rest twenty small =
     by_exactly_twenty (λ xs. ip.total_length (spec.ip_header size index (record parts { ip = xs }) ++ rest) ≡ 20 + size)
     (λ a0 a1 a2 a3 a4 a5 a6 a7 a8 a9 a10 a11 a12 a13 a14 a15 a16 a17 a18 a19. two-octets (20 + size) small) parts.ip twenty
 
--- and so is its identification
+-- the identification is its own
 pub identification-own : (size index : ℕ) (parts : Parts) (rest : List ℕ) → length parts.ip ≡ 20 → ip.identification (spec.ip_header size index parts ++ rest) ≡ (ip.identification parts.ip + index) % 2 ^ 16
 identification-own size index parts rest twenty =
     by_exactly_twenty (λ xs. ip.identification (spec.ip_header size index (record parts { ip = xs }) ++ rest) ≡ (ip.identification xs + index) % 2 ^ 16)
@@ -50,7 +50,7 @@ identification-own size index parts rest twenty =
 pub identification-front : (header rest : List ℕ) → length header ≡ 20 → ip.identification (header ++ rest) ≡ ip.identification header
 identification-front header rest twenty = by_exactly_twenty (λ xs. ip.identification (xs ++ rest) ≡ ip.identification xs) (λ a0 a1 a2 a3 a4 a5 a6 a7 a8 a9 a10 a11 a12 a13 a14 a15 a16 a17 a18 a19. refl) header twenty
 
--- its sum is right
+-- the sum over the header is right
 pub sum-own : (size index : ℕ) (parts : Parts) → length parts.ip ≡ 20 → sum_is_right (spec.ip_header size index parts) 0 ≡ true
 sum-own size index parts twenty =
     by_exactly_twenty (λ xs. sum_is_right (spec.ip_header size index (record parts { ip = xs })) 0 ≡ true)
@@ -61,7 +61,7 @@ sum-own size index parts twenty =
     let total : 0 + word_sum (spec.ip_header size index own) ≡ word_sum bare + checksum_for (word_sum bare) = omega (arith, sum) in
     ap is_right total ∙ is_right-checked (word_sum bare)) parts.ip twenty
 
--- the header of a segment's packet, and what it carries
+-- the header and the payload of the packet of a segment
 pub record Carried (p front m : List ℕ) : Type 0 where
   pub size : length p ≡ 20 + length m
   pub header : ip.header p ≡ front
@@ -76,7 +76,7 @@ carried header m twenty words total =
       payload = (λ i. drop (words i) (take ((total ∙ sym size) i) (header ++ m))) ∙ ap (drop 20) (take-length (header ++ m)) ∙ drop_at header m 20 twenty;
     }
 
--- a segment has the fields of this TCP header, but for its sequence number, its flags and its checksum
+-- a segment has the fields of this TCP header, except its sequence number, its flags and its checksum
 pub record SameSegment (m header : List ℕ) : Type 0 where
   pub source_port : tcp.source_port m ≡ tcp.source_port header
   pub destination_port : tcp.destination_port m ≡ tcp.destination_port header
@@ -104,7 +104,7 @@ pub record Numbered (m header : List ℕ) : Type 0 where
 pub numbers-front : (header octets : List ℕ) → 20 ≤ length header → Numbered (header ++ octets) header
 numbers-front header octets long = by_twenty (λ xs. Numbered (xs ++ octets) xs) (λ a0 a1 a2 a3 a4 a5 a6 a7 a8 a9 a10 a11 a12 a13 a14 a15 a16 a17 a18 a19 rest. record { sequence = refl; flags = refl }) header long
 
--- those of a piece are its own
+-- those of a part are its own
 four-octets : (n : ℕ) → n < 2 ^ 32 → 65536 * (256 * (n / 16777216 % 256) + n / 65536 % 256) + (256 * (n / 256 % 256) + n % 256) ≡ n
 four-octets n small = omega arith
 
@@ -118,7 +118,7 @@ flags-own room index parts long =
     by_twenty (λ xs. tcp.flags (spec.message_of room index (record parts { tcp = xs })) ≡ spec.flags_of (spec.is_first index) (spec.is_last room index parts) (tcp.flags xs))
     (λ a0 a1 a2 a3 a4 a5 a6 a7 a8 a9 a10 a11 a12 a13 a14 a15 a16 a17 a18 a19 rest. refl) parts.tcp long
 
--- what stands behind the fields
+-- the octets after the fields
 pub record Behind (m header octets : List ℕ) : Type 0 where
   pub options : tcp.options m ≡ drop 20 header
   pub payload : tcp.payload m ≡ octets

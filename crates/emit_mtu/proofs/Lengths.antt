@@ -1,11 +1,11 @@
--- How many octets the parts of a segment have.
+-- The lengths of the parts of a segment.
 use Rattle.std.proofs.Common.{◌≡◌, ℕ, ◌+◌, ◌-◌, ◌*◌, ◌≤◌, ◌++◌, length, drop, min, refl, arith, length-drop}
 use Rattle.std.proofs.lemmas.List.{length-append, length-take}
 use Rattle.emit_mtu.specs.Frames.{AreSized, Parts}
 use Rattle.emit_mtu.specs.Segments as spec
 use Rattle.emit_mtu.proofs.Twenty.{by_twenty}
 
--- a piece is at most what is left
+-- a part has at most the octets that are left
 pub length-piece_of : (room index : ℕ) (parts : Parts) → length (spec.piece_of room index parts) ≡ min room (length parts.payload - room * index)
 length-piece_of room index parts =
     let a = length-take room (drop (room * index) parts.payload) in

@@ -1,4 +1,4 @@
--- What goes out in place of a frame is not long, and segments are frames that go out.
+-- The frames that are written instead of a frame are not long, and segments are frames that may be written.
 use Rattle.std.proofs.Common.{◌≡◌, inr, ℕ, ◌+◌, ◌*◌, ◌≤◌, ◌<◌, ◌==◌, ◌&&◌, not, nat_lt, zero, suc, Bool, true, false, List, [], ◌∷◌, ◌++◌, length, take, All, None, if◌then◌else◌, refl, sym, ap, ap₂, subst, ◌∙◌, arith}
 use Rattle.std.specs.Prelude.{slice_index}
 use Rattle.std.proofs.lemmas.List.{length-append, length-take-le}
@@ -32,7 +32,7 @@ use Rattle.emit_mtu.proofs.PlainPieces.{header_sum}
 use Rattle.emit_mtu.proofs.PlainSent.{carries, whole_by}
 use Rattle.emit_mtu.proofs.Sent.{is_faultless, version_is}
 
--- where a frame fits it is not long
+-- a frame that fits is not long
 fits : (long may : Bool) → (if long && may then Cut else if long && not may then Drop else Fits) ≡ Fits → long ≡ false
 fits true true e = cc
 fits true false e = cc
@@ -47,14 +47,14 @@ pub nothing_long_goes_out : NothingLongGoesOut
 nothing_long_goes_out link mtu frame sent octets least most =
     out (long_kind link mtu frame) link mtu frame refl (λ cut. none_too_long link mtu frame (record { sent = sent; octets = octets; cut = cut; least = least; most = most }))
 
--- an octet before the place where octets were joined
+-- an octet before the offset at which octets were joined
 front : (xs ys : List ℕ) (n i : ℕ) → n ≤ length xs → i < n → slice_index (take n xs ++ ys) i ≡ slice_index xs i
 front xs ys zero i le lt = absurd (omega arith)
 front [] ys (suc n) i le lt = absurd (omega arith)
 front (x ∷ xs) ys (suc n) zero le lt = refl
 front (x ∷ xs) ys (suc n) (suc i) le lt = front xs ys n i (omega arith) (omega arith)
 
--- a frame that begins so carries IPv4 too
+-- a frame with the same Ethernet header carries IPv4 too
 kind_kept : (frame rest : List ℕ) → kind_of Ethernet frame ≡ Ip 14 → kind_of Ethernet (take 14 frame ++ rest) ≡ Ip 14
 kind_kept frame rest kind =
     let facts = carries (nat_lt (length frame) 14) (ethertype frame == 2048) (ethertype frame == 2054) kind in
@@ -98,7 +98,7 @@ whole_packet p room index parts joined whole six unmarked =
     (header_sum room index parts joined.sized joined.words)
     (λ _. ap (fault_of Skip 0) own.carried.payload ∙ none)
 
--- each segment of a frame that is cut is one that goes out
+-- each segment of a frame that is cut may be written
 pub are_sent : AreSent
 are_sent link mtu frame h =
     let p = packet_in link frame in

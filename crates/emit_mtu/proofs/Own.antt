@@ -12,7 +12,7 @@ use Rattle.emit_mtu.proofs.Headers.{Carried, SameHeader, carried, header-front, 
 use Rattle.emit_mtu.proofs.Lengths.{length-ip_header, length-message_of, length-piece_of}
 use Rattle.emit_mtu.proofs.Sent.{are_sized, is_faultless, payload_is}
 
--- the parts of a packet: their sizes, and how they are joined
+-- the parts of a packet: their sizes, and that together they are the packet
 pub record AreJoined (p : List ℕ) (parts : Parts) : Type 0 where
   pub sized : AreSized parts
   pub words : ip.header_length parts.ip ≡ 20
@@ -39,11 +39,11 @@ are_joined link frame whole protocol octets =
       message = message;
     }
 
--- the packet of a piece
+-- the packet of a part
 abbrev pub packet_of : (room : ℕ) → Parts → (index : ℕ) → List ℕ
 packet_of room parts index = let message = spec.message_of room index parts in spec.ip_header (length message) index parts ++ message
 
--- it stands behind the link octets
+-- the packet follows after the link octets
 pub packet_in-segment_of : (link : Link) (frame : List ℕ) (room index : ℕ) → link_size link ≤ length frame → packet_in link (spec.segment_of room (parts_of link frame) index) ≡ packet_of room (parts_of link frame) index
 packet_in-segment_of Ethernet frame room index long = drop_at (take 14 frame) (packet_of room (parts_of Ethernet frame) index) 14 (length-take-le 14 frame long)
 packet_in-segment_of Raw frame room index long = refl
@@ -52,7 +52,7 @@ pub link_octets-segment_of : (link : Link) (frame : List ℕ) (room index : ℕ)
 link_octets-segment_of Ethernet frame room index long = take_at (take 14 frame) (packet_of room (parts_of Ethernet frame) index) 14 (length-take-le 14 frame long)
 link_octets-segment_of Raw frame room index long = refl
 
--- what is read of it
+-- the fields of the packet
 pub record IsOwn (room : ℕ) (parts : Parts) (index : ℕ) : Type 0 where
   pub header : SameHeader (packet_of room parts index) parts.ip
   pub total : ip.total_length (packet_of room parts index) ≡ length (packet_of room parts index)

@@ -1,4 +1,4 @@
--- What packets that go out in place of others say.
+-- The content of the packets that are written instead of others.
 use Rattle.std.proofs.Common.{◌≡◌, ℕ, zero, suc, ◌+◌, ◌*◌, ◌/◌, ◌%◌, ◌^◌, ◌<◌, ◌≤◌, ◌==◌, false, List, [], ◌∷◌, ◌++◌, length, take, drop, Some, None, if◌then◌else◌, refl, sym, ap, subst, ⊎_elim, ◌∙◌, arith}
 use Rattle.std.specs.Prelude.{ℤ, pos, ◌+ℤ◌, IsTrue, slice_get}
 use Rattle.std.proofs.lemmas.Int.{ints}
@@ -22,11 +22,11 @@ use Rattle.emit_mtu.proofs.Own.{is_own, packet_of}
 use Rattle.emit_mtu.proofs.PlainPieces.{plain_packet}
 use Rattle.emit_mtu.proofs.Facts.{both, covers}
 
--- how many octets each segment of a packet has
+-- the number of payload octets of each segment of a packet except the last
 abbrev pub room_in : (mtu : ℕ) → (packet : List ℕ) → ℕ
 room_in mtu packet = spec.room_of mtu (parts_of Raw packet)
 
--- a packet is a segment of another, and its first octet stands as far behind that one's
+-- a packet is a segment of another, at its offset in the stream
 pub record IsPart (mtu : ℕ) (packet : List ℕ) (place : ℤ) (own_packet : List ℕ) (own_place : ℤ) : Type 0 where
   pub cut : IsToBeCut Raw mtu packet
   pub index : ℕ
@@ -34,7 +34,7 @@ pub record IsPart (mtu : ℕ) (packet : List ℕ) (place : ℤ) (own_packet : Li
   pub is : own_packet ≡ packet_of (room_in mtu packet) (parts_of Raw packet) index
   pub there : own_place ≡ place +ℤ pos (room_in mtu packet * index)
 
--- what an octet of a part is
+-- an octet of a part
 slice_get-take : (n : ℕ) (xs : List ℕ) (i x : ℕ) → slice_get (take n xs) i ≡ Some x → slice_get xs i ≡ Some x
 slice_get-take zero xs i x e = absurd (cc)
 slice_get-take (suc n) [] i x e = e
@@ -46,7 +46,7 @@ slice_get-drop zero xs i x e = let z : zero + i ≡ i = omega arith in ap (slice
 slice_get-drop (suc n) [] i x e = absurd (cc)
 slice_get-drop (suc n) (y ∷ xs) i x e = let z : suc n + i ≡ suc (n + i) = omega arith in ap (slice_get (y ∷ xs)) z ∙ slice_get-drop n xs i x e
 
--- a part is read as its piece
+-- the fields of a part
 pub record IsRead (mtu : ℕ) (packet own_packet : List ℕ) (index : ℕ) : Type 0 where
   pub original : segment_of packet ≡ Some (fields_of packet)
   pub part : segment_of own_packet ≡ Some (piece_of (room_in mtu packet) index (fields_of packet))
@@ -67,28 +67,28 @@ is_read mtu packet place own_packet own_place part =
       part = says own_packet six ∙ ap (λ p. Some (fields_of p)) part.is ∙ ap Some (fields_of-packet_of packet room part.index parts c.joined refl);
     }
 
--- it is plain where the packet is
+-- the part is plain if the packet is
 pub plain_part : (hops mtu : ℕ) (packet : List ℕ) (place : ℤ) (own_packet : List ℕ) (own_place : ℤ) → IsPart mtu packet place own_packet own_place → Plain hops packet → Plain hops own_packet
 plain_part hops mtu packet place own_packet own_place part plain =
     let c = cutting Raw mtu packet part.cut in
     subst (Plain hops) (sym part.is) (plain_packet hops packet (room_in mtu packet) part.index (parts_of Raw packet) c.joined c.cut.protocol c.cut.unmarked plain)
 
--- it has no SYN
+-- the part has no SYN
 pub no_syn : (mtu : ℕ) (packet : List ℕ) (place : ℤ) (own_packet : List ℕ) (own_place : ℤ) → (part : IsPart mtu packet place own_packet own_place) → tcp.has_syn (piece_of (room_in mtu packet) part.index (fields_of packet)).flags ≡ false
 no_syn mtu packet place own_packet own_place part =
     let c = cutting Raw mtu packet part.cut in
     let kept = flags_are_kept (spec.is_first part.index) (spec.is_last (room_in mtu packet) part.index (parts_of Raw packet)) (tcp.flags (ip.payload packet)) in
     kept.syn ∙ (is_unmarked _ c.cut.unmarked).syn
 
--- its octets stand in the packet's, so far behind
+-- an octet of the part is the octet of the packet at its offset
 pub octet_of_part : (room index : ℕ) (octets : List ℕ) (i x : ℕ) → slice_get (take room (drop (room * index) octets)) i ≡ Some x → slice_get octets (room * index + i) ≡ Some x
 octet_of_part room index octets i x e = slice_get-drop (room * index) octets i x (slice_get-take room (drop (room * index) octets) i x e)
 
--- its sequence number stands for its place
+-- the sequence number of the part represents its offset
 pub part_placed : (base sequence behind : ℕ) (place own : ℤ) → own ≡ place +ℤ pos behind → IsPlace base sequence place → IsPlace base ((sequence + behind) % 2 ^ 32) own
 part_placed base sequence behind place own e h = record { turns = h.turns +ℤ pos ((sequence + behind) / 2 ^ 32); is = let f = h.is in omega (arith, ints, e, f) }
 
--- where it has a FIN, so has the packet, and its octets end with the packet's
+-- if the part has a FIN, so has the packet, and its octets end with the packet's
 pub record EndsWith (mtu : ℕ) (packet : List ℕ) (index : ℕ) : Type 0 where
   pub has : IsTrue (tcp.has_fin (fields_of packet).flags)
   pub size : room_in mtu packet * index + length (piece_of (room_in mtu packet) index (fields_of packet)).octets ≡ length (fields_of packet).octets

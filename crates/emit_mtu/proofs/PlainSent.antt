@@ -1,4 +1,4 @@
--- Plain packets go out, and a packet goes out alike on each link.
+-- Plain packets may be written, and the packets written instead of one are the same on each link.
 use Rattle.std.proofs.Common.{◌≡◌, inr, ℕ, ◌-◌, ◌≤◌, ◌==◌, ◌&&◌, ◌||◌, not, nat_lt, Bool, true, false, List, [], ◌∷◌, length, map, drop, None, if◌then◌else◌, refl, ap, ◌∙◌, arith, eq-eqb}
 use Rattle.std.specs.List.{range_with_len}
 use Rattle.std.proofs.lemmas.Bool.Decides.{nat_tests}
@@ -41,7 +41,7 @@ whole-plain hops p plain = plain_headers_are_whole p plain.header (λ six. let t
 pub plain_is_sent : PlainIsSent
 plain_is_sent link hops frame kind plain = inr (kind, whole-plain hops (packet_in link frame) plain)
 
--- what an Ethernet frame with IPv4 begins with
+-- the EtherType of an Ethernet frame with IPv4
 pub carries : (a b c : Bool) → (if a then Short else if b then Ip 14 else if c then Arp else Other) ≡ Ip 14 → (a ≡ false) × (b ≡ true)
 carries true b c e = cc
 carries false true c e = (refl, refl)

@@ -1,4 +1,4 @@
--- What is known of the headers of a frame that goes out.
+-- The facts of the headers of a frame that may be written.
 use Rattle.std.proofs.Common.{◌≡◌, ℕ, ◌+◌, ◌-◌, ◌≤◌, ◌<◌, true, false, List, length, take, drop, sym, ap, subst, ◌∙◌, arith, length-drop}
 use Rattle.std.specs.Prelude.{slice_index}
 use Rattle.std.proofs.Math.Seq.{take-length}
@@ -14,7 +14,7 @@ use Rattle.tcp_codec.specs.declared.header.TcpFault.TheVariants.{Sum}
 use Rattle.emit_mtu.specs.Frames.{AreOctets, AreSized, IsWhole, parts_of}
 use Rattle.emit_mtu.proofs.Facts.{all_false, at_least, neither, not_false}
 
--- where no fault is found in a segment its header lies inside, and its flags and options are well formed
+-- a segment without a fault: its header lies inside it, and its flags and options are well formed
 pub record IsFaultless (m : List ℕ) : Type 0 where
   pub whole : 20 ≤ length m
   pub some : 20 ≤ tcp.header_length m
@@ -35,17 +35,17 @@ is_faultless p whole protocol =
       formed = not_false _ none.fifth;
     }
 
--- of a packet in which none is found, that its version is 4
+-- the version of a packet without a fault is 4
 pub version_is : (p : List ℕ) → IsWhole p → ip.version p ≡ 4
 version_is p whole =
     let none = all_false _ _ _ _ _ (ip.is_short p) (ip.has_other_version p) (ip.has_bad_header_length p) (ip.has_bad_total_length p) (ip.has_wrong_sum p) whole.datagram in
     eqb-true _ _ (not_false _ none.second)
 
--- the packet carries what stands after the 20 octets of its header
+-- the payload of the packet is the octets after the 20 octets of its header
 pub payload_is : (p : List ℕ) → ip.header_length p ≡ 20 → ip.total_length p ≡ length p → ip.payload p ≡ drop 20 p
 payload_is p header total = (λ i. drop (header i) (take (total i) p)) ∙ ap (drop 20) (take-length p)
 
--- octets of a part
+-- the octets after an offset are octets
 octets-drop : (n : ℕ) (xs : List ℕ) → AreOctets xs → AreOctets (drop n xs)
 octets-drop n xs octets at = rw (get_or-drop n xs at 0) (octets (n + at))
 

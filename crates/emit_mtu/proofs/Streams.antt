@@ -1,4 +1,4 @@
--- Streams of packets that were cut.
+-- Streams of packets that are cut.
 use Rattle.std.proofs.Common.{◌≡◌, ◌⊎◌, inl, inr, ℕ, zero, suc, ◌+◌, ◌-◌, ◌*◌, ◌%◌, ◌^◌, ◌≤◌, List, [], ◌∷◌, ◌++◌, length, map, Some, refl, sym, ap, subst, ⊎_elim, ◌∙◌, arith}
 use Rattle.std.specs.Prelude.{ℤ, pos, ◌+ℤ◌, All, IfSome, IsTrue, slice_get}
 use Rattle.std.specs.List.{range_with_len}
@@ -20,7 +20,7 @@ use Rattle.emit_mtu.specs.Streams.{CutTellsOneStream, frames_for, frames_of, pac
 use Rattle.emit_mtu.proofs.PartsOfStreams.{IsPart, ends_with, is_read, no_syn, octet_of_part, part_placed, plain_part, room_in}
 use Rattle.emit_mtu.proofs.PlainSent.{whole-plain}
 
--- each packet with its place
+-- each packet with its offset
 abbrev Each : (ℤ → List ℕ → Type 0) → List ℤ → List (List ℕ) → Type 0
 Each P [] [] = Unit {0}
 Each P [] (q ∷ ps) = ⊥
@@ -63,13 +63,13 @@ each_all P Q zs ps h f k d inside =
 all_at : (Q : List ℕ → Type 0) (ps : List (List ℕ)) (k : ℕ) (p : List ℕ) → All Q ps → slice_get ps k ≡ Some p → Q p
 all_at Q ps k p all e = subst Q (get_or_from_slice_get ps k p p e) (all k p (slice_get_within ps k p e))
 
--- a packet stands in the list, with its place
+-- a packet is in the list, with its offset
 record Stands (places : List ℤ) (packets : List (List ℕ)) (place : ℤ) (packet : List ℕ) : Type 0 where
   number : ℕ
   stands : slice_get packets number ≡ Some packet
   placed : slice_get places number ≡ Some place
 
--- a packet that goes out is one that stands there, or a part of one
+-- a packet that is written is one of the list, or a part of one
 record Came (mtu : ℕ) (Q : ℤ → List ℕ → Type 0) (own_place : ℤ) (own_packet : List ℕ) : Type 0 where
   place : ℤ
   packet : List ℕ
@@ -98,7 +98,7 @@ each_cut mtu Q (y ∷ zs) (q ∷ ps) cut h =
     each_append (Came mtu Q) (places_of (long_kind Raw mtu q) mtu q y) (places_for mtu zs ps) (frames_for Raw mtu q) (packets_for mtu ps)
     (each_kind (long_kind Raw mtu q) mtu Q y q h.0 (cut y q h.0)) (each_cut mtu Q zs ps cut h.1)
 
--- what octets and FINs say stands where it stood
+-- the octets and FINs that are written are those of the list, at the same offsets
 octets_stood : (mtu : ℕ) (places : List ℤ) (packets : List (List ℕ)) (own_places : List ℤ) (own_packets : List (List ℕ)) (offset : ℤ) (x : ℕ) → Each (Came mtu (Stands places packets)) own_places own_packets → OctetAt own_places own_packets offset x → OctetAt places packets offset x
 octets_stood mtu places packets own_places own_packets offset x each o =
     let came = each_at (Came mtu (Stands places packets)) own_places own_packets o.number o.place o.frame each o.placed o.stands in
@@ -169,7 +169,7 @@ fins_stood mtu places packets own_places own_packets offset each o =
       there = omega (arith, ints, there, at, size, whole);
     }) came.how
 
--- each packet that goes out has a place that its sequence number stands for
+-- the sequence number of each packet that is written represents its offset
 placed_stood : (base mtu : ℕ) (places : List ℤ) (packets : List (List ℕ)) (place : ℤ) (packet : List ℕ) (s : Segment) → ArePlaces base places packets → Came mtu (Stands places packets) place packet → segment_of packet ≡ Some s → IsPlace base s.sequence place
 placed_stood base mtu places packets place packet s all came says =
     ⊎_elim (λ same. subst (IsPlace base s.sequence) (sym same.1) (all.placed came.origin.number came.packet s came.place came.origin.stands (ap segment_of (sym same.0) ∙ says) came.origin.placed)) (λ part.
@@ -179,7 +179,7 @@ placed_stood base mtu places packets place packet s all came says =
     (part_placed base (fields_of came.packet).sequence (room_in mtu came.packet * part.index) came.place place part.there
     (all.placed came.origin.number came.packet (fields_of came.packet) came.place came.origin.stands read.original came.origin.placed))) came.how
 
--- its SYN is one that was there
+-- the SYN of a packet that is written is one of the list
 syn_stood : (base mtu : ℕ) (places : List ℤ) (packets : List (List ℕ)) (place : ℤ) (packet : List ℕ) → All (λ p. HasSynBefore base p) packets → Came mtu (Stands places packets) place packet → HasSynBefore base packet
 syn_stood base mtu places packets place packet syns came =
     ⊎_elim (λ same. subst (HasSynBefore base) (sym same.0) (all_at (HasSynBefore base) packets came.origin.number came.packet syns came.origin.stands)) (λ part.

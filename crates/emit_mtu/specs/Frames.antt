@@ -1,4 +1,4 @@
--- The frames that go out, and their parts (RFC 791 section 3.1, RFC 894, RFC 9293 section 3.1).
+-- The frames that may be written, and their parts (RFC 791 section 3.1, RFC 894, RFC 9293 section 3.1).
 use Rattle.std.specs.Prelude.{◌≡◌, ℕ, ◌+◌, ◌^◌, ◌≤◌, ◌<◌, ◌⊎◌, false, List, [], length, take, drop, slice_index, None}
 use Rattle.wire_base.specs.declared.address.Link.{Link}
 use Rattle.wire_base.specs.declared.address.Link.TheVariants.{Ethernet, Raw}
@@ -10,12 +10,12 @@ use Rattle.ipv4_codec.specs.Header as ip_header
 use Rattle.tcp_codec.specs.declared.header.SumRule.TheVariants.{Skip}
 use Rattle.tcp_codec.specs.Header as tcp_header
 
--- how many octets stand before the packet: those of an Ethernet header (RFC 894), or none
+-- the number of octets before the packet: those of an Ethernet II header (RFC 894), or none
 abbrev pub link_size : Link → ℕ
 link_size Ethernet = 14
 link_size Raw = 0
 
--- a whole datagram with a header of its 20 octets and nothing behind it, in which no fault is found; that its segment sums right is not asked
+-- a packet that is no fragment, with a header of 20 octets and nothing after its total length, without a fault; the checksum of its segment is not tested
 pub record IsWhole (packet : List ℕ) : Type 0 where
   pub header : ip.header_length packet ≡ 20
   pub whole : ip.is_fragment packet ≡ false
@@ -23,7 +23,7 @@ pub record IsWhole (packet : List ℕ) : Type 0 where
   pub datagram : ip_header.fault_of packet ≡ None
   pub segment : ip.protocol packet ≡ 6 → tcp_header.fault_of Skip 0 (ip.payload packet) ≡ None
 
--- a frame that goes out carries ARP, or such a datagram (this project's profile)
+-- a frame that may be written carries ARP, or such a packet (this project's profile)
 abbrev pub IsSent : Link → (frame : List ℕ) → Type 0
 IsSent link frame = (kind_of link frame ≡ Arp) ⊎ ((kind_of link frame ≡ Ip (link_size link)) × IsWhole (packet_in link frame))
 
@@ -45,7 +45,7 @@ parts_of link frame =
       payload = tcp.payload (ip.payload p);
     }
 
--- they have the sizes of such a frame, in octets
+-- the parts have the sizes of such a frame, in octets
 pub record AreSized (parts : Parts) : Type 0 where
   pub link : length parts.link ≤ 14
   pub ip : length parts.ip ≡ 20
@@ -53,6 +53,6 @@ pub record AreSized (parts : Parts) : Type 0 where
   pub options : length parts.tcp ≤ 60
   pub packet : length parts.ip + length parts.tcp + length parts.payload ≤ 65535
 
--- each of these is a number below 256
+-- each octet is a number below 256
 abbrev pub AreOctets : List ℕ → Type 0
 AreOctets octets = (at : ℕ) → slice_index octets at < 2 ^ 8

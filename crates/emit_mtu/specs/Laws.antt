@@ -1,4 +1,4 @@
--- What holds of the segments of a frame (RFC 791 section 3.1, RFC 9293 sections 3.1 and 3.4, and this project's profile).
+-- Laws of the segments of a frame (RFC 791 section 3.1, RFC 9293 sections 3.1 and 3.4, and this project's profile).
 use Rattle.std.specs.Prelude.{◌≡◌, ℕ, ◌+◌, ◌-◌, ◌*◌, ◌%◌, ◌^◌, ◌≤◌, ◌<◌, ◌&&◌, nat_le, Bool, true, List, length, take, drop, Some, slice_get, All}
 use Rattle.std.specs.List.{flat_map}
 use Rattle.wire_base.specs.declared.address.Link.{Link}
@@ -21,7 +21,7 @@ pub record IsToBeCut (link : Link) (mtu : ℕ) (frame : List ℕ) : Type 0 where
   pub least : 576 ≤ mtu
   pub most : mtu < 2 ^ 16
 
--- FIN and PSH are kept on the last piece alone, CWR on the first alone, and the other five flags on each
+-- FIN and PSH are kept only on the last part, CWR only on the first, and the other five flags on each
 pub record KeepsFlags (first last : Bool) (flags : ℕ) : Type 0 where
   pub fin : tcp.has_fin (flags_of first last flags) ≡ (last && tcp.has_fin flags)
   pub psh : tcp.has_psh (flags_of first last flags) ≡ (last && tcp.has_psh flags)
@@ -32,41 +32,41 @@ pub record KeepsFlags (first last : Bool) (flags : ℕ) : Type 0 where
   pub urg : tcp.has_urg (flags_of first last flags) ≡ tcp.has_urg flags
   pub ece : tcp.has_flag 64 (flags_of first last flags) ≡ tcp.has_flag 64 flags
 
--- whatever the flags of the frame
+-- this holds for all flags of the frame
 abbrev pub FlagsAreKept : Type 0
 FlagsAreKept = (first last : Bool) (flags : ℕ) → KeepsFlags first last flags
 
--- the packet of each of its segments has at most the MTU's octets
+-- the packet of each segment has at most `mtu` octets
 abbrev pub NoneIsLong : Type 0
 NoneIsLong = (link : Link) (mtu : ℕ) (frame : List ℕ) → IsToBeCut link mtu frame → All (λ segment. length (packet_in link segment) ≤ mtu) (segments link mtu frame)
 
--- they are at most 132: each has at most 80 octets of headers
+-- there are at most 132 segments
 abbrev pub AreFew : Type 0
 AreFew = (link : Link) (mtu : ℕ) (frame : List ℕ) → IsToBeCut link mtu frame → length (segments link mtu frame) ≤ 132
 
--- each is itself a frame that goes out
+-- each segment is itself a frame that may be written
 abbrev pub AreSent : Type 0
 AreSent = (link : Link) (mtu : ℕ) (frame : List ℕ) → IsToBeCut link mtu frame → All (IsSent link) (segments link mtu frame)
 
--- the octets behind the TCP header of a frame
+-- the octets after the TCP header of a frame
 abbrev pub payload_in : Link → (frame : List ℕ) → List ℕ
 payload_in link frame = tcp.payload (ip.payload (packet_in link frame))
 
--- they carry its payload, in order and once
+-- the segments carry the payload of the frame, in order and once
 abbrev pub CarryThePayload : Type 0
 CarryThePayload = (link : Link) (mtu : ℕ) (frame : List ℕ) → IsToBeCut link mtu frame → flat_map (payload_in link) (segments link mtu frame) ≡ payload_in link frame
 
--- each is plain for every host for which the frame is
+-- each segment is plain behind `hops` routers if the frame is
 abbrev pub ArePlain : Type 0
 ArePlain =
     (link : Link) (mtu : ℕ) (frame : List ℕ) (hops : ℕ) → IsToBeCut link mtu frame → Plain hops (packet_in link frame)
     → All (λ segment. Plain hops (packet_in link segment)) (segments link mtu frame)
 
--- what the headers of a segment leave of the MTU
+-- the number of octets that the headers of a segment leave of the MTU
 abbrev pub room_for : (mtu : ℕ) → Segment → ℕ
 room_for mtu s = mtu - (20 + (20 + length s.options))
 
--- a piece of a segment: its octets, its sequence number and its flags are its own
+-- a part of a segment: its octets, its sequence number and its flags are its own
 abbrev pub piece_of : (room index : ℕ) → Segment → Segment
 piece_of room index s =
     record s {
@@ -75,7 +75,7 @@ piece_of room index s =
       octets = take room (drop (room * index) s.octets);
     }
 
--- how one segment of a frame is read
+-- the fields and sums of one segment of a frame
 pub record IsPiece (link : Link) (mtu index : ℕ) (frame segment : List ℕ) : Type 0 where
   pub link_octets : link_octets link segment ≡ link_octets link frame
   pub identification : ip.identification (packet_in link segment) ≡ (ip.identification (packet_in link frame) + index) % 2 ^ 16
@@ -85,7 +85,7 @@ pub record IsPiece (link : Link) (mtu index : ℕ) (frame segment : List ℕ) : 
   pub sum : sum_is_right (ip.payload (packet_in link segment)) (pseudo_of (packet_in link segment)) ≡ true
   pub fields : let s = fields_of (packet_in link frame) in fields_of (packet_in link segment) ≡ piece_of (room_for mtu s) index s
 
--- each is read as its piece
+-- each segment is read as its part
 abbrev pub AreReadAsPieces : Type 0
 AreReadAsPieces =
     (link : Link) (mtu : ℕ) (frame : List ℕ) (index : ℕ) (segment : List ℕ) → IsToBeCut link mtu frame → slice_get (segments link mtu frame) index ≡ Some segment

@@ -1,4 +1,4 @@
--- What goes out in place of a frame, and where the octets of a stream stand in it (this project's profile).
+-- The frames that are written instead of a frame, and the offsets of their octets in a stream (this project's profile).
 use Rattle.std.specs.Prelude.{◌≡◌, ℕ, ◌*◌, ◌^◌, ◌≤◌, ◌<◌, List, [], ◌∷◌, ◌++◌, map, ℤ, pos, ◌+ℤ◌, All, false, None}
 use Rattle.std.specs.List.{flat_map, range_with_len}
 use Rattle.wire_base.specs.declared.address.Link.{Link}
@@ -22,35 +22,35 @@ frames_of Fits link mtu frame = frame ∷ []
 frames_of Cut link mtu frame = segments link mtu frame
 frames_of Drop link mtu frame = []
 
--- what goes out in place of a frame
+-- the frames that are written instead of a frame
 abbrev pub frames_for : Link → (mtu : ℕ) → (frame : List ℕ) → List (List ℕ)
 frames_for link mtu frame = frames_of (long_kind link mtu frame) link mtu frame
 
--- no frame that goes out is long
+-- no frame that is written is long
 abbrev pub NothingLongGoesOut : Type 0
 NothingLongGoesOut =
     (link : Link) (mtu : ℕ) (frame : List ℕ) → IsSent link frame → AreOctets frame → 576 ≤ mtu → mtu < 2 ^ 16
     → All (λ out. is_long link mtu out ≡ false) (frames_for link mtu frame)
 
--- a packet alone is a frame of a raw link: the same packets go out in its place
+-- a packet alone is a frame of a raw link: the same packets are written instead of it
 abbrev pub PacketsGoOutAlike : Type 0
 PacketsGoOutAlike =
     (link : Link) (mtu : ℕ) (frame : List ℕ) → kind_of link frame ≡ Ip (link_size link)
     → map (packet_in link) (frames_for link mtu frame) ≡ frames_for Raw mtu (packet_in link frame)
 
--- a packet with a plain header, and a TCP segment in which no fault is found if it carries one, is whole
+-- a packet with a plain header is whole, if its TCP segment, if it carries one, has no fault
 abbrev pub PlainHeadersAreWhole : Type 0
 PlainHeadersAreWhole = (packet : List ℕ) → IsPlainHeader packet → (ip.protocol packet ≡ 6 → fault_of Skip 0 (ip.payload packet) ≡ None) → IsWhole packet
 
--- a frame with a packet that is plain is one that goes out
+-- a frame with a plain packet may be written
 abbrev pub PlainIsSent : Type 0
 PlainIsSent = (link : Link) (hops : ℕ) (frame : List ℕ) → kind_of link frame ≡ Ip (link_size link) → Plain hops (packet_in link frame) → IsSent link frame
 
--- the packets that go out in place of these, in order
+-- the packets that are written instead of these, in order
 abbrev pub packets_for : (mtu : ℕ) → (packets : List (List ℕ)) → List (List ℕ)
 packets_for mtu packets = flat_map (frames_for Raw mtu) packets
 
--- the place of the first octet of each packet that goes out in place of one with its first octet here: so far behind it as the piece in the payload
+-- the offset in the stream of the first octet of each packet that is written instead of one whose first octet is at `place`
 abbrev pub places_of : LongKind → (mtu : ℕ) → (packet : List ℕ) → (place : ℤ) → List ℤ
 places_of Fits mtu packet place = place ∷ []
 places_of Cut mtu packet place =
@@ -59,13 +59,13 @@ places_of Cut mtu packet place =
     map (λ index. place +ℤ pos (room * index)) (range_with_len 0 (count_of room parts))
 places_of Drop mtu packet place = []
 
--- the places of those that go out in place of these, in order
+-- the offsets of the packets that are written instead of these, in order
 abbrev pub places_for : (mtu : ℕ) → (places : List ℤ) → (packets : List (List ℕ)) → List ℤ
 places_for mtu [] packets = []
 places_for mtu (place ∷ places) [] = []
 places_for mtu (place ∷ places) (packet ∷ packets) = places_of (long_kind Raw mtu packet) mtu packet place ++ places_for mtu places packets
 
--- packets that tell of one stream still do so after the long ones were cut or left out
+-- packets that describe one stream still do so after the long ones are cut or dropped
 abbrev pub CutTellsOneStream : Type 0
 CutTellsOneStream =
     (hops base mtu : ℕ) (places : List ℤ) (packets : List (List ℕ)) → 576 ≤ mtu → mtu < 2 ^ 16 → All AreOctets packets → TellOneStream hops base places packets

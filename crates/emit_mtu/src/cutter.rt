@@ -1,4 +1,4 @@
-//! A frame cut, segment by segment.
+//! Cutting of a frame, segment by segment.
 ghost use Rattle.std.specs.Prelude.{◌≡◌, ◌≤◌, [], ◌∷◌, length, take, drop, IfSome, IfNone};
 ghost use Rattle.emit_mtu.specs.declared.long.LongKind.TheVariants as kinds;
 ghost use Rattle.emit_mtu.specs.Frames.{IsSent};
@@ -10,13 +10,14 @@ use crate::piece::write_segment;
 use std::marker::Model;
 use wire_base::Link;
 
-/// The segments of a frame that are still to be written, seen as the list of their frames. It takes no memory.
+/// The segments of a frame that are still to be written; it represents the list of their frames. It
+/// allocates no memory.
 #[derive(Drop)]
 pub struct Cutter<'a> {
     parts: Parts<'a>,
-    // The octets of the payload that each segment has, but for the last.
+    // Number of payload octets of each segment except the last.
     room: usize,
-    // How many segments were written.
+    // Number of segments written.
     index: u16,
 }
 
@@ -32,7 +33,7 @@ impl<'a> Model for Cutter<'a> {
 }
 
 impl<'a> Cutter<'a> {
-    /// All segments of a frame that is to be cut, for packets of at most `mtu` octets.
+    /// Returns the segments of a frame that is to be cut, for packets of at most `mtu` octets.
     pub fn new(link: Link, mtu: u16, frame: &'a [u8]) -> Cutter<'a>
         requires sent { IsSent link frame.now }
         requires cut { long_kind link mtu frame.now ≡ kinds.Cut }
@@ -48,7 +49,8 @@ impl<'a> Cutter<'a> {
         }
     }
 
-    /// Writes the next segment's frame at the front of the buffer, and answers its length in octets; None after the last.
+    /// Writes the frame of the next segment at the front of the buffer, and returns its length in
+    /// octets; None after the last.
     pub fn next(&mut self, buf: &mut [u8]) -> Option<usize>
         requires room { 65549 ≤ length buf.old }
         ensures next { IfSome result (λ size. self.old ≡ take size buf.new ∷ self.new) }

@@ -1,4 +1,12 @@
-//! Frames that are longer than a link's largest packet: which they are, and TCP segments cut so that each fits (this project's profile).
+//! Frames that are longer than a link allows: which they are, and TCP segments cut to fit (this
+//! project's profile).
+//!
+//! Proved: `long_kind` returns exactly by E_CUT and E_MTU whether a frame fits, is cut, or is
+//! dropped. `Cutter` returns exactly the segments of the definition, one a call. Laws on a frame
+//! that is cut: none of its segments is long, they are at most 132, and they carry the payload in
+//! order and once; each is read as its part, with its own sequence number and flags, and is plain
+//! if the frame is; packets that describe one stream still do so after the cuts. Nothing long is
+//! written.
 #![tactic(auto)]
 
 pub mod cutter;

@@ -1,23 +1,23 @@
-//! Which frames are long.
+//! The decision on long frames.
 ghost use Rattle.std.specs.Prelude.{◌≡◌};
 ghost use Rattle.emit_mtu.specs.Frames.{IsSent, IsWhole};
 ghost use Rattle.emit_mtu.specs.Long as spec;
 
 use crate::parts::{HEADER, header_length};
-use wire_base::{Flags, FrameKind, Link, Protocol, frame_kind, packet_in, u16_at};
+use wire_base::{Flags, FrameKind, Link, frame_kind, packet_in, protocol, u16_at};
 
-/// What becomes of a frame on a link with a largest packet.
+/// The decision on a frame for a link with an MTU.
 #[derive(Clone, Copy, Debug, PartialEq, Eq)]
 pub enum LongKind {
-    /// It fits, and goes out as it is.
+    /// The frame fits, and is written as it is.
     Fits,
-    /// E_CUT: it is cut into segments that fit.
+    /// E_CUT: the frame is cut into segments that fit.
     Cut,
-    /// E_MTU: it does not go out.
+    /// E_MTU: the frame is dropped.
     Drop,
 }
 
-/// What becomes of a frame where a packet may have at most `mtu` octets, its IPv4 header among them.
+/// Returns the decision on a frame; its packet may have at most `mtu` octets, IPv4 header included.
 pub fn long_kind(link: Link, frame: &[u8], mtu: u16) -> LongKind
     requires { IsSent link frame.now }
     ensures { result ≡ spec.long_kind link mtu frame.now }
@@ -35,19 +35,19 @@ pub fn long_kind(link: Link, frame: &[u8], mtu: u16) -> LongKind
     }
 }
 
-// A TCP segment with a payload that stands for no more than its octets.
+// Returns whether the packet has a TCP segment with payload and without SYN, RST and URG.
 fn may_be_cut(packet: &[u8]) -> bool
     requires { IsWhole packet.now }
     ensures { result ≡ spec.may_be_cut packet.now }
 {
-    if Protocol(packet[9]) != Protocol::TCP {
+    if packet[9] != protocol::TCP {
         return false;
     }
     let segment = &packet[HEADER..];
     !is_marked(Flags(segment[13])) && segment.len() > header_length(segment)
 }
 
-// SYN, RST or URG.
+// Returns whether SYN, RST or URG is set.
 fn is_marked(flags: Flags) -> bool
     ensures { result ≡ spec.is_marked flags.0 }
 {

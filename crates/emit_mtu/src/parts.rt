@@ -8,7 +8,7 @@ ghost use Rattle.emit_mtu.specs.Frames.{AreSized, IsWhole, parts_of};
 use std::marker::Model;
 use wire_base::{Link, link_octets, packet_in};
 
-/// The octets of an IPv4 header without options (RFC 791 section 3.1).
+/// Length of an IPv4 header without options in octets (RFC 791 section 3.1).
 pub(crate) const HEADER: usize = 20;
 
 /// A frame's link octets, its IPv4 header, its TCP header with the options, and its payload.
@@ -29,7 +29,7 @@ impl<'a> Model for Parts<'a> {
 }
 
 impl Parts<'_> {
-    /// How many octets the payload has.
+    /// Returns the number of octets of the payload.
     pub(crate) fn payload_size(&self) -> usize
         ensures { result ≡ length self.now.payload }
     {
@@ -37,7 +37,7 @@ impl Parts<'_> {
     }
 }
 
-/// The parts of a frame whose packet is whole and carries TCP.
+/// Returns the parts of a frame whose packet is whole and carries TCP.
 pub(crate) fn parts_of<'a>(link: Link, frame: &'a [u8]) -> Parts<'a>
     requires whole { IsWhole (packet_in link frame.now) }
     requires tcp { ip.protocol (packet_in link frame.now) ≡ 6 }
@@ -55,7 +55,7 @@ pub(crate) fn parts_of<'a>(link: Link, frame: &'a [u8]) -> Parts<'a>
     }
 }
 
-/// The length in octets of the header of a segment, options included.
+/// Returns the length of the header of a segment in octets, options included.
 pub(crate) fn header_length(segment: &[u8]) -> usize
     requires { 20 ≤ length segment.now }
     ensures { result ≡ tcp.header_length segment.now }

@@ -1,4 +1,5 @@
-//! One segment of a frame that is cut: the piece of the payload with this number, counted from 0, where each has `room` octets but for the last.
+//! One segment of a frame that is cut. It has the part of the payload with the number `index`,
+//! counted from 0; each part except the last has `room` octets.
 ghost use Rattle.std.specs.Prelude.{◌≡◌, ◌+◌, ◌*◌, ◌≤◌, ◌<◌, ◌++◌, length, drop};
 ghost use Rattle.emit_mtu.specs.Frames.{AreSized};
 ghost use Rattle.emit_mtu.specs.Segments as spec;
@@ -6,17 +7,17 @@ ghost use Rattle.emit_mtu.specs.Segments as spec;
 use crate::parts::{HEADER, Parts};
 use tcp_codec::mend;
 use wire_base::{
-    Addr, Flags, Protocol, SeqNumber, pseudo_sum, put_u16, put_u32, sum_for, u16_at, u32_at,
+    Addr, Flags, protocol, pseudo_sum, put_u16, put_u32, sequence_plus, sum_for, u16_at, u32_at,
 };
 
-// The weights of the flags that not each piece keeps (RFC 9293 section 3.1).
+// The values of the flags that not every part keeps (RFC 9293 section 3.1).
 const FIN: u8 = 1;
 
 const PSH: u8 = 8;
 
 const CWR: u8 = 128;
 
-/// Writes the frame of a piece at the front of the buffer, and answers its length in octets.
+/// Writes the frame of a part at the front of the buffer, and returns its length in octets.
 pub(crate) fn write_segment(parts: &Parts<'_>, room: usize, index: u16, buf: &mut [u8]) -> usize
     requires sized { AreSized parts.now }
     requires begins { room * index < length parts.now.payload }
@@ -46,7 +47,7 @@ fn put_parts(parts: &Parts<'_>, room: usize, index: u16, frame: &mut [u8])
     put_message(parts, room, index, message);
 }
 
-// Writes the IPv4 header before a segment of so many octets.
+// Writes the IPv4 header before a segment of `size` octets.
 fn put_ip_header(parts: &Parts<'_>, size: u16, index: u16, header: &mut [u8])
     requires ip { length parts.now.ip ≡ 20 }
     requires fits { 20 + size ≤ 65535 }
@@ -71,11 +72,11 @@ fn put_message(parts: &Parts<'_>, room: usize, index: u16, message: &mut [u8])
     put_octets(parts, room, index, message);
     let source = Addr(u32_at(parts.ip, 12));
     let destination = Addr(u32_at(parts.ip, 16));
-    let pseudo = pseudo_sum(source, destination, Protocol::TCP, message.len() as u16);
+    let pseudo = pseudo_sum(source, destination, protocol::TCP, message.len() as u16);
     mend(message, pseudo);
 }
 
-// Writes the TCP segment with the sum of the whole frame.
+// Writes the TCP segment with the checksum of the frame's segment.
 fn put_octets(parts: &Parts<'_>, room: usize, index: u16, message: &mut [u8])
     requires sized { AreSized parts.now }
     requires begins { room * index < length parts.now.payload }
@@ -87,7 +88,7 @@ fn put_octets(parts: &Parts<'_>, room: usize, index: u16, message: &mut [u8])
     octets.copy_from_slice(piece_of(parts, room, index));
 }
 
-// Writes the TCP header with its options, with the sum of the whole frame.
+// Writes the TCP header with its options, with the checksum of the frame's segment.
 fn put_tcp_header(parts: &Parts<'_>, room: usize, index: u16, header: &mut [u8])
     requires sized { AreSized parts.now }
     requires begins { room * index < length parts.now.payload }
@@ -96,13 +97,13 @@ fn put_tcp_header(parts: &Parts<'_>, room: usize, index: u16, header: &mut [u8])
 {
     header.copy_from_slice(parts.tcp);
     let before = room * usize::from(index);
-    let sequence = SeqNumber::new(u32_at(parts.tcp, 4)).plus(before as u64);
-    put_u32(header, 4, sequence.value());
+    let sequence = sequence_plus(u32_at(parts.tcp, 4), before as u64);
+    put_u32(header, 4, sequence);
     let last = parts.payload.len() <= before + room;
     header[13] = flags_of(Flags(parts.tcp[13]), index == 0, last).0;
 }
 
-// The octets of a piece.
+// Returns the octets of a part of the payload.
 fn piece_of<'a>(parts: &Parts<'a>, room: usize, index: u16) -> &'a [u8]
     requires { room * index < length parts.now.payload }
     ensures { result.now ≡ spec.piece_of room index parts.now }
@@ -111,14 +112,14 @@ fn piece_of<'a>(parts: &Parts<'a>, room: usize, index: u16) -> &'a [u8]
     &rest[..rest.len().min(room)]
 }
 
-// The flags of a piece: FIN and PSH on the last one alone, CWR on the first one alone.
+// Returns the flags of a part: FIN and PSH only on the last one, CWR only on the first one.
 fn flags_of(flags: Flags, first: bool, last: bool) -> Flags
     ensures { result.0 ≡ spec.flags_of first last flags.0 }
 {
     Flags(flags.0 - lost(flags, FIN, last) - lost(flags, PSH, last) - lost(flags, CWR, first))
 }
 
-// The weight of a flag that is set and not kept.
+// Returns the value of a flag if it is set and not kept, else 0.
 fn lost(flags: Flags, weight: u8, kept: bool) -> u8
     requires { 0 < weight }
     ensures { result ≡ spec.lost weight flags.0 kept }

@@ -1,4 +1,4 @@
-//! Frames that were cut by hand.
+//! Frames whose expected segments are worked out by hand.
 ghost use Rattle.std.specs.Prelude.{◌≡◌, ◌≤◌, ◌==◌, ◌&&◌, not, length, drop, IsTrue, IfOk, None};
 ghost use Rattle.tcp_codec.specs.declared.header.SumRule.TheVariants.{Skip};
 ghost use Rattle.tcp_codec.specs.Header.{fault_of};
@@ -11,8 +11,8 @@ use ipv4_codec::{Ipv4, write_plain};
 use std::test::Fail;
 use tcp_codec::{SegmentParts, SumRule, write_segment};
 use wire_base::{
-    Addr, Flags, FrameKind, Link, Protocol, SeqNumber, frame_kind, packet_in, pseudo_sum,
-    sum_right, u16_at, u32_at,
+    Addr, Flags, FrameKind, Link, frame_kind, packet_in, protocol, pseudo_sum, sum_right, u16_at,
+    u32_at,
 };
 
 // An Ethernet header before IPv4, from 02:00:00:00:00:01 to 02:00:00:00:00:02 (RFC 894).
@@ -21,10 +21,10 @@ const ETHERNET: [u8; 14] = [2, 0, 0, 0, 0, 2, 2, 0, 0, 0, 0, 1, 0x08, 0x00];
 // Timestamps between no-operations (RFC 7323 section 3.2).
 const TIMESTAMPS: [u8; 12] = [1, 1, 8, 10, 0, 0, 0, 1, 0, 0, 0, 2];
 
-// The room of the longest frame.
+// Maximum length of a frame in octets.
 const ROOM: usize = 65_549;
 
-// The payload is octets that count up modulo 251.
+// The payload octets count up modulo 251.
 const LONGEST: usize = 1300;
 
 fn payload() -> [u8; LONGEST] {
@@ -35,7 +35,7 @@ fn payload() -> [u8; LONGEST] {
     octets
 }
 
-/// A frame, and what its segments must be.
+/// A frame, and its expected segments.
 #[derive(Drop)]
 struct Row {
     link: Link,
@@ -47,7 +47,7 @@ struct Row {
     segments: &'static [Cut],
 }
 
-/// The fields of a segment that are not those of the frame.
+/// The fields of a segment that differ from those of the frame.
 struct Cut {
     total: u16,
     ident: u16,
@@ -57,13 +57,13 @@ struct Cut {
 
 #[rattlefmt::skip]
 const ROWS: &[Row] = &[
-    // Pieces of 536 octets; PSH on the last.
+    // Parts of 536 octets; PSH on the last.
     Row { link: Link::Raw, ident: 1, seq: 1000, flags: 0x18, options: &[], len: 1100, segments: &[
         Cut { total: 576, ident: 1, seq: 1000, flags: 0x10 },
         Cut { total: 576, ident: 2, seq: 1536, flags: 0x10 },
         Cut { total: 68, ident: 3, seq: 2072, flags: 0x18 },
     ] },
-    // Full pieces alone; identification and sequence number turn; CWR and ECE, PSH and FIN.
+    // Only full parts; identification and sequence number wrap; CWR and ECE, PSH and FIN.
     Row { link: Link::Raw, ident: 65535, seq: 0xffff_fe00, flags: 0xd9, options: &[], len: 1072, segments: &[
         Cut { total: 576, ident: 65535, seq: 0xffff_fe00, flags: 0xd0 },
         Cut { total: 576, ident: 0, seq: 24, flags: 0x59 },
@@ -76,7 +76,7 @@ const ROWS: &[Row] = &[
     ] },
 ];
 
-fn head_of(protocol: Protocol, ident: u16) -> Ipv4 {
+fn head_of(protocol: u8, ident: u16) -> Ipv4 {
     Ipv4 {
         header: HEADER,
         tos: 0x20,
@@ -94,7 +94,7 @@ fn head_of(protocol: Protocol, ident: u16) -> Ipv4 {
     }
 }
 
-// Writes the frame of a row, and answers its length.
+// Writes the frame of a case, and returns its length in octets.
 fn frame_of(row: &Row, buf: &mut [u8; 1400]) -> Result<usize, Fail>
     ensures { IfOk result (λ size. size ≤ 1400) }
 {
@@ -105,8 +105,8 @@ fn frame_of(row: &Row, buf: &mut [u8; 1400]) -> Result<usize, Fail>
         dst: Addr(0x0a00_0001),
         sport: 40000,
         dport: 80,
-        seq: SeqNumber::new(row.seq),
-        ack: SeqNumber::new(5001),
+        seq: row.seq,
+        ack: 5001,
         flags: Flags(row.flags),
         window: 8192,
         options: ArrayVec::new(),
@@ -118,14 +118,14 @@ fn frame_of(row: &Row, buf: &mut [u8; 1400]) -> Result<usize, Fail>
     let octets = payload();
     let size = write_segment(&parts, &octets[..row.len], &mut buf[at + HEADER..]);
     write_plain(
-        &head_of(Protocol::TCP, row.ident),
+        &head_of(protocol::TCP, row.ident),
         size as u16,
         &mut buf[at..],
     );
     Ok(at + HEADER + size)
 }
 
-// The frame is one that goes out.
+// Returns whether the frame may be written.
 fn is_sent(link: Link, frame: &[u8]) -> bool
     ensures { IsTrue result → IsSent link frame.now }
 {
@@ -153,12 +153,12 @@ fn is_single(head: &Ipv4, len: usize) -> bool
 
 fn is_segment(head: &Ipv4, packet: &[u8]) -> bool
     requires { 20 ≤ length packet.now }
-    ensures { IsTrue result → head.now.protocol.0 ≡ 6 → fault_of Skip 0 (drop 20 packet.now) ≡ None }
+    ensures { IsTrue result → head.now.protocol ≡ 6 → fault_of Skip 0 (drop 20 packet.now) ≡ None }
 {
-    head.protocol != Protocol::TCP || tcp_codec::parse(&packet[HEADER..], 0, SumRule::Skip).is_ok()
+    head.protocol != protocol::TCP || tcp_codec::parse(&packet[HEADER..], 0, SumRule::Skip).is_ok()
 }
 
-// The segments of a frame, cut for packets of 576 octets.
+// Returns the segments of a frame, cut for packets of 576 octets.
 fn cut_of(link: Link, frame: &[u8]) -> Result<Cutter<'_>, Fail> {
     if !is_sent(link, frame) {
         return Err("the frame is not one that goes out")?;
@@ -169,7 +169,7 @@ fn cut_of(link: Link, frame: &[u8]) -> Result<Cutter<'_>, Fail> {
     }
 }
 
-// Each segment has the fields of its row and right sums, and all that is not its own stands as in the frame.
+// Each segment has the fields of its case and right sums; all other octets are those of the frame.
 #[test]
 fn frames_are_cut(rt: HostRuntime) -> Result<(), Fail> {
     let mut frame = [0; 1400];
@@ -182,7 +182,7 @@ fn frames_are_cut(rt: HostRuntime) -> Result<(), Fail> {
     Ok(())
 }
 
-// Cuts the frame of a row, and answers how many octets its segments have.
+// Cuts the frame of a case, and returns the number of payload octets of its segments.
 fn check_cut(row: &Row, frame: &[u8], buf: &mut [u8]) -> Result<usize, Fail> {
     if buf.len() < ROOM {
         return Err("the buffer is short")?;
@@ -199,7 +199,8 @@ fn check_cut(row: &Row, frame: &[u8], buf: &mut [u8]) -> Result<usize, Fail> {
     }
 }
 
-// A segment of the frame, `before` octets of whose payload stand in segments before it; answers how many stand in this one too.
+// Tests a segment of the frame after those with the first `before` octets of its payload; returns
+// the number of payload octets up to its end.
 fn follows(
     link: Link,
     frame: &[u8],
@@ -232,7 +233,8 @@ fn follows(
     same_octets(old, new, before)
 }
 
-// The options are the same, and the octets behind them stand in the frame's payload behind `before` others.
+// Tests that the options are the same, and that the octets after them are those of the frame's
+// payload from offset `before` on.
 fn same_octets(old: &[u8], new: &[u8], before: usize) -> Result<usize, Fail>
     requires old { 40 ≤ length old.now }
     requires new { 40 ≤ length new.now }
@@ -264,21 +266,21 @@ fn link_size(link: Link) -> usize
     }
 }
 
-// What is summed before the segment of a packet.
+// Returns the sum of the pseudo-header of a packet.
 fn pseudo_of(packet: &[u8]) -> u32
     requires { 20 ≤ length packet.now }
 {
     let source = Addr(u32_at(packet, 12));
     let destination = Addr(u32_at(packet, 16));
     let size = packet.len() - HEADER;
-    pseudo_sum(source, destination, Protocol::TCP, (size % 65536) as u16)
+    pseudo_sum(source, destination, protocol::TCP, (size % 65536) as u16)
 }
 
-// A datagram of another protocol does not go out; what fits does, and ARP always.
+// A long datagram of another protocol is dropped; one that fits is written, and ARP always.
 #[test]
 fn other_frames_stay_whole(rt: HostRuntime) -> Result<(), Fail> {
     let mut datagram = [0; 600];
-    write_plain(&head_of(Protocol::UDP, 1), 580, &mut datagram);
+    write_plain(&head_of(protocol::UDP, 1), 580, &mut datagram);
     let sent = is_sent(Link::Raw, &datagram);
     assert!(rt; sent);
     assert_eq!(rt; long_kind(Link::Raw, &datagram, 576), LongKind::Drop);
@@ -293,7 +295,7 @@ fn other_frames_stay_whole(rt: HostRuntime) -> Result<(), Fail> {
     Ok(())
 }
 
-// A segment is cut from one octet above the MTU on; one with SYN, RST or URG does not go out.
+// A segment is cut from one octet above the MTU on; one with SYN, RST or URG is dropped.
 #[test]
 fn marked_segments_do_not_go_out(rt: HostRuntime) -> Result<(), Fail> {
     let mut frame = [0; 1400];
@@ -314,7 +316,7 @@ fn marked_segments_do_not_go_out(rt: HostRuntime) -> Result<(), Fail> {
             ..ROWS[0]
         };
         let size = frame_of(&row, &mut frame)?;
-        // The checksum is not judged.
+        // The checksum is not tested.
         frame[33] = flags;
         let frame = &frame[..size];
         let sent = is_sent(Link::Raw, frame);

@@ -1,4 +1,4 @@
--- Emitted segments tell one stream, so that all receivers agree.
+-- Emitted segments describe one stream, so that all receivers agree.
 use Rattle.std.proofs.Common.{◌≡◌, ℕ, zero, suc, ◌+◌, ◌%◌, ◌^◌, List, [], ◌∷◌, ◌++◌, length, Option, Some, None, Bool, true, false, ◌&&◌, not, refl, sym, ◌∙◌, ap, subst, ⊎_elim, append-nil}
 use Rattle.std.specs.Prelude.{ℤ, All, IfSome, IsTrue, slice_get, if◌then◌else◌}
 use Rattle.std.proofs.lemmas.List.Elements.{All-nil, All-cons, All-append}

@@ -10,7 +10,7 @@ use Rattle.era_state.specs.Emission.{IsOutward, IsEmitted, AreEmitted}
 use Rattle.era_state.specs.Emitted.{WrittenRemains, InwardsAcknowledgeNothing, EmittedJoins, EmittedIsTold, HasNoOtherBase}
 use Rattle.receiver_model.specs.Offsets.{IsPlace}
 
--- the laws of eras that are cited
+-- the laws of eras that are used
 pub record EraLaws : Type 0 where
   pub read : OffsetsAreRead
   pub same : InwardsAcknowledgeNothing
@@ -36,7 +36,7 @@ told_still laws base ws later place s h = record {
 is_place : EraLaws → (base at number : ℕ) → IsPlace base number (off base at number)
 is_place laws base at number = let is = (laws.read base at number (off base at number)).1 refl in record { turns = is.turns; is = is.place }
 
--- one that says nothing of a stream
+-- a segment without octets, SYN and FIN
 pub silent_is_told : EraLaws → (base at : ℕ) (ws : List Written) (s : Segment) → s.octets ≡ [] → tcp.has_syn s.flags ≡ false → tcp.has_fin s.flags ≡ false → IsTold base ws (off base at s.sequence) s
 silent_is_told laws base at ws s bare no_syn no_fin = record {
   placed = is_place laws base at s.sequence;

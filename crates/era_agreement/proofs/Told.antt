@@ -30,14 +30,14 @@ each_map P Q [] (p ∷ ps) f h = absurd h
 each_map P Q (z ∷ zs) [] f h = absurd h
 each_map P Q (z ∷ zs) (p ∷ ps) f h = (f z p h.0, each_map P Q zs ps f h.1)
 
--- the packet's segment, if it has one, is told
+-- the packet's segment, if it has one, satisfies `IsTold`
 abbrev pub Told : ℕ → List Written → ℤ → List ℕ → Type 0
 Told base ws place p = (s : Segment) → segment_of p ≡ Some s → IsTold base ws place s
 
 each_still : EraLaws → (base : ℕ) (ws vs : List Written) (zs : List ℤ) (ps : List (List ℕ)) → Each (Told base ws) zs ps → Each (Told base (ws ++ vs)) zs ps
 each_still laws base ws vs zs ps h = each_map (Told base ws) (Told base (ws ++ vs)) zs ps (λ z p told s is. told_still laws base ws vs z s (told s is)) h
 
--- the packets of one record that went inwards, `a` being what was acknowledged before it
+-- the packets of one record that went inwards; `a` is Acked before it
 inward_told : EraLaws → (base a : ℕ) (ws : List Written) (ps : List (List ℕ)) → a ≡ acked base ws → HasNoOtherBase base (ws ++ segments_in true ps) → AreEmitted [] (ws ++ segments_in true ps) → Each (Told base (ws ++ segments_in true ps)) (map (place_of base a) ps) ps
 inward_told laws base a ws [] same only emitted = tt
 inward_told laws base a ws (p ∷ ps) same only emitted = by (λ vs. inward_told laws base a vs ps) (segment_of p) refl only emitted
@@ -59,7 +59,7 @@ inward_told laws base a ws (p ∷ ps) same only emitted = by (λ vs. inward_told
         subst (λ us. Each (Told base us) (off base a s.sequence ∷ map (place_of base a) ps) (p ∷ ps)) (sym (pushed ws w vs))
         ((λ r says. let e : s ≡ r = cc (is, says) in subst (IsTold base ((ws ++ w ∷ []) ++ vs) (off base a s.sequence)) e here), rest)
 
--- packets that say nothing of a stream are told of any
+-- packets without octets, SYN and FIN satisfy `Told`
 silent_told : EraLaws → (base a : ℕ) (ws : List Written) (ps : List (List ℕ)) → All IsSilentPacket ps → Each (Told base ws) (map (place_of base a) ps) ps
 silent_told laws base a ws [] h = tt
 silent_told laws base a ws (p ∷ ps) h = (here, silent_told laws base a ws ps (All-tail IsSilentPacket p ps h))

@@ -1,4 +1,4 @@
--- That receivers agree on what was sent inwards in each era (this project's profile).
+-- Agreement of receivers on what was sent inwards in each era (this project's profile).
 use Rattle.std.specs.Prelude.{◌≡◌, ℕ, false, List, [], All, ℤ, Option, Some, None}
 use Rattle.wire_base.specs.Segments.{Segment, segment_of}
 use Rattle.wire_base.specs.Tcp as tcp
@@ -10,12 +10,12 @@ use Rattle.era_agreement.specs.Sent.{Sent, inward_packets, written_in, inward_pl
 abbrev pub IsSilentPacket : List ℕ → Type 0
 IsSilentPacket p = (s : Segment) → segment_of p ≡ Some s → (s.octets ≡ []) × (tcp.has_syn s.flags ≡ false) × (tcp.has_fin s.flags ≡ false)
 
--- where an era's base is fixed, all receivers agree on its packets with these places; where it is not, its packets have no octet, no SYN and no FIN
+-- if an era's base is fixed, all receivers agree on its packets with these places; otherwise its packets have no octet, no SYN and no FIN
 abbrev pub EraIsSound : (hops : ℕ) → Option ℕ → (places : ℕ → List ℤ) → List (List ℕ) → Type 0
 EraIsSound hops (Some base) places packets = EraAgrees hops base (places base) packets
 EraIsSound hops None places packets = All IsSilentPacket packets
 
--- In each era any two receivers of the family behind at most so many routers deliver streams of which one is a prefix of the other, whichever packets
--- sent inwards reach them in time, how often and in which order.
+-- In each era any two receivers of the family behind at most `hops` routers deliver streams of which one is a prefix of the other, whichever packets sent
+-- inwards reach them in time, how often and in which order.
 abbrev pub Agree : (hops : ℕ) → List Sent → Type 0
 Agree hops sent = (era : ℕ) → EraIsSound hops (base_of (written_in era sent)) (λ base. inward_places era base sent) (inward_packets era sent)

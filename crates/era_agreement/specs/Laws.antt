@@ -1,4 +1,4 @@
--- That emitted segments make receivers agree.
+-- Emitted segments make receivers agree.
 use Rattle.std.specs.Prelude.{◌≡◌, ℕ, List, [], All, ℤ, Some, None}
 use Rattle.wire_base.specs.Plain.{Plain}
 use Rattle.era_state.specs.Quantities.{base_of, first, end_of}
@@ -7,28 +7,28 @@ use Rattle.receiver_model.specs.Agreement.{OctetAt, FinAt, TellOneStream}
 use Rattle.era_agreement.specs.Sent.{Sent, inward_packets, aside_packets, written_in, inward_places}
 use Rattle.era_agreement.specs.Agreement.{IsSilentPacket, Agree}
 
--- all inward packets of an era are plain, all of its segments are emitted, and packets beside them say nothing of a stream
+-- all inward packets of an era are plain, all of its segments are emitted, and packets beside them have no octet, SYN or FIN
 pub record IsEmittedEra (hops era : ℕ) (sent : List Sent) : Type 0 where
   pub plain : All (λ p. Plain hops p) (inward_packets era sent)
   pub emitted : AreEmitted [] (written_in era sent)
   pub silent : All IsSilentPacket (aside_packets era sent)
 
--- with their places the packets tell of one stream: at each offset the octet that was written first there, and the end, as the era has them
+-- with their places the packets describe one stream: at each offset the octet that was written first there, and the end, as in the era's segments
 pub record TellsItsStream (hops era base : ℕ) (sent : List Sent) : Type 0 where
   pub stream : TellOneStream hops base (inward_places era base sent) (inward_packets era sent)
   pub octets : (offset : ℤ) (octet : ℕ) → OctetAt (inward_places era base sent) (inward_packets era sent) offset octet → first base (written_in era sent) offset ≡ Some octet
   pub fins : (offset : ℤ) → FinAt (inward_places era base sent) (inward_packets era sent) offset → end_of base (written_in era sent) ≡ Some offset
 
--- this holds where a base is fixed
+-- this holds if a base is fixed
 abbrev pub EmittedTellsOneStream : Type 0
 EmittedTellsOneStream =
     (hops era base : ℕ) (sent : List Sent) → IsEmittedEra hops era sent → base_of (written_in era sent) ≡ Some base → TellsItsStream hops era base sent
 
--- where none is, they say nothing of a stream
+-- otherwise they have no octet, SYN or FIN
 abbrev pub EmittedIsSilent : Type 0
 EmittedIsSilent =
     (hops era : ℕ) (sent : List Sent) → IsEmittedEra hops era sent → base_of (written_in era sent) ≡ None → All IsSilentPacket (inward_packets era sent)
 
--- where this holds of each era, all receivers agree
+-- if this holds of each era, all receivers agree
 abbrev pub EmittedAgrees : Type 0
 EmittedAgrees = (hops : ℕ) (sent : List Sent) → ((era : ℕ) → IsEmittedEra hops era sent) → Agree hops sent

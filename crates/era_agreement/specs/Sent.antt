@@ -1,19 +1,19 @@
--- What was sent, and what of it belongs to an era (this project's profile). Lists of what was sent have the last at the head.
+-- What was sent, and which of it belongs to an era (this project's profile). Lists of what was sent have the last element at the head.
 use Rattle.std.specs.Prelude.{ℕ, ◌==◌, ◌&&◌, not, Bool, false, List, [], ◌∷◌, ◌++◌, map, ℤ, pos, Option, Some, None, if◌then◌else◌}
 use Rattle.std.specs.List.{flat_map}
 use Rattle.wire_base.specs.Segments.{Segment, Written, segment_of, written_of}
 use Rattle.era_state.specs.Offsets.{off}
 use Rattle.era_state.specs.Quantities.{acked}
 
--- the packets that were sent for one record, in order: whether they went inwards, the era that they belong to, if they belong to one, and whether they
--- are written segments of it; the probe that goes out for a dropped record is not one
+-- the packets sent for one record, in order: whether they went inwards, the era that they belong to, if any, and whether they are written segments of it; the
+-- probe that is sent for a dropped record is not one
 pub record Sent : Type 0 where
   pub inward : Bool
   pub era : Option ℕ
   pub written : Bool
   pub packets : List (List ℕ)
 
--- the era that is named is this one
+-- the given era is this one
 abbrev pub is_era : (era : ℕ) → Option ℕ → Bool
 is_era era (Some named) = named == era
 is_era era None = false
@@ -23,12 +23,12 @@ abbrev pub inward_packets : (era : ℕ) → List Sent → List (List ℕ)
 inward_packets era [] = []
 inward_packets era (s ∷ older) = inward_packets era older ++ (if is_era era s.era && s.inward then s.packets else [])
 
--- those of them that are no written segments of it
+-- those of them that are not written segments of it
 abbrev pub aside_packets : (era : ℕ) → List Sent → List (List ℕ)
 aside_packets era [] = []
 aside_packets era (s ∷ older) = aside_packets era older ++ (if is_era era s.era && s.inward && not s.written then s.packets else [])
 
--- the segment as one that was written to this side, if there is one
+-- the segment as written to this side, if there is one
 abbrev pub written_as : Bool → Option Segment → List Written
 written_as inward None = []
 written_as inward (Some s) = written_of inward s ∷ []
@@ -42,17 +42,17 @@ abbrev pub written_in : (era : ℕ) → List Sent → List Written
 written_in era [] = []
 written_in era (s ∷ older) = written_in era older ++ (if is_era era s.era && s.written then segments_in s.inward s.packets else [])
 
--- the place of a segment's first octet, where so much is acknowledged, and 0 where there is none
+-- the offset of a segment's first octet relative to Acked, or 0 if there is no segment
 abbrev pub placed_at : (base acked : ℕ) → Option Segment → ℤ
 placed_at base acked None = pos 0
 placed_at base acked (Some s) = off base acked s.sequence
 
--- the place of a packet's first octet
+-- the offset of a packet's first octet
 abbrev pub place_of : (base acked : ℕ) → List ℕ → ℤ
 place_of base acked p = placed_at base acked (segment_of p)
 
--- The places of the packets that went inwards in an era, each read with what was acknowledged before its record. Before the base is fixed that is 0 where
--- no ACK has gone outwards, as in each era that norm runs: a RST with one ends the era there.
+-- The offsets of the packets that went inwards in an era, each read relative to Acked before its record. Before the base is fixed Acked is 0 if no ACK was sent
+-- outwards, as in each era that norm tracks: a RST with ACK ends the era there.
 abbrev pub inward_places : (era base : ℕ) → List Sent → List ℤ
 inward_places era base [] = []
 inward_places era base (s ∷ older) =

@@ -7,8 +7,10 @@ use era_state::laws::{
 };
 use receiver_model::laws::members_agree;
 
-/// Where all segments of an era are emitted, each after those before it, and its inward packets are plain, these packets tell of one stream,
-/// each read at the place of its sequence number: the octets that were written first at their offsets, and the era's end.
+/// Proves that the inward packets of an era describe one stream, each read at the offset of its
+/// sequence number: the octets written first at their offsets, and the era's end. Premises: all
+/// segments of the era are emitted, each after those before it, its inward packets are plain, and
+/// those beside its segments have no octet, SYN or FIN.
 pub fn emitted_tells_one_stream()
     ensures { EmittedTellsOneStream }
 {
@@ -20,7 +22,8 @@ pub fn emitted_tells_one_stream()
     emitted_octets_are_places();
 }
 
-/// Where all segments of an era are emitted and none fixes its base, its inward packets say nothing of a stream.
+/// Proves, under the same premises, that the inward packets have no octet, SYN or FIN if no segment
+/// of the era fixes its base.
 pub fn emitted_is_silent()
     ensures { EmittedIsSilent }
 {
@@ -28,7 +31,7 @@ pub fn emitted_is_silent()
     emitted_joins();
 }
 
-/// Where all segments of each era are emitted, and its inward packets are plain, all receivers agree.
+/// Proves that all receivers agree if the same premises hold of each era.
 pub fn emitted_agrees()
     ensures { EmittedAgrees }
 {

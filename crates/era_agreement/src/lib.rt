@@ -1,4 +1,12 @@
-//! That receivers agree on what was sent inwards in each era of a connection, whoever sent it.
+//! Agreement of all receivers on what is sent inwards in each era of a connection, whoever sent it.
+//! There are only laws here.
+//!
+//! Proved: let each segment written in an era be outbound, or be emitted after those before it: an
+//! inward segment without octets and FIN, or the frame of a kept interval with the octets first
+//! sent at their offsets. Let the inward packets of the era be plain, and let those beside its
+//! segments (probes) have no octet, SYN or FIN. Then the packets, each read at the offset of its
+//! sequence number, describe one stream: the first octets and the end of the era. So all receivers
+//! of the family agree.
 #![tactic(auto)]
 
 pub mod laws;

@@ -20,7 +20,7 @@ use Rattle.era_state.proofs.Framed.{FrameIn, lies_in, no_length}
 use Rattle.era_state.proofs.Forwards.{base_same, lie_in, top_is_after}
 use Rattle.era_state.proofs.Octets.{octets_in}
 
--- it has an octet for each place of its interval
+-- it has an octet at each offset of its interval
 has_octet : (e : Warm) (i : Interval) (w : Written) → FrameIn e.base (bounds_in e) i w → (n : ℕ) → is_some (octet_at e.base e.acked (pos n) w) ≡ (nat_le i.lo n && nat_lt n i.hi)
 has_octet e i w f n = ap is_some (octets_in e.base (bounds_in e) i w f (lie_in e) (pos n)) ∙ by (nat_le i.lo n) (nat_lt n i.hi) refl refl
   where
@@ -34,11 +34,11 @@ has_octet e i w f n = ap is_some (octets_in e.base (bounds_in e) i w f (lie_in e
     by true false p q = refl
     by false c p q = refl
 
--- where the octets end that were written, with the frame
+-- Top with the frame
 top_with : (e : Warm) (i : Interval) (ws : List Written) (w : Written) → WarmFor e ws → FrameIn e.base (bounds_in e) i w → top e.base (ws ++ w ∷ []) ≡ top_after e.top i.lo i.hi
 top_with e i ws w h f = top_push e.base ws w ∙ (λ j. max (sym h.top_is j) (top_place e.base (sym h.acked_is j) w)) ∙ sym (top_is_after e i w f)
 
--- one without octets adds none
+-- a frame without octets adds none
 nothing : (e : Warm) (i : Interval) (ws : List Written) (w : Written) → WarmFor e ws → FrameIn e.base (bounds_in e) i w → nat_lt i.lo i.hi ≡ false → octet_count e.base (ws ++ w ∷ []) ≡ octet_count e.base ws + fresh_places e.base ws i.lo i.hi
 nothing e i ws w h f t =
     let l = f.long in

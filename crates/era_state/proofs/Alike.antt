@@ -1,4 +1,4 @@
--- Inward segments of which the same is read.
+-- Inward segments that are read alike.
 use Rattle.std.proofs.Common.{◌≡◌, ℕ, ◌+◌, ◌%◌, ◌^◌, List, [], ◌∷◌, ◌++◌, length, Some, None, Bool, true, false, not, ◌||◌, ◌&&◌, refl, sym, ◌∙◌, ap}
 use Rattle.std.specs.Prelude.{max, min, ℤ, pos, ◌+ℤ◌, ◌-ℤ◌, nat_lt, is_some, if◌then◌else◌}
 use Rattle.std.specs.Option.{option_or}
@@ -15,7 +15,7 @@ use Rattle.era_state.proofs.Counts.{count_same}
 use Rattle.era_state.proofs.Lists.{kept}
 use Rattle.era_state.proofs.Remaining.{acked_same, edge_same}
 
--- a quantity that one more segment changes by what it says of it
+-- a quantity that one more segment changes by its own contribution
 step : {A B : Type 0} (q : List Written → A) (f : A → B → A) (g : Written → B) → ((us : List Written) (u : Written) → q (us ++ u ∷ []) ≡ f (q us) (g u)) → (ws : List Written) (w v : Written) → g v ≡ g w → q (ws ++ v ∷ []) ≡ q (ws ++ w ∷ [])
 step q f g push ws w v e = push ws v ∙ ap (f (q ws)) e ∙ sym (push ws w)
 

@@ -1,4 +1,4 @@
--- How what was written of an era lies to its windows.
+-- The relation of what was written of an era to its windows.
 use Rattle.std.proofs.Common.{◌≡◌, ℕ, ◌+◌, ◌*◌, ◌^◌, ◌<◌, ◌≤◌, List, [], ◌∷◌, ◌++◌, length, Option, Some, None, Bool, true, false, ◌&&◌, refl, sym, ◌∙◌, ap, arith, subst}
 use Rattle.std.specs.Prelude.{max, ℤ, pos, negsuc, ◌+ℤ◌, ◌-ℤ◌, if◌then◌else◌}
 use Rattle.std.specs.Option.{option_or}
@@ -49,7 +49,7 @@ record Reaches (place edge : ℕ) : Type 0 where
   at_least : place ≤ edge
   at_most : edge ≤ place + 65535 * 2 ^ 14
 
--- how far a window of 16 bits reaches
+-- the reach of a window of 16 bits
 edge_near : (o : Option ℕ) (bits : ℕ) (w : Written) → w.window < 2 ^ 16 → bits ≤ 14 → Reaches (number_in o) (edge_place o bits w)
 edge_near None bits w small few = record { at_least = omega arith; at_most = omega arith }
 edge_near (Some place) bits w small few = by (tcp.has_syn w.flags)
@@ -83,7 +83,7 @@ bounded_outward base ws w o h = record {
     ends : end_of base (ws ++ w ∷ []) ≡ end_of base ws
     ends = end_push base ws w ∙ (λ i. option_or (end_of base ws) (if o.outward i && tcp.has_fin w.flags then Some (off base (acked base ws) w.seq +ℤ pos (length w.octets)) else None)) ∙ or_none (end_of base ws)
 
--- an inward one that brings nothing to the stream
+-- an inward segment that adds nothing to the stream
 pub bounded_bare : (base : ℕ) (ws : List Written) (w : Written) → IsBare ws w → Bounded base ws → Bounded base (ws ++ w ∷ [])
 bounded_bare base ws w b h = record {
   reached = omega (arith, a, e, h.reached);

@@ -16,7 +16,7 @@ use Rattle.era_state.specs.Quantities.{acked, top, first, octet_count, fresh_pla
 use Rattle.era_state.specs.Laws.{OctetsAreBelowTop}
 use Rattle.era_state.proofs.Steps.{octet_push}
 
--- counts over numbers that follow one another
+-- counts over consecutive numbers
 agree : (p q : ℕ → Bool) (a n : ℕ) → ((m : ℕ) → a ≤ m → m < a + n → p m ≡ q m) → count_by p (range_with_len a n) ≡ count_by q (range_with_len a n)
 agree p q a zero e = refl
 agree p q a (suc n) e =
@@ -68,7 +68,7 @@ between p n lo hi order within low high =
     ap (λ k. count_by p (range_with_len 0 k)) whole
     ∙ (parts p 0 lo (hi - lo + (n - hi)) ∙ omega (arith, on, before, behind, parts p lo (hi - lo) (n - hi)))
 
--- no octet stands at or past the top
+-- no octet is at or past the top
 first_none : {A B : Type 0} (f : A → Option B) (g : A → ℕ) (n : ℕ) → ((x : A) → g x ≤ n → f x ≡ None) → (xs : List A) → greatest g xs ≤ n → first_of f xs ≡ None
 first_none f g n none [] h = refl
 first_none f g n none (x ∷ xs) h = let a : g x ≤ n = omega arith in let b : greatest g xs ≤ n = omega arith in (λ i. option_or (none x a i) (first_none f g n none xs b i))
@@ -115,11 +115,11 @@ octets_are_below_top base ws = record {
   most = omega (arith, count_by-le-length (λ n. is_some (first base ws (pos n))) (range_with_len 0 (top base ws)), length-range_with_len 0 (top base ws));
 }
 
--- no more octets where neither top nor octets change
+-- the same number of octets if neither top nor octets change
 pub count_same : (base : ℕ) (ws vs : List Written) → top base vs ≡ top base ws → ((o : ℤ) → first base vs o ≡ first base ws o) → octet_count base vs ≡ octet_count base ws
 count_same base ws vs t f = λ i. count_by (λ n. is_some (f (pos n) i)) (range_with_len 0 (t i))
 
--- none where nothing was written inwards
+-- none if nothing was written inwards
 pub count_none : (base : ℕ) (ws : List Written) → top base ws ≡ 0 → octet_count base ws ≡ 0
 count_none base ws t = ap (λ n. count_by (λ n. is_some (first base ws (pos n))) (range_with_len 0 n)) t
 
@@ -131,7 +131,7 @@ not_some : {A : Type 0} (o : Option A) → not (is_some o) ≡ is_none o
 not_some None = refl
 not_some (Some x) = refl
 
--- the octets of a frame from `lo` to below `hi` are added where none stood
+-- the octets of a frame from `lo` to below `hi` are added at offsets that had none
 pub count_push : (base lo hi : ℕ) (ws : List Written) (w : Written) → lo ≤ hi → top base (ws ++ w ∷ []) ≡ max (top base ws) hi → ((n : ℕ) → is_some (octet_at base (acked base ws) (pos n) w) ≡ (nat_le lo n && nat_lt n hi)) → octet_count base (ws ++ w ∷ []) ≡ octet_count base ws + fresh_places base ws lo hi
 count_push base lo hi ws w order t adds =
     (λ i. count_by (λ n. is_some (octet_push base ws w (pos n) i)) (range_with_len 0 (t i)))

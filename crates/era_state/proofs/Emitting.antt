@@ -104,7 +104,7 @@ bounded_kept base ws w k h = record {
             omega (arith, is, most, old)
         by false s = let is : top base (ws ++ w ∷ []) ≡ max (top base ws) 0 = t ∙ rw s refl in omega (arith, is, old)
 
-    -- the end that is pinned already
+    -- the end that is known already
     still : (o : Option ℤ) → end_of base ws ≡ o → EndLies o (top base ws) (edge base ws) → EndLies o (top base (ws ++ w ∷ [])) (edge base (ws ++ w ∷ []))
     still None is lies = tt
     still (Some (pos p)) is lies = let inside = lies.1 in (at_most p lies.0 (fit.end p is), omega (arith, inside, e))
@@ -138,7 +138,7 @@ bounded_from base before (w ∷ ws) only emitted h =
     let next : Bounded base (before ++ w ∷ []) = bounded_next base before w (other_before base (before ++ w ∷ []) ws on) emitted.0 h in
     subst (Bounded base) (sym (pushed before w ws)) (bounded_from base (before ++ w ∷ []) ws on emitted.1 next)
 
--- emitted segments, where no other base is fixed
+-- emitted segments, if no other base is fixed
 pub bounded : (base : ℕ) (ws : List Written) → HasNoOtherBase base ws → AreEmitted [] ws → Bounded base ws
 bounded base ws only emitted = bounded_from base [] ws only emitted (bounded_none base)
 
@@ -203,7 +203,7 @@ octets_are_places base ws based emitted = record { below_top = λ offset octet h
         let less : at.0 < p = omega (arith, low, above) in
         subst (λ z. o <ℤ z) same (subst (λ z. z <ℤ pos p) (sym at.1) (omega (arith, ints, less)))
 
--- where no base is fixed, each inward segment is bare
+-- if no base is fixed, each inward segment is bare
 pub unbased_has_no_octet : UnbasedHasNoOctet
 unbased_has_no_octet base ws none emitted offset = by [] ws refl (λ number e. cc (none, e)) emitted
   where

@@ -1,4 +1,4 @@
--- How an interval lies in its segment and its era.
+-- The relation of an interval to its segment and its era.
 use Rattle.std.proofs.Common.{◌≡◌, ℕ, ◌+◌, ◌<◌, ◌≤◌, Option, Some, None, Bool, true, false, ◌&&◌, refl, sym, ◌∙◌, ap, arith, length}
 use Rattle.std.specs.Prelude.{max, min, ℤ, pos, negsuc, ◌+ℤ◌, ◌≤ℤ◌}
 use Rattle.std.proofs.lemmas.Int.{ints}
@@ -14,7 +14,7 @@ within : (o : Option ℤ) (n : ℕ) → up_to_end o n ≤ n
 within None n = omega arith
 within (Some end) n = omega arith
 
--- where a FIN stands that is kept while no end is pinned
+-- the offset of a FIN that is kept while no end is known
 record Kept (top acked edge : ℕ) (place : ℤ) : Type 0 where
   number : ℕ
   is : place ≡ pos number
@@ -49,9 +49,9 @@ pub record Lies (b : Bounds) (at : ℤ) (len : ℕ) (i : Interval) : Type 0 wher
   pub ends : i.lo < i.hi → pos i.hi ≤ℤ (at +ℤ pos len)
   pub window : i.lo < i.hi → i.hi ≤ b.edge + 1
   pub end : (place : ℕ) → b.end ≡ Some (pos place) → i.lo < i.hi → i.hi ≤ place
-  -- a FIN that pins the end
+  -- a FIN that sets the end
   pub fin : i.fin ≡ true → b.end ≡ None → (b.top ≤ i.hi) × (i.hi ≤ b.edge) × (at +ℤ pos len ≡ pos i.hi)
-  -- a FIN at the pinned end
+  -- a FIN at the known end
   pub last : (place : ℕ) → b.end ≡ Some (pos place) → place ≤ b.edge → i.fin ≡ true → (i.lo < i.hi → i.hi ≡ place) × (at +ℤ pos len ≡ pos place)
 
 pub lies : (b : Bounds) (at : ℤ) (len : ℕ) (fin : Bool) (i : Interval) → Spans b at len fin i → Lies b at len i

@@ -34,7 +34,7 @@ bounds_same e ws h = λ j. record { acked = sym h.acked_is j; edge = sym h.edge_
 pub frame_in : (e : Warm) (ws : List Written) (w : Written) (i : Interval) (frame : Written) → WarmFor e ws → KeptOf ws w i → IsFrame ws w i frame → FrameIn e.base (bounds_in e) i frame
 frame_in e ws w i frame h k f = subst (λ b. FrameIn e.base b i frame) (bounds_same e ws h) (framed.frame_in e.base ws w i frame (base_same e ws h) k f)
 
--- its bounds lie so
+-- its bounds satisfy this
 pub lie_in : (e : Warm) → BoundsLie (bounds_in e)
 lie_in e = record { small = e.window_small; end_lies = by e.end refl }
   where
@@ -51,7 +51,7 @@ kept_octets_are_near e ws w i h k some =
     let window : i.hi ≤ edge (base_at ws) ws + 1 = fit.window some in
     (fit.above, omega (arith, a, n, small, window))
 
--- where all octets end after it
+-- Top after it
 pub top_is_after : (e : Warm) (i : Interval) (w : Written) → FrameIn e.base (bounds_in e) i w → top_after e.top i.lo i.hi ≡ max e.top (top_place e.base e.acked w)
 top_is_after e i w f = by (nat_lt i.lo i.hi) ∙ ap (max e.top) (sym (top_place_is e.base (bounds_in e) i w f (lie_in e)))
   where

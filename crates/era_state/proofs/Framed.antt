@@ -17,18 +17,18 @@ use Rattle.era_state.proofs.Reading.{off_is, places_are_read}
 use Rattle.era_state.proofs.Fits.{Lies, lies}
 use Rattle.era_state.proofs.Inwards.{no_top}
 
--- an end that is pinned lies at or past all octets, and in the window
+-- a known end is at or past all octets, and in the window
 abbrev pub EndLies : Option ℤ → (top edge : ℕ) → Type 0
 EndLies None top edge = Unit {0}
 EndLies (Some (pos place)) top edge = (top ≤ place) × (place ≤ edge)
 EndLies (Some (negsuc n)) top edge = ⊥
 
--- the window is short, and the end lies so
+-- the window is short, and the end satisfies this
 pub record BoundsLie (b : Bounds) : Type 0 where
   pub small : b.edge ≤ b.acked + 65535 * 2 ^ 14
   pub end_lies : EndLies b.end b.top b.edge
 
--- it has the place, the octets and the FIN of the interval of a segment with this sequence number and length, with or without FIN
+-- it has the offset, octets and FIN of the interval of a segment with this sequence number and length, with or without FIN
 pub record FrameIn (base : ℕ) (b : Bounds) (i : Interval) (frame : Written) : Type 0 where
   pub sequence : ℕ
   pub len : ℕ
@@ -63,7 +63,7 @@ number_is base b i w f =
     let s = f.spans in
     f.sequence_is ∙ (λ j. if nat_lt (sym s.lo_is j) (sym s.hi_is j) then (base + sym s.lo_is j) % 2 ^ 32 else (if sym s.fin_is j then (base + nat_of (off base b.acked f.sequence +ℤ pos f.len)) % 2 ^ 32 else f.sequence))
 
--- where its octets begin
+-- the offset of its first octet
 pub octets_begin : (base : ℕ) (b : Bounds) (i : Interval) (w : Written) → FrameIn base b i w → BoundsLie b → nat_lt i.lo i.hi ≡ true → off base b.acked w.seq ≡ pos i.lo
 octets_begin base b i w f h some =
     let less : i.lo < i.hi = grind (arith, nat_tests) in
@@ -73,7 +73,7 @@ octets_begin base b i w f h some =
     let number : w.seq ≡ (base + i.lo) % 2 ^ 32 = number_is base b i w f ∙ rw some refl in
     ap (off base b.acked) number ∙ places_are_read base b.acked i.lo (omega (arith, above)) (omega (arith, window, small))
 
--- where a FIN stands that goes out
+-- the offset of a forwarded FIN
 pub record Stands (b : Bounds) (i : Interval) (to : ℤ) : Type 0 where
   pub place : ℕ
   pub above : b.top ≤ place
@@ -112,7 +112,7 @@ fin_stands base b i w f h kept = by (nat_lt i.lo i.hi) refl
         let same : i.lo ≡ i.hi = grind (arith, nat_tests) in
         let inside = at.inside in
         let small : b.edge ≤ b.acked + 65535 * 2 ^ 14 = h.small in
-        -- a FIN at the end may lie below what is acknowledged: its own segment's number was read there
+        -- a FIN at the end may be below Acked: the number of its own segment was read there
         let behind : pos b.acked ≤ℤ (off base b.acked f.sequence +ℤ pos (2 ^ 31)) = (off_is base b.acked f.sequence).behind in
         let is = at.is in
         let low : b.acked ≤ at.place + 2 ^ 31 = omega (arith, ints, behind, is) in
@@ -131,7 +131,7 @@ pub no_length : (os : List ℕ) → length os ≡ 0 → os ≡ []
 no_length [] e = refl
 no_length (x ∷ xs) e = absurd (omega arith)
 
--- where its octets end
+-- the offset after its octets
 pub top_place_is : (base : ℕ) (b : Bounds) (i : Interval) (w : Written) → FrameIn base b i w → BoundsLie b → top_place base b.acked w ≡ (if nat_lt i.lo i.hi then i.hi else 0)
 top_place_is base b i w f h = by (nat_lt i.lo i.hi) refl
   where

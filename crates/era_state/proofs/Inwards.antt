@@ -1,4 +1,4 @@
--- What an inward segment leaves as it was.
+-- What an inward segment leaves unchanged.
 use Rattle.std.proofs.Common.{◌≡◌, ℕ, ◌+◌, ◌%◌, ◌^◌, List, [], ◌∷◌, ◌++◌, Option, Some, None, Bool, true, false, not, ◌||◌, ◌&&◌, refl, ◌∙◌, ap, length}
 use Rattle.std.specs.Prelude.{max, min, ℤ, pos, ◌+ℤ◌, ◌-ℤ◌, nat_lt, is_some, if◌then◌else◌}
 use Rattle.std.specs.Option.{option_or}

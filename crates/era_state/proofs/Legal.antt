@@ -1,4 +1,4 @@
--- Flags that go together.
+-- Flags that are legal together.
 use Rattle.std.proofs.Common.{◌≡◌, ℕ, Bool, true, false, refl}
 use Rattle.wire_base.specs.Tcp as tcp
 

@@ -25,7 +25,7 @@ states_are_the_lists (Offered e) ws h = record { state_is = sym (ap (λ b. state
 states_are_the_lists (Warm e) ws h = record { state_is = sym (ap (λ b. state_with b ws) h.0.base_is ∙ (λ i. if h.0.opened i then (if (over_same e ws h.0 ∙ h.1) i then closed else warm) else offered)); base_is = sym h.0.base_is; iss_is = h.0.iss_is }
 states_are_the_lists (Closed e) ws h = record { state_is = sym (ap (λ b. state_with b ws) h.base_is ∙ (λ i. if h.opened i then (if (over_same e.last ws h ∙ e.over) i then closed else warm) else offered)); base_is = sym h.base_is; iss_is = h.iss_is }
 
--- before a place is acknowledged no octet was written
+-- the number of octets of an era is its list's: before an offset is acknowledged, no octet was written
 pub octets_are_the_lists : (e : Era) (ws : List Written) → StandsFor e ws → octets_in e ≡ octets_of ws
 octets_are_the_lists (Called e) ws h = sym (ap (λ b. octets_with b ws) h.unbased)
 octets_are_the_lists (Offered e) ws h = sym (ap (λ b. octets_with b ws) h.base_is ∙ count_none e.base ws h.untouched.top_is)
@@ -79,7 +79,7 @@ kept (Closed e) ws vs s h = warm_kept e.last ws vs s h
 pub silence_stands : SilenceStands
 silence_stands e ws w silent h = kept e ws (ws ++ w ∷ []) (silence_changes_nothing ws w silent) h
 
--- before a place is acknowledged no octet was written
+-- before an offset is acknowledged no octet was written
 pub unacknowledged_has_no_octet : UnacknowledgedHasNoOctet
 unacknowledged_has_no_octet (Called e) ws h before place = first_past (base_at ws) ws place (let t = (h.untouched (base_at ws)).top_is in omega (arith, t))
 unacknowledged_has_no_octet (Offered e) ws h before place =

@@ -1,4 +1,4 @@
--- What is acknowledged, and the edge, over the moments of a list.
+-- Acked and Edge over the moments of a list.
 use Rattle.std.proofs.Common.{◌≡◌, ℕ, ◌+◌, ◌*◌, ◌^◌, List, [], ◌∷◌, ◌++◌, Option, Some, None, Bool, true, false, ◌||◌, ◌&&◌, refl, sym, ◌∙◌, ap, arith}
 use Rattle.std.specs.Prelude.{max, min, fold, is_some, if◌then◌else◌}
 use Rattle.std.proofs.Math.Bool.{or-false}

@@ -1,4 +1,4 @@
--- What one more element adds to the words over a list.
+-- What one more element adds to the functions over a list.
 use Rattle.std.proofs.Common.{◌≡◌, ℕ, List, [], ◌∷◌, ◌++◌, Option, Some, None, Bool, ◌||◌, refl, sym, ◌∙◌, ap, arith, append_assoc, append-nil}
 use Rattle.std.specs.Prelude.{max, fold}
 use Rattle.std.specs.Option.{option_or}

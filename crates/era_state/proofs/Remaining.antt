@@ -1,4 +1,4 @@
--- What stays when further segments are written.
+-- What is preserved when further segments are written.
 use Rattle.std.proofs.Common.{◌≡◌, ℕ, List, [], ◌∷◌, ◌++◌, Option, Some, true, sym, ◌∙◌, ap, append_assoc, append-nil}
 use Rattle.std.specs.Prelude.{ℤ, max}
 use Rattle.std.proofs.Math.Nat.{max-zero}
@@ -15,7 +15,7 @@ use Rattle.era_state.proofs.Inwards.{no_ack}
 pub pushed : (ws : List Written) (w : Written) (vs : List Written) → ws ++ (w ∷ vs) ≡ (ws ++ w ∷ []) ++ vs
 pushed ws w vs = sym (append_assoc ws (w ∷ []) vs)
 
--- what stays with one more stays with all
+-- what one more preserves, all preserve
 stays : {A : Type 0} (q : List Written → Option A) (x : A) → ((ws : List Written) (w : Written) → q ws ≡ Some x → q (ws ++ w ∷ []) ≡ Some x) → (ws vs : List Written) → q ws ≡ Some x → q (ws ++ vs) ≡ Some x
 stays q x push ws [] e = ap q (append-nil ws) ∙ e
 stays q x push ws (v ∷ vs) e = ap q (pushed ws v vs) ∙ stays q x push (ws ++ v ∷ []) vs (push ws v e)

@@ -1,4 +1,4 @@
--- What one more segment changes of each quantity.
+-- How one more segment changes each quantity.
 use Rattle.std.proofs.Common.{◌≡◌, ℕ, List, [], ◌∷◌, ◌++◌, Some, None, ◌||◌, ◌&&◌, ◌∙◌, ap, arith}
 use Rattle.std.specs.Prelude.{max, min, ℤ, is_some, if◌then◌else◌}
 use Rattle.std.specs.Option.{option_or}

@@ -1,4 +1,4 @@
--- An era of which no place is acknowledged, with one more segment.
+-- An era in which no offset is acknowledged, with one more segment.
 use Rattle.std.proofs.Common.{◌≡◌, ℕ, List, [], ◌∷◌, ◌++◌, Some, None, true, false, not, ◌||◌, ◌&&◌, refl, sym, ◌∙◌, ap, subst}
 use Rattle.std.specs.Prelude.{◌+◌, ◌%◌, ◌^◌, max, is_some, if◌then◌else◌}
 use Rattle.std.specs.Option.{option_or}
@@ -23,7 +23,7 @@ use Rattle.era_state.proofs.Inwards.{no_end}
 pub untouched_none : (base : ℕ) → Untouched base []
 untouched_none base = record { unopened = refl; acked_is = refl; edge_is = refl; top_is = refl; end_is = refl }
 
--- one that acknowledges no place, and brings neither octets nor FIN
+-- one that acknowledges no offset, and adds neither octets nor FIN
 untouched_push : (base : ℕ) (ws : List Written) (w : Written) → Untouched base ws → ack_of base (acked base ws) w ≡ None → top_place base (acked base ws) w ≡ 0 → fin_place base (acked base ws) w ≡ None → Untouched base (ws ++ w ∷ [])
 untouched_push base ws w h none low endless = record {
   unopened = opened_push base ws w ∙ (λ i. h.unopened i || is_some (none i));
@@ -75,7 +75,7 @@ offered_came s old new ws endless base_is iss_is out_is fin_is after h = record 
     w : Written
     w = came s
 
--- an outbound segment that acknowledges no place
+-- an outbound segment that acknowledges no offset
 pub offered_sent : (s : Seg) (octets : List ℕ) (old new : Offered) (ws : List Written) → ack_of old.base 0 (sent s octets) ≡ None → new.base ≡ old.base → new.iss ≡ iss_after old.iss (sent s octets) → new.out ≡ Some (number_behind (sent s octets)) → SynsAfter (sent s octets) old.syns new.syns → new.out_fin ≡ (old.out_fin || tcp.has_fin s.flags.0) → OfferedFor old ws → OfferedFor new (ws ++ sent s octets ∷ [])
 offered_sent s octets old new ws mute base_is iss_is out_is syns_are fin_is h = record {
   base_is = base_push ws w ∙ or_kept (base_of ws) (fixes w) old.base h.base_is ∙ ap (λ n. Some n) (sym base_is);

@@ -1,4 +1,4 @@
--- An era of which a place is acknowledged, with one more segment.
+-- An era in which an offset is acknowledged, with one more segment.
 use Rattle.std.proofs.Common.{◌≡◌, ℕ, ◌<◌, ◌^◌, List, [], ◌∷◌, ◌++◌, Option, Some, None, Bool, true, false, not, ◌||◌, ◌&&◌, refl, sym, ◌∙◌, ap, arith}
 use Rattle.std.specs.Prelude.{◌+◌, max, pos, is_some, if◌then◌else◌}
 use Rattle.std.specs.Option.{option_or}
@@ -67,7 +67,7 @@ warm_came s old new ws endless t h = record {
     w : Written
     w = came s
 
--- the first outbound segment that acknowledges a place
+-- the first outbound segment that acknowledges an offset
 warm_opens : (base : ℕ) (old_iss : Option ℕ) (syns : Syns) (fin : Bool) (place : ℕ) (s : Seg) (octets : List ℕ) (new : Warm) (ws : List Written) → WarmOpens base old_iss syns fin place (sent s octets) new → base_of (ws ++ sent s octets ∷ []) ≡ Some base → Untouched base ws → ack_of base 0 (sent s octets) ≡ Some place → old_iss ≡ iss ws → SynsFor syns ws → fin ≡ out_fin ws → WarmFor new (ws ++ sent s octets ∷ [])
 warm_opens base old_iss syns fin place s octets new ws t based h acks first have finned = record {
   base_is = based ∙ ap (λ n. Some n) (sym t.base_is);
@@ -89,21 +89,21 @@ warm_opens base old_iss syns fin place s octets new ws t based h acks first have
     place_is : ack_of base (acked base ws) (sent s octets) ≡ Some place
     place_is = ap (λ a. ack_of base a (sent s octets)) h.acked_is ∙ acks
 
--- a number is at the place 0 of the base that it fixes
+-- a number is at the offset 0 of the base that it fixes
 own_ack : (s : Seg) (octets : List ℕ) → s.ack < 2 ^ 32 → tcp.has_ack s.flags.0 ≡ true → ack_of s.ack 0 (sent s octets) ≡ Some 0
 own_ack s octets small answers = rw answers (ap natural own_place)
   where
     own_place : off s.ack 0 s.ack ≡ pos 0
     own_place = let e : turn_past (s.ack + 0) s.ack ≡ 0 = omega arith in rw e refl
 
--- of an era that called
+-- of a Called era
 pub called_opens : (s : Seg) (octets : List ℕ) (old : Called) (new : Warm) (ws : List Written) → s.ack < 2 ^ 32 → tcp.has_ack s.flags.0 ≡ true → tcp.has_rst s.flags.0 ≡ false → WarmOpens s.ack (Some old.iss) old.syns false 0 (sent s octets) new → CalledFor old ws → WarmFor new (ws ++ sent s octets ∷ [])
 called_opens s octets old new ws small answers lives t h =
     warm_opens s.ack (Some old.iss) old.syns false 0 s octets new ws t
     (base_push ws (sent s octets) ∙ (λ i. option_or (h.unbased i) (if answers i && not (lives i) then Some s.ack else None)))
     (h.untouched s.ack) (own_ack s octets small answers) (sym h.iss_is) h.syns_are (sym h.unfinished)
 
--- of an era that was offered
+-- of an Offered era
 pub offered_opens : (s : Seg) (octets : List ℕ) (old : Offered) (new : Warm) (place : ℕ) (ws : List Written) → ack_of old.base 0 (sent s octets) ≡ Some place → WarmOpens old.base old.iss old.syns old.out_fin place (sent s octets) new → OfferedFor old ws → WarmFor new (ws ++ sent s octets ∷ [])
 offered_opens s octets old new place ws acks t h =
     warm_opens old.base old.iss old.syns old.out_fin place s octets new ws t

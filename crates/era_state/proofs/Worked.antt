@@ -1,4 +1,4 @@
--- The worked connections are emitted, where a clash is settled, and not where it goes out.
+-- The worked connections are emitted if a clash is settled, and not if it is forwarded.
 use Rattle.std.proofs.Common.{◌≡◌, inl, inr, ℕ, zero, suc, ◌+◌, List, [], ◌∷◌, ◌++◌, Some, true, false, refl, ap, arith}
 use Rattle.std.specs.Prelude.{pos, slice_get}
 use Rattle.wire_base.specs.Segments.{Written}

@@ -1,4 +1,4 @@
--- What one more segment changes of the fields of an era of which a place is acknowledged.
+-- How one more segment changes the fields of an era in which an offset is acknowledged.
 use Rattle.std.specs.Prelude.{◌≡◌, ℕ, ◌+◌, ◌||◌, max, Bool, Option, Some, None}
 use Rattle.wire_base.specs.Tcp as tcp
 use Rattle.wire_base.specs.Segments.{Written}
@@ -23,7 +23,7 @@ pub record WarmAfter (w : Written) (old new : Warm) : Type 0 where
   pub out_fin_is : new.out_fin ≡ (old.out_fin || tcp.has_fin w.flags)
   pub octets_are : new.octets ≡ old.octets
 
--- an outbound segment that acknowledges a place, where none was acknowledged before
+-- an outbound segment that acknowledges an offset, where none was acknowledged before
 pub record WarmOpens (base : ℕ) (old_iss : Option ℕ) (old_syns : Syns) (old_fin : Bool) (place : ℕ) (w : Written) (new : Warm) : Type 0 where
   pub base_is : new.base ≡ base
   pub iss_is : new.iss ≡ iss_after old_iss w
@@ -49,7 +49,7 @@ pub record WarmCalled (w : Written) (old new : Warm) : Type 0 where
   pub out_fin_is : new.out_fin ≡ old.out_fin
   pub octets_are : new.octets ≡ old.octets
 
--- a frame with the octets and the FIN of an interval, so many of these octets being the first at their places
+-- a frame with the octets and the FIN of an interval; `fresh` of these octets are the first at their offsets
 pub record WarmWith (i : Interval) (fresh : ℕ) (old new : Warm) : Type 0 where
   pub base_is : new.base ≡ old.base
   pub iss_is : new.iss ≡ old.iss

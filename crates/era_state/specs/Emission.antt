@@ -1,4 +1,4 @@
--- Which segments may be written in an era, each after those before it (this project's profile): `ws` are the segments written of the era so far.
+-- Which segments may be written in an era, each after those before it (this project's profile). `ws` are the segments of the era that were written so far.
 use Rattle.std.specs.Prelude.{◌≡◌, ℕ, ◌+◌, ◌%◌, ◌^◌, ◌<◌, ◌⊎◌, true, false, List, [], ◌∷◌, ◌++◌, pos, Some, slice_get}
 use Rattle.wire_base.specs.Segments.{Written}
 use Rattle.wire_base.specs.Tcp as tcp
@@ -12,15 +12,15 @@ pub record IsOutward (w : Written) : Type 0 where
   pub outward : w.inward ≡ false
   pub window : w.window < 2 ^ 16
 
--- an inward segment without octets and FIN; a SYN among them has the number before the base, or fixes it
+-- an inward segment without octets and FIN; a SYN has the sequence number before the base of the list with it
 pub record IsBare (ws : List Written) (w : Written) : Type 0 where
   pub inward : w.inward ≡ true
   pub no_fin : tcp.has_fin w.flags ≡ false
   pub no_octets : w.octets ≡ []
   pub syn : tcp.has_syn w.flags ≡ true → base_of (ws ++ w ∷ []) ≡ Some ((w.seq + 1) % 2 ^ 32)
 
--- The frame of an inbound segment `came`, where a base is fixed: it has the place, the length and the FIN of the interval that is kept, and each of its
--- octets is the first at its offset, where there is one.
+-- The frame of an inbound segment `came` after a base is fixed: it has the offset, length and FIN of the kept interval, and each of its octets equals the first
+-- octet at its offset, if there is one.
 pub record IsKeptFrame (ws : List Written) (w : Written) : Type 0 where
   pub base : ℕ
   pub based : base_of ws ≡ Some base
@@ -34,7 +34,7 @@ pub record IsKeptFrame (ws : List Written) (w : Written) : Type 0 where
 abbrev pub IsEmitted : List Written → Written → Type 0
 IsEmitted ws w = IsBare ws w ⊎ IsKeptFrame ws w
 
--- each of these segments, written in order behind others, is an outbound one or is emitted
+-- each of these segments, written in order after `before`, is outbound or emitted
 abbrev pub AreEmitted : (before : List Written) → List Written → Type 0
 AreEmitted before [] = Unit {0}
 AreEmitted before (w ∷ ws) = (IsOutward w ⊎ IsEmitted before w) × AreEmitted (before ++ w ∷ []) ws

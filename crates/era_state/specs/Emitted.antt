@@ -1,4 +1,4 @@
--- What stays of written segments, and what holds of emitted ones.
+-- What later segments preserve of written ones, and what holds of emitted ones.
 use Rattle.std.specs.Prelude.{◌≡◌, ◌↔◌, ℕ, ◌+◌, ◌%◌, ◌^◌, ◌<◌, ◌<ℤ◌, ◌++◌, ◌∷◌, [], true, false, List, length, ℤ, pos, ◌+ℤ◌, Some, None, slice_get}
 use Rattle.wire_base.specs.Tcp as tcp
 use Rattle.wire_base.specs.Segments.{Written}
@@ -9,7 +9,7 @@ use Rattle.era_state.specs.States.{is_acknowledged}
 use Rattle.era_state.specs.Eras.{StandsFor, state_in}
 use Rattle.era_state.specs.Emission.{IsEmitted, AreEmitted}
 
--- a base that is fixed, an octet that is the first at its offset, and an end that is pinned stay, whatever is written later
+-- a fixed base, the first octet at an offset and a known end are preserved, whatever is written later
 pub record Remains (base : ℕ) (ws later : List Written) : Type 0 where
   pub base_is : (number : ℕ) → base_of ws ≡ Some number → base_of (ws ++ later) ≡ Some number
   pub octet_is : (offset : ℤ) (octet : ℕ) → first base ws offset ≡ Some octet → first base (ws ++ later) offset ≡ Some octet
@@ -23,11 +23,11 @@ WrittenRemains = (base : ℕ) (ws later : List Written) → Remains base ws late
 abbrev pub InwardsAcknowledgeNothing : Type 0
 InwardsAcknowledgeNothing = (base : ℕ) (ws : List Written) (w : Written) → w.inward ≡ true → acked base (ws ++ w ∷ []) ≡ acked base ws
 
--- before a place is acknowledged, no place has an octet
+-- before an offset is acknowledged, no offset has an octet
 abbrev pub UnacknowledgedHasNoOctet : Type 0
 UnacknowledgedHasNoOctet = (e : Era) (ws : List Written) → StandsFor e ws → is_acknowledged (state_in e) ≡ false → (place : ℕ) → first (base_at ws) ws (pos place) ≡ None
 
--- segments are emitted with those behind them where these are, each after all before it
+-- a list is emitted exactly if its first part is, and its second part is after the first
 abbrev pub EmittedJoins : Type 0
 EmittedJoins = (before xs ys : List Written) → AreEmitted before (xs ++ ys) ↔ (AreEmitted before xs × AreEmitted (before ++ xs) ys)
 
@@ -35,8 +35,8 @@ EmittedJoins = (before xs ys : List Written) → AreEmitted before (xs ++ ys) �
 abbrev pub HasNoOtherBase : ℕ → List Written → Type 0
 HasNoOtherBase base ws = (number : ℕ) → base_of ws ≡ Some number → number ≡ base
 
--- with the segment, read at the place of its sequence number, each of its octets is the first at its offset and its FIN is the end; its SYN has the
--- number before the base
+-- with the segment at the offset of its sequence number, each of its octets is the first at its offset, its FIN is the end, and its SYN has the number before
+-- the base
 pub record IsTold (base : ℕ) (ws : List Written) (w : Written) : Type 0 where
   pub octets : (index octet : ℕ) → slice_get w.octets index ≡ Some octet → first base (ws ++ w ∷ []) (off base (acked base ws) w.seq +ℤ pos index) ≡ Some octet
   pub fin : tcp.has_fin w.flags ≡ true → end_of base (ws ++ w ∷ []) ≡ Some (off base (acked base ws) w.seq +ℤ pos (length w.octets))
@@ -46,15 +46,15 @@ pub record IsTold (base : ℕ) (ws : List Written) (w : Written) : Type 0 where
 abbrev pub EmittedIsTold : Type 0
 EmittedIsTold = (base : ℕ) (ws : List Written) (w : Written) → HasNoOtherBase base (ws ++ w ∷ []) → AreEmitted [] ws → IsEmitted ws w → IsTold base ws w
 
--- an octet of emitted segments stands at or above 0, below Top, and below the end, where this is pinned
+-- an octet of emitted segments is at an offset from 0 to below Top, and below the end if it is known
 pub record OctetsArePlaces (base : ℕ) (ws : List Written) : Type 0 where
   pub below_top : (offset : ℤ) (octet : ℕ) → first base ws offset ≡ Some octet → (place : ℕ) × (offset ≡ pos place) × (place < top base ws)
   pub below_end : (offset end : ℤ) (octet : ℕ) → first base ws offset ≡ Some octet → end_of base ws ≡ Some end → offset <ℤ end
 
--- this holds of all emitted segments, where a base is fixed
+-- this holds of all emitted segments after a base is fixed
 abbrev pub EmittedOctetsArePlaces : Type 0
 EmittedOctetsArePlaces = (base : ℕ) (ws : List Written) → base_of ws ≡ Some base → AreEmitted [] ws → OctetsArePlaces base ws
 
--- where none is fixed, there is no octet
+-- before a base is fixed, there is no octet
 abbrev pub UnbasedHasNoOctet : Type 0
 UnbasedHasNoOctet = (base : ℕ) (ws : List Written) → base_of ws ≡ None → AreEmitted [] ws → (offset : ℤ) → first base ws offset ≡ None

@@ -1,4 +1,4 @@
--- What an era stands for, and where segments take it.
+-- What an era represents, and the transitions of segments.
 use Rattle.std.specs.Prelude.{◌≡◌, ℕ, ◌+◌, ◌^◌, ◌<◌, ◌++◌, ◌∷◌, [], length, Bool, true, false, List, Option, Some, None}
 use Rattle.wire_base.specs.Tcp as tcp
 use Rattle.wire_base.specs.Segments.{Written}
@@ -21,14 +21,21 @@ StandsFor (Offered e) ws = OfferedFor e ws
 StandsFor (Warm e) ws = WarmFor e ws × (is_over_in e ≡ false)
 StandsFor (Closed e) ws = WarmFor e.last ws
 
--- the state of an era's value
+-- an era in the variant Warm does not satisfy the condition of Closed
+abbrev pub IsSettled : Era → Type 0
+IsSettled (Called e) = Unit {0}
+IsSettled (Offered e) = Unit {0}
+IsSettled (Warm e) = is_over_in e ≡ false
+IsSettled (Closed e) = Unit {0}
+
+-- the state of an era
 abbrev pub state_in : Era → State
 state_in (Called e) = called
 state_in (Offered e) = offered
 state_in (Warm e) = warm
 state_in (Closed e) = closed
 
--- its base, and none of a Called era
+-- its base, or none in a Called era
 abbrev pub base_in : Era → Option ℕ
 base_in (Called e) = None
 base_in (Offered e) = Some e.base
@@ -42,22 +49,22 @@ iss_in (Offered e) = e.iss
 iss_in (Warm e) = e.iss
 iss_in (Closed e) = e.last.iss
 
--- what is acknowledged, and 0 before a place is
+-- Acked, or 0 before an offset is acknowledged
 abbrev pub acked_in : Era → ℕ
 acked_in (Called e) = 0
 acked_in (Offered e) = 0
 acked_in (Warm e) = e.acked
 acked_in (Closed e) = e.last.acked
 
--- how many places have an octet, and none before a place is acknowledged
+-- the number of offsets with an octet, or 0 before an offset is acknowledged
 abbrev pub octets_in : Era → ℕ
 octets_in (Called e) = 0
 octets_in (Offered e) = 0
 octets_in (Warm e) = e.octets
 octets_in (Closed e) = e.last.octets
 
--- Where an outbound segment takes an era of which these segments were written: RST ends it, another call reopens it,
--- and else the next era stands for the list with the segment, whatever its octets.
+-- The transition of an outbound segment from an era that represents these segments: RST ends it, a SYN of another connection reopens it, and otherwise the next
+-- era represents the list with the segment, whatever its octets.
 abbrev pub MovesTo : List Written → Seg → Moved → Type 0
 MovesTo ws s Reset = tcp.has_rst s.flags.0 ≡ true
 MovesTo ws s Reopen = (tcp.has_rst s.flags.0 ≡ false) × (reopens_outward ws (sent s []) ≡ true)
@@ -72,33 +79,39 @@ is_reset Reset = true
 is_reset Reopen = false
 is_reset (Next new) = false
 
--- what is acknowledged grows by less than half a turn
+-- Acked grows by less than 2^31
 abbrev pub MovesNear : Era → Moved → Type 0
 MovesNear e Reset = Unit {0}
 MovesNear e Reopen = Unit {0}
 MovesNear e (Next new) = acked_in new < acked_in e + 2 ^ 31
 
--- no more places have an octet
+-- the next era, if there is one, does not satisfy the condition of Closed in the variant Warm
+abbrev pub MovesSettled : Moved → Type 0
+MovesSettled Reset = Unit {0}
+MovesSettled Reopen = Unit {0}
+MovesSettled (Next new) = IsSettled new
+
+-- the number of offsets with an octet is unchanged
 abbrev pub MovesSame : Era → Moved → Type 0
 MovesSame e Reset = Unit {0}
 MovesSame e Reopen = Unit {0}
 MovesSame e (Next new) = octets_in new ≡ octets_in e
 
--- the next place of the stream, and none where no base is fixed
+-- the next offset of the stream, or none before a base is fixed
 abbrev pub NextIs : Option ℕ → List Written → Type 0
 NextIs None ws = base_of ws ≡ None
 NextIs (Some place) ws = (base : ℕ) × (base_of ws ≡ Some base) × (place ≡ next base ws)
 
--- what the rules ask of an era is what its list says
+-- the values that the rules read of an era are those of its list
 pub record IsOfList (e : Era) (ws : List Written) : Type 0 where
   pub state_is : state_in e ≡ state_of ws
   pub base_is : base_in e ≡ base_of ws
   pub iss_is : iss_in e ≡ iss ws
 
--- an era asks what its list asks
+-- this holds of every era and its list
 abbrev pub StatesAreTheLists : Type 0
 StatesAreTheLists = (e : Era) (ws : List Written) → StandsFor e ws → IsOfList e ws
 
--- an era stands for its list also with an inward segment that brings nothing
+-- an era also represents its list with a silent inward segment
 abbrev pub SilenceStands : Type 0
 SilenceStands = (e : Era) (ws : List Written) (w : Written) → IsSilent w → StandsFor e ws → StandsFor e (ws ++ w ∷ [])

@@ -1,4 +1,4 @@
--- The frame that goes out of an inbound segment with neither SYN nor RST (this project's profile).
+-- The frame written for an inbound segment with neither SYN nor RST (this project's profile).
 use Rattle.std.specs.Prelude.{◌≡◌, ℕ, ◌+◌, Bool, true, false, List, length}
 use Rattle.wire_base.specs.Tcp as tcp
 use Rattle.wire_base.specs.Segments.{Written}
@@ -9,14 +9,14 @@ use Rattle.era_state.specs.Keeping.{frame_sequence_of}
 use Rattle.era_state.specs.Intervals.{Keeps}
 use Rattle.era_state.specs.Standing.{bounds_in}
 
--- the interval is one that the era gives in this state, for a segment with this sequence number and length, with or without FIN
+-- the interval is one that the era computes in this state for a segment of some sequence number and length, with or without FIN
 pub record IsGiven (e : Warm) (i : Interval) : Type 0 where
   pub sequence : ℕ
   pub len : ℕ
   pub fin : Bool
   pub keeps : Keeps (bounds_in e) (off e.base e.acked sequence) len fin i
 
--- the frame of the segment `w` after the segments written so far: with as many octets as the interval, its FIN, and the sequence number that is theirs
+-- the frame of segment `w` after the segments written so far: as many octets as the interval, its FIN, and the sequence number of these
 pub record IsFrame (ws : List Written) (w : Written) (i : Interval) (frame : Written) : Type 0 where
   pub inward : frame.inward ≡ true
   pub no_syn : tcp.has_syn frame.flags ≡ false

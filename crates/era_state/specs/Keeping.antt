@@ -1,5 +1,5 @@
--- Which octets of an inbound segment go out, and whether its FIN does (this project's profile).
--- `at` is the offset of the segment's sequence number, `len` the number of its octets.
+-- Which octets of an inbound segment are forwarded, and whether its FIN is (this project's profile). `at` is the offset of the segment's sequence number, `len`
+-- the number of its octets.
 use Rattle.std.specs.Prelude.{ℕ, ◌+◌, ◌%◌, ◌^◌, ◌&&◌, ◌||◌, not, max, min, Bool, false, List, length, ℤ, pos, ◌+ℤ◌, Option, Some, None, nat_lt, int_lt, int_le, if◌then◌else◌}
 use Rattle.std.specs.Ordering.{int_eq}
 use Rattle.wire_base.specs.Tcp as tcp
@@ -7,7 +7,7 @@ use Rattle.wire_base.specs.Segments.{Written}
 use Rattle.era_state.specs.Offsets.{off, nat_of}
 use Rattle.era_state.specs.Quantities.{acked, edge, top, end_of, base_at}
 
--- what of an era the interval depends on
+-- the quantities of an era on which the interval depends
 pub record Bounds : Type 0 where
   pub acked : ℕ
   pub edge : ℕ
@@ -26,24 +26,24 @@ bounds_of ws = bounds (base_at ws) ws
 abbrev pub offset_of : List Written → ℕ → ℤ
 offset_of ws sequence = off (base_at ws) (acked (base_at ws) ws) sequence
 
--- the least of a place and the end, where it is pinned
+-- the smaller of an offset and the end, if the end is known
 abbrev pub up_to_end : Option ℤ → ℕ → ℕ
 up_to_end None place = place
 up_to_end (Some end) place = min place (nat_of end)
 
--- no octet goes out that is acknowledged
+-- the first forwarded offset: that of the segment, but not below Acked
 abbrev pub low : Bounds → ℤ → ℕ
 low b at = max (nat_of at) b.acked
 
--- how far octets may go: one past the window, and the end
+-- the limit of forwarded octets: one past the window, and the end
 abbrev pub reach : Bounds → ℕ
 reach b = up_to_end b.end (b.edge + 1)
 
--- where the octets that go out end, and `low` where none goes out
+-- the end of the forwarded octets, or `low` if none is forwarded
 abbrev pub high : Bounds → ℤ → ℕ → ℕ
 high b at len = max (low b at) (min (nat_of (at +ℤ pos len)) (reach b))
 
--- a FIN at this offset is kept: the end, where it is pinned; else a place behind all octets and in the window
+-- a FIN at this offset is kept: at the end, if it is known; otherwise at or after Top and Acked, and at most at Edge
 abbrev pub is_kept_fin : Option ℤ → Bounds → ℤ → Bool
 is_kept_fin None b place = int_le (pos (max b.top b.acked)) place && int_le place (pos b.edge)
 is_kept_fin (Some end) b place = int_eq place end
@@ -52,39 +52,39 @@ is_kept_fin (Some end) b place = int_eq place end
 abbrev pub keeps_fin : Bounds → ℤ → ℕ → Bool → Bool
 keeps_fin b at len fin = fin && is_kept_fin b.end b (at +ℤ pos len)
 
--- its octets begin below what is acknowledged
+-- its octets begin below Acked
 abbrev pub begins_below : Bounds → ℤ → ℕ → Bool
 begins_below b at len = nat_lt 0 len && int_lt at (pos b.acked)
 
--- its octets reach further than one past the window
+-- its octets extend more than one past the window
 abbrev pub passes_window : Bounds → ℤ → ℕ → Bool
 passes_window b at len = nat_lt 0 len && int_lt (pos (b.edge + 1)) (at +ℤ pos len)
 
--- the end is pinned below this offset
+-- the end is known and below this offset
 abbrev pub ends_below : Option ℤ → ℤ → Bool
 ends_below None place = false
 ends_below (Some end) place = int_lt end place
 
--- its octets reach past the end, or its FIN is not kept
+-- its octets extend past the end, or its FIN is not kept
 abbrev pub passes_end : Bounds → ℤ → ℕ → Bool → Bool
 passes_end b at len fin = (nat_lt 0 len && ends_below b.end (at +ℤ pos len)) || (fin && not (is_kept_fin b.end b (at +ℤ pos len)))
 
--- the sequence number of the frame: that of its first octet; that of its FIN, where only this goes out; else the segment's own
+-- the sequence number of the frame: that of its first octet; that of its FIN if only this is forwarded; otherwise the segment's own
 abbrev pub frame_sequence : (base : ℕ) → Bounds → ℤ → (sequence len : ℕ) → Bool → ℕ
 frame_sequence base b at sequence len fin =
     if nat_lt (low b at) (high b at len)
     then (base + low b at) % 2 ^ 32
     else (if keeps_fin b at len fin then (base + nat_of (at +ℤ pos len)) % 2 ^ 32 else sequence)
 
--- the same of the segment `w`, after the segments written so far
+-- the same of segment `w`, after the segments written so far
 abbrev pub frame_sequence_of : List Written → Written → ℕ
 frame_sequence_of ws w = frame_sequence (base_at ws) (bounds_of ws) (offset_of ws w.seq) w.seq (length w.octets) (tcp.has_fin w.flags)
 
--- the place behind all octets written inwards, with the octets from `lo` to below `hi`
+-- Top after the octets from `lo` to below `hi`
 abbrev pub top_after : (top lo hi : ℕ) → ℕ
 top_after top lo hi = if nat_lt lo hi then max top hi else top
 
--- the end, with a frame that may have a FIN at this place: the first FIN stays
+-- the end after a frame that may have a FIN at this offset: the first FIN stays
 abbrev pub end_after : Option ℕ → Bool → ℕ → Option ℕ
 end_after (Some end) fin place = Some end
 end_after None fin place = if fin then Some place else None

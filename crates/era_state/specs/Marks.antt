@@ -1,4 +1,5 @@
--- What one written segment says for the quantities of its era. The stream is what comes inwards; its base and what was acknowledged before the segment are arguments.
+-- The contribution of one written segment to the quantities of its era. The stream is the inward direction; its base and Acked before the segment are
+-- arguments.
 use Rattle.std.specs.Prelude.{ℕ, ◌+◌, ◌*◌, ◌%◌, ◌^◌, ◌&&◌, not, Bool, true, false, List, length, ℤ, pos, ◌+ℤ◌, ◌-ℤ◌, Option, Some, None, slice_get, nat_lt, if◌then◌else◌}
 use Rattle.std.specs.Option.{option_or}
 use Rattle.wire_base.specs.Tcp as tcp
@@ -30,27 +31,27 @@ abbrev pub one_if : Bool → ℕ
 one_if true = 1
 one_if false = 0
 
--- the sequence number behind its octets, its SYN and its FIN (RFC 9293 section 3.4)
+-- the sequence number after its octets, its SYN and its FIN (RFC 9293 section 3.4)
 abbrev pub number_behind : Written → ℕ
 number_behind w = (w.seq + length w.octets + one_if (tcp.has_syn w.flags) + one_if (tcp.has_fin w.flags)) % 2 ^ 32
 
--- the base that it fixes where none is fixed yet: an inbound SYN the number behind it, an outbound segment with ACK and without RST its acknowledgment
+-- the base that it fixes if none is fixed yet: an inbound SYN the number after it, an outbound segment with ACK and without RST its acknowledgment
 abbrev pub fixes : Written → Option ℕ
 fixes w =
     if w.inward
     then (if tcp.has_syn w.flags then Some ((w.seq + 1) % 2 ^ 32) else None)
     else (if tcp.has_ack w.flags && not (tcp.has_rst w.flags) then Some w.ack else None)
 
--- the place of the stream that it acknowledges, and none below the stream's begin
+-- the stream offset that it acknowledges, or none if that is below 0
 abbrev pub ack_of : (base acked : ℕ) → Written → Option ℕ
 ack_of base acked w = if acknowledges w then natural (off base acked w.ack) else None
 
--- the place behind what its window allows, and 0 where it acknowledges no place; the window of a SYN is not scaled (RFC 7323 section 2.2)
+-- the end of its window, or 0 if it acknowledges no offset; the window of a SYN is not scaled (RFC 7323 section 2.2)
 abbrev pub edge_place : Option ℕ → (shift : ℕ) → Written → ℕ
 edge_place None shift w = 0
 edge_place (Some place) shift w = place + w.window * (if tcp.has_syn w.flags then 1 else 2 ^ shift)
 
--- the place behind the octets of an inward segment, and 0 where there are none
+-- the offset after the octets of an inward segment, or 0 if there are none
 abbrev pub top_place : (base acked : ℕ) → Written → ℕ
 top_place base acked w = if w.inward && has_octets w then nat_of (off base acked w.seq +ℤ pos (length w.octets)) else 0
 
@@ -59,7 +60,7 @@ abbrev pub get_at : List ℕ → Option ℕ → Option ℕ
 get_at octets None = None
 get_at octets (Some i) = slice_get octets i
 
--- the octet that an inward segment has at an offset
+-- the octet of an inward segment at an offset
 abbrev pub octet_at : (base acked : ℕ) → ℤ → Written → Option ℕ
 octet_at base acked offset w = if w.inward then get_at w.octets (natural (offset -ℤ off base acked w.seq)) else None
 
@@ -67,6 +68,6 @@ octet_at base acked offset w = if w.inward then get_at w.octets (natural (offset
 abbrev pub fin_place : (base acked : ℕ) → Written → Option ℤ
 fin_place base acked w = if w.inward && tcp.has_fin w.flags then Some (off base acked w.seq +ℤ pos (length w.octets)) else None
 
--- the number of the first outbound SYN, once this segment is written too
+-- the number of the first outbound SYN after this segment
 abbrev pub iss_after : Option ℕ → Written → Option ℕ
 iss_after old w = option_or old (if is_outbound_syn w then Some w.seq else None)

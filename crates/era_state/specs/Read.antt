@@ -7,7 +7,7 @@ use Rattle.era_state.specs.declared.segment.Seg.{Seg}
 abbrev pub sent : Seg → List ℕ → Written
 sent s octets = record { inward = false; seq = s.seq; ack = s.ack; flags = s.flags.0; window = s.window; scale = s.scale; octets = octets }
 
--- as it came from outside with these octets
+-- as received from outside with these octets
 abbrev pub received : Seg → List ℕ → Written
 received s octets = record (sent s octets) { inward = true }
 

@@ -1,4 +1,4 @@
--- What the SYNs of an era say of its window scales (RFC 7323 section 2).
+-- The window scales of the SYNs of an era (RFC 7323 section 2).
 use Rattle.std.specs.Prelude.{◌≡◌, ℕ, ◌&&◌, ◌||◌, max, min, Bool, List, Option, is_some, if◌then◌else◌}
 use Rattle.wire_base.specs.Segments.{Written}
 use Rattle.era_state.specs.declared.syns.Syns.{Syns}
@@ -26,6 +26,6 @@ pub record SynsWith (outbound inbound : Bool) (scale : Option ℕ) (old new : Sy
 abbrev pub SynsAfter : Written → Syns → Syns → Type 0
 SynsAfter w old new = SynsWith (is_outbound_syn w) (is_inbound_syn w) w.scale old new
 
--- by how many bits they let windows be scaled
+-- the shift of the windows that follows from them
 abbrev pub shift_of : Syns → ℕ
 shift_of s = shift_with s.out_seen s.in_seen (is_some s.out_scale) s.in_scale (number_in s.out_scale)

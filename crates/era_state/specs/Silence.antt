@@ -1,4 +1,4 @@
--- An inward segment that brings nothing.
+-- An inward segment that adds nothing to the stream.
 use Rattle.std.specs.Prelude.{◌≡◌, ℕ, ◌++◌, ◌∷◌, [], true, false, List, ℤ}
 use Rattle.wire_base.specs.Tcp as tcp
 use Rattle.wire_base.specs.Segments.{Written}
@@ -11,7 +11,7 @@ pub record IsSilent (w : Written) : Type 0 where
   pub no_fin : tcp.has_fin w.flags ≡ false
   pub no_octets : w.octets ≡ []
 
--- what an inward segment without SYN leaves as it was
+-- the quantities that an inward segment without SYN leaves unchanged
 pub record SameNumbers (ws vs : List Written) : Type 0 where
   pub base_is : base_of vs ≡ base_of ws
   pub iss_is : iss vs ≡ iss ws
@@ -26,7 +26,7 @@ pub record SameNumbers (ws vs : List Written) : Type 0 where
   pub opened_is : (base : ℕ) → is_opened base vs ≡ is_opened base ws
   pub edge_is : (base : ℕ) → edge base vs ≡ edge base ws
 
--- every quantity is as it was
+-- every quantity is unchanged
 pub record Same (ws vs : List Written) : Type 0 where
   pub numbers : SameNumbers ws vs
   pub top_is : (base : ℕ) → top base vs ≡ top base ws

@@ -1,4 +1,4 @@
--- What the fields of an era say of the segments that were written of it.
+-- The relation of an era's fields to the segments that were written of it.
 use Rattle.std.specs.Prelude.{◌≡◌, ℕ, Bool, true, false, List, Some, None}
 use Rattle.wire_base.specs.Segments.{Written}
 use Rattle.era_state.specs.declared.called.Called.{Called}
@@ -9,7 +9,7 @@ use Rattle.era_state.specs.Quantities.{base_of, Untouched, is_opened, iss, out, 
 use Rattle.era_state.specs.Keeping.{Bounds}
 use Rattle.era_state.specs.Scales.{SynsFor}
 
--- an era of which the inside called, and no base is fixed
+-- an era that the inside opened, and in which no base is fixed
 pub record CalledFor (e : Called) (ws : List Written) : Type 0 where
   pub unbased : base_of ws ≡ None
   pub untouched : (base : ℕ) → Untouched base ws
@@ -18,7 +18,7 @@ pub record CalledFor (e : Called) (ws : List Written) : Type 0 where
   pub syns_are : SynsFor e.syns ws
   pub unfinished : out_fin ws ≡ false
 
--- an era whose base is fixed, and of which no place is acknowledged
+-- an era with a fixed base, in which no offset is acknowledged
 pub record OfferedFor (e : Offered) (ws : List Written) : Type 0 where
   pub base_is : base_of ws ≡ Some e.base
   pub untouched : Untouched e.base ws
@@ -27,7 +27,7 @@ pub record OfferedFor (e : Offered) (ws : List Written) : Type 0 where
   pub syns_are : SynsFor e.syns ws
   pub out_fin_is : e.out_fin ≡ out_fin ws
 
--- an era of which a place is acknowledged
+-- an era in which an offset is acknowledged
 pub record WarmFor (e : Warm) (ws : List Written) : Type 0 where
   pub base_is : base_of ws ≡ Some e.base
   pub opened : is_opened e.base ws ≡ true
@@ -41,10 +41,10 @@ pub record WarmFor (e : Warm) (ws : List Written) : Type 0 where
   pub out_fin_is : e.out_fin ≡ out_fin ws
   pub octets_are : e.octets ≡ octet_count e.base ws
 
--- both sides have closed and the inbound FIN is acknowledged, by the fields
+-- both sides have sent a FIN and the inbound FIN is acknowledged, by the fields
 abbrev pub is_over_in : Warm → Bool
 is_over_in e = is_over e.acked (whole e.end) e.out_fin
 
--- what of its fields the interval depends on
+-- the fields on which the interval depends
 abbrev pub bounds_in : Warm → Bounds
 bounds_in e = record { acked = e.acked; edge = e.edge; top = e.top; end = whole e.end }

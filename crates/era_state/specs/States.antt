@@ -10,7 +10,7 @@ pub data State : Type 0 where
   warm : State
   closed : State
 
--- the state where this base is fixed
+-- the state after this base is fixed
 abbrev pub state_at : ℕ → List Written → State
 state_at base ws = if is_opened base ws then (if is_over (acked base ws) (end_of base ws) (out_fin ws) then closed else warm) else offered
 
@@ -19,7 +19,8 @@ abbrev pub state_with : Option ℕ → List Written → State
 state_with None ws = called
 state_with (Some base) ws = state_at base ws
 
--- Called: no base is fixed. Offered: no place of the stream is acknowledged. Closed: both sides have closed and the inbound FIN is acknowledged. Warm: none of these
+-- Called: no base is fixed. Offered: no stream offset is acknowledged. Closed: both sides have sent a FIN and the inbound FIN is acknowledged. Warm: none of
+-- these
 abbrev pub state_of : List Written → State
 state_of ws = state_with (base_of ws) ws
 

@@ -1,4 +1,4 @@
--- Connections whose segments were worked out by hand.
+-- Connections whose segments were computed by hand.
 use Rattle.std.specs.Prelude.{ℕ, Bool, true, false, List, [], ◌∷◌, ◌++◌, None}
 use Rattle.wire_base.specs.Segments.{Written}
 use Rattle.era_state.specs.Emission.{IsEmitted, AreEmitted}
@@ -23,7 +23,7 @@ abXd = segment true 1000 5001 24 (97 ∷ 98 ∷ 88 ∷ 100 ∷ [])
 abbrev pub fin : Written
 fin = segment true 1004 5001 17 []
 
--- the opening and `abcd`; `abXd`, of which `abcd` goes out; the FIN
+-- the opening and `abcd`; `abXd`, of which `abcd` is forwarded; the FIN
 abbrev pub settled : List Written
 settled = opening ++ abcd ∷ abcd ∷ fin ∷ []
 
@@ -31,7 +31,7 @@ settled = opening ++ abcd ∷ abcd ∷ fin ∷ []
 abbrev pub SettledIsEmitted : Type 0
 SettledIsEmitted = AreEmitted [] settled
 
--- the other octet itself is not emitted there
+-- the segment with the other octet is not emitted there
 abbrev pub ClashIsNotEmitted : Type 0
 ClashIsNotEmitted = IsEmitted (opening ++ abcd ∷ []) abXd → ⊥
 
@@ -39,15 +39,15 @@ ClashIsNotEmitted = IsEmitted (opening ++ abcd ∷ []) abXd → ⊥
 abbrev pub wxyz : Written
 wxyz = segment true 998 5001 24 (119 ∷ 120 ∷ 121 ∷ 122 ∷ [])
 
--- `Abcd` at 1000, of which 1000 is acknowledged and `b` stands where `z` did
+-- `Abcd` at 1000, of which 1000 is acknowledged and `b` is at the offset of `z`
 abbrev pub Abcd : Written
 Abcd = segment true 1000 5001 24 (65 ∷ 98 ∷ 99 ∷ 100 ∷ [])
 
--- the opening, ACKs of 2147484647 and 998, which are the places 2^31 - 1 and 2^32 - 2, and `wxyz` there
+-- the opening, ACKs of 2147484647 and 998, which are the offsets 2^31 - 1 and 2^32 - 2, and `wxyz` there
 abbrev pub turning : List Written
 turning = opening ++ segment false 5001 2147484647 16 [] ∷ segment false 5001 998 16 [] ∷ wxyz ∷ []
 
--- the same, an ACK of 1001, which is the place 2^32 + 1; and `Abcd`, of which `zcd` goes out at 1001
+-- the same, an ACK of 1001, which is the offset 2^32 + 1; and `Abcd`, of which `zcd` is forwarded at 1001
 abbrev pub turned : List Written
 turned = turning ++ segment false 5001 1001 16 [] ∷ segment true 1001 5001 24 (122 ∷ 99 ∷ 100 ∷ []) ∷ []
 

@@ -1,4 +1,4 @@
-//! An era of which the inside called.
+//! An era that the inside opened.
 ghost use Rattle.std.specs.Prelude.{◌≡◌, ℕ, List, [], ◌∷◌, ◌++◌, length, true, false};
 ghost use Rattle.wire_base.specs.Segments.{Written};
 ghost use Rattle.wire_base.specs.Tcp as tcp;
@@ -7,14 +7,14 @@ ghost use Rattle.era_state.specs.Read.{sent, came};
 use crate::offered::Offered;
 use crate::segment::Seg;
 use crate::syns::Syns;
-use wire_base::SeqNumber;
+use wire_base::sequence_plus;
 
-/// The inside called, and no segment fixed the base yet: the number of its first SYN, the number behind the last segment that it sent, and
-/// its SYNs' scales.
+/// Era that the inside opened and in which no segment fixed the base yet: the number of its first
+/// SYN, the number after the last segment that it sent, and the window scales of the SYNs.
 #[derive(Clone, Copy)]
 pub struct Called {
-    pub iss: SeqNumber,
-    pub out: SeqNumber,
+    pub iss: u32,
+    pub out: u32,
     pub syns: Syns,
     ghost called: { syns.out_seen ≡ true },
     ghost unanswered: { syns.in_seen ≡ false },
@@ -23,7 +23,7 @@ pub struct Called {
 impl Called {
     ghost use Rattle.era_state.specs.Standing.{CalledFor, OfferedFor};
 
-    /// The era that an outbound SYN without ACK begins.
+    /// Returns the era that an outbound SYN without ACK begins.
     pub fn call(seg: &Seg) -> Called
         requires legal { tcp.are_legal seg.now.flags.0 ≡ true }
         requires syn { tcp.has_syn seg.now.flags.0 ≡ true }
@@ -37,14 +37,14 @@ impl Called {
         }
     }
 
-    /// The era after an inbound SYN, which answers the call or calls at the same time.
+    /// Returns the era after an inbound SYN, which answers the outbound one or crosses it.
     pub fn answered(self, seg: &Seg) -> Offered
         requires legal { tcp.are_legal seg.now.flags.0 ≡ true }
         requires syn { tcp.has_syn seg.now.flags.0 ≡ true }
         ensures stands { (ws : List Written) → CalledFor self ws → OfferedFor result (ws ++ came seg.now ∷ []) }
     {
         Offered {
-            base: seg.seq.plus(1),
+            base: sequence_plus(seg.seq, 1),
             iss: Some(self.iss),
             out: Some(self.out),
             syns: self.syns.came(seg),
@@ -52,7 +52,7 @@ impl Called {
         }
     }
 
-    // The era after the inside called again.
+    // Returns the era after another outbound SYN.
     pub(crate) fn again(mut self, seg: &Seg) -> Called
         requires legal { tcp.are_legal seg.now.flags.0 ≡ true }
         requires syn { tcp.has_syn seg.now.flags.0 ≡ true }

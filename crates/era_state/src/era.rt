@@ -1,4 +1,4 @@
-//! An era, and where segments take it.
+//! An era, and the transitions of segments.
 ghost use Rattle.std.specs.Prelude.{◌≡◌, ℕ, ◌+◌, ◌^◌, ◌<◌, List, [], ◌∷◌, ◌++◌, length, is_none, true, false};
 ghost use Rattle.wire_base.specs.Segments.{Written};
 ghost use Rattle.wire_base.specs.Tcp as tcp;
@@ -12,9 +12,9 @@ use crate::offered::Offered;
 use crate::offset::Offset;
 use crate::segment::Seg;
 use crate::warm::Warm;
-use wire_base::SeqNumber;
+use wire_base::sequence_plus;
 
-/// Both sides have closed, and the inbound FIN is acknowledged.
+/// Era in which both sides have sent a FIN and the inbound FIN is acknowledged.
 #[derive(Clone, Copy)]
 pub struct Closed {
     pub last: Warm,
@@ -30,7 +30,7 @@ pub enum Era {
     Closed(Closed),
 }
 
-/// Where an outbound segment takes an era: on, or to its end, with or without a new one.
+/// Transition of an outbound segment: the era continues, or ends with or without a new one.
 #[derive(Clone, Copy)]
 pub enum Moved {
     Next(Era),
@@ -38,8 +38,8 @@ pub enum Moved {
     Reset,
 }
 
-// The sequence number lies between what is acknowledged and what comes next.
-fn is_awaited(base: SeqNumber, acked: u64, next: u64, sequence: SeqNumber) -> bool
+// Returns whether the sequence number is at an offset from `acked` to `next`, both included.
+fn is_awaited(base: u32, acked: u64, next: u64, sequence: u32) -> bool
     requires acked { acked < 2 ^ 63 + 2 ^ 32 }
     requires next { next < 2 ^ 63 + 2 ^ 33 }
     ensures { result ≡ is_awaited base acked next sequence }
@@ -50,36 +50,37 @@ fn is_awaited(base: SeqNumber, acked: u64, next: u64, sequence: SeqNumber) -> bo
     !below && !above
 }
 
-// The number is the one behind the call, if there is one.
-fn follows(call: Option<SeqNumber>, number: SeqNumber) -> bool
+// Returns whether the number is one past that of `call`, if there is one.
+fn follows(call: Option<u32>, number: u32) -> bool
     ensures { result ≡ follows call number }
 {
     match call {
         None => false,
-        Some(call) => number == call.plus(1),
+        Some(call) => number == sequence_plus(call, 1),
     }
 }
 
-// The sequence number is the one before the base, if one is fixed.
-fn precedes(base: Option<SeqNumber>, sequence: SeqNumber) -> bool
+// Returns whether the sequence number is the one before the base, if one is fixed.
+fn precedes(base: Option<u32>, sequence: u32) -> bool
     ensures { result ≡ precedes base sequence }
 {
     match base {
         None => false,
-        Some(base) => sequence.plus(1) == base,
+        Some(base) => sequence_plus(sequence, 1) == base,
     }
 }
 
 impl Era {
     ghost use Rattle.era_state.specs.Rules.{reopens_outward_at, reopens_inward, t_state, t_syn, takes_reset, t_rst};
     ghost use Rattle.era_state.specs.States.{is_called, is_offered, is_closed};
-    ghost use Rattle.era_state.specs.Eras.{StandsFor, MovesTo, MovesNear, MovesSame, NextIs, is_reset, state_in, base_in, iss_in, acked_in, octets_in};
+    ghost use Rattle.era_state.specs.Eras.{StandsFor, IsSettled, MovesSettled, MovesTo, MovesNear, MovesSame, NextIs, is_reset, state_in, base_in, iss_in, acked_in, octets_in};
     ghost use Rattle.era_state.specs.Quantities.{octets_of};
 
-    /// The era in the state Warm or Closed.
+    /// Returns the era in the state Warm or Closed.
     pub fn settled(last: Warm) -> Era
         ensures stands { (ws : List Written) → WarmFor last ws → StandsFor result ws }
         ensures same { acked_in result ≡ last.acked }
+        ensures settled { IsSettled result }
         ensures octets { octets_in result ≡ last.octets }
     {
         if last.is_over() {
@@ -89,12 +90,13 @@ impl Era {
         }
     }
 
-    // An outbound segment of a Called era.
+    // Returns the era after an outbound segment of a Called era.
     fn called_goes_on(era: Called, seg: &Seg) -> Era
         requires legal { tcp.are_legal seg.now.flags.0 ≡ true }
         requires no_rst { tcp.has_rst seg.now.flags.0 ≡ false }
         ensures stands { (ws : List Written) (octets : List ℕ) → length octets ≡ seg.now.len → CalledFor era ws → StandsFor result (ws ++ sent seg.now octets ∷ []) }
         ensures near { acked_in result < 2 ^ 31 }
+        ensures settled { IsSettled result }
         ensures octets { octets_in result ≡ 0 }
     {
         if seg.flags.ack() {
@@ -104,12 +106,13 @@ impl Era {
         }
     }
 
-    // An outbound segment of an Offered era.
+    // Returns the era after an outbound segment of an Offered era.
     fn offered_goes_on(era: Offered, seg: &Seg) -> Era
         requires legal { tcp.are_legal seg.now.flags.0 ≡ true }
         requires no_rst { tcp.has_rst seg.now.flags.0 ≡ false }
         ensures stands { (ws : List Written) (octets : List ℕ) → length octets ≡ seg.now.len → OfferedFor era ws → StandsFor result (ws ++ sent seg.now octets ∷ []) }
         ensures near { acked_in result < 2 ^ 31 }
+        ensures settled { IsSettled result }
         ensures octets { octets_in result ≡ 0 }
     {
         match seg.acknowledged(era.base, 0) {
@@ -125,23 +128,25 @@ impl Era {
         }
     }
 
-    // An outbound segment of a Warm or Closed era.
+    // Returns the era after an outbound segment of a Warm or Closed era.
     fn warm_goes_on(era: Warm, seg: &Seg) -> Era
         requires { era.acked < 2 ^ 63 }
         ensures stands { (ws : List Written) (octets : List ℕ) → length octets ≡ seg.now.len → WarmFor era ws → StandsFor result (ws ++ sent seg.now octets ∷ []) }
         ensures near { acked_in result < era.acked + 2 ^ 31 }
+        ensures settled { IsSettled result }
         ensures octets { octets_in result ≡ era.octets }
     {
         Era::settled(era.sent(seg))
     }
 
-    // An outbound segment that neither ends nor reopens the era.
+    // Returns the era after an outbound segment that neither ends nor reopens it.
     fn goes_on(self, seg: &Seg) -> Era
         requires legal { tcp.are_legal seg.now.flags.0 ≡ true }
         requires no_rst { tcp.has_rst seg.now.flags.0 ≡ false }
         requires acked { acked_in self < 2 ^ 63 }
         ensures stands { (ws : List Written) (octets : List ℕ) → length octets ≡ seg.now.len → StandsFor self ws → StandsFor result (ws ++ sent seg.now octets ∷ []) }
         ensures near { acked_in result < acked_in self + 2 ^ 31 }
+        ensures settled { IsSettled result }
         ensures octets { octets_in result ≡ octets_in self }
     {
         match self {
@@ -152,12 +157,13 @@ impl Era {
         }
     }
 
-    /// Where an outbound segment takes the era.
+    /// Returns the transition of an outbound segment.
     pub fn outbound(self, seg: &Seg) -> Moved
         requires legal { tcp.are_legal seg.now.flags.0 ≡ true }
         requires acked { acked_in self < 2 ^ 63 }
         ensures moves { (ws : List Written) → StandsFor self ws → MovesTo ws seg.now result }
         ensures near { MovesNear self result }
+        ensures settled { MovesSettled result }
         ensures octets { MovesSame self result }
         ensures reset { tcp.has_rst seg.now.flags.0 ≡ is_reset result }
     {
@@ -170,12 +176,13 @@ impl Era {
         Moved::Next(self.goes_on(seg))
     }
 
-    /// The era after an inbound SYN that passed.
+    /// Returns the era after an inbound SYN that passed.
     pub fn seen_syn(self, seg: &Seg) -> Era
         requires legal { tcp.are_legal seg.now.flags.0 ≡ true }
         requires syn { tcp.has_syn seg.now.flags.0 ≡ true }
         ensures stands { (ws : List Written) → StandsFor self ws → StandsFor result (ws ++ came seg.now ∷ []) }
         ensures same { acked_in result ≡ acked_in self }
+        ensures settled { IsSettled result }
         ensures octets { octets_in result ≡ octets_in self }
     {
         match self {
@@ -186,7 +193,8 @@ impl Era {
         }
     }
 
-    /// The place behind all that is acknowledged, was written inwards, or is the end; and none where no base is fixed.
+    /// Returns the offset after all that is acknowledged, was written inwards, or is the end; none
+    /// before a base is fixed.
     pub fn next_place(&self) -> Option<u64>
         ensures called { is_none result ≡ is_called (state_in self.now) }
         ensures list { (ws : List Written) → StandsFor self.now ws → NextIs result ws }
@@ -199,7 +207,7 @@ impl Era {
         }
     }
 
-    /// What is acknowledged, and 0 before a place is.
+    /// Returns the greatest acknowledged offset, or 0 if there is none.
     pub fn acknowledged(&self) -> u64
         ensures { result ≡ acked_in self.now }
     {
@@ -211,7 +219,7 @@ impl Era {
         }
     }
 
-    /// How many places have an octet.
+    /// Returns the number of offsets with an octet.
     pub fn octets(&self) -> u64
         ensures value { result ≡ octets_in self.now }
         ensures list { (ws : List Written) → StandsFor self.now ws → result ≡ octets_of ws }
@@ -242,7 +250,7 @@ impl Era {
         matches!(self, Era::Closed(_))
     }
 
-    fn base(&self) -> Option<SeqNumber>
+    fn base(&self) -> Option<u32>
         ensures { result ≡ base_in self.now }
     {
         match self {
@@ -253,7 +261,7 @@ impl Era {
         }
     }
 
-    fn first_call(&self) -> Option<SeqNumber>
+    fn first_call(&self) -> Option<u32>
         ensures { result ≡ iss_in self.now }
     {
         match self {
@@ -264,7 +272,7 @@ impl Era {
         }
     }
 
-    // An outbound segment is another call than the era's.
+    // Returns whether an outbound segment is a SYN that opens another connection.
     fn calls_anew(&self, seg: &Seg) -> bool
         ensures { result ≡ reopens_outward_at (state_in self.now) (iss_in self.now) (sent seg.now []) }
     {
@@ -277,7 +285,7 @@ impl Era {
         }
     }
 
-    /// An inbound segment ends the era and begins a new one.
+    /// Returns whether an inbound segment ends the era and begins a new one.
     pub fn is_reopened_by(&self, seg: &Seg) -> bool
         requires { tcp.are_legal seg.now.flags.0 ≡ true }
         ensures { (ws : List Written) → StandsFor self.now ws → result ≡ reopens_inward ws (came seg.now) }
@@ -289,7 +297,7 @@ impl Era {
         closed && (syn && !ack) && !again
     }
 
-    /// The rule T_STATE holds of an inbound segment.
+    /// Returns whether the rule T_STATE holds of an inbound segment.
     pub fn is_early(&self, seg: &Seg) -> bool
         requires { tcp.are_legal seg.now.flags.0 ≡ true }
         ensures { (ws : List Written) → StandsFor self.now ws → result ≡ t_state ws (came seg.now) }
@@ -303,7 +311,7 @@ impl Era {
         !rst && (called && (!syn || ack && !answers) || offered && !syn)
     }
 
-    /// The rule T_SYN holds of an inbound segment.
+    /// Returns whether the rule T_SYN holds of an inbound segment.
     pub fn is_stray_syn(&self, seg: &Seg) -> bool
         requires { tcp.are_legal seg.now.flags.0 ≡ true }
         ensures { (ws : List Written) → StandsFor self.now ws → result ≡ t_syn ws (came seg.now) }
@@ -316,7 +324,7 @@ impl Era {
         syn && !again && !called && (!closed || ack)
     }
 
-    // A reset answers the call, or is awaited.
+    // Returns whether a reset acknowledges the first SYN, or has an awaited sequence number.
     fn takes_reset(&self, seg: &Seg) -> bool
         ensures { (ws : List Written) → StandsFor self.now ws → result ≡ takes_reset ws (came seg.now) }
     {
@@ -328,7 +336,7 @@ impl Era {
         }
     }
 
-    /// The rule T_RST holds of an inbound segment.
+    /// Returns whether the rule T_RST holds of an inbound segment.
     pub fn is_stray_reset(&self, seg: &Seg) -> bool
         requires { tcp.are_legal seg.now.flags.0 ≡ true }
         ensures { (ws : List Written) → StandsFor self.now ws → result ≡ t_rst ws (came seg.now) }

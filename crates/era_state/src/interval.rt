@@ -1,9 +1,9 @@
-//! Which octets of an inbound segment go out.
+//! Which octets of an inbound segment are forwarded.
 ghost use Rattle.std.specs.Prelude.{◌≡◌};
 ghost use Rattle.era_state.specs.Keeping.{top_after, end_after};
 
-/// The octets of a segment that go out, from the place `lo` to below `hi`, and none where these are equal; whether its FIN goes out; and
-/// whether the rules T_OLD (`below`), T_WINDOW and T_END hold.
+/// Forwarded octets of a segment, from the offset `lo` to below `hi` (none if these are equal);
+/// whether its FIN is forwarded; and whether the rules T_OLD (`below`), T_WINDOW and T_END hold.
 #[derive(Clone, Copy, Debug, PartialEq, Eq)]
 pub struct Interval {
     pub lo: u64,
@@ -15,7 +15,7 @@ pub struct Interval {
 }
 
 impl Interval {
-    // The place behind all octets written inwards, with these.
+    // Returns the offset after all octets written inwards, including these.
     pub(crate) fn top_after(&self, top: u64) -> u64
         ensures { result ≡ top_after top self.now.lo self.now.hi }
     {
@@ -26,7 +26,7 @@ impl Interval {
         }
     }
 
-    // The end: the first FIN's place stays.
+    // Returns the end: the offset of the first FIN stays.
     pub(crate) fn end_after(&self, end: Option<u64>) -> Option<u64>
         ensures { result ≡ end_after end self.now.fin self.now.hi }
     {

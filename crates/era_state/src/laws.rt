@@ -7,137 +7,145 @@ ghost use Rattle.era_state.specs.Alike.{AlikeChangesAlike, AlikeStands};
 ghost use Rattle.era_state.specs.Emitted.{WrittenRemains, InwardsAcknowledgeNothing, UnacknowledgedHasNoOctet, EmittedJoins, EmittedIsTold, EmittedOctetsArePlaces, UnbasedHasNoOctet};
 ghost use Rattle.era_state.specs.Worked.{SettledIsEmitted, ClashIsNotEmitted, TurnedIsEmitted};
 
-/// The offset of a number is the one that lies within half a turn of the place from which it is seen.
+/// Proves that the offset of a number is the one from `at` - 2^31 to below `at` + 2^31.
 pub fn offsets_are_read()
     ensures { OffsetsAreRead }
 {}
 
-/// The offset of the base and a place is the place, where this is near.
+/// Proves that the number of a base plus an offset is read as this offset, if it is near.
 pub fn places_are_read()
     ensures { PlacesAreRead }
 {}
 
-/// The state, the base and the first call of an era are its list's.
+/// Proves that the state, the base and the first outbound SYN of an era are its list's.
 pub fn states_are_the_lists()
     ensures { StatesAreTheLists }
 {}
 
-/// An inward segment without octets, SYN and FIN changes no quantity.
+/// Proves that an inward segment without octets, SYN and FIN changes no quantity.
 pub fn silence_changes_nothing()
     ensures { SilenceChangesNothing }
 {}
 
-/// An era stands for its list also with such a segment.
+/// Proves that an era also represents its list with such a segment.
 pub fn silence_stands()
     ensures { SilenceStands }
 {}
 
-/// Of an inward segment only the sequence number, the octets, SYN and FIN are read, and of a SYN whether it has a window scale.
+/// Proves that of an inward segment only the sequence number, the octets, SYN and FIN are read, and
+/// of a SYN whether it has a window scale.
 pub fn alike_changes_alike()
     ensures { AlikeChangesAlike }
 {}
 
-/// An era that stands for the list with such a segment stands for the list with another one that is alike.
+/// Proves that an era which represents the list with such a segment represents the list with
+/// another one that is alike.
 pub fn alike_stands()
     ensures { AlikeStands }
 {}
 
-/// What is acknowledged never falls.
+/// Proves that Acked never falls.
 pub fn acked_never_falls()
     ensures { AckedNeverFalls }
 {}
 
-/// What is acknowledged grows by less than half a turn in one segment.
+/// Proves that Acked grows by less than 2^31 in one segment.
 pub fn acked_grows_near()
     ensures { AckedGrowsNear }
 {}
 
-/// What is acknowledged is the greatest place, each read with what was acknowledged before it.
+/// Proves that Acked is the greatest acknowledged offset, each read relative to Acked before it.
 pub fn acked_is_greatest()
     ensures { AckedIsGreatest }
 {}
 
-/// A segment's own SYN does not change by how much its window is scaled.
+/// Proves that a segment's own SYN does not change the scale of its window.
 pub fn shift_is_of_the_moment()
     ensures { ShiftIsOfTheMoment }
 {}
 
-/// The first octet at an offset stays.
+/// Proves that the first octet at an offset stays.
 pub fn first_stays()
     ensures { FirstStays }
 {}
 
-/// No octet stands at or past the place behind all octets, and there are at most so many.
+/// Proves that no octet is at or past Top, and that there are at most Top octets.
 pub fn octets_are_below_top()
     ensures { OctetsAreBelowTop }
 {}
 
-/// An interval lies above what is acknowledged, and inside its segment, the window and the end.
+/// Proves that an interval is at or above Acked, and inside its segment, the window plus one, and
+/// the end.
 pub fn intervals_fit()
     ensures { IntervalsFit }
 {}
 
-/// A kept octet lies at most 2^30 past what is acknowledged.
+/// Proves that a kept octet is at most 2^30 past Acked.
 pub fn kept_octets_are_near()
     ensures { KeptOctetsAreNear }
 {}
 
-/// A frame's octets stand where its interval says.
+/// Proves that a frame's octets are at the offsets of its interval.
 pub fn frame_octets()
     ensures { FrameOctets }
 {}
 
-/// A frame's FIN stands at the end.
+/// Proves that a frame's FIN is at the end.
 pub fn fin_stands_at_end()
     ensures { FinStandsAtEnd }
 {}
 
-/// A base that is fixed, the first octet at an offset, and an end that is pinned stay, whatever is written later.
+/// Proves that a fixed base, the first octet at an offset and a known end stay, whatever is written
+/// later.
 pub fn written_remains()
     ensures { WrittenRemains }
 {}
 
-/// An inward segment acknowledges nothing.
+/// Proves that an inward segment acknowledges nothing.
 pub fn inwards_acknowledge_nothing()
     ensures { InwardsAcknowledgeNothing }
 {}
 
-/// Before a place is acknowledged, no place has an octet.
+/// Proves that no offset has an octet before an offset is acknowledged.
 pub fn unacknowledged_has_no_octet()
     ensures { UnacknowledgedHasNoOctet }
 {}
 
-/// Segments are emitted with those behind them exactly where these are, each after all before it.
+/// Proves that a list is emitted exactly if its first part is, and its second part is after the
+/// first.
 pub fn emitted_joins()
     ensures { EmittedJoins }
 {}
 
-/// The octets of an emitted segment are the first at their offsets, its FIN is the end, and its SYN has the number before the base.
+/// Proves that the octets of an emitted segment are the first at their offsets, that its FIN is the
+/// end, and that its SYN has the number before the base.
 pub fn emitted_is_told()
     ensures { EmittedIsTold }
 {}
 
-/// An octet of emitted segments stands at or above 0, below the place behind all octets, and below the end.
+/// Proves that an octet of emitted segments is at an offset from 0 to below Top, and below the end.
 pub fn emitted_octets_are_places()
     ensures { EmittedOctetsArePlaces }
 {}
 
-/// Emitted segments that fix no base have no octet.
+/// Proves that emitted segments which fix no base have no octet.
 pub fn unbased_has_no_octet()
     ensures { UnbasedHasNoOctet }
 {}
 
-/// A connection is emitted in which a segment with another octet was settled by the octets sent first, and which ends.
+/// Proves that a connection is emitted in which a segment with another octet is replaced by the
+/// octets sent first, and which ends.
 pub fn settled_is_emitted()
     ensures { SettledIsEmitted }
 {}
 
-/// The other octet itself is not emitted there.
+/// Proves that the segment with the other octet is not emitted there.
 pub fn clash_is_not_emitted()
     ensures { ClashIsNotEmitted }
 {}
 
-/// A connection past a whole turn is emitted, in which the last segment begins below what is acknowledged and has another octet than was sent first.
+/// Proves that a connection past offset 2^32 is emitted, in which the last segment begins below
+/// Acked and has another octet than was sent first.
 pub fn turned_is_emitted()
     ensures { TurnedIsEmitted }
 {}

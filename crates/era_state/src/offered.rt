@@ -1,4 +1,4 @@
-//! An era to which the outside's SYN was written.
+//! An era in which the SYN of the outside was written.
 ghost use Rattle.std.specs.Prelude.{◌≡◌, ℕ, List, [], ◌∷◌, ◌++◌, length, None, is_some, true, false};
 ghost use Rattle.wire_base.specs.Segments.{Written};
 ghost use Rattle.wire_base.specs.Tcp as tcp;
@@ -7,25 +7,28 @@ ghost use Rattle.era_state.specs.Read.{sent, came};
 
 use crate::segment::Seg;
 use crate::syns::Syns;
-use wire_base::SeqNumber;
+use wire_base::sequence_plus;
 
-/// The outside's SYN was written, and no place of its stream is acknowledged: the number of the stream's first octet, the number of the first outbound SYN
-/// and the number behind the last outbound segment where there are any, the SYNs' scales, and whether an outbound FIN was written.
+/// Era in which the SYN of the outside was written and no offset of its stream is acknowledged: the
+/// number of the stream's first octet, the numbers of the first outbound SYN and after the last
+/// outbound segment (if there are any), the window scales of the SYNs, and whether an outbound FIN
+/// was written.
 #[derive(Clone, Copy)]
 pub struct Offered {
-    pub base: SeqNumber,
-    pub iss: Option<SeqNumber>,
-    pub out: Option<SeqNumber>,
+    pub base: u32,
+    pub iss: Option<u32>,
+    pub out: Option<u32>,
     pub syns: Syns,
     pub out_fin: bool,
     ghost called: { syns.in_seen ≡ true },
     ghost answered: { is_some iss ≡ syns.out_seen },
+    ghost went: { is_some iss ≡ true → is_some out ≡ true },
 }
 
 impl Offered {
     ghost use Rattle.era_state.specs.Standing.{OfferedFor};
 
-    /// The era that an inbound SYN without ACK begins.
+    /// Returns the era that an inbound SYN without ACK begins.
     pub fn offer(seg: &Seg) -> Offered
         requires legal { tcp.are_legal seg.now.flags.0 ≡ true }
         requires syn { tcp.has_syn seg.now.flags.0 ≡ true }
@@ -33,7 +36,7 @@ impl Offered {
         ensures stands { OfferedFor result (came seg.now ∷ []) }
     {
         Offered {
-            base: seg.seq.plus(1),
+            base: sequence_plus(seg.seq, 1),
             iss: None,
             out: None,
             syns: Syns::none().came(seg),
@@ -41,7 +44,7 @@ impl Offered {
         }
     }
 
-    // The era after the outside called again.
+    // Returns the era after another inbound SYN.
     pub(crate) fn came(mut self, seg: &Seg) -> Offered
         requires legal { tcp.are_legal seg.now.flags.0 ≡ true }
         requires syn { tcp.has_syn seg.now.flags.0 ≡ true }
@@ -51,7 +54,7 @@ impl Offered {
         self
     }
 
-    // The era after an outbound segment that acknowledges no place of the stream.
+    // Returns the era after an outbound segment that acknowledges no offset of the stream.
     pub(crate) fn sent(mut self, seg: &Seg) -> Offered
         ensures stands { (ws : List Written) (octets : List ℕ) → length octets ≡ seg.now.len → ack_of self.base 0 (sent seg.now []) ≡ None → OfferedFor self ws → OfferedFor result (ws ++ sent seg.now octets ∷ []) }
     {

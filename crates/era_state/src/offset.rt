@@ -3,12 +3,12 @@ ghost use Rattle.std.specs.Prelude.{◌≡◌, ℕ, ◌+◌, ◌^◌, ◌<◌, �
 ghost use Rattle.std.specs.Ordering.{int_eq};
 ghost use Rattle.era_state.specs.Offsets.{off, natural, nat_of};
 
-use wire_base::SeqNumber;
+use wire_base::{sequence_distance, sequence_plus};
 
-/// Half a turn of sequence numbers.
+/// 2^31, half of the sequence numbers.
 pub(crate) const HALF: u64 = 2147483648;
 
-// The offset of a sequence number in a stream, which may lie below 0: it is counted from half a turn below 0.
+// Offset of a sequence number in a stream, which may be below 0; stored 2^31 larger.
 #[derive(Clone, Copy)]
 pub(crate) struct Offset {
     raised: u64,
@@ -17,13 +17,13 @@ pub(crate) struct Offset {
 impl Offset {
     ghost use Rattle.era_state.specs.Raised.{offset_in};
 
-    // The offset of a number, where so much is acknowledged.
-    pub(crate) fn of(base: SeqNumber, acked: u64, number: SeqNumber) -> Offset
+    // Returns the offset of a number relative to `acked`.
+    pub(crate) fn of(base: u32, acked: u64, number: u32) -> Offset
         requires { acked < 2 ^ 63 + 2 ^ 32 }
         ensures value { offset_in result ≡ off base acked number }
         ensures near { result.raised < acked + 2 ^ 32 }
     {
-        let past = number.places_behind(base.plus(acked));
+        let past = sequence_distance(sequence_plus(base, acked), number);
         if past < HALF {
             Offset {
                 raised: acked + past + HALF,
@@ -35,7 +35,7 @@ impl Offset {
         }
     }
 
-    // The offset so many octets further.
+    // Returns the offset `octets` further.
     pub(crate) fn after(self, octets: u32) -> Offset
         requires { self.raised < 2 ^ 63 + 2 ^ 33 }
         ensures value { offset_in result ≡ offset_in self +ℤ pos octets }
@@ -46,7 +46,7 @@ impl Offset {
         }
     }
 
-    // The offset as a place of the stream, and none where it is below 0.
+    // Returns the offset, or none if it is below 0.
     pub(crate) fn place(self) -> Option<u64>
         ensures value { result ≡ natural (offset_in self) }
         ensures near { (place : ℕ) → result ≡ Some place → place + 2 ^ 31 ≤ self.raised }
@@ -58,14 +58,14 @@ impl Offset {
         }
     }
 
-    // The offset, and 0 in place of one below 0.
+    // Returns the offset, or 0 if it is below 0.
     pub(crate) fn or_zero(self) -> u64
         ensures { result ≡ nat_of (offset_in self) }
     {
         self.raised.saturating_sub(HALF)
     }
 
-    // How many octets it is to a place that does not lie below.
+    // Returns the number of octets from this offset to `place`, which is not below it.
     pub(crate) fn octets_to(self, place: u64) -> u64
         requires near { place < 2 ^ 63 + 2 ^ 33 }
         requires order { offset_in self ≤ℤ pos place }
@@ -74,7 +74,7 @@ impl Offset {
         place + HALF - self.raised
     }
 
-    // It lies below the place.
+    // Returns whether the offset is below `place`.
     pub(crate) fn is_below(self, place: u64) -> bool
         requires { place < 2 ^ 63 + 2 ^ 33 }
         ensures { result ≡ int_lt (offset_in self) (pos place) }
@@ -82,7 +82,7 @@ impl Offset {
         self.raised < place + HALF
     }
 
-    // It lies above the place.
+    // Returns whether the offset is above `place`.
     pub(crate) fn is_above(self, place: u64) -> bool
         requires { place < 2 ^ 63 + 2 ^ 33 }
         ensures { result ≡ int_lt (pos place) (offset_in self) }
@@ -90,7 +90,7 @@ impl Offset {
         place + HALF < self.raised
     }
 
-    // It is the place.
+    // Returns whether the offset is `place`.
     pub(crate) fn is_at(self, place: u64) -> bool
         requires { place < 2 ^ 63 + 2 ^ 33 }
         ensures { result ≡ int_eq (offset_in self) (pos place) }

@@ -1,15 +1,15 @@
-//! What an era is asked about one segment.
+//! What an era reads of one segment.
 ghost use Rattle.std.specs.Prelude.{◌≡◌, ℕ, ◌+◌, ◌*◌, ◌%◌, ◌^◌, ◌<◌, ◌≤◌, List, [], length, Some};
 
 use crate::offset::Offset;
-use wire_base::{Flags, SeqNumber};
+use wire_base::{Flags, sequence_plus};
 
-/// A segment's sequence number, acknowledgment, octets of payload, window, flags, and the shift of its window scale option, if it has one
-/// (RFC 9293 section 3.1, RFC 7323 section 2.2).
+/// Sequence number, acknowledgment, number of payload octets, window, flags, and the shift of the
+/// window scale option, if there is one (RFC 9293 section 3.1, RFC 7323 section 2.2).
 #[derive(Clone, Copy, Debug, PartialEq, Eq)]
 pub struct Seg {
-    pub seq: SeqNumber,
-    pub ack: SeqNumber,
+    pub seq: u32,
+    pub ack: u32,
     pub len: u32,
     pub window: u16,
     pub flags: Flags,
@@ -20,18 +20,18 @@ impl Seg {
     ghost use Rattle.era_state.specs.Marks.{number_behind, ack_of, edge_place, iss_after};
     ghost use Rattle.era_state.specs.Read.{sent};
 
-    // The sequence number behind the segment's octets, SYN and FIN.
-    pub(crate) fn behind(&self) -> SeqNumber
+    // Returns the sequence number after the segment's octets, SYN and FIN.
+    pub(crate) fn behind(&self) -> u32
         ensures { (octets : List ℕ) → length octets ≡ self.now.len → result ≡ number_behind (sent self.now octets) }
     {
         let octets = u64::from(self.len);
         let syn = u64::from(self.flags.syn());
         let fin = u64::from(self.flags.fin());
-        self.seq.plus(octets + syn + fin)
+        sequence_plus(self.seq, octets + syn + fin)
     }
 
-    // The place of the stream that it acknowledges, sent outwards.
-    pub(crate) fn acknowledged(&self, base: SeqNumber, acked: u64) -> Option<u64>
+    // Returns the stream offset that it acknowledges, as an outbound segment.
+    pub(crate) fn acknowledged(&self, base: u32, acked: u64) -> Option<u64>
         requires { acked < 2 ^ 63 }
         ensures value { result ≡ ack_of base acked (sent self.now []) }
         ensures near { (place : ℕ) → result ≡ Some place → place < acked + 2 ^ 31 }
@@ -43,7 +43,7 @@ impl Seg {
         }
     }
 
-    // The place behind what its window allows, where it acknowledges this place.
+    // Returns the end of its window, if it acknowledges the offset `place`.
     pub(crate) fn allowed(&self, place: u64, shift: u8) -> u64
         requires place { place < 2 ^ 63 + 2 ^ 31 }
         requires shift { shift ≤ 14 }
@@ -59,8 +59,8 @@ impl Seg {
         }
     }
 
-    // The number of the first outbound call, with this segment sent.
-    pub(crate) fn first_call(&self, old: Option<SeqNumber>) -> Option<SeqNumber>
+    // Returns the number of the first outbound SYN after this segment was sent.
+    pub(crate) fn first_call(&self, old: Option<u32>) -> Option<u32>
         ensures { result ≡ iss_after old (sent self.now []) }
     {
         match old {

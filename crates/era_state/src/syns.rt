@@ -4,8 +4,8 @@ ghost use Rattle.era_state.specs.Offsets.{number_in};
 
 use crate::segment::Seg;
 
-/// Which SYNs were written, and which of them with a window scale: outbound with the greatest shift, at most 14, inbound with any
-/// (RFC 7323 section 2).
+/// SYNs that were written, and which of them with a window scale: outbound with the greatest shift,
+/// at most 14, inbound with any (RFC 7323 section 2).
 #[derive(Clone, Copy)]
 pub struct Syns {
     pub out_seen: bool,
@@ -17,10 +17,10 @@ pub struct Syns {
     ghost small: { (shift : ℕ) → out_scale ≡ Some shift → shift ≤ 14 },
 }
 
-/// The greatest shift (RFC 7323 section 2.3).
+/// Greatest shift (RFC 7323 section 2.3).
 const MOST: u8 = 14;
 
-// The greater shift, at most 14.
+// Returns the greater shift, at most 14.
 fn greater(old: Option<u8>, new: Option<u8>) -> Option<u8>
     requires { (shift : ℕ) → old ≡ Some shift → shift ≤ 14 }
     ensures some { is_some result ≡ (is_some old || is_some new) }
@@ -39,7 +39,7 @@ impl Syns {
     ghost use Rattle.era_state.specs.Read.{sent, came};
     ghost use Rattle.era_state.specs.Scales.{SynsFor, SynsAfter, shift_of};
 
-    // None were written.
+    // Returns the value for no SYN.
     pub(crate) fn none() -> Syns
         ensures { SynsFor result [] }
     {
@@ -51,7 +51,7 @@ impl Syns {
         }
     }
 
-    // With an outbound segment.
+    // Adds an outbound segment.
     pub(crate) fn sent(self, seg: &Seg) -> Syns
         ensures { SynsAfter (sent seg.now []) self result }
     {
@@ -65,7 +65,7 @@ impl Syns {
         }
     }
 
-    // With an inbound SYN.
+    // Adds an inbound SYN.
     pub(crate) fn came(self, seg: &Seg) -> Syns
         ensures { SynsAfter (came seg.now) self result }
     {
@@ -78,7 +78,8 @@ impl Syns {
         }
     }
 
-    // By how many bits windows are scaled: both sides must have scaled, and before both have called the greatest shift may be meant.
+    // Returns the shift of windows in bits: both SYNs must have a scale, and until both were
+    // written the greatest shift, 14, is assumed.
     pub(crate) fn shift(&self) -> u8
         ensures value { result ≡ shift_of self.now }
         ensures small { result ≤ 14 }

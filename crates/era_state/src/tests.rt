@@ -1,10 +1,10 @@
-//! Connections whose quantities were worked out by hand.
+//! Connections whose quantities were computed by hand.
 ghost use Rattle.std.specs.Prelude.{◌≡◌, true, false};
 ghost use Rattle.wire_base.specs.Tcp as tcp;
 
 use crate::{Called, Era, Interval, Moved, Offered, Seg, Warm};
 use std::process::Abort;
-use wire_base::{Flags, SeqNumber};
+use wire_base::Flags;
 
 const FIN_ACK: u8 = 17;
 
@@ -18,13 +18,13 @@ const PSH_ACK: u8 = 24;
 
 const RST: u8 = 4;
 
-// A segment with a window of 8192 and no window scale.
+// Returns a segment with a window of 8192 and no window scale.
 fn segment(flags: u8, seq: u32, ack: u32, len: u32) -> Seg
     ensures { result.flags.0 ≡ flags }
 {
     Seg {
-        seq: SeqNumber::new(seq),
-        ack: SeqNumber::new(ack),
+        seq,
+        ack,
         len,
         window: 8192,
         flags: Flags(flags),
@@ -32,7 +32,7 @@ fn segment(flags: u8, seq: u32, ack: u32, len: u32) -> Seg
     }
 }
 
-// Where an outbound segment takes an era whose stream is not too long.
+// Returns the transition of an outbound segment, and checks that the stream is not too long.
 fn moved(rt: &impl Abort, era: &Era, seg: &Seg) -> Moved
     requires { tcp.are_legal seg.now.flags.0 ≡ true }
 {
@@ -40,7 +40,7 @@ fn moved(rt: &impl Abort, era: &Era, seg: &Seg) -> Moved
     (*era).outbound(seg)
 }
 
-// An outbound segment goes on with the era.
+// Returns the era after an outbound segment, and checks that it continues.
 fn goes_out(rt: &impl Abort, era: Era, seg: &Seg) -> Era
     requires { tcp.are_legal seg.now.flags.0 ≡ true }
 {
@@ -53,7 +53,7 @@ fn goes_out(rt: &impl Abort, era: Era, seg: &Seg) -> Era
     }
 }
 
-// Nothing goes out.
+// Interval of a segment of which nothing is forwarded.
 const NOTHING: Interval = Interval {
     lo: 0,
     hi: 0,
@@ -63,8 +63,9 @@ const NOTHING: Interval = Interval {
     end: false,
 };
 
-// An inbound segment is forwarded, so many of whose places had an octet before: what of it goes out, the number of its frame, and the era after it.
-fn comes_again(rt: &impl Abort, era: Era, seg: &Seg, old: u32) -> (Interval, SeqNumber, Era)
+// Forwards an inbound segment, of whose offsets `old` had an octet before. Returns its interval,
+// the sequence number of its frame, and the era after it.
+fn comes_again(rt: &impl Abort, era: Era, seg: &Seg, old: u32) -> (Interval, u32, Era)
     requires legal { tcp.are_legal seg.now.flags.0 ≡ true }
     requires no_syn { tcp.has_syn seg.now.flags.0 ≡ false }
     requires no_rst { tcp.has_rst seg.now.flags.0 ≡ false }
@@ -78,7 +79,7 @@ fn comes_again(rt: &impl Abort, era: Era, seg: &Seg, old: u32) -> (Interval, Seq
     }
 }
 
-fn forwarded(rt: &impl Abort, warm: Warm, seg: &Seg, old: u32) -> (Interval, SeqNumber, Era)
+fn forwarded(rt: &impl Abort, warm: Warm, seg: &Seg, old: u32) -> (Interval, u32, Era)
     requires legal { tcp.are_legal seg.now.flags.0 ≡ true }
     requires no_syn { tcp.has_syn seg.now.flags.0 ≡ false }
     requires no_rst { tcp.has_rst seg.now.flags.0 ≡ false }
@@ -90,8 +91,8 @@ fn forwarded(rt: &impl Abort, warm: Warm, seg: &Seg, old: u32) -> (Interval, Seq
     (kept, number, Era::settled(warm.forwarded(&kept, fresh)))
 }
 
-// The same of one none of whose places had an octet.
-fn comes_in(rt: &impl Abort, era: Era, seg: &Seg) -> (Interval, SeqNumber, Era)
+// Forwards an inbound segment at offsets without octets.
+fn comes_in(rt: &impl Abort, era: Era, seg: &Seg) -> (Interval, u32, Era)
     requires legal { tcp.are_legal seg.now.flags.0 ≡ true }
     requires no_syn { tcp.has_syn seg.now.flags.0 ≡ false }
     requires no_rst { tcp.has_rst seg.now.flags.0 ≡ false }
@@ -107,7 +108,7 @@ fn warm_of(era: &Era) -> Option<Warm> {
     }
 }
 
-// The edge of the window.
+// Returns Edge.
 fn edge_of(era: &Era) -> Option<u64> {
     match warm_of(era) {
         Some(warm) => Some(warm.edge),
@@ -115,15 +116,15 @@ fn edge_of(era: &Era) -> Option<u64> {
     }
 }
 
-// The number behind what was sent outwards.
-fn out_of(era: &Era) -> Option<SeqNumber> {
+// Returns the number after the last outbound segment.
+fn out_of(era: &Era) -> Option<u32> {
     match warm_of(era) {
         Some(warm) => Some(warm.out),
         None => None,
     }
 }
 
-// The connection that begins with SYN 999 from outside, SYN ACK 5000 and ACK 5001, with this window.
+// Returns the connection of SYN 999 from outside, SYN ACK 5000 with this window, and ACK 5001.
 fn opened(rt: &impl Abort, window: u16) -> Era {
     let era = Era::Offered(Offered::offer(&segment(SYN, 999, 0, 0)));
     let answer = Seg {
@@ -135,7 +136,7 @@ fn opened(rt: &impl Abort, window: u16) -> Era {
     era
 }
 
-// Ten segments with a window scale of 7 on both sides, up to both FINs; then another call.
+// Ten segments with a window scale of 7 on both sides, up to both FINs; then another SYN.
 #[test]
 fn closes_and_reopens(rt: HostRuntime) {
     let call = Seg {
@@ -158,7 +159,7 @@ fn closes_and_reopens(rt: HostRuntime) {
     assert!(rt; edge_of(&era) == Some(18 + 8192 * 128));
     let era = goes_out(&rt, era, &segment(PSH_ACK, 5001, 1018, 19));
     let era = goes_out(&rt, era, &segment(FIN_ACK, 5020, 1018, 0));
-    assert!(rt; out_of(&era) == Some(SeqNumber::new(5021)));
+    assert!(rt; out_of(&era) == Some(5021));
     let (last, _, era) = comes_in(&rt, era, &segment(FIN_ACK, 1018, 5021, 0));
     assert!(rt; last.fin && !last.end && last.hi == 18);
     assert!(rt; era.next_place() == Some(19));
@@ -169,7 +170,8 @@ fn closes_and_reopens(rt: HostRuntime) {
     assert!(rt; !era.is_reopened_by(&call));
 }
 
-// Of ten octets from the first on, five go out behind the two that are acknowledged: the four of the window, and one more.
+// Returns whether five of ten octets are forwarded: after the two that are acknowledged, the four
+// of the window and one more.
 fn is_cut(era: &Era) -> bool {
     let long = segment(PSH_ACK, 1000, 5001, 10);
     match warm_of(era) {
@@ -181,14 +183,14 @@ fn is_cut(era: &Era) -> bool {
                 && kept.window
                 && !kept.end
                 && !kept.fin
-                && warm.frame_sequence(&long, &kept) == SeqNumber::new(1002)
+                && warm.frame_sequence(&long, &kept) == 1002
                 && warm.octets_before(&long, &kept) == 2
         }
         None => false,
     }
 }
 
-// A window of 4 octets: what lies below and more than one past it is cut off.
+// A window of 4 octets: octets below it and more than one past it are cut off.
 #[test]
 fn cuts_to_the_window(rt: HostRuntime) {
     let (first, _, era) = comes_in(&rt, opened(&rt, 4), &segment(PSH_ACK, 1000, 5001, 2));
@@ -201,41 +203,38 @@ fn cuts_to_the_window(rt: HostRuntime) {
     assert!(rt; is_cut(&era), "cdefg");
 }
 
-// FINs before, at and behind the end of what came.
+// FINs before, at and after the end of the octets received.
 #[test]
 fn pins_one_end(rt: HostRuntime) {
     let (_, _, era) = comes_in(&rt, opened(&rt, 8192), &segment(PSH_ACK, 1004, 5001, 4));
     let (early, number, era) = comes_in(&rt, era, &segment(FIN_ACK, 1000, 5001, 4));
-    assert!(rt;
-        early.end && !early.fin && early.lo == 0 && early.hi == 4 && number == SeqNumber::new(1000)
-    );
+    assert!(rt; early.end && !early.fin && early.lo == 0 && early.hi == 4 && number == 1000);
     let (last, number, era) = comes_in(&rt, era, &segment(FIN_ACK, 1008, 5001, 0));
-    assert!(rt; !last.end && last.fin && last.lo == last.hi && number == SeqNumber::new(1008));
+    assert!(rt; !last.end && last.fin && last.lo == last.hi && number == 1008);
     let (late, number, era) = comes_in(&rt, era, &segment(FIN_ACK, 1009, 5001, 0));
-    assert!(rt; late.end && !late.fin && number == SeqNumber::new(1009));
+    assert!(rt; late.end && !late.fin && number == 1009);
     let (past, number, era) = comes_in(&rt, era, &segment(ACK, 1008, 5001, 2));
-    assert!(rt; past.end && past.lo == past.hi && number == SeqNumber::new(1008));
+    assert!(rt; past.end && past.lo == past.hi && number == 1008);
     assert!(rt; era.next_place() == Some(9));
 }
 
-// Numbers pass 2^32, and octets pass half a turn.
+// Sequence numbers pass 2^32, and offsets pass 2^31.
 #[test]
 fn wraps(rt: HostRuntime) {
     let era = Era::Offered(Offered::offer(&segment(SYN, 4294967294, 0, 0)));
     let era = goes_out(&rt, era, &segment(SYN_ACK, 5000, 4294967295, 0));
     let (first, number, era) = comes_in(&rt, era, &segment(PSH_ACK, 4294967295, 5001, 4));
-    assert!(rt; first.lo == 0 && first.hi == 4 && number == SeqNumber::new(4294967295));
+    assert!(rt; first.lo == 0 && first.hi == 4 && number == 4294967295);
     let era = goes_out(&rt, era, &segment(ACK, 5001, 3, 0));
     assert!(rt; era.acknowledged() == 4);
     let era = goes_out(&rt, era, &segment(ACK, 5001, 2147483646, 0));
     let (last, number, _) = comes_in(&rt, era, &segment(PSH_ACK, 2147483646, 5001, 2));
-    assert!(rt;
-        last.lo == 2147483647 && last.hi == 2147483649 && number == SeqNumber::new(2147483646)
-    );
+    assert!(rt; last.lo == 2147483647 && last.hi == 2147483649 && number == 2147483646);
     assert!(rt; !last.below && !last.window);
 }
 
-// A stream passes a whole turn: numbers are read from what is acknowledged, where octets and the window go on.
+// A stream passes offset 2^32: numbers are read relative to Acked, and octets and the window
+// continue.
 #[test]
 fn passes_a_turn(rt: HostRuntime) {
     let era = goes_out(&rt, opened(&rt, 8192), &segment(ACK, 5001, 2147484647, 0));
@@ -243,21 +242,21 @@ fn passes_a_turn(rt: HostRuntime) {
     let era = goes_out(&rt, era, &segment(ACK, 5001, 998, 0));
     assert!(rt; era.acknowledged() == 4294967294);
     let (first, number, era) = comes_in(&rt, era, &segment(PSH_ACK, 998, 5001, 4));
-    assert!(rt; first.lo == 4294967294 && first.hi == 4294967298 && number == SeqNumber::new(998));
+    assert!(rt; first.lo == 4294967294 && first.hi == 4294967298 && number == 998);
     assert!(rt; !first.below && !first.window && !first.end);
     let era = goes_out(&rt, era, &segment(ACK, 5001, 1001, 0));
     assert!(rt; era.acknowledged() == 4294967297);
     assert!(rt; era.octets() == 4, "also those that are acknowledged");
     let (again, number, era) = comes_again(&rt, era, &segment(PSH_ACK, 1000, 5001, 4), 1);
     assert!(rt;
-        again.lo == 4294967297 && again.hi == 4294967300 && number == SeqNumber::new(1001),
+        again.lo == 4294967297 && again.hi == 4294967300 && number == 1001,
         "bcd"
     );
     assert!(rt; again.below && !again.window && !again.end);
     assert!(rt; era.octets() == 6, "b stands where z did");
 }
 
-// The inside calls, and the outside answers.
+// The inside opens a connection, and the outside answers.
 #[test]
 fn answers_the_inside(rt: HostRuntime) {
     let era = Era::Called(Called::call(&segment(SYN, 5000, 0, 0)));
@@ -272,7 +271,7 @@ fn answers_the_inside(rt: HostRuntime) {
     assert!(rt; kept.lo == 0 && kept.hi == 4);
 }
 
-// Another call and resets of an open connection.
+// Another SYN and resets of an open connection.
 #[test]
 fn refuses_strays(rt: HostRuntime) {
     let era = opened(&rt, 8192);

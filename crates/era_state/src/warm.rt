@@ -1,4 +1,4 @@
-//! An era of whose stream a place is acknowledged.
+//! An era in which an offset of the stream is acknowledged.
 ghost use Rattle.std.specs.Prelude.{◌≡◌, ℕ, ◌+◌, ◌*◌, ◌^◌, ◌≤◌, ◌<◌, max, List, [], ◌∷◌, ◌++◌, length, Some, is_some, true, false};
 ghost use Rattle.wire_base.specs.Segments.{Written};
 ghost use Rattle.wire_base.specs.Tcp as tcp;
@@ -10,17 +10,19 @@ use crate::interval::Interval;
 use crate::offset::Offset;
 use crate::segment::Seg;
 use crate::syns::Syns;
-use wire_base::SeqNumber;
+use wire_base::sequence_plus;
 
-/// A place of the stream is acknowledged: the number of the stream's first octet, the number of the first outbound SYN where there is one, the
-/// number behind the last outbound segment, the SYNs' scales; the greatest acknowledged place, the greatest place behind what a window allows,
-/// the place behind all octets written inwards, the place of the inbound FIN where one was written, whether an outbound one was, and how many
-/// places have an octet. Places count octets from the stream's begin.
+/// Era in which an offset of the stream is acknowledged. `base` is the number of the stream's first
+/// octet, `iss` that of the first outbound SYN (if there is one), `out` that after the last
+/// outbound segment. `acked` is the greatest acknowledged offset, `edge` the greatest end of a
+/// window, `top` the offset after all octets written inwards, `end` the offset of the inbound FIN
+/// (if one was written), `out_fin` whether an outbound FIN was written, `octets` the number of
+/// offsets with an octet. Offsets count octets from the stream's first one.
 #[derive(Clone, Copy)]
 pub struct Warm {
-    pub base: SeqNumber,
-    pub iss: Option<SeqNumber>,
-    pub out: SeqNumber,
+    pub base: u32,
+    pub iss: Option<u32>,
+    pub out: u32,
     pub syns: Syns,
     pub acked: u64,
     pub edge: u64,
@@ -37,7 +39,7 @@ pub struct Warm {
     ghost end_in_window: { (place : ℕ) → end ≡ Some place → place ≤ edge },
 }
 
-// The greater place.
+// Returns the greater offset.
 fn greater(acked: u64, place: Option<u64>) -> u64
     ensures { result ≡ max acked (number_in place) }
 {
@@ -47,7 +49,7 @@ fn greater(acked: u64, place: Option<u64>) -> u64
     }
 }
 
-// The greater edge, with a segment that may acknowledge a place.
+// Returns the greater edge after a segment that may acknowledge an offset.
 fn greater_edge(acked: u64, edge: u64, place: Option<u64>, shift: u8, seg: &Seg) -> u64
     requires shift { shift ≤ 14 }
     requires place { (n : ℕ) → place ≡ Some n → n < 2 ^ 63 + 2 ^ 31 }
@@ -74,10 +76,11 @@ impl Warm {
     ghost use Rattle.era_state.specs.Intervals.{Keeps, KeptOf};
     ghost use Rattle.era_state.specs.Frames.{IsGiven, IsFrame};
 
-    // The era after an outbound segment acknowledges a place, where none was acknowledged before.
+    // Returns the era after an outbound segment that acknowledges an offset, where none was
+    // acknowledged before.
     pub(crate) fn open(
-        base: SeqNumber,
-        iss: Option<SeqNumber>,
+        base: u32,
+        iss: Option<u32>,
         syns: Syns,
         out_fin: bool,
         place: u64,
@@ -103,7 +106,7 @@ impl Warm {
         }
     }
 
-    /// The era that an outbound segment with ACK and without RST begins.
+    /// Returns the era that an outbound segment with ACK and without RST begins.
     pub fn begin(seg: &Seg) -> Warm
         requires legal { tcp.are_legal seg.now.flags.0 ≡ true }
         requires ack { tcp.has_ack seg.now.flags.0 ≡ true }
@@ -113,7 +116,7 @@ impl Warm {
         Warm::open(seg.ack, None, Syns::none(), false, 0, seg)
     }
 
-    // The era after an outbound segment.
+    // Returns the era after an outbound segment.
     pub(crate) fn sent(mut self, seg: &Seg) -> Warm
         requires { self.acked < 2 ^ 63 }
         ensures stands { (octets : List ℕ) → length octets ≡ seg.now.len → WarmAfter (sent seg.now octets) self result }
@@ -131,7 +134,7 @@ impl Warm {
         self
     }
 
-    // The era after an inbound SYN.
+    // Returns the era after an inbound SYN.
     pub(crate) fn came(mut self, seg: &Seg) -> Warm
         ensures stands { WarmCalled (came seg.now) self result }
     {
@@ -139,7 +142,7 @@ impl Warm {
         self
     }
 
-    // Both sides have closed, and the inbound FIN is acknowledged.
+    // Returns whether both sides have sent a FIN and the inbound FIN is acknowledged.
     pub(crate) fn is_over(&self) -> bool
         ensures { result ≡ is_over_in self.now }
     {
@@ -149,7 +152,7 @@ impl Warm {
         }
     }
 
-    // The place behind all that is acknowledged, was written inwards, or is the end.
+    // Returns the offset after all that is acknowledged, was written inwards, or is the end.
     pub(crate) fn next(&self) -> u64
         ensures { result ≡ max self.now.acked (max self.now.top (behind_end (whole self.now.end))) }
     {
@@ -160,7 +163,7 @@ impl Warm {
         }
     }
 
-    // How far octets may go.
+    // Returns the limit of forwarded octets.
     fn reach(&self) -> u64
         ensures { result ≡ reach (bounds_in self.now) }
     {
@@ -171,7 +174,7 @@ impl Warm {
         }
     }
 
-    // A FIN at this offset is kept.
+    // Returns whether a FIN at this offset is kept.
     fn is_kept_fin(&self, place: Offset) -> bool
         ensures { result ≡ is_kept_fin (whole self.now.end) (bounds_in self.now) (offset_in place) }
     {
@@ -181,7 +184,7 @@ impl Warm {
         }
     }
 
-    // The end is below this offset.
+    // Returns whether the end is known and below this offset.
     fn ends_below(&self, place: Offset) -> bool
         ensures { result ≡ ends_below (whole self.now.end) (offset_in place) }
     {
@@ -191,7 +194,8 @@ impl Warm {
         }
     }
 
-    /// Which octets of an inbound segment go out, whether its FIN does, and which rules hold.
+    /// Returns which octets of an inbound segment are forwarded, whether its FIN is, and which
+    /// rules hold.
     pub fn interval(&self, seg: &Seg) -> Interval
         requires legal { tcp.are_legal seg.now.flags.0 ≡ true }
         requires no_syn { tcp.has_syn seg.now.flags.0 ≡ false }
@@ -223,7 +227,7 @@ impl Warm {
         }
     }
 
-    /// How many octets of an inbound segment stand before the first that goes out.
+    /// Returns the number of octets of an inbound segment before the first forwarded one.
     pub fn octets_before(&self, seg: &Seg, kept: &Interval) -> u32
         requires legal { tcp.are_legal seg.now.flags.0 ≡ true }
         requires kept { Keeps (bounds_in self.now) (off self.now.base self.now.acked seg.now.seq) seg.now.len (tcp.has_fin seg.now.flags.0) kept.now }
@@ -234,9 +238,9 @@ impl Warm {
         Offset::of(self.base, self.acked, seg.seq).octets_to(kept.lo) as u32
     }
 
-    /// The sequence number of the frame of an inbound segment: that of its first octet; that of its FIN, where only this goes out; else the
-    /// segment's own.
-    pub fn frame_sequence(&self, seg: &Seg, kept: &Interval) -> SeqNumber
+    /// Returns the sequence number of the frame of an inbound segment: that of its first octet;
+    /// that of its FIN if only this is forwarded; otherwise the segment's own.
+    pub fn frame_sequence(&self, seg: &Seg, kept: &Interval) -> u32
         requires legal { tcp.are_legal seg.now.flags.0 ≡ true }
         requires kept { Keeps (bounds_in self.now) (off self.now.base self.now.acked seg.now.seq) seg.now.len (tcp.has_fin seg.now.flags.0) kept.now }
         ensures { (ws : List Written) (octets : List ℕ) → length octets ≡ seg.now.len → WarmFor self.now ws → result ≡ frame_sequence_of ws (received seg.now octets) }
@@ -250,10 +254,11 @@ impl Warm {
         } else {
             return seg.seq;
         };
-        self.base.plus(place)
+        sequence_plus(self.base, place)
     }
 
-    /// The era after the frame with these octets and this FIN, so many of the octets being the first at their places.
+    /// Returns the era after the frame with these octets and this FIN; `fresh` of the octets are
+    /// the first at their offsets.
     pub fn forwarded(mut self, kept: &Interval, fresh: u32) -> Warm
         requires given { IsGiven self kept.now }
         requires fresh { kept.now.lo + fresh ≤ kept.now.hi }

@@ -6,7 +6,7 @@ use Rattle.icmp_codec.specs.declared.header.Icmp.{Icmp}
 use Rattle.icmp_codec.specs.declared.header.IcmpFault.{IcmpFault}
 use Rattle.icmp_codec.specs.declared.header.IcmpFault.TheVariants.{Short, Sum}
 
--- each field at its place in the octets of a message
+-- each field at its offset in the octets of a message
 abbrev pub fields_of : List ℕ → Icmp
 fields_of message = record { kind = icmp.kind message; code = icmp.code message }
 
@@ -17,6 +17,6 @@ fault_of message =
     else if icmp.has_wrong_sum message then Some Sum
     else None
 
--- what is read of a message: its fields, or its first fault
+-- the result of parsing a message: its fields, or its first fault
 abbrev pub parsed : List ℕ → Result Icmp IcmpFault
 parsed message = value_or_fault (fields_of message) (fault_of message)

@@ -5,16 +5,16 @@ ghost use Rattle.icmp_codec.specs.Header.{parsed};
 use thiserror::Error;
 use wire_base::sum_right;
 
-/// The fields of an ICMP header that every message has, but for its checksum (RFC 792).
+/// The fields that every ICMP header has, without the checksum (RFC 792).
 #[derive(Clone, Copy, Debug, PartialEq, Eq)]
 pub struct Icmp {
-    /// The type of the message, such as 3 for a destination that cannot be reached.
+    /// The type of the message, such as 3 for destination unreachable.
     pub kind: u8,
-    /// What the type leaves open, such as the cause.
+    /// The code, which refines the type, such as 1 for host unreachable.
     pub code: u8,
 }
 
-/// Why octets are no ICMP message, in the order of testing.
+/// Reasons why octets are not an ICMP message, in the order of the tests.
 #[derive(Clone, Copy, Debug, PartialEq, Eq, Error)]
 pub enum IcmpFault {
     #[error("fewer than 8 octets")]
@@ -23,7 +23,7 @@ pub enum IcmpFault {
     Sum,
 }
 
-/// Reads the header of the message that these octets are; the checksum is over the whole message.
+/// Parses the header of a message; the checksum covers the whole message.
 pub fn parse(bytes: &[u8]) -> Result<Icmp, IcmpFault>
     ensures exact { result ≡ parsed bytes.now }
     ensures whole { OnOk result (8 ≤ length bytes.now) }
@@ -44,7 +44,8 @@ pub fn parse(bytes: &[u8]) -> Result<Icmp, IcmpFault>
 mod tests {
     use super::*;
 
-    // Zero words; echo (RFC 792) with an even and an odd count of octets; an odd last octet as the low octet; a redirect; too few octets.
+    // Words of 0; echo (RFC 792) with an even and an odd number of octets; an odd last octet summed
+    // as the low octet; a redirect; too few octets.
     #[test]
     fn a_message_has_eight_octets_and_a_right_sum(rt: HostRuntime) {
         let rows: [(&[u8], Result<Icmp, IcmpFault>); 10] = [

@@ -1,4 +1,9 @@
-//! ICMP: the header of a message, what may be wrong with it, and the packet that an error message quotes (RFC 792).
+//! ICMP: the header of a message, its faults, and the packet that an error message quotes (RFC
+//! 792).
+//!
+//! Proved: `parse` returns the header or its first fault. `quoted` returns the addresses, protocol
+//! and ports of the quoted packet, and None exactly if no IPv4 header of at least five words with
+//! eight octets behind it is quoted.
 #![tactic(auto)]
 
 pub mod header;

@@ -2,23 +2,24 @@
 ghost use Rattle.std.specs.Prelude.{◌≡◌};
 ghost use Rattle.icmp_codec.specs.Quote.{quoted_in};
 
-use wire_base::{Addr, Protocol, u16_at, u32_at};
+use wire_base::{Addr, u16_at, u32_at};
 
-/// What an error message tells of the packet that it quotes (RFC 792): its addresses, its protocol, and the first four
-/// octets behind its header, where TCP and UDP have their ports.
+/// The fields of the packet that an error message quotes (RFC 792): its addresses, its protocol,
+/// and the first four octets after its header, which are the ports in TCP and UDP.
 #[derive(Clone, Copy, Debug, PartialEq, Eq)]
 pub struct QuotedKey {
     pub src: Addr,
     pub dst: Addr,
-    pub protocol: Protocol,
+    pub protocol: u8,
     /// The source port.
     pub sport: u16,
     /// The destination port.
     pub dport: u16,
 }
 
-/// Reads the packet that a message of type 3, 11 or 12 quotes from octet 8 on: None exactly where no version 4 header of at
-/// least five words stands there with eight octets behind it. The quoted sums and the total length are not looked at.
+/// Parses the packet that a message of type 3, 11 or 12 quotes from offset 8 on. Returns None
+/// exactly if there is no version 4 header of at least five words there with eight octets after it.
+/// Ignores the quoted checksums and the total length.
 pub fn quoted(bytes: &[u8]) -> Option<QuotedKey>
     ensures exact { result ≡ quoted_in bytes.now }
 {
@@ -32,7 +33,7 @@ pub fn quoted(bytes: &[u8]) -> Option<QuotedKey>
     Some(QuotedKey {
         src: Addr(u32_at(packet, 12)),
         dst: Addr(u32_at(packet, 16)),
-        protocol: Protocol(packet[9]),
+        protocol: packet[9],
         sport: u16_at(payload, 0),
         dport: u16_at(payload, 2),
     })
@@ -41,9 +42,10 @@ pub fn quoted(bytes: &[u8]) -> Option<QuotedKey>
 #[cfg(test)]
 mod tests {
     use super::*;
+    use wire_base::protocol;
 
-    /// A host that cannot be reached (RFC 792): it quotes 12 octets of a TCP segment from 10.0.0.1 port 80 to 198.51.100.7
-    /// port 40000, behind a header that begins with this octet.
+    /// Returns a host unreachable message (RFC 792). It quotes 12 octets of a TCP segment from
+    /// 10.0.0.1 port 80 to 198.51.100.7 port 40000, after a header that begins with `first`.
     fn unreachable_host(first: u8) -> [u8; 40] {
         [
             0x03, 0x01, 0x48, 0xfe, 0x00, 0x00, 0x00, 0x00, first, 0x00, 0x00, 0x28, 0x00, 0x01,
@@ -52,18 +54,19 @@ mod tests {
         ]
     }
 
-    /// A TCP segment from 10.0.0.1 to 198.51.100.7 with these ports.
+    /// Returns the key of a TCP segment from 10.0.0.1 to 198.51.100.7 with these ports.
     fn segment(sport: u16, dport: u16) -> Option<QuotedKey> {
         Some(QuotedKey {
             src: Addr(0x0a00_0001),
             dst: Addr(0xc633_6407),
-            protocol: Protocol::TCP,
+            protocol: protocol::TCP,
             sport,
             dport,
         })
     }
 
-    // Five words and eight octets behind them are enough; with six words the ports stand four octets later.
+    // Five words and eight octets after them are enough; with six words the ports are four octets
+    // later.
     #[test]
     fn a_quote_has_a_header_and_eight_octets(rt: HostRuntime) {
         let rows = [

@@ -1,4 +1,4 @@
--- The rows of a record that carries IPv4 are those of its packet.
+-- The rules of a record that carries IPv4 are those of its packet.
 use Rattle.std.proofs.Common.{◌≡◌, ℕ, Bool, true, false, ◌&&◌, List, Option, Some, None, refl, sym, ap, ◌∙◌, find, filter, ◌==◌, eqb-true, if◌then◌else◌}
 use Rattle.wire_base.specs.declared.address.Link.{Link}
 use Rattle.wire_base.specs.declared.address.Link.TheVariants.{Ethernet, Raw}
@@ -15,7 +15,7 @@ use Rattle.ip_rules.specs.declared.judged.IpJudged.TheVariants.{Arp, Drop, Piece
 use Rattle.ip_rules.specs.Rows.{l_snap, l_short, l_type, carries_ip, carries_arp, side_in, tells_side, holds_in, packet_drop_rows, piece_fix_rows, whole_fix_rows, ip_dropped_by, ip_fixes}
 use Rattle.ip_rules.specs.Judged.{IsRead, IsJudged, IsJudgedIn, link_row, packet_row, packet_fixes}
 
--- the first row on the link, or else on the packet where there is one
+-- the first rule on the link, or else the first one on the packet, if there is one
 abbrev next : Option Rule → Option Rule → Option Rule
 next (Some rule) rest = Some rule
 next None rest = rest
@@ -50,7 +50,7 @@ pub link_is_early : (link : Link) (r : Packet) (rule : Rule) → link_row link r
 unfolding link_row
 link_is_early link r rule h = early_by (l_snap r) (l_short link r.octets) (l_type link r.octets) rule h
 
--- a packet's rows, where it carries none
+-- no rule on the packet holds of a record without one
 no_rows : (settings : PlainSettings) (given : Option Side) (p : List ℕ) → rows_if false settings given p ≡ None
 no_rows settings given p = refl
 
@@ -85,7 +85,7 @@ pub whole_fixes_here : (settings : PlainSettings) (link : Link) (r : Packet) →
 unfolding packet_fixes ip_fixes
 whole_fixes_here settings link r carried = sym (ap (λ carried. filter (λ rule. carried && holds_in settings r.side (packet_in link r.octets) rule) whole_fix_rows) carried)
 
--- what is read of a packet, with its fix rows under another word
+-- the packet that was read, with its fix rules in another form
 read_here : (settings : PlainSettings) (given : Option Side) (octets p q : List ℕ) (rows others : List Rule) (packet : IpPacket) → p ≡ q → rows ≡ others → IsRead settings given octets p rows packet → IsRead settings given octets q others packet
 read_here settings given octets p q rows others packet same named read = rw (same, named) at read
 

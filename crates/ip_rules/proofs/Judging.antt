@@ -1,4 +1,4 @@
--- Which row on the packet holds, group by group.
+-- The rules on the packet, group by group.
 use Rattle.std.proofs.Common.{◌≡◌, ℕ, Bool, true, false, ◌&&◌, ◌||◌, ◌==◌, not, List, ◌++◌, Option, Some, None, Result, Ok, Err, is_none, filter, nat_le, refl, sym, ap, ap₂, ◌∙◌, if◌then◌else◌}
 use Rattle.wire_base.specs.Reading.{value_or_fault}
 use Rattle.wire_base.specs.declared.address.Side.{Side}
@@ -17,7 +17,7 @@ use Rattle.norm_settings.specs.Side.{side}
 use Rattle.ip_rules.specs.Rows.{side_in, is_inward, i_src, i_dst, tells_side, i_ttl, piece_fix_rows, whole_fix_rows, i_trail, i_opt, i_res, i_opt_bad, i_route, p_proto}
 use Rattle.ip_rules.specs.Judged.{rule_of, side_or_row, content_row, packet_row, packet_fixes, header_fixes, where_holds}
 
--- a header is read where it has no fault, with its fields; else its fault is told
+-- parsing a header returns its fields if it has no fault, else the fault
 pub read_is_faultless : (fields head : Ipv4) (fault : Option IpFault) → value_or_fault fields fault ≡ Ok head → fault ≡ None
 read_is_faultless fields head None h = refl
 read_is_faultless fields head (Some fault) h = absurd (cc)
@@ -30,7 +30,7 @@ pub refused_is_fault : (fields : Ipv4) (fault : Option IpFault) (told : IpFault)
 refused_is_fault fields None told h = absurd (cc)
 refused_is_fault fields (Some fault) told h = cc
 
--- the first row, from the fault of the header, from the addresses, and from the rest
+-- the first rule: by the fault of the header, by the addresses, and by the rest
 abbrev by_fault : Option IpFault → Option Rule → Option Rule
 by_fault (Some fault) rest = Some (rule_of fault)
 by_fault None rest = rest
@@ -64,7 +64,7 @@ by_groups settings given p =
     header_first (ip.is_short p) (ip.has_other_version p) (ip.has_bad_header_length p) (ip.has_bad_total_length p) (ip.has_wrong_sum p) _
     ∙ ap (by_fault (fault_of p)) (addresses_next (i_src p) (i_dst p) (side_in settings given p) (content_row p))
 
--- the side or the row of a header that is read
+-- the side or the rule of a parsed header
 abbrev pub addressed : PlainSettings → (given : Option Side) → Ipv4 → Result Side Rule
 addressed settings given head = side_or_row settings given head.src.0 head.dst.0
 
@@ -79,7 +79,7 @@ late_row settings given p head told read is =
     ∙ ap (λ f. by_fault f (by_side (side_or_row settings given (ip.source p) (ip.destination p)) (content_row p))) (read_is_faultless (fields_of p) head (fault_of p) read)
     ∙ ap (λ s. by_side s (content_row p)) (sym (is ∙ ap (addressed settings given) (read_is_fields (fields_of p) head (fault_of p) read)))
 
--- where the addresses are judged, the side is that of the packet
+-- if no rule on addresses holds, the side is that of the packet
 side_by : (src dst : Bool) (told : Option Side) (side : Side)
     → (if src then Err rules.ISrc else if dst then Err rules.IDst else elim told [ Some side ↦ Ok side | None ↦ Err rules.ISide ]) ≡ Ok side → told ≡ Some side
 side_by true dst told side h = absurd (cc)
@@ -91,7 +91,7 @@ pub side_told : (settings : PlainSettings) (given : Option Side) (p : List ℕ) 
 side_told settings given p head side read is =
     side_by _ _ _ side (sym (is ∙ ap (addressed settings given) (read_is_fields (fields_of p) head (fault_of p) read)))
 
--- the side is told of the rows on options and protocol, and of none before
+-- the side is reported by the rules on options and protocol, and by none before
 pub fault_is_early : (fault : IpFault) → tells_side (rule_of fault) ≡ false
 fault_is_early faults.Short = refl
 fault_is_early faults.Version = refl
@@ -119,7 +119,7 @@ content_by false false false rule h = absurd (cc)
 pub content_is_late : (p : List ℕ) (rule : Rule) → content_row p ≡ Some rule → tells_side rule ≡ true
 content_is_late p rule h = content_by (i_opt_bad p) (i_route p) (p_proto p) rule h
 
--- what the options and the protocol say, as they are read
+-- the rules on options and protocol, by the result of parsing the options
 bad_by : (formed : Bool) (facts : OptionFacts) (one other : BadOption) → (if formed then Ok facts else Err one) ≡ Err other → formed ≡ false
 bad_by true facts one other h = absurd (cc)
 bad_by false facts one other h = refl
@@ -142,7 +142,7 @@ read_options p facts known h is =
     ap (λ formed. by_options formed (i_route p) (p_proto p)) told.0
     ∙ ap₂ (λ (f : OptionFacts) proto. if f.route then Some rules.IRoute else if not proto then Some rules.PProto else None) (sym told.1) (sym is)
 
--- the fix rows that hold, one by one
+-- the fix rules that hold, one by one
 abbrev chosen : (trail opt res ttl : Bool) → Rule → Bool
 chosen trail opt res ttl rules.ITrail = trail
 chosen trail opt res ttl rules.IOpt = opt

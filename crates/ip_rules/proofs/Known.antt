@@ -1,4 +1,4 @@
--- What is known of a datagram that no row on its header drops.
+-- The facts of a datagram that no rule on its header drops.
 use Rattle.std.proofs.Common.{◌≡◌, ℕ, ◌<◌, ◌≤◌, ◌&&◌, ◌||◌, ◌==◌, Bool, true, false, List, [], ◌++◌, length, take, drop, Option, Some, None, refl, sym, ap, ap₂, subst, ◌∙◌, filter, arith}
 use Rattle.std.specs.Prelude.{nat_lt, nat_le}
 use Rattle.std.specs.List.{AllByRecursion}
@@ -29,7 +29,7 @@ or_false true b e = cc
 not_less : (a b : ℕ) → nat_lt a b ≡ false → b ≤ a
 not_less a b e = grind (arith, nat_tests, e)
 
--- the header of a packet, as no row that drops it leaves it
+-- the facts of the header of a packet that no rule drops
 pub record IsSound (p : List ℕ) : Type 0 where
   pub long : 20 ≤ length p
   pub version : ip.version p ≡ 4
@@ -72,7 +72,7 @@ carried_short p each s =
     let least = s.least in
     omega (arith, most, total, least)
 
--- no row mends the header
+-- no fix rule holds of the header
 pub record IsUnmended (settings : PlainSettings) (given : Option Side) (p : List ℕ) : Type 0 where
   pub trailer : ip.has_trailer p ≡ false
   pub options : ip.has_options p ≡ false
@@ -113,7 +113,7 @@ passes : (inward : Bool) (ttl hops : ℕ) → (inward && nat_le ttl hops) ≡ fa
 passes true ttl hops e is = grind (arith, nat_tests, e)
 passes false ttl hops e is = cc
 
--- a datagram that nothing mends is a packet of it, as it was read
+-- a datagram that no rule rewrites is a packet of itself, as it was read
 whole_packet : (settings : PlainSettings) (given : Option Side) (p : List ℕ) (fixes : List Rule) (side : Side) → side_in settings given p ≡ Some side → IsSound p → IsUnmended settings given p → IsPlainHeader p
     → IsPacketOf settings (datagram_of p fixes side) (as_read (datagram_of p fixes side))
 whole_packet settings given p fixes side told s u h =
@@ -132,12 +132,12 @@ whole_packet settings given p fixes side told s u h =
           (passes (goes_in side) (ip.time_to_live p) settings.hops (ap (λ b. b && nat_le (ip.time_to_live p) settings.hops) (sym (ap is_inward told ∙ inward_is side)) ∙ u.ttl) inward);
     }
 
--- the packet in a frame of octets is octets
+-- the packet of a frame of octets consists of octets
 pub packet_octets : (link : Link) (frame : List ℕ) → AreOctets frame → AreOctets (packet_in link frame)
 packet_octets Ethernet frame each = dropped 14 frame each
 packet_octets Raw frame each = each
 
--- no row on the packet drops the record, and those that mend it are those on the packet
+-- no rule on the packet drops the record, and its fix rules are those on the packet
 undropped_packet : (settings : PlainSettings) (link : Link) (r : Packet) → carries_ip link r.octets ≡ true → ip_dropped_by settings link r ≡ None
     → AllByRecursion (λ rule. holds_in settings r.side (packet_in link r.octets) rule ≡ false) packet_drop_rows
 unfolding ip_dropped_by

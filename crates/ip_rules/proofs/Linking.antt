@@ -1,4 +1,4 @@
--- Which row on the link holds, by what the frame carries.
+-- The rules on the link, by the kind of packet that the frame carries.
 use Rattle.std.proofs.Common.{◌≡◌, ℕ, ◌-◌, Bool, true, false, not, ◌&&◌, ◌||◌, nat_le, List, length, take, drop, Option, Some, None, refl, sym, ap, ◌∙◌, ◌≤◌, ◌<◌, arith, inl, inr, if◌then◌else◌}
 use Rattle.std.proofs.lemmas.Bool.{le-leb}
 use Rattle.std.proofs.lemmas.Bool.Decides.{leb_tells}
@@ -82,7 +82,7 @@ ip_by false false true arp fits at a b = (refl, refl, cc)
 ip_by false false false true fits at a b = absurd (cc)
 ip_by false false false false fits at a b = absurd (cc)
 
--- the octets from a place on, as many as there are
+-- the octets from the offset `at` on
 rest_is : (at : ℕ) (octets : List ℕ) → take (length octets - at) (drop at octets) ≡ drop at octets
 rest_is at octets = ap (λ n. take n (drop at octets)) (sym (length-drop at octets)) ∙ take-length (drop at octets)
 

@@ -1,4 +1,4 @@
--- Numbers of octets, and of parts of them.
+-- Sizes of numbers in octets, and of parts of lists of octets.
 use Rattle.std.proofs.Common.{ℕ, zero, suc, ◌+◌, ◌-◌, ◌^◌, ◌<◌, ◌≤◌, List, [], ◌∷◌, length, take, drop, arith}
 use Rattle.std.proofs.lemmas.List.{length-take, length-drop}
 use Rattle.wire_base.specs.Numbers.{u16_at, u32_at}
@@ -21,7 +21,7 @@ dropped zero xs each at = each at
 dropped (suc n) [] each at = omega arith
 dropped (suc n) (x ∷ xs) each at = dropped n xs (λ i. each (suc i)) at
 
--- what stands behind a front, up to a place
+-- the length of the octets after a header, up to the total length
 pub behind_long : (header total : ℕ) (xs : List ℕ) → length (drop header (take total xs)) ≤ total - header
 behind_long header total xs =
     let a = length-take total xs in

@@ -1,4 +1,4 @@
--- A header anew before whatever a datagram carries.
+-- A new header before any payload.
 use Rattle.std.proofs.Common.{◌≡◌, ℕ, ◌+◌, ◌*◌, ◌/◌, ◌%◌, ◌^◌, ◌<◌, ◌&&◌, Bool, true, false, cond, List, length, take, drop, ◌++◌, refl, ap, ◌∙◌, arith}
 use Rattle.std.specs.Prelude.{nat_le}
 use Rattle.std.proofs.Math.Seq.{take-length}
@@ -9,15 +9,15 @@ use Rattle.ipv4_codec.proofs.PlainHeaders.{header-plain}
 use Rattle.ipv4_codec.specs.Write.{plain_header}
 use Rattle.ip_rules.specs.Datagrams.{AnewIsPacket, goes_in, head_sent}
 
--- a whole datagram carries what stands after the 20 octets of its header
+-- the payload of a packet with a plain header is the octets after its first 20
 pub carried : (p : List ℕ) → IsPlainHeader p → ip.payload p ≡ drop 20 p
 carried p h = (λ k. drop (h.header_length k) (take (h.total_length k) p)) ∙ ap (drop 20) (take-length p)
 
--- a number is read of its four octets
+-- a number is read from its four octets
 four_octets : (n : ℕ) → n < 2 ^ 32 → 65536 * (256 * (n / 16777216 % 256) + n / 65536 % 256) + (256 * (n / 256 % 256) + n % 256) ≡ n
 four_octets n small = omega arith
 
--- a TTL that goes inwards passes all routers
+-- the TTL of an inbound packet passes all routers
 passes_all : (inward : Bool) (hops ttl : ℕ) → inward ≡ true → hops < cond (inward && nat_le ttl hops) (hops + 1) ttl
 passes_all false hops ttl e = cc
 passes_all true hops ttl e = low (nat_le ttl hops) refl

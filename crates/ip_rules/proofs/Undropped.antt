@@ -1,4 +1,4 @@
--- Rows that do not hold, where none is found or named, and the datagram of a record that none drops.
+-- Rules that do not hold if none is found, and the datagram of a record that none drops.
 use Rattle.std.proofs.Common.{◌≡◌, ◌&&◌, Bool, true, false, cond, not, is_none, List, [], ◌∷◌, Option, Some, None, refl, find, filter}
 use Rattle.std.specs.Prelude.{option_map}
 use Rattle.std.specs.List.{AllByRecursion}
@@ -24,7 +24,7 @@ module _ {X : Type 0} where
   none_named p [] e = tt
   none_named p (x ∷ xs) e = step_named p x xs (p x) refl (none_named p xs) e
 
--- a datagram is made for a side, where nothing drops the record, which carries a whole one
+-- a datagram was returned: no rule drops the record, it carries a packet that is no fragment, and it has a side
 pub record Made {X : Type 0} (dropped : Option X) (carries piece : Bool) (told : Option Side) (make : Side → Datagram) (d : Datagram) : Type 0 where
   pub undropped : dropped ≡ None
   pub carried : carries ≡ true

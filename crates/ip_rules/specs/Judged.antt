@@ -1,4 +1,4 @@
--- What an answer says of a record.
+-- The results of judging a record, by the rules.
 use Rattle.std.specs.Prelude.{◌≡◌, ℕ, Bool, true, false, List, [], ◌∷◌, ◌++◌, Option, Some, None, Result, Ok, Err, find, filter, if◌then◌else◌}
 use Rattle.wire_base.specs.declared.address.Link.{Link}
 use Rattle.wire_base.specs.declared.address.Side.{Side}
@@ -19,7 +19,7 @@ use Rattle.ip_rules.specs.declared.rows.Linked.{Linked}
 use Rattle.ip_rules.specs.declared.rows.Linked.TheVariants as linked
 use Rattle.ip_rules.specs.Rows.{carries_ip, carries_arp, is_bad_destination, is_bad_source, side_in, l_snap, l_short, l_type, i_opt_bad, i_route, p_proto, i_trail, i_opt, i_res, holds_in, packet_drop_rows, whole_fix_rows, piece_fix_rows, ip_dropped_by, ip_fixes, tells_side}
 
--- the packet of a frame: its side, the fields of its header, the whole frame, the payload up to the total length, and these fix rows
+-- the packet of a frame: its side, the fields of its header, the whole frame, the payload up to the total length, and these fix rules
 pub record IsRead (settings : PlainSettings) (given : Option Side) (octets p : List ℕ) (named : List Rule) (packet : IpPacket) : Type 0 where
   pub side : side_in settings given p ≡ Some packet.side
   pub head : packet.head ≡ fields_of p
@@ -27,13 +27,13 @@ pub record IsRead (settings : PlainSettings) (given : Option Side) (octets p : L
   pub payload : packet.payload.now ≡ ip.payload p
   pub fixes : packet.fixes.items ≡ named
 
--- no row drops the record, which carries IPv4
+-- no rule drops the record, and it carries IPv4
 pub record IsKept (settings : PlainSettings) (link : Link) (r : Packet) : Type 0 where
   pub undropped : ip_dropped_by settings link r ≡ None
   pub carries : carries_ip link r.octets ≡ true
 
--- The answer is that of the rows: ARP that no row drops; the first row that holds, with the side where that is told; or the packet that the record
--- carries, a fragment or whole, with the fix rows that hold.
+-- The result is that of the rules: ARP that no rule drops; the first drop rule that holds, with the side if that rule reports it; or the packet that the record
+-- carries, fragment or not, with the fix rules that hold.
 abbrev pub IsJudged : PlainSettings → Link → Packet → IpJudged → Type 0
 IsJudged settings link r Arp = (ip_dropped_by settings link r ≡ None) × (carries_arp link r.octets ≡ true)
 IsJudged settings link r (Drop side rule) =
@@ -45,18 +45,18 @@ IsJudged settings link r (Whole packet) =
     IsKept settings link r × (ip.is_fragment (packet_in link r.octets) ≡ false)
     × IsRead settings r.side r.octets (packet_in link r.octets) (ip_fixes settings link r whole_fix_rows) packet
 
--- the first row on the link that holds, if there is one
+-- the first rule on the link that holds, if there is one
 unfoldable pub link_row : Link → Packet → Option Rule
 link_row link r =
     if l_snap r then Some rules.LSnap else if l_short link r.octets then Some rules.LShort else if l_type link r.octets then Some rules.LType else None
 
--- what the link says of a record: a row drops it, or it carries ARP or an IPv4 packet
+-- the result of the rules on the link: a rule drops the record, or it carries ARP or an IPv4 packet
 abbrev pub IsLinked : Link → Packet → Linked → Type 0
 IsLinked link r (linked.Row rule) = link_row link r ≡ Some rule
 IsLinked link r linked.Arp = (link_row link r ≡ None) × (carries_arp link r.octets ≡ true)
 IsLinked link r (linked.Packet packet) = (link_row link r ≡ None) × (carries_ip link r.octets ≡ true) × (packet.now ≡ packet_in link r.octets)
 
--- the rule that a fault of the header falls under
+-- the rule of a fault of the header
 abbrev pub rule_of : IpFault → Rule
 rule_of faults.Short = rules.IShort
 rule_of faults.Version = rules.IVersion
@@ -64,34 +64,34 @@ rule_of faults.HeaderLength = rules.IHlen
 rule_of faults.Length = rules.ILen
 rule_of faults.Sum = rules.ISum
 
--- the side from the one address to the other, in a record that has this side, or the first row on addresses that holds
+-- the side of a packet from `source` to `destination`, or the first rule on addresses that holds; `given` is the side of its record
 abbrev pub side_or_row : PlainSettings → (given : Option Side) → (source destination : ℕ) → Result Side Rule
 side_or_row settings given source destination =
     if is_bad_source source destination then Err rules.ISrc
     else if is_bad_destination destination then Err rules.IDst
     else elim (side settings given source destination) [ Some side ↦ Ok side | None ↦ Err rules.ISide ]
 
--- the first row on the options and the protocol that holds, if there is one
+-- the first rule on the options and the protocol that holds, if there is one
 abbrev pub content_row : (packet : List ℕ) → Option Rule
 content_row p = if i_opt_bad p then Some rules.IOptBad else if i_route p then Some rules.IRoute else if p_proto p then Some rules.PProto else None
 
--- the rule where its condition holds
+-- the rule, if its condition holds
 abbrev pub where_holds : Bool → Rule → List Rule
 where_holds holds rule = if holds then rule ∷ [] else []
 
--- the fix rows of a packet that hold, but for that on its TTL
+-- the fix rules that hold of a packet, without I_TTL
 abbrev pub header_fixes : (packet : List ℕ) → List Rule
 header_fixes p = where_holds (i_trail p) rules.ITrail ++ where_holds (i_opt p) rules.IOpt ++ where_holds (i_res p) rules.IRes
 
--- the first row that drops a packet whose record has this side, if there is one
+-- the first rule that drops the packet, if there is one; `given` is the side of its record
 unfoldable pub packet_row : PlainSettings → (given : Option Side) → (packet : List ℕ) → Option Rule
 packet_row settings given p = find (holds_in settings given p) packet_drop_rows
 
--- the fix rows that hold of a packet
+-- the rules of `rows` that hold of a packet
 unfoldable pub packet_fixes : PlainSettings → (given : Option Side) → (packet : List ℕ) → List Rule → List Rule
 packet_fixes settings given p rows = filter (holds_in settings given p) rows
 
--- what the rows on the packet say, where it stands in this frame and its record has this side
+-- the result of the rules on the packet of this frame; `given` is the side of its record
 abbrev pub IsJudgedIn : PlainSettings → (given : Option Side) → (frame packet : List ℕ) → IpJudged → Type 0
 IsJudgedIn settings given frame p Arp = ⊥
 IsJudgedIn settings given frame p (Drop side rule) = (packet_row settings given p ≡ Some rule) × (side ≡ (if tells_side rule then side_in settings given p else None))

@@ -1,5 +1,5 @@
--- The rows of the rule table on the link, the IPv4 header and the protocol, one definition each, in the order of their numbers (this project's profile).
--- A row is read of one record, or of the packet in it, under settings and on a link; it knows nothing of other records.
+-- The rules on the link, the IPv4 header and the protocol, one definition each, in the order of their numbers (this project's profile). A rule depends on one
+-- record, or the packet in it, the settings and the link, and not on other records.
 use Rattle.std.specs.Prelude.{ℕ, ◌==◌, ◌/◌, ◌&&◌, ◌||◌, nat_lt, nat_le, not, Bool, true, false, List, [], ◌∷◌, ◌++◌, length, take, drop, Option, Some, None, is_none, find, filter}
 use Rattle.wire_base.specs.declared.address.Link.{Link}
 use Rattle.wire_base.specs.declared.address.Link.TheVariants.{Ethernet, Raw}
@@ -15,7 +15,7 @@ use Rattle.rule_book.specs.Rules.{header_fix_rows, header_rows, link_rows, proto
 use Rattle.norm_settings.specs.Settings.{PlainSettings}
 use Rattle.norm_settings.specs.Side.{side}
 
--- the frame carries IPv4: EtherType 0x0800, and every frame of a raw link
+-- the frame carries IPv4: on Ethernet by EtherType 0x0800 (RFC 894), on a raw link always
 abbrev pub carries_ip : Link → List ℕ → Bool
 carries_ip Ethernet frame = ethertype frame == 2048
 carries_ip Raw frame = true
@@ -25,7 +25,7 @@ abbrev pub carries_arp : Link → List ℕ → Bool
 carries_arp Ethernet frame = ethertype frame == 2054
 carries_arp Raw frame = false
 
--- the side of a packet: that which its record has from its capture, and where it has none that by its addresses
+-- the side of a packet: that of its record by its capture, or, if that gives none, by its addresses
 abbrev pub side_in : PlainSettings → (given : Option Side) → (packet : List ℕ) → Option Side
 side_in settings given p = side settings given (ip.source p) (ip.destination p)
 
@@ -43,11 +43,11 @@ abbrev pub l_short : Link → (frame : List ℕ) → Bool
 l_short Ethernet frame = nat_lt (length frame) 14
 l_short Raw frame = false
 
--- L_TYPE: another EtherType than those of IPv4 and ARP, or ARP of more than 65,549 octets
+-- L_TYPE: an EtherType other than IPv4 and ARP, or ARP in a frame of more than 65,549 octets
 abbrev pub l_type : Link → (frame : List ℕ) → Bool
 l_type link frame = not (carries_ip link frame || (carries_arp link frame && nat_le (length frame) 65549))
 
--- I_SHORT: fewer than 20 octets from the packet's place on (RFC 791 section 3.1)
+-- I_SHORT: the packet has fewer than 20 octets (RFC 791 section 3.1)
 abbrev pub i_short : (packet : List ℕ) → Bool
 i_short p = ip.is_short p
 
@@ -55,15 +55,15 @@ i_short p = ip.is_short p
 abbrev pub i_version : (packet : List ℕ) → Bool
 i_version p = ip.has_other_version p
 
--- I_HLEN: the header length is below 5 words or more than the octets that stand
+-- I_HLEN: the header length is below 5 words or above the number of octets
 abbrev pub i_hlen : (packet : List ℕ) → Bool
 i_hlen p = ip.has_bad_header_length p
 
--- I_LEN: the total length is below the header's or above the octets that stand
+-- I_LEN: the total length is below the header length or above the number of octets
 abbrev pub i_len : (packet : List ℕ) → Bool
 i_len p = ip.has_bad_total_length p
 
--- I_SUM: the header's words are not right
+-- I_SUM: the sum over the header is wrong
 abbrev pub i_sum : (packet : List ℕ) → Bool
 i_sum p = ip.has_wrong_sum p
 
@@ -71,14 +71,14 @@ i_sum p = ip.has_wrong_sum p
 abbrev pub first_octet : (address : ℕ) → ℕ
 first_octet address = address / 16777216
 
--- A source that no packet on a link between networks has. From loopback, multicast and broadcast no host sends, and from "this network" only one that asks for
--- its address (RFC 1122 section 3.2.1.3); that this one falls under it too, all above multicast, and a packet to its own source, is this project's profile.
+-- A source that no packet on a link between networks has. No host sends from loopback, multicast or broadcast, and from "this network" only one that asks for
+-- its address (RFC 1122 section 3.2.1.3). This project's profile adds "this network", all addresses above multicast, and a source equal to the destination.
 abbrev pub is_bad_source : (source destination : ℕ) → Bool
 is_bad_source source destination =
     (first_octet source == 0) || (first_octet source == 127) || nat_le 224 (first_octet source) || (source == destination)
 
--- A destination that no packet is passed on to. To "this network" and to loopback none is sent (RFC 1122 section 3.2.1.3); that all above multicast falls under it
--- too, and with it a broadcast on the own link, is this project's profile.
+-- A destination to which no packet is forwarded. No host sends to "this network" or loopback (RFC 1122 section 3.2.1.3). This project's profile adds all
+-- addresses above multicast, and with them broadcasts on the own link.
 abbrev pub is_bad_destination : (destination : ℕ) → Bool
 is_bad_destination destination =
     (first_octet destination == 0) || (first_octet destination == 127) || nat_le 240 (first_octet destination)
@@ -99,7 +99,7 @@ i_side settings given p = is_none (side_in settings given p)
 abbrev pub i_opt_bad : (packet : List ℕ) → Bool
 i_opt_bad p = not (are_well_formed (ip.options p))
 
--- I_ROUTE: a source route stands before the end option
+-- I_ROUTE: there is a source route before the end option
 abbrev pub i_route : (packet : List ℕ) → Bool
 i_route p = has_route (ip.options p)
 
@@ -107,7 +107,7 @@ i_route p = has_route (ip.options p)
 abbrev pub p_proto : (packet : List ℕ) → Bool
 p_proto p = not ((ip.protocol p == 1) || (ip.protocol p == 6) || (ip.protocol p == 17))
 
--- I_TRAIL: octets stand after the total length
+-- I_TRAIL: octets follow after the total length
 abbrev pub i_trail : (packet : List ℕ) → Bool
 i_trail p = ip.has_trailer p
 
@@ -119,11 +119,11 @@ i_opt p = ip.has_options p
 abbrev pub i_res : (packet : List ℕ) → Bool
 i_res p = ip.has_reserved p
 
--- I_TTL: inbound, and the packet would not pass `hops` routers
+-- I_TTL: inbound, and the TTL does not pass `hops` routers
 abbrev pub i_ttl : PlainSettings → (given : Option Side) → (packet : List ℕ) → Bool
 i_ttl settings given p = is_inward (side_in settings given p) && nat_le (ip.time_to_live p) settings.hops
 
--- whether the condition of a row on the packet holds of it, whose record has this side; the rows of other layers hold of none
+-- whether a rule holds of a packet, by the condition of a rule on the packet; other rules do not hold; `given` is the side of its record
 abbrev pub holds_in : PlainSettings → (given : Option Side) → (packet : List ℕ) → Rule → Bool
 holds_in settings given p rules.IShort = i_short p
 holds_in settings given p rules.IVersion = i_version p
@@ -142,37 +142,37 @@ holds_in settings given p rules.IRes = i_res p
 holds_in settings given p rules.ITtl = i_ttl settings given p
 holds_in settings given p _ = false
 
--- whether the condition of a row on the link, the header or the protocol holds of a record; those on the packet hold only where there is one
+-- whether a rule on the link, the header or the protocol holds of a record; those on the packet hold only if the frame carries IPv4
 abbrev pub holds_ip : PlainSettings → Link → Packet → Rule → Bool
 holds_ip settings link r rules.LSnap = l_snap r
 holds_ip settings link r rules.LShort = l_short link r.octets
 holds_ip settings link r rules.LType = l_type link r.octets
 holds_ip settings link r rule = carries_ip link r.octets && holds_in settings r.side (packet_in link r.octets) rule
 
--- the rows on a packet that drop it, in the order of testing
+-- the drop rules on the packet, in the order of testing
 abbrev pub packet_drop_rows : List Rule
 packet_drop_rows = header_rows ++ protocol_rows
 
--- the same with those on the link, which come first
+-- all drop rules of this crate, in the order of testing: those on the link are first
 abbrev pub ip_drop_rows : List Rule
 ip_drop_rows = link_rows ++ packet_drop_rows
 
--- the rows that mend a whole packet, and those that mend a fragment: its TTL is read of the whole datagram
+-- the fix rules of a packet that is no fragment, and those of a fragment: I_TTL is judged for the whole datagram
 abbrev pub whole_fix_rows : List Rule
 whole_fix_rows = header_fix_rows ++ rules.ITtl ∷ []
 
 abbrev pub piece_fix_rows : List Rule
 piece_fix_rows = header_fix_rows
 
--- the first row that drops the record, if there is one
+-- the first rule that drops the record, if there is one
 unfoldable pub ip_dropped_by : PlainSettings → Link → Packet → Option Rule
 ip_dropped_by settings link r = find (holds_ip settings link r) ip_drop_rows
 
--- the rows of these that mend the record's packet, in their order
+-- the rules of `rows` that hold of the record, in their order
 unfoldable pub ip_fixes : PlainSettings → Link → Packet → List Rule → List Rule
 ip_fixes settings link r rows = filter (holds_ip settings link r) rows
 
--- whether the side is told of a record that this row drops: not for the rows up to the one on the side itself
+-- whether the side is reported of a record that this rule drops: not for the rules up to I_SIDE
 abbrev pub tells_side : Rule → Bool
 tells_side rules.LSnap = false
 tells_side rules.LShort = false

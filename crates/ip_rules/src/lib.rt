@@ -1,5 +1,12 @@
-//! The rows of the rule table on the link, the IPv4 header and the protocol: which record is dropped, what mends one that is not,
-//! and how its frame is written.
+//! The rules on the link, the IPv4 header and the protocol: which record is dropped, what is
+//! changed of one that is not, and how its frame is written.
+//!
+//! Proved: `judge_ip` drops a record under exactly the first of these rules that holds, with its
+//! side if that is known by then (the record's own side if its capture gives one, otherwise that of
+//! its addresses); otherwise it returns ARP, a fragment, or a whole packet with exactly the fix
+//! rules that hold. `laws` say what is known of the datagram that a record carries, and that a
+//! rewritten header (`write`) is read with the datagram's protocol and addresses and, inwards, has
+//! a TTL that passes all routers.
 #![tactic(auto)]
 
 pub mod judged;

@@ -1,4 +1,4 @@
-//! The rows on the link, the IPv4 header and the protocol, in the order of their numbers.
+//! The rules on the link, the IPv4 header and the protocol, in the order of their numbers.
 ghost use Rattle.std.specs.Prelude.{◌≡◌, ◌+◌, ◌<◌, ◌≤◌, ◌++◌, ◌&&◌, ◌||◌, ◌==◌, nat_lt, nat_le, All, length, Option, Some, None};
 ghost use Rattle.wire_base.specs.Ipv4 as ip;
 ghost use Rattle.ipv4_codec.specs.Header.{fields_of};
@@ -12,12 +12,13 @@ use ipv4_codec::{IpFault, Ipv4, options, parse};
 use norm_settings::{Settings, side_of};
 use pcap_file::Record;
 use rule_book::Rule;
-use wire_base::{Addr, FrameKind, Link, Protocol, Side, frame_kind};
+use wire_base::{Addr, FrameKind, Link, Side, frame_kind, protocol};
 
-// The octets of the longest frame of ARP that passes: an Ethernet header of 14 and 65,535 behind it.
+// Maximum length in octets of an ARP frame that passes: an Ethernet header of 14 and 65,535 after
+// it.
 const LONGEST_ARP: usize = 65_549;
 
-/// Judges a record by the first row on the link, the header or the protocol that holds.
+/// Judges a record by the first rule on the link, the header or the protocol that holds.
 pub fn judge_ip<'a>(settings: &Settings, link: Link, input: &Record<'a>) -> IpJudged<'a>
     requires prefixes { All (λ prefix. prefix.len ≤ 32) settings.now.prefixes.items }
     ensures { spec.IsJudged (plain_settings settings.now) link (shown input.now) result }
@@ -29,14 +30,14 @@ pub fn judge_ip<'a>(settings: &Settings, link: Link, input: &Record<'a>) -> IpJu
     }
 }
 
-/// What the link says of a record.
+/// The result of the rules on the link.
 enum Linked<'a> {
     Row(Rule),
     Arp,
     Packet(&'a [u8]),
 }
 
-// Judges a record by the rows on the link.
+// Judges a record by the rules on the link.
 fn judge_link<'a>(link: Link, input: &Record<'a>) -> Linked<'a>
     ensures { spec.IsLinked link (shown input.now) result }
 {
@@ -54,14 +55,14 @@ fn judge_link<'a>(link: Link, input: &Record<'a>) -> Linked<'a>
     }
 }
 
-// Whether fewer octets were captured than the frame had.
+// Returns whether fewer octets were captured than the frame had.
 fn is_snapped(input: &Record<'_>) -> bool
     ensures { result ≡ table.l_snap (shown input.now) }
 {
     (input.bytes.len() as u64) < u64::from(input.original)
 }
 
-// Judges the packet in a frame, whose record has this side, by the rows on it.
+// Judges the packet of a frame by the rules on the packet; `given` is the side of its record.
 fn judge_packet<'a>(
     settings: &Settings,
     given: Option<Side>,
@@ -85,7 +86,7 @@ fn judge_packet<'a>(
     read_packet(settings, side, head, frame, packet)
 }
 
-// The packet in a frame, a fragment or whole, that no row drops.
+// Returns the packet of a frame, fragment or not, that no rule drops.
 fn read_packet<'a>(
     settings: &Settings,
     side: Side,
@@ -128,7 +129,7 @@ fn is_fragment(head: &Ipv4) -> bool
     head.more || head.offset > 0
 }
 
-// The rule that a fault of the header falls under.
+// Returns the rule of a fault of the header.
 fn rule_of(fault: IpFault) -> Rule
     ensures { result ≡ spec.rule_of fault }
 {
@@ -141,7 +142,8 @@ fn rule_of(fault: IpFault) -> Rule
     }
 }
 
-// The side of a packet from the one address to the other, whose record has this side, or the row on addresses that drops it.
+// Returns the side of a packet from `src` to `dst`, or the rule on addresses that drops it; `given`
+// is the side of its record.
 fn side_or_row(settings: &Settings, given: Option<Side>, src: Addr, dst: Addr) -> Result<Side, Rule>
     requires { All (λ prefix. prefix.len ≤ 32) settings.now.prefixes.items }
     ensures { result ≡ spec.side_or_row (plain_settings settings.now) given src.0 dst.0 }
@@ -158,7 +160,7 @@ fn side_or_row(settings: &Settings, given: Option<Side>, src: Addr, dst: Addr) -
     }
 }
 
-// Whether no packet comes from this address, or none to that one.
+// Returns whether the source address is invalid, or is the destination address.
 fn is_bad_source(src: Addr, dst: Addr) -> bool
     ensures { result ≡ table.is_bad_source src.0 dst.0 }
 {
@@ -166,7 +168,7 @@ fn is_bad_source(src: Addr, dst: Addr) -> bool
     first == 0 || first == 127 || first >= 224 || src.0 == dst.0
 }
 
-// Whether no packet goes to this address.
+// Returns whether the destination address is invalid.
 fn is_bad_destination(dst: Addr) -> bool
     ensures { result ≡ table.is_bad_destination dst.0 }
 {
@@ -174,7 +176,7 @@ fn is_bad_destination(dst: Addr) -> bool
     first == 0 || first == 127 || first >= 240
 }
 
-// The row on the options and the protocol that drops the packet.
+// Returns the first rule on the options and the protocol that drops the packet.
 fn content_row(head: &Ipv4, packet: &[u8]) -> Option<Rule>
     requires fields { head.now ≡ fields_of packet.now }
     requires least { 20 ≤ head.now.header }
@@ -194,7 +196,7 @@ fn content_row(head: &Ipv4, packet: &[u8]) -> Option<Rule>
     Some(Rule::PProto)
 }
 
-// The options of the header.
+// Returns the options of the header.
 fn options_of<'a>(head: &Ipv4, packet: &'a [u8]) -> &'a [u8]
     requires fields { head.now ≡ fields_of packet.now }
     requires least { 20 ≤ head.now.header }
@@ -205,14 +207,14 @@ fn options_of<'a>(head: &Ipv4, packet: &'a [u8]) -> &'a [u8]
     &header[20..]
 }
 
-// Whether the protocol is ICMP, TCP or UDP.
-fn is_known(protocol: Protocol) -> bool
-    ensures { result ≡ ((protocol.0 == 1) || (protocol.0 == 6) || (protocol.0 == 17)) }
+// Returns whether the protocol is ICMP, TCP or UDP.
+fn is_known(protocol: u8) -> bool
+    ensures { result ≡ ((protocol == 1) || (protocol == 6) || (protocol == 17)) }
 {
-    protocol == Protocol::ICMP || protocol == Protocol::TCP || protocol == Protocol::UDP
+    protocol == protocol::ICMP || protocol == protocol::TCP || protocol == protocol::UDP
 }
 
-// What the packet carries, up to its total length.
+// Returns the payload of the packet, up to its total length.
 fn payload_of<'a>(head: &Ipv4, packet: &'a [u8]) -> &'a [u8]
     requires fields { head.now ≡ fields_of packet.now }
     requires order { head.now.header ≤ head.now.total }
@@ -223,7 +225,7 @@ fn payload_of<'a>(head: &Ipv4, packet: &'a [u8]) -> &'a [u8]
     &whole[head.header..]
 }
 
-// The rows that mend a header, but for its TTL.
+// Returns the fix rules that hold of a header, without I_TTL.
 fn header_fixes(head: &Ipv4, packet: &[u8]) -> Fixes
     requires { head.now ≡ fields_of packet.now }
     ensures { result.items ≡ spec.header_fixes packet.now }
@@ -237,7 +239,7 @@ fn header_fixes(head: &Ipv4, packet: &[u8]) -> Fixes
     fixes
 }
 
-// Appends the rule where it holds.
+// Appends the rule if it holds.
 fn note(fixes: &mut Fixes, rule: Rule, holds: bool)
     requires { length fixes.old.items < 16 }
     ensures { fixes.new.items ≡ fixes.old.items ++ spec.where_holds holds rule }
@@ -247,7 +249,7 @@ fn note(fixes: &mut Fixes, rule: Rule, holds: bool)
     }
 }
 
-// Whether the packet goes inwards and would not pass so many routers.
+// Returns whether the packet goes inwards and its TTL does not pass `hops` routers.
 fn has_low_ttl(hops: u8, side: Side, ttl: u8) -> bool
     ensures { result ≡ (table.is_inward (Some side) && nat_le ttl hops) }
 {

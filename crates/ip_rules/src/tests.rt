@@ -1,4 +1,4 @@
-//! Each row on a packet for which it holds, and on packets for which it almost does.
+//! Each rule on a packet for which it holds, and on packets for which it almost holds.
 ghost use Rattle.std.specs.Prelude.{◌≤◌, All};
 
 use super::*;
@@ -9,13 +9,14 @@ use std::alloc::{AllocError, Global};
 use std::test::Fail;
 use wire_base::{Addr, Link, Prefix, Side};
 
-/// A UDP datagram of 30 octets from 198.51.100.7 port 40000 to 10.0.0.1 port 53 with payload `hi`, and an octet behind it.
+/// A UDP datagram of 30 octets from 198.51.100.7 port 40000 to 10.0.0.1 port 53 with payload `hi`,
+/// and an octet after it.
 const DATAGRAM: [u8; 31] = [
     0x45, 0x00, 0x00, 0x1e, 0x00, 0x01, 0x00, 0x00, 0x40, 0x11, 0x46, 0x93, 0xc6, 0x33, 0x64, 0x07,
     0x0a, 0x00, 0x00, 0x01, 0x9c, 0x40, 0x00, 0x35, 0x00, 0x0a, 0xc6, 0xbf, 0x68, 0x69, 0x00,
 ];
 
-/// The same with four options of one octet each that do nothing.
+/// The same with four no-operations as options.
 const OPTIONS: [u8; 35] = [
     0x46, 0x00, 0x00, 0x22, 0x00, 0x01, 0x00, 0x00, 0x40, 0x11, 0x43, 0x8d, 0xc6, 0x33, 0x64, 0x07,
     0x0a, 0x00, 0x00, 0x01, 0x01, 0x01, 0x01, 0x01, 0x9c, 0x40, 0x00, 0x35, 0x00, 0x0a, 0xc6, 0xbf,
@@ -40,8 +41,9 @@ const CUT: [u8; 13] = [2, 0, 0, 0, 0, 1, 2, 0, 0, 0, 0, 2, 0x08];
 
 const RAW: &[u8] = &[];
 
-/// What stands before the packet (nothing on a raw link); the packet, the octets that are put into it, and how many of it stand; how many octets of
-/// the frame were not captured; and the answer, with the length of the payload. The prefix is 10.0.0.0/8, and 30 routers are behind the bridge.
+/// A case: the octets before the packet (none on a raw link); the packet, the octets changed in it,
+/// and its number of octets; the number of octets of the frame that were not captured; and the
+/// result, with the length of the payload. The prefix is 10.0.0.0/8, and `hops` is 30.
 struct Row {
     front: &'static [u8],
     packet: &'static [u8],
@@ -170,7 +172,7 @@ fn answer_text(alloc: Global, judged: &IpJudged<'_>) -> Result<String, AllocErro
     }
 }
 
-/// The octets of the row's frame that were captured.
+/// Returns the captured octets of the frame of a case.
 fn frame_of(alloc: Global, row: &Row) -> Result<Vec<u8>, AllocError> {
     let mut frame = Vec::from_slice(alloc, row.front)?;
     let mut packet = Vec::from_slice(alloc, row.packet)?;
@@ -184,7 +186,7 @@ fn frame_of(alloc: Global, row: &Row) -> Result<Vec<u8>, AllocError> {
     Ok(frame)
 }
 
-/// What is answered on the row's frame, in a record that has this side.
+/// Returns the result for the frame of a case, in a record with this side.
 fn answer_on(
     alloc: Global,
     settings: &Settings,
@@ -220,7 +222,8 @@ fn each_row_holds_of_its_packet_and_not_of_its_neighbour(rt: HostRuntime) -> Res
     Ok(())
 }
 
-/// Records that have a side of their own: the addresses say the other side, or none since both are trusted or neither is; a source that no packet has.
+/// Records with a side of their own: the addresses give the other side, or none because both are
+/// trusted or neither is; an invalid source.
 #[rattlefmt::skip]
 const GIVEN: &[(Side, Row)] = &[
     (Side::Outward, Row { front: RAW, packet: &DATAGRAM, changes: &[(8, 0x1e), (10, 0x68)], size: 30, missing: 0, says: "out whole 10" }),

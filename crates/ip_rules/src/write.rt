@@ -1,4 +1,4 @@
-//! Frames put into the outbox: as they were read, or with a header anew (RFC 791 section 3.1).
+//! Frames written to the outbox: as they were read, or with a new header (RFC 791 section 3.1).
 ghost use Rattle.std.specs.Prelude.{◌≡◌, ◌+◌, ◌≤◌, ◌<◌, [], ◌∷◌, ◌++◌, length};
 ghost use Rattle.ipv4_codec.specs.Write.{plain_header};
 ghost use Rattle.ip_rules.specs.Datagrams as spec;
@@ -8,7 +8,8 @@ use edge_io::Outbox;
 use ipv4_codec::{Ipv4, write_plain};
 use wire_base::Side;
 
-/// The header of a datagram as it goes out: an inbound one that would not pass all routers behind the bridge gets a TTL that does.
+/// Returns the header of a datagram as it is written: an inbound one whose TTL does not pass `hops`
+/// routers gets a TTL of `hops` + 1.
 pub fn head_sent(packet: &IpPacket<'_>, hops: u8) -> Ipv4
     requires { hops ≤ 254 }
     ensures { result ≡ spec.head_at packet.now.side hops packet.now.head }
@@ -19,7 +20,7 @@ pub fn head_sent(packet: &IpPacket<'_>, hops: u8) -> Ipv4
     }
 }
 
-/// The header of an inbound datagram with a TTL that passes so many routers behind the bridge.
+/// Returns the header with a TTL that passes `hops` routers.
 pub fn raised(head: &Ipv4, hops: u8) -> Ipv4
     requires { hops ≤ 254 }
     ensures { result ≡ spec.raised hops head.now }
@@ -31,7 +32,7 @@ pub fn raised(head: &Ipv4, hops: u8) -> Ipv4
     head
 }
 
-/// Puts a frame as it was read into the empty outbox.
+/// Writes a frame as it was read to the empty outbox.
 pub fn put_read(frame: &[u8], out: &mut Outbox)
     requires empty { out.old ≡ [] }
     requires short { length frame.now ≤ 65549 }
@@ -41,7 +42,7 @@ pub fn put_read(frame: &[u8], out: &mut Outbox)
     out.append(frame);
 }
 
-/// Puts a packet with its header anew into the empty outbox, behind these link octets.
+/// Writes a packet with a new header, after these link octets, to the empty outbox.
 pub fn put_anew(link: &[u8], head: &Ipv4, octets: &[u8], out: &mut Outbox)
     requires empty { out.old ≡ [] }
     requires link { length link.now ≤ 14 }

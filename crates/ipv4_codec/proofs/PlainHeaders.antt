@@ -9,13 +9,13 @@ use Rattle.ipv4_codec.specs.declared.header.Ipv4.{Ipv4}
 use Rattle.ipv4_codec.specs.Header.{fields_of}
 use Rattle.ipv4_codec.specs.Write.{octets_of, plain_fields, plain_header}
 
--- the octets with their sum put in its place are the header
+-- the octets with their checksum written into its field are the header
 pub with_u16-octets_of : (head : Ipv4) (payload sum : ℕ) (bare header : List ℕ) → bare ≡ octets_of head (20 + payload) 0 → sum ≡ checksum_for (0 + word_sum bare) → header ≡ with_u16 bare 10 sum → header ≡ plain_header head payload
 with_u16-octets_of head payload sum bare header e f g =
     let value : sum ≡ checksum_for (word_sum (octets_of head (20 + payload) 0)) = f ∙ ap checksum_for (zero-add (word_sum bare) ∙ ap word_sum e) in
     g ∙ ap (λ octets. with_u16 octets 10 sum) e ∙ ap (octets_of head (20 + payload)) value
 
--- the checksum is a field of its own
+-- the checksum changes no other field
 pub fields_of-checksum : (head : Ipv4) (payload sum : ℕ) (rest : List ℕ) → fields_of (octets_of head (20 + payload) 0) ≡ plain_fields head payload 0 → fields_of (octets_of head (20 + payload) sum ++ rest) ≡ plain_fields head payload (ip.header_checksum (octets_of head (20 + payload) sum ++ rest))
 fields_of-checksum head payload sum rest e = ap (λ (fields : Ipv4). record fields { sum = ip.header_checksum (octets_of head (20 + payload) sum ++ rest) }) e
 
@@ -27,11 +27,11 @@ header-sum head size =
     let total : 0 + word_sum (plain_header head size) ≡ word_sum bare + checksum_for (word_sum bare) = omega (arith, sum) in
     ap is_right total ∙ is_right-checked (word_sum bare)
 
--- two octets are their number
+-- the two octets of a number give the number
 two-octets : (n : ℕ) → n < 65536 → 256 * (n / 256 % 256) + n % 256 ≡ n
 two-octets n small = omega arith
 
--- the octet of flags has neither the reserved flag nor more fragments, and no part of an offset
+-- the octet of the flags has neither the reserved flag nor more fragments, and its part of the offset is 0
 no-reserved : (df : Bool) → (((if df then 64 else 0) / 128 % 2) == 1) ≡ false
 no-reserved true = refl
 no-reserved false = refl
@@ -44,7 +44,7 @@ no-offset : (df : Bool) → 8 * ((256 * (if df then 64 else 0) + 0) % 8192) ≡ 
 no-offset true = refl
 no-offset false = refl
 
--- the header of a whole datagram, before its octets
+-- the header before the payload of a packet that is no fragment
 pub header-plain : (head : Ipv4) (m : List ℕ) → length m ≤ 65515 → IsPlainHeader (plain_header head (length m) ++ m)
 header-plain head m small = record {
   whole_header = omega arith;

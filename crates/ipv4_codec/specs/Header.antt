@@ -6,7 +6,7 @@ use Rattle.ipv4_codec.specs.declared.header.Ipv4.{Ipv4}
 use Rattle.ipv4_codec.specs.declared.header.IpFault.{IpFault}
 use Rattle.ipv4_codec.specs.declared.header.IpFault.TheVariants.{Short, Version, HeaderLength, Length, Sum}
 
--- each field at its place in the octets of a packet
+-- each field at its offset in the octets of a packet
 abbrev pub fields_of : List ℕ → Ipv4
 fields_of packet =
     record {
@@ -19,7 +19,7 @@ fields_of packet =
       more = ip.has_more_fragments packet;
       offset = ip.fragment_offset packet;
       ttl = ip.time_to_live packet;
-      protocol = record { 0 = ip.protocol packet };
+      protocol = ip.protocol packet;
       sum = ip.header_checksum packet;
       src = record { 0 = ip.source packet };
       dst = record { 0 = ip.destination packet };
@@ -35,6 +35,6 @@ fault_of packet =
     else if ip.has_wrong_sum packet then Some Sum
     else None
 
--- what is read of a packet: its fields, or its first fault
+-- the result of parsing a packet: its fields, or its first fault
 abbrev pub parsed : List ℕ → Result Ipv4 IpFault
 parsed packet = value_or_fault (fields_of packet) (fault_of packet)

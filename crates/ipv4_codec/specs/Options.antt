@@ -1,10 +1,10 @@
--- What the option area of an IPv4 header holds (RFC 791 section 3.1).
+-- Facts about the option area of an IPv4 header (RFC 791 section 3.1).
 use Rattle.std.specs.Prelude.{ℕ, nat_lt, List, length, Result, Ok, Err, if◌then◌else◌}
 use Rattle.wire_base.specs.Options.{are_well_formed, has_route}
 use Rattle.ipv4_codec.specs.declared.option_area.OptionFacts.{OptionFacts}
 use Rattle.ipv4_codec.specs.declared.option_area.BadOption.{BadOption}
 
--- BadOption exactly where the options are not well formed; else whether octets stand in the area, and a source route before the end option
+-- BadOption exactly if the options are not well formed; else whether the area has octets, and whether it has a source route before the end option
 abbrev pub facts_of : List ℕ → Result OptionFacts BadOption
 facts_of area =
     if are_well_formed area then Ok (record { some = nat_lt 0 (length area); route = has_route area })

@@ -3,9 +3,9 @@ ghost use Rattle.std.specs.Prelude.{◌≡◌, ◌≤◌, length, IfOk};
 ghost use Rattle.ipv4_codec.specs.Header.{fields_of, parsed};
 
 use thiserror::Error;
-use wire_base::{Addr, Protocol, sum_right, u16_at, u32_at};
+use wire_base::{Addr, sum_right, u16_at, u32_at};
 
-/// The fields of an IPv4 header, but for its version and its options (RFC 791 section 3.1).
+/// The fields of an IPv4 header, without its version and its options (RFC 791 section 3.1).
 #[derive(Clone, Copy, Debug, PartialEq, Eq)]
 pub struct Ipv4 {
     /// The header's length in octets, options included.
@@ -20,17 +20,17 @@ pub struct Ipv4 {
     pub df: bool,
     /// More fragments follow.
     pub more: bool,
-    /// Where the payload stands in its datagram, in octets: a multiple of 8 below 65,536.
+    /// The offset of the payload in its datagram, in octets: a multiple of 8 below 65,536.
     pub offset: u32,
-    /// How many routers it may still pass.
+    /// The time to live, in hops.
     pub ttl: u8,
-    pub protocol: Protocol,
+    pub protocol: u8,
     pub sum: u16,
     pub src: Addr,
     pub dst: Addr,
 }
 
-/// Why octets are no IPv4 packet, in the order of testing.
+/// Reasons why octets are not an IPv4 packet, in the order of the tests.
 #[derive(Clone, Copy, Debug, PartialEq, Eq, Error)]
 pub enum IpFault {
     #[error("fewer than 20 octets")]
@@ -45,7 +45,8 @@ pub enum IpFault {
     Sum,
 }
 
-/// Reads the header of the packet that these octets begin with; octets may stand after its total length.
+/// Parses the header of the packet that these octets begin with; octets may follow after its total
+/// length.
 pub fn parse(bytes: &[u8]) -> Result<Ipv4, IpFault>
     ensures exact { result ≡ parsed bytes.now }
     ensures header { IfOk result (λ head. (20 ≤ head.header) × (head.header ≤ 60)) }
@@ -71,7 +72,7 @@ pub fn parse(bytes: &[u8]) -> Result<Ipv4, IpFault>
     Ok(fields(bytes))
 }
 
-/// Each field at its place.
+/// Returns the fields, each read at its offset.
 fn fields(bytes: &[u8]) -> Ipv4
     requires { 20 ≤ length bytes.now }
     ensures { result ≡ fields_of bytes.now }
@@ -86,7 +87,7 @@ fn fields(bytes: &[u8]) -> Ipv4
         more: bytes[6] / 32 % 2 == 1,
         offset: 8 * u32::from(u16_at(bytes, 6) % 8192),
         ttl: bytes[8],
-        protocol: Protocol(bytes[9]),
+        protocol: bytes[9],
         sum: u16_at(bytes, 10),
         src: Addr(u32_at(bytes, 12)),
         dst: Addr(u32_at(bytes, 16)),
@@ -96,6 +97,7 @@ fn fields(bytes: &[u8]) -> Ipv4
 #[cfg(test)]
 mod tests {
     use super::*;
+    use wire_base::protocol;
 
     /// A UDP datagram of 30 octets from 198.51.100.7 to 10.0.0.1.
     const DATAGRAM: [u8; 30] = [
@@ -103,14 +105,15 @@ mod tests {
         0x07, 0x0a, 0x00, 0x00, 0x01, 0x9c, 0x40, 0x00, 0x35, 0x00, 0x0a, 0xc6, 0xbf, 0x68, 0x69,
     ];
 
-    /// A header of six words whose fields all differ, with the reserved flag and more fragments, and 16 octets behind it.
+    /// A header of six words whose fields all differ, with the reserved flag and more fragments,
+    /// and 16 octets after it.
     const PIECE: [u8; 40] = [
         0x46, 0x2e, 0x00, 0x24, 0xab, 0xcd, 0xa1, 0x02, 0x01, 0x06, 0x35, 0x9a, 0xc6, 0x33, 0x64,
         0x07, 0x0a, 0x00, 0x00, 0x01, 0x01, 0x01, 0x01, 0x00, 0x00, 0x00, 0x00, 0x00, 0x00, 0x00,
         0x00, 0x00, 0x00, 0x00, 0x00, 0x00, 0x00, 0x00, 0x00, 0x00,
     ];
 
-    /// The datagram with another octet at one place.
+    /// Returns the datagram with `octet` at the offset `at`.
     fn changed(at: usize, octet: u8) -> [u8; 30] {
         let mut packet = DATAGRAM;
         if at < packet.len() {
@@ -131,7 +134,7 @@ mod tests {
             more: false,
             offset: 0,
             ttl: 64,
-            protocol: Protocol::UDP,
+            protocol: protocol::UDP,
             sum: 0x4693,
             src: Addr(0xc633_6407),
             dst: Addr(0x0a00_0001),
@@ -146,7 +149,7 @@ mod tests {
             more: true,
             offset: 2064,
             ttl: 1,
-            protocol: Protocol::TCP,
+            protocol: protocol::TCP,
             sum: 0x359a,
             src: Addr(0xc633_6407),
             dst: Addr(0x0a00_0001),

@@ -4,7 +4,7 @@ ghost use Rattle.ipv4_codec.specs.Options.{facts_of};
 
 use thiserror::Error;
 
-// The kinds of options that are told apart: the end of the list, one octet that does nothing, and a loose and a strict
+// The option kinds that are distinguished: end of the list, no-operation, and loose and strict
 // source route (RFC 791 section 3.1).
 const END: u8 = 0;
 
@@ -14,21 +14,22 @@ const LOOSE_ROUTE: u8 = 131;
 
 const STRICT_ROUTE: u8 = 137;
 
-/// What an option area holds.
+/// Facts about an option area.
 #[derive(Clone, Copy, Debug, PartialEq, Eq)]
 pub struct OptionFacts {
     /// The area is not empty.
     pub some: bool,
-    /// A source route, loose or strict, stands before the end option.
+    /// A source route, loose or strict, is before the end option.
     pub route: bool,
 }
 
-/// Before the end option or the end of the area an option has no length octet, one below 2, or reaches past the area.
+/// The error of an area in which an option, before the end option, has no length octet, has one
+/// below 2, or reaches past the area.
 #[derive(Clone, Copy, Debug, PartialEq, Eq, Error)]
 #[error("an option without a length of at least 2 that lies inside the area")]
 pub struct BadOption;
 
-/// What the octets between a header's 20 octets and its end hold (RFC 791 section 3.1).
+/// Parses the options of a header: the octets from offset 20 to its end (RFC 791 section 3.1).
 pub fn options(bytes: &[u8]) -> Result<OptionFacts, BadOption>
     ensures { result ≡ facts_of bytes.now }
 {
@@ -56,7 +57,7 @@ pub fn options(bytes: &[u8]) -> Result<OptionFacts, BadOption>
     })
 }
 
-// A source route, loose or strict.
+// Returns whether the kind is a source route, loose or strict.
 fn is_route(kind: u8) -> bool
     ensures { result ≡ ((kind == 131) || (kind == 137)) }
 {

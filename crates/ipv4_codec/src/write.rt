@@ -1,4 +1,4 @@
-//! A header without options.
+//! Headers without options, written.
 ghost use Rattle.std.specs.Prelude.{◌≡◌, ◌+◌, ◌≤◌, ◌++◌, true, length, drop};
 ghost use Rattle.ipv4_codec.specs.Header.{fields_of};
 ghost use Rattle.ipv4_codec.specs.Write.{octets_of, plain_fields, plain_header};
@@ -8,12 +8,13 @@ ghost use Rattle.wire_base.specs.Sums.{sum_is_right};
 use crate::Ipv4;
 use wire_base::{put_u16, sum_for};
 
-// The octets of a header without options.
+// Length of a header without options in octets.
 const HEADER: usize = 20;
 
-/// Writes the header of a whole datagram with `payload` octets behind the header: the type of service, the identification,
-/// don't fragment, the time to live, the protocol and the addresses of `head`, no other flag, offset 0, no options, and the
-/// right checksum (RFC 791 section 3.1). Answers the header's length in octets.
+/// Writes the header of a packet that is no fragment and has `payload` octets after its header.
+/// Type of service, identification, don't fragment, time to live, protocol and addresses are those
+/// of `head`; no other flag is set, the offset is 0, there are no options, and the checksum is
+/// right (RFC 791 section 3.1). Returns the header's length in octets.
 pub fn write_plain(head: &Ipv4, payload: u16, buf: &mut [u8]) -> usize
     requires payload { payload ≤ 65515 }
     requires room { 20 ≤ length buf.old }
@@ -30,7 +31,7 @@ pub fn write_plain(head: &Ipv4, payload: u16, buf: &mut [u8]) -> usize
     HEADER
 }
 
-// The header with 0 in the place of its checksum.
+// Returns the header with 0 in its checksum field.
 fn without_sum(head: &Ipv4, payload: u16) -> [u8; 20]
     requires { payload ≤ 65515 }
     ensures exact { result ≡ octets_of head.now (20 + payload) 0 }
@@ -51,7 +52,7 @@ fn without_sum(head: &Ipv4, payload: u16) -> [u8; 20]
         flags,
         0,
         head.ttl,
-        head.protocol.0,
+        head.protocol,
         0,
         0,
         a,
@@ -68,9 +69,9 @@ fn without_sum(head: &Ipv4, payload: u16) -> [u8; 20]
 #[cfg(test)]
 mod tests {
     use super::*;
-    use wire_base::{Addr, Protocol, u32_at};
+    use wire_base::{Addr, protocol, u32_at};
 
-    // The fields that a header without options has for itself are other ones here.
+    // The fields that `write_plain` does not copy differ here from those of the written headers.
     const HEAD: Ipv4 = Ipv4 {
         header: 60,
         tos: 0,
@@ -81,13 +82,14 @@ mod tests {
         more: true,
         offset: 800,
         ttl: 64,
-        protocol: Protocol::UDP,
+        protocol: protocol::UDP,
         sum: 0xabcd,
         src: Addr(0xc633_6407),
         dst: Addr(0x0a00_0001),
     };
 
-    // A query to 10.0.0.1, the same nearer to its end, and the longest datagram, which may not be cut.
+    // A query to 10.0.0.1, the same with a lower time to live, and the longest datagram, with don't
+    // fragment.
     #[test]
     fn headers_are_written_with_their_sums(rt: HostRuntime) {
         let nearer = Ipv4 { ttl: 31, ..HEAD };

@@ -8,12 +8,12 @@ use Rattle.linked_table.specs.Sound.{slot_of, pair_at, cons_entry, entries_of}
 use Rattle.linked_table.specs.Table.{Entry, Pairwise, without, only}
 use Rattle.linked_table.proofs.Lists.{Any-head, Any-tail, Any-cases}
 
--- no node stands twice in the list
+-- no node occurs twice in the list
 abbrev pub Apart : List ℕ → Type 0
 Apart [] = Unit {0}
 Apart (x ∷ xs) = (In x xs → ⊥) × Apart xs
 
--- what an option that is not None holds
+-- the value of an option that is not None
 pub some_of : {A : Type 0} (o : Option A) → o ≢ None → (a : A) × (o ≡ Some a)
 some_of None not_none = absurd (not_none refl)
 some_of (Some a) not_none = (a, refl)
@@ -38,7 +38,7 @@ module _ {K V : Type 0} where
   any_tail P x None l any = any
   any_tail P x (Some p) l any = Any-tail P _ l any
 
-  -- an entry of which the fact holds
+  -- an entry of which `P` holds
   pub record IsEntry (pairs : List (Option (K × V))) (nodes : List ℕ) (P : Entry K V → Type 0) : Type 0 where
     pub node : ℕ
     pub key : K
@@ -98,7 +98,7 @@ module _ {K V : Type 0} where
               record { node = rest.node; key = rest.key; value = rest.value; within = inr rest.within; pair = rest.pair; holds = rest.holds }
         ]
 
-    -- two entries stand in two slots
+    -- two entries are in two slots
     pub pairwise_entries : (R : Entry K V → Entry K V → Type 0) (xs : List ℕ) → Apart xs → ((i j : ℕ) (key other : K) (value rest : V) → i ≢ j → pair_at pairs i ≡ Some (key, value) → pair_at pairs j ≡ Some (other, rest) → R (entry i key value) (entry j other rest)) → Pairwise R (entries_of pairs xs)
     pairwise_entries R [] apart each = tt
     pairwise_entries R (x ∷ xs) apart each =
@@ -108,7 +108,7 @@ module _ {K V : Type 0} where
         cons_pairwise x None l rest here = rest
         cons_pairwise x (Some p) l rest here = (here p.0 p.1 refl, rest)
 
-    -- a slot that is not listed changes no list without it
+    -- the removal of a slot that is not listed changes no list
     without_none : (s : ℕ) (xs : List ℕ) → (In s xs → ⊥) → without (entries_of pairs xs) (slot_of s) ≡ entries_of pairs xs
     without_none s [] none = refl
     without_none s (x ∷ xs) none = cons_without (pair_at pairs x) (without_none s xs (λ h. none (inr h)))

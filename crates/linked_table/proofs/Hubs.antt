@@ -1,4 +1,4 @@
--- The rings of hubs, after a slot was taken out of one or linked in as its last.
+-- The rings of hubs, after a slot was unlinked from one or linked in as its last.
 use Rattle.std.proofs.Common.{◌≡◌, ◌≢◌, ℕ, ◌<◌, inl, inr, List, [], ◌∷◌, ◌++◌, length, refl, sym, subst, ◌∙◌, arith}
 use Rattle.linked_table.specs.declared.ring.Links.{Links}
 use Rattle.linked_table.specs.Rings.{link_at, In, HasRing, unlinked, linked_last}
@@ -9,7 +9,7 @@ use Rattle.linked_table.proofs.Writes.{Unlinks, unlinks, IsRing-unlinked, IsRing
 pub hub_apart : {links : List Links} {slots hub : ℕ} {nodes : List ℕ} → HasRing links slots hub nodes → In hub nodes → ⊥
 hub_apart {links} {slots} {hub} has h = omega (arith, has.inside hub h, has.past)
 
--- a slot is taken out of a ring
+-- a slot is unlinked from a ring
 module _ (links : List Links) (slots hub : ℕ) (before : List ℕ) (s : ℕ) (after : List ℕ) (has : HasRing links slots hub (before ++ s ∷ after)) where
   pub cut_slot : s < slots
   cut_slot = has.inside s (In-append_right s before (s ∷ after) (inl refl))

@@ -28,7 +28,7 @@ module _ {K V : Type 0} (hash : K → ℕ) (pairs : List (Option (K × V))) (rec
         let all = recursion_from_All (λ (e : Entry K V). e.key ≢ key) table.entries none in
         each_entry pairs (λ e. e.key ≢ key) sound.used (rw (← entries_are hash pairs recency chains len sound table is) all) i other value (sound.kept i other value pair).used_in pair
 
-  -- the slot that the ring of the free slots ends with
+  -- the last slot of the ring of the free slots
   pub record IsSpare (s : ℕ) : Type 0 where
     pub front : List ℕ
     pub free_is : sound.free ≡ front ++ s ∷ []
@@ -262,7 +262,7 @@ module _ {K V : Type 0} (hash : K → ℕ) (pairs : List (Option (K × V))) (rec
           let list : entries_of new_pairs (sound.used ++ s ∷ []) ≡ table.entries ++ entry s key value ∷ [] = entries-append new_pairs sound.used (s ∷ []) ∙ (ap (λ l. l ++ entries_of new_pairs (s ∷ [])) (entries-kept pairs new_pairs sound.used same ∙ sym (entries_are hash pairs recency chains len sound table is)) ∙ ap (λ l. table.entries ++ l) last) in
           rw (pair_writes.number, walk_ring used_pushed pushed_count, list, max_is hash pairs recency chains len sound table is) refl
 
-  -- the same, of what the code read and wrote
+  -- the same of the values that the code read and wrote
   pub spare_read : (slots : ℕ) → slots ≡ length pairs → (s : ℕ) → s ≡ (link_at recency (slots + 1)).before → len ≢ slots → IsSpare s
   spare_read slots slots_is s s_is room = spare s (rw (← slots_is) s_is) (rw (← slots_is) room)
 

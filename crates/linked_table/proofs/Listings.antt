@@ -1,4 +1,4 @@
--- A slot is put last in the list, or taken out of it.
+-- A slot is put last in the list, or removed from it.
 use Rattle.std.proofs.Common.{◌≡◌, ◌≢◌, ℕ, zero, suc, ◌+◌, ◌<◌, ◌≤◌, ◌^◌, ◌==◌, Bool, true, false, inl, inr, ◌⊎◌, Some, None, List, [], ◌∷◌, ◌++◌, length, map, refl, sym, ap, subst, ◌∙◌, arith, length-append}
 use Rattle.std.specs.List.{range_with_len}
 use Rattle.std.proofs.lemmas.Bool.{eq-eqb, ne_eqb}
@@ -50,7 +50,7 @@ module _ (links : List Links) (max : ℕ) (t : IsThreaded links max) where
   slots_are = ring_slots links max t.listed t.listed_ring (omega (arith, t.total))
 
   module _ (s : ℕ) (small : s < max) where
-    -- the node and those around it are nodes
+    -- the node and its neighbours are nodes
     pub record IsInside : Type 0 where
       pub node : s < length links
       pub before : (link_at links s).before < length links
@@ -114,7 +114,7 @@ module _ (links : List Links) (max : ℕ) (t : IsThreaded links max) where
     pub taken : IsInside
     taken = elim (t.either s small) [ inl h ↦ out_of_listed h | inr h ↦ out_of_others h ]
 
--- the slot that is in neither ring goes into one
+-- the slot that is in neither ring is linked into one
 module _ (links : List Links) (max s : ℕ) (slots : List Slot) (small : s < max) (room : max < 2 ^ 32) (o : IsOut links max s slots) where
   pub out_inside : s < length links
   out_inside = push_inside links max max o.listed o.listed_ring s small o.not_listed
@@ -203,7 +203,7 @@ module _ (links : List Links) (max : ℕ) (free : IsAllFree links max) (room : m
     room = room;
   }
 
--- what the node behind the hub is, where these slots are listed
+-- the node after the hub, if these slots are listed
 pub record IsFirst (max : ℕ) (slots : List Slot) (node : ℕ) : Type 0 where
   pub none : node ≡ max → first_of slots ≡ None
   pub some : node ≢ max → first_of slots ≡ Some (slot_of node)

@@ -19,7 +19,7 @@ In-append_cases i (x ∷ xs) ys h =
       | inr later ↦ elim (In-append_cases i xs ys later) [ inl left ↦ inl (inr left) | inr right ↦ inr right ]
     ]
 
--- a place of a node in a list
+-- a position of a node in a list
 pub record IsSplit (i : ℕ) (xs : List ℕ) : Type 0 where
   pub before : List ℕ
   pub after : List ℕ
@@ -35,13 +35,13 @@ In-splits i (x ∷ xs) h =
           record { before = x ∷ rest.before; after = rest.after; splits = ap (λ l. x ∷ l) rest.splits }
     ]
 
--- a node of the list without one is one of the whole list
+-- a node of the list without one is in the full list
 pub In-whole : (i s : ℕ) (before after : List ℕ) → In i (before ++ after) → In i (before ++ s ∷ after)
 In-whole i s [] after h = inr h
 In-whole i s (x ∷ xs) after h =
     elim h [ inl here ↦ inl here | inr later ↦ inr (In-whole i s xs after later) ]
 
--- a node of the whole list is the one left out, or stands in the rest
+-- a node of the full list is the one left out, or is in the rest
 pub In-rest : (i s : ℕ) (before after : List ℕ) → In i (before ++ s ∷ after) → (s ≡ i) ⊎ In i (before ++ after)
 In-rest i s [] after h = h
 In-rest i s (x ∷ xs) after h =

@@ -1,4 +1,4 @@
--- The entries of a table parted at a slot: without its entry, and with another value of it.
+-- The entries of a table split at a slot: without its entry, and with another value of it.
 use Rattle.std.proofs.Common.{◌≡◌, ◌≢◌, ℕ, ◌==◌, not, true, false, List, ◌∷◌, ◌++◌, map, refl, sym, ap, subst, ◌∙◌, arith}
 use Rattle.std.specs.List.{AllByRecursion, AllPairs}
 use Rattle.std.proofs.lemmas.List.Elements.{recursion_from_All}

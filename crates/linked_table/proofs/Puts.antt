@@ -83,7 +83,7 @@ module _ {K V : Type 0} (hash : K → ℕ) (pairs : List (Option (K × V))) (rec
   put_seen table is =
       rw (pair_writes.number, walk_ring sound.used_ring sound.used_count, entries-put sound.used, ← entries_are hash pairs recency chains len sound table is, max_is hash pairs recency chains len sound table is) refl
 
-  -- the same, of what the code wrote
+  -- the same of the value that the code wrote
   pub put_sound_read : (place : Option (K × V)) → place ≡ Some (key, new) → IsSound hash (set pairs s place) recency chains len
   put_sound_read place place_is = rw place_is put_sound
 

@@ -1,4 +1,4 @@
--- What a read of a slot, or of the node of the hub, shows of the entries.
+-- What a read of a slot, or of the node of the hub, means for the entries.
 use Rattle.std.proofs.Common.{◌≡◌, ◌≢◌, ℕ, ◌<◌, ◌^◌, Option, Some, None, inl, List, [], ◌∷◌, length, get_or, refl, sym, ap, subst, ◌∙◌, arith}
 use Rattle.std.proofs.lemmas.List.{get_or_default}
 use Rattle.std.proofs.lemmas.List.Elements.{All-from_recursion}
@@ -16,7 +16,7 @@ on_pair P node None = Unit {0}
 on_pair P node (Some pair) = P (entry node pair.0 pair.1)
 
 module _ {K V : Type 0} (hash : K → ℕ) (pairs : List (Option (K × V))) (recency chains : List Links) (len : ℕ) (sound : IsSound hash pairs recency chains len) (table : Table K V) (is : table_of pairs recency len ≡ table) where
-  -- the slot is an entry's
+  -- an entry has the slot
   pub record IsUsed (slot : Slot) : Type 0 where
     pub key : K
     pub value : V
@@ -47,7 +47,7 @@ module _ {K V : Type 0} (hash : K → ℕ) (pairs : List (Option (K × V))) (rec
     pub slot_inside : IsIn table.entries slot → slot.0 < length pairs
     slot_inside listed = sound.used_ring.inside slot.0 (used_of slot listed).within
 
-    -- what the code reads in the slot
+    -- the value that the code reads in the slot
     pub read_is : IsIn table.entries slot → (x : Option (K × V)) → x ≡ get_or pairs slot.0 x → x ≡ pair_at pairs slot.0
     read_is listed x read = read ∙ get_or_default pairs slot.0 x None (slot_inside listed)
 
@@ -60,7 +60,7 @@ module _ {K V : Type 0} (hash : K → ℕ) (pairs : List (Option (K × V))) (rec
     read_wherever P listed x read key value x_is holds =
         wherever P slot key value (sym (read_is listed x read) ∙ x_is) holds
 
-  -- the node after the hub of the entries, where there are so many slots
+  -- the node after the hub of the entries, if there are `slots` slots
   pub record ReadsFirst (slots node : ℕ) : Type 0 where
     pub none : node ≡ slots → None ≡ first_slot table.entries
     pub small : node ≢ slots → node < 2 ^ 32

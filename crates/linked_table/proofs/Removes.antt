@@ -170,7 +170,7 @@ module _ {K V : Type 0} (hash : K → ℕ) (pairs : List (Option (K × V))) (rec
       let same : (i : ℕ) → In i (at.before ++ at.after) → pair_at (set pairs s None) i ≡ pair_at pairs i = λ i h. pair_writes.else i (λ here. placed_gone hash pairs recency chains len sound s at (subst (λ k. In k (at.before ++ at.after)) here h)) in
       rw (pair_writes.number, walk_ring removed_ring removed_count, placed_without hash pairs recency chains len sound s at table is, ← is) (ap (λ l. record { entries = l; max = length pairs }) (entries-kept pairs (set pairs s None) (at.before ++ at.after) same))
 
-  -- the same, of what the code wrote
+  -- the same of the values that the code wrote
   module _ (hub : ℕ) (hub_is : hub ≡ length pairs + 1) (cut : List Links) (cut_is : cut ≡ unlinked recency s) (new : List Links) (new_is : new ≡ linked_last cut hub s) (place : Option (K × V)) (place_is : place ≡ None) where
     pub remove_sound_read : (chain_cut : List Links) → chain_cut ≡ unlinked chains s → IsSound hash (set pairs s place) new chain_cut (len - 1)
     remove_sound_read chain_cut chain_is = rw (new_is, cut_is, hub_is, chain_is, place_is) remove_sound

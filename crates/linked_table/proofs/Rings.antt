@@ -1,4 +1,4 @@
--- What is unique in a ring, and what stands around a node of it.
+-- What is unique in a ring, and the neighbours of a node in it.
 use Rattle.std.proofs.Common.{◌≡◌, ℕ, inl, inr, List, [], ◌∷◌, ◌++◌, length, refl, sym, ap, subst, ◌∙◌, arith, length-append, append_assoc}
 use Rattle.linked_table.specs.declared.ring.Links.{Links}
 use Rattle.linked_table.specs.Rings.{link_at, walk, In, IsRing}
@@ -13,7 +13,7 @@ module _ (links : List Links) where
   ring_tail p [] s after q ring = ring.1
   ring_tail p (x ∷ xs) s after q ring = ring_tail x xs s after q ring.1
 
-  -- from one node the links lead to the hub in one way
+  -- the links from one node lead to the hub in one way
   pub ring_unique : (hub p : ℕ) (xs ys : List ℕ) → (In hub xs → ⊥) → (In hub ys → ⊥) → IsRing links p xs hub → IsRing links p ys hub → xs ≡ ys
   ring_unique hub p [] [] not_x not_y r s = refl
   ring_unique hub p [] (y ∷ ys) not_x not_y r s = absurd (not_y (inl (sym s.0.on ∙ r.on)))
@@ -24,7 +24,7 @@ module _ (links : List Links) where
       let rest : xs ≡ ys = ring_unique hub x xs ys (λ h. not_x (inr h)) (λ h. not_y (inr h)) r.1 there in
       cc
 
-  -- a node of a ring stands in it once
+  -- a node of a ring occurs in it once
   pub not_after : (hub p : ℕ) (before : List ℕ) (s : ℕ) (after : List ℕ) → (In hub (before ++ s ∷ after) → ⊥) → IsRing links p (before ++ s ∷ after) hub → In s after → ⊥
   not_after hub p before s after not_hub ring h =
       let split = In-splits s after h in
@@ -43,12 +43,12 @@ module _ (links : List Links) where
       let same : before ++ s ∷ after ≡ split.before ++ s ∷ later = ap (λ l. l ++ s ∷ after) split.splits ∙ append_assoc split.before (s ∷ split.after) (s ∷ after) in
       not_after hub p split.before s later (subst (λ l. In hub l → ⊥) same not_hub) (subst (λ l. IsRing links p l hub) same ring) (In-append_right s split.after (s ∷ after) (inl refl))
 
-  -- the node before one of a ring is where the ring begins, or stands before it
+  -- the node before one of a ring is the start of the ring, or one of those before it
   pub before_in : (p : ℕ) (before : List ℕ) (s : ℕ) (after : List ℕ) (q : ℕ) → IsRing links p (before ++ s ∷ after) q → In (link_at links s).before (p ∷ before)
   before_in p [] s after q ring = inl (sym ring.0.back)
   before_in p (x ∷ xs) s after q ring = inr (before_in x xs s after q ring.1)
 
-  -- the node after one is where the ring ends, or stands after it
+  -- the node after one is the end of the ring, or one of those after it
   pub after_in : (s : ℕ) (after : List ℕ) (q : ℕ) → IsRing links s after q → In (link_at links s).after (after ++ q ∷ [])
   after_in s [] q ring = inl (sym ring.on)
   after_in s (x ∷ xs) q ring = inl (sym ring.0.on)
@@ -57,7 +57,7 @@ module _ (links : List Links) where
   last_in p [] q ring = inl (sym ring.back)
   last_in p (x ∷ xs) q ring = inr (last_in x xs q ring.1)
 
-  -- the nodes around a node of a ring lead to it
+  -- the neighbours of a node of a ring link to it
   pub joined_before : (p : ℕ) (before : List ℕ) (s : ℕ) (after : List ℕ) (q : ℕ) → IsRing links p (before ++ s ∷ after) q → (link_at links (link_at links s).before).after ≡ s
   joined_before p [] s after q ring = ap (λ k. (link_at links k).after) ring.0.back ∙ ring.0.on
   joined_before p (x ∷ xs) s after q ring = joined_before x xs s after q ring.1

@@ -16,7 +16,7 @@ use Rattle.linked_table.proofs.Readings.{is_in}
 use Rattle.linked_table.proofs.Tables.{entries_are}
 
 module _ {K V F : Type 0} (calls : Shared F (Slot × (Bor V × Unit {0})) Bool) (test : F) where
-  -- so many slots are left in the ring, and the entries of those passed were refused
+  -- `left` slots remain in the ring, and the entries of those passed were refused
   pub record IsScan (pairs : List (Option (K × V))) (recency : List Links) (entries : List (Entry K V)) (node left : ℕ) : Type 0 where
     pub passed : List ℕ
     pub rest : List ℕ
@@ -30,7 +30,7 @@ module _ {K V F : Type 0} (calls : Shared F (Slot × (Bor V × Unit {0})) Bool) 
     pub refused : AllByRecursion (λ e. Answers calls test e false) (entries_of pairs passed)
 
   module _ (pairs : List (Option (K × V))) (recency : List Links) (entries : List (Entry K V)) (node left : ℕ) (scan : IsScan pairs recency entries node left) where
-    -- the slot that comes next
+    -- the next slot
     pub record IsMet (next : ℕ) : Type 0 where
       pub slot : next < length pairs
       pub some : pair_at pairs next ≢ None

@@ -15,7 +15,7 @@ use Rattle.linked_table.proofs.Readings.{is_in, wherever}
 use Rattle.linked_table.proofs.Tables.{entries_are}
 use Rattle.linked_table.proofs.Slots.{same_key}
 
--- the walk has come to a node: the slots left in the ring have pairs, and a slot that has the key is one of them
+-- the walk is at a node: the slots left in the ring have pairs, and a slot that has the key is one of them
 pub record IsSearch {K V : Type 0} (pairs : List (Option (K × V))) (chains : List Links) (hub : ℕ) (key : K) (node left : ℕ) : Type 0 where
   pub rest : List ℕ
   pub from : ℕ
@@ -29,7 +29,7 @@ pub record IsSearch {K V : Type 0} (pairs : List (Option (K × V))) (chains : Li
   pub found : (i : ℕ) (value : V) → pair_at pairs i ≡ Some (key, value) → In i rest
 
 module _ {K V : Type 0} (pairs : List (Option (K × V))) (chains : List Links) (hub : ℕ) (key : K) (node left : ℕ) (search_at : IsSearch pairs chains hub key node left) where
-  -- the slot that comes next, and what is left after it
+  -- the next slot, and those left after it
   pub record IsNext : Type 0 where
     pub slot : node < length pairs
     pub within : node < length chains
@@ -72,7 +72,7 @@ module _ {K V : Type 0} (pairs : List (Option (K × V))) (chains : List Links) (
             };
           }
 
-  -- at the hub, or after so many steps, no slot is left
+  -- at the hub, or after `len` steps, no slot is left
   pub none_left : (node ≡ hub) → search_at.rest ≡ []
   none_left at_hub = go search_at.rest refl search_at.ring
     where
@@ -94,7 +94,7 @@ module _ {K V : Type 0} (hash : K → ℕ) (pairs : List (Option (K × V))) (rec
   in_range : hash key % length sound.buckets < length sound.buckets
   in_range = omega (arith, sound.some_bucket)
 
-  -- the walk begins behind the hub of the key's bucket
+  -- the walk begins after the hub of the key's bucket
   pub begins : (hub : ℕ) → hub ≡ length pairs + hash key % length sound.buckets → (node : ℕ) → node ≡ (link_at chains hub).after → IsSearch pairs chains hub key node len
   begins hub hub_is node node_is =
       let b = hash key % length sound.buckets in
@@ -112,7 +112,7 @@ module _ {K V : Type 0} (hash : K → ℕ) (pairs : List (Option (K × V))) (rec
         found = λ i value pair. (sound.kept i key value pair).bucket_in;
       })
 
-  -- nothing is left, so no entry has the key
+  -- no slot is left, so no entry has the key
   pub none_has : (hub node left : ℕ) → (search_at : IsSearch pairs chains hub key node left) → search_at.rest ≡ [] → HasNone table.entries key
   none_has hub node left search_at rest_is =
       rw (entries_are hash pairs recency chains len sound table is) (All-from_recursion (λ (e : Entry K V). e.key ≢ key) _ (all_entries pairs (λ e. e.key ≢ key) sound.used (λ i other value within pair same.

@@ -1,11 +1,11 @@
--- A list parted at one of its elements.
+-- A list split at one of its elements.
 use Rattle.std.proofs.Common.{◌≡◌, ℕ, zero, suc, ◌<◌, Bool, true, false, cond, List, [], ◌∷◌, ◌++◌, length, get_or, map, refl, sym, ap, subst, ◌∙◌, arith}
 use Rattle.std.specs.List.{AllByRecursion, Any, AllPairs, filter}
 use Rattle.linked_table.specs.Table.{Pairwise}
 use Rattle.linked_table.proofs.Filters.{filter_all}
 
 module _ {X : Type 0} where
-  -- an element of which P holds, with those before it and those after it
+  -- an element of which `P` holds, with those before it and those after it
   pub record Split (P : X → Type 0) (xs : List X) : Type 0 where
     pub before : List X
     pub here : X
@@ -47,7 +47,7 @@ module _ {X : Type 0} where
   all_weaker P Q goes [] all = tt
   all_weaker P Q goes (x ∷ xs) all = (goes x all.0, all_weaker P Q goes xs all.1)
 
-  -- those before an element stand in the relation to it, and it to those after it
+  -- those before an element are in the relation to it, and it to those after it
   pub pairs_before : (R : X → X → Type 0) (xs : List X) (y : X) (ys : List X) → Pairwise R (xs ++ y ∷ ys) → AllByRecursion (λ x. R x y) xs
   pairs_before R [] y ys pairs = tt
   pairs_before R (x ∷ xs) y ys pairs = ((all_after (R x) xs (y ∷ ys) pairs.0).0, pairs_before R xs y ys pairs.1)

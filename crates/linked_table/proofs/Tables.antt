@@ -1,4 +1,4 @@
--- What a sound table shows of its entries.
+-- What follows for the entries of a sound table.
 use Rattle.std.proofs.Common.{◌≡◌, ◌≢◌, ℕ, ◌<◌, ◌≤◌, Option, Some, inr, List, [], ◌∷◌, length, sym, ap, subst, ◌∙◌, arith}
 use Rattle.std.specs.List.{All, AllPairs}
 use Rattle.std.proofs.lemmas.List.Elements.{All-from_recursion}
@@ -16,7 +16,7 @@ ring_apart links hub p [] none ring = tt
 ring_apart links hub p (x ∷ xs) none ring =
     (not_after links hub p [] x xs none ring, ring_apart links hub x xs (λ h. none (inr h)) ring.1)
 
--- so many steps from the hub lead through its whole ring
+-- `len` steps from the hub lead through its whole ring
 pub walk_ring : {links : List Links} {slots hub : ℕ} {nodes : List ℕ} {len : ℕ} → HasRing links slots hub nodes → length nodes ≡ len → walk links len hub ≡ nodes
 walk_ring {links} {slots} {hub} {nodes} has count = subst (λ n. walk links n hub ≡ nodes) count (walk-ring links hub nodes hub has.ring)
 

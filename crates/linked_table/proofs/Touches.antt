@@ -126,7 +126,7 @@ module _ {K V : Type 0} (hash : K → ℕ) (pairs : List (Option (K × V))) (rec
         let walked : walk (linked_last (unlinked recency s) (length pairs) s) len (length pairs) ≡ (at.before ++ at.after) ++ s ∷ [] = walk_ring touch_ring touch_count in
         rw (walked, placed_without table is, placed_only table is, ← is) (ap (λ l. record { entries = l; max = length pairs }) (entries-append pairs (at.before ++ at.after) (s ∷ [])))
 
-    -- the same, of what the code wrote
+    -- the same of the values that the code wrote
     pub touch_sound_read : (hub : ℕ) → hub ≡ length pairs → (cut : List Links) → cut ≡ unlinked recency s → (new : List Links) → new ≡ linked_last cut hub s → IsSound hash pairs new chains len
     touch_sound_read hub hub_is cut cut_is new new_is = rw (new_is, cut_is, hub_is) touch_sound
 

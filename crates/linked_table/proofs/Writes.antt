@@ -1,4 +1,4 @@
--- What taking a node out of a ring, and linking it in as the last, make of each ring.
+-- The effect on each ring of unlinking a node, and of linking it in as the last.
 use Rattle.std.proofs.Common.{◌≡◌, ◌≢◌, ℕ, ◌<◌, inl, inr, List, [], ◌∷◌, ◌++◌, length, set, sym, ap, ◌∙◌, arith, length-set, get_or-set_same, get_or-set_other}
 use Rattle.std.proofs.lemmas.Bool.{cases_eq}
 use Rattle.linked_table.specs.declared.ring.Links.{Links}
@@ -22,7 +22,7 @@ after-with_before links i x j lt =
       | inr ne ↦ ap (λ (l : Links). l.after) (get_or-set_other links i j (record (link_at links i) { before = x }) blank ne)
     ]
 
--- the links after a node was taken out
+-- the links after a node was unlinked
 pub record Unlinks (links new : List Links) (s : ℕ) : Type 0 where
   pub number : length new ≡ length links
   pub after_here : (link_at new (link_at links s).before).after ≡ (link_at links s).after
@@ -45,7 +45,7 @@ unlinks links s p_in n_in =
       before_else = λ j ne. ap (λ (l : Links). l.before) (get_or-set_other mid n j _ blank ne) ∙ before-with_after links p n j p_in;
     }
 
--- a ring keeps its links where a node of it, or of another ring, is taken out
+-- a ring keeps its links if a node of it, or of another ring, is unlinked
 module _ (links new : List Links) (s : ℕ) (writes : Unlinks links new s) (from_before : (link_at links (link_at links s).before).after ≡ s) (from_after : (link_at links (link_at links s).after).before ≡ s) where
   Joins-unlinked : (a b : ℕ) → a ≢ s → b ≢ s → Joins links a b → Joins new a b
   Joins-unlinked a b not_a not_b joins = record {
@@ -102,7 +102,7 @@ links_last links hub s s_in hub_in last_in not_hub not_last =
       before_else = λ j not_h not_s. ap (λ (l : Links). l.before) (get_or-set_other mid hub j _ blank not_h) ∙ (ap (λ (l : Links). l.before) (get_or-set_other led s j here blank not_s) ∙ before-with_after links p s j last_in);
     }
 
--- a ring keeps its links where a node that is not in it is linked in elsewhere, and the hub's ring gets the node
+-- a ring keeps its links if a node that is not in it is linked in elsewhere, and the hub's ring gets the node
 module _ (links new : List Links) (hub s : ℕ) (writes : LinksLast links new hub s) (from_last : (link_at links (link_at links hub).before).after ≡ hub) where
   Joins-linked : (a b : ℕ) → a ≢ s → b ≢ s → b ≢ hub → Joins links a b → Joins new a b
   Joins-linked a b not_a not_b not_hub joins = record {

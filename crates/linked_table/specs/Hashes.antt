@@ -1,5 +1,5 @@
--- The hash of two words under a seed (this project's profile): std's hasher, which is SipHash-1-3, over the octets of the seed and then those of the words, the
--- lowest first. Who does not know the seed cannot choose words that share a bucket.
+-- The hash of two words under a seed (this project's profile): std's hasher, SipHash-1-3, over the octets of the seed and then of the words, lowest octet
+-- first. SipHash is designed so that words which share a bucket are hard to find without the seed; nothing here states it.
 use Rattle.std.specs.Prelude.{ℕ, ◌++◌}
 use Rattle.std.specs.Int.{to_le_bytes, w64}
 use Rattle.std.specs.Hash.DefaultHasher.{initial, write, finish}

@@ -1,11 +1,11 @@
--- Slots that are listed in an order of their own, and how they are threaded (this project's profile).
+-- An ordered list of slots, and how it is linked (this project's profile).
 use Rattle.std.specs.Prelude.{◌≡◌, ℕ, zero, suc, ◌+◌, ◌<◌, ◌^◌, ◌⊎◌, ◌==◌, not, Option, Some, None, List, [], ◌∷◌, length, filter, if◌then◌else◌}
 use Rattle.linked_table.specs.declared.ring.Links.{Links}
 use Rattle.linked_table.specs.declared.table.Slot.{Slot}
 use Rattle.linked_table.specs.Rings.{In, HasRing, link_at}
 use Rattle.linked_table.specs.Sound.{slot_of}
 
--- The slots that are listed, in order, and the number below which each slot is.
+-- The listed slots, in order, and the number below which each slot is.
 pub record Listing : Type 0 where
   pub slots : List Slot
   pub max : ℕ
@@ -19,17 +19,17 @@ abbrev pub first_of : List Slot → Option Slot
 first_of [] = None
 first_of (slot ∷ slots) = Some slot
 
--- The slots after a node up to its hub, and no more than a number of them.
+-- The slots after a node up to its hub, at most `most` of them.
 abbrev pub slots_to : List Links → (hub most from : ℕ) → List Slot
 slots_to links hub zero from = []
 slots_to links hub (suc most) from =
     if (link_at links from).after == hub then [] else slot_of (link_at links from).after ∷ slots_to links hub most (link_at links from).after
 
--- What contracts see of nodes for so many slots and two hubs behind them: the slots of the first hub's ring.
+-- What contracts see of nodes for `max` slots, followed by two hubs: the slots of the first hub's ring.
 abbrev pub listing_of : List Links → (max : ℕ) → Listing
 listing_of links max = record { slots = slots_to links max max max; max = max }
 
--- Each slot is in one of two rings, that of the listed slots and that of the others.
+-- Each slot is in exactly one of two rings, that of the listed slots and that of the others.
 pub record IsThreaded (links : List Links) (max : ℕ) : Type 0 where
   pub listed : List ℕ
   pub others : List ℕ

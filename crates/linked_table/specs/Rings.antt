@@ -1,4 +1,4 @@
--- Rings of nodes that are linked by index (this project's profile).
+-- Rings of nodes linked by index (this project's profile).
 use Rattle.std.specs.Prelude.{◌≡◌, ℕ, zero, suc, ◌<◌, ◌≤◌, ◌⊎◌, List, [], ◌∷◌, length, slice_index_or, slice_set}
 use Rattle.linked_table.specs.declared.ring.Links.{Links}
 
@@ -10,7 +10,7 @@ lone node = record { before = node; after = node }
 abbrev pub link_at : List Links → ℕ → Links
 link_at links node = slice_index_or links node (record { before = 0; after = 0 })
 
--- The n nodes after this one.
+-- The `n` nodes after this one.
 abbrev pub walk : List Links → ℕ → ℕ → List ℕ
 walk links zero from = []
 walk links (suc n) from = (link_at links from).after ∷ walk links n (link_at links from).after
@@ -20,37 +20,37 @@ abbrev pub In : ℕ → List ℕ → Type 0
 In node [] = ⊥
 In node (x ∷ xs) = (x ≡ node) ⊎ In node xs
 
--- One node leads on to the other, and that one back.
+-- The first node links to the second, and the second back to the first.
 pub record Joins (links : List Links) (a b : ℕ) : Type 0 where
   pub on : (link_at links a).after ≡ b
   pub back : (link_at links b).before ≡ a
 
--- From one node the links lead through these nodes to another.
+-- The links from one node lead through these nodes to another.
 abbrev pub IsRing : List Links → ℕ → List ℕ → ℕ → Type 0
 IsRing links from [] to = Joins links from to
 IsRing links from (x ∷ xs) to = Joins links from x × IsRing links x xs to
 
--- The links lead from the hub round to it through these nodes, all of them slots, and the hub is none.
+-- The links from the hub lead through these nodes back to it. All of them are slots, and the hub is not.
 pub record HasRing (links : List Links) (slots hub : ℕ) (nodes : List ℕ) : Type 0 where
   pub ring : IsRing links hub nodes hub
   pub inside : (node : ℕ) → In node nodes → node < slots
   pub past : slots ≤ hub
   pub hub_in : hub < length links
 
--- The links where the node leads on to another.
+-- The links after the forward link of a node is changed.
 abbrev pub with_after : List Links → ℕ → ℕ → List Links
 with_after links node after = slice_set links node (record (link_at links node) { after = after })
 
--- The links where the node leads back to another.
+-- The links after the backward link of a node is changed.
 abbrev pub with_before : List Links → ℕ → ℕ → List Links
 with_before links node before = slice_set links node (record (link_at links node) { before = before })
 
--- The links where the nodes around this one lead past it.
+-- The links after this node is unlinked: its neighbours link to each other.
 abbrev pub unlinked : List Links → ℕ → List Links
 unlinked links node =
     with_before (with_after links (link_at links node).before (link_at links node).after) (link_at links node).after (link_at links node).before
 
--- The links where this node stands last before the hub.
+-- The links after this node is linked in as the last before the hub.
 abbrev pub linked_last : List Links → ℕ → ℕ → List Links
 linked_last links hub node =
     with_before (slice_set (with_after links (link_at links hub).before node) node (record { before = (link_at links hub).before; after = hub })) hub node

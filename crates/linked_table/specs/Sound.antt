@@ -1,4 +1,4 @@
--- How a table's entries are threaded through its slots (this project's profile).
+-- How a table's entries are linked through its slots (this project's profile).
 use Rattle.std.specs.Prelude.{◌≡◌, ◌≢◌, ℕ, ◌+◌, ◌<◌, ◌^◌, ◌%◌, Option, Some, None, List, [], ◌∷◌, length, slice_index_or}
 use Rattle.std.specs.List.{sum_by, range_with_len}
 use Rattle.linked_table.specs.declared.ring.Links.{Links}
@@ -29,7 +29,7 @@ module _ {K V : Type 0} where
   abbrev pub pair_at : List (Option (K × V)) → ℕ → Option (K × V)
   pair_at pairs node = slice_index_or pairs node None
 
-  -- The entry of a slot before the others, where the slot has a pair.
+  -- The other entries, after the entry of this slot if it has a pair.
   abbrev pub cons_entry : ℕ → Option (K × V) → List (Entry K V) → List (Entry K V)
   cons_entry node None rest = rest
   cons_entry node (Some pair) rest = record { slot = slot_of node; key = pair.0; value = pair.1 } ∷ rest
@@ -44,14 +44,14 @@ module _ {K V : Type 0} where
   table_of pairs recency len =
       record { entries = entries_of pairs (walk recency len (length pairs)); max = length pairs }
 
-  -- The slot has a pair, whose key belongs into this bucket.
+  -- The slot has a pair, whose key belongs to this bucket.
   pub record IsHashed (hash : K → ℕ) (pairs : List (Option (K × V))) (buckets : List (List ℕ)) (node bucket : ℕ) : Type 0 where
     pub key : K
     pub value : V
     pub pair : pair_at pairs node ≡ Some (key, value)
     pub bucket_is : hash key % length buckets ≡ bucket
 
-  -- The slots with a pair are those in the list by recency, each is in the bucket of its key, and no key stands twice.
+  -- The slots with a pair are those in the list by recency, each is in the bucket of its key, and no key occurs twice.
   pub record IsSound (hash : K → ℕ) (pairs : List (Option (K × V))) (recency chains : List Links) (len : ℕ) : Type 0 where
     -- The slots of the entries, least recently touched first, the free slots, and the slots of each bucket.
     pub used : List ℕ

@@ -12,40 +12,40 @@ pub record Entry (K V : Type 0) : Type 0 where
   pub key : K
   pub value : V
 
--- The entries, least recently touched first, and how many there may be.
+-- The entries, least recently touched first, and their greatest number.
 pub record Table (K V : Type 0) : Type 0 where
   pub entries : List (Entry K V)
   pub max : ℕ
 
--- An entry is told apart by its slot's number, its key and its value.
+-- The code of an entry: its slot's number, its key and its value.
 abbrev pub entry_code : {K V : Type 0} → Coded K → Coded V → Coded (Entry K V)
 entry_code {K} {V} k v =
     code_by (ℕ × (K × V)) (coded× coded_ℕ (coded× k v)) (λ e. (e.slot.0, (e.key, e.value))) (λ p. record { slot = record { 0 = p.0 }; key = p.1.0; value = p.1.1 }) (λ _. refl)
 
--- A table is told apart by its entries and how many there may be.
+-- The code of a table: its entries and their greatest number.
 abbrev pub table_code : {K V : Type 0} → Coded K → Coded V → Coded (Table K V)
 table_code {K} {V} k v =
     code_by (List (Entry K V) × ℕ) (coded× (coded_list (entry_code k v)) coded_ℕ) (λ t. (t.entries, t.max)) (λ p. record { entries = p.0; max = p.1 }) (λ _. refl)
 
--- R holds of each element and each later one.
+-- `R` holds of each element and each later one.
 abbrev pub Pairwise : {X : Type 0} → (X → X → Type 0) → List X → Type 0
 Pairwise R [] = Unit {0}
 Pairwise R (x ∷ xs) = AllByRecursion (R x) xs × Pairwise R xs
 
 module _ {K V : Type 0} where
-  -- The slot is an entry's.
+  -- An entry has this slot.
   abbrev pub IsIn : List (Entry K V) → Slot → Type 0
   IsIn entries slot = Any (λ e. e.slot ≡ slot) entries
 
-  -- The slot is no entry's.
+  -- No entry has this slot.
   abbrev pub IsNotIn : List (Entry K V) → Slot → Type 0
   IsNotIn entries slot = All (λ e. e.slot ≢ slot) entries
 
-  -- No entry has the key.
+  -- No entry has this key.
   abbrev pub HasNone : List (Entry K V) → K → Type 0
   HasNone entries key = All (λ e. e.key ≢ key) entries
 
-  -- The fact holds of the entry of this slot.
+  -- `P` holds of the entry of this slot.
   abbrev pub Wherever : List (Entry K V) → Slot → (Entry K V → Type 0) → Type 0
   Wherever entries slot P = All (λ e. e.slot ≡ slot → P e) entries
 
@@ -69,11 +69,11 @@ module _ {K V : Type 0} where
   abbrev pub only : List (Entry K V) → Slot → List (Entry K V)
   only entries slot = filter (λ e. e.slot.0 == slot.0) entries
 
-  -- The entry, where it is that of this slot with this value.
+  -- The entry, with this value if it is the one of this slot.
   abbrev pub revalued : Slot → V → Entry K V → Entry K V
   revalued slot value e = if e.slot.0 == slot.0 then record e { value = value } else e
 
-  -- The entries, where that of this slot has this value.
+  -- The entries, with this value in the one of this slot.
   abbrev pub with_value : List (Entry K V) → Slot → V → List (Entry K V)
   with_value entries slot value = map (revalued slot value) entries
 
@@ -87,7 +87,7 @@ module _ {K V : Type 0} where
     abbrev pub IsCallableAt : Entry K V → Type 0
     IsCallableAt e = (value : Bor V) → value.now ≡ e.value → calls.pre test (e.slot, (value, tt))
 
-    -- The test may give this answer on the entry.
+    -- The test may return this answer on the entry.
     abbrev pub Answers : Entry K V → Bool → Type 0
     Answers e answer = (value : Bor V) × (value.now ≡ e.value) × calls.post test (e.slot, (value, tt)) answer
 

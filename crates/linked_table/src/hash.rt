@@ -4,7 +4,8 @@ ghost use Rattle.linked_table.specs.Hashes.{hash_of_words};
 
 use std::hash::{DefaultHasher, Hasher};
 
-/// The hash of two words under a seed, by std's hasher: who does not know the seed cannot choose words that share a bucket.
+/// Returns the hash of two words under a seed, by std's SipHash-1-3. SipHash is designed so that
+/// words which share a bucket are hard to find without the seed; nothing here proves it.
 pub fn hash_words(seed: u64, first: u64, second: u64) -> u64
     ensures { result ≡ hash_of_words seed first second }
 {

@@ -1,15 +1,14 @@
-//! What a table asks of its keys.
+//! What a table requires of its keys.
 ghost use Rattle.std.specs.Prelude.{◌≡◌, ℕ, true};
 
-/// A key that can be hashed. Keys that compare equal are identical.
+/// Key that can be hashed. Keys that compare equal are identical.
 pub trait Key: Copy + Eq {
-    /// The hash, a function of the key and the seed.
+    /// Hash as a function of the key and the seed.
     ghost hash_of: { Self → ℕ → ℕ };
 
-    /// The hash of the key under this seed.
+    /// Returns the hash of the key under this seed.
     fn hash_with(&self, seed: u64) -> u64
         ensures { result ≡ hash_of self.now seed };
 
-    /// Keys that compare equal are identical.
     ghost equal_is_same: { (a b : Self) → Self.eq a b ≡ true → a ≡ b };
 }

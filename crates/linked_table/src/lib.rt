@@ -1,4 +1,18 @@
-//! A table of keys and values in order of recency, whose whole memory is taken when it is opened.
+//! A table of keys and values in order of recency, a list of slots, and a hash under a seed; all
+//! memory is allocated at opening.
+//!
+//! Proved: every call of `LinkedTable` is the call on the list of its entries, least recently
+//! touched first, whatever the seed and the hash. `find` splits the list at the entry found. A full
+//! table returns the pair that does not fit. A `SlotList` is a list of slots: it is empty at
+//! opening, a slot is put last or taken out, no slot occurs twice, and the first is returned.
+//! `hash_words` is std's SipHash-1-3 over the seed and the two words. That words which share a
+//! bucket are hard to find without the seed is what SipHash is designed for; nothing here proves
+//! it.
+//!
+//! Choices: three vectors share the slot numbers: pairs, recency, and hash chains. Entries, free
+//! slots and buckets are rings closed by a hub, so linking and unlinking have no branch. There is
+//! one bucket more than slots, so never none. The slot freed last is filled first, so that few live
+//! entries touch little memory.
 #![tactic(auto)]
 
 mod hash;

@@ -1,4 +1,4 @@
-//! Slots in an order of their own.
+//! An ordered list of slots.
 ghost use Rattle.std.specs.Prelude.{◌≡◌, ◌<◌, [], ◌∷◌, ◌++◌, IfOk, IfSome};
 ghost use Rattle.linked_table.specs.Listing.{first_of, others};
 
@@ -11,7 +11,7 @@ use std::marker::Model;
 /// Some of the slots of a table, in order, none of them twice.
 #[derive(Drop)]
 pub struct SlotList {
-    // A node for each slot, and two hubs: the ring of the listed slots, and behind it that of the others.
+    // One node for each slot, and two hubs: the ring of the listed slots, then that of the others.
     links: Rings,
     max: u32,
 }
@@ -27,7 +27,7 @@ impl Model for SlotList {
 }
 
 impl SlotList {
-    /// A list of no slot, for slots below `max`.
+    /// Creates an empty list, for slots below `max`.
     pub fn open(alloc: Global, max: u32) -> Result<SlotList, NoMemory>
         ensures { IfOk result (λ list. list ≡ record { slots = []; max = max }) }
     {
@@ -35,7 +35,7 @@ impl SlotList {
         Ok(SlotList { links, max })
     }
 
-    /// The slot that is listed first.
+    /// Returns the first slot of the list.
     pub fn first(&self) -> Option<Slot>
         ensures first { result ≡ first_of self.now.slots }
         ensures below { IfSome result (λ slot. slot.0 < self.now.max) }
@@ -48,7 +48,7 @@ impl SlotList {
         Some(Slot(node as u32))
     }
 
-    /// Lists the slot as the last one, also where it was listed before.
+    /// Puts the slot last. A slot that is already listed moves.
     pub fn put_last(&mut self, slot: Slot)
         requires { slot.0 < self.old.max }
         ensures { self.new ≡ record self.old { slots = others self.old.slots slot ++ slot ∷ [] } }
@@ -59,7 +59,7 @@ impl SlotList {
         self.links.link_last(hub, node);
     }
 
-    /// Lists the slot no more, if it was listed.
+    /// Removes the slot, if it is listed.
     pub fn take_out(&mut self, slot: Slot)
         requires { slot.0 < self.old.max }
         ensures { self.new ≡ record self.old { slots = others self.old.slots slot } }

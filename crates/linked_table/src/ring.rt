@@ -1,4 +1,4 @@
-//! Rings of nodes that are linked by index.
+//! Rings of nodes linked by index.
 ghost use Rattle.std.specs.Prelude.{◌≡◌, ◌<◌, length, map, IfOk};
 ghost use Rattle.std.specs.List.{range_with_len};
 ghost use Rattle.linked_table.specs.Rings.{lone, link_at, unlinked, linked_last};
@@ -7,7 +7,7 @@ use edge_io::NoMemory;
 use std::alloc::Global;
 use std::marker::Model;
 
-/// The nodes before and after a node in its ring.
+/// Nodes before and after a node in its ring.
 #[derive(Clone, Copy)]
 pub(crate) struct Links {
     pub(crate) before: usize,
@@ -30,7 +30,7 @@ impl Model for Rings {
 }
 
 impl Rings {
-    /// So many nodes, each in a ring of its own.
+    /// Creates `count` nodes, each in a ring of its own.
     pub(crate) fn open(alloc: Global, count: usize) -> Result<Rings, NoMemory>
         ensures { IfOk result (λ rings. rings ≡ map lone (range_with_len 0 count)) }
     {
@@ -43,14 +43,14 @@ impl Rings {
         Ok(Rings { links })
     }
 
-    /// How many nodes there are.
+    /// Returns the number of nodes.
     pub(crate) fn len(&self) -> usize
         ensures { result ≡ length self.now }
     {
         self.links.len()
     }
 
-    /// The node before this one.
+    /// Returns the node before this one.
     pub(crate) fn before(&self, node: usize) -> usize
         requires { node < length self.now }
         ensures { result ≡ (link_at self.now node).before }
@@ -58,7 +58,7 @@ impl Rings {
         self.links[node].before
     }
 
-    /// The node after this one.
+    /// Returns the node after this one.
     pub(crate) fn after(&self, node: usize) -> usize
         requires { node < length self.now }
         ensures { result ≡ (link_at self.now node).after }
@@ -66,7 +66,7 @@ impl Rings {
         self.links[node].after
     }
 
-    /// Lets the nodes around this one lead past it.
+    /// Links the neighbours of this node to each other.
     pub(crate) fn unlink(&mut self, node: usize)
         requires inside { node < length self.old }
         requires before_inside { (link_at self.old node).before < length self.old }
@@ -78,7 +78,7 @@ impl Rings {
         self.links[after].before = before;
     }
 
-    /// Makes a node that is in no ring the last before this hub.
+    /// Links a node that is in no ring as the last before this hub.
     pub(crate) fn link_last(&mut self, hub: usize, node: usize)
         requires inside { node < length self.old }
         requires hub_inside { hub < length self.old }

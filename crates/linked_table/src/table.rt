@@ -11,7 +11,7 @@ use std::alloc::Global;
 use std::marker::Model;
 use std::mem;
 
-/// The number of a slot, below the number of entries that its table may have.
+/// Number of a slot, below the greatest number of entries of its table.
 #[derive(Clone, Copy, Debug, PartialEq, Eq)]
 pub struct Slot(pub u32);
 
@@ -19,12 +19,13 @@ pub struct Slot(pub u32);
 #[derive(Drop)]
 pub struct LinkedTable<K: Key, V> {
     seed: u64,
-    // The key and the value in each slot.
+    // Key and value in each slot.
     pairs: Vec<Option<(K, V)>>,
-    // A node for each slot, and two hubs: the ring of the entries from the oldest to the newest,
-    // and behind it that of the free slots.
+    // One node for each slot, and two hubs: the ring of the entries from the oldest to the newest,
+    // then that of the free slots.
     recency: Rings,
-    // A node for each slot, and a hub for each bucket: the rings of the entries that share one.
+    // One node for each slot, and one hub for each bucket: the rings of the entries that share a
+    // bucket.
     chains: Rings,
     len: u32,
 }
@@ -43,7 +44,7 @@ impl<K: Key, V> Model for LinkedTable<K, V> {
     ghost invariant = { λ t. IsSound (λ k. K.hash_of k t.seed) t.pairs.items t.recency t.chains t.len };
 }
 
-// The bucket of a key, of so many.
+// Returns the bucket of a key, below `buckets`.
 fn bucket_of<K: Key>(key: &K, seed: u64, buckets: usize) -> usize
     requires { 0 < buckets }
     ensures { result ≡ K.hash_of key.now seed % buckets }
@@ -51,7 +52,7 @@ fn bucket_of<K: Key>(key: &K, seed: u64, buckets: usize) -> usize
     (key.hash_with(seed) % buckets as u64) as usize
 }
 
-// So many slots with nothing in them.
+// Returns `count` slots without a pair.
 fn empty_slots<K, V>(alloc: Global, count: u32) -> Result<Vec<Option<(K, V)>>, NoMemory>
     ensures { IfOk result (λ pairs. pairs.items ≡ replicate count None) }
 {
@@ -62,7 +63,7 @@ fn empty_slots<K, V>(alloc: Global, count: u32) -> Result<Vec<Option<(K, V)>>, N
     Ok(pairs)
 }
 
-/// The nodes of so many free slots, with the hubs of the slots that are in use and of those that are free.
+/// Returns the nodes of `count` free slots, with the hubs of the used and of the free slots.
 pub(crate) fn free_ring(alloc: Global, count: u32) -> Result<Rings, NoMemory>
     ensures { IfOk result (λ recency. IsAllFree recency count) }
 {
@@ -74,7 +75,7 @@ pub(crate) fn free_ring(alloc: Global, count: u32) -> Result<Rings, NoMemory>
     Ok(recency)
 }
 
-// Fills an empty place.
+// Fills an empty slot.
 fn fill<T>(place: &mut Option<T>, value: T)
     requires { place.old ≡ None }
     ensures { place.new ≡ Some value }
@@ -86,8 +87,8 @@ fn fill<T>(place: &mut Option<T>, value: T)
 }
 
 impl<K: Key, V> LinkedTable<K, V> {
-    /// A table with no entry and room for `max` entries. The seed decides which keys share a hash
-    /// chain, and nothing that a caller sees.
+    /// Creates a table without entries, for at most `max`. The seed decides only which keys share a
+    /// hash chain; no result depends on it.
     pub fn open(alloc: Global, max: u32, seed: u64) -> Result<LinkedTable<K, V>, NoMemory>
         ensures { IfOk result (λ table. table ≡ record { entries = []; max = max }) }
     {
@@ -103,14 +104,14 @@ impl<K: Key, V> LinkedTable<K, V> {
         })
     }
 
-    /// How many entries there may be.
+    /// Returns the greatest number of entries.
     pub fn max(&self) -> u32
         ensures { result ≡ self.now.max }
     {
         self.pairs.len() as u32
     }
 
-    /// How many entries there are. No slot and no key stands twice.
+    /// Returns the number of entries. No slot and no key occurs twice.
     pub fn len(&self) -> u32
         ensures number { result ≡ length self.now.entries }
         ensures bounded { length self.now.entries ≤ self.now.max }
@@ -121,7 +122,7 @@ impl<K: Key, V> LinkedTable<K, V> {
         self.len
     }
 
-    /// The slot of the entry with this key.
+    /// Returns the slot of the entry with this key.
     pub fn find(&self, key: &K) -> Option<Slot>
         ensures found { IfSome result (IsIn self.now.entries) }
         ensures same_key { IfSome result (λ slot. Wherever self.now.entries slot (λ e. e.key ≡ key.now)) }
@@ -146,7 +147,7 @@ impl<K: Key, V> LinkedTable<K, V> {
         None
     }
 
-    /// The key of the entry.
+    /// Returns the key of the entry.
     pub fn key_at(&self, slot: Slot) -> K
         requires { IsIn self.now.entries slot }
         ensures { Wherever self.now.entries slot (λ e. result ≡ e.key) }
@@ -157,7 +158,7 @@ impl<K: Key, V> LinkedTable<K, V> {
         }
     }
 
-    /// The value of the entry.
+    /// Returns the value of the entry.
     pub fn at(&self, slot: Slot) -> &V
         requires { IsIn self.now.entries slot }
         ensures { Wherever self.now.entries slot (λ e. result.now ≡ e.value) }
@@ -168,7 +169,7 @@ impl<K: Key, V> LinkedTable<K, V> {
         }
     }
 
-    /// Gives the entry this value, and answers the value before.
+    /// Sets the value of the entry, and returns the value before.
     pub fn put(&mut self, slot: Slot, value: V) -> V
         requires { IsIn self.old.entries slot }
         ensures before { Wherever self.old.entries slot (λ e. result ≡ e.value) }
@@ -191,7 +192,7 @@ impl<K: Key, V> LinkedTable<K, V> {
         self.recency.link_last(entries, node);
     }
 
-    /// Takes the entry out.
+    /// Removes the entry, and returns its key and value.
     pub fn remove(&mut self, slot: Slot) -> (K, V)
         requires { IsIn self.old.entries slot }
         ensures taken { Wherever self.old.entries slot (λ e. result ≡ (e.key, e.value)) }
@@ -209,7 +210,7 @@ impl<K: Key, V> LinkedTable<K, V> {
         }
     }
 
-    /// Adds an entry as the most recently touched one, or hands the pair back where the table is full.
+    /// Adds an entry as the most recently touched one, or returns the pair if the table is full.
     pub fn insert(&mut self, key: K, value: V) -> Result<Slot, (K, V)>
         requires { HasNone self.old.entries key }
         ensures full { IsErr result ↔ (length self.old.entries ≡ self.old.max) }
@@ -233,7 +234,7 @@ impl<K: Key, V> LinkedTable<K, V> {
         Ok(Slot(node as u32))
     }
 
-    /// The slot of the least recently touched entry.
+    /// Returns the slot of the least recently touched entry.
     pub fn oldest(&self) -> Option<Slot>
         ensures first { result ≡ first_slot self.now.entries }
         ensures inside { IfSome result (IsIn self.now.entries) }
@@ -246,7 +247,7 @@ impl<K: Key, V> LinkedTable<K, V> {
         Some(Slot(node as u32))
     }
 
-    /// The slot of the least recently touched entry that passes the test.
+    /// Returns the slot of the least recently touched entry that passes the test.
     pub fn oldest_where<F: Fn(Slot, &V) -> bool>(&self, test: F) -> Option<Slot>
         requires { All (IsCallableAt F.Fn test) self.now.entries }
         ensures first { IfSome result (PassesFirst F.Fn test self.now.entries) }

@@ -1,4 +1,4 @@
-//! Tables of numbers, under their bound on keys.
+//! Tables of numbers compared with a plain list, and look-ups in a full table.
 ghost use Rattle.std.specs.Prelude.{◌+◌, ◌*◌, ◌<◌, ◌^◌, ◌%◌, length, IfSome};
 ghost use Rattle.std.proofs.Common.{rules};
 
@@ -47,14 +47,14 @@ fn a_full_table_looks_up_fast(rt: HostRuntime) -> Result<(), Fail> {
     Ok(())
 }
 
-// Where the entry with this key stands in the plain list.
+// Returns the index of the entry with this key in the plain list.
 fn place_of(list: &[(u64, u64)], key: u64) -> Option<usize>
     ensures { IfSome result (λ i. i < length list.now) }
 {
     list.iter().position(|entry| entry.0 == key)
 }
 
-// The first even value of the plain list.
+// Returns the first even value of the plain list.
 fn first_even(list: &[(u64, u64)]) -> Option<u64> {
     for entry in list {
         if entry.1 % 2 == 0 {
@@ -66,7 +66,7 @@ fn first_even(list: &[(u64, u64)]) -> Option<u64> {
 
 type Table = LinkedTable<Number, u64>;
 
-// One call for this key, on a table of at most five entries and on the plain list.
+// Makes one call for this key, on a table of at most five entries and on the plain list.
 fn call(
     rt: &impl Abort,
     table: &mut Table,
@@ -109,7 +109,7 @@ fn call(
     Ok(())
 }
 
-// The table's readings are those of the plain list.
+// Checks that the table reads as the plain list does.
 fn compare(rt: &impl Abort, table: &Table, list: &[(u64, u64)], step: u64) {
     assert_eq!(rt;
         (table.len() as usize, table.max()),
@@ -143,7 +143,8 @@ fn a_pattern_of_calls_is_the_same_on_a_list(rt: HostRuntime) -> Result<(), Fail>
 
 #[test]
 fn a_hash_is_of_the_seed_and_both_words(rt: HostRuntime) {
-    // SipHash-1-3 with both keys 0, over the octets of the three words, the lowest of each first, as Rust's hasher gives it.
+    // SipHash-1-3 with both keys 0 over the octets of the three words, lowest first, as computed by
+    // Rust's hasher.
     assert_eq!(rt; hash_words(0, 0, 0), 0xf900_3207_cf9e_4d4c);
     assert_eq!(rt; hash_words(7, 1, 2), 0xddbd_aa13_5600_06cd);
 }

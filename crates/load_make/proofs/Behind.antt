@@ -1,4 +1,4 @@
--- Where the flows stand behind one more record.
+-- The states of the connections after one more record.
 use Rattle.std.proofs.Common.{◌≡◌, ◌≢◌, ℕ, zero, suc, ◌+◌, ◌*◌, ◌^◌, ◌<◌, ◌≤◌, ◌==◌, ◌||◌, inl, inr, Bool, true, false, cond, List, [], ◌∷◌, length, get_or, refl, sym, ap, subst, ◌∙◌, add-one, arith}
 use Rattle.std.specs.List.{filter}
 use Rattle.std.proofs.Math.ListN.{set, length-set}
@@ -19,7 +19,7 @@ flow-more action [] = refl
 flow-more action (first ∷ []) = refl
 flow-more action (before ∷ again ∷ earlier) = refl
 
--- a record changes its own flow alone
+-- a record changes only the state of its own connection
 each-behind : (seed place x flow : ℕ) (is_own : Bool) → x ≡ number_at seed place → (flow_of x == flow) ≡ is_own
     → flow_after (actions_before seed flow (suc place)) ≡ cond is_own (flow_behind (action_of x) (flow_after (actions_before seed flow place))) (flow_after (actions_before seed flow place))
 each-behind seed place x flow true is own = rw (← is, own) (sym (flow-more (action_of x) (actions_before seed flow place)))
@@ -29,7 +29,7 @@ pub flow-at : (seed place flow : ℕ) (flows : List Flow) → flows ≡ flows_be
 flow-at seed place flow flows are few =
     ap (λ fs. get_or fs flow New) are ∙ get_or-map-range_with_len (λ f. flow_after (actions_before seed f place)) 0 64 flow flow New few (omega arith)
 
--- the flows behind one more record, of which one was replaced
+-- the states after one more record, with one of them replaced
 replaced : (seed place x : ℕ) (flows : List Flow) (next : Flow) → flows ≡ flows_before seed place → x ≡ number_at seed place → flow_of x < 64
     → next ≡ flow_behind (action_of x) (get_or flows (flow_of x) New) → set flows (flow_of x) next ≡ flows_before seed (suc place)
 replaced seed place x flows next are is few behind =
@@ -45,7 +45,7 @@ replaced seed place x flows next are is few behind =
       | inr other ↦ get_or-set_other flows (flow_of x) k next New (λ e. other.1 (sym e)) ∙ flow-at seed place k flows are inside ∙ sym (each-behind seed place x k false is other.0)
     ]
 
--- where a load stands behind one more record
+-- the state of a load after one more record
 pub in-step : (seed count made number x flow : ℕ) (flows : List Flow) (next : Flow) → IsInStep seed count made number flows → made ≢ count → x ≡ following number → flow ≡ flow_of x → flow < 64
     → next ≡ flow_behind (action_of x) (get_or flows flow New) → IsInStep seed count (made + 1) x (set flows flow next)
 in-step seed count made number x flow flows next step more follows own few behind = record {

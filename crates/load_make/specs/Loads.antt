@@ -1,21 +1,21 @@
--- Where the making of a load stands (this project's profile).
+-- The state of the generation of a load (this project's profile).
 use Rattle.std.specs.Prelude.{◌≡◌, ℕ, ◌^◌, ◌<◌, ◌≤◌, List, map}
 use Rattle.std.specs.List.{range_with_len}
 use Rattle.load_make.specs.declared.flow.Flow.{Flow}
 use Rattle.load_make.specs.Sequence.{number_before, actions_before}
 use Rattle.load_make.specs.Flows.{flow_after}
 
--- The seed, how many records there are in all, and how many were made.
+-- The seed, the number of records of the load, and the number of records made.
 pub record Making : Type 0 where
   pub seed : ℕ
   pub count : ℕ
   pub made : ℕ
 
--- where each flow stands before the record at this place
+-- the state of each connection before the record at the position `place`
 abbrev pub flows_before : (seed place : ℕ) → List Flow
 flows_before seed place = map (λ flow. flow_after (actions_before seed flow place)) (range_with_len 0 64)
 
--- The number and the flows are those before the record that is made next.
+-- The number and the states of the connections are those before the next record.
 pub record IsInStep (seed count made number : ℕ) (flows : List Flow) : Type 0 where
   pub within : made ≤ count
   pub few : count < 2 ^ 32

@@ -8,7 +8,7 @@ use Rattle.tcp_codec.specs.Write.{segment_octets}
 use Rattle.load_make.specs.declared.flow.Turn.{Turn}
 use Rattle.load_make.specs.declared.flow.Turn.TheVariants.{Call, Answer, Octets, Changed, Acknowledged}
 
--- 198.51.100.1 and the addresses behind it, one for each flow
+-- 198.51.100.1 and the addresses after it, one for each connection
 abbrev pub outside : (flow : ℕ) → ℕ
 outside flow = 3325256705 + flow
 
@@ -16,11 +16,11 @@ outside flow = 3325256705 + flow
 abbrev pub inside : ℕ
 inside = 167772161
 
--- the number of the first octet that a flow sends inwards
+-- the sequence number of the first payload octet of a connection
 abbrev pub base : (flow : ℕ) → ℕ
 base flow = 1000 * (flow + 1)
 
--- a segment from the outside of a flow to port 80 inside
+-- a segment from the outside host of a connection to port 80 of the inside host
 abbrev pub inbound : (flow flags sequence acknowledgment : ℕ) → (octets : List ℕ) → Segment
 inbound flow flags sequence acknowledgment octets =
     record {
@@ -36,7 +36,7 @@ inbound flow flags sequence acknowledgment octets =
       octets = octets;
     }
 
--- a segment back, which has no octets
+-- a segment from the inside host, without payload
 abbrev pub outbound : (flow flags sequence acknowledgment : ℕ) → Segment
 outbound flow flags sequence acknowledgment =
     record {
@@ -52,19 +52,19 @@ outbound flow flags sequence acknowledgment =
       octets = [];
     }
 
--- the octet at an offset of a flow's stream
+-- the octet at an offset of the stream of a connection
 abbrev pub octet_at : (flow offset : ℕ) → ℕ
 octet_at flow offset = (offset + flow) % 251
 
--- 512 octets of a flow's stream
+-- 512 octets of the stream of a connection, from `offset` on
 unfoldable pub octets_from : (flow offset : ℕ) → List ℕ
 octets_from flow offset = map (λ place. octet_at flow (offset + place)) (range_with_len 0 512)
 
--- the same with 255 in place of the first
+-- the same with 255 as the first octet
 abbrev pub changed_from : (flow offset : ℕ) → List ℕ
 changed_from flow offset = 255 ∷ drop 1 (octets_from flow offset)
 
--- the octets that a record brings
+-- the payload of a record
 abbrev pub octets_of : (flow : ℕ) → Turn → List ℕ
 octets_of flow Call = []
 octets_of flow Answer = []
@@ -72,7 +72,7 @@ octets_of flow (Octets offset) = octets_from flow offset
 octets_of flow (Changed offset) = changed_from flow offset
 octets_of flow (Acknowledged offset) = []
 
--- the segment of a record: SYN, which is 2; SYN and ACK, 18; ACK and PSH, 24; or ACK, 16
+-- the segment of a record, with the flags SYN (2); SYN and ACK (18); ACK and PSH (24); or ACK (16)
 abbrev pub segment_for : (flow : ℕ) → Turn → Segment
 segment_for flow Call = inbound flow 2 (base flow - 1) 0 []
 segment_for flow Answer = outbound flow 18 5000 (base flow)
@@ -80,7 +80,7 @@ segment_for flow (Octets offset) = inbound flow 24 (base flow + offset) 5001 (oc
 segment_for flow (Changed offset) = inbound flow 24 (base flow + offset) 5001 (changed_from flow offset)
 segment_for flow (Acknowledged offset) = outbound flow 16 5001 (base flow + offset)
 
--- what the header of the packet says
+-- the fields of the header of the packet
 abbrev pub head_of : (identification : ℕ) → Segment → Ipv4
 head_of identification s =
     record {
@@ -93,12 +93,12 @@ head_of identification s =
       more = false;
       offset = 0;
       ttl = 64;
-      protocol = record { 0 = 6 };
+      protocol = 6;
       sum = 0;
       src = record { 0 = s.source };
       dst = record { 0 = s.destination };
     }
 
--- the packet: the header of a whole datagram before the segment
+-- the packet: the header of a packet that is no fragment, and the segment
 unfoldable pub packet_octets : (identification : ℕ) → Segment → List ℕ
 packet_octets identification s = plain_header (head_of identification s) (20 + length s.octets) ++ segment_octets s

@@ -1,48 +1,48 @@
-//! A flow of a load: one connection.
+//! The connections of a load.
 ghost use Rattle.std.specs.Prelude.{◌≡◌, ◌+◌, ◌<◌, ◌≤◌, ◌^◌};
 ghost use Rattle.load_make.specs.Flows.{BeginsWithin, IsWithin, flow_behind, later_turn, stream_behind, turn_of};
 
-// The octets that one record brings.
+// Number of payload octets of a record that has any.
 const PIECE: u64 = 512;
 
-// How many octets are sent before they are acknowledged, at most.
+// Maximum number of octets that are sent and not acknowledged.
 const WINDOW: u64 = 32768;
 
-/// How far the stream of a flow is, in octets from its first.
+/// The state of the stream of a connection: the numbers of octets sent and acknowledged.
 #[derive(Clone, Copy, Debug)]
 pub struct Stream {
     pub sent: u64,
     pub acked: u64,
 }
 
-/// Where a flow stands.
+/// The state of a connection.
 #[derive(Clone, Copy, Debug)]
 pub enum Flow {
-    /// It had no record.
+    /// No record so far.
     New,
-    /// It had one, which called.
+    /// One record so far, the SYN.
     Called,
-    /// It was answered.
+    /// The SYN was answered.
     Open(Stream),
 }
 
-/// What a record is; an offset counts the octets from the first of the stream.
+/// The kind of a record; offsets are in octets from the first of the stream.
 #[derive(Clone, Copy, Debug)]
 pub enum Turn {
-    /// SYN inwards.
+    /// A SYN inwards.
     Call,
-    /// SYN and ACK outwards.
+    /// A SYN ACK outwards.
     Answer,
     /// 512 octets inwards from this offset on.
     Octets(u64),
-    /// The same, the first octet another one.
+    /// The same with another first octet.
     Changed(u64),
-    /// ACK outwards of all octets before this offset.
+    /// An ACK outwards of all octets before this offset.
     Acknowledged(u64),
 }
 
 impl Flow {
-    /// What its next record is, and where it stands behind it.
+    /// Returns the kind of the next record of the connection, and the state after it.
     pub(crate) fn next(self, action: u8) -> (Turn, Flow)
         requires { IsWithin (2 ^ 63) self }
         ensures turn { result.0 ≡ turn_of action self }
@@ -61,7 +61,7 @@ impl Flow {
 }
 
 impl Stream {
-    // What a later record is, and how far the stream is behind it.
+    // Returns the kind of a record after the first two, and the state of the stream after it.
     fn next(self, action: u8) -> (Turn, Stream)
         requires within { self.acked ≤ self.sent }
         requires small { self.sent + 512 < 2 ^ 64 }

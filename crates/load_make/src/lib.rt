@@ -1,4 +1,7 @@
-//! A load for measurements: records that are made from a seed alone.
+//! A load for measurements: records made from a seed.
+//!
+//! Proved: `Load::next` returns exactly the records that the seed and the count define, one a call,
+//! and none after the last.
 #![tactic(auto)]
 
 pub mod flow;

@@ -9,13 +9,14 @@ use crate::sequence::{action_of, flow_of, following};
 use pcap_file::Record;
 use std::marker::Model;
 
-/// The octets of the longest record.
+/// Maximum length of a record in octets.
 pub const MAX_RECORD: usize = 552;
 
-// How many flows there are.
+// Number of connections.
 const FLOWS: usize = 64;
 
-/// Makes the records of a load. It stands for its seed, for how many records there are in all, and for how many were made.
+/// A generator of the records of a load. It represents its seed, the number of records of the load,
+/// and the number of records made.
 #[derive(Debug, Drop)]
 pub struct Load {
     seed: u64,
@@ -36,7 +37,7 @@ impl Model for Load {
 }
 
 impl Load {
-    /// A load of so many records, of which none is made.
+    /// Returns a load of `count` records, of which none is made.
     pub fn new(seed: u64, count: u32) -> Load
         ensures { result ≡ record { seed = seed; count = count; made = 0 } }
     {
@@ -49,7 +50,8 @@ impl Load {
         }
     }
 
-    /// The next record, its octets in the buffer, until all are made: of raw IP, its time in seconds and microseconds.
+    /// Returns the next record, with its octets in the buffer, or None after the last. It is of raw
+    /// IP, with its time in seconds and microseconds.
     pub fn next<'a>(&mut self, buf: &'a mut [u8]) -> Option<Record<'a>>
         requires room { 552 ≤ length buf.old }
         ensures record { option_map shown result ≡ slice_get (Generated self.old.seed self.old.count) self.old.made }

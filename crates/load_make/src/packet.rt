@@ -1,4 +1,4 @@
-//! The packet of a record.
+//! The packets of a load.
 ghost use Rattle.std.specs.Prelude.{◌≡◌, ◌+◌, ◌<◌, ◌≤◌, ◌^◌, ℕ, List, false, length, take, []};
 ghost use Rattle.wire_base.specs.Tcp as tcp;
 ghost use Rattle.tcp_codec.specs.Write.{segment_of};
@@ -9,14 +9,16 @@ use crate::flow::Turn;
 use arrayvec::ArrayVec;
 use ipv4_codec::{Ipv4, write_plain};
 use tcp_codec::{SegmentParts, write_segment};
-use wire_base::{Addr, Flags, Protocol, SeqNumber};
+use wire_base::{Addr, Flags, protocol, sequence_plus};
 
-// The octets of an IPv4 header and of a TCP header without options (RFC 791 section 3.1, RFC 9293 section 3.1).
+// Lengths in octets of an IPv4 header and of a TCP header without options (RFC 791 section 3.1, RFC
+// 9293 section 3.1).
 const HEADER: usize = 20;
 
 const SEGMENT: u16 = 20;
 
-// The address 198.51.100.1 and the port of the first flow outside, and 10.0.0.1 with its port inside.
+// The address 198.51.100.1 and the port of the first connection outside, and 10.0.0.1 with its port
+// inside.
 const OUTSIDE: u32 = 0xc633_6401;
 
 const OUTSIDE_PORT: u16 = 40000;
@@ -25,7 +27,7 @@ const INSIDE: Addr = Addr(0x0a00_0001);
 
 const INSIDE_PORT: u16 = 80;
 
-// SYN; SYN and ACK; ACK and PSH; ACK (RFC 9293 section 3.1).
+// Flags: SYN; SYN and ACK; ACK and PSH; ACK (RFC 9293 section 3.1).
 const SYN: Flags = Flags(2);
 
 const SYN_ACK: Flags = Flags(18);
@@ -34,7 +36,7 @@ const PSH_ACK: Flags = Flags(24);
 
 const ACK: Flags = Flags(16);
 
-/// Writes the packet of a record of a flow. Answers its length in octets.
+/// Writes the packet of a record of a connection. Returns its length in octets.
 pub(crate) fn write_packet(flow: u8, turn: Turn, ident: u16, buf: &mut [u8]) -> usize
     requires flow { flow < 64 }
     requires begin { BeginsWithin (2 ^ 63) turn }
@@ -55,7 +57,7 @@ pub(crate) fn write_packet(flow: u8, turn: Turn, ident: u16, buf: &mut [u8]) -> 
         more: false,
         offset: 0,
         ttl: 64,
-        protocol: Protocol::TCP,
+        protocol: protocol::TCP,
         sum: 0,
         src: parts.src,
         dst: parts.dst,
@@ -65,7 +67,7 @@ pub(crate) fn write_packet(flow: u8, turn: Turn, ident: u16, buf: &mut [u8]) -> 
     size + write_segment(&parts, payload, segment)
 }
 
-// The octets that a record brings.
+// Returns the payload of a record.
 fn payload_of<'a>(flow: u8, turn: Turn, octets: &'a mut [u8; 512]) -> &'a [u8]
     requires flow { flow < 64 }
     requires begin { BeginsWithin (2 ^ 63) turn }
@@ -86,7 +88,7 @@ fn payload_of<'a>(flow: u8, turn: Turn, octets: &'a mut [u8; 512]) -> &'a [u8]
     }
 }
 
-// Octets of a flow's stream.
+// Fills the buffer with octets of the stream of a connection, from `offset` on.
 fn put_stream(flow: u8, offset: u64, octets: &mut [u8; 512])
     requires flow { flow < 64 }
     requires begin { offset ≤ 2 ^ 63 }
@@ -97,7 +99,7 @@ fn put_stream(flow: u8, offset: u64, octets: &mut [u8; 512])
     }
 }
 
-// What the segment of a record says beside its octets.
+// Returns the parts of the segment of a record other than its payload.
 fn parts_of(flow: u8, turn: Turn) -> SegmentParts
     requires flow { flow < 64 }
     requires begin { BeginsWithin (2 ^ 63) turn }
@@ -115,7 +117,7 @@ fn parts_of(flow: u8, turn: Turn) -> SegmentParts
     }
 }
 
-// A segment from the outside of a flow.
+// Returns the parts of a segment from the outside host of a connection.
 fn from_outside(flow: u8, flags: Flags, seq: u64, ack: u64) -> SegmentParts
     requires flow { flow < 64 }
     ensures segment { (octets : List ℕ) → segment_of result octets ≡ inbound flow flags.0 seq ack octets }
@@ -127,15 +129,15 @@ fn from_outside(flow: u8, flags: Flags, seq: u64, ack: u64) -> SegmentParts
         dst: INSIDE,
         sport: OUTSIDE_PORT + u16::from(flow),
         dport: INSIDE_PORT,
-        seq: SeqNumber::new(0).plus(seq),
-        ack: SeqNumber::new(0).plus(ack),
+        seq: sequence_plus(0, seq),
+        ack: sequence_plus(0, ack),
         flags,
         window: u16::MAX,
         options: ArrayVec::new(),
     }
 }
 
-// A segment from the inside, back to a flow.
+// Returns the parts of a segment from the inside host of a connection.
 fn from_inside(flow: u8, flags: Flags, seq: u64, ack: u64) -> SegmentParts
     requires flow { flow < 64 }
     ensures segment { segment_of result [] ≡ outbound flow flags.0 seq ack }
@@ -147,8 +149,8 @@ fn from_inside(flow: u8, flags: Flags, seq: u64, ack: u64) -> SegmentParts
         dst: Addr(OUTSIDE + u32::from(flow)),
         sport: INSIDE_PORT,
         dport: OUTSIDE_PORT + u16::from(flow),
-        seq: SeqNumber::new(0).plus(seq),
-        ack: SeqNumber::new(0).plus(ack),
+        seq: sequence_plus(0, seq),
+        ack: sequence_plus(0, ack),
         flags,
         window: u16::MAX,
         options: ArrayVec::new(),

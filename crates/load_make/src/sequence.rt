@@ -1,8 +1,8 @@
-//! The numbers that decide what a load is made of.
+//! The pseudo-random numbers that determine the records of a load.
 ghost use Rattle.std.specs.Prelude.{◌≡◌, ◌<◌};
 ghost use Rattle.load_make.specs.Sequence as sequence;
 
-/// The number that follows a number.
+/// Returns the number that follows this one.
 pub(crate) fn following(number: u64) -> u64
     ensures { result ≡ sequence.following number }
 {
@@ -11,7 +11,7 @@ pub(crate) fn following(number: u64) -> u64
         .wrapping_add(1442695040888963407)
 }
 
-/// The flow that a number names.
+/// Returns the connection that a number selects.
 #[tactic(auto, unfolding(crate::specs::Sequence::flow_of))]
 pub(crate) fn flow_of(number: u64) -> u8
     ensures exact { result ≡ sequence.flow_of number }
@@ -20,7 +20,7 @@ pub(crate) fn flow_of(number: u64) -> u8
     (number / (1 << 33) % 64) as u8
 }
 
-/// The action that a number names.
+/// Returns the action that a number selects.
 #[tactic(auto, unfolding(crate::specs::Sequence::action_of))]
 pub(crate) fn action_of(number: u64) -> u8
     ensures { result ≡ sequence.action_of number }

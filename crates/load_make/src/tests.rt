@@ -1,9 +1,9 @@
-//! Records that were worked out from the rules by another program.
+//! Records that another program computed from the definition of a load.
 use crate::{Load, MAX_RECORD};
 use std::test::Fail;
 use wire_base::u32_at;
 
-// The first record of a load of one: the call of flow 22.
+// The first record of a load of one: the SYN of connection 22.
 #[test]
 fn a_load_of_one_is_one_call(rt: HostRuntime) -> Result<(), Fail> {
     let mut buf = [0xee; MAX_RECORD];
@@ -39,8 +39,8 @@ fn a_load_of_one_is_one_call(rt: HostRuntime) -> Result<(), Fail> {
     Ok(())
 }
 
-/// A record of the load with seed 1: its place, its time, its length, the words of its headers from the source on, and the
-/// first four octets behind them.
+/// A record of the load with seed 1: its position, its time, its length, the words of its headers
+/// from the source on, and the first four octets after them.
 struct Row {
     place: u32,
     fraction: u32,
@@ -59,7 +59,7 @@ const ROWS: &[Row] = &[
         words: [0xc633_6421, 0x0a00_0001, 0x9c60_0050, 0x0000_80e8, 0x0000_1389, 0x5018_ffff, 0xaa90_0000] },
 ];
 
-// Octets sent once more, an acknowledgment, and octets of which the first is another one.
+// Retransmitted octets, an acknowledgment, and retransmitted octets with another first octet.
 #[test]
 fn later_records_do_what_their_actions_say(rt: HostRuntime) -> Result<(), Fail> {
     for row in ROWS {
@@ -84,7 +84,7 @@ fn later_records_do_what_their_actions_say(rt: HostRuntime) -> Result<(), Fail> 
     Ok(())
 }
 
-// All octets and times of a load in one number: each counts 31 times the one behind it, modulo 2^64.
+// All octets and times of a load in one number: each counts 31 times the one after it, modulo 2^64.
 #[test]
 fn a_load_of_4000_records_is_the_same_octet_for_octet(rt: HostRuntime) -> Result<(), Fail> {
     let mut load = Load::new(7, 4000);

@@ -33,11 +33,11 @@ use Rattle.norm_engine.proofs.Stepping.{AreOfEra, era_told, sides, segment_frame
 use Rattle.norm_engine.proofs.Joining.{inward_is, made_of}
 use Rattle.norm_engine.proofs.Lawfuls.{RowsAreOfEras, both_of, calls_with, called, long_enough, segment_is}
 
--- the octets of a packet that goes out
+-- the octets of a packet that is written
 abbrev whole : Packet → List ℕ
 whole p = p.header ++ p.octets
 
--- the packets in a segment's frames are those that went out
+-- the packets in a segment's frames are those that were written
 wholes_back : (link : Link) (frame : List ℕ) (packets : List Packet) → (link ≡ Ethernet → 14 ≤ length frame)
     → map (packet_in link) (frames_of (link_octets link frame) packets) ≡ map whole packets
 wholes_back link frame [] long = refl
@@ -46,19 +46,19 @@ wholes_back link frame (p ∷ ps) long =
     ap₂ (λ x xs. x ∷ xs) here (wholes_back link frame ps long)
 
 -- such a packet of a segment is read as one
-segment_whole : (settings : PlainSettings) (d : Datagram) (p : Packet) → d.head.protocol.0 ≡ 6 → IsPacketOf settings d p → segment_of (whole p) ≡ Some (fields_of (whole p))
+segment_whole : (settings : PlainSettings) (d : Datagram) (p : Packet) → d.head.protocol ≡ 6 → IsPacketOf settings d p → segment_of (whole p) ≡ Some (fields_of (whole p))
 segment_whole settings d p six is = ap (λ n. cond (n == 6) (Some (fields_of (whole p))) None) (is.protocol ∙ six)
 
 -- the segments of packets are those that they carry
-read_back : (settings : PlainSettings) (d : Datagram) (inward : Bool) (packets : List Packet) → d.head.protocol.0 ≡ 6 → AllByRecursion (IsPacketOf settings d) packets
+read_back : (settings : PlainSettings) (d : Datagram) (inward : Bool) (packets : List Packet) → d.head.protocol ≡ 6 → AllByRecursion (IsPacketOf settings d) packets
     → segments_in inward (map whole packets) ≡ map (λ p. read inward p.octets) packets
 read_back settings d inward [] six own = refl
 read_back settings d inward (p ∷ ps) six own =
     let here = ap (written_as inward) (segment_whole settings d p six own.0) ∙ ap (λ m. read inward m ∷ []) own.0.carries in
     ap₂ (λ xs ys. xs ++ ys) here (read_back settings d inward ps six own.1)
 
--- what carries nothing of a stream says nothing of one
-silent_whole : (settings : PlainSettings) (d : Datagram) (p : Packet) → d.head.protocol.0 ≡ 6 → IsPacketOf settings d p → Silent p → IsSilentPacket (whole p)
+-- a packet without octets, SYN and FIN is silent
+silent_whole : (settings : PlainSettings) (d : Datagram) (p : Packet) → d.head.protocol ≡ 6 → IsPacketOf settings d p → Silent p → IsSilentPacket (whole p)
 silent_whole settings d p six is silent s says =
     let same : fields_of (whole p) ≡ s = let stands = segment_whole settings d p six is in cc in
     subst (λ (t : Segment). (t.octets ≡ []) × (tcp.has_syn t.flags ≡ false) × (tcp.has_fin t.flags ≡ false)) same (
@@ -67,7 +67,7 @@ silent_whole settings d p six is silent s says =
       ap (λ m. tcp.has_fin (tcp.flags m)) is.carries ∙ silent.no_fin,
     )
 
-silent_wholes : (settings : PlainSettings) (d : Datagram) (packets : List Packet) → d.head.protocol.0 ≡ 6 → AllByRecursion (IsPacketOf settings d) packets → AllByRecursion Silent packets
+silent_wholes : (settings : PlainSettings) (d : Datagram) (packets : List Packet) → d.head.protocol ≡ 6 → AllByRecursion (IsPacketOf settings d) packets → AllByRecursion Silent packets
     → All IsSilentPacket (map whole packets)
 silent_wholes settings d [] six own silent = All-nil IsSilentPacket
 silent_wholes settings d (p ∷ ps) six own silent =
@@ -77,7 +77,7 @@ plain_wholes : (hops : ℕ) (packets : List Packet) → AllByRecursion (λ p. Pl
 plain_wholes hops [] plain = All-nil (λ p. Plain hops p)
 plain_wholes hops (p ∷ ps) plain = All-cons (λ p. Plain hops p) (whole p) (map whole ps) plain.0 (plain_wholes hops ps plain.1)
 
--- What was sent in an era is what its calls wrote: the same segments, plain inwards, and beside them nothing of a stream.
+-- What was sent in an era is what its calls wrote: the same segments, plain inwards, and beside them packets without octets, SYN and FIN.
 record IsAsCalled (hops era : ℕ) (sent : List Sent) (cs : List Call) : Type 0 where
   written : written_in era sent ≡ segments era cs
   plain : All (λ p. Plain hops p) (inward_packets era sent)
@@ -95,14 +95,14 @@ with_other hops era sent cs s none is = subst (λ o. IsAsCalled hops era (record
   silent = subst (All IsSilentPacket) (sym (append-nil (aside_packets era sent))) is.silent;
 })
 
--- what is known of the packets that go out for a segment
+-- what is known of the packets that are written for a segment
 pub record AreOf (settings : PlainSettings) (d : Datagram) (o : Outcome) : Type 0 where
-  pub protocol : d.head.protocol.0 ≡ 6
+  pub protocol : d.head.protocol ≡ 6
   pub own : AllByRecursion (IsPacketOf settings d) o.packets
   pub plain : goes_in d.side ≡ true → AllByRecursion (λ p. Plain settings.hops (whole p)) o.packets
   pub silent : is_written o.verdict ≡ false → AllByRecursion Silent o.packets
 
--- what was sent for a segment, by what became of it
+-- what was sent for a segment, by its outcome
 abbrev sent_by : Datagram → Outcome → Sent
 sent_by d o = record { inward = goes_in d.side; era = o.era; written = is_written o.verdict; packets = map whole o.packets }
 
@@ -131,7 +131,7 @@ with_segment settings era sent cs now d o known is = record {
     silent_here true false written was = All-nil IsSilentPacket
     silent_here false inward written was = All-nil IsSilentPacket
 
--- what is sent for a segment is what becomes of it
+-- what is sent for a segment is its outcome
 sent_is : (settings : PlainSettings) (link : Link) (history : List Item) (r : records.Packet) (d : Datagram)
     → segment_after settings link history r ≡ Some d → AreOfEra settings link (read_after settings link history r) r d
     → sent_for link (item_of settings link history r) ≡ sent_by d (outcome_of settings (read_after settings link history r) d)
@@ -149,7 +149,7 @@ sent_is settings link history r d h rows =
           ∙ wholes_back link r.octets o.packets (long_enough settings link history r d h)) i;
     }
 
--- the laws that this stands on
+-- the laws that this is based on
 pub record PacketLaws : Type 0 where
   pub rows : RowsAreOfEras
   pub known : DatagramsAreKnown
@@ -206,6 +206,10 @@ as_called laws settings link era (item ∷ older) sound =
     let before = as_called laws settings link era older (record { hops = sound.hops; octets = sound.octets.0; lawful = sound.lawful.0 }) in
     subst (λ x. IsAsCalled settings.hops era (sent_in link (x ∷ older)) (flow_calls settings link (x ∷ older))) (sym sound.lawful.1)
     (as_called_with laws settings link era older item.packet sound.hops sound.octets.0 sound.octets.1 before)
+
+pub written_is : PacketLaws → (settings : PlainSettings) (link : Link) (era : ℕ) (trace : List Item) → IsSound settings link trace
+    → written_in era (sent_in link trace) ≡ segments era (flow_calls settings link trace)
+written_is laws settings link era trace sound = (as_called laws settings link era trace sound).written
 
 pub emitted_era : PacketLaws → CallsAreEmitted → LawfulCallsAreMade → (settings : PlainSettings) (link : Link) (trace : List Item) → IsSound settings link trace
     → (era : ℕ) → IsEmittedEra settings.hops era (sent_in link trace)

@@ -1,4 +1,4 @@
--- What goes out for a record is read in one way.
+-- What is written for a record is read in one way.
 use Rattle.std.proofs.Common.{◌≡◌, ◌⊎◌, inl, inr, ℕ, ◌+◌, ◌*◌, ◌/◌, ◌≤◌, Bool, true, false, cond, ◌&&◌, ◌||◌, ◌==◌, not, List, [], ◌∷◌, ◌++◌, length, take, drop, get_or, find, Option, Some, None, refl, sym, ap, ap₂, ◌∙◌, subst, arith}
 use Rattle.std.specs.Prelude.{IsSome, is_none, is_some, option_map}
 use Rattle.std.specs.List.{AllByRecursion}
@@ -63,7 +63,7 @@ use Rattle.norm_engine.proofs.Joined.{rows_are_of_eras}
 use Rattle.norm_engine.proofs.Keeping.{both_empty}
 use Rattle.norm_engine.proofs.Agreeing.{AreOf, PacketLaws, packets_are}
 
--- a fact of the packets that go out is one of those in the frames
+-- a fact of the packets that are written is one of those in the frames
 each_frame : (P : List ℕ → Type 0) (link : Link) (frame : List ℕ) (packets : List Packet) → (link ≡ Ethernet → 14 ≤ length frame)
     → AllByRecursion (λ p. P (p.header ++ p.octets)) packets → AllByRecursion (λ f. P (packet_in link f)) (frames_of (link_octets link frame) packets)
 each_frame P link frame [] long all = tt
@@ -74,7 +74,7 @@ each_frame P link frame (p ∷ ps) long all =
 
 -- segments
 
--- the parts of a segment's header that are judged whatever its sum
+-- the parts of a segment's header that are judged whatever its checksum
 record IsHeaded (m : List ℕ) : Type 0 where
   least : 20 ≤ tcp.header_length m
   inside : tcp.header_length m ≤ length m
@@ -86,7 +86,7 @@ whole_of_plain hops p plain six =
     let t = plain.message.tcp six in
     record { header = plain.header; protocol = six; least = t.data_offset; inside = t.inside; legal = t.flags; formed = t.options }
 
-whole_packet : (settings : PlainSettings) (d : Datagram) (p : Packet) → IsPacketOf settings d p → d.head.protocol.0 ≡ 6 → IsHeaded p.octets → IsWholeSegment (p.header ++ p.octets)
+whole_packet : (settings : PlainSettings) (d : Datagram) (p : Packet) → IsPacketOf settings d p → d.head.protocol ≡ 6 → IsHeaded p.octets → IsWholeSegment (p.header ++ p.octets)
 whole_packet settings d p i six h =
     let back = sym i.carries in
     record {
@@ -101,7 +101,7 @@ whole_packet settings d p i six h =
 headed_read : (settings : PlainSettings) (d : Datagram) → IsSegment settings d → IsHeaded d.octets
 headed_read settings d s = record { least = s.least; inside = s.inside; legal = s.legal; formed = s.formed }
 
--- a mended segment has a header as long as before
+-- a segment with a corrected checksum has a header as long as before
 same_header : (m : List ℕ) (value : ℕ) → 16 ≤ length m → tcp.header_length (with_u16 m 16 value) ≡ tcp.header_length m
 same_header m value long =
     let size : length (take 16 m) ≡ 16 = length-take-le 16 m long in
@@ -133,7 +133,7 @@ module _ (mends : MendedSayTheSame) (settings : PlainSettings) (ws : List Writte
   headed_own [] (rule ∷ more) = headed_sent (rule ∷ more)
   headed_own (fix ∷ others) mended = headed_sent mended
 
--- an outward segment is dropped by no row, and goes out alone
+-- no rule drops an outward segment, and it is written alone
 
 not_dropped : (settings : PlainSettings) (v : View) (d : Datagram) → goes_in d.side ≡ false → outcome_at settings v d ≡ outcome_by settings v d None (mended_by settings v d)
 not_dropped settings v d outward = ap (λ b. outcome_by settings v d (cond b (find (holds_era settings v d) era_rows) None) (mended_by settings v d)) outward
@@ -160,7 +160,7 @@ outward_written : (settings : PlainSettings) (v : View) (d : Datagram) → goes_
 outward_written settings v d outward = ap (λ (o : Outcome). is_written o.verdict) (not_dropped settings v d outward) ∙ fixed_or_passed (d.fixes ++ mended_by settings v d)
 
 -- inward ones are plain
-whole_of_all : (settings : PlainSettings) (d : Datagram) (packets : List Packet) → d.head.protocol.0 ≡ 6 → AllByRecursion (IsPacketOf settings d) packets
+whole_of_all : (settings : PlainSettings) (d : Datagram) (packets : List Packet) → d.head.protocol ≡ 6 → AllByRecursion (IsPacketOf settings d) packets
     → AllByRecursion (λ p. Plain settings.hops (p.header ++ p.octets)) packets → AllByRecursion (λ p. IsWholeSegment (p.header ++ p.octets)) packets
 whole_of_all settings d [] six own plain = tt
 whole_of_all settings d (p ∷ ps) six own plain =
@@ -177,11 +177,11 @@ whole_segments mends settings v d s known false goes =
 
 -- UDP and ICMP
 
--- what a message of one of them is, whose datagram no row drops
+-- a message of one of them, whose datagram no rule drops
 record IsMessage (d : Datagram) : Type 0 where
-  protocol : (d.head.protocol.0 ≡ 1) ⊎ (d.head.protocol.0 ≡ 17)
-  icmp : d.head.protocol.0 ≡ 1 → (8 ≤ length d.octets) × (sum_is_right d.octets 0 ≡ true)
-  udp : d.head.protocol.0 ≡ 17 → (8 ≤ length d.octets) × (udp.length_field d.octets ≡ length d.octets) × ((udp.checksum d.octets ≡ 0) ⊎ (sum_is_right d.octets (dgram.pseudo_of d) ≡ true))
+  protocol : (d.head.protocol ≡ 1) ⊎ (d.head.protocol ≡ 17)
+  icmp : d.head.protocol ≡ 1 → (8 ≤ length d.octets) × (sum_is_right d.octets 0 ≡ true)
+  udp : d.head.protocol ≡ 17 → (8 ≤ length d.octets) × (udp.length_field d.octets ≡ length d.octets) × ((udp.checksum d.octets ≡ 0) ⊎ (sum_is_right d.octets (dgram.pseudo_of d) ≡ true))
 
 plain_message : (settings : PlainSettings) (d : Datagram) (p : Packet) → IsPacketOf settings d p → goes_in d.side ≡ true → p.octets ≡ d.octets → IsMessage d → Plain settings.hops (p.header ++ p.octets)
 plain_message settings d p i side same m = record {
@@ -196,11 +196,11 @@ plain_message settings d p i side same m = record {
     back : d.octets ≡ ip.payload (p.header ++ p.octets)
     back = sym forth
 
-    which : (d.head.protocol.0 ≡ 1) ⊎ (d.head.protocol.0 ≡ 17) → (ip.protocol (p.header ++ p.octets) ≡ 1) ⊎ (ip.protocol (p.header ++ p.octets) ≡ 6) ⊎ (ip.protocol (p.header ++ p.octets) ≡ 17)
+    which : (d.head.protocol ≡ 1) ⊎ (d.head.protocol ≡ 17) → (ip.protocol (p.header ++ p.octets) ≡ 1) ⊎ (ip.protocol (p.header ++ p.octets) ≡ 6) ⊎ (ip.protocol (p.header ++ p.octets) ≡ 17)
     which (inl e) = inl (i.protocol ∙ e)
     which (inr e) = inr (inr (i.protocol ∙ e))
 
-    no_tcp : (d.head.protocol.0 ≡ 1) ⊎ (d.head.protocol.0 ≡ 17) → ip.protocol (p.header ++ p.octets) ≡ 6 → ⊥
+    no_tcp : (d.head.protocol ≡ 1) ⊎ (d.head.protocol ≡ 17) → ip.protocol (p.header ++ p.octets) ≡ 6 → ⊥
     no_tcp (inl e) f = let g = sym e ∙ (sym i.protocol ∙ f) in omega (arith, g)
     no_tcp (inr e) f = let g = sym e ∙ (sym i.protocol ∙ f) in omega (arith, g)
 
@@ -234,7 +234,7 @@ is_number n m e = subst (λ k. (n == k) ≡ true) e (same n)
     same : (n : ℕ) → (n == n) ≡ true
     same n = grind (arith)
 
--- a sum that no row drops inwards
+-- a checksum that no rule drops inwards
 sum_right : (checked right in_side offload : Bool) → in_side ≡ true → ((not checked && not right) && not (not in_side && offload)) ≡ false → (checked ≡ true) ⊎ (right ≡ true)
 sum_right true right in_side offload side h = inl refl
 sum_right false true in_side offload side h = inr refl
@@ -247,39 +247,39 @@ of_protocol false false true h other = inr refl
 of_protocol false false false h other = absurd (cc)
 of_protocol false true seventeen h other = absurd (cc)
 
-message_of : (settings : PlainSettings) (live : Bool) (d : Datagram) → IsKnown settings d → goes_in d.side ≡ true → (d.head.protocol.0 == 6) ≡ false → dgram_dropped_by settings live d ≡ None → IsMessage d
+message_of : (settings : PlainSettings) (live : Bool) (d : Datagram) → IsKnown settings d → goes_in d.side ≡ true → (d.head.protocol == 6) ≡ false → dgram_dropped_by settings live d ≡ None → IsMessage d
 unfolding dgram_dropped_by
 message_of settings live d known side other none = record {
-  protocol = which (of_protocol (d.head.protocol.0 == 1) (d.head.protocol.0 == 6) (d.head.protocol.0 == 17) known.known other);
+  protocol = which (of_protocol (d.head.protocol == 1) (d.head.protocol == 6) (d.head.protocol == 17) known.known other);
   icmp = λ e.
-      let is = is_number d.head.protocol.0 1 e in
-      (ltb-false (length d.octets) 8 (row_fails (d.head.protocol.0 == 1) _ rows.1.1.1.0 is), not-false _ (row_fails (d.head.protocol.0 == 1) _ rows.1.1.1.1.0 is));
+      let is = is_number d.head.protocol 1 e in
+      (ltb-false (length d.octets) 8 (row_fails (d.head.protocol == 1) _ rows.1.1.1.0 is), not-false _ (row_fails (d.head.protocol == 1) _ rows.1.1.1.1.0 is));
   udp = λ e.
-      let is = is_number d.head.protocol.0 17 e in (
-        ltb-false (length d.octets) 8 (row_fails (d.head.protocol.0 == 17) _ rows.0 is),
-        eqb-true (udp.length_field d.octets) (length d.octets) (not-false _ (row_fails (d.head.protocol.0 == 17) _ rows.1.0 is)),
-        summed (sum_right (udp.checksum d.octets == 0) (sum_is_right d.octets (dgram.pseudo_of d)) (goes_in d.side) settings.offload side (row_fails (d.head.protocol.0 == 17) _ rows.1.1.0 is)),
+      let is = is_number d.head.protocol 17 e in (
+        ltb-false (length d.octets) 8 (row_fails (d.head.protocol == 17) _ rows.0 is),
+        eqb-true (udp.length_field d.octets) (length d.octets) (not-false _ (row_fails (d.head.protocol == 17) _ rows.1.0 is)),
+        summed (sum_right (udp.checksum d.octets == 0) (sum_is_right d.octets (dgram.pseudo_of d)) (goes_in d.side) settings.offload side (row_fails (d.head.protocol == 17) _ rows.1.1.0 is)),
       );
 }
   where
     rows : AllByRecursion (λ rule. holds_dgram settings live d rule ≡ false) datagram_rows
     rows = none_found (holds_dgram settings live d) datagram_rows none
 
-    which : ((d.head.protocol.0 == 1) ≡ true) ⊎ ((d.head.protocol.0 == 17) ≡ true) → (d.head.protocol.0 ≡ 1) ⊎ (d.head.protocol.0 ≡ 17)
-    which (inl e) = inl (eqb-true d.head.protocol.0 1 e)
-    which (inr e) = inr (eqb-true d.head.protocol.0 17 e)
+    which : ((d.head.protocol == 1) ≡ true) ⊎ ((d.head.protocol == 17) ≡ true) → (d.head.protocol ≡ 1) ⊎ (d.head.protocol ≡ 17)
+    which (inl e) = inl (eqb-true d.head.protocol 1 e)
+    which (inr e) = inr (eqb-true d.head.protocol 17 e)
 
     summed : ((udp.checksum d.octets == 0) ≡ true) ⊎ (sum_is_right d.octets (dgram.pseudo_of d) ≡ true) → (udp.checksum d.octets ≡ 0) ⊎ (sum_is_right d.octets (dgram.pseudo_of d) ≡ true)
     summed (inl e) = inl (eqb-true (udp.checksum d.octets) 0 e)
     summed (inr e) = inr e
 
--- what goes inwards of such a datagram is what was read
+-- what is written inwards of such a datagram is what was read
 sent_is_read : (settings : PlainSettings) (d : Datagram) → goes_in d.side ≡ true → octets_sent settings d ≡ d.octets
 sent_is_read settings d side =
-    ap (λ b. cond ((d.head.protocol.0 == 17) && ((not b && settings.offload) && dgram.has_wrong_sum d)) (mended (dgram.pseudo_of d) d.octets) d.octets) side
-    ∙ ap (λ b. cond b (mended (dgram.pseudo_of d) d.octets) d.octets) (and_right (d.head.protocol.0 == 17) false refl)
+    ap (λ b. cond ((d.head.protocol == 17) && ((not b && settings.offload) && dgram.has_wrong_sum d)) (mended (dgram.pseudo_of d) d.octets) d.octets) side
+    ∙ ap (λ b. cond b (mended (dgram.pseudo_of d) d.octets) d.octets) (and_right (d.head.protocol == 17) false refl)
 
--- records that are no segments
+-- records that are not segments
 
 no_rows : (one other : Option Rule) → option_or one other ≡ None → (one ≡ None) × (other ≡ None)
 no_rows None other h = (refl, h)
@@ -293,7 +293,7 @@ module _ (fresh : AnewIsPacket) (known : DatagramsAreKnown) (settings : PlainSet
   abbrev p : List ℕ
   p = packet_in link r.octets
 
-  -- one that goes inwards, and that no row drops, is held back, or makes a datagram
+  -- one that goes inwards, and that no rule drops, is held, or makes a datagram
   makes_datagram : read.datagram ≡ None → dropped_by settings link read r ≡ None → is_held read ≡ false → side_of_record settings link r ≡ Some Inward → ⊥
   makes_datagram none undropped unheld side = by (carries_ip link r.octets) refl (ip.is_fragment p) refl
     where
@@ -344,7 +344,7 @@ module _ (fresh : AnewIsPacket) (known : DatagramsAreKnown) (settings : PlainSet
       by true c false f = whole (told true c) c f
       by true c true f = part (told true c) c f
 
-  -- its packet, where a datagram is read and no row drops it
+  -- its packet, if a datagram is read and no rule drops it
   plain_packet : (d : Datagram) (named : List Rule) → datagram_after settings link history r ≡ Some d → read.segment ≡ None → dropped_by settings link read r ≡ None → goes_in d.side ≡ true
       → named_rows settings link read r ≡ named → Plain settings.hops (packet_in link (frame_by settings (link_octets link r.octets) r.octets (Some d) named))
   plain_packet d named makes no_segment undropped side is = by named is
@@ -368,9 +368,9 @@ module _ (fresh : AnewIsPacket) (known : DatagramsAreKnown) (settings : PlainSet
       rows = no_rows _ _ (sym (datagram_row_is settings link (past_of settings link history r) r d (made_of settings link (past_of settings link history r) r d makes) other) ∙ undropped)
 
       message : IsMessage d
-      message = message_of settings live d k side (not_six (d.head.protocol.0 == 6) refl) rows.0
+      message = message_of settings live d k side (not_six (d.head.protocol == 6) refl) rows.0
         where
-          not_six : (six : Bool) → (d.head.protocol.0 == 6) ≡ six → six ≡ false
+          not_six : (six : Bool) → (d.head.protocol == 6) ≡ six → six ≡ false
           not_six false e = refl
           not_six true e =
               let seen : is_segment settings d ≡ true = λ i. e i && is_none (rows.1 i) in
@@ -395,7 +395,7 @@ module _ (fresh : AnewIsPacket) (known : DatagramsAreKnown) (settings : PlainSet
           ∙ behind link r.octets (ip.header p ++ ip.payload p) (long c) ∙ (λ i. header i ++ body i) in
           subst (Plain settings.hops) (sym same) (plain_message settings d (as_read d) (k.whole unmended) side refl message)
 
-      -- with a header anew
+      -- with a rewritten header
       mended_packet : Plain settings.hops (packet_in link (mended_frame settings (link_octets link r.octets) d))
       mended_packet =
           let sent = sent_is_read settings d side in
@@ -417,7 +417,7 @@ module _ (fresh : AnewIsPacket) (known : DatagramsAreKnown) (settings : PlainSet
           (either_of settings link (pieces_before settings link history r) r d makes)
       by (rule ∷ more) some = mended_packet
 
-  -- the frames of a record that is no segment
+  -- the frames of a record that is not a segment
   plain_other : read.segment ≡ None → side_by (dropped_by settings link read r) (side_of_record settings link r) ≡ Some Inward
       → AllByRecursion (λ f. Plain settings.hops (packet_in link f)) (emits settings link read r)
   plain_other none side =

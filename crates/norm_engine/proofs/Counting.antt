@@ -1,4 +1,4 @@
--- An entry counts the frames of its item, of which there are two at the most, and tells each era that ended with its octets.
+-- An entry counts the frames of its item, of which there are at most two, and reports each era that ended with its octets.
 use Rattle.std.proofs.Common.{ℕ, ◌≤◌, Bool, true, false, cond, ◌&&◌, not, List, [], ◌∷◌, ◌++◌, length, Option, Some, None, refl, subst, sym, arith}
 use Rattle.std.proofs.lemmas.List.{length-map}
 use Rattle.std.specs.Prelude.{option_map}
@@ -53,7 +53,7 @@ few_frames settings link read r (Some d) =
     let v = view_of settings read.past.calls d in
     subst (λ n. n ≤ 2) (sym (length-map (outcome_at settings v d).packets (frame_of (link_octets link r.octets)))) (few_packets settings v d (era.dropped_by settings v d) (era.mended_by settings v d))
 
--- each era that ended is told with its octets
+-- each era that ended is reported with its octets
 
 both_told : (xs ys : List Ended) → AllByRecursion (HasOctets 2) xs → AllByRecursion (HasOctets 2) ys → AllByRecursion (HasOctets 2) (xs ++ ys)
 both_told [] ys a b = b

@@ -1,4 +1,4 @@
--- The rows of each segment are those of its connection.
+-- The rules of each segment are those of its connection.
 use Rattle.norm_engine.specs.Calls.{past_of}
 use Rattle.norm_engine.proofs.Joining.{segment_rows_are}
 use Rattle.norm_engine.proofs.Lawfuls.{RowsAreOfEras}

@@ -1,4 +1,4 @@
--- The rows of all layers, joined: which drops a record, which are noted, and which mend it.
+-- The rules of all layers, joined: which drops a record, which are noted, and which rewrite it.
 use Rattle.std.proofs.Common.{◌≡◌, ℕ, Bool, true, false, cond, ◌&&◌, List, [], ◌∷◌, ◌++◌, Option, Some, None, find, filter, refl, sym, ap, ap₂, ◌∙◌, subst, arith}
 use Rattle.std.specs.Prelude.{is_none, option_map, nat_le}
 use Rattle.std.specs.Option.{option_or}
@@ -39,44 +39,44 @@ use Rattle.norm_engine.specs.Trace.{Read, is_quoted_live, is_held, holds, drops,
 use Rattle.norm_engine.specs.Engine.{datagram_row, read_with}
 use Rattle.norm_engine.proofs.Stepping.{AreOfEra}
 
--- what the rows of each layer say of what was read
+-- the rules of each layer, of what was read
 
--- the first row on a fragment that drops it
+-- the first rule on a fragment that drops it
 abbrev pub row_of_piece : Option Offering → Option Rule
 row_of_piece None = None
 row_of_piece (Some o) = fragments.dropped_by o.view o.piece
 
--- the first row on a datagram that drops it
+-- the first rule on a datagram that drops it
 abbrev pub row_of_datagram : PlainSettings → List Call → Option Datagram → Option Rule
 row_of_datagram settings calls None = None
 row_of_datagram settings calls (Some d) = dgram_dropped_by settings (is_quoted_live calls (quoted_in d.octets)) d
 
--- the first row on the header of its segment that drops it
+-- the first rule on the header of its segment that drops it
 abbrev pub row_of_header : PlainSettings → Option Datagram → Option Rule
 row_of_header settings None = None
 row_of_header settings (Some d) = find (holds_tcp settings d) segment_rows
 
--- the first row on the connection of a segment that drops it
+-- the first rule on the connection of a segment that drops it
 abbrev pub row_of_era : PlainSettings → List Call → Option Datagram → Option Rule
 row_of_era settings calls None = None
 row_of_era settings calls (Some d) = era.dropped_by settings (view_of settings calls d) d
 
--- the row that mends the time to live of a datagram
+-- the rule that rewrites the time to live of a datagram
 abbrev pub mends_of_life : PlainSettings → Option Datagram → List Rule
 mends_of_life settings None = []
 mends_of_life settings (Some d) = where_holds (i_ttl settings d) rules.ITtl
 
--- the rows that hold of a fragment which no row drops
+-- the rules that hold of a fragment which no rule drops
 abbrev pub named_of_piece : Option Offering → List Rule
 named_of_piece None = []
 named_of_piece (Some o) = filter (fragments.holds_fragment o.view o.piece) (rules.FHeld ∷ rules.FDone ∷ [])
 
--- the row that mends the checksum of a datagram
+-- the rule that corrects the checksum of a datagram
 abbrev pub mends_of_datagram : PlainSettings → Option Datagram → List Rule
 mends_of_datagram settings None = []
 mends_of_datagram settings (Some d) = where_holds (holds_dgram settings false d rules.USumOut) rules.USumOut
 
--- the rows that mend a segment
+-- the rules that rewrite a segment
 abbrev pub mends_of_era : PlainSettings → List Call → Option Datagram → List Rule
 mends_of_era settings calls None = []
 mends_of_era settings calls (Some d) = era.mended_by settings (view_of settings calls d) d
@@ -86,11 +86,11 @@ abbrev pub notes_of_era : PlainSettings → List Call → Option Datagram → Li
 notes_of_era settings calls None = []
 notes_of_era settings calls (Some d) = era.noted (view_of settings calls d) d
 
--- the drop rows, layer by layer
+-- the drop rules, layer by layer
 drop_layers : drop_rows ≡ ip_drop_rows ++ fragment_rows ++ datagram_rows ++ segment_rows ++ era_rows
 drop_layers = refl
 
--- no row on connections that drops holds of an outbound segment
+-- no rule on connections that drops holds of an outbound segment
 outward_by : (settings : PlainSettings) (v : View) (live : Option ℕ) (head : Ipv4) (header octets : List ℕ) (fixes : List Rule)
     → let d : Datagram = record { side = Outward; head = head; header = header; octets = octets; fixes = fixes } in
     find (λ rule. era.holds_era settings (record v { era = live }) d rule) (rules.TCold ∷ rules.TState ∷ rules.TSyn ∷ rules.TRst ∷ rules.TQuota ∷ rules.TRoom ∷ []) ≡ None
@@ -138,7 +138,7 @@ module _ (settings : PlainSettings) (link : Link) (r : Packet) where
       by None = refl
       by (Some d) = of d d.side
 
-  -- the row that drops a record is the first of these
+  -- the rule that drops a record is the first of these
   pub dropped_by_layers : (read : Read) → dropped_by settings link read r
       ≡ option_or (ip_dropped_by settings link r) (option_or (row_of_piece read.piece) (option_or (row_of_datagram settings read.past.calls read.datagram)
       (option_or (row_of_header settings read.datagram) (row_of_era settings read.past.calls read.segment))))
@@ -193,7 +193,7 @@ module _ (settings : PlainSettings) (link : Link) (r : Packet) where
       by None = refl
       by (Some d) = refl
 
-  -- the rows that hold back or mend it
+  -- the rules that hold or rewrite it
   pub named_by_layers : (read : Read)
       → named_rows settings link read r
       ≡ ip_fixes settings link r piece_fix_rows ++ (mends_of_life settings read.datagram ++ (named_of_piece read.piece ++ (mends_of_datagram settings read.datagram ++ mends_of_era settings read.past.calls read.segment)))
@@ -209,7 +209,7 @@ module _ (settings : PlainSettings) (link : Link) (r : Packet) where
       ∙ ap₂ (λ xs ys. xs ++ ys) (piece_named read) (filter-append F sum step_rows
       ∙ ap₂ (λ xs ys. xs ++ ys) (datagram_named read) (era_named read))))
 
--- what is read of a record that carries a whole datagram, which no row on the link, the header and the protocol drops
+-- what is read of a record that carries an unfragmented datagram, which no rule on the link, the header and the protocol drops
 pub record IsCarried (settings : PlainSettings) (link : Link) (r : Packet) (d : Datagram) : Type 0 where
   pub undropped : ip_dropped_by settings link r ≡ None
   pub carried : carries_ip link r.octets ≡ true
@@ -224,7 +224,7 @@ carried_in settings link r d made =
     let side : m.side ≡ d.side = ap (λ (e : Datagram). e.side) m.made in
     record { undropped = m.undropped; carried = m.carried; whole = m.whole; told = m.told_is ∙ ap Some side; is = sym (ap make side) ∙ m.made }
 
--- the rows on the header and the lifetime are those of the whole packet
+-- the rules on the header and the lifetime are those of the packet
 pub inward_is : (side : Side) → is_inward (Some side) ≡ goes_in side
 inward_is Inward = refl
 inward_is Outward = refl
@@ -245,7 +245,7 @@ carried_fixes settings link r d c =
     ∙ (sym (filter-append (holds_ip settings link r) piece_fix_rows (rules.ITtl ∷ []))
     ∙ ap (λ (e : Datagram). e.fixes) c.is))
 
--- what is read of a record that carries a fragment, which no row on the link, the header and the protocol drops
+-- what is read of a record that carries a fragment, which no rule on the link, the header and the protocol drops
 pub record IsFragment (settings : PlainSettings) (link : Link) (r : Packet) (piece : Fragment) : Type 0 where
   pub undropped : ip_dropped_by settings link r ≡ None
   pub carried : carries_ip link r.octets ≡ true
@@ -274,7 +274,7 @@ fragment_by settings link r dropped carried part d c p =
 pub no_fragment : (settings : PlainSettings) (link : Link) (r : Packet) (d : Datagram) → IsCarried settings link r d → fragment_in settings link r ≡ None
 no_fragment settings link r d c = fragment_by settings link r None true false c.undropped c.carried c.whole
 
--- what is read of a record whose fragment makes a datagram whole
+-- what is read of a record whose fragment completes a datagram
 pub record IsJoined (settings : PlainSettings) (link : Link) (calls : List reassembly.Call) (r : Packet) (d : Datagram) : Type 0 where
   pub piece : Fragment
   pub offered : fragment_in settings link r ≡ Some piece
@@ -305,7 +305,7 @@ joined_of settings link calls r d h = by (fragment_in settings link r) refl h
     by None f h = absurd (cc)
     by (Some piece) f h = made piece (completes (offering_of settings calls piece)) (side_in settings r.side (packet_in link r.octets)) refl refl f h
 
--- no row drops a piece that makes its datagram whole, and it is not held back
+-- no rule drops a fragment that completes its datagram, and it is not held
 done_drops : (row : Option Rule) (whole : Bool) → fragments.is_done (fragments.answer_by row whole) ≡ true → row ≡ None
 done_drops None whole h = refl
 done_drops (Some rule) whole h = absurd (cc)
@@ -360,7 +360,7 @@ joined_is_made settings link past r d h j =
           ∙ subst (λ (e : Datagram). (fixes ++ where_holds (i_ttl settings e) rules.ITtl) ++ rules.FDone ∷ [] ≡ e.fixes) j.is refl));
     }
 
--- a datagram is carried or joined
+-- a datagram is carried or reassembled
 pub data IsEither (settings : PlainSettings) (link : Link) (calls : List reassembly.Call) (r : Packet) (d : Datagram) : Type 0 where
   carried : IsCarried settings link r d → IsEither settings link calls r d
   joined : IsJoined settings link calls r d → IsEither settings link calls r d
@@ -383,7 +383,7 @@ pub or_none : {A : Type 0} (x : Option A) → option_or x None ≡ x
 or_none None = refl
 or_none (Some x) = refl
 
--- what passes a test is a datagram, of which it holds
+-- what passes a test is a datagram of which it holds
 pub passes : (test : Datagram → Bool) (o : Option Datagram) (d : Datagram) → where_passes test o ≡ Some d → (o ≡ Some d) × (test d ≡ true)
 passes test None d h = absurd (cc)
 passes test (Some e) d h = by (test e) refl h
@@ -401,8 +401,8 @@ segment_tests settings d h = by (is_tcp d) (find (holds_tcp settings d) segment_
     by true (Some rule) h = absurd (cc)
     by false row h = absurd (cc)
 
--- no row on UDP and ICMP holds of TCP
-pub no_row_on_tcp : (settings : PlainSettings) (live : Bool) (d : Datagram) → d.head.protocol.0 ≡ 6 → (dgram_dropped_by settings live d ≡ None) × (holds_dgram settings live d rules.USumOut ≡ false)
+-- no rule on UDP and ICMP holds of TCP
+pub no_row_on_tcp : (settings : PlainSettings) (live : Bool) (d : Datagram) → d.head.protocol ≡ 6 → (dgram_dropped_by settings live d ≡ None) × (holds_dgram settings live d rules.USumOut ≡ false)
 no_row_on_tcp settings live d six =
     let none = others_have_none settings live d (λ e. let both = sym six ∙ e in omega (arith, both)) (λ e. let both = sym six ∙ e in omega (arith, both)) in
     (none.0, none.1 rules.USumOut)
@@ -426,7 +426,7 @@ module _ (settings : PlainSettings) (link : Link) (past : Past) (r : Packet) whe
       ++ (mends_of_datagram settings (none i) ++ mends_of_era settings past.calls (where_passes (is_segment settings) (none i))))))
       ∙ ap (λ xs. ip_fixes settings link r piece_fix_rows ++ xs) (append-nil (named_of_piece read.piece)))
 
-  -- the rows that mend a datagram before those behind them
+  -- the rules that rewrite a datagram before those after them
   fixes_first : (d : Datagram) (rest : List Rule) → IsMade settings link read r d
       → ip_fixes settings link r piece_fix_rows ++ (mends_of_life settings (Some d) ++ (named_of_piece read.piece ++ rest)) ≡ d.fixes ++ rest
   fixes_first d rest m =
@@ -434,7 +434,7 @@ module _ (settings : PlainSettings) (link : Link) (past : Past) (r : Packet) whe
       let life = where_holds (i_ttl settings d) rules.ITtl in
       sym (ap (λ xs. fixes ++ xs) (append_assoc life (named_of_piece read.piece) rest)) ∙ (sym (append_assoc fixes (life ++ named_of_piece read.piece) rest) ∙ ap (λ xs. xs ++ rest) m.fixes)
 
-  -- a datagram that is no segment: its row is the first on the datagram and its header
+  -- a datagram that is not a segment: its rule is the first on the datagram and its header
   no_segment : (d : Datagram) → IsMade settings link read r d → is_segment settings d ≡ false → read.segment ≡ None
   no_segment d m other = ap (where_passes (is_segment settings)) m.datagram ∙ ap (λ b. cond b (Some d) None) other
 
@@ -458,13 +458,13 @@ module _ (settings : PlainSettings) (link : Link) (past : Past) (r : Packet) whe
       ++ (mends_of_datagram settings (m.datagram i) ++ mends_of_era settings past.calls (none i)))))
       ∙ (fixes_first d (sum ++ []) m ∙ ap (λ xs. d.fixes ++ xs) (append-nil sum)))
 
-  -- a segment: its rows are those of its connection
+  -- a segment: its rules are those of its connection
   pub segment_rows_are : (d : Datagram) → read.segment ≡ Some d → AreOfEra settings link read r d
   segment_rows_are d segment =
       let p = passes (is_segment settings) (datagram_by settings link past.pieces r) d segment in
       let m = made_of settings link past r d p.0 in
       let tests = segment_tests settings d p.1 in
-      let six = eqb-true d.head.protocol.0 6 tests.0 in
+      let six = eqb-true d.head.protocol 6 tests.0 in
       let row = (no_row_on_tcp settings (is_quoted_live past.calls (quoted_in d.octets)) d six).0 in
       let sum = (no_row_on_tcp settings false d six).1 in
       let era_row = row_of_era settings past.calls (Some d) in

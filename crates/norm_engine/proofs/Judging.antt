@@ -1,4 +1,4 @@
--- What is judged of a record, by what its frame carries.
+-- The judgment of a record, by what its frame carries.
 use Rattle.std.proofs.Common.{◌≡◌, ℕ, ◌-◌, ◌*◌, ◌%◌, ◌≤◌, ◌<◌, Bool, true, false, cond, ◌&&◌, ◌||◌, ◌==◌, not, nat_lt, nat_le, min, List, [], ◌∷◌, ◌++◌, length, take, drop, Option, Some, None, find, filter, refl, sym, ap, ap₂, ◌∙◌, subst, arith}
 use Rattle.std.specs.Prelude.{option_map, is_none}
 use Rattle.std.specs.Option.{option_or}
@@ -46,13 +46,13 @@ use Rattle.norm_engine.specs.Engine.{IsArp, IsMadeWhole, IsPieceJudged, IsWholeJ
 use Rattle.norm_engine.proofs.Stepping.{found_of}
 use Rattle.norm_engine.proofs.Joining.{IsMade, row_of_piece, named_of_piece, fragment_by, made_of, or_none, bare_row, bare_named, datagram_row_is, datagram_named_is, segment_rows_are}
 
--- rows that do not hold
+-- rules that do not hold
 
 carried_fails : (carried row : Bool) → (carried && row) ≡ false → carried ≡ true → row ≡ false
 carried_fails true row h c = h
 carried_fails false row h c = absurd (cc)
 
--- the header of a packet that no row drops, and its protocol
+-- the header of a packet that no rule drops, and its protocol
 pub record IsSized (p : List ℕ) : Type 0 where
   pub least : 20 ≤ ip.header_length p
   pub order : ip.header_length p ≤ ip.total_length p
@@ -87,7 +87,7 @@ payload_fits p s small =
     let least = s.least in
     omega (arith, size, least)
 
--- a packet with no octets behind its total length is its header and its payload, and its frame is short
+-- a packet with no octets after its total length is its header and its payload, and its frame is short
 
 no_trailer : (settings : PlainSettings) (link : Link) (r : Packet) → IsKept settings link r → ip_fixes settings link r whole_fix_rows ≡ [] → ip.has_trailer (packet_in link r.octets) ≡ false
 unfolding ip_fixes
@@ -140,7 +140,7 @@ pub few_parts : (settings : PlainSettings) (link : Link) (r : Packet) → length
 unfolding ip_fixes
 few_parts settings link r = filter_shorter (holds_ip settings link r) piece_fix_rows
 
--- no datagram and no fragment is read of a record that a row drops; a whole datagram and a fragment exclude each other
+-- no datagram and no fragment is read of a record that a rule drops; an unfragmented datagram and a fragment exclude each other
 
 abbrev datagram_if : PlainSettings → Link → Packet → (row : Option Rule) (carried piece : Bool) → Option Datagram
 datagram_if settings link r row carried piece =
@@ -151,7 +151,7 @@ pub kept_as : (settings : PlainSettings) (link : Link) (r : Packet) (row : Optio
     → ip.is_fragment (packet_in link r.octets) ≡ piece → datagram_in settings link r ≡ datagram_if settings link r row carried piece
 kept_as settings link r row carried piece d c p = λ i. datagram_if settings link r (d i) (c i) (p i)
 
--- where a record carries no fragment its datagram is the one that it carries
+-- the datagram of a record without fragment is the one that it carries
 no_offering : (settings : PlainSettings) (link : Link) (calls : List Call) (r : Packet) → fragment_in settings link r ≡ None → offering_in settings link calls r ≡ None
 no_offering settings link calls r bare = ap (option_map (offering_of settings calls)) bare
 
@@ -199,7 +199,7 @@ arp_passes settings link past r none arp =
       short = within_by (length r.octets) (short_by (carries_ip link r.octets) (carries_arp link r.octets) (nat_le (length r.octets) 65549) (type_row settings link r none) no_ip);
     }
 
--- a record that a row on the link, the header or the protocol drops
+-- a record that a rule on the link, the header or the protocol drops
 
 abbrev ip_row : (carried snap short other : Bool) → PlainSettings → (given : Option Side) → List ℕ → Option Rule
 ip_row carried snap short other settings given p =
@@ -239,7 +239,7 @@ row_drops settings link past r side rule h told =
 
 -- a fragment
 
--- the side is told of a record that a row on fragments drops
+-- the side is known of a record that a rule on fragments drops
 piece_is_told : (o : Offering) (rule : Rule) → row_of_piece (Some o) ≡ Some rule → tells_side rule ≡ true
 piece_is_told o rule h =
     found_of (λ x. tells_side x ≡ true) (holds_fragment o.view o.piece) fragment_rows rule (refl, (refl, (refl, (refl, (refl, (refl, (refl, (refl, tt))))))))
@@ -254,7 +254,7 @@ pub record IsOffered (settings : PlainSettings) (link : Link) (past : Past) (r :
   pub part : ip.is_fragment (packet_in link r.octets) ≡ true
   pub offering : offering_in settings link past.pieces r ≡ Some o
 
--- no datagram is made by a piece that does not make it whole
+-- no datagram is made by a fragment that does not complete it
 unmade : (settings : PlainSettings) (link : Link) (past : Past) (r : Packet) (o : Offering) → IsOffered settings link past r o → completes o ≡ false → datagram_by settings link past.pieces r ≡ None
 unmade settings link past r o is other =
     let p = packet_in link r.octets in
@@ -262,7 +262,7 @@ unmade settings link past r o is other =
     (λ i. option_or (kept_as settings link r None true true is.kept.undropped is.kept.carries is.part i) (joined_in settings link r (is.offering i)))
     ∙ ap (λ b. cond b (option_map make (side_in settings r.side p)) None) other
 
--- a piece that a row drops
+-- a fragment that a rule drops
 dropped_is : (row : Option Rule) (whole : Bool) (rule : Rule) → answer_by row whole ≡ dropped rule → row ≡ Some rule
 dropped_is None true rule h = absurd (cc)
 dropped_is None false rule h = absurd (cc)
@@ -297,19 +297,19 @@ piece_holds settings link past r side o is answer told =
       told = side_here settings link r side is.kept told;
     }
 
--- a whole datagram
+-- a complete datagram
 
 pub not_nil : (xs : List Rule) (rule : Rule) → xs ++ rule ∷ [] ≡ [] → ⊥
 not_nil [] rule h = absurd (cc)
 not_nil (x ∷ xs) rule h = absurd (cc)
 
--- the side is told of each row on a datagram
+-- the side is known at each rule on a datagram
 
 either : {A : Type 0} (P : A → Type 0) (x : A) (one other : Option A) → (one ≡ Some x → P x) → (other ≡ Some x → P x) → option_or one other ≡ Some x → P x
 either P x None other f g h = g h
 either P x (Some y) other f g h = f h
 
--- a rule whose drop tells the side
+-- a rule whose drop reports the side
 abbrev IsTold : Rule → Type 0
 IsTold rule = tells_side rule ≡ true
 
@@ -321,7 +321,7 @@ side_is_told settings live d rule h =
     (found_of IsTold (holds_tcp settings d) segment_rows rule (refl, (refl, (refl, (refl, (refl, tt))))))
     h
 
--- a message that is mended has a whole header
+-- a message whose checksum is corrected has a complete header
 
 first_none : (one other : Option Rule) → option_or one other ≡ None → one ≡ None
 first_none None other h = refl
@@ -331,16 +331,16 @@ mended_is_whole : (settings : PlainSettings) (live : Bool) (d : Datagram) → da
 unfolding dgram_dropped_by
 mended_is_whole settings live d none mended =
     let rows = none_found (holds_dgram settings live d) datagram_rows (first_none (find (holds_dgram settings live d) datagram_rows) (find (holds_tcp settings d) segment_rows) none) in
-    ltb-false (length d.octets) 8 (carried_fails (d.head.protocol.0 == 17) (u_short d) rows.0 (and_parts (d.head.protocol.0 == 17) (u_sum_out settings d) mended).0)
+    ltb-false (length d.octets) 8 (carried_fails (d.head.protocol == 17) (u_short d) rows.0 (and_parts (d.head.protocol == 17) (u_sum_out settings d) mended).0)
 
--- the header of what is judged a segment was read
+-- the header of a datagram judged a segment was read
 pub head_read : (packet : IpPacket) (answer : Judged) → HeadIsRead (datagram_with [] packet) answer → SegmentIsRead (joined packet answer)
 head_read packet judged.Pass is = tt
 head_read packet judged.Mend is = tt
 head_read packet (judged.Drop rule) is = tt
 head_read packet (judged.Segment head) is = is
 
--- a packet that stands for the datagram which its record makes
+-- a packet that represents the datagram which its record makes
 pub record StandsIn (settings : PlainSettings) (link : Link) (r : Packet) (d : Datagram) (packet : IpPacket) : Type 0 where
   pub is : IsDatagram packet (link_octets link r.octets) d
   pub known : IsKnown settings d
@@ -364,7 +364,7 @@ module _ (settings : PlainSettings) (link : Link) (past : Past) (r : Packet) (d 
   other : is_segment settings d ≡ false → read.segment ≡ None
   other is = ap (where_passes (is_segment settings)) made.datagram ∙ ap (λ b. cond b (Some d) None) is
 
-  -- the rows that mend a datagram that goes out
+  -- the rules that rewrite a datagram that is written
   named : (mend : Bool) → holds_dgram settings false d rules.USumOut ≡ mend → is_segment settings d ≡ false
       → named_rows settings link read r ≡ packet.fixes.items ++ where_holds mend rules.USumOut
   named mend mends is = datagram_named_is settings link past r d made is ∙ (λ i. stands.is.fixes i ++ where_holds (mends i) rules.USumOut)
@@ -418,7 +418,7 @@ module _ (settings : PlainSettings) (link : Link) (past : Past) (r : Packet) (d 
         is = stands.is;
         known = stands.known;
         told = told;
-        protocol = eqb-true d.head.protocol.0 6 (and_parts (d.head.protocol.0 == 6) (is_none (find (holds_tcp settings d) segment_rows)) follows.0).0;
+        protocol = eqb-true d.head.protocol 6 (and_parts (d.head.protocol == 6) (is_none (find (holds_tcp settings d) segment_rows)) follows.0).0;
         held = made.held;
         dropped = rows.dropped;
         noted = rows.noted;
@@ -428,13 +428,13 @@ module _ (settings : PlainSettings) (link : Link) (past : Past) (r : Packet) (d 
         short = stands.short;
       }
 
-  -- the judgment on a packet is that of the rows on its datagram
+  -- the judgment on a packet is that of the rules on its datagram
   pub whole_judged : (judgment : Judgment) → IsWholeJudged settings past.calls d.header packet judgment → Judges settings link read r judgment
   whole_judged judgment w =
       subst (Judges settings link read r) (sym w.is)
       (by_answer w.answer (subst (λ (e : Datagram). Follows settings (is_quoted_live past.calls (quoted_in e.octets)) e w.answer) same w.follows))
 
--- a whole packet stands for the datagram that its record carries
+-- an unfragmented packet represents the datagram that its record carries
 
 module _ (settings : PlainSettings) (link : Link) (r : Packet) (packet : IpPacket)
     (kept : IsKept settings link r) (whole : ip.is_fragment (packet_in link r.octets) ≡ false)
@@ -470,7 +470,7 @@ module _ (settings : PlainSettings) (link : Link) (r : Packet) (packet : IpPacke
   pub carried_made : (past : Past) → IsMade settings link (read_with settings link past r) r own
   carried_made past = made_of settings link past r own (ap (λ x. option_or x (joined_in settings link r (offering_in settings link past.pieces r))) carries)
 
--- what was answered on a piece
+-- the answer to a fragment
 
 pub answer_held : (answer : Answer) (whole : Whole) → offered answer whole ≡ offers.Held → answer ≡ held
 answer_held held whole h = refl
@@ -487,7 +487,7 @@ answer_done held whole told h = absurd (cc)
 answer_done done whole told h = (refl, cc)
 answer_done (dropped rule) whole told h = absurd (cc)
 
--- a packet that was made of a whole datagram stands for it
+-- a packet that was made of a complete datagram represents it
 
 later_part : (more : Bool) (offset : ℕ) → (more || nat_lt 0 offset) ≡ true → more ≡ false → 0 < offset
 later_part true offset told last = absurd (cc)
@@ -571,7 +571,7 @@ module _ (settings : PlainSettings) (link : Link) (past : Past) (r : Packet) (pa
       short = λ none. absurd (never none);
     }
 
-  -- the judgment on a fragment is that of its rows
+  -- the judgment on a fragment is that of its rules
   pub piece_judged : (judgment : Judgment) → IsPieceJudged settings past.calls o packet judgment (answer_at o.view o.piece) → Judges settings link (read_with settings link past r) r judgment
   piece_judged judgment says = by (answer_at o.view o.piece) refl says
     where
@@ -587,7 +587,7 @@ module _ (settings : PlainSettings) (link : Link) (past : Past) (r : Packet) (pa
       ap (λ x. with_offered settings x now calls) (fragment_by settings link r None true true kept.undropped kept.carries part
       ∙ sym (ap₂ (λ head octets. Some (fragment_with head octets)) read.head read.payload))
 
-  -- it is a piece, as a packet may have one
+  -- it is a fragment that is possible in a packet
   pub is_piece : ip.total_length p < 65536 → IsPiece (fragment_with packet.head packet.payload.now)
   is_piece small =
       subst IsPiece (sym (ap₂ fragment_with read.head read.payload)) (record {
@@ -604,7 +604,7 @@ none_called settings link r now calls row carried piece d c p none =
     ap (λ x. with_offered settings x now calls) (fragment_by settings link r row carried piece d c p
     ∙ ap (λ b. cond b (Some (fragment_with (fields_of (packet_in link r.octets)) (ip.payload (packet_in link r.octets)))) None) none)
 
--- a fragment is judged by what was answered on it
+-- a fragment is judged by the answer to it
 
 module _ (settings : PlainSettings) (calls : List flows.Call) (came : List Call) (packet : IpPacket) where
   abbrev judged_as : Fragment → Judgment → Type 0

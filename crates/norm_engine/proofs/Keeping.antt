@@ -1,4 +1,4 @@
--- Clean records keep their payload, also where a row mends their packet.
+-- Clean records keep their payload, even if a rule rewrites their packet.
 use Rattle.std.proofs.Common.{◌≡◌, ℕ, ◌+◌, ◌*◌, ◌≤◌, ◌<◌, Bool, true, false, cond, ◌&&◌, ◌||◌, ◌==◌, not, nat_lt, List, [], ◌∷◌, ◌++◌, length, take, drop, get_or, Option, Some, None, is_none, refl, sym, ap, ap₂, ◌∙◌, subst, arith}
 use Rattle.std.specs.List.{AllByRecursion, list_any}
 use Rattle.std.specs.Option.{option_or}
@@ -50,7 +50,7 @@ use Rattle.norm_engine.proofs.Lawfuls.{RowsAreOfEras, both_of, segment_is, not_s
 abbrev payload_by : (protocol : ℕ) → List ℕ → List ℕ
 payload_by protocol octets = cond (protocol == 6) (tcp.payload octets) (cond (protocol == 17) (drop 8 octets) octets)
 
--- a frame behind the link octets of another one carries IPv4 as that one does
+-- a frame after the link octets of another one carries IPv4 if that one does
 
 header_octet : (frame rest : List ℕ) (at : ℕ) → at < 14 → 14 ≤ length frame → get_or (take 14 frame ++ rest) at 0 ≡ get_or frame at 0
 header_octet frame rest at lt long =
@@ -68,7 +68,7 @@ module _ (settings : PlainSettings) (link : Link) (r : records.Packet) (d : Data
   long = not_short link r.octets (link_kept settings link r c.undropped)
 
   -- the payload of a packet of the datagram in its frame, and of the record
-  sent_payload : (p : Packet) → IsPacketOf settings d p → payload_in link (frame_of (link_octets link r.octets) p) ≡ payload_by d.head.protocol.0 p.octets
+  sent_payload : (p : Packet) → IsPacketOf settings d p → payload_in link (frame_of (link_octets link r.octets) p) ≡ payload_by d.head.protocol p.octets
   sent_payload p is =
       let rest = p.header ++ p.octets in
       let whole : frame_of (link_octets link r.octets) p ≡ link_octets link r.octets ++ rest = append_assoc (link_octets link r.octets) p.header p.octets in
@@ -77,12 +77,12 @@ module _ (settings : PlainSettings) (link : Link) (r : records.Packet) (d : Data
       ∙ (ap (λ b. cond b (payload_of (packet_in link (link_octets link r.octets ++ rest))) (link_octets link r.octets ++ rest)) carried
       ∙ (ap payload_of (behind link r.octets rest long) ∙ ap₂ payload_by is.protocol is.carries))
 
-  read_payload : payload_in link r.octets ≡ payload_by d.head.protocol.0 d.octets
+  read_payload : payload_in link r.octets ≡ payload_by d.head.protocol d.octets
   read_payload =
       ap (λ b. cond b (payload_of (packet_in link r.octets)) r.octets) c.carried
-      ∙ ap (λ (e : Datagram). payload_by e.head.protocol.0 e.octets) c.is
+      ∙ ap (λ (e : Datagram). payload_by e.head.protocol e.octets) c.is
 
--- a mended message has all octets behind its header as they were
+-- a message with a corrected checksum has all octets after its header unchanged
 
 behind_checksum : (m : List ℕ) (value : ℕ) → 8 ≤ length m → drop 8 (with_u16 m 6 value) ≡ drop 8 m
 behind_checksum m value whole =
@@ -97,25 +97,25 @@ both_true : (a b : Bool) → (a && b) ≡ true → a ≡ true
 both_true true b h = refl
 both_true false b h = absurd (cc)
 
--- what goes out of a datagram has its payload, and its length
+-- what is written of a datagram has its payload, and its length
 record SendsPayload (settings : PlainSettings) (d : Datagram) : Type 0 where
-  payload : payload_by d.head.protocol.0 (octets_sent settings d) ≡ payload_by d.head.protocol.0 d.octets
+  payload : payload_by d.head.protocol (octets_sent settings d) ≡ payload_by d.head.protocol d.octets
   size : length (octets_sent settings d) ≡ length d.octets
 
 sent_by : (b : Bool) (settings : PlainSettings) (d : Datagram) → holds_dgram settings false d rules.USumOut ≡ b → (b ≡ true → 8 ≤ length d.octets) → SendsPayload settings d
 sent_by false settings d is whole =
     let same : octets_sent settings d ≡ d.octets = ap (λ b. cond b (mended (pseudo_of d) d.octets) d.octets) is in
-    record { payload = ap (payload_by d.head.protocol.0) same; size = ap length same }
+    record { payload = ap (payload_by d.head.protocol) same; size = ap length same }
 sent_by true settings d is whole =
     let long = whole refl in
-    let udp : d.head.protocol.0 ≡ 17 = eqb-true d.head.protocol.0 17 (both_true (d.head.protocol.0 == 17) (u_sum_out settings d) is) in
+    let udp : d.head.protocol ≡ 17 = eqb-true d.head.protocol 17 (both_true (d.head.protocol == 17) (u_sum_out settings d) is) in
     let same : octets_sent settings d ≡ mended (pseudo_of d) d.octets = ap (λ b. cond b (mended (pseudo_of d) d.octets) d.octets) is in
     record {
       payload = ap₂ payload_by udp same ∙ (behind_checksum d.octets _ long ∙ sym (ap (λ n. payload_by n d.octets) udp));
       size = ap length same ∙ same_length d.octets _ long;
     }
 
--- of a datagram that no row drops a UDP message has its header
+-- a UDP message of a datagram that no rule drops has its header
 first_none : (one other : Option Rule) → option_or one other ≡ None → (one ≡ None) × (other ≡ None)
 first_none None other h = (refl, h)
 first_none (Some rule) other h = absurd (cc)
@@ -128,9 +128,9 @@ short_by false short rest h u = absurd (cc)
 whole_message : (octets : ℕ) → nat_lt octets 8 ≡ false → 8 ≤ octets
 whole_message octets h = grind (arith, nat_tests)
 
-not_short_udp : (settings : PlainSettings) (live : Bool) (d : Datagram) → dgram_dropped_by settings live d ≡ None → (d.head.protocol.0 == 17) ≡ true → 8 ≤ length d.octets
+not_short_udp : (settings : PlainSettings) (live : Bool) (d : Datagram) → dgram_dropped_by settings live d ≡ None → (d.head.protocol == 17) ≡ true → 8 ≤ length d.octets
 unfolding dgram_dropped_by
-not_short_udp settings live d none udp = whole_message (length d.octets) (short_by (d.head.protocol.0 == 17) (u_short d) _ none udp)
+not_short_udp settings live d none udp = whole_message (length d.octets) (short_by (d.head.protocol == 17) (u_short d) _ none udp)
 
 -- the item of a clean record, by its segment and its datagram
 
@@ -145,7 +145,7 @@ pub both_empty : (xs ys : List Rule) → xs ++ ys ≡ [] → (xs ≡ []) × (ys 
 both_empty [] ys e = (refl, e)
 both_empty (x ∷ xs) ys e = absurd (cc)
 
--- no row that touches a payload, in the words of connections
+-- no rule that touches a payload, by the definition of connections
 era_touches : (rule : Rule) → touches_payload rule ≡ false → segments.touches_payload rule ≡ false
 era_touches rules.TStrip h = absurd (cc)
 era_touches rules.CProbe h = absurd (cc)
@@ -171,7 +171,7 @@ clean_parts None false h = (refl, refl)
 clean_parts None true h = absurd (cc)
 clean_parts (Some rule) touched h = absurd (cc)
 
--- a record that no row drops and no rule that touches a payload names carries no fragment
+-- a record that no rule drops and for which no rule that touches a payload holds carries no fragment
 
 any_parts : (xs ys : List Rule) → list_any touches_payload (xs ++ ys) ≡ false → (list_any touches_payload xs ≡ false) × (list_any touches_payload ys ≡ false)
 any_parts [] ys h = (refl, h)
@@ -263,7 +263,7 @@ module _ (known : DatagramsAreKnown) (fresh : AnewIsPacket) (own : PacketsAreIts
       (first_none _ _ (first_none _ _ (first_none _ _ (sym (dropped_by_layers settings link r read) ∙ undropped)).1).1).0 in
       let passes : dgram_dropped_by settings live d ≡ None = sym (ap (row_of_datagram settings read.past.calls) (own_datagram bare ∙ made)) ∙ row in
       let sends = sent_by (holds_dgram settings false d rules.USumOut) settings d refl
-      (λ mends. not_short_udp settings live d passes (both_true (d.head.protocol.0 == 17) (u_sum_out settings d) mends)) in
+      (λ mends. not_short_udp settings live d passes (both_true (d.head.protocol == 17) (u_sum_out settings d) mends)) in
       let k = known settings link r d octets made in
       let short = k.short in
       let size = sends.size in

@@ -46,7 +46,7 @@ abbrev pub called : PlainSettings → List Call → (now : ℕ) → Option Datag
 called settings cs now None = cs
 called settings cs now (Some d) = call_of settings cs now d ∷ cs
 
--- what passes is there, and passes
+-- what passes exists, and passes
 pub both_of : {A : Type 0} (test : A → Bool) (o : Option A) (x : A) → where_passes test o ≡ Some x → (o ≡ Some x) × (test x ≡ true)
 both_of test None x h = absurd (cc)
 both_of test (Some y) x h = by (test y) refl h
@@ -60,7 +60,7 @@ both true true h = (refl, refl)
 both true false h = absurd (cc)
 both false b h = absurd (cc)
 
--- no row on the header of a segment holds
+-- no rule on the header of a segment holds
 record NoFault (short hlen wrong flags opts : Bool) : Type 0 where
   is_short : short ≡ false
   is_hlen : hlen ≡ false
@@ -91,11 +91,11 @@ right_inward true true offload e h = absurd (cc)
 right_inward false inward offload e h = refl
 right_inward true false offload e h = absurd (cc)
 
--- a known datagram that no row on the header of its segment drops
+-- a known datagram that no rule on the header of its segment drops
 pub segment_known : (settings : PlainSettings) (d : Datagram) → IsKnown settings d → is_segment settings d ≡ true → IsSegment settings d
 segment_known settings d known is =
     let parts = both (is_tcp d) (is_none (find (holds_tcp settings d) segment_rows)) is in
-    let six : d.head.protocol.0 ≡ 6 = eqb-true d.head.protocol.0 6 parts.0 in
+    let six : d.head.protocol ≡ 6 = eqb-true d.head.protocol 6 parts.0 in
     let none = no_fault (is_tcp d) (t_short d) (t_hlen d) (t_sum settings d) (t_flags d) (t_opt_bad d) parts.0 parts.1 in
     let sizes = header_fits (tcp.header_length d.octets) (length d.octets) none.is_hlen in
     record {
@@ -110,7 +110,7 @@ segment_known settings d known is =
           subst (λ n. sum_is_right d.octets (pseudo_sum d.head.src.0 d.head.dst.0 n (length d.octets)) ≡ true) six (stands (sum_is_right d.octets (dgram.pseudo_of d)) right);
     }
 
--- the pieces of a history of octets
+-- the fragments of a history of octets
 
 piece_sized : (settings : PlainSettings) (link : Link) (r : records.Packet) (piece : Fragment) → HasOctets r → fragment_in settings link r ≡ Some piece → IsSized piece
 piece_sized settings link r piece octets h =
@@ -133,7 +133,7 @@ with_answered : (settings : PlainSettings) (piece : Option Fragment) (now : ℕ)
 with_answered settings None now calls all = all
 with_answered settings (Some p) now calls all = (refl, all)
 
--- each piece of a history was answered as the rows say
+-- each fragment of a history was answered by the rules
 pub pieces_answered : (settings : PlainSettings) (link : Link) (history : List Item) → AreAnswered settings (piece_calls settings link history)
 pieces_answered settings link [] = tt
 pieces_answered settings link (item ∷ older) =
@@ -162,7 +162,7 @@ joined_known settings link history r d older octets j =
       whole = λ none. absurd (not_nil _ rules.FDone none);
     })
 
--- what is known of the datagram of a record, where it and those before it are octets
+-- what is known of the datagram of a record, if it and those before it are octets
 pub datagram_known : DatagramsAreKnown → (settings : PlainSettings) (link : Link) (history : List Item) (r : records.Packet) (d : Datagram) → HaveOctets history → HasOctets r
     → datagram_after settings link history r ≡ Some d → IsKnown settings d
 datagram_known known settings link history r d older octets h = by (datagram_in settings link r) refl h
@@ -181,7 +181,7 @@ segment_is known settings link history r d older octets h =
     let here = both_of (is_segment settings) (datagram_after settings link history r) d h in
     segment_known settings d (datagram_known known settings link history r d older octets here.0) here.1
 
--- a frame of Ethernet that no row on the link drops has its whole header
+-- a frame of Ethernet that no rule on the link drops has its complete header
 rest_none : {A : Type 0} (b : Bool) (x : A) (rest : Option A) → cond b (Some x) rest ≡ None → (b ≡ false) × (rest ≡ None)
 rest_none true x rest h = absurd (cc)
 rest_none false x rest h = (refl, h)
@@ -199,7 +199,7 @@ pub long_enough : (settings : PlainSettings) (link : Link) (history : List Item)
 long_enough settings link history r d h =
     not_short link r.octets (link_kept settings link r (made_of settings link (past_of settings link history r) r d (both_of (is_segment settings) (datagram_after settings link history r) d h).0).undropped)
 
--- the rows of each segment are those of its connection
+-- the rules of each segment are those of its connection
 abbrev pub RowsAreOfEras : Type 0
 RowsAreOfEras =
     (settings : PlainSettings) (link : Link) (history : List Item) (r : records.Packet) (d : Datagram)

@@ -1,4 +1,4 @@
--- How many rules an entry names.
+-- The number of rules in an entry.
 use Rattle.std.proofs.Common.{◌≡◌, ◌+◌, ◌≤◌, ◌==◌, ◌&&◌, ◌||◌, not, Bool, true, false, cond, List, [], ◌∷◌, ◌++◌, length, filter, Option, Some, None, refl, sym, ap, subst, ◌∙◌, arith, append_assoc}
 use Rattle.std.proofs.lemmas.List.{length-append}
 use Rattle.wire_base.specs.declared.address.Link.{Link}
@@ -26,7 +26,7 @@ use Rattle.norm_engine.proofs.Joining.{IsMade, bare_named, datagram_named_is, ma
 use Rattle.norm_engine.proofs.Judging.{few_parts, filter_shorter}
 use Rattle.norm_engine.proofs.Lawfuls.{RowsAreOfEras}
 
--- a rule that does not hold is not named, and one is one at most
+-- a rule that does not hold is not named, and one rule adds at most one
 
 skipped : (test : Rule → Bool) (rule : Rule) (more : List Rule) → test rule ≡ false → length (filter test (rule ∷ more)) ≤ length (filter test more)
 skipped test rule more fails = let e : length (filter test (rule ∷ more)) ≡ length (filter test more) = ap (λ b. length (cond b (rule ∷ filter test more) (filter test more))) fails in omega (arith, e)
@@ -42,7 +42,7 @@ at_most_one : (b : Bool) (rule : Rule) → length (where_holds b rule) ≤ 1
 at_most_one true rule = omega arith
 at_most_one false rule = omega arith
 
--- the rows of a fragment that is not held back
+-- the rules of a fragment that is not held
 piece_few : (piece : Option Offering) → holds_offered piece rules.FHeld ≡ false → length (named_of_piece piece) ≤ 1
 piece_few None held = omega arith
 piece_few (Some o) held =
@@ -51,7 +51,7 @@ piece_few (Some o) held =
     let rest = filter_shorter test (rules.FDone ∷ []) in
     omega (arith, skip, rest)
 
--- the rows that mend a datagram before those of its segment
+-- the rules that rewrite a datagram before those of its segment
 fixes_few : (settings : PlainSettings) (link : Link) (read : Read) (r : records.Packet) (d : Datagram) → IsMade settings link read r d → length d.fixes ≤ 5
 fixes_few settings link read r d m =
     let parts = ip_fixes settings link r piece_fix_rows in
@@ -60,7 +60,7 @@ fixes_few settings link read r d m =
     let size : length d.fixes ≡ length (parts ++ (life ++ piece)) = ap length (sym m.fixes) in
     omega (arith, size, length-append parts (life ++ piece), length-append life piece, few_parts settings link r, at_most_one (i_ttl settings d) rules.ITtl, piece_few read.piece m.held)
 
--- the rows of a segment: T_SUM_OUT is outbound alone, and three others are inbound alone
+-- the rules of a segment: T_SUM_OUT is outbound only, and three others are inbound only
 module _ (settings : PlainSettings) (v : View) (d : Datagram) where
   abbrev test : Rule → Bool
   test = era.holds_era settings v d
@@ -94,7 +94,7 @@ module _ (settings : PlainSettings) (v : View) (d : Datagram) where
   outcome_few few None =
       subst (λ xs. length xs ≤ 14) (sym (append_assoc (era.noted v d) d.fixes (era.mended_by settings v d))) (segment_few few (goes_in d.side) refl)
 
--- a record that is no segment
+-- a record that is not a segment
 plain_few : (dropped : Option Rule) (held : Bool) (named : List Rule) → (held ≡ false → length named ≤ 14) → length (rules_by dropped held [] named) ≤ 14
 plain_few (Some rule) held named few = omega arith
 plain_few None true named few = omega arith

@@ -1,4 +1,4 @@
--- What goes out for a record: ARP, or whole datagrams, and behind the first at most a probe; and how many rules are named.
+-- What is written for a record: ARP, or unfragmented packets, with at most a probe after the first; and the number of rules in its entry.
 use Rattle.std.proofs.Common.{◌≡◌, ℕ, ◌+◌, ◌*◌, ◌/◌, ◌≤◌, ◌<◌, ◌==◌, ◌&&◌, ◌||◌, not, nat_lt, Bool, true, false, cond, List, [], ◌∷◌, ◌++◌, length, take, drop, find, get_or, Option, Some, None, is_none, inl, inr, refl, sym, ap, ap₂, subst, ◌∙◌, arith, append_assoc}
 use Rattle.std.specs.Prelude.{slice_index, option_map}
 use Rattle.std.specs.List.{AllByRecursion}
@@ -62,11 +62,11 @@ use Rattle.norm_engine.proofs.Judging.{kept_as, not_nil, whole_frame}
 use Rattle.norm_engine.proofs.Keeping.{both_empty}
 use Rattle.norm_engine.proofs.Lawfuls.{RowsAreOfEras, both_of, datagram_known, link_kept, long_enough, not_short, segment_is}
 
--- the octets of a packet that goes out
+-- the octets of a packet that is written
 abbrev whole : Packet → List ℕ
 whole p = p.header ++ p.octets
 
--- a frame behind the link octets of another one that carries IPv4 does so too
+-- a frame after the link octets of another one that carries IPv4 does so too
 
 link_octet : (frame rest : List ℕ) (at : ℕ) → at < 14 → 14 ≤ length frame → get_or (take 14 frame ++ rest) at 0 ≡ get_or frame at 0
 link_octet frame rest at lt long =
@@ -93,7 +93,7 @@ kind_behind Ethernet frame rest long four =
     ap₂ (λ high low. 256 * high + low) (link_octet frame rest 12 (omega arith) least) (link_octet frame rest 13 (omega arith) least) in
     (14, kind_by (take 14 frame ++ rest) enough (ap (λ n. n == 2048) type ∙ four))
 
--- a packet behind these link octets goes out
+-- a packet after these link octets satisfies this
 packet_goes : (link : Link) (frame : List ℕ) (p : Packet) → (link ≡ Ethernet → 14 ≤ length frame) → carries_ip link frame ≡ true → IsWholePacket (whole p) → CarriesWhole link (frame_of (link_octets link frame) p)
 packet_goes link frame p long four is =
     let split : frame_of (link_octets link frame) p ≡ link_octets link frame ++ whole p = append_assoc (link_octets link frame) p.header p.octets in
@@ -120,7 +120,7 @@ frames_sized link frame (p ∷ ps) long all = (packet_size link frame p long ∙
 
 -- ---- the packets of a segment
 
--- a segment that is plain, that was read, or that is one of these with its checksum mended, has no fault but of its sum
+-- a segment that is plain, that was read, or that is one of these with its checksum corrected, has no fault except its checksum
 plain_faultless : (d : Datagram) (m : List ℕ) → IsPlainSegment d m → fault_of Skip 0 m ≡ None
 plain_faultless d m s = fault_of-options Skip 0 m true s.whole_header s.data_offset s.inside refl s.flags s.options
 
@@ -153,7 +153,7 @@ sent_is settings ws d [] [] = refl
 sent_is settings ws d [] (rule ∷ more) = refl
 sent_is settings ws d (fix ∷ others) mended = refl
 
--- the laws of segments that this stands on
+-- the laws of segments that this is based on
 pub record SegmentLaws : Type 0 where
   pub back : AreReadBack
   pub octets : CleansOctets
@@ -184,7 +184,7 @@ wholes : (settings : PlainSettings) (d : Datagram) (packets : List Packet) → A
 wholes settings d [] own none = tt
 wholes settings d (p ∷ ps) own none = (record { header = own.0.header; segment = λ six. ap (fault_of Skip 0) own.0.carries ∙ none.0 }, wholes settings d ps own.1 none.1)
 
--- behind the first packet of a segment stands at most a probe
+-- after the first packet of a segment there is at most a probe
 behind_first : (settings : PlainSettings) (v : View) (d : Datagram) → AllByRecursion (λ p. length (whole p) ≡ 40) (drop 1 (outcome_at settings v d).packets)
 behind_first settings v d = by (era.dropped_by settings v d)
   where
@@ -206,13 +206,13 @@ behind_first settings v d = by (era.dropped_by settings v d)
     by None = passed _ _ _ _ _
     by (Some rule) = none _
 
--- the first frame set aside
+-- the frames without the first
 behind_frames : (link : Link) (frame : List ℕ) (packets : List Packet) → (link ≡ Ethernet → 14 ≤ length frame) → AllByRecursion (λ p. length (whole p) ≡ 40) (drop 1 packets)
     → AllByRecursion (λ f. length (packet_in link f) ≡ 40) (drop 1 (frames_of (link_octets link frame) packets))
 behind_frames link frame [] long all = tt
 behind_frames link frame (p ∷ ps) long all = frames_sized link frame ps long all
 
--- ---- a datagram that is no segment
+-- ---- a datagram that is not a segment
 
 first_none : {A : Type 0} (one other : Option A) → option_or one other ≡ None → (one ≡ None) × (other ≡ None)
 first_none None other h = (refl, h)
@@ -222,15 +222,15 @@ carries_of : (settings : PlainSettings) (link : Link) (calls : List reassembly.C
 carries_of settings link calls r d (carried c) = c.carried
 carries_of settings link calls r d (joined j) = (fragment_is settings link r j.piece j.offered).carried
 
--- one of TCP that no row drops is a segment
-no_tcp : (settings : PlainSettings) (live : Bool) (d : Datagram) → is_segment settings d ≡ false → datagram_row settings live d ≡ None → d.head.protocol.0 ≡ 6 → ⊥
+-- one of TCP that no rule drops is a segment
+no_tcp : (settings : PlainSettings) (live : Bool) (d : Datagram) → is_segment settings d ≡ false → datagram_row settings live d ≡ None → d.head.protocol ≡ 6 → ⊥
 no_tcp settings live d other row six =
     let none = (first_none (dgram_dropped_by settings live d) (find (holds_tcp settings d) segment_rows) row).1 in
     let tcp : is_tcp d ≡ true = ap (λ n. n == 6) six in
     let e : true ≡ false = sym (λ i. tcp i && is_none (none i)) ∙ other in
     cc
 
-other_whole : (settings : PlainSettings) (d : Datagram) (p : Packet) → IsPacketOf settings d p → (d.head.protocol.0 ≡ 6 → ⊥) → IsWholePacket (whole p)
+other_whole : (settings : PlainSettings) (d : Datagram) (p : Packet) → IsPacketOf settings d p → (d.head.protocol ≡ 6 → ⊥) → IsWholePacket (whole p)
 other_whole settings d p is other = record { header = is.header; segment = λ six. absurd (other (sym is.protocol ∙ six)) }
 
 mended_short : (m : List ℕ) (value : ℕ) → length m ≤ 65515 → length (with_u16 m 6 value) ≤ 65515
@@ -268,7 +268,7 @@ module _ (known : DatagramsAreKnown) (fresh : AnewIsPacket) (settings : PlainSet
     made : IsMade settings link read r d
     made = made_of settings link past r d h
 
-    no_six : d.head.protocol.0 ≡ 6 → ⊥
+    no_six : d.head.protocol ≡ 6 → ⊥
     no_six = no_tcp settings (is_quoted_live past.calls (quoted_in d.octets)) d other (sym (datagram_row_is settings link past r d made other) ∙ undropped)
 
     long : link ≡ Ethernet → 14 ≤ length r.octets
@@ -328,7 +328,7 @@ module _ (settings : PlainSettings) (link : Link) (past : Past) (r : records.Pac
   unfolding ip_dropped_by
   link_rows_none = none_found (holds_ip settings link r) ip_drop_rows kept.0
 
-  -- one that carries a packet makes one, or is held back, or a row drops it
+  -- one that carries a packet makes a datagram, or is held, or a rule drops it
   sided : carries_ip link r.octets ≡ true → side_in settings r.side p ≡ None → ⊥
   sided four told =
       let e : true ≡ false = sym (λ i. four i && is_none (told i)) ∙ link_rows_none.1.1.1.1.1.1.1.1.1.1.0 in
@@ -380,7 +380,7 @@ no_more link (Some rule) held frame = tt
 no_more link None true frame = tt
 no_more link None false frame = tt
 
--- what goes out for a record, which names this era
+-- the frames of a record with this era
 pub record Goes (link : Link) (era : Option ℕ) (frames : List (List ℕ)) : Type 0 where
   pub each : AllByRecursion (GoesOut link) frames
   pub of_era : (n : ℕ) → era ≡ Some n → AllByRecursion (CarriesWhole link) frames

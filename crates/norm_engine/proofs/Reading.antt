@@ -24,9 +24,9 @@ use Rattle.tcp_norm.specs.Outcomes.{outcome_by, outcome_at, ended_with, ends}
 use Rattle.norm_engine.specs.Calls.{is_idle, packet_of}
 use Rattle.norm_engine.specs.Trace.{verdict_by, rules_by}
 
--- behind link octets stands the packet
+-- the packet follows the link octets
 
--- the link octets of a frame that is long enough stand before the packet
+-- the link octets of a frame that is long enough precede the packet
 pub behind : (link : Link) (frame rest : List ℕ) → (link ≡ Ethernet → 14 ≤ length frame) → packet_in link (link_octets link frame ++ rest) ≡ rest
 behind Ethernet frame rest long = ap (λ n. drop n (take 14 frame ++ rest)) (sym (length-take-le 14 frame (long refl))) ∙ drop-append_seam (take 14 frame) rest
 behind Raw frame rest long = refl
@@ -46,7 +46,7 @@ pub packets_back : (settings : PlainSettings) (link : Link) (frame : List ℕ) (
 packets_back settings link frame d [] long all = refl
 packets_back settings link frame d (p ∷ ps) long all = ap₂ (λ x xs. x ∷ xs) (packet_back settings link frame d p long all.0) (packets_back settings link frame d ps long all.1)
 
--- eras that are idle are told from others by their reason
+-- idle eras differ from others by their reason
 
 pub idle_kept : (segments : ℕ → List Written) (numbers : List ℕ) → filter is_idle (idled segments numbers) ≡ idled segments numbers
 idle_kept segments [] = refl
@@ -60,7 +60,7 @@ pub idle_numbers : (segments : ℕ → List Written) (numbers : List ℕ) → ma
 idle_numbers segments [] = refl
 idle_numbers segments (n ∷ ns) = ap (λ xs. n ∷ xs) (idle_numbers segments ns)
 
--- none of these ended for being idle
+-- none of these ended because it was idle
 pub record AreOther (ended : List Ended) : Type 0 where
   pub kept : filter (λ e. not (is_idle e)) ended ≡ ended
   pub left : filter is_idle ended ≡ []

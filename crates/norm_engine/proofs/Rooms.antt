@@ -1,4 +1,4 @@
--- That T_ROOM drops nothing where there are cells for all.
+-- T_ROOM drops nothing if there are cells for all.
 use Rattle.std.proofs.Common.{◌≡◌, ◌≢◌, ℕ, ◌≤◌, ◌*◌, Bool, true, false, cond, ◌||◌, List, [], ◌∷◌, ◌++◌, find, filter, Option, Some, None, refl, sym, ap, ◌∙◌, subst}
 use Rattle.std.specs.Option.{option_or}
 use Rattle.std.specs.List.{AllByRecursion, list_any}
@@ -37,7 +37,7 @@ none_are : (test : Rule → Bool) (rows : List Rule) → list_any test rows ≡ 
 none_are test [] h = tt
 none_are test (x ∷ xs) h = let both = none_left (test x) (list_any test xs) h in (both.0, none_are test xs both.1)
 
--- no row of these is this one
+-- none of these rules is this one
 not_among : (test : Rule → Bool) (f : Rule → Bool) (rows : List Rule) (rule : Rule) → AllByRecursion (λ x. test x ≡ false) rows → test rule ≡ true → find f rows ≡ Some rule → ⊥
 not_among test f rows rule all is h = let other : test rule ≡ false = found_of (λ x. test x ≡ false) f rows rule all h in absurd (cc)
 
@@ -98,7 +98,7 @@ undropped_by_room made room settings link history r most sound quota cells h =
     by calls None late = absurd (cc)
     by calls (Some d) late = room settings (past_of settings link history r).calls d most calls quota cells late
 
--- no row that is named is T_ROOM
+-- no rule in the entry is T_ROOM
 
 abbrev IsNotRoom : Rule → Type 0
 IsNotRoom rule = rule ≢ rules.TRoom

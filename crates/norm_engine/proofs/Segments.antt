@@ -1,4 +1,4 @@
--- The rows on the header of a segment, by the fault of that header.
+-- The rules on the header of a segment, by the fault of that header.
 use Rattle.std.proofs.Common.{◌≡◌, ◌≢◌, ℕ, ◌≤◌, ◌==◌, Bool, true, false, ◌&&◌, ◌||◌, not, length, find, Option, Some, None, Ok, Err, refl, sym, ap, subst, ◌∙◌, if◌then◌else◌}
 use Rattle.std.specs.Prelude.{option_map, is_none, slice_range}
 use Rattle.std.specs.Option.{option_or}
@@ -26,7 +26,7 @@ use Rattle.norm_engine.specs.declared.judge.Judged.TheVariants as judged
 use Rattle.norm_engine.specs.Rows.{is_tcp, t_short, t_hlen, t_sum, t_flags, t_opt_bad, holds_tcp, is_segment}
 use Rattle.norm_engine.specs.Engine.{rule_of, of_rows, segment_row, datagram_row, IsReadSegment, HeadIsRead, Follows}
 
--- the first row that holds, by the tests
+-- the first rule that holds, by the tests
 abbrev by_tests : (short hlen wrong flags opts : Bool) → Option Rule
 by_tests short hlen wrong flags opts =
     if short then Some rules.TShort else if hlen then Some rules.THlen else if wrong then Some rules.TSum else if flags then Some rules.TFlags
@@ -63,7 +63,7 @@ refused : (fields : Tcp) (fault : Option TcpFault) (told : TcpFault) → value_o
 refused fields None told h = absurd (cc)
 refused fields (Some fault) told h = let same : fault ≡ told = cc in ap (λ f. Some (rule_of f)) same
 
--- the header of a segment is read where no row on it holds
+-- the header of a segment is read if no rule on it holds
 pub read_row : (settings : PlainSettings) (d : Datagram) (rule : SumRule) (pseudo : ℕ) (head : Tcp) → is_judged rule ≡ not (is_offloaded settings d) → pseudo ≡ pseudo_of d
     → parsed rule pseudo d.octets ≡ Ok head → (20 ≤ head.header) × (head.header ≤ 60) → head.header ≤ length d.octets → tcp.are_legal head.flags.0 ≡ true
     → are_well_formed (tcp.options d.octets) ≡ true → slice_range d.octets 20 head.header ≡ tcp.options d.octets → IsReadSegment settings d (judged.Segment head)
@@ -76,13 +76,13 @@ read_row settings d rule pseudo head sums summed read sizes inside legal formed 
       },
     )
 
--- and else the first of them drops it
+-- otherwise the first of them drops it
 pub refused_row : (settings : PlainSettings) (d : Datagram) (rule : SumRule) (pseudo : ℕ) (told : TcpFault) → is_judged rule ≡ not (is_offloaded settings d) → pseudo ≡ pseudo_of d
     → parsed rule pseudo d.octets ≡ Err told → IsReadSegment settings d (judged.Drop (rule_of told))
 refused_row settings d rule pseudo told sums summed read =
     sym (row_by_fault settings d rule pseudo sums summed) ∙ refused (fields_of pseudo d.octets) (fault_of rule pseudo d.octets) told read
 
--- the rows on the header hold of TCP alone
+-- the rules on the header hold of TCP alone
 
 abbrev tcp_row : (six short hlen wrong flags opts : Bool) → Option Rule
 tcp_row six short hlen wrong flags opts = by_tests (six && short) (six && hlen) (six && wrong) (six && flags) (six && opts)
@@ -91,7 +91,7 @@ of_tcp : (settings : PlainSettings) (d : Datagram) (six : Bool) → is_tcp d ≡
     → find (holds_tcp settings d) segment_rows ≡ tcp_row six (t_short d) (t_hlen d) (t_sum settings d) (t_flags d) (t_opt_bad d)
 of_tcp settings d six is = ap (λ b. tcp_row b (t_short d) (t_hlen d) (t_sum settings d) (t_flags d) (t_opt_bad d)) is
 
--- TCP is left where UDP and ICMP are not
+-- only TCP remains besides UDP and ICMP
 pub six_is_left : (p : ℕ) → ((p == 1) || (p == 6) || (p == 17)) ≡ true → p ≢ 17 → p ≢ 1 → (p == 6) ≡ true
 six_is_left p known udp icmp = by (p == 1) (p == 6) (p == 17) known (ne_eqb p 1 icmp) (ne_eqb p 17 udp)
   where
@@ -100,14 +100,14 @@ six_is_left p known udp icmp = by (p == 1) (p == 6) (p == 17) known (ne_eqb p 1 
     by false true seventeen known a b = refl
     by false false seventeen known a b = absurd (cc)
 
--- what becomes of a datagram of this protocol tells of the rows
-pub tells_of : (settings : PlainSettings) (live : Bool) (d : Datagram) (number : ℕ) → d.head.protocol.0 ≡ number
+-- the judgment on a datagram of this protocol determines the rules
+pub tells_of : (settings : PlainSettings) (live : Bool) (d : Datagram) (number : ℕ) → d.head.protocol ≡ number
     → Tells (dgram_dropped_by settings live d) (holds_dgram settings live d rules.USumOut) (dgram_judged settings live d)
     → Tells (dgram_dropped_by settings live d) (holds_dgram settings live d rules.USumOut) (if number == 17 then udp_judged settings d else if number == 1 then icmp_judged settings live d else dgram.Pass)
 tells_of settings live d number is =
     subst (Tells (dgram_dropped_by settings live d) (holds_dgram settings live d rules.USumOut)) (ap (λ n. if n == 17 then udp_judged settings d else if n == 1 then icmp_judged settings live d else dgram.Pass) is)
 
--- a datagram that is no TCP is no segment, and follows the rows on UDP and ICMP
+-- a datagram that is not TCP is not a segment, and follows the rules on UDP and ICMP
 pub by_tells : (settings : PlainSettings) (live : Bool) (d : Datagram) (answer : DgramJudged) → is_tcp d ≡ false
     → Tells (dgram_dropped_by settings live d) (holds_dgram settings live d rules.USumOut) answer → Follows settings live d (of_rows answer)
 by_tells settings live d answer other tells = by answer tells
@@ -123,7 +123,7 @@ by_tells settings live d answer other tells = by answer tells
     by dgram.Mend t = (no_segment, row None t.drops, t.mends t.drops)
     by dgram.Pass t = (no_segment, row None t.drops, t.mends t.drops)
 
--- a datagram that is TCP follows the rows on its header
+-- a datagram that is TCP follows the rules on its header
 pub by_header : (settings : PlainSettings) (live : Bool) (d : Datagram) (answer : Judged) → is_tcp d ≡ true → dgram_dropped_by settings live d ≡ None
     → IsReadSegment settings d answer → Follows settings live d answer
 by_header settings live d answer six none says = by answer says
@@ -143,7 +143,7 @@ by_header settings live d answer six none says = by answer says
     by (judged.Drop rule) says = (kind (Some rule) says, first ∙ says)
     by (judged.Segment head) says = (kind None says.0, first ∙ says.0)
 
--- the header of what is judged a segment was read, by the protocol
+-- the header of a datagram judged a segment was read, by the protocol
 
 pub no_head : (d : Datagram) (answer : DgramJudged) → HeadIsRead d (of_rows answer)
 no_head d dgram.Pass = tt

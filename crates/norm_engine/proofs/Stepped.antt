@@ -1,4 +1,4 @@
--- What the engine stands for after a record.
+-- What the engine represents after a record.
 use Rattle.std.proofs.Common.{◌≡◌, ℕ, ◌+◌, ◌≤◌, Bool, List, [], ◌∷◌, ◌++◌, length, take, Some, None, refl, sym, ap, ap₂, subst, ◌∙◌, arith, if◌then◌else◌}
 use Rattle.std.proofs.Math.Logic.{∥∥₁_elim}
 use Rattle.std.specs.Coded.{le_prop}
@@ -36,11 +36,11 @@ use Rattle.norm_engine.specs.Engine.{Engaged, StandsFor, IsTaken, IsSent, Judges
 use Rattle.norm_engine.proofs.Stepping.{taken_rows, segment_calls, plain_calls, plain_frames}
 use Rattle.norm_engine.proofs.Lawfuls.{both_of, segment_known, long_enough}
 
--- what rows ask of these calls, once idle eras and old datagrams are forgotten by this time
+-- what rules read of these calls, after idle eras and old datagrams are removed by this time
 abbrev pub past_with : PlainSettings → (now : ℕ) → List Call → List reassembly.Call → Past
 past_with settings now calls offers = record { idle = []; calls = expiry_of settings calls now ∷ calls; pieces = reassembly.expiry now ∷ offers }
 
--- at most two eras end for being idle
+-- at most two eras end because they are idle
 
 idle_long : (segments : ℕ → List Written) (numbers : List ℕ) → length (idled segments numbers) ≡ length numbers
 idle_long segments numbers = length-map numbers (idle_end segments)
@@ -55,7 +55,7 @@ few_idle settings now calls segments =
     of_two (a ∷ []) = omega arith
     of_two (a ∷ b ∷ more) = omega arith
 
--- what the outbox and the header have room for, by the judgment, which some reading of the record gives
+-- the bounds of the outbox and the header, by the judgment, which some reading of the record gives
 pub room_for : (settings : PlainSettings) (link : Link) (r : records.Packet) (judgment : Judgment) → ∥ ((read : Read) × Judges settings link read r judgment) ∥₁ → Fits judgment r.octets
 room_for settings link r Arp judged = ∥∥₁_elim judged le_prop (λ j. j.1.short)
 room_for settings link r (Drop side rule) judged = tt
@@ -67,7 +67,7 @@ room_for settings link r (Send packet mend) judged = (
 )
 room_for settings link r (Segment packet head) judged = tt
 
--- a record that is judged to be no segment is none
+-- a record that is judged not to be a segment is not one
 pub no_segment : (settings : PlainSettings) (link : Link) (read : Read) (r : records.Packet) (judgment : Judgment) → Judges settings link read r judgment
     → ((packet : IpPacket) (head : Tcp) → judgment ≡ Segment packet head → ⊥) → read.segment ≡ None
 no_segment settings link read r Arp j other = j.segment
@@ -114,14 +114,14 @@ other_frames settings link read r (Send packet mend) j none =
     ∙ sym (plain_frames settings link read r none ∙ (λ i. frames_by (j.undropped i) (j.held i) (frame_by settings (link_octets link r.octets) r.octets (j.datagram i) (j.named i))))
 other_frames settings link read r (Segment packet head) j none = let never = sym j.segment ∙ none in absurd (cc)
 
--- fragments stand for the calls of a history with one item more
+-- fragments represent the calls of a history with one item more
 pub pieces_stand : (settings : PlainSettings) (link : Link) (history : List Item) (r : records.Packet) (pieces : Assembly) (now : ℕ) → now ≡ now_with history r
     → fragments.StandsFor settings pieces (with_offered settings (fragment_in settings link r) now (reassembly.expiry now ∷ piece_calls settings link history))
     → fragments.StandsFor settings pieces (piece_calls settings link (item_of settings link history r ∷ history))
 pieces_stand settings link history r pieces now same =
     subst (λ n. fragments.StandsFor settings pieces (with_offered settings (fragment_in settings link r) n (reassembly.expiry n ∷ piece_calls settings link history))) same
 
--- the engine stands for the history with one item more, where its connections and its fragments stand for the calls with that
+-- the engine represents the history with one item more, if its connections and its fragments represent the calls with that item
 stands_with : (old new : Engaged) (history : List Item) (r : records.Packet)
     → StandsFor old history → new.settings ≡ old.settings → new.link ≡ old.link → new.records ≡ old.records + 1 → new.latest ≡ now_with history r
     → flows.StandsFor old.settings new.norm (flow_calls old.settings old.link (item_of old.settings old.link history r ∷ history))

@@ -37,7 +37,7 @@ use Rattle.norm_engine.specs.Frames.{frame_by}
 use Rattle.norm_engine.specs.Engine.{IsTaken, Judges, entry_for}
 use Rattle.norm_engine.proofs.Reading.{packets_back, idle_kept, idle_left, idle_numbers, outcome_other, verdict_back, rules_back}
 
--- what is found passes the test of all
+-- an element that is found passes the test of all
 pub found_of : {A : Type 0} (P : A → Type 0) (f : A → Bool) (xs : List A) (x : A) → AllByRecursion P xs → find f xs ≡ Some x → P x
 found_of P f [] x all h = absurd (cc)
 found_of P f (y ∷ ys) x all h = by (found_of P f ys x all.1) (f y) h
@@ -46,7 +46,7 @@ found_of P f (y ∷ ys) x all h = by (found_of P f ys x all.1) (f y) h
     by rest true here = let same : y ≡ x = cc in subst P same all.0
     by rest false later = rest later
 
--- the side is told of a record that a row on eras drops
+-- the side is known of a record that a rule on eras drops
 pub era_told : (settings : PlainSettings) (calls : List Call) (d : Datagram) (rule : Rule) → era.dropped_by settings (view_of settings calls d) d ≡ Some rule → tells_side rule ≡ true
 era_told settings calls d rule h = by (goes_in d.side) h
   where
@@ -58,7 +58,7 @@ pub sides : (dropped : Option Rule) (side : Option Side) → ((rule : Rule) → 
 sides None side told = refl
 sides (Some rule) side told = ap (λ b. cond b side None) (told rule refl)
 
--- the rows of a segment are those of its connection
+-- the rules of a segment are those of its connection
 pub record AreOfEra (settings : PlainSettings) (link : Link) (read : Read) (r : records.Packet) (d : Datagram) : Type 0 where
   pub segment : read.segment ≡ Some d
   pub held : is_held read ≡ false
@@ -111,13 +111,13 @@ segment_entry settings link read r packet head number old new t counted sided id
       ended = (says.ended ∙ ap₂ (λ xs ys. xs ++ ys) idle (ap ended_by told)) i;
     }
 
--- no note stands where there is no segment
+-- there is no note without a segment
 pub nothing_noted : (settings : PlainSettings) (link : Link) (read : Read) (r : records.Packet) → read.segment ≡ None → noted_rows settings link read r ≡ []
 unfolding noted_rows
 nothing_noted settings link read r none =
     ap (λ (segment : Option Datagram). cond (holds_of segment (λ d. not (goes_in d.side)) && holds settings link read r rules.TFull) (rules.TFull ∷ []) []) none
 
--- what an item without segment says of eras
+-- the eras of an item without segment
 era_none : (settings : PlainSettings) (read : Read) → read.segment ≡ None → option_map (outcome_of settings read) read.segment ≡ None
 era_none settings read none = ap (option_map (outcome_of settings read)) none
 
@@ -125,7 +125,7 @@ pub plain_frames : (settings : PlainSettings) (link : Link) (read : Read) (r : r
     → emits settings link read r ≡ frames_by (dropped_by settings link read r) (is_held read) (frame_by settings (link_octets link r.octets) r.octets read.datagram (named_rows settings link read r))
 plain_frames settings link read r none = ap (frames_with settings link read r) none
 
--- the entry of a record that is no segment, by its row, whether it is held back, and the rows that mend it
+-- the entry of a record that is not a segment, by its rule, whether it is held, and the rules that rewrite it
 plain_entry : (settings : PlainSettings) (link : Link) (read : Read) (r : records.Packet) (number : ℕ) (dropped : Option Rule) (held : Bool) (named : List Rule) (side : Option Side)
     → read.segment ≡ None → dropped_by settings link read r ≡ dropped → is_held read ≡ held → named_rows settings link read r ≡ named → side_by dropped (side_of_record settings link r) ≡ side
     → (item_by settings link read r number).entry

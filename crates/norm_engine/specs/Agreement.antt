@@ -1,4 +1,4 @@
--- That receivers agree on what was written inwards in each era of a trace (this project's profile).
+-- Agreement of receivers on what was written inwards in each era of a trace (this project's profile).
 use Rattle.std.specs.Prelude.{ℕ, List, map}
 use Rattle.wire_base.specs.declared.address.Link.{Link}
 use Rattle.wire_base.specs.Frames.{packet_in}
@@ -8,7 +8,7 @@ use Rattle.era_agreement.specs.Agreement as eras
 use Rattle.tcp_norm.specs.Calls.{is_written}
 use Rattle.norm_engine.specs.Items.{Item}
 
--- the packets of an item's frames, and the era that its entry names
+-- the packets of an item's frames, and the era in its entry
 abbrev pub sent_for : Link → Item → Sent
 sent_for link item =
     record {
@@ -22,8 +22,8 @@ sent_for link item =
 abbrev pub sent_in : Link → List Item → List Sent
 sent_in link trace = map (sent_for link) trace
 
--- In each era of the trace whose base is fixed, the packets written inwards are plain, their SYNs have the number before the base, and any two receivers of
--- the family behind at most so many routers deliver streams of which one is a prefix of the other, and an ended one the longer, whichever packets reach them in
--- time, how often and in which order; an era without a base has no octet, no SYN and no FIN inwards.
+-- In each era of the trace whose base is fixed, the packets written inwards are plain, their SYNs have the number before the base, and any two receivers of the
+-- family behind at most `hops` routers deliver streams of which one is a prefix of the other, and an ended one the longer, whichever packets reach them in
+-- time, how often and in which order. An era without a base has no octet, no SYN and no FIN inwards.
 abbrev pub Agree : (hops : ℕ) → Link → List Item → Type 0
 Agree hops link trace = eras.Agree hops (sent_in link trace)

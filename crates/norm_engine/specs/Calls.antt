@@ -1,5 +1,5 @@
--- What a history asks of the state of connections, call by call (this project's profile): for each record first which eras are idle by its time, and then
--- its datagram, where that is a segment which no row before those of eras drops. Lists of calls have the newest at the head, as the history has.
+-- The calls of the connection state that a history makes (this project's profile): for each record first the eras that are idle by its time, then its datagram,
+-- if that is a segment which no rule before those of eras drops. Lists of calls have the newest at the head, as the history has.
 use Rattle.std.specs.Prelude.{ℕ, not, Bool, true, false, List, [], ◌∷◌, map, filter, Option, Some, None, if◌then◌else◌}
 use Rattle.std.specs.Option.{option_or}
 use Rattle.wire_base.specs.declared.address.Link.{Link}
@@ -20,23 +20,23 @@ use Rattle.norm_engine.specs.Items.{Item, now_with}
 use Rattle.norm_engine.specs.Fragments.{pieces_before, offering_in, joined_in}
 use Rattle.norm_engine.specs.Rows.{is_segment}
 
--- what passes the test, if it does
+-- the value, if it passes the test
 abbrev pub where_passes : {A : Type 0} → (A → Bool) → Option A → Option A
 where_passes test None = None
 where_passes test (Some x) = if test x then Some x else None
 
--- the whole datagram of a record after these calls of reassembly: the one that it carries, or the one that its fragment makes whole
+-- the datagram of a record after these calls of reassembly: the one that it carries unfragmented, or the one that its fragment completes
 abbrev pub datagram_by : PlainSettings → Link → (pieces : List reassembly.Call) → records.Packet → Option Datagram
 datagram_by settings link pieces r = option_or (datagram_in settings link r) (joined_in settings link r (offering_in settings link pieces r))
 
 abbrev pub datagram_after : PlainSettings → Link → (history : List Item) → records.Packet → Option Datagram
 datagram_after settings link history r = datagram_by settings link (pieces_before settings link history r) r
 
--- the segment of a record that no row before those of eras drops
+-- the segment of a record, if no rule before those of eras drops it
 abbrev pub segment_after : PlainSettings → Link → (history : List Item) → records.Packet → Option Datagram
 segment_after settings link history r = where_passes (is_segment settings) (datagram_after settings link history r)
 
--- the packet that stands in a frame
+-- the packet in a frame
 abbrev pub packet_of : Link → (frame : List ℕ) → Packet
 packet_of link frame = record { header = ip.header (packet_in link frame); octets = ip.payload (packet_in link frame) }
 
@@ -45,11 +45,11 @@ abbrev pub is_idleness : Reason → Bool
 is_idleness reasons.Idle = true
 is_idleness _ = false
 
--- an era ended for being idle
+-- an era ended because it was idle
 abbrev pub is_idle : Ended → Bool
 is_idle ended = is_idleness ended.reason
 
--- what became of the datagram of an item: what its entry says, but for the eras that ended for being idle, and the packets of its frames
+-- the outcome of an item's datagram: the values of its entry, without the eras that ended because they were idle, and the packets of its frames
 abbrev pub outcome_in : Link → Item → Outcome
 outcome_in link item =
     record {
@@ -61,7 +61,7 @@ outcome_in link item =
       packets = map (packet_of link) item.frames;
     }
 
--- the eras that ended for being idle with an item, as a call at its time
+-- the eras that ended because they were idle with an item, as a call at its time
 abbrev pub expiry_in : (older : List Item) → Item → Call
 expiry_in older item = expiry (now_with older item.packet) (map (λ e. e.era) (filter is_idle item.entry.ended))
 
@@ -77,8 +77,8 @@ flow_calls settings link (item ∷ older) =
     with_asked (segment_after settings link older item.packet) (now_with older item.packet) (outcome_in link item)
     (expiry_in older item ∷ flow_calls settings link older)
 
--- What the rows ask of a history before a record: the eras that are idle by the record's time, as they end; the calls of connections up to their end; and
--- those of reassembly, up to where old datagrams are forgotten.
+-- What the rules read of a history before a record: the eras that are idle by the record's time, as they end; the calls of connections including their expiry;
+-- and those of reassembly, including the removal of old datagrams.
 pub record Past : Type 0 where
   pub idle : List Ended
   pub calls : List Call

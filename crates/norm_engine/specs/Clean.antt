@@ -1,4 +1,4 @@
--- Clean records, and that their payload goes out as it came (this project's profile).
+-- Clean records, whose payload is written as it was read (this project's profile).
 use Rattle.std.specs.Prelude.{◌≡◌, ℕ, ◌<◌, ◌==◌, ◌&&◌, not, Bool, true, false, List, [], ◌∷◌, drop, slice_index, is_none, if◌then◌else◌}
 use Rattle.std.specs.List.{list_any}
 use Rattle.wire_base.specs.declared.address.Link.{Link}
@@ -14,7 +14,7 @@ use Rattle.ip_rules.specs.Rows.{carries_ip}
 use Rattle.norm_engine.specs.Items.{Item}
 use Rattle.norm_engine.specs.Trace.{dropped_by, named_rows, read_after}
 
--- the rules that hold a payload back, join it from pieces, change it, or put a probe in its place or behind it
+-- the rules that hold a payload, reassemble it from fragments, change it, or write a probe instead of it or after it
 abbrev pub touches_payload : Rule → Bool
 touches_payload rules.FHeld = true
 touches_payload rules.FDone = true
@@ -27,22 +27,22 @@ touches_payload rules.TEnd = true
 touches_payload rules.TClash = true
 touches_payload _ = false
 
--- no row drops the record, and none that touches a payload holds
+-- no rule drops the record, and none that touches a payload holds
 abbrev pub is_clean : PlainSettings → Link → (history : List Item) → Packet → Bool
 is_clean settings link history r =
     let read = read_after settings link history r in
     is_none (dropped_by settings link read r) && not (list_any touches_payload (named_rows settings link read r))
 
--- the payload of a packet: what stands behind the TCP or the UDP header, or the whole message of another protocol
+-- the payload of a packet: the octets after the TCP or the UDP header, or the entire message of another protocol
 abbrev pub payload_of : (packet : List ℕ) → List ℕ
 payload_of p =
     if ip.protocol p == 6 then tcp.payload (ip.payload p) else if ip.protocol p == 17 then drop 8 (ip.payload p) else ip.payload p
 
--- the payload of a frame: that of its packet, or a whole frame that carries no IPv4
+-- the payload of a frame: that of its packet, or the entire frame if it carries no IPv4
 abbrev pub payload_in : Link → (frame : List ℕ) → List ℕ
 payload_in link frame = if carries_ip link frame then payload_of (packet_in link frame) else frame
 
--- the item has exactly one frame, with its record's payload, and octet for octet where the verdict is pass
+-- the item has exactly one frame, with its record's payload, and identical to its record if the verdict is pass
 pub record KeepsPayload (link : Link) (item : Item) : Type 0 where
   pub frame : List ℕ
   pub only : item.frames ≡ frame ∷ []

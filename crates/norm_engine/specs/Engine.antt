@@ -1,4 +1,4 @@
--- What the engine holds, and what its answers say of a record.
+-- The state of the engine, and the meaning of its answers for a record.
 use Rattle.std.specs.Prelude.{◌≡◌, ℕ, ◌≤◌, ◌&&◌, nat_le, Bool, true, false, List, [], ◌∷◌, ◌++◌, length, Option, Some, None, find, if◌then◌else◌}
 use Rattle.std.specs.Option.{option_or}
 use Rattle.wire_base.specs.declared.address.Link.{Link}
@@ -49,8 +49,8 @@ use Rattle.norm_engine.specs.Rows.{side_of_record, t_short, t_hlen, t_sum, t_fla
 use Rattle.norm_engine.specs.Calls.{Past, flow_calls, where_passes, datagram_by}
 use Rattle.norm_engine.specs.Trace.{Read, is_held, is_quoted_live, dropped_by, noted_rows, named_rows}
 
--- an engine as contracts see it: its settings, its link, the number of records so far, the greatest time of them in seconds, its connections, and the
--- datagrams of which it holds fragments
+-- an engine as contracts see it: its settings, its link type, the number of records so far, the greatest time of them in seconds, its connections, and the
+-- datagrams with held fragments
 pub record Engaged : Type 0 where
   pub settings : PlainSettings
   pub link : Link
@@ -59,15 +59,15 @@ pub record Engaged : Type 0 where
   pub norm : TcpNorm
   pub pieces : Assembly
 
--- The engine stands for the history: it has counted its items, holds the greatest time of their records, and its connections and its fragments stand for
--- the calls that the history makes.
+-- The engine represents the history: it has counted its items, holds the greatest time of their records, and its connections and its fragments represent the
+-- calls that the history makes.
 pub record StandsFor (engine : Engaged) (history : List Item) : Type 0 where
   pub counted : engine.records ≡ length history
   pub latest : engine.latest ≡ now_at history
   pub flows : flows.StandsFor engine.settings engine.norm (flow_calls engine.settings engine.link history)
   pub pieces : fragments.StandsFor engine.settings engine.pieces (piece_calls engine.settings engine.link history)
 
--- connections stand for some calls, with not more datagrams among them than so many records, and fragments for others, none of them later than this time
+-- connections represent some calls, with at most `records` datagrams among them, and fragments represent others, none of them later than `latest`
 pub record Kept (settings : PlainSettings) (norm : TcpNorm) (pieces : Assembly) (records latest : ℕ) : Type 0 where
   pub calls : List Call
   pub stands : flows.StandsFor settings norm calls
@@ -77,7 +77,7 @@ pub record Kept (settings : PlainSettings) (norm : TcpNorm) (pieces : Assembly) 
   pub holds : fragments.StandsFor settings pieces offers
   pub passed : fragments.last_time pieces ≤ latest
 
--- the rule that a fault of a segment's header falls under
+-- the rule for a fault of a segment's header
 abbrev pub rule_of : TcpFault → Rule
 rule_of faults.Short = rules.TShort
 rule_of faults.DataOffset = rules.THlen
@@ -85,13 +85,13 @@ rule_of faults.Sum = rules.TSum
 rule_of faults.Flags = rules.TFlags
 rule_of faults.Options = rules.TOptBad
 
--- the judgment of the rows on UDP and ICMP
+-- the judgment of the rules on UDP and ICMP
 abbrev pub of_rows : DgramJudged → Judged
 of_rows dgram.Pass = judged.Pass
 of_rows dgram.Mend = judged.Mend
 of_rows (dgram.Drop rule) = judged.Drop rule
 
--- the first row on the header of a segment that holds
+-- the first rule on the header of a segment that holds
 abbrev pub segment_row : PlainSettings → Datagram → Option Rule
 segment_row settings d =
     if t_short d then Some rules.TShort
@@ -106,14 +106,14 @@ pub record IsHeaded (d : Datagram) (head : Tcp) : Type 0 where
   pub fields : head ≡ fields_of (pseudo_of d) d.octets
   pub whole : IsHead d.octets head
 
--- the header of a segment was read, or this row on it holds first
+-- the header of a segment was read, or this rule on it is the first that holds
 abbrev pub IsReadSegment : PlainSettings → Datagram → Judged → Type 0
 IsReadSegment settings d judged.Pass = ⊥
 IsReadSegment settings d judged.Mend = ⊥
 IsReadSegment settings d (judged.Drop rule) = segment_row settings d ≡ Some rule
 IsReadSegment settings d (judged.Segment head) = (segment_row settings d ≡ None) × IsHeaded d head
 
--- the header of what is judged a segment was read
+-- the header of a datagram judged a segment was read
 abbrev pub HeadIsRead : Datagram → Judged → Type 0
 HeadIsRead d judged.Pass = Unit {0}
 HeadIsRead d judged.Mend = Unit {0}
@@ -127,11 +127,11 @@ SegmentIsRead (Hold side) = Unit {0}
 SegmentIsRead (Send packet mend) = Unit {0}
 SegmentIsRead (Segment packet head) = IsHeaded (datagram_with [] packet) head
 
--- the first row on a datagram, or on the header of its segment, that holds
+-- the first rule on a datagram, or on the header of its segment, that holds
 abbrev pub datagram_row : PlainSettings → (live : Bool) → Datagram → Option Rule
 datagram_row settings live d = option_or (dgram_dropped_by settings live d) (find (holds_tcp settings d) segment_rows)
 
--- the judgment on a datagram is that of the rows on it and on the header of its segment
+-- the judgment on a datagram is that of the rules on it and on the header of its segment
 abbrev pub Follows : PlainSettings → (live : Bool) → Datagram → Judged → Type 0
 Follows settings live d judged.Pass =
     (is_segment settings d ≡ false) × (datagram_row settings live d ≡ None) × (holds_dgram settings live d rules.USumOut ≡ false)
@@ -141,7 +141,7 @@ Follows settings live d (judged.Drop rule) = (is_segment settings d ≡ false) �
 Follows settings live d (judged.Segment head) =
     (is_segment settings d ≡ true) × (datagram_row settings live d ≡ None)
 
--- a record that passes as ARP: no row drops or mends it
+-- a record that passes as ARP: no rule drops or rewrites it
 pub record IsArp (settings : PlainSettings) (link : Link) (read : Read) (r : Packet) : Type 0 where
   pub datagram : read.datagram ≡ None
   pub segment : read.segment ≡ None
@@ -151,20 +151,20 @@ pub record IsArp (settings : PlainSettings) (link : Link) (read : Read) (r : Pac
   pub side : side_of_record settings link r ≡ None
   pub short : length r.octets ≤ 65549
 
--- a record that this row drops, which is no segment
+-- a record that this rule drops, and which is not a segment
 pub record IsDropped (settings : PlainSettings) (link : Link) (read : Read) (r : Packet) (told : Option Side) (rule : Rule) : Type 0 where
   pub segment : read.segment ≡ None
   pub dropped : dropped_by settings link read r ≡ Some rule
   pub side : told ≡ (if tells_side rule then side_of_record settings link r else None)
 
--- a record that is a fragment to this side which no row drops, and after which its datagram is not whole
+-- a record that is a fragment to this side which no rule drops, and which does not complete its datagram
 pub record IsHeldBack (settings : PlainSettings) (link : Link) (read : Read) (r : Packet) (side : Side) : Type 0 where
   pub segment : read.segment ≡ None
   pub undropped : dropped_by settings link read r ≡ None
   pub held : is_held read ≡ true
   pub told : side_of_record settings link r ≡ Some side
 
--- a record whose datagram goes out and is no segment: no row drops it, the rows that mend it are named, and the packet is what stands in its frame
+-- a record whose datagram is written and is not a segment: no rule drops it, the rules that rewrite it are named, and the packet is the one in its frame
 pub record IsSent (settings : PlainSettings) (link : Link) (read : Read) (r : Packet) (packet : IpPacket) (mend : Bool) : Type 0 where
   pub own : Datagram
   pub datagram : read.datagram ≡ Some own
@@ -182,14 +182,14 @@ pub record IsSent (settings : PlainSettings) (link : Link) (read : Read) (r : Pa
   pub fits : length packet.payload.now ≤ 65515
   pub short : packet.fixes.items ≡ [] → length packet.frame.now ≤ 65549
 
--- a record whose datagram is a segment that no row before those of eras drops: the rows that drop, note and mend it are those of its connection
+-- a record whose datagram is a segment that no rule before those of eras drops: the rules that drop, note and rewrite it are those of its connection
 pub record IsTaken (settings : PlainSettings) (link : Link) (read : Read) (r : Packet) (packet : IpPacket) (head : Tcp) : Type 0 where
   pub own : Datagram
   pub segment : read.segment ≡ Some own
   pub is : IsDatagram packet (link_octets link r.octets) own
   pub known : IsKnown settings own
   pub told : side_of_record settings link r ≡ Some packet.side
-  pub protocol : own.head.protocol.0 ≡ 6
+  pub protocol : own.head.protocol ≡ 6
   pub held : is_held read ≡ false
   pub dropped : dropped_by settings link read r ≡ era.dropped_by settings (view_of settings read.past.calls own) own
   pub noted : noted_rows settings link read r ≡ era.noted (view_of settings read.past.calls own) own
@@ -198,7 +198,7 @@ pub record IsTaken (settings : PlainSettings) (link : Link) (read : Read) (r : P
   pub fits : length packet.payload.now ≤ 65515
   pub short : packet.fixes.items ≡ [] → length packet.frame.now ≤ 65549
 
--- the judgment is that of the rows
+-- the judgment is that of the rules
 abbrev pub Judges : PlainSettings → Link → Read → Packet → Judgment → Type 0
 Judges settings link read r Arp = IsArp settings link read r
 Judges settings link read r (Drop side rule) = IsDropped settings link read r side rule
@@ -206,7 +206,7 @@ Judges settings link read r (Hold side) = IsHeldBack settings link read r side
 Judges settings link read r (Send packet mend) = IsSent settings link read r packet mend
 Judges settings link read r (Segment packet head) = IsTaken settings link read r packet head
 
--- what the rows of a record are read of, with this past
+-- what the rules read of a record, with this past
 abbrev pub read_with : PlainSettings → Link → Past → Packet → Read
 read_with settings link past r =
     record {
@@ -216,7 +216,7 @@ read_with settings link past r =
       past = past;
     }
 
--- the packet of a whole datagram: that of the fragment which made it whole, with the datagram's header and octets, and the rows that mend it
+-- the packet of a complete datagram: that of the fragment which completed it, with the datagram's header and octets, and the rules that rewrite it
 pub record IsMadeWhole (hops : ℕ) (packet : IpPacket) (whole : Whole) (octets : List ℕ) (made : IpPacket) : Type 0 where
   pub side : made.side ≡ packet.side
   pub head : made.head ≡ head_of_whole packet.head whole
@@ -224,20 +224,20 @@ pub record IsMadeWhole (hops : ℕ) (packet : IpPacket) (whole : Whole) (octets 
   pub payload : made.payload.now ≡ octets
   pub fixes : made.fixes.items ≡ packet.fixes.items ++ where_holds (goes_in packet.side && nat_le whole.ttl hops) rules.ITtl ++ rules.FDone ∷ []
 
--- the judgment on a whole packet whose datagram is judged so
+-- the judgment on a packet whose datagram has this judgment
 abbrev pub joined : IpPacket → Judged → Judgment
 joined packet judged.Pass = Send packet false
 joined packet (judged.Drop rule) = Drop (Some packet.side) rule
 joined packet judged.Mend = Send (record packet { fixes = record { items = packet.fixes.items ++ rules.USumOut ∷ [] } }) true
 joined packet (judged.Segment head) = Segment packet head
 
--- a whole packet is judged as its datagram, with a header of these octets, is
+-- a packet is judged as its datagram with a header of these octets
 pub record IsWholeJudged (settings : PlainSettings) (calls : List Call) (header : List ℕ) (packet : IpPacket) (judgment : Judgment) : Type 0 where
   pub answer : Judged
   pub follows : Follows settings (is_quoted_live calls (quoted_in packet.payload.now)) (datagram_with header packet) answer
   pub is : judgment ≡ joined packet answer
 
--- a whole packet was made of the datagram that a fragment completes, and is judged as its datagram is
+-- a packet was made of the datagram that a fragment completes, and is judged as its datagram
 pub record IsJoinedJudged (settings : PlainSettings) (calls : List Call) (o : Offering) (packet : IpPacket) (judgment : Judgment) : Type 0 where
   pub made : IpPacket
   pub makes : IsMadeWhole settings.hops packet (whole_of (pieces_with o)) (datagram_octets (pieces_with o)) made
@@ -246,23 +246,23 @@ pub record IsJoinedJudged (settings : PlainSettings) (calls : List Call) (o : Of
   pub short : length made.payload.now ≤ 65515
   pub judged : IsWholeJudged settings calls [] made judgment
 
--- a packet that is a fragment is judged by what was answered on it
+-- a packet that is a fragment is judged by the answer to it
 abbrev pub IsPieceJudged : PlainSettings → (calls : List Call) → Offering → IpPacket → Judgment → reassembly.Answer → Type 0
 IsPieceJudged settings calls o packet judgment reassembly.held = judgment ≡ Hold packet.side
 IsPieceJudged settings calls o packet judgment reassembly.done = IsJoinedJudged settings calls o packet judgment
 IsPieceJudged settings calls o packet judgment (reassembly.dropped rule) = judgment ≡ Drop (Some packet.side) rule
 
--- the entry of a record that goes out, mended by these rules, with which these eras ended
+-- the entry of a record that is written, rewritten by these rules, with which these eras ended
 abbrev pub entry_written : (number : ℕ) → Option Side → List Rule → List Ended → PlainEntry
 entry_written number side named ended =
     record { number = number; side = side; verdict = verdict_of named; packets = 1; rules = named; era = None; begun = None; ended = ended }
 
--- the entry of a record for which nothing goes out, by this rule alone: it drops the record, or holds it back
+-- the entry of a record for which nothing is written, by this rule alone: it drops the record, or holds it
 abbrev pub entry_stopped : (number : ℕ) → Option Side → Verdict → Rule → List Ended → PlainEntry
 entry_stopped number side verdict rule ended =
     record { number = number; side = side; verdict = verdict; packets = 0; rules = rule ∷ []; era = None; begun = None; ended = ended }
 
--- the entry of the record with this number, which is judged so and is no segment
+-- the entry of the record with this number and judgment, which is not a segment
 abbrev pub entry_for : (number : ℕ) → Judgment → List Ended → PlainEntry
 entry_for number Arp ended = entry_written number None [] ended
 entry_for number (Drop side rule) ended = entry_stopped number side verdicts.Drop rule ended
@@ -270,7 +270,7 @@ entry_for number (Hold side) ended = entry_stopped number (Some side) verdicts.H
 entry_for number (Send packet mend) ended = entry_written number (Some packet.side) packet.fixes.items ended
 entry_for number (Segment packet head) ended = entry_written number (Some packet.side) [] ended
 
--- what the outbox and the header have room for
+-- the bounds of the outbox and the header
 abbrev pub Fits : Judgment → (octets : List ℕ) → Type 0
 Fits Arp octets = length octets ≤ 65549
 Fits (Drop side rule) octets = Unit {0}
@@ -279,22 +279,22 @@ Fits (Send packet mend) octets =
     (length packet.payload.now ≤ 65515) × (mend ≡ true → 8 ≤ length packet.payload.now) × (packet.fixes.items ≡ [] → length packet.frame.now ≤ 65549)
 Fits (Segment packet head) octets = Unit {0}
 
--- the payload that goes out with a packet
+-- the payload that is written with a packet
 abbrev pub payload_for : IpPacket → (mend : Bool) → List ℕ
 payload_for packet mend = if mend then mended (pseudo_of (datagram_with [] packet)) packet.payload.now else packet.payload.now
 
--- the frame that goes out where rows mend a packet
+-- the frame that is written if rules rewrite a packet
 abbrev pub frame_for : IpPacket → (mend : Bool) → (hops : ℕ) → Link → List ℕ
 frame_for packet mend hops link =
     let octets = payload_for packet mend in
     link_octets link packet.frame.now ++ plain_header (head_at packet.side hops packet.head) (length octets) ++ octets
 
--- as it was read where no rows mend it
+-- the frame as it was read if no rule rewrites it
 abbrev pub frame_with : List Rule → (read mended : List ℕ) → List ℕ
 frame_with [] read mended = read
 frame_with (rule ∷ more) read mended = mended
 
--- the frames of a record that is judged so and is no segment
+-- the frames of a record with this judgment, which is not a segment
 abbrev pub frames_for : Judgment → (hops : ℕ) → Link → (octets : List ℕ) → List (List ℕ)
 frames_for Arp hops link octets = octets ∷ []
 frames_for (Drop side rule) hops link octets = []

@@ -1,4 +1,4 @@
--- The frame of a datagram that is no TCP segment (this project's profile): as it came where no row mends it, and else with its header anew.
+-- The frame of a datagram that is not a TCP segment (this project's profile): as read if no rule rewrites it, otherwise with a rewritten header.
 use Rattle.std.specs.Prelude.{ℕ, false, List, [], ◌∷◌, Option, Some, None, if◌then◌else◌}
 use Rattle.udp_codec.specs.Checksum.{mended}
 use Rattle.rule_book.specs.declared.rule.Rule.{Rule}
@@ -7,15 +7,15 @@ use Rattle.norm_settings.specs.Settings.{PlainSettings}
 use Rattle.ip_rules.specs.Datagrams.{Datagram, anew, frame_of}
 use Rattle.dgram_rules.specs.Rows.{pseudo_of, holds_dgram}
 
--- what goes out behind the header: as it came, with its checksum mended under U_SUM_OUT
+-- the octets written after the header: as read, with the checksum corrected under U_SUM_OUT
 abbrev pub octets_sent : PlainSettings → Datagram → List ℕ
 octets_sent settings d = if holds_dgram settings false d rules.USumOut then mended (pseudo_of d) d.octets else d.octets
 
--- the frame with a header anew, behind these link octets
+-- the frame with a rewritten header, after these link octets
 abbrev pub mended_frame : PlainSettings → (link : List ℕ) → Datagram → List ℕ
 mended_frame settings link d = frame_of link (anew settings d (octets_sent settings d))
 
--- the frame of a record that no row drops: what was read, where these rows are none or it carries no datagram
+-- the frame of a record that no rule drops: the one read, if these rules are none or it carries no datagram
 abbrev pub frame_by : PlainSettings → (link read : List ℕ) → Option Datagram → (named : List Rule) → List ℕ
 frame_by settings link read None named = read
 frame_by settings link read (Some d) [] = read

@@ -9,7 +9,7 @@ pub record Item : Type 0 where
   pub entry : PlainEntry
   pub frames : List (List ℕ)
 
--- the records of a trace, and its entries, the newest first
+-- the records of a trace, and its entries, newest first
 abbrev pub packets : List Item → List Packet
 packets trace = map (λ item. item.packet) trace
 
@@ -21,6 +21,6 @@ abbrev pub now_at : List Item → ℕ
 now_at [] = 0
 now_at (item ∷ older) = max (now_at older) item.packet.seconds
 
--- Now: the same with a record that comes
+-- Now: the same with the next record
 abbrev pub now_with : (history : List Item) → Packet → ℕ
 now_with history r = max (now_at history) r.seconds

@@ -19,13 +19,13 @@ use Rattle.norm_engine.specs.Trace.{Lawful, item_of}
 use Rattle.norm_engine.specs.Clean.{HaveOctets, CleanIsKept}
 use Rattle.norm_engine.specs.Agreement.{Agree, sent_in}
 
--- a trace that is lawful for settings of at most 254 routers, of records of octets
+-- a trace of records of octets that is lawful for settings of at most 254 routers
 pub record IsSound (settings : PlainSettings) (link : Link) (trace : List Item) : Type 0 where
   pub hops : settings.hops ≤ 254
   pub octets : HaveOctets trace
   pub lawful : Lawful settings link trace
 
--- an entry counts the frames of its item, of which there are two at the most, and tells each era that ended with its octets
+-- an entry counts the frames of its item, of which there are at most two, and reports each era that ended with its octets
 pub record IsCounted (item : Item) : Type 0 where
   pub packets : item.entry.packets ≡ length item.frames
   pub few : length item.frames ≤ 2
@@ -35,7 +35,7 @@ pub record IsCounted (item : Item) : Type 0 where
 abbrev pub ItemsAreCounted : Type 0
 ItemsAreCounted = (settings : PlainSettings) (link : Link) (history : List Item) (r : Packet) → IsCounted (item_of settings link history r)
 
--- In every lawful trace each clean record has exactly one frame, with its payload, and octet for octet where the verdict is pass.
+-- In every lawful trace each clean record has exactly one frame, with its payload, and identical to the record if the verdict is pass.
 abbrev pub LawfulKeepsClean : Type 0
 LawfulKeepsClean = (settings : PlainSettings) (link : Link) (trace : List Item) → IsSound settings link trace → CleanIsKept settings link trace
 
@@ -50,8 +50,8 @@ abbrev pub LawfulCallsAreMade : Type 0
 LawfulCallsAreMade =
     (settings : PlainSettings) (link : Link) (trace : List Item) → IsSound settings link trace → AreOfSegments settings (flow_calls settings link trace)
 
--- After a history no more eras are live, no more blocks hold octets of streams, no more datagrams are held, and no more blocks hold octets of fragments, than
--- the settings allow.
+-- After a history the numbers of live eras, of blocks with octets of streams, of held datagrams and of blocks with octets of fragments do not exceed the
+-- settings.
 pub record IsWithin (settings : PlainSettings) (link : Link) (history : List Item) : Type 0 where
   pub flows : length (eras (flow_calls settings link history)) ≤ settings.flows
   pub held : IsBounded settings (flow_calls settings link history)
@@ -65,7 +65,7 @@ IsAlwaysWithin settings link (item ∷ older) = IsAlwaysWithin settings link old
 abbrev pub LawfulIsWithin : Type 0
 LawfulIsWithin = (settings : PlainSettings) (link : Link) (trace : List Item) → IsSound settings link trace → IsAlwaysWithin settings link trace
 
--- Where a quota is set and there are as many cells as all eras may hold together, no entry names T_ROOM.
+-- If a quota is set and the cells suffice for the quota of each era, no entry names T_ROOM.
 abbrev pub LawfulLeavesRoom : Type 0
 LawfulLeavesRoom =
     (settings : PlainSettings) (link : Link) (history : List Item) (r : Packet) (most : ℕ) → IsSound settings link history
@@ -76,8 +76,8 @@ LawfulLeavesRoom =
 abbrev pub LawfulAgrees : Type 0
 LawfulAgrees = (settings : PlainSettings) (link : Link) (trace : List Item) → IsSound settings link trace → Agree settings.hops link trace
 
--- In each era of a lawful trace whose base is fixed, the frames written inwards tell one stream, each at the place of its number: each of their octets is the
--- first at its place, and each FIN is the end of the era.
+-- In each era of a lawful trace whose base is fixed, the frames written inwards describe one stream, each at the offset of its number: each of their octets is
+-- the first at its offset, and each FIN is the end of the era.
 abbrev pub LawfulTellsStreams : Type 0
 LawfulTellsStreams =
     (settings : PlainSettings) (link : Link) (trace : List Item) → IsSound settings link trace

@@ -1,4 +1,4 @@
--- The frames that go out for a record, and how many rules its entry names (RFC 791 section 3.1, RFC 826, and this project's profile).
+-- The frames written for a record, and the number of rules in its entry (RFC 791 section 3.1, RFC 826, and this project's profile).
 use Rattle.std.specs.Prelude.{◌≡◌, ℕ, ◌≤◌, ◌⊎◌, List, length, drop, Some, None}
 use Rattle.std.specs.List.{AllByRecursion}
 use Rattle.wire_base.specs.declared.address.Link.{Link}
@@ -14,7 +14,7 @@ use Rattle.norm_engine.specs.Items.{Item}
 use Rattle.norm_engine.specs.Trace.{item_of}
 use Rattle.norm_engine.specs.Clean.{HasOctets, HaveOctets}
 
--- a whole datagram with a header of its 20 octets, and a segment in which no fault is found, if it carries TCP; that it sums right is not asked
+-- an unfragmented packet with a header of 20 octets, and a segment without a fault, if it carries TCP; its checksum is not checked
 pub record IsWholePacket (packet : List ℕ) : Type 0 where
   pub header : IsPlainHeader packet
   pub segment : ip.protocol packet ≡ 6 → fault_of Skip 0 (ip.payload packet) ≡ None
@@ -27,8 +27,8 @@ CarriesWhole link frame = (at : ℕ) × (kind_of link frame ≡ Ip at) × IsWhol
 abbrev pub GoesOut : Link → (frame : List ℕ) → Type 0
 GoesOut link frame = (kind_of link frame ≡ Arp) ⊎ CarriesWhole link frame
 
--- Each frame of the item goes out so, and each of an era carries a packet; each behind the first has one of 40 octets, as a probe has; and the entry names at
--- most 14 rules.
+-- Each frame of the item satisfies this, and each of an era carries a packet; each after the first has a packet of 40 octets, as a probe has; and the entry
+-- names at most 14 rules.
 pub record IsOutgoing (link : Link) (item : Item) : Type 0 where
   pub each : AllByRecursion (GoesOut link) item.frames
   pub of_era : (era : ℕ) → item.entry.era ≡ Some era → AllByRecursion (CarriesWhole link) item.frames

@@ -28,17 +28,17 @@ use Rattle.norm_engine.specs.Fragments.{Offering, i_ttl, holds_offered, offering
 use Rattle.norm_engine.specs.Calls.{Past, past_of, datagram_after, segment_after}
 use Rattle.norm_engine.specs.Frames.{frame_by}
 
--- the connection that is quoted by an inbound error, whose packet went outwards
+-- the connection that an inbound error quotes, whose packet went outwards
 abbrev pub key_quoted : QuotedKey → FlowKey
 key_quoted q = record { outside = q.dst; outside_port = q.dport; inside = q.src; inside_port = q.sport }
 
--- an era is live for the connection that is quoted, if one is
+-- an era is live for the quoted connection, if there is one
 abbrev pub is_quoted_live : List Call → Option QuotedKey → Bool
 is_quoted_live calls None = false
 is_quoted_live calls (Some q) = is_some (live calls (key_quoted q))
 
--- what a record's rows are read of: the fragment that it carries, with what its rows ask; the datagram that it makes after its history; the segment that
--- this is, where no row before those of eras drops it; and what they ask of the history
+-- what the rules of a record read: the fragment that it carries, with what its rules read; the datagram that it makes after its history; the segment that this
+-- is, if no rule before those of eras drops it; and the past of the record
 pub record Read : Type 0 where
   pub piece : Option Offering
   pub datagram : Option Datagram
@@ -54,7 +54,7 @@ read_after settings link history r =
       past = past_of settings link history r;
     }
 
--- the test of a datagram, false where there is none
+-- the test of a datagram, false if there is none
 abbrev pub holds_of : Option Datagram → (Datagram → Bool) → Bool
 holds_of None test = false
 holds_of (Some d) test = test d
@@ -69,7 +69,7 @@ pub data Layer : Type 0 where
   eras : Layer
   cuts : Layer
 
--- the layer of a rule's row
+-- the layer of a rule
 abbrev pub layer_of : Rule → Layer
 layer_of rules.LSnap = link_and_header
 layer_of rules.LShort = link_and_header
@@ -133,7 +133,7 @@ layer_of rules.TClash = eras
 layer_of rules.ECut = cuts
 layer_of rules.EMtu = cuts
 
--- whether the row of a layer holds of what was read
+-- whether the rule of a layer holds of what was read
 abbrev pub holds_at : Layer → PlainSettings → Link → Read → Packet → Rule → Bool
 holds_at link_and_header settings link read r rule = holds_ip settings link r rule
 holds_at fragments settings link read r rule = holds_offered read.piece rule
@@ -144,46 +144,45 @@ holds_at segment_headers settings link read r rule = holds_of read.datagram (λ 
 holds_at eras settings link read r rule = holds_of read.segment (λ d. holds_era settings (view_of settings read.past.calls d) d rule)
 holds_at cuts settings link read r rule = false
 
--- whether the condition of a rule's row holds
+-- whether the condition of a rule holds
 abbrev pub holds : PlainSettings → Link → Read → Packet → Rule → Bool
 holds settings link read r rule = holds_at (layer_of rule) settings link read r rule
 
--- the row is T_FULL of an outbound segment: a note, which drops nothing
+-- the rule is T_FULL of an outbound segment: a note, which drops nothing
 abbrev pub is_note : Read → Rule → Bool
 is_note read rules.TFull = holds_of read.segment (λ d. not (goes_in d.side))
 is_note read _ = false
 
--- the row drops the record: it holds, and is no note
+-- the rule drops the record: it holds, and is not a note
 abbrev pub drops : PlainSettings → Link → Read → Packet → Rule → Bool
 drops settings link read r rule = not (is_note read rule) && holds settings link read r rule
 
--- the first row that drops the record, if one does
+-- the first rule that drops the record, if one does
 unfoldable pub dropped_by : PlainSettings → Link → Read → Packet → Option Rule
 dropped_by settings link read r = find (drops settings link read r) drop_rows
 
--- the notes on the record: rows that hold and drop nothing
+-- the notes on the record: rules that hold and drop nothing
 unfoldable pub noted_rows : PlainSettings → Link → Read → Packet → List Rule
 noted_rows settings link read r = filter (λ rule. is_note read rule && holds settings link read r rule) drop_rows
 
--- the rows behind the drop rows that hold, those that hold back or mend a packet, in the order of their numbers
+-- the rules after the drop rules that hold, those that hold or rewrite a packet, in the order of their numbers
 unfoldable pub named_rows : PlainSettings → Link → Read → Packet → List Rule
 named_rows settings link read r = filter (holds settings link read r) (fix_rows ++ step_rows)
 
--- what becomes of a segment by its rows
+-- the outcome of a segment by its rules
 abbrev pub outcome_of : PlainSettings → Read → Datagram → Outcome
 outcome_of settings read d = outcome_at settings (view_of settings read.past.calls d) d
 
--- the record is a fragment that is held back: F_HELD holds
+-- the record is a fragment that is held: F_HELD holds
 abbrev pub is_held : Read → Bool
 is_held read = holds_offered read.piece rules.FHeld
 
--- the frames of a record that is no segment: none where a row drops it, or where it is held back
+-- the frames of a record that is not a segment: none if a rule drops it, or if it is held
 abbrev pub frames_by : Option Rule → (held : Bool) → (passed : List ℕ) → List (List ℕ)
 frames_by (Some rule) held passed = []
 frames_by None held passed = if held then [] else passed ∷ []
 
--- the frames of a record, by its segment: those of the segment's packets, among them a probe for one that is dropped; and otherwise its own, where no row
--- drops it
+-- the frames of a record, by its segment: those of the segment's packets, among them a probe for a dropped one; otherwise its own, if no rule drops it
 abbrev pub frames_with : PlainSettings → Link → Read → Packet → (segment : Option Datagram) → List (List ℕ)
 frames_with settings link read r (Some d) = frames_of (link_octets link r.octets) (outcome_of settings read d).packets
 frames_with settings link read r None =
@@ -192,22 +191,22 @@ frames_with settings link read r None =
 abbrev pub emits : PlainSettings → Link → Read → Packet → List (List ℕ)
 emits settings link read r = frames_with settings link read r read.segment
 
--- a row drops the record, or it is held back; else it is mended by these rows
+-- a rule drops the record, or it is held; otherwise these rules rewrite it
 abbrev pub verdict_by : Option Rule → (held : Bool) → (named : List Rule) → Verdict
 verdict_by (Some rule) held named = verdicts.Drop
 verdict_by None held named = if held then verdicts.Hold else verdict_of named
 
--- the rule that drops a record is its only one, and so is F_HELD; else the notes stand before the rows that mend it
+-- the rule that drops a record is its only one, and so is F_HELD; otherwise the notes precede the rules that rewrite it
 abbrev pub rules_by : Option Rule → (held : Bool) → (noted named : List Rule) → List Rule
 rules_by (Some rule) held noted named = rule ∷ []
 rules_by None held noted named = if held then rules.FHeld ∷ [] else noted ++ named
 
--- a record has no side where a row drops it that comes before the side is known
+-- a record that a rule drops before its side is known has no side
 abbrev pub side_by : Option Rule → Option Side → Option Side
 side_by (Some rule) side = if tells_side rule then side else None
 side_by None side = side
 
--- what the outcome of a segment says of eras: the one that it belongs to, the one that begins, and those that end
+-- the eras in the outcome of a segment: the one that it belongs to, the one that begins, and those that end
 abbrev pub era_by : Option Outcome → Option ℕ
 era_by None = None
 era_by (Some outcome) = outcome.era
@@ -220,7 +219,7 @@ abbrev pub ended_by : Option Outcome → List Ended
 ended_by None = []
 ended_by (Some outcome) = outcome.ended
 
--- the item of a record with this number; eras that are idle end before those that the record ends
+-- the item of a record with this number; idle eras are listed before those that the record ends
 abbrev pub item_by : PlainSettings → Link → Read → Packet → (number : ℕ) → Item
 item_by settings link read r number =
     let dropped = dropped_by settings link read r in

@@ -14,21 +14,21 @@ use tcp_norm::TcpNorm;
 use tcp_norm::laws::packets_are_its_own;
 use wire_base::{Link, link_octets};
 
-/// Judges the records of a capture, one after another. It takes all its memory when it is opened.
+/// Judges the records of a capture, one after another. Allocates all its memory when it is opened.
 #[derive(Drop)]
 pub struct Engine {
     settings: Settings,
     link: Link,
     records: u32,
-    /// The greatest time of the records so far, in seconds.
+    /// Greatest time of the records so far, in seconds.
     latest: u32,
-    /// The connections.
+    /// Connections.
     norm: TcpNorm,
-    /// The datagrams of which fragments are held.
+    /// Datagrams with held fragments.
     pieces: Assembly,
-    /// Room for the datagram that fragments make.
+    /// Buffer for the datagram that fragments make.
     whole: Box<[u8; MAX_PAYLOAD]>,
-    /// Room for the payload whose checksum is mended.
+    /// Buffer for a payload whose checksum is corrected.
     scratch: Vec<u8>,
 }
 
@@ -59,7 +59,7 @@ impl Engine {
     ghost use Rattle.norm_engine.specs.Trace.{item_of};
     ghost use Rattle.norm_engine.specs.Engine.{StandsFor};
 
-    /// An engine for records of a raw link, before the first of them.
+    /// Creates an engine for records of a raw link, before the first of them.
     pub fn open(alloc: Global, settings: Settings) -> Result<Engine, NoMemory>
         requires { AreInRange (plain_settings settings) }
         ensures settings { IfOk result (λ engine. engine.settings ≡ plain_settings settings) }
@@ -82,7 +82,7 @@ impl Engine {
         })
     }
 
-    /// Takes the records from here on as those of this link. No record came before.
+    /// Sets the link type of the records. No record may precede this call.
     pub fn set_link(&mut self, link: Link)
         requires { self.old.records ≡ 0 }
         ensures { self.new ≡ record self.old { link = link } }
@@ -90,14 +90,14 @@ impl Engine {
         self.link = link;
     }
 
-    /// The number of records so far.
+    /// Returns the number of records so far.
     pub fn records(&self) -> u32
         ensures { result ≡ self.now.records }
     {
         self.records
     }
 
-    /// How many eras are live.
+    /// Returns the number of live eras.
     pub fn flows(&self) -> u32
         ensures number { (history : List Item) → StandsFor self.now history →
             result ≡ length (eras (flow_calls self.now.settings self.now.link history)) }
@@ -106,7 +106,7 @@ impl Engine {
         self.norm.flows()
     }
 
-    /// How many cells hold octets of live eras.
+    /// Returns the number of cells that hold octets of live eras.
     pub fn held(&self) -> u32
         ensures number { (history : List Item) → StandsFor self.now history →
             result ≡ held_all (flow_calls self.now.settings self.now.link history) }
@@ -115,7 +115,7 @@ impl Engine {
         self.norm.held()
     }
 
-    /// Of how many datagrams fragments are held.
+    /// Returns the number of datagrams with held fragments.
     pub fn datagrams(&self) -> u32
         ensures number { (history : List Item) → StandsFor self.now history →
             result ≡ length (gathered self.now.settings.frag_time (piece_calls self.now.settings self.now.link history)) }
@@ -124,7 +124,7 @@ impl Engine {
         self.pieces.datagrams()
     }
 
-    /// How many cells hold octets of fragments.
+    /// Returns the number of cells that hold octets of fragments.
     pub fn frag_cells(&self) -> u32
         ensures number { (history : List Item) → StandsFor self.now history →
             result ≡ cells_in (gathered self.now.settings.frag_time (piece_calls self.now.settings self.now.link history)) }
@@ -133,8 +133,8 @@ impl Engine {
         self.pieces.cells()
     }
 
-    /// The entry of this record after all before it; its frames are put into the outbox, in place of what was there. It takes
-    /// no memory.
+    /// Returns the entry of this record after all before it, and replaces the frames in the outbox
+    /// by its frames. Allocates no memory.
     pub fn step(&mut self, input: &Record<'_>, out: &mut Outbox) -> Entry
         requires { self.old.records < 2 ^ 32 - 1 }
         ensures settings { self.new.settings ≡ self.old.settings }
@@ -153,7 +153,7 @@ impl Engine {
         let mut entry = blank(self.records);
         self.norm.expire(self.latest, &mut entry);
         let _forgotten = self.pieces.expire(self.latest);
-        // The same record, whose octets live as long as the buffer is lent.
+        // A copy of the record, whose octets live as long as the borrowed buffer.
         let record = Record {
             seconds: input.seconds,
             fraction: input.fraction,

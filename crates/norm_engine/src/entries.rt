@@ -9,7 +9,7 @@ use ip_rules::Fixes;
 use rule_book::{Entry, Rule, Verdict};
 use wire_base::Side;
 
-/// The entry of the record with this number, before it is judged.
+/// Returns the entry of the record with this number, before it is judged.
 pub fn blank(number: u32) -> Entry
     ensures { plain result ≡ spec.entry_written number None [] [] }
 {
@@ -25,7 +25,8 @@ pub fn blank(number: u32) -> Entry
     }
 }
 
-/// Tells the entry of a record that was judged so, and is no segment. It keeps its number and the eras that ended.
+/// Fills the entry of a record with this judgment, which is not a segment. Its number and the eras
+/// that ended stay.
 pub fn tell(judgment: Judgment<'_>, entry: &mut Entry)
     requires era { entry.old.era ≡ None }
     requires begun { entry.old.begun ≡ None }
@@ -40,7 +41,7 @@ pub fn tell(judgment: Judgment<'_>, entry: &mut Entry)
     }
 }
 
-// Tells that a record goes out, mended by these rules.
+// Fills the entry of a record that is written, rewritten by these rules.
 fn written(side: Option<Side>, rules: Fixes, entry: &mut Entry)
     requires era { entry.old.era ≡ None }
     requires begun { entry.old.begun ≡ None }
@@ -56,7 +57,7 @@ fn written(side: Option<Side>, rules: Fixes, entry: &mut Entry)
     entry.rules = rules;
 }
 
-// Tells that nothing goes out for a record, by this rule alone.
+// Fills the entry of a record for which nothing is written, by this rule alone.
 fn stopped(side: Option<Side>, verdict: Verdict, rule: Rule, entry: &mut Entry)
     requires era { entry.old.era ≡ None }
     requires begun { entry.old.begun ≡ None }

@@ -1,4 +1,4 @@
-//! What becomes of a record by the rows before those of eras, in the order of testing.
+//! The judgment of a record by the rules before those of eras, in the order of testing.
 ghost use Rattle.std.specs.Prelude.{◌≡◌, ◌<◌, ◌≤◌, ◌^◌, ◌==◌, ◌&&◌, ◌||◌, not, true, ℕ, List, [], ◌∷◌, All, length, Some};
 ghost use Rattle.norm_settings.specs.Settings.{PlainSettings, plain_settings};
 ghost use Rattle.pcap_file.specs.Reads.{shown};
@@ -27,38 +27,39 @@ use reassembly::{Assembly, Offered, Piece, Whole};
 use rule_book::Rule;
 use tcp_codec::{SumRule, Tcp, TcpFault};
 use tcp_norm::TcpNorm;
-use wire_base::{FlowKey, Link, Protocol, Side, pseudo_sum};
+use wire_base::{FlowKey, Link, Side, protocol, pseudo_sum};
 
-/// What becomes of a record.
+/// Judgment of a record.
 #[derive(Debug, Drop)]
 pub enum Judgment<'a> {
-    /// It is ARP, and goes out as it came.
+    /// It is ARP, and is written as it was read.
     Arp,
-    /// This row drops it; its side, where that was told by then.
+    /// This rule drops it; its side, if it was known by then.
     Drop(Option<Side>, Rule),
-    /// It is a fragment to this side that is held back.
+    /// It is a fragment to this side that is held.
     Hold(Side),
-    /// Its packet goes out, mended by the rows that it names; the flag says whether its UDP checksum is mended.
+    /// Its packet is written, rewritten by the rules that it names; the flag is true if its UDP
+    /// checksum is corrected.
     Send(IpPacket<'a>, bool),
-    /// It is a TCP segment with this header, of which its connection decides.
+    /// It is a TCP segment with this header, which its connection decides.
     Segment(IpPacket<'a>, Tcp),
 }
 
-/// What becomes of a whole datagram.
+/// Judgment of a complete datagram.
 #[derive(Debug, Drop)]
 pub enum Judged {
-    /// No row holds.
+    /// No rule holds.
     Pass,
-    /// It goes out with its UDP checksum mended.
+    /// It is written with its UDP checksum corrected.
     Mend,
-    /// This row drops it.
+    /// This rule drops it.
     Drop(Rule),
     /// It is a TCP segment with this header.
     Segment(Tcp),
 }
 
-/// Judges a record by the rows before those of eras. A fragment is offered to those held; where it makes its datagram whole,
-/// that stands at the front of the buffer, and is judged in its place.
+/// Judges a record by the rules before those of eras. A fragment is offered to those held. If it
+/// completes its datagram, the datagram is written to the front of the buffer and judged.
 pub fn judge<'a>(
     settings: &Settings,
     link: Link,
@@ -89,7 +90,8 @@ pub fn judge<'a>(
     }
 }
 
-// Judges a fragment by the rows on fragments, and the datagram that it makes whole by those behind them.
+// Judges a fragment by the rules on fragments, and the datagram that it completes by the rules
+// after them.
 fn judge_piece<'a>(
     settings: &Settings,
     norm: &TcpNorm,
@@ -102,7 +104,7 @@ fn judge_piece<'a>(
     requires buffer { 65515 ≤ length buffer.old }
     requires late { fragments.last_time pieces.old ≤ now }
     requires piece { IsPiece (fragment_with packet.head packet.payload.now) }
-    requires known { ((packet.head.protocol.0 == 1) || (packet.head.protocol.0 == 6) || (packet.head.protocol.0 == 17)) ≡ true }
+    requires known { ((packet.head.protocol == 1) || (packet.head.protocol == 6) || (packet.head.protocol == 17)) ≡ true }
     requires few { length packet.fixes.items ≤ 4 }
     ensures read { spec.SegmentIsRead result }
     ensures rows { (calls : List Call) (offers : List reassembly.Call) → flows.StandsFor (plain_settings settings.now) norm.now calls →
@@ -125,10 +127,11 @@ fn judge_piece<'a>(
     }
 }
 
-// Judges a whole datagram by the rows on it.
+// Judges a complete datagram by the rules on it.
+#[inline(always)]
 fn judge_whole<'a>(settings: &Settings, norm: &TcpNorm, packet: IpPacket<'a>) -> Judgment<'a>
     requires prefixes { All (λ prefix. prefix.len ≤ 32) settings.now.prefixes.items }
-    requires known { ((packet.head.protocol.0 == 1) || (packet.head.protocol.0 == 6) || (packet.head.protocol.0 == 17)) ≡ true }
+    requires known { ((packet.head.protocol == 1) || (packet.head.protocol == 6) || (packet.head.protocol == 17)) ≡ true }
     requires size { length packet.payload.now < 2 ^ 16 }
     requires few { length packet.fixes.items < 16 }
     ensures read { spec.SegmentIsRead result }
@@ -139,7 +142,7 @@ fn judge_whole<'a>(settings: &Settings, norm: &TcpNorm, packet: IpPacket<'a>) ->
     joined(packet, judged)
 }
 
-// The fragment that a packet is.
+// Returns the fragment in a packet.
 fn piece_of<'a>(packet: &IpPacket<'a>) -> Piece<'a>
     ensures { fragment_of result ≡ fragment_with packet.now.head packet.now.payload.now }
 {
@@ -157,7 +160,8 @@ fn piece_of<'a>(packet: &IpPacket<'a>) -> Piece<'a>
     }
 }
 
-// The packet of a whole datagram with these octets, of which the fragment in this packet came last.
+// Returns the packet of a complete datagram with these octets, whose last fragment arrived in this
+// packet.
 fn whole_packet<'a>(packet: IpPacket<'a>, whole: &Whole, octets: &'a [u8], hops: u8) -> IpPacket<'a>
     requires { length packet.fixes.items ≤ 14 }
     ensures { spec.IsMadeWhole hops packet.entry whole.now octets.now result }
@@ -176,7 +180,7 @@ fn whole_packet<'a>(packet: IpPacket<'a>, whole: &Whole, octets: &'a [u8], hops:
     packet
 }
 
-// The judgment on a whole packet whose datagram is judged so.
+// Returns the judgment on a packet whose datagram has this judgment.
 fn joined(packet: IpPacket<'_>, judged: Judged) -> Judgment<'_>
     requires { length packet.fixes.items < 16 }
     ensures { result ≡ spec.joined packet.entry judged }
@@ -193,10 +197,10 @@ fn joined(packet: IpPacket<'_>, judged: Judged) -> Judgment<'_>
     }
 }
 
-// What becomes of the datagram that a whole packet is.
+// Returns the judgment on the datagram of a packet.
 fn judge_datagram(settings: &Settings, norm: &TcpNorm, packet: &IpPacket<'_>) -> Judged
     requires prefixes { All (λ prefix. prefix.len ≤ 32) settings.now.prefixes.items }
-    requires known { ((packet.now.head.protocol.0 == 1) || (packet.now.head.protocol.0 == 6) || (packet.now.head.protocol.0 == 17)) ≡ true }
+    requires known { ((packet.now.head.protocol == 1) || (packet.now.head.protocol == 6) || (packet.now.head.protocol == 17)) ≡ true }
     requires size { length packet.now.payload.now < 2 ^ 16 }
     ensures read { (header : List ℕ) → spec.HeadIsRead (datagram_with header packet.now) result }
     ensures rows { (calls : List Call) (header : List ℕ) → flows.StandsFor (plain_settings settings.now) norm.now calls →
@@ -205,8 +209,8 @@ fn judge_datagram(settings: &Settings, norm: &TcpNorm, packet: &IpPacket<'_>) ->
     datagrams_tell_the_rows();
     others_have_no_row();
     match packet.head.protocol {
-        Protocol::UDP => of_rows(judge_udp(settings, packet)),
-        Protocol::ICMP => {
+        protocol::UDP => of_rows(judge_udp(settings, packet)),
+        protocol::ICMP => {
             let live = quotes_live(norm, packet.payload);
             of_rows(judge_icmp(settings, packet, live))
         }
@@ -214,7 +218,7 @@ fn judge_datagram(settings: &Settings, norm: &TcpNorm, packet: &IpPacket<'_>) ->
     }
 }
 
-// The judgment of the rows on UDP and ICMP.
+// Returns the judgment of the rules on UDP and ICMP.
 fn of_rows(judged: DgramJudged) -> Judged
     ensures { result ≡ spec.of_rows judged }
 {
@@ -225,7 +229,7 @@ fn of_rows(judged: DgramJudged) -> Judged
     }
 }
 
-// Whether an era is live for the connection that an ICMP error quotes.
+// Returns whether an era is live for the connection that an ICMP error quotes.
 fn quotes_live(norm: &TcpNorm, message: &[u8]) -> bool
     ensures { (settings : PlainSettings) (calls : List Call) → flows.StandsFor settings norm.now calls →
         result ≡ is_quoted_live calls (quoted_in message.now) }
@@ -241,7 +245,7 @@ fn quotes_live(norm: &TcpNorm, message: &[u8]) -> bool
     })
 }
 
-// The header of a TCP segment, or the first row on it that holds.
+// Returns the header of a TCP segment, or the first rule on it that holds.
 fn read_segment(settings: &Settings, packet: &IpPacket<'_>) -> Judged
     requires { length packet.now.payload.now < 2 ^ 16 }
     ensures { (header : List ℕ) → spec.IsReadSegment (plain_settings settings.now) (datagram_with header packet.now) result }
@@ -255,7 +259,8 @@ fn read_segment(settings: &Settings, packet: &IpPacket<'_>) -> Judged
     }
 }
 
-// Whether the sum of a segment must be right: not where it goes outward and sums are left to the sender's interface.
+// Returns whether the checksum of a segment must be right: not if it is outbound and checksums are
+// left to the sender's interface.
 fn sum_rule(settings: &Settings, side: Side) -> SumRule
     ensures { is_judged result ≡ not (not (goes_in side) && settings.now.offload) }
 {
@@ -265,7 +270,7 @@ fn sum_rule(settings: &Settings, side: Side) -> SumRule
     }
 }
 
-// The rule that a fault of a segment's header falls under.
+// Returns the rule for a fault of a segment's header.
 fn rule_of(fault: TcpFault) -> Rule
     ensures { result ≡ spec.rule_of fault }
 {
@@ -278,7 +283,7 @@ fn rule_of(fault: TcpFault) -> Rule
     }
 }
 
-// What stands in a buffer of octets is below 256.
+// Proves that the octets of a buffer are below 256.
 fn have_octets(bytes: &[u8])
     ensures { AreOctets bytes.now }
 {

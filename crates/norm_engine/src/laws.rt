@@ -12,12 +12,14 @@ use tcp_norm::laws::{
     packets_are_its_own, packets_are_plain, probes_are_silent, quota_leaves_room,
 };
 
-/// An entry counts the frames of its item, of which there are two at the most, and tells each era that ended with its octets.
+/// Proves that an entry counts the frames of its item, of which there are at most two, and reports
+/// each era that ended with its octets.
 pub fn items_are_counted()
     ensures { ItemsAreCounted }
 {}
 
-/// In every lawful trace each clean record has exactly one frame, with its payload; where the verdict is pass, the frame is the record octet for octet.
+/// Proves that in every lawful trace each clean record has exactly one frame, with its payload, and
+/// identical to the record if the verdict is pass.
 pub fn lawful_keeps_clean()
     ensures { LawfulKeepsClean }
 {
@@ -27,12 +29,12 @@ pub fn lawful_keeps_clean()
     clean_keeps_payload();
 }
 
-/// Records have at most one lawful trace, whatever the seed of the tables' hashes.
+/// Proves that records have at most one lawful trace, whatever the seed of the tables' hashes.
 pub fn lawful_is_one()
     ensures { LawfulIsOne }
 {}
 
-/// The calls of a lawful trace are those that the rules make of its segments.
+/// Proves that the calls of a lawful trace are those that the rules make of its segments.
 pub fn lawful_calls_are_made()
     ensures { LawfulCallsAreMade }
 {
@@ -40,8 +42,8 @@ pub fn lawful_calls_are_made()
     packets_are_its_own();
 }
 
-/// At each history of a lawful trace no more eras are live, no more blocks hold octets of streams, no more datagrams are held, and no more blocks hold
-/// octets of fragments, than the settings allow.
+/// Proves that at each history of a lawful trace the numbers of live eras, of blocks with octets of
+/// streams, of held datagrams and of blocks with octets of fragments do not exceed the settings.
 pub fn lawful_is_within()
     ensures { LawfulIsWithin }
 {
@@ -51,7 +53,8 @@ pub fn lawful_is_within()
     answered_is_within();
 }
 
-/// Where a quota is set and there are as many cells as all eras may hold together, no entry names `T_ROOM`.
+/// Proves that no entry names `T_ROOM` if a quota is set and the cells suffice for the quota of
+/// each era.
 pub fn lawful_leaves_room()
     ensures { LawfulLeavesRoom }
 {
@@ -59,7 +62,8 @@ pub fn lawful_leaves_room()
     quota_leaves_room();
 }
 
-/// In each era of every lawful trace all receivers of the family agree on the frames written inwards.
+/// Proves that in each era of every lawful trace all receivers of the family agree on the frames
+/// written inwards.
 pub fn lawful_agrees()
     ensures { LawfulAgrees }
 {
@@ -72,7 +76,8 @@ pub fn lawful_agrees()
     lawful_calls_are_made();
 }
 
-/// In each era of a lawful trace the frames written inwards tell one stream: the octets that were written first at their places, and the era's end.
+/// Proves that in each era of a lawful trace the frames written inwards describe one stream: the
+/// octets written first at their offsets, and the era's end.
 pub fn lawful_tells_streams()
     ensures { LawfulTellsStreams }
 {
@@ -85,7 +90,8 @@ pub fn lawful_tells_streams()
     lawful_calls_are_made();
 }
 
-/// What goes out for a record is read in one way: inwards by every host, and as a TCP segment where it belongs to an era.
+/// Proves that what is written for a record is read in one way: inwards by every host, and as a TCP
+/// segment if it belongs to an era.
 pub fn items_are_certain()
     ensures { ItemsAreCertain }
 {
@@ -97,7 +103,8 @@ pub fn items_are_certain()
     mended_say_the_same();
 }
 
-/// In each era of a lawful trace the segments written may be written there, each after those before it.
+/// Proves that in each era of a lawful trace the segments written are emitted, each after those
+/// before it.
 pub fn lawful_is_emitted()
     ensures { LawfulIsEmitted }
 {
@@ -109,8 +116,9 @@ pub fn lawful_is_emitted()
     lawful_calls_are_made();
 }
 
-/// Each frame that goes out carries ARP, or a whole datagram with a header of its 20 octets, whose segment, where it is TCP, has no fault but of its sum.
-/// Each frame behind the first has a packet of 40 octets, as a probe has, and an entry names at most 14 rules.
+/// Proves that each frame written carries ARP, or an unfragmented packet with a header of 20 octets
+/// whose segment, if it is TCP, has no fault except possibly its checksum. Each frame after the
+/// first has a packet of 40 octets, as a probe has, and an entry names at most 14 rules.
 pub fn items_go_out()
     ensures { ItemsGoOut }
 {

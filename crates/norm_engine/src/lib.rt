@@ -1,4 +1,16 @@
-//! The engine: what becomes of each record of a capture, after all records before it, and the frames that go out for it.
+//! The engine: the entry and the frames of each record, after all records before it.
+//!
+//! Proved: an engine that represents a history returns from `Engine::step` exactly the entry and
+//! the frames that its next record has after that history, and then represents the history with
+//! that item. `flows`, `held`, `datagrams` and `frag_cells` return how many eras are live, cells
+//! hold octets, datagrams are held and cells hold octets of fragments; none exceeds its setting.
+//!
+//! Laws: records have one lawful trace, whatever the seed. The calls of a lawful trace are those
+//! that the rules make of its segments. In it each clean record has exactly one frame with its
+//! payload, octet for octet if the verdict is pass; at each history nothing exceeds the settings,
+//! and with cells for the quota of each era T_ROOM drops nothing; and in each era all receivers
+//! agree, also across reassembly. The laws on traces assume records of octets and at most 254
+//! routers; `bridge_run` proves both of each run.
 #![tactic(auto)]
 
 pub mod engine;

@@ -1,4 +1,4 @@
-//! A TCP segment, of which its connection decides.
+//! A TCP segment, which its connection decides.
 ghost use Rattle.std.specs.Prelude.{◌≡◌, ◌+◌, ◌-◌, ◌<◌, ◌≤◌, ◌^◌, ℕ, List, [], ◌∷◌, length};
 ghost use Rattle.wire_base.specs.Sums.{pseudo_sum};
 ghost use Rattle.norm_settings.specs.Settings.{PlainSettings};

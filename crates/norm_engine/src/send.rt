@@ -1,4 +1,4 @@
-//! The frames that go out for a record that is no segment, as it was judged.
+//! The frames written for a record that is not a segment, by its judgment.
 ghost use Rattle.std.specs.Prelude.{◌≡◌, ◌+◌, ◌<◌, ◌≤◌, ◌^◌, true, List, [], ◌∷◌, ◌++◌, length};
 ghost use Rattle.ip_rules.specs.Datagrams.{datagram_with};
 ghost use Rattle.dgram_rules.specs.Rows.{pseudo_of};
@@ -12,11 +12,13 @@ use ip_rules::write::{head_sent, put_anew, put_read};
 use udp_codec::mend;
 use wire_base::{Link, link_octets, pseudo_sum};
 
-/// The octets of the longest payload: those of the longest packet (RFC 791 section 3.1) without a header of 20.
+/// Octets of the longest payload: those of the longest packet (RFC 791 section 3.1) without a
+/// header of 20 octets.
 pub const MAX_PAYLOAD: usize = 65_515;
 
-/// Puts the frame of a record that was judged so into the outbox, which is empty: none where a row drops it or it is held back, the record as it
-/// came where no row mends it, and else its packet with a header anew.
+/// Puts the frame of a record with this judgment into the outbox, which is empty: none if a rule
+/// drops or holds it, the record as read if no rule rewrites it, otherwise its packet with a
+/// rewritten header.
 pub fn send(
     judgment: &Judgment<'_>,
     hops: u8,
@@ -39,7 +41,8 @@ pub fn send(
     }
 }
 
-// Puts a packet into the empty outbox, behind its link octets and a header anew, where asked with its UDP checksum mended.
+// Puts a packet into the empty outbox, after its link octets and a rewritten header, with its UDP
+// checksum corrected if `mend` is set.
 fn send_mended(
     packet: &IpPacket<'_>,
     mend: bool,
@@ -65,7 +68,7 @@ fn send_mended(
     }
 }
 
-// The UDP message of a packet with its checksum mended, for which it is copied to the scratch.
+// Returns the UDP message of a packet with its checksum corrected, copied to the scratch buffer.
 fn mended_in<'a>(packet: &IpPacket<'_>, scratch: &'a mut [u8]) -> &'a [u8]
     requires room { 65515 ≤ length scratch.old }
     requires fits { length packet.now.payload.now ≤ 65515 }

@@ -1,4 +1,5 @@
-//! Steps of an engine over TCP segments: the rows on their header, a segment in fragments, and an engine that follows as many connections as it may.
+//! Steps of an engine over TCP segments: the rules on their header, a segment in fragments, and an
+//! engine with the greatest number of connections.
 ghost use Rattle.norm_settings.specs.Settings.{plain_settings, AreInRange};
 
 use super::Engine;
@@ -10,16 +11,18 @@ use rule_book::{Entry, Rule, Verdict};
 use std::alloc::Global;
 use std::process::Abort;
 use std::test::Fail;
-use wire_base::{Addr, Link, Prefix, Protocol, pseudo_sum, put_u16, sum_for};
+use wire_base::{Addr, Link, Prefix, protocol, pseudo_sum, put_u16, sum_for};
 
-/// A SYN (RFC 9293) from 198.51.100.7 port 40000 to 10.0.0.1 port 80 with sequence 999 and window 8192.
+/// SYN (RFC 9293) from 198.51.100.7 port 40000 to 10.0.0.1 port 80 with sequence number 999 and
+/// window 8192.
 const SYN: [u8; 40] = [
     0x45, 0x00, 0x00, 0x28, 0x00, 0x01, 0x00, 0x00, 0x40, 0x06, 0x46, 0x94, 0xc6, 0x33, 0x64, 0x07,
     0x0a, 0x00, 0x00, 0x01, 0x9c, 0x40, 0x00, 0x50, 0x00, 0x00, 0x03, 0xe7, 0x00, 0x00, 0x00, 0x00,
     0x50, 0x02, 0x20, 0x00, 0xbb, 0x2f, 0x00, 0x00,
 ];
 
-/// Octets at some places of the SYN, and whether checksums are left to the interface; what becomes of it, and under which rows.
+/// Octets at some indices of the SYN, and whether checksums are left to the interface; the verdict,
+/// and its rules.
 struct Row {
     changes: &'static [(usize, u8)],
     offload: bool,
@@ -65,7 +68,7 @@ fn settings(offload: bool) -> Settings
     settings
 }
 
-/// Memory for as many eras as there may be.
+/// Returns settings with memory for the greatest number of eras.
 fn widest() -> Settings
     ensures { AreInRange (plain_settings result) }
 {
@@ -74,7 +77,7 @@ fn widest() -> Settings
     settings
 }
 
-/// What becomes of this packet, captured whole at time 0.
+/// Returns the entry of this packet, captured completely at time 0.
 fn step(engine: &mut Engine, packet: &[u8; 40], out: &mut Outbox) -> Option<Entry> {
     if engine.records() == u32::MAX {
         return None;
@@ -90,7 +93,8 @@ fn step(engine: &mut Engine, packet: &[u8; 40], out: &mut Outbox) -> Option<Entr
     Some(engine.step(&input, out))
 }
 
-/// Whether an entry says so, with the first era begun exactly where a frame goes out.
+/// Returns whether an entry is that of the case, with the first era begun exactly if a frame is
+/// written.
 fn is_first(entry: &Entry, row: &Row) -> bool {
     let frames = u8::from(row.verdict != Verdict::Drop);
     let era = if frames == 1 { Some(1) } else { None };
@@ -100,7 +104,7 @@ fn is_first(entry: &Entry, row: &Row) -> bool {
     told && rules && eras
 }
 
-/// Puts these octets at their places.
+/// Writes these octets at their indices.
 fn change(packet: &mut [u8; 40], changes: &[(usize, u8)]) {
     for (at, octet) in changes {
         if let Some(place) = packet.get_mut(*at) {
@@ -109,7 +113,7 @@ fn change(packet: &mut [u8; 40], changes: &[(usize, u8)]) {
     }
 }
 
-/// Whether a new engine judges the SYN as the row says.
+/// Returns whether a new engine judges the SYN as in this case.
 fn judges(alloc: Global, row: &Row) -> Result<bool, Fail> {
     let mut packet = SYN;
     change(&mut packet, row.changes);
@@ -122,7 +126,7 @@ fn judges(alloc: Global, row: &Row) -> Result<bool, Fail> {
     Ok(is_first(&entry, row) && out.frames() == frames)
 }
 
-/// The same of each row.
+/// Checks this of each case.
 fn each_is_judged(rt: &impl Abort, alloc: Global, rows: &[Row]) -> Result<(), Fail> {
     for (number, row) in rows.iter().enumerate() {
         assert!(rt; judges(alloc, row)?, "row {number}");
@@ -147,7 +151,8 @@ const BACK: [u8; 24] = [
     0x0a, 0x00, 0x00, 0x01, 0xbb, 0x2f, 0x00, 0x00,
 ];
 
-/// Whether this fragment, captured whole at time 0, has this verdict and this one rule, in this era.
+/// Returns whether this fragment, captured completely at time 0, has this verdict and this one
+/// rule, in this era.
 fn becomes(
     engine: &mut Engine,
     fragment: &[u8],
@@ -200,20 +205,21 @@ fn a_fragment_is_held_until_its_datagram_is_whole(rt: HostRuntime) -> Result<(),
     Ok(())
 }
 
-/// The SYN from this port.
+/// Returns the SYN from this port.
 fn syn_from(port: u16) -> [u8; 40] {
     let mut packet = SYN;
     put_u16(&mut packet, 20, port);
     put_u16(&mut packet, 36, 0);
     let sum = sum_for(
         &packet[20..],
-        pseudo_sum(Addr(0xc633_6407), Addr(0x0a00_0001), Protocol::TCP, 20),
+        pseudo_sum(Addr(0xc633_6407), Addr(0x0a00_0001), protocol::TCP, 20),
     );
     put_u16(&mut packet, 36, sum);
     packet
 }
 
-/// Whether the SYN from this port passes under no row, in the era that it begins, or that it began before.
+/// Returns whether the SYN from this port passes under no rule, in the era that it begins, or that
+/// it began before.
 fn passes(engine: &mut Engine, port: u16, begins: bool, out: &mut Outbox) -> bool {
     let Some(entry) = step(engine, &syn_from(port), out) else {
         return false;

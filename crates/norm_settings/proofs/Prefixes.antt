@@ -1,4 +1,4 @@
--- One word more among prefixes.
+-- One more word among prefixes.
 use Rattle.std.proofs.Common.{◌≡◌, ◌<◌, ◌+◌, ℕ, All, arith, map, drop, List, [], ◌∷◌, ◌++◌, Ok, Err, sym, ap, ◌∙◌, add-one, get_or, length, drop-cons}
 use Rattle.std.proofs.lemmas.List.Elements.{All-cons}
 use Rattle.std.specs.declared.result.Result.{Result}

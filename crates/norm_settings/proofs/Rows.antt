@@ -1,4 +1,4 @@
--- The rows that the reader of command lines has: what is found under each option.
+-- The `Row` entries of clap: the values found under each option.
 use Rattle.std.proofs.Common.{◌≡◌, List, [], ◌∷◌, ◌++◌, Bool, true, false, Some, None, refl, sym, ap, ◌∙◌, codes, option_map}
 use Rattle.std.specs.Prelude.{find, if◌then◌else◌}
 use Rattle.std.specs.Str.{bytes_eq}
@@ -40,7 +40,7 @@ at_absent id change missing [] e = refl
 at_absent id change missing (r ∷ rs) e =
     pick (bytes_eq r.id id) r (find (λ r. bytes_eq r.id id) rs) _ _ _ e (λ f. ap (λ l. r ∷ l) (at_absent id change missing rs f))
 
--- a use of an option that was not used adds its row
+-- a use of an option that was not used before adds its entry
 used_absent : (id : Text) (how : Reading) (vs : List Text) (rows : List Row) → found id rows ≡ None → with_values id how CommandLine vs (without id rows) ≡ rows ++ row id how CommandLine vs ∷ []
 used_absent id how vs rows e =
     ap (with_values id how CommandLine vs) (at_absent id (λ _. []) [] rows e ∙ append-nil rows) ∙ at_absent id (more_values CommandLine vs) _ rows e
@@ -68,7 +68,7 @@ found_added : (b : Bool) (id : Text) (rows : List Row) (r : Row) → bytes_eq r.
 found_added true id rows r e f = found_same id rows r e (ap (λ t. found t rows) (sym (same_bytes r.id id e)) ∙ f)
 found_added false id rows r e f = found_other id rows r e
 
--- ---- a row under another id
+-- ---- an entry under another id
 
 found_past : (id : Text) (xs ys : List Row) → found id xs ≡ None → found id (xs ++ ys) ≡ found id ys
 found_past id [] ys e = refl
@@ -107,7 +107,7 @@ without_other id other rows p = found_at_other id other (λ _. []) [] rows p (λ
 
 -- ---- uses
 
--- what is found under each option is what the uses give it
+-- the value found under each option is the one that the uses give it
 abbrev pub Agrees : List PlainUse → List Row → Type 0
 Agrees uses rows = (c : Choice) → found (name_of c) rows ≡ option_map (λ v. v ∷ []) (given c uses)
 
@@ -268,7 +268,7 @@ prefix_other Inside = refl
 prefix_other Offload = refl
 prefix_other Both = refl
 
--- nothing is found yet under the names
+-- no value is found yet under the names
 abbrev pub Fresh : List Row → Type 0
 Fresh rows = (found (codes "in") rows ≡ None) × (found (codes "out") rows ≡ None) × (found (codes "prefix") rows ≡ None)
 
@@ -280,7 +280,7 @@ pub fresh_use : (c : Choice) (v : Text) (rows : List Row) → Fresh rows → Fre
 fresh_use c v rows h =
     (use_other (codes "in") c v rows (in_other c) ∙ h.0, use_other (codes "out") c v rows (out_other c) ∙ h.1, use_other (codes "prefix") c v rows (prefix_other c) ∙ h.2)
 
--- ---- what is found under the names
+-- ---- the values found under the names
 
 pub values_here : (id : Text) (how : Reading) (vs : List Text) (rows : List Row) → found id rows ≡ None → found id (with_values id how CommandLine vs (without id rows)) ≡ Some vs
 values_here id how vs rows e =

@@ -1,4 +1,4 @@
--- The run that a whole line asks for.
+-- The run of a whole line.
 use Rattle.std.proofs.Common.{◌≡◌, ◌≤◌, true, false, List, [], ◌∷◌, Ok, Err, Some, refl, sym, ap, ◌∙◌, length, nat_lt, map, arith, rules, if◌then◌else◌, codes, option_map}
 use Rattle.std.proofs.lemmas.List.{length-map}
 use Rattle.std.specs.Str.{bytes_eq}
@@ -23,7 +23,7 @@ few_enough octets words h = let same : length (map octets words) ≡ length word
 some_same : {X : Type 0} (x y : X) → Some x ≡ Some y → y ≡ x
 some_same x y e = cc
 
--- the names of the line, where these were found
+-- the names of the line are those found
 pub names_are : (m : ArgMatches) (names : List Text) (input output : Text) (words : List Text) → NamesAre m names
     → first_value (found_of m) (codes "in") ≡ Some input → first_value (found_of m) (codes "out") ≡ Some output → option_map raw_values (matched_of (found_of m) (codes "prefix")) ≡ Some words
     → names ≡ input ∷ output ∷ words
@@ -43,6 +43,6 @@ run_reads line input output words prefixes settings names apart few read told =
     let whole : line ≡ record { uses = line.uses; names = input ∷ output ∷ words } = ap (λ ns. record { uses = line.uses; names = ns }) names in
     ap run_of whole ∙ run_is line.uses input output words prefixes settings apart few read told
 
--- a whole line asks for its run
+-- the result for a whole line is its run
 pub asked_is : (words : List Text) (line : PlainLine) → line_of words ≡ Some line → is_whole line ≡ true → asked_run (line_of words) ≡ run_of line
 asked_is words line e w = ap asked_run e ∙ ap (λ b. if b then run_of line else Err Refused) w

@@ -1,4 +1,4 @@
--- What each word of a line does to the walk of the reader of command lines.
+-- The steps of clap's walk over the words of a line.
 use Rattle.std.proofs.Common.{◌≡◌, ℕ, ◌==◌, ◌||◌, ◌&&◌, List, [], ◌∷◌, ◌++◌, Bool, true, false, Some, None, refl, codes}
 use Rattle.std.specs.declared.option.Option.{Option}
 use Rattle.clap.specs.Walk.{Row, Rule, Walk, Waiting, idle, option, positional, walked, settled_rows, used}
@@ -16,7 +16,7 @@ shape = (built run_command).top
 abbrev pub rules : List Rule
 rules = shape.rules
 
--- between two words: what is held, and what waits
+-- the state between two words: the entries and the pending value, the option that waits for its value, and the position
 abbrev pub at : List Row → Option (Text × List Text) → Waiting → ℕ → Walk
 at rows pending waiting position = record { held = record { rows = rows; pending = pending; skip = 0 }; waiting = waiting; position = position; is_trailing = false; stopped = None }
 
@@ -107,7 +107,7 @@ alone_step Inside rows p e = cc
 alone_step Offload rows p e = refl
 alone_step Both rows p e = refl
 
--- ---- what passes
+-- ---- words that clap accepts
 
 pub joined_passes : (c : Choice) (rows : List Row) (p : Option (Text × List Text)) (v : Text) → takes_value (kind_of c) ≡ true
     → settle_passes rules true (at rows p idle 1).held ≡ true → turn_passes shape [] (at rows p idle 1) (45 ∷ 45 ∷ (name_of c ++ 61 ∷ v)) ≡ true
@@ -178,7 +178,7 @@ alone_passes Inside rows p t e = cc
 alone_passes Offload rows p t e = rw (e, or_true) refl
 alone_passes Both rows p t e = rw (e, or_true) refl
 
--- a value that is pending passes
+-- a pending value is accepted
 pub settles : (c : Choice) (rows : List Row) (v : Text) → takes_value (kind_of c) ≡ true → settle_passes rules true (at rows (Some (name_of c, v ∷ [])) idle 1).held ≡ true
 settles Hops rows v t = rw or_true refl
 settles Flows rows v t = rw or_true refl

@@ -1,4 +1,4 @@
--- A whole line is taken, and what is found asks for the settings that its uses ask for.
+-- A whole line is accepted, and the values found give the settings of its uses.
 use Rattle.std.proofs.Common.{◌≡◌, ◌&&◌, ◌||◌, not, List, [], ◌∷◌, Bool, true, false, Some, None, refl, sym, ap, ◌∙◌, codes, option_map, is_some, take, drop, length, unwrap_or, nat_le, if◌then◌else◌}
 use Rattle.std.specs.Prelude.{find, fold, slice_get, option_and_then}
 use Rattle.std.specs.List.{list_all}
@@ -25,7 +25,7 @@ use Rattle.norm_settings.proofs.Steps.{shape, rules, at, rule}
 use Rattle.norm_settings.proofs.Rows.{found, found_same, at_absent, values_other, bytes_self}
 use Rattle.norm_settings.proofs.Walking.{HasNames, whole_ends, both_true}
 
--- a whole line is taken
+-- a whole line is accepted
 pub line_is_taken : (words : List Text) (line : PlainLine) → IsWrittenAs words line → is_whole line ≡ true → takes run_command words ≡ true
 line_is_taken words line e w =
     let h = whole_ends words line e w in
@@ -120,7 +120,7 @@ first_found : (r : Option Row) → option_and_then (λ (r : Row). slice_get r.va
 first_found None = refl
 first_found (Some r) = refl
 
--- what is found under an option that is given so
+-- the value found under an option with this value given
 abbrev told : Bool → Option Text → Option Text
 told takes given = head_of (or_absent takes (option_map (λ v. v ∷ []) given))
 
@@ -163,7 +163,7 @@ line_tells m words line e w rows_are prefixes =
 
 -- ---- names
 
--- no default stands under a name
+-- a name has no default
 first_name : (m : ArgMatches) (words : List Text) (rows : List Row) (id value : Text) → rows_of (found_of m) ≡ matches_of run_command words → matches_of run_command words ≡ fold with_default rows rules
     → found id (fold with_default rows rules) ≡ found id rows → found id rows ≡ Some (value ∷ []) → first_value (found_of m) id ≡ Some value
 first_name m words rows id value rows_are ends default is =

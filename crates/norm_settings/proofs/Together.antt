@@ -1,4 +1,4 @@
--- The settings of a run go together.
+-- The settings of a run do not conflict.
 use Rattle.std.proofs.Common.{◌≡◌, ℕ, ◌&&◌, ◌||◌, not, Bool, true, false, List, [], ◌∷◌, Ok, Err, refl, ap, subst, nat_lt, length, if◌then◌else◌}
 use Rattle.std.specs.declared.option.Option.{Option}
 use Rattle.std.specs.declared.option.Option.TheVariants.{Some, None}
@@ -15,7 +15,7 @@ use Rattle.norm_settings.specs.declared.command.Command.{Command}
 use Rattle.norm_settings.specs.declared.command.Command.TheVariants.{Run, Load}
 use Rattle.norm_settings.specs.declared.fault.WordFault.TheVariants.{TooMany, Same}
 
--- with `--both` neither of the two others is given
+-- with `--both` neither `--inside` nor `--mtu` is given
 inside_unset : (both inside mtu : Option Text) → not (is_some both && (is_some inside || is_some mtu)) ≡ true → is_told both ≡ true → name_told inside ≡ None
 inside_unset None inside mtu h t = absurd (cc)
 inside_unset (Some value) None mtu h t = refl

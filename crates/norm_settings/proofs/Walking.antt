@@ -1,4 +1,4 @@
--- The walk over a whole line: it passes, and at its end each option has the value that the line gives it.
+-- The walk over a whole line: it is accepted, and at its end each option has the value that the line gives it.
 use Rattle.std.proofs.Common.{◌≡◌, ℕ, ◌==◌, ◌&&◌, not, List, [], ◌∷◌, ◌++◌, Bool, true, false, Some, None, refl, sym, ap, ◌∙◌, codes, length, nat_le, is_some, if◌then◌else◌, arith, subst, append-nil, append_assoc}
 use Rattle.std.specs.Prelude.{fold}
 use Rattle.std.specs.List.{list_all}
@@ -18,7 +18,7 @@ use Rattle.norm_settings.proofs.Steps.{shape, rules, at, rule, IsPlain, joined_s
 use Rattle.norm_settings.proofs.Rows.{found, Agrees, agrees_added, settled_use, values_other, without_other, in_apart, out_apart, prefix_apart, Fresh, fresh_use, values_here, values_new, values_more}
 use Rattle.command_line.specs.Grammar.{IsWritten, by_sign, by_word, by_name, IsLine, IsWrittenAs}
 
--- what is pending passes
+-- the pending value is accepted
 abbrev pub Settles : List Row → Option (Text × List Text) → Type 0
 Settles rows p = settle_passes rules true (at rows p idle 1).held ≡ true
 
@@ -27,7 +27,7 @@ abbrev pub HasNames : List Text → List Row → Type 0
 HasNames (input ∷ output ∷ prefixes) rows = (found (codes "in") rows ≡ Some (input ∷ [])) × (found (codes "out") rows ≡ Some (output ∷ [])) × (found (codes "prefix") rows ≡ Some prefixes)
 HasNames _ rows = Unit {0}
 
--- the words pass from here, and at their end each option has its value, and so have the names
+-- the words from here on are accepted, and at their end each option and each name has its value
 pub record Ends (w : Walk) (words : List Text) (uses : List PlainUse) (line : List Text) : Type 0 where
   pub rows : List Row
   pub pending : Option (Text × List Text)
@@ -37,7 +37,7 @@ pub record Ends (w : Walk) (words : List Text) (uses : List PlainUse) (line : Li
   pub agrees : Agrees uses (settled_rows rules pending rows)
   pub has_names : HasNames line (settled_rows rules pending rows)
 
--- one more word passes
+-- one more word is accepted
 pass_more : (w after : Walk) (word : Text) (rest : List Text) → turn_passes shape [] w word ≡ true → walked rules [] w word ≡ after → walk_passes shape [] after rest ≡ true → walk_passes shape [] w (word ∷ rest) ≡ true
 unfolding walk_passes
 pass_more w after word rest p e q = rw (p, e) q
@@ -83,7 +83,7 @@ out_agrees v uses rows h c =
 prefix_agrees : (v : Text) (uses : List PlainUse) (rows : List Row) → Agrees uses rows → Agrees uses (settled_rows rules (Some (codes "prefix", v ∷ [])) rows)
 prefix_agrees v uses rows h c = values_other (name_of c) (codes "prefix") _ CommandLine (v ∷ []) rows (prefix_apart c) ∙ h c
 
--- where the prefixes so far are these
+-- the prefixes found so far are `done`
 abbrev Named : Text → Text → List Text → List Row → Type 0
 Named a b done rows = HasNames (a ∷ b ∷ done) rows
 
@@ -180,14 +180,14 @@ alone_use Both rows e = refl
 abbrev Good : List Text → Type 0
 Good line = (nat_le 3 (length line) ≡ true) × (list_all is_name line ≡ true)
 
--- where these uses were walked over, what waits passes, and each option has the value that they give it
+-- after these uses: the pending value is accepted, each option has the value that they give it, and no name is found yet
 abbrev Ready : List Row → Option (Text × List Text) → List PlainUse → Type 0
 Ready rows p uses = Settles rows p × Agrees uses (settled_rows rules p rows) × Fresh (settled_rows rules p rows)
 
 abbrev with_use : List PlainUse → PlainUse → List PlainUse
 with_use uses u = uses ++ u ∷ []
 
--- one use more is walked over
+-- one more use
 one_use : (u : PlainUse) (front rest line : List Text) (done all : List PlainUse) → IsWritten u front → may_use u.choice u.value done ≡ true
     → ((rows : List Row) (p : Option (Text × List Text)) → Ready rows p (with_use done u) → Ends (at rows p idle 1) rest all line)
     → (rows : List Row) (p : Option (Text × List Text)) → Ready rows p done → Ends (at rows p idle 1) (front ++ rest) all line
@@ -233,7 +233,7 @@ go (u ∷ uses) done words line (front, rest, e, w, h) f g rows p r =
     (subst (λ ws. Ends (at rows p idle 1) ws (with_use done u ++ uses) line) (sym e)
     (one_use u front rest line done (with_use done u ++ uses) w t.0 (go uses (with_use done u) rest line h t.1 g) rows p r))
 
--- a whole line passes
+-- a whole line is accepted
 pub whole_ends : (words : List Text) (line : PlainLine) → IsWrittenAs words line → is_whole line ≡ true → Ends (at [] None idle 1) words line.uses line.names
 whole_ends words line h w =
     let t = both_true (nat_le 3 (length line.names) && list_all is_name line.names) (go_together line.uses) w in

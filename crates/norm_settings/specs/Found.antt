@@ -1,4 +1,4 @@
--- What the reader of command lines finds (this project's profile).
+-- The values that clap finds in a command line (this project's profile).
 use Rattle.std.specs.Prelude.{◌≡◌, List, ◌∷◌, Option, Some, map, option_map, fold, codes, true}
 use Rattle.clap.specs.Walk.{Rule}
 use Rattle.clap.specs.Simple.{App, new_app, new_rule, with_rule, on_top}
@@ -13,35 +13,35 @@ use Rattle.command_line.specs.declared.options.Choice.{Choice}
 use Rattle.command_line.specs.declared.options.Kind.{Kind}
 use Rattle.command_line.specs.declared.options.Kind.TheVariants.{Alone}
 
--- the value that was found for an option
+-- the value found for an option
 abbrev pub value_in : ArgMatches → Choice → Option Text
 value_in matches choice = first_value (found_of matches) (name_of choice)
 
--- what was found asks for the settings that the uses ask for
+-- the values found give the same settings as the uses
 abbrev pub TellsAs : ArgMatches → List PlainUse → Type 0
 TellsAs matches uses = (prefixes : List Prefix) → settings_of (value_in matches) prefixes ≡ settings_of (λ choice. given choice uses) prefixes
 
--- the words that were found as IN, OUT and PREFIX are these
+-- the words found as IN, OUT and PREFIX are these
 abbrev pub NamesAre : ArgMatches → List Text → Type 0
 NamesAre matches (input ∷ output ∷ prefixes) =
     (first_value (found_of matches) (codes "in") ≡ Some input) × (first_value (found_of matches) (codes "out") ≡ Some output)
     × (option_map raw_values (matched_of (found_of matches) (codes "prefix")) ≡ Some prefixes)
 NamesAre matches _ = ⊥
 
--- what was found is what the line tells
+-- the values and names found are those of the line
 abbrev pub ReadsAs : ArgMatches → PlainLine → Type 0
 ReadsAs matches line = TellsAs matches line.uses × NamesAre matches line.names
 
--- the argument of an option
+-- the clap argument of an option of this kind and name
 abbrev pub rule_by : Kind → Text → Rule
 rule_by Alone name = record (new_rule name) { long = Some name; action = Some SetTrue }
 rule_by _ name = record (new_rule name) { long = Some name }
 
--- the argument of an option of the table
+-- the clap argument of an option of the table
 abbrev pub rule_for : Choice → Rule
 rule_for choice = rule_by (kind_of choice) (name_of choice)
 
--- the arguments of the names: IN, OUT, and PREFIX, of which there may be more than one
+-- the clap arguments of the names: IN, OUT, and PREFIX, which may be given several times
 abbrev pub input_rule : Rule
 input_rule = new_rule (codes "in")
 
@@ -51,10 +51,10 @@ output_rule = new_rule (codes "out")
 abbrev pub prefix_rule : Rule
 prefix_rule = record (new_rule (codes "prefix")) { action = Some Append }
 
--- the command without an argument: it has no name of a program before the words and no help of its own, and leaves repeats to who asks
+-- the clap command without arguments: no program name before the words, no help option, and a repeated option overrides the one before
 abbrev pub bare : App
 bare = on_top (λ s. record s { no_binary_name = true; disable_help_flag = true; args_override_self = true }) (new_app (codes "run"))
 
--- the command that reads a run's words, before it is built: an argument for each option, and then the names
+-- the clap command for the words of a run, before it is built: an argument for each option, and then the names
 abbrev pub run_command : App
 run_command = with_rule (with_rule (with_rule (fold with_rule bare (map rule_for all_choices)) input_rule) output_rule) prefix_rule

@@ -47,24 +47,24 @@ plain_settings s =
       mtu = s.mtu;
     }
 
--- the bound that is told by an option of which this value, or none, is found
+-- the number of an option with this value found, or None if there is no value or it does not fit
 abbrev pub limit_told : Choice → Option Text → Option ℕ
 limit_told choice found = option_and_then (number_by (kind_of choice)) found
 
--- the number that is told, or else the standard one
+-- the number of an option, or else its default
 abbrev pub number_told : Choice → Option Text → ℕ
 number_told choice found = unwrap_or (limit_told choice found) (standard_of (kind_of choice))
 
--- the name that is told, where it fits
+-- the name given, if it fits
 abbrev pub name_told : Option Text → Option Text
 name_told found = option_and_then (λ name. if is_value Name name then Some name else None) found
 
--- whether an option that stands alone is told: its value is then `true`
+-- whether an option without a value is given: its value found is then `true`
 abbrev pub is_told : Option Text → Bool
 is_told None = false
 is_told (Some value) = bytes_eq value (codes "true")
 
--- the settings that options and prefixes ask for
+-- the settings of the values found for the options, and of the prefixes
 abbrev pub settings_of : (Choice → Option Text) → List Prefix → PlainSettings
 settings_of found prefixes =
     record {
@@ -85,7 +85,7 @@ settings_of found prefixes =
       mtu = limit_told Mtu (found Mtu);
     }
 
--- the settings where only prefixes are asked for: of each option what its row of the table says
+-- the default settings with these prefixes, by the table of options
 abbrev pub standard : List Prefix → PlainSettings
 standard prefixes = settings_of (λ choice. None) prefixes
 
@@ -102,8 +102,8 @@ pub record AreInRange (s : PlainSettings) : Type 0 where
   pub quota : IfSome s.quota (IsWithin 1 262144)
   pub mtu : IfSome s.mtu (IsWithin 576 65535)
 
--- Settings that go together: where both sides are protected, they exchange no sides (the second engine has settings of its own), and give neither the sides of
--- interfaces nor a longest packet.
+-- The settings do not conflict: with `both` they do not exchange sides (the second engine has settings of its own), and have neither an inside interface nor a
+-- maximum packet length.
 pub record GoTogether (s : PlainSettings) : Type 0 where
   pub mirror : s.both ≡ true → s.mirror ≡ false
   pub inside : s.both ≡ true → s.inside ≡ None

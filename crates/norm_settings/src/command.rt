@@ -1,4 +1,4 @@
-//! What the words of the command line ask for.
+//! The command of a command line.
 use crate::Settings;
 
 /// The files of a run.
@@ -8,7 +8,7 @@ pub struct Names {
     pub output: String,
 }
 
-/// What is to be done: a capture normalized, or `count` records made from a seed and put through.
+/// The command: to normalize a capture, or to normalize `count` records generated from a seed.
 #[derive(Debug, Drop)]
 pub enum Command {
     Run { names: Names, settings: Settings },

@@ -1,4 +1,4 @@
-//! Why words are refused.
+//! Faults of a command line.
 ghost use Rattle.std.specs.Prelude.{◌≡◌};
 ghost use Rattle.norm_settings.specs.Faults.{number_of};
 ghost use Rattle.norm_settings.specs.declared.fault.WordFault.TheVariants.{NoMemory};
@@ -6,15 +6,16 @@ ghost use Rattle.norm_settings.specs.declared.fault.WordFault.TheVariants.{NoMem
 use std::alloc::AllocError;
 use thiserror::Error;
 
-/// Why words are no command.
+/// Reasons why words are not a command.
 #[derive(Clone, Copy, Debug, PartialEq, Eq, Error)]
 pub enum WordFault {
-    /// Another form than `run OPTION* IN OUT PREFIX+` and `load SEED COUNT`: an option that is unknown, stands twice, has
-    /// no value or one that does not fit, or does not go with another; a name that is empty or begins with `-`; or a seed
-    /// or a count that is no number, or one out of its range.
+    /// Words of another form than `run OPTION* IN OUT PREFIX+` and `load SEED COUNT`: an option
+    /// that is unknown, is given twice, has no value or one that does not fit, or conflicts with
+    /// another; a name that is empty or begins with `-`; or a seed or count that is not a number or
+    /// is out of its range.
     #[error("not the words `run [OPTION..] IN OUT PREFIX..` or `load SEED COUNT`")]
     Refused,
-    /// The prefix at this place, counted from 1, is no prefix.
+    /// The prefix at this position, counted from 1, is malformed.
     #[error("prefix {0} is faulty")]
     Prefix(u8),
     #[error("more than 16 prefixes")]
@@ -26,7 +27,7 @@ pub enum WordFault {
 }
 
 impl WordFault {
-    /// The fault's number in the report.
+    /// Returns the fault's number in the report.
     pub fn number(&self) -> u8
         ensures { result ≡ number_of self.now }
     {

@@ -1,4 +1,4 @@
-//! Settings from what the reader of command lines found.
+//! Settings from the values that clap found.
 ghost use Rattle.std.specs.Prelude.{◌≡◌, ◌≤◌, All, List, ℕ, Option, IfSome, map, option_map, length};
 ghost use Rattle.command_line.specs.Options.{kind_of, number_by as number_of_kind, IsWithin, IsInRange, HasStandard};
 ghost use Rattle.norm_settings.specs.Settings.{plain_settings, settings_of, number_told, limit_told, name_told, is_told, AreInRange};
@@ -10,7 +10,7 @@ use clap::ArgMatches;
 use command_line::{Choice, Kind, is_value, number_within};
 use wire_base::Prefix;
 
-/// The settings that the values found ask for, over these prefixes.
+/// Returns the settings of the values found, with these prefixes.
 pub fn settings_found(matches: &ArgMatches<'_>, prefixes: ArrayVec<Prefix, 16>) -> Settings
     requires { All (λ prefix. prefix.len ≤ 32) prefixes.items }
     ensures exact { plain_settings result ≡ settings_of (value_in matches.now) prefixes.items }
@@ -48,7 +48,7 @@ pub fn settings_found(matches: &ArgMatches<'_>, prefixes: ArrayVec<Prefix, 16>) 
     }
 }
 
-// The number that the option has, or its standard one.
+// Returns the number given for the option, or its default.
 fn number_found(matches: &ArgMatches<'_>, choice: Choice) -> u64
     requires { HasStandard (kind_of choice) }
     ensures exact { result ≡ number_told choice (value_in matches.now choice) }
@@ -60,7 +60,7 @@ fn number_found(matches: &ArgMatches<'_>, choice: Choice) -> u64
     }
 }
 
-// The number that the option has, where it has one in its range.
+// Returns the number given for the option, if there is one in its range.
 fn limit_found(matches: &ArgMatches<'_>, choice: Choice) -> Option<u64>
     ensures exact { result ≡ limit_told choice (value_in matches.now choice) }
     ensures in_range { IfSome result (IsInRange (kind_of choice)) }
@@ -70,7 +70,7 @@ fn limit_found(matches: &ArgMatches<'_>, choice: Choice) -> Option<u64>
     number_by(row.kind, value.as_bytes())
 }
 
-// The number that the octets are, where they fit the option.
+// Parses the number of an option of this kind; None if the octets do not fit it.
 fn number_by(kind: Kind, value: &[u8]) -> Option<u64>
     ensures exact { result ≡ number_of_kind kind value.now }
     ensures in_range { IfSome result (IsInRange kind) }
@@ -106,7 +106,7 @@ fn mtu_found(matches: &ArgMatches<'_>) -> Option<u16>
     }
 }
 
-// The name that the option has, where it fits.
+// Returns the name given for the option, if it fits.
 fn name_found(matches: &ArgMatches<'_>, choice: Choice) -> Option<ArrayVec<u8, 64>>
     ensures exact { option_map (λ name. name.items) result ≡ name_told (value_in matches.now choice) }
     ensures in_range { IfSome result (λ name. IsWithin 1 64 (length name.items)) }
@@ -120,7 +120,7 @@ fn name_found(matches: &ArgMatches<'_>, choice: Choice) -> Option<ArrayVec<u8, 6
     Some(name)
 }
 
-// Whether the option is given.
+// Returns whether the option is given.
 fn is_found(matches: &ArgMatches<'_>, choice: Choice) -> bool
     ensures { result ≡ is_told (value_in matches.now choice) }
 {

@@ -1,4 +1,12 @@
-//! What a run is asked for: its settings, the side that they give a packet, and the words of the command line.
+//! What a run is asked for: its settings, the side of a packet, and the command line.
+//!
+//! Proved: `read_words` returns the command that the words form, exactly by the grammar: a run with
+//! its names and settings, or a load with its seed and count. Otherwise it returns the first fault
+//! in the order 1, 5, 3, 2, with the position of the first malformed prefix, or that memory could
+//! not be allocated. The settings returned are in their ranges and go together. clap refuses a line
+//! whose options and names have the right form only if memory could not be allocated
+//! (`run_matches`). `side_of` returns the side of a packet by the trusted addresses, also with
+//! exchanged sides.
 #![tactic(auto)]
 
 pub mod command;

@@ -1,4 +1,4 @@
-//! The command that reads the words of a run.
+//! The clap command that parses the words of a run.
 ghost use Rattle.std.specs.Prelude.{◌≡◌, ◌++◌, ◌∷◌, [], IfOk, IfErr, map, fold, string_bytes, codes, None, Some, true, false};
 ghost use Rattle.clap.specs.Values.{kind_of};
 ghost use Rattle.clap.specs.Walk.{rule_of};
@@ -14,11 +14,11 @@ use command_line::laws::lines_are_those_written;
 use command_line::{Choice, Kind};
 use std::alloc::{AllocError, Global};
 
-/// What the reader of command lines finds in the words behind `run`.
+/// Parses the words after `run` with clap.
 pub fn run_matches<'a>(alloc: Global, words: &'a [String]) -> Result<ArgMatches<'a>, Error>
-    // On a whole line, what is found is what the line tells.
+    // Of a whole line, clap finds the values and names of the line.
     ensures ok { IfOk result (λ matches. (line : PlainLine) → line_of (map string_bytes words.entry.now) ≡ Some line → is_whole line ≡ true → spec.ReadsAs matches line) }
-    // A whole line is refused only for want of memory.
+    // A whole line is refused only if memory could not be allocated.
     ensures err { IfErr result (λ error. (line : PlainLine) → line_of (map string_bytes words.entry.now) ≡ Some line → is_whole line ≡ true → kind_of error ≡ ErrorKind.OutOfMemory) }
 {
     lines_are_those_written();
@@ -28,7 +28,7 @@ pub fn run_matches<'a>(alloc: Global, words: &'a [String]) -> Result<ArgMatches<
     }
 }
 
-// The command: an argument for each option, and then the names.
+// Returns the clap command: an argument for each option, and then the names.
 fn run_command<'a>(alloc: Global) -> Result<Command<'a>, AllocError>
     ensures { IfOk result (λ command. app_of command ≡ spec.run_command) }
 {
@@ -42,7 +42,7 @@ fn run_command<'a>(alloc: Global) -> Result<Command<'a>, AllocError>
     Ok(third)
 }
 
-// The command with an argument for each option.
+// Returns the clap command with an argument for each option.
 fn option_command<'a>(alloc: Global) -> Result<Command<'a>, AllocError>
     ensures { IfOk result (λ command. app_of command ≡ fold with_rule spec.bare (map spec.rule_for all_choices)) }
 {
@@ -63,7 +63,7 @@ fn bare_command<'a>(alloc: Global) -> Command<'a>
         .args_override_self(true)
 }
 
-// The argument of an option of this name and kind.
+// Returns the clap argument of an option of this name and kind.
 fn option_argument<'a>(alloc: Global, name: &'a str, kind: Kind) -> Arg<'a>
     ensures rule { rule_of result ≡ spec.rule_by kind name.entry.now }
     ensures local { result.global ≡ false }

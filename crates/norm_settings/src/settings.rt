@@ -6,43 +6,45 @@ use arrayvec::ArrayVec;
 use command_line::Choice;
 use wire_base::Prefix;
 
-/// What a run is told beside its files.
+/// The settings of a run.
 #[derive(Debug, Drop)]
 pub struct Settings {
-    /// The addresses behind the bridge; each prefix has at most 32 bits.
+    /// The prefixes of the trusted addresses; each has at most 32 bits.
     pub prefixes: ArrayVec<Prefix, 16>,
-    /// Routers behind the bridge, from 0 to 254.
+    /// Maximum number of routers between norm and a trusted host, from 0 to 254.
     pub hops: u8,
-    /// Eras of connections that may be live, from 1 to 65,536.
+    /// Maximum number of live eras, from 1 to 65,536.
     pub flows: u32,
-    /// Cells of 256 octets for streams, from 1 to 262,144.
+    /// Number of cells of 256 octets for streams, from 1 to 262,144.
     pub cells: u32,
-    /// Datagrams in reassembly, from 1 to 4,096.
+    /// Maximum number of datagrams with held fragments, from 1 to 4,096.
     pub frags: u32,
-    /// Cells of 256 octets for fragments, from 256 to 65,536.
+    /// Number of cells of 256 octets for fragments, from 256 to 65,536.
     pub frag_cells: u32,
     /// Seconds until an idle era ends, from 1 to 1,000,000.
     pub idle: u32,
-    /// Seconds until a datagram in reassembly is forgotten, from 1 to 3,600.
+    /// Seconds until the held fragments of a datagram are discarded, from 1 to 3,600.
     pub frag_time: u32,
     /// The seed of the tables' hashes.
     pub seed: u64,
-    /// Whether outbound checksums are mended.
+    /// Whether wrong checksums of outbound packets are rewritten.
     pub offload: bool,
-    /// Cells of 256 octets that one connection may hold, from 1 to 262,144; no bound where it is unset.
+    /// Maximum number of cells of 256 octets that one era may hold, from 1 to 262,144; None for no
+    /// limit.
     pub quota: Option<u32>,
-    /// Whether a second engine, its sides exchanged, reads what the first writes.
+    /// Whether a second engine, with exchanged sides, reads the frames that the first writes.
     pub both: bool,
-    /// Whether the addresses in no prefix are those behind the bridge. No word asks for it.
+    /// Whether the addresses in no prefix are the trusted ones. No word of the command line sets
+    /// it.
     pub mirror: bool,
-    /// The name of the interface behind the bridge, of 1 to 64 octets.
+    /// The name of the inside interface, of 1 to 64 octets.
     pub inside: Option<ArrayVec<u8, 64>>,
-    /// The octets of the longest packet that goes out, from 576 to 65,535; no bound where it is unset.
+    /// Maximum length of a written packet in octets, from 576 to 65,535; None for no limit.
     pub mtu: Option<u16>,
 }
 
 impl Settings {
-    /// The settings where nothing but prefixes is asked for: the standard values of the table of options.
+    /// Returns the settings of these prefixes, with the default values of the table of options.
     pub fn standard(prefixes: ArrayVec<Prefix, 16>) -> Settings
         ensures { plain_settings result ≡ standard prefixes.items }
     {
@@ -65,7 +67,7 @@ impl Settings {
         }
     }
 
-    /// The same settings once more; no memory is taken.
+    /// Returns a copy of the settings; allocates no memory.
     pub fn copied(&self) -> Settings
         ensures { plain_settings result ≡ plain_settings self.now }
     {
@@ -92,7 +94,7 @@ impl Settings {
     }
 }
 
-// The same name once more.
+// Returns a copy of the name.
 fn copied_name(name: &Option<ArrayVec<u8, 64>>) -> Option<ArrayVec<u8, 64>>
     ensures { option_map (λ octets. octets.items) result ≡ option_map (λ octets. octets.items) name.now }
 {

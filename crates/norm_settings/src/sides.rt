@@ -1,4 +1,4 @@
-//! Which way a packet goes.
+//! The side of a packet.
 ghost use Rattle.std.specs.Prelude.{◌≡◌, ◌≤◌, All, None};
 ghost use Rattle.norm_settings.specs.Settings.{plain_settings};
 ghost use Rattle.norm_settings.specs.Side.{is_listed as is_in_some, is_trusted as is_trusted_by, side};
@@ -6,8 +6,8 @@ ghost use Rattle.norm_settings.specs.Side.{is_listed as is_in_some, is_trusted a
 use crate::Settings;
 use wire_base::{Addr, Prefix, Side};
 
-/// The side of a packet from the one address to the other, where its record has no side: outward where only the first is
-/// trusted, inward where only the second is.
+/// Returns the side of a packet from `src` to `dst` whose record has no side: outward if only `src`
+/// is trusted, inward if only `dst` is.
 pub fn side_of(settings: &Settings, src: Addr, dst: Addr) -> Option<Side>
     requires { All (λ prefix. prefix.len ≤ 32) settings.now.prefixes.items }
     ensures { result ≡ side (plain_settings settings.now) None src.0 dst.0 }
@@ -19,7 +19,7 @@ pub fn side_of(settings: &Settings, src: Addr, dst: Addr) -> Option<Side>
     }
 }
 
-// Whether the address is behind the bridge.
+// Returns whether the address is trusted.
 fn is_trusted(settings: &Settings, address: Addr) -> bool
     requires { All (λ prefix. prefix.len ≤ 32) settings.now.prefixes.items }
     ensures { result ≡ is_trusted_by (plain_settings settings.now) address.0 }
@@ -28,7 +28,7 @@ fn is_trusted(settings: &Settings, address: Addr) -> bool
     if settings.mirror { !listed } else { listed }
 }
 
-// Whether one of the prefixes holds the address.
+// Returns whether one of the prefixes holds the address.
 fn is_listed(prefixes: &[Prefix], address: Addr) -> bool
     requires { All (λ prefix. prefix.len ≤ 32) prefixes.now }
     ensures { result ≡ is_in_some prefixes.now address.0 }

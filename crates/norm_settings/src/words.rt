@@ -19,7 +19,7 @@ use command_line::{Line, Use, is_given, line_of, number_within};
 use std::alloc::Global;
 use wire_base::{Prefix, read_prefix};
 
-/// The command that the words are: `run OPTION* IN OUT PREFIX+`, or `load SEED COUNT`.
+/// Parses the words of a command: `run OPTION* IN OUT PREFIX+`, or `load SEED COUNT`.
 pub fn read_words(alloc: Global, words: &[String]) -> Result<Command, WordFault>
     ensures ok { IfOk result (λ command. asked (map string_bytes words.now) ≡ Ok (plain_command command)) }
     ensures in_range { IfOk result SettingsAreInRange }
@@ -38,7 +38,7 @@ pub fn read_words(alloc: Global, words: &[String]) -> Result<Command, WordFault>
     Err(WordFault::Refused)
 }
 
-// The load that the words behind `load` ask for.
+// Parses the words after `load`.
 fn read_load(words: &[String]) -> Result<Command, WordFault>
     ensures ok { IfOk result (λ command. asked_load (map string_bytes words.now) ≡ Ok (plain_command command)) }
     ensures in_range { IfOk result SettingsAreInRange }
@@ -60,7 +60,7 @@ fn read_load(words: &[String]) -> Result<Command, WordFault>
     })
 }
 
-// The run that the words behind `run` ask for.
+// Parses the words after `run`.
 fn read_run(alloc: Global, words: &[String]) -> Result<Command, WordFault>
     ensures ok { IfOk result (λ command. asked_run (spec.line_of (map string_bytes words.now)) ≡ Ok (plain_command command)) }
     ensures in_range { IfOk result SettingsAreInRange }
@@ -82,7 +82,7 @@ fn read_run(alloc: Global, words: &[String]) -> Result<Command, WordFault>
     }
 }
 
-// The run that a whole line asks for, where this was found in its words.
+// Returns the run of a whole line from the values that clap found in its words.
 fn run_found(alloc: Global, matches: &ArgMatches<'_>) -> Result<Command, WordFault>
     ensures ok { IfOk result (λ command. (line : PlainLine) → ReadsAs matches.now line → run_of line ≡ Ok (plain_command command)) }
     ensures in_range { IfOk result SettingsAreInRange }
@@ -114,7 +114,7 @@ fn run_found(alloc: Global, matches: &ArgMatches<'_>) -> Result<Command, WordFau
     })
 }
 
-// The prefixes that the words are.
+// Parses the prefixes.
 fn read_prefixes(words: &[&str]) -> Result<ArrayVec<Prefix, 16>, WordFault>
     requires { length words.now ≤ 16 }
     ensures ok { IfOk result (λ prefixes. prefixes_from [] (map (λ word. word.now) words.now) ≡ Ok prefixes.items) }
@@ -131,7 +131,8 @@ fn read_prefixes(words: &[&str]) -> Result<ArrayVec<Prefix, 16>, WordFault>
     Ok(prefixes)
 }
 
-// Whether the names are at least three, none of them empty and none beginning with `-`, and the options go together.
+// Returns whether there are at least three names, none of them empty and none beginning with `-`,
+// and the options do not conflict.
 fn is_whole(line: &Line<'_>) -> bool
     ensures { result ≡ is_whole_line (plain_line line.now) }
 {
@@ -149,7 +150,7 @@ fn all_names(words: &[String]) -> bool
     true
 }
 
-// Whether `--both` stands neither with `--inside` nor with `--mtu`.
+// Returns whether `--both` is given neither with `--inside` nor with `--mtu`.
 fn go_together(uses: &[Use<'_>]) -> bool
     ensures { result ≡ do_go_together (map plain_use uses.now) }
 {
@@ -159,7 +160,7 @@ fn go_together(uses: &[Use<'_>]) -> bool
     !(both && (inside || mtu))
 }
 
-// Whether the word is not empty and does not begin with `-`.
+// Returns whether the word is not empty and does not begin with `-`.
 fn is_name(word: &[u8]) -> bool
     ensures { result ≡ is_name_of word.now }
 {
@@ -185,7 +186,7 @@ mod tests {
         Ok(line)
     }
 
-    // `run`, the options, and then two names and a prefix.
+    // Reads `run`, the options, and then two names and a prefix.
     fn read_options(
         alloc: Global,
         options: &[&str],
@@ -339,7 +340,7 @@ mod tests {
         Ok(())
     }
 
-    // `run a`, this name, and 16 prefixes.
+    // Returns `run a`, this name, and 16 prefixes.
     fn full_line(alloc: Global, output: &str) -> Result<Vec<String>, AllocError> {
         let mut line = line(alloc, &["run", "a", output])?;
         for _ in 0..16 {
@@ -360,7 +361,7 @@ mod tests {
         Ok(())
     }
 
-    // Exactly two numbers stand behind `load`, the second of them from 1 to 1,000,000.
+    // Exactly two numbers follow `load`, the second of them from 1 to 1,000,000.
     #[test]
     fn loads_are_refused(rt: HostRuntime) -> Result<(), Fail> {
         let rows: [&[&str]; 12] = [

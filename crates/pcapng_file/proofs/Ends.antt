@@ -1,4 +1,4 @@
--- Each list of octets is sections or has a first fault; each block takes some of them.
+-- Each list of octets is sections or has a first fault; each block has at least one octet.
 use Rattle.std.proofs.Common.{◌≡◌, ◌≢◌, ℕ, zero, suc, ◌+◌, ◌-◌, ◌<◌, ◌≤◌, ◌==◌, ◌⊎◌, true, List, [], ◌∷◌, ◌++◌, length, take, drop, Some, None, Ok, Err, refl, sym, ap, ◌∙◌, subst, arith, inl, inr, length-drop}
 use Rattle.std.proofs.lemmas.Bool.{cases_lt, cases_Bool}
 use Rattle.std.proofs.lemmas.Bool.Decides.{eqb_tells}
@@ -35,7 +35,7 @@ same_link (Some Ethernet) Raw l may e = absurd cc
 same_link (Some Raw) Ethernet l may e = absurd cc
 same_link (Some Raw) Raw l may e = e
 
--- the link of the first interface stays
+-- the link of the first interface stays the same
 module _ (inside : Option (List ℕ)) (s : Sections) (order : Order) (kind size : ℕ) (block : List ℕ) (l : Link) (linked : s.link ≡ Some l) where
   found_keeps : (content : Content) → IsPlaced content s kind size → (after_found (counted s) order (found_of inside order size block content)).link ≡ Some l
   found_keeps (says.Fails fault) placed = linked
@@ -67,12 +67,12 @@ told_counts inside s order size block step e =
     let found = found_of inside order size block (content_of inside s order (u32_at order block 0) size block) in
     ap (λ (t : Sections). t.blocks) (step_after (counted s) order size block found step e) ∙ blocks_after s order found
 
--- a fault stands at the front
+-- a fault is at the front
 record HasFault (inside : Option (List ℕ)) (s : Sections) (x : List ℕ) : Type 0 where
   fault : NgFault
   flawed : block_at inside s x ≡ Err fault
 
--- a block stands at the front, and takes some octets
+-- a block is at the front, and has at least one octet
 record HasStep (inside : Option (List ℕ)) (s : Sections) (x : List ℕ) : Type 0 where
   step : Step
   rest : List ℕ
@@ -108,7 +108,7 @@ module _ (inside : Option (List ℕ)) (s : Sections) (x : List ℕ) where
   ordered_cases None e few = inl (record { fault = faults.Magic; flawed = e })
   ordered_cases (Some order) e few = sized_cases order (u32_at order x 4) e few
 
-  -- the octets end here, or a fault or a block stands at the front
+  -- the octets end here, or a fault or a block is at the front
   front_cases : ((x ≡ []) × (block_at inside s [] ≡ Ok None)) ⊎ (HasFault inside s x ⊎ HasStep inside s x)
   front_cases = elim (cases_lt 0 (length x)) [
     | inr none ↦ nothing s.link refl (nil_from_length x (omega arith))
@@ -124,7 +124,7 @@ module _ (inside : Option (List ℕ)) (s : Sections) (x : List ℕ) where
     nothing None e none = inr (inl (record { fault = faults.Cut; flawed = ap (block_at inside s) none ∙ at_nothing inside s ∙ ap end_by e }))
     nothing (Some link) e none = inl (none, at_nothing inside s ∙ ap end_by e)
 
--- behind these blocks the octets end well or badly
+-- after these blocks the octets end well or badly
 ends_from : (most : ℕ) (inside : Option (List ℕ)) (octets : List ℕ) (steps : List Step) (rest : List ℕ) → Walks inside no_section octets steps rest → length rest < most
     → EndsWell inside octets ⊎ EndsBadly inside octets
 ends_from zero inside octets steps rest walks enough = absurd (omega arith)
@@ -171,7 +171,7 @@ given_on : (given : Option Packet) (newer older : List Packet) → with_given gi
 given_on None newer older = refl
 given_on (Some packet) newer older = refl
 
--- blocks behind blocks
+-- the state after blocks that follow blocks
 pub behind_on : (s : Sections) (steps newer : List Step) → behind s (newer ++ steps) ≡ behind (behind s steps) newer
 behind_on s steps [] = refl
 behind_on s steps (step ∷ newer) = refl
@@ -195,7 +195,7 @@ walks_on inside s all left rest ps newer p q = record {
   together [] rest q = subst (Walks inside s all ps) q p
   together (step ∷ qs) rest q = (q.0, together qs q.0 q.1, ap (λ t. block_at inside t q.0) (behind_on s ps qs) ∙ q.2)
 
--- the link of the first interface stays over blocks
+-- the link of the first interface stays the same over blocks
 pub links_stay : (inside : Option (List ℕ)) (s : Sections) (all : List ℕ) (steps : List Step) (rest : List ℕ) → Walks inside s all steps rest → (link : Link) → s.link ≡ Some link
     → (behind s steps).link ≡ Some link
 links_stay inside s all [] rest p link e = e

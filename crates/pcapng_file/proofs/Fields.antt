@@ -1,4 +1,4 @@
--- What the fixed fields of a block say does not hang on what stands behind them.
+-- The content of a block by its fixed fields does not depend on the octets after them.
 use Rattle.std.proofs.Common.{◌≡◌, ℕ, ◌+◌, ◌*◌, ◌/◌, ◌%◌, ◌<◌, ◌≤◌, ◌==◌, ◌^◌, not, nat_lt, Bool, true, false, List, ◌++◌, length, slice_get, Some, None, refl, sym, ap, ◌∙◌, arith, inl, inr, if◌then◌else◌}
 use Rattle.std.proofs.lemmas.Bool.{cases_lt, cases_Bool, ltb-false, ltb-true, not-false, lt-ltb, le-ltb}
 use Rattle.std.proofs.lemmas.Bool.Decides.{nat_tests}

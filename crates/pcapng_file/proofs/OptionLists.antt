@@ -9,7 +9,7 @@ use Rattle.pcapng_file.specs.declared.interface.Seen.{Seen}
 use Rattle.pcapng_file.specs.Options.{Entry, options_in, options_of, option_size, entry_at, is_end, is_named, nano_of, with_unit, described}
 use Rattle.pcapng_file.specs.Seen.{seen_behind, described_by, nothing_seen, nano_first, named_first, named_by, nano_by}
 
--- an option stands at the front where four octets are left and the code is not 0
+-- if the options do not end here, at least four octets are left
 not_end : (order : Order) (area : List ℕ) → is_end order area ≡ false → 4 ≤ length area
 not_end order area e = grind (arith, nat_tests)
 
@@ -27,7 +27,7 @@ goes_on : (most : ℕ) (order : Order) (area : List ℕ) → is_end order area �
 unfolding options_in
 goes_on most order area e fits = rw e (grind (arith, nat_tests))
 
--- more turns than octets change nothing
+-- with at least as many steps as octets, the number of steps does not matter
 enough : (m n : ℕ) (order : Order) (area : List ℕ) → length area ≤ m → length area ≤ n → options_in m order area ≡ options_in n order area
 enough m n order area p q = elim (cases_Bool (is_end order area)) [
   | inl e ↦ ends m order area e ∙ sym (ends n order area e)
@@ -60,7 +60,7 @@ one_option order area e fits =
     enough (length area) (suc (length area)) order area (omega arith) (omega arith) ∙ goes_on (length area) order area e fits
     ∙ ap (option_map (λ entries. entry_at order area ∷ entries)) (enough (length area) (length rest) order rest shorter (omega arith))
 
--- what is described behind what was seen, where that is one that is read
+-- the interface described by the facts read so far and the options not yet read; None if either is malformed
 abbrev pub result_by : (inside : Option (List ℕ)) → (snap : ℕ) → Option Seen → Option (List Entry) → Option Interface
 result_by inside snap None options = None
 result_by inside snap (Some seen) options = described_by inside snap seen options
@@ -79,7 +79,7 @@ unit_later : (nano : Option Bool) (entry : Entry) (entries : List Entry) → (en
 unit_later (Some n) entry entries e = refl
 unit_later None entry entries e = rw e refl
 
--- the unit of time of an option for it
+-- an option for the unit of time
 unit_first : (inside : Option (List ℕ)) (snap : ℕ) (seen : Seen) (nano told : Option Bool) (entries : List Entry) → seen.nano ≡ nano
     → with_unit snap (named_by inside seen.named entries) (elim nano [ None ↦ told | Some n ↦ Some n ]) ≡ result_by inside snap (nano_first seen nano told) (Some entries)
 unit_first inside snap seen (Some n) told entries e = rw e refl
@@ -90,7 +90,7 @@ nothing_more : (inside : Option (List ℕ)) (snap : ℕ) (seen : Option Seen) �
 nothing_more inside snap None = refl
 nothing_more inside snap (Some seen) = refl
 
--- an option before the others is seen first
+-- an option before the others is read first
 pub seen_first : (inside : Option (List ℕ)) (snap : ℕ) (seen : Seen) (entry : Entry) (options : Option (List Entry))
     → described_by inside snap seen (option_map (λ entries. entry ∷ entries) options) ≡ result_by inside snap (seen_behind inside seen entry) options
 seen_first inside snap seen entry None = sym (nothing_more inside snap (seen_behind inside seen entry))
@@ -116,7 +116,7 @@ seen_first inside snap seen entry (Some entries) = elim (cases_Bool (entry.code 
   unit_is (Some n) e = refl
   unit_is None e = rw e refl
 
--- before the first option, what is described is what all options describe
+-- before the first option, the interface is the one that all options describe
 pub all_options : (inside : Option (List ℕ)) (snap : ℕ) (options : Option (List Entry)) → described inside snap options ≡ described_by inside snap nothing_seen options
 all_options inside snap None = refl
 all_options inside snap (Some entries) = refl

@@ -1,4 +1,4 @@
--- What several reads took, one after the other.
+-- The octets taken by several reads, one after the other.
 use Rattle.std.proofs.Common.{◌≡◌, ℕ, ◌+◌, ◌-◌, ◌<◌, ◌≤◌, List, [], ◌++◌, length, take, drop, Some, None, refl, sym, ap, ap₂, ◌∙◌, subst, arith, append_assoc, append-nil, take-append-drop, length-drop}
 use Rattle.std.proofs.lemmas.List.{length-append, length-take-le, take_all, take_at, drop_at, drop_all}
 use Rattle.std.proofs.Math.Seq.{take-append-add}
@@ -16,7 +16,7 @@ use Rattle.pcapng_file.specs.declared.content.Found.TheVariants as is
 use Rattle.pcapng_file.specs.Reads.{TakesBody}
 use Rattle.pcapng_file.specs.Takes.{Short, TakesCount}
 
--- fewer octets than so many, behind others that were taken
+-- fewer than `few` octets, after others that were taken
 pub short_behind : (a b c : Option (List ℕ)) (front : List ℕ) (few most : ℕ) (fault : NgFault) → Consumes a b front → Short b c few fault → length front + few ≤ most → Short a c most fault
 short_behind a b c front few most faults.Cut p q fits = record {
   octets = front ++ q.octets;
@@ -32,7 +32,7 @@ short_behind a b c front few most faults.Block p q fits = absurd q
 short_behind a b c front few most faults.Long p q fits = absurd q
 short_behind a b c front few most faults.Many p q fits = absurd q
 
--- octets that were read before, and then those that came
+-- octets that were read before, and then those of the source
 pub head_filled : (a b : Option (List ℕ)) (first more : List ℕ) (n : ℕ) → Consumes a b (take n more) → Consumes (prepend_known first a) b (take (length first + n) (first ++ more))
 head_filled a b first more n p = subst (Consumes (prepend_known first a) b) (sym (take-append-add first more n)) (Consumes-trans (prepend_known first a) a b first (take n more) (before a) p) where
   before : (a : Option (List ℕ)) → Consumes (prepend_known first a) a first
@@ -45,7 +45,7 @@ head_fewer a b first most all p e = (first ++ p.0, Consumes-trans (prepend_known
   before None = tt
   before (Some x) = refl
 
--- a buffer whose front stays
+-- a buffer whose front is unchanged
 pub front_kept : (first got z more : List ℕ) (n m : ℕ) → got ≡ first → length first ≡ n → length z ≡ m → put_mid n m (got ++ z) more ≡ first ++ more
 front_kept first got z more n m same front rest =
     let long : length got ≡ n = ap length same ∙ front in
@@ -56,7 +56,7 @@ front_kept first got z more n m same front rest =
 pub short_read : (a b : Option (List ℕ)) (h : List ℕ) (n : ℕ) → Consumes a b (take n h) → n ≤ length h → n < length h → IsAtEnd b → Short a b (length h) faults.Cut
 short_read a b h n p fits few end = record { octets = take n h; taken = p; fewer = omega (arith, length-take-le n h fits); end = end }
 
--- none, or some more
+-- no octets, or some more
 pub count_none : (a : Option (List ℕ)) (n : ℕ) → n ≡ 0 → TakesCount a a n
 count_none a n e = record { octets = []; taken = Consumes-nil a; size = omega arith }
 
@@ -70,7 +70,7 @@ count_more a b c n m piece p q e = record {
 pub count_short : (a b c : Option (List ℕ)) (n few most : ℕ) (fault : NgFault) → TakesCount a b n → Short b c few fault → n + few ≤ most → Short a c most fault
 count_short a b c n few most fault p q fits = short_behind a b c p.octets few most fault p.taken q (omega (arith, p.size))
 
--- the captured octets of a packet, and what stands behind them
+-- the captured octets of a packet block, and the octets after them
 pub body_read : (inside a b c : Option (List ℕ)) (order : Order) (stamp : Stamp) (room n : ℕ) (h post : List ℕ) → Consumes a b h → length h ≡ stamp.size → TakesCount b c n → stamp.size + n ≡ room
     → TakesBody inside a c order (says.Packet stamp) room (h ++ post) (is.Packet stamp)
 body_read inside a b c order stamp room n h post p long q e = record {
@@ -80,7 +80,7 @@ body_read inside a b c order stamp room n h post p long q e = record {
   says = (refl, take_at h q.octets stamp.size long ∙ sym (take_at h post stamp.size long));
 }
 
--- the first of the kept octets were given
+-- the first of the kept octets were returned
 pub kept_taken : (a : Option (List ℕ)) (kept got post : List ℕ) (n : ℕ) → got ≡ take n kept → n ≤ length kept
     → Consumes (prepend_known kept a) (prepend_known (take (length kept - n) (drop n kept)) a) (take n (got ++ post))
 kept_taken None kept got post n e fits = tt

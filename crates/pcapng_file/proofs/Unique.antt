@@ -9,7 +9,7 @@ use Rattle.pcapng_file.specs.Sections.{Walks, behind, size_of}
 use Rattle.pcapng_file.specs.Laws.{SectionsAreOne, FaultIsOne, FaultExcludesEnd}
 
 module _ (inside : Option (List ℕ)) (s : Sections) (all : List ℕ) where
-  -- equally many blocks are the same ones, and leave the same
+  -- lists of equally many blocks are equal, and so are the octets after them
   pub same_steps : (ps qs : List Step) (r t : List ℕ) → Walks inside s all ps r → Walks inside s all qs t → length ps ≡ length qs → (ps ≡ qs) × (r ≡ t)
   same_steps [] [] r t p q e = (refl, sym p ∙ q)
   same_steps [] (y ∷ qs) r t p q e = absurd (omega arith)
@@ -27,11 +27,11 @@ module _ (inside : Option (List ℕ)) (s : Sections) (all : List ℕ) where
       let newest : x ≡ y = ap (λ (p : Step × List ℕ). p.0) pairs in
       (cc, ap (λ (p : Step × List ℕ). p.1) pairs)
 
-  -- no block stands behind these
+  -- no block follows after these
   abbrev pub HasNoStep : List Step → List ℕ → Type 0
   HasNoStep ps rest = (step : Step) (left : List ℕ) → block_at inside (behind s ps) rest ≡ Ok (Some (step, left)) → ⊥
 
-  -- behind fewer blocks another one stands
+  -- after fewer blocks another one follows
   goes_on : (ps qs : List Step) (r t : List ℕ) → Walks inside s all ps r → Walks inside s all qs t → length ps < length qs → HasNoStep ps r → ⊥
   goes_on ps [] r t p q h last = absurd (omega arith)
   goes_on ps (y ∷ qs) r t p q h last =
@@ -45,7 +45,7 @@ module _ (inside : Option (List ℕ)) (s : Sections) (all : List ℕ) where
             last y t cc
       ]
 
-  -- where no block follows, the blocks are the same ones, and so is what is left
+  -- lists after which no block follows are equal, and so are the octets after them
   pub one_end : (ps qs : List Step) (r t : List ℕ) → Walks inside s all ps r → Walks inside s all qs t → HasNoStep ps r → HasNoStep qs t → (ps ≡ qs) × (r ≡ t)
   one_end ps qs r t p q last final =
       elim (cases_lt (length ps) (length qs)) [

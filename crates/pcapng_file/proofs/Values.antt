@@ -1,4 +1,4 @@
--- The options of an interface, as they are read one by one.
+-- The options of an interface, read one by one.
 use Rattle.std.proofs.Common.{◌≡◌, ℕ, ◌+◌, ◌<◌, ◌≤◌, min, false, List, [], ◌∷◌, ◌++◌, length, take, drop, Some, None, Ok, Err, refl, sym, ap, ap₂, take-append-drop, ◌∙◌, arith, append_assoc, option_map}
 use Rattle.std.proofs.lemmas.List.{length-append, length-take-le, take_at, drop_at, take-append-le}
 use Rattle.std.proofs.lemmas.Bool.Decides.{nat_tests}
@@ -21,7 +21,7 @@ use Rattle.pcapng_file.proofs.Takings.{short_behind}
 short_area : (order : Order) (area : List ℕ) → length area < 4 → options_of order area ≡ Some []
 short_area order area few = no_option order area (grind (arith, nat_tests))
 
--- what four octets say of the option that they begin
+-- the code and the length in the first four octets of an option
 module _ (order : Order) (h : List ℕ) (four : length h ≡ 4) where
   code_is : (rest : List ℕ) → u16_at order (h ++ rest) 0 ≡ u16_at order h 0
   code_is rest = u16_at_front order h rest 0 (omega arith)
@@ -66,7 +66,7 @@ module _ (order : Order) (h : List ℕ) (four : length h ≡ 4) where
       ∙ ap (λ (e : Entry). described_by inside snap seen (option_map (λ entries. e ∷ entries) (options_of order rest))) entry
       ∙ seen_first inside snap seen (record { code = u16_at order h 0; value = take (u16_at order h 2) v }) (options_of order rest)
 
--- the options so far were taken, and this was seen of them
+-- the options so far were taken, and `seen` are their facts
 pub record SeesOptions (a b : Option (List ℕ)) (order : Order) (inside : Option (List ℕ)) (snap room left : ℕ) (seen : Seen) : Type 0 where
   pub octets : List ℕ
   pub taken : Consumes a b octets
@@ -85,13 +85,13 @@ module _ (order : Order) (inside : Option (List ℕ)) (snap room : ℕ) where
   pub short_options : (a b c : Option (List ℕ)) (left few : ℕ) (seen : Seen) (fault : NgFault) → SeesOptions a b order inside snap room left seen → Short b c few fault → few ≤ left → Short a c room fault
   short_options a b c left few seen fault p q fits = short_behind a b c p.octets few room fault p.taken q (omega (arith, p.size))
 
-  -- behind the first four octets of an option
+  -- the source ends or fails after the first four octets of an option
   pub short_option : (a b c d : Option (List ℕ)) (h : List ℕ) (left few : ℕ) (seen : Seen) (fault : NgFault) → SeesOptions a b order inside snap room left seen → Consumes b c h → Short c d few fault
       → length h + few ≤ left → Short a d room fault
   short_option a b c d h left few seen fault p q r fits =
       short_options a b d left (length h + few) seen fault p (short_behind b c d h few (length h + few) fault q r (omega arith)) fits
 
-  -- no option stands in what is left
+  -- fewer than four octets are left
   pub sees_all : (a b c : Option (List ℕ)) (left : ℕ) (seen : Seen) (interface : Interface) → SeesOptions a b order inside snap room left seen → left < 4 → TakesCount b c left
       → Some interface ≡ described_by inside snap seen (Some []) → TakesOptions a c order inside snap room (Some interface)
   sees_all a b c left seen interface p few q is = record {
@@ -155,7 +155,7 @@ module _ (order : Order) (inside : Option (List ℕ)) (snap room : ℕ) where
       says = sym (told t.octets (omega (arith, t.size)) ∙ sym (ap (λ o. result_by inside snap o (options_of order t.octets)) is));
     }
 
--- the first octets of a value that was kept
+-- the first octets of a value were kept
 pub value_kept : (size : ℕ) (kept v : List ℕ) → length v ≡ padded size → take (min size 64) kept ≡ take (min size 64) v
     → (length (take size v) ≡ size) × (take (min size 64) kept ≡ take (min size 64) (take size v))
 value_kept size kept v whole first =
@@ -164,7 +164,7 @@ value_kept size kept v whole first =
       first ∙ ap (take (min size 64)) (sym (take-append-drop size v)) ∙ take-append-le (min size 64) (take size v) (drop size v) (omega arith),
     )
 
--- a value that was read in two parts
+-- a value was read in two parts
 pub value_read : {T : Type 0} (a b c : Option (List ℕ)) (h post : List ℕ) (size n : ℕ) (result : Result T NgFault) → Consumes a b h → Passes b c n result → length h ≡ min size 64
     → min size 64 + n ≡ padded size → ReadsValue a c size result (h ++ post)
 value_read a b c h post size n (Ok done) p q long e = record {

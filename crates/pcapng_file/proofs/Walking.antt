@@ -1,4 +1,4 @@
--- Blocks that were taken one behind the other.
+-- Blocks that were taken one after the other.
 use Rattle.std.proofs.Common.{◌≡◌, ℕ, ◌+◌, ◌<◌, true, false, List, [], ◌∷◌, ◌++◌, length, take, Some, None, IsSome, Ok, Err, refl, sym, ap, ◌∙◌, subst, arith, append_assoc}
 use Rattle.std.proofs.KnownBytes.{Consumes-trans, Consumes-nil}
 use Rattle.std.specs.Io.KnownBytes.{prepend_known}
@@ -24,7 +24,7 @@ abbrev pub NoFault : Found → Type 0
 NoFault (is.Fails fault) = ⊥
 NoFault _ = Unit {0}
 
--- what a match says of a block that has no fault, or no packet
+-- the result of a match on a block that has no fault, or no record
 pub no_fault : (found : Found) → ((fault : NgFault) → found ≡ is.Fails fault → ⊥) → NoFault found
 no_fault (is.Fails fault) n = n fault refl
 no_fault is.Passed n = tt
@@ -60,7 +60,7 @@ blocks_after sections order is.Section = refl
 blocks_after sections order (is.Interface link interface) = refl
 blocks_after sections order (is.Packet stamp) = refl
 
--- where no interface has stood, the section has none
+-- if the file had no interface so far, the section has none
 pub unlinked_after : (sections : Sections) (order : Order) (found : Found) → IsUnlinked sections.link sections.interfaces
     → IsUnlinked (after_found (counted sections) order found).link (after_found (counted sections) order found).interfaces
 unlinked_after sections order (is.Fails fault) u = u
@@ -99,7 +99,7 @@ more_steps inside sections a b c steps step p q = record {
       );
 }
 
--- a reader looked at a block
+-- a reader read a block
 module _ (old new : NgReading) (a b : Option (List ℕ)) (order : Order) (size : ℕ) (buf : List ℕ) (found : Found) (n : NoFault found) where
   pub looks_at : (p : TakesBlock old.inside old.sections a b order size buf found) → new.inside ≡ old.inside → new.sections ≡ after_found (counted old.sections) order found
       → new.place ≡ old.place + size → new.asked ≡ old.place → new.is_open ≡ true → IsUnlinked old.sections.link old.sections.interfaces → LooksAt old new a b buf found
@@ -115,7 +115,7 @@ module _ (old new : NgReading) (a b : Option (List ℕ)) (order : Order) (size :
     unlinked = subst (λ (s : Sections). IsUnlinked s.link s.interfaces) (sym sections) (unlinked_after old.sections order found unlinked);
   }
 
--- Blocks without a packet were passed over since the reader stood there.
+-- From the state `old` to the state `now` the reader skipped blocks without a record.
 pub record Between (old now : NgReading) (a b : Option (List ℕ)) : Type 0 where
   pub steps : List Step
   pub taken : TakesSteps old.inside old.sections a b steps
@@ -166,7 +166,7 @@ module _ (old now new : NgReading) (a b c : Option (List ℕ)) (p : Between old 
     why = why_behind (λ inside sections. Stops inside sections b c fault) q.why;
   }
 
-  -- the block that was looked at, as one that stands behind the others
+  -- the block read last follows the blocks before it
   pub step_behind : (step : Step) → TakesSteps now.inside now.sections b c (step ∷ []) → TakesSteps old.inside old.sections a c (step ∷ p.steps)
   step_behind step q =
       let there : TakesSteps old.inside (behind old.sections p.steps) b c (step ∷ []) =
@@ -210,7 +210,7 @@ looks_on_here old new a b p = subst (λ (x : Option (List ℕ)). LooksOn old new
 pub stopped_here : (old new : NgReading) (a b : Option (List ℕ)) (stop : OpenFault) → LooksStopped old new (prepend_known [] a) b stop → LooksStopped old new a b stop
 stopped_here old new a b stop p = subst (λ (x : Option (List ℕ)). LooksStopped old new x b stop) (none_before a) p
 
--- where no interface has stood, the octets do not end well
+-- if the file had no interface so far, the octets do not end well
 never_ends : (inside : Option (List ℕ)) (sections : Sections) (b c : Option (List ℕ)) → sections.link ≡ None → EndsHere inside sections b c → ⊥
 never_ends inside sections b c unlinked q =
     let cut : block_at inside sections [] ≡ Err faults.Cut = at_nothing inside sections ∙ ap end_by unlinked in
@@ -220,7 +220,7 @@ never_ends inside sections b c unlinked q =
 no_interface : (sections : Sections) → sections.link ≡ None → IsUnlinked sections.link sections.interfaces → length sections.interfaces ≡ 0
 no_interface sections e u = let none : sections.interfaces ≡ [] = subst (λ (l : Option Link). IsUnlinked l sections.interfaces) e u in ap length none
 
--- behind the blocks before the newest one no link is known
+-- after the blocks before the newest one no link is known
 abbrev pub UnlinkedBefore : List Step → Type 0
 UnlinkedBefore [] = Unit {0}
 UnlinkedBefore (step ∷ older) = (behind no_section older).link ≡ None
@@ -229,7 +229,7 @@ ends_at_interface : (steps : List Step) → UnlinkedBefore steps → IsSome (beh
 ends_at_interface [] before linked = absurd cc
 ends_at_interface (step ∷ older) before linked = (before, linked)
 
--- The file was read up to here; no packet stood in it, and before the newest block no interface.
+-- The file was read up to here: its blocks have no record, and those before the newest one no interface.
 pub record OpensSoFar (inside : Option (List ℕ)) (now : NgReading) (a b : Option (List ℕ)) : Type 0 where
   pub so_far : Between (first_reading inside) now a b
   pub unlinked : IsUnlinked now.sections.link now.sections.interfaces

@@ -1,4 +1,4 @@
--- What stands at the front of octets that came in several reads.
+-- The block at the front of octets that were read by several reads.
 use Rattle.std.proofs.Common.{◌≡◌, ◌≢◌, ℕ, ◌+◌, ◌-◌, ◌*◌, ◌<◌, ◌≤◌, ◌==◌, Bool, true, false, ◌⊎◌, List, [], ◌++◌, length, take, drop, slice_index, Some, None, Ok, Err, refl, sym, ap, ap₂, ◌∙◌, subst, arith, inl, inr, append_assoc, append-nil, if◌then◌else◌}
 use Rattle.std.proofs.lemmas.Bool.{cases_lt, cases_Bool, eq-eqb, ne_eqb, lt-ltb, le-ltb}
 use Rattle.std.proofs.lemmas.Bool.Decides.{nat_tests}
@@ -29,7 +29,7 @@ use Rattle.pcapng_file.specs.Takes.{Short, TakesSize, is_read_fault}
 use Rattle.pcapng_file.specs.Reads.{IsBody, HasRoom, IsKept, TakesBody, TakesRest, TakesBlock, EndsHere, IsCut, IsFaulty, TakesPart, Stops}
 use Rattle.pcapng_file.proofs.Fields.{content_front, content_placed, bare_found}
 
--- a number behind the front
+-- a number after the front `p`
 u16_behind : (order : Order) (p t : List ℕ) (n k : ℕ) → n ≡ length p + k → u16_at order (p ++ t) n ≡ u16_at order t k
 u16_behind Little p t n k e =
     let low : slice_index (p ++ t) n ≡ slice_index t k = ap (slice_index (p ++ t)) e ∙ get_or-append-add p t k 0 in
@@ -103,7 +103,7 @@ begun (Some order) h front e = elim (cases_Bool (is_size (u32_at order h 4))) [
 pub front_is : (order : Option Order) (h : List ℕ) (front : Front) → front_in order h ≡ Ok front → IsFront h front
 front_is order h front e = (begun order h front e).1
 
--- the block behind its first twelve octets
+-- the block after its first twelve octets
 module _ (inside : Option (List ℕ)) (sections : Sections) (h : List ℕ) (twelve : length h ≡ 12) where
   whole_head : (y : List ℕ) → 12 ≤ length (h ++ y)
   whole_head y = omega (arith, length-append h y)
@@ -140,7 +140,7 @@ module _ (inside : Option (List ℕ)) (sections : Sections) (h : List ℕ) (twel
         ∙ refused inside sections (order_at sections.order h) h rest fault twelve e;
   }
 
--- the first twelve octets have a fault of theirs
+-- the fault of the first twelve octets is Magic or Block
 front_fault : (order : Option Order) (h : List ℕ) (fault : NgFault) → front_in order h ≡ Err fault → (fault ≡ faults.Magic) ⊎ (fault ≡ faults.Block)
 front_fault None h fault e = inl (let one : front_in None h ≡ Err faults.Magic = refl in cc)
 front_fault (Some order) h fault e = elim (cases_Bool (is_size (u32_at order h 4))) [
@@ -169,11 +169,11 @@ sized_closed inside sections order x size a b e = rw (a, le-ltb (length x) size 
 pub is_big : (size : ℕ) → is_size size ≡ true → 12 ≤ size
 is_big size e = grind (arith, nat_tests)
 
--- a size is a multiple of four
+-- a size other than 12 is at least 16, since sizes are multiples of four
 pub is_bigger : (size : ℕ) → is_size size ≡ true → size ≢ 12 → 16 ≤ size
 is_bigger size e other = grind (arith, nat_tests)
 
--- a block whose octets are all there
+-- a block with all its octets
 module _ (inside : Option (List ℕ)) (sections : Sections) (order : Order) (size : ℕ) (block rest : List ℕ) (sized : is_size size ≡ true) (whole : length block ≡ size) where
   enough : size ≤ length (block ++ rest)
   enough = omega (arith, length-append block rest)
@@ -190,7 +190,7 @@ module _ (inside : Option (List ℕ)) (sections : Sections) (order : Order) (siz
       ∙ ap (λ l. before l (told inside sections order size (take size (block ++ rest)))) (drop_at block rest size whole)
       ∙ ap (λ l. before rest (told inside sections order size l)) (take_at block rest size whole)
 
--- the body makes the block what it is
+-- the content of the block with its body
 module _ (inside : Option (List ℕ)) (sections : Sections) (order : Order) (kind size : ℕ) (fixed b t buf : List ℕ)
     (length_is : length fixed ≡ 12 + more_of kind size) (four : length t ≡ 4) (whole : length fixed + length b + 4 ≡ size) where
   body_found : (content : Content) (found : Found) → IsPlaced content sections kind size → IsBody inside order content b buf found → found_of inside order size (fixed ++ (b ++ t)) content ≡ found
@@ -254,7 +254,7 @@ choose_found P kind p q = choose (kind == section_type) (is.Fails faults.Block) 
       choose true x y p q = p
       choose false x y p q = q
 
--- a whole block behind its first twelve octets
+-- a whole block after its first twelve octets
 module _ (inside : Option (List ℕ)) (sections : Sections) (front : Front) (h : List ℕ) (begins : IsFront h front) (twelve : length h ≡ 12) where
   says_open : (octets rest : List ℕ) → 12 + length octets ≡ front.size → (u32_at front.order (h ++ octets) (front.size - 4) == front.size) ≡ false
       → sized_at inside sections front.order (h ++ octets ++ rest) front.size ≡ before rest (step_of (counted sections) front.order front.size (h ++ octets) (is.Fails faults.Block))
@@ -315,7 +315,7 @@ module _ (inside : Option (List ℕ)) (sections : Sections) (front : Front) (h :
         nothing_new : (kind : ℕ) → IsInterface (bare kind) → length sections.interfaces < 64
         nothing_new kind = choose_found (λ f. IsInterface f → length sections.interfaces < 64) kind (λ i. absurd i) (λ i. absurd i)
 
-  -- the fixed fields, what stands between, and the size once more
+  -- the fixed fields, the octets between, and the size again
   module _ (a b c d : Option (List ℕ)) (e buf : List ℕ) (content : Content) (room : ℕ) (found : Found) (same : Bool) (p : Consumes a b e) (long : length e ≡ more_of front.kind front.size)
       (content_is : content ≡ content_of inside sections front.order front.kind front.size (h ++ e)) (whole : 16 + length e + room ≡ front.size)
       (q : TakesBody inside b c front.order content room buf found) (r : TakesSize c d front.order front.size same) where
@@ -371,7 +371,7 @@ module _ (inside : Option (List ℕ)) (sections : Sections) (front : Front) (h :
     pub rest_unclosed : same ≡ false → TakesRest inside sections a d front h buf (is.Fails faults.Block)
     rest_unclosed t = rest_open a d octets buf taken_is size_is (ap (λ n. n == front.size) word_is ∙ sym r.says ∙ t)
 
--- what was read of a block, its first twelve octets before it
+-- the octets read of a block, with its first twelve octets before them
 module _ (inside : Option (List ℕ)) (sections : Sections) (front : Front) (h : List ℕ) (twelve : length h ≡ 12) (few : sections.blocks ≢ 4294967295)
     (begins : front_in (order_at sections.order h) h ≡ Ok front) where
   pub block_taken : (a b c : Option (List ℕ)) (buf : List ℕ) (found : Found) → Consumes a b h → sections.blocks ≤ 4294967295 → TakesRest inside sections b c front h buf found
@@ -426,7 +426,7 @@ head_short inside sections a b h n p fits end few unlinked = record {
   ];
 }
 
--- no octet was left, behind an interface
+-- no octet was left after an interface
 pub ends_here : (inside : Option (List ℕ)) (sections : Sections) (a b : Option (List ℕ)) (h : List ℕ) (n : ℕ) → Consumes a b (take n h) → IsAtEnd b → n ≡ 0 → (link : Link) → sections.link ≡ Some link
     → EndsHere inside sections a b
 ends_here inside sections a b h n p end none link linked = record {
@@ -439,7 +439,7 @@ ends_here inside sections a b h n p end none link linked = record {
 pub head_part : (sections : Sections) (a b : Option (List ℕ)) → TakesFewer a b 12 → TakesPart sections a b
 head_part sections a b q = record { octets = q.0; taken = q.1; fewer = omega (arith, q.2) }
 
--- the first octets of an array behind twelve others
+-- the first octets of an array after twelve others
 pub fields_front : (h e post : List ℕ) (n : ℕ) → length h ≡ 12 → length e ≡ n → take (12 + n) (h ++ (e ++ post)) ≡ h ++ e
 fields_front h e post n twelve size =
     ap (take (12 + n)) (sym (append_assoc h e post)) ∙ take_at (h ++ e) post (12 + n) (omega (arith, length-append h e))
@@ -448,7 +448,7 @@ pub joined_is : (h z b : List ℕ) → length h ≡ 12 → length z ≡ 16 → p
 joined_is h z b twelve sixteen =
     ap₂ (λ x y. x ++ (b ++ y)) (take_at h z 12 twelve) (ap (drop 16) (drop_at h z 12 twelve) ∙ drop_all 16 z (omega arith)) ∙ ap (λ l. h ++ l) (append-nil b)
 
--- a packet's octets fit into what is left of its block
+-- the captured octets of a packet block fit into the rest of the block
 pub room_is : (content : Content) (sections : Sections) (kind size length_is room : ℕ) → IsPlaced content sections kind size → 16 + more_of kind size + room ≡ size
     → (0 < length sections.interfaces → 262144 ≤ length_is) → HasRoom content room length_is
 room_is (says.Fails fault) sections kind size length_is room placed e fits = tt
@@ -458,14 +458,14 @@ room_is (says.Interface link snap) sections kind size length_is room placed e fi
 room_is (says.Packet stamp) sections kind size length_is room placed e fits =
     let enough = fits placed.some in (omega (arith, placed.within, placed.place), omega (arith, placed.small))
 
--- the content that was read by the fixed fields
+-- the content by the fixed fields
 pub content_read : (inside : Option (List ℕ)) (sections : Sections) (order : Order) (kind size : ℕ) (content : Content) (fixed h e post : List ℕ) (n : ℕ)
     → content ≡ content_of inside sections order kind size (take (12 + n) fixed) → fixed ≡ h ++ (e ++ post) → length h ≡ 12 → length e ≡ n
     → content ≡ content_of inside sections order kind size (h ++ e)
 content_read inside sections order kind size content fixed h e post n is whole twelve long =
     is ∙ ap (content_of inside sections order kind size) (ap (take (12 + n)) whole ∙ fields_front h e post n twelve long)
 
--- a block was taken that has a fault of what it says
+-- a block was taken that has a fault in its content
 pub stops_told : (inside : Option (List ℕ)) (sections : Sections) (a b : Option (List ℕ)) (order : Order) (size : ℕ) (buf : List ℕ) (fault : NgFault)
     → TakesBlock inside sections a b order size buf (is.Fails fault) → Stops inside sections a b fault
 stops_told inside sections a b order size buf faults.Version p = record { octets = p.octets; taken = p.taken; within = p.within; flawed = p.says }

@@ -1,4 +1,4 @@
--- What the fixed fields of a block say, by its type (pcapng), and what the block is with its options.
+-- The content of a block by its type and fixed fields (pcapng), and with its options.
 use Rattle.std.specs.Prelude.{◌≡◌, ℕ, ◌<◌, ◌≤◌, ◌+◌, ◌-◌, ◌*◌, ◌/◌, ◌%◌, ◌^◌, ◌==◌, not, nat_lt, min, Bool, true, false, List, length, take, drop, slice_get, Option, Some, None, if◌then◌else◌}
 use Rattle.wire_base.specs.declared.address.Link.{Link}
 use Rattle.wire_base.specs.declared.address.Link.TheVariants.{Ethernet, Raw}
@@ -18,7 +18,7 @@ use Rattle.pcapng_file.specs.declared.content.Found.TheVariants as is
 use Rattle.pcapng_file.specs.Options.{padded, options_of, described}
 use Rattle.pcapng_file.specs.Standing.{Sections}
 
--- the types of blocks that are looked into
+-- the types of blocks that are parsed
 abbrev pub section_type : ℕ
 section_type = 0x0a0d0d0a
 
@@ -34,14 +34,14 @@ simple_type = 3
 abbrev pub enhanced_type : ℕ
 enhanced_type = 6
 
--- a section block begins with its magic, its major version, which is 1, and its minor one, which is not looked at
+-- a section block: the byte-order magic, the major version, which must be 1, and the minor version, which is ignored
 abbrev pub section_says : Order → (size : ℕ) → List ℕ → Content
 section_says order size block =
     if nat_lt size 28 then says.Fails faults.Block
     else if u16_at order block 12 == 1 then says.Section
     else says.Fails faults.Version
 
--- whether an interface's link is that of the file's first interface, where there was one
+-- whether an interface's link is that of the file's first interface, if there was one
 abbrev pub is_link : Option Link → Link → Bool
 is_link None link = true
 is_link (Some Ethernet) Ethernet = true
@@ -49,7 +49,7 @@ is_link (Some Ethernet) Raw = false
 is_link (Some Raw) Ethernet = false
 is_link (Some Raw) Raw = true
 
--- an interface of this link, which is one that is read; a section has 64 interfaces at most
+-- an interface of this link, if the link is supported; a section has at most 64 interfaces
 abbrev pub linked_says : Sections → Option Link → (snap : ℕ) → Content
 linked_says sections None snap = says.Fails faults.Link
 linked_says sections (Some link) snap =
@@ -57,29 +57,29 @@ linked_says sections (Some link) snap =
     else if nat_lt (length sections.interfaces) 64 then says.Interface link snap
     else says.Fails faults.Block
 
--- an interface block begins with the link, two octets that are not looked at, and the snap length
+-- an interface block: the link, two octets that are ignored, and the snap length
 abbrev pub interface_says : Sections → Order → (size : ℕ) → List ℕ → Content
 interface_says sections order size block =
     if nat_lt size 20 then says.Fails faults.Block
     else linked_says sections (link_of (u16_at order block 8)) (u32_at order block 12)
 
--- the side of a packet, where the name of the inside is given: outward from the interface of this name
+-- the side of a record, if the name of the inside interface is given: outward from the interface of this name, inward from any other
 abbrev pub side_by : (inside : Option (List ℕ)) → (named : Bool) → Option Side
 side_by None named = None
 side_by (Some name) true = Some Outward
 side_by (Some name) false = Some Inward
 
--- how many units of an interface's time a second has
+-- the number of units of an interface's time in a second
 abbrev pub per_second : (nano : Bool) → ℕ
 per_second true = 10 ^ 9
 per_second false = 10 ^ 6
 
--- how many nanoseconds a unit of an interface's time has
+-- the number of nanoseconds in a unit of an interface's time
 abbrev pub nanos_each : (nano : Bool) → ℕ
 nanos_each true = 1
 nanos_each false = 1000
 
--- a packet of this interface at this time
+-- an enhanced packet block of this interface at this time, in its units; Block from 2^32 seconds on
 abbrev pub timed_says : (inside : Option (List ℕ)) → Interface → (time original captured : ℕ) → Content
 timed_says inside interface time original captured =
     if nat_lt (time / per_second interface.nano) (2 ^ 32) then says.Packet (record {
@@ -92,7 +92,7 @@ timed_says inside interface time original captured =
     })
     else says.Fails faults.Block
 
--- an enhanced packet of this interface, where the section has described it
+-- an enhanced packet block of this interface; Block if the section has no such interface
 abbrev pub enhanced_of : (inside : Option (List ℕ)) → Option Interface → Order → (size : ℕ) → List ℕ → Content
 enhanced_of inside None order size block = says.Fails faults.Block
 enhanced_of inside (Some interface) order size block =
@@ -100,17 +100,17 @@ enhanced_of inside (Some interface) order size block =
     else if nat_lt size (32 + padded (u32_at order block 20)) then says.Fails faults.Block
     else timed_says inside interface (u32_at order block 12 * 2 ^ 32 + u32_at order block 16) (u32_at order block 24) (u32_at order block 20)
 
--- an enhanced packet block begins with the interface, the time in two words, the highest first, and the captured and the original length
+-- an enhanced packet block: the interface, the time in two words, the more significant first, and the captured and the original length
 abbrev pub enhanced_says : (inside : Option (List ℕ)) → Sections → Order → (size : ℕ) → List ℕ → Content
 enhanced_says inside sections order size block =
     if nat_lt size 32 then says.Fails faults.Block
     else enhanced_of inside (slice_get sections.interfaces (u32_at order block 8)) order size block
 
--- the captured length of a simple packet: its original length, but no more than the snap length, where that is not 0
+-- the captured length of a simple packet block: its original length, limited to the snap length if that is not 0
 abbrev pub clipped : (snap original : ℕ) → ℕ
 clipped snap original = if snap == 0 then original else min original snap
 
--- a simple packet with this captured length, of an interface with this name or another; its time is that of the packet before
+-- a simple packet block of this captured length; its time is that of the record before; `named` says whether its interface is the inside one
 abbrev pub simple_sized : (inside : Option (List ℕ)) → (named : Bool) → Sections → (size original captured : ℕ) → Content
 simple_sized inside named sections size original captured =
     if nat_lt 262144 captured then says.Fails faults.Long
@@ -124,19 +124,19 @@ simple_sized inside named sections size original captured =
       side = side_by inside named;
     })
 
--- a simple packet of the section's first interface, where there is one
+-- a simple packet block of the section's first interface; Block if there is none
 abbrev pub simple_of : (inside : Option (List ℕ)) → Option Interface → Sections → (size original : ℕ) → Content
 simple_of inside None sections size original = says.Fails faults.Block
 simple_of inside (Some interface) sections size original =
     simple_sized inside interface.named sections size original (clipped interface.snap original)
 
--- a simple packet block begins with the original length
+-- a simple packet block: the original length
 abbrev pub simple_says : (inside : Option (List ℕ)) → Sections → Order → (size : ℕ) → List ℕ → Content
 simple_says inside sections order size block =
     if nat_lt size 16 then says.Fails faults.Block
     else simple_of inside (slice_get sections.interfaces 0) sections size (u32_at order block 8)
 
--- how many octets of fixed fields of a block of this type and size stand behind the first twelve
+-- the number of octets of fixed fields after the first twelve octets of a block of this type and size
 abbrev pub more_of : (kind size : ℕ) → ℕ
 more_of kind size =
     if kind == section_type then (if nat_lt size 28 then 0 else 4)
@@ -144,7 +144,7 @@ more_of kind size =
     else if kind == enhanced_type then (if nat_lt size 32 then 0 else 16)
     else 0
 
--- What the fixed fields of a block of this type and size say. Blocks of other types are passed over.
+-- The content of a block of this type and size by its fixed fields. Blocks of other types are skipped.
 unfoldable pub content_of : (inside : Option (List ℕ)) → Sections → Order → (kind size : ℕ) → List ℕ → Content
 content_of inside sections order kind size block =
     if kind == section_type then section_says order size block
@@ -154,12 +154,12 @@ content_of inside sections order kind size block =
     else if kind == old_packet_type then says.Fails faults.Block
     else says.Passed
 
--- an interface, where its options describe one
+-- an interface, if its options describe one; else Block
 abbrev pub interface_found : Link → Option Interface → Found
 interface_found link None = is.Fails faults.Block
 interface_found link (Some interface) = is.Interface link interface
 
--- What a block with this content is: the options of an interface stand between its 16 fixed octets and the 4 last ones.
+-- The content of a block with its options: those of an interface are between its 16 fixed octets and its last 4 octets.
 abbrev pub found_of : (inside : Option (List ℕ)) → Order → (size : ℕ) → List ℕ → Content → Found
 found_of inside order size block (says.Fails fault) = is.Fails fault
 found_of inside order size block says.Passed = is.Passed
@@ -167,7 +167,7 @@ found_of inside order size block says.Section = is.Section
 found_of inside order size block (says.Interface link snap) = interface_found link (described inside snap (options_of order (take (size - 20) (drop 16 block))))
 found_of inside order size block (says.Packet stamp) = is.Packet stamp
 
--- a fault of what a block says
+-- a fault in the content of a block
 abbrev pub IsTold : NgFault → Type 0
 IsTold faults.Version = Unit {0}
 IsTold faults.Link = Unit {0}
@@ -175,27 +175,27 @@ IsTold faults.Block = Unit {0}
 IsTold faults.Long = Unit {0}
 IsTold _ = ⊥
 
--- a fault is one of what a block says, and a packet has no more octets than are read
+-- a fault is one of the content, and a packet block has at most 262,144 captured octets
 abbrev pub IsSound : Found → Type 0
 IsSound (is.Fails fault) = IsTold fault
 IsSound (is.Packet stamp) = stamp.size ≤ 262144
 IsSound found = Unit {0}
 
--- Where the captured octets of a packet stand: behind the fixed fields, and within the block; an interface was described.
+-- The captured octets of a packet block are after the fixed fields and within the block, at most 262,144, and the section has an interface.
 pub record PacketPlaced (stamp : Stamp) (sections : Sections) (kind size : ℕ) : Type 0 where
   pub place : stamp.place ≡ 12 + more_of kind size
   pub within : stamp.place + stamp.size + 4 ≤ size
   pub small : stamp.size ≤ 262144
   pub some : 0 < length sections.interfaces
 
--- The options of an interface stand behind 16 octets, the section has room for one more, and its link may follow the first one.
+-- The options of an interface are after 16 octets, the section has room for one more interface, and its link may follow the first one.
 pub record InterfacePlaced (sections : Sections) (link : Link) (kind size : ℕ) : Type 0 where
   pub same : is_link sections.link link ≡ true
   pub more : more_of kind size ≡ 4
   pub big : 20 ≤ size
   pub room : length sections.interfaces < 64
 
--- where what a block holds stands in it
+-- the position in the block of its content
 abbrev pub IsPlaced : Content → Sections → (kind size : ℕ) → Type 0
 IsPlaced (says.Packet stamp) sections kind size = PacketPlaced stamp sections kind size
 IsPlaced (says.Interface link snap) sections kind size = InterfacePlaced sections link kind size

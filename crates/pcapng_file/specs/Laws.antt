@@ -10,7 +10,7 @@ use Rattle.pcapng_file.specs.Sections.{Walks, behind, packets_of, size_of, IsSec
 abbrev pub SectionsAreOne : Type 0
 SectionsAreOne = (inside : Option (List ℕ)) (octets : List ℕ) (steps others : List Step) → IsSections inside octets steps → IsSections inside octets others → steps ≡ others
 
--- Octets have one first fault, at one offset.
+-- Octets have at most one first fault, at one offset.
 abbrev pub FaultIsOne : Type 0
 FaultIsOne =
     (inside : Option (List ℕ)) (octets : List ℕ) (fault other : NgFault) (offset place : ℕ)
@@ -26,13 +26,13 @@ FaultExcludesEnd =
 abbrev pub EachFileEnds : Type 0
 EachFileEnds = (inside : Option (List ℕ)) (octets : List ℕ) → EndsWell inside octets ⊎ EndsBadly inside octets
 
--- Behind the first interface its link stays.
+-- After the first interface the link of the file stays the same.
 abbrev pub LinkStays : Type 0
 LinkStays =
     (inside : Option (List ℕ)) (sections : Sections) (octets : List ℕ) (step : Step) (rest : List ℕ) → block_at inside sections octets ≡ Ok (Some (step, rest))
     → (link : Link) → sections.link ≡ Some link → step.after.link ≡ Some link
 
--- Blocks, and blocks behind them, are blocks together.
+-- Blocks, and blocks after them, are one list of blocks.
 pub record GoesOn (inside : Option (List ℕ)) (sections : Sections) (all rest : List ℕ) (steps newer : List Step) : Type 0 where
   pub walks : Walks inside sections all (newer ++ steps) rest
   pub after : behind sections (newer ++ steps) ≡ behind (behind sections steps) newer

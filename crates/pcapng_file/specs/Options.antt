@@ -10,11 +10,11 @@ pub record Entry : Type 0 where
   pub code : ℕ
   pub value : List ℕ
 
--- a length with the octets that pad it to a multiple of four
+-- a length with its padding to a multiple of four octets
 abbrev pub padded : ℕ → ℕ
 padded size = 4 * ((size + 3) / 4)
 
--- the octets that the option at the front takes
+-- the number of octets of the option at the front, padding included
 abbrev pub option_size : Order → List ℕ → ℕ
 option_size order area = 4 + padded (u16_at order area 2)
 
@@ -22,11 +22,11 @@ option_size order area = 4 + padded (u16_at order area 2)
 abbrev pub entry_at : Order → List ℕ → Entry
 entry_at order area = record { code = u16_at order area 0; value = take (u16_at order area 2) (drop 4 area) }
 
--- whether no option stands at the front: fewer than four octets are left, or the code is 0
+-- whether there is no option at the front: fewer than four octets are left, or the code is 0
 abbrev pub is_end : Order → List ℕ → Bool
 is_end order area = nat_lt (length area) 4 || (u16_at order area 0 == 0)
 
--- The options at the front of an area, at most so many, up to code 0 or to the end; None where one reaches past the area.
+-- The options at the front of an area, at most `most`, up to code 0 or to the end; None if one reaches past the area.
 unfoldable pub options_in : (most : ℕ) → Order → List ℕ → Option (List Entry)
 options_in zero order area = Some []
 options_in (suc most) order area =
@@ -34,7 +34,7 @@ options_in (suc most) order area =
     else if nat_lt (length area) (option_size order area) then None
     else option_map (λ entries. entry_at order area ∷ entries) (options_in most order (drop (option_size order area) area))
 
--- All options of an area: each takes an octet at least, so there are no more of them than octets.
+-- All options of an area: each has at least one octet, so there are no more of them than octets.
 abbrev pub options_of : Order → List ℕ → Option (List Entry)
 options_of order area = options_in (length area) order area
 
@@ -43,18 +43,18 @@ abbrev pub first_value : (code : ℕ) → List Entry → Option (List ℕ)
 first_value code [] = None
 first_value code (entry ∷ entries) = if entry.code == code then Some entry.value else first_value code entries
 
--- whether the value of the option for the unit of time means nanoseconds; None where it means neither these nor microseconds
+-- whether the value of the option for the unit of time means nanoseconds; None if it means neither these nor microseconds; without the option, false
 abbrev pub nano_of : Option (List ℕ) → Option Bool
 nano_of None = Some false
 nano_of (Some value) = if bytes_eq value (6 ∷ []) then Some false else if bytes_eq value (9 ∷ []) then Some true else None
 
--- whether the value of the option for the name is the name asked for
+-- whether the value of the option for the name is that of the inside interface
 abbrev pub is_named : (inside value : Option (List ℕ)) → Bool
 is_named None value = false
 is_named (Some name) None = false
 is_named (Some name) (Some value) = bytes_eq value name
 
--- the interface of this unit of time
+-- the interface of this unit of time; None if the unit is not supported
 abbrev pub with_unit : (snap : ℕ) → (named : Bool) → (nano : Option Bool) → Option Interface
 with_unit snap named None = None
 with_unit snap named (Some nano) = Some (record { nano = nano; snap = snap; named = named })

@@ -1,4 +1,4 @@
--- Where a reader stands in a pcapng file (this project's profile).
+-- The state of a reader of a pcapng file (this project's profile).
 use Rattle.std.specs.Prelude.{◌≡◌, ℕ, Bool, true, List, [], Option, Some, None}
 use Rattle.wire_base.specs.declared.address.Link.{Link}
 use Rattle.wire_base.specs.declared.address.Link.TheVariants.{Raw}
@@ -7,8 +7,7 @@ use Rattle.pcap_file.specs.declared.head.Head.{Head}
 use Rattle.pcapng_file.specs.declared.interface.Interface.{Interface}
 use Rattle.pcapng_file.specs.Standing.{Sections, no_section}
 
--- The name of the inside, what the file has said so far, the offset of the next block and of the one looked at last,
--- and whether the reader may be asked for more.
+-- The name of the inside interface, the state of the file, the offset of the next block and of the block read last, and whether the next record may be read.
 pub record NgReading : Type 0 where
   pub inside : Option (List ℕ)
   pub sections : Sections
@@ -20,12 +19,12 @@ pub record NgReading : Type 0 where
 abbrev pub first_reading : (inside : Option (List ℕ)) → NgReading
 first_reading inside = record { inside = inside; sections = no_section; place = 0; asked = 0; is_open = true }
 
--- where no interface has stood in the file, the section has none
+-- if the file had no interface so far, the section has none
 abbrev pub IsUnlinked : Option Link → List Interface → Type 0
 IsUnlinked None interfaces = interfaces ≡ []
 IsUnlinked (Some link) interfaces = Unit {0}
 
--- the head of a classic file with these packets: lowest octet first, nanoseconds, the link of the first interface
+-- the head of a classic file for these records: least significant octet first, nanoseconds, the link of the first interface
 abbrev pub written_head : Option Link → Head
 written_head None = record { order = Little; nano = true; link = Raw }
 written_head (Some link) = record { order = Little; nano = true; link = link }

@@ -1,4 +1,4 @@
--- What reading a block, or the next packet, does to the octets that a source tells (this project's profile).
+-- The effect of reading a block, or the next record, on the known octets of a source (this project's profile).
 use Rattle.std.specs.Prelude.{◌≡◌, ℕ, ◌+◌, ◌-◌, ◌<◌, ◌≤◌, max, Bool, true, false, List, [], ◌∷◌, ◌++◌, length, take, drop, Option, Some, None, Result, Ok, Err}
 use Rattle.std.specs.Io.KnownBytes.{Consumes, IsAtEnd}
 use Rattle.pcap_file.specs.declared.order.Order.{Order}
@@ -23,12 +23,12 @@ use Rattle.pcapng_file.specs.Sections.{Walks, behind, packets_of, size_of, size_
 use Rattle.pcapng_file.specs.Reading.{NgReading, first_reading, IsUnlinked}
 use Rattle.pcapng_file.specs.Takes.{Short}
 
--- the captured octets of a packet stand in the buffer
+-- the captured octets of a packet block are in the buffer
 abbrev pub IsKept : Found → (block buf : List ℕ) → Type 0
 IsKept (is.Packet stamp) block buf = take stamp.size (drop stamp.place block) ≡ take stamp.size buf
 IsKept found block buf = Unit {0}
 
--- what these octets between the fixed fields of a block and its last four make it, by its content
+-- the block found by its fixed fields and the octets between these and its last four octets
 abbrev pub IsBody : (inside : Option (List ℕ)) → Order → Content → (octets buf : List ℕ) → Found → Type 0
 IsBody inside order (says.Fails fault) octets buf found = found ≡ is.Fails fault
 IsBody inside order says.Passed octets buf found = found ≡ is.Passed
@@ -36,24 +36,24 @@ IsBody inside order says.Section octets buf found = found ≡ is.Section
 IsBody inside order (says.Interface link snap) octets buf found = found ≡ interface_found link (described inside snap (options_of order octets))
 IsBody inside order (says.Packet stamp) octets buf found = (found ≡ is.Packet stamp) × (take stamp.size octets ≡ take stamp.size buf)
 
--- a packet's captured octets fit into what is read of its block, and into the buffer
+-- the captured octets of a packet block fit into the `room` octets read of the block, and into the buffer
 abbrev pub HasRoom : Content → (room size : ℕ) → Type 0
 HasRoom (says.Packet stamp) room size = (stamp.size ≤ room) × (stamp.size ≤ size)
 HasRoom content room size = Unit {0}
 
--- So many octets were taken, and make the block this one.
+-- `room` octets were taken, and with them the block is `found`.
 pub record TakesBody (inside old new : Option (List ℕ)) (order : Order) (content : Content) (room : ℕ) (buf : List ℕ) (found : Found) : Type 0 where
   pub octets : List ℕ
   pub taken : Consumes old new octets
   pub size : length octets ≡ room
   pub says : IsBody inside order content octets buf found
 
--- what was taken of a block behind its fixed fields
+-- the octets taken of a block after its fixed fields
 abbrev pub ReadsBody : (inside old new : Option (List ℕ)) → Order → Content → (room : ℕ) → (buf : List ℕ) → Result Found NgFault → Type 0
 ReadsBody inside old new order content room buf (Ok found) = TakesBody inside old new order content room buf found
 ReadsBody inside old new order content room buf (Err fault) = Short old new room fault
 
--- Behind the first twelve octets of a block all others were taken, and it is this one.
+-- All octets of a block after its first twelve were taken, and the block is `found`.
 pub record TakesRest (inside : Option (List ℕ)) (sections : Sections) (old new : Option (List ℕ)) (front : Front) (head buf : List ℕ) (found : Found) : Type 0 where
   pub octets : List ℕ
   pub taken : Consumes old new octets
@@ -65,12 +65,12 @@ pub record TakesRest (inside : Option (List ℕ)) (sections : Sections) (old new
   pub some : IsPacket found → 0 < length sections.interfaces
   pub sound : IsSound found
 
--- what was taken of a block behind its first twelve octets
+-- the octets taken of a block after its first twelve
 abbrev pub ReadsRest : (inside : Option (List ℕ)) → Sections → (old new : Option (List ℕ)) → Front → (head buf : List ℕ) → Result Found NgFault → Type 0
 ReadsRest inside sections old new front head buf (Ok found) = TakesRest inside sections old new front head buf found
 ReadsRest inside sections old new front head buf (Err fault) = Short old new (front.size - 12) fault
 
--- Nothing was left, and the octets end well here.
+-- No octet was left, and the octets are sections up to here.
 pub record EndsHere (inside : Option (List ℕ)) (sections : Sections) (old new : Option (List ℕ)) : Type 0 where
   pub taken : Consumes old new []
   pub end : IsAtEnd new
@@ -83,11 +83,11 @@ pub record IsCut (inside : Option (List ℕ)) (sections : Sections) (old new : O
   pub end : IsAtEnd new
   pub flawed : block_at inside sections octets ≡ Err faults.Cut
 
--- how many octets of the block at the front are taken at most: its first twelve, or all of it
+-- the maximum number of octets taken of the block at the front: its first twelve, or all of it
 abbrev pub most_of : Sections → List ℕ → ℕ
 most_of sections octets = max 12 (size_at (order_at sections.order octets) octets)
 
--- Octets of one block were taken, and it has this fault, whatever stands behind them.
+-- Octets of one block were taken, and it has this fault, whatever octets follow.
 pub record IsFaulty (inside : Option (List ℕ)) (sections : Sections) (old new : Option (List ℕ)) (fault : NgFault) : Type 0 where
   pub octets : List ℕ
   pub taken : Consumes old new octets
@@ -100,13 +100,13 @@ pub record TakesPart (sections : Sections) (old new : Option (List ℕ)) : Type 
   pub taken : Consumes old new octets
   pub fewer : length octets < most_of sections octets
 
--- the fault of the block at the front, and what was taken of it
+-- the fault of the block at the front, and the octets taken of it
 abbrev pub Stops : (inside : Option (List ℕ)) → Sections → (old new : Option (List ℕ)) → NgFault → Type 0
 Stops inside sections old new faults.Cut = IsCut inside sections old new
 Stops inside sections old new faults.ReadFault = TakesPart sections old new
 Stops inside sections old new fault = IsFaulty inside sections old new fault
 
--- A block was taken: its octets are this block, whatever stands behind them.
+-- A block was taken: its octets are this block, whatever octets follow.
 pub record TakesBlock (inside : Option (List ℕ)) (sections : Sections) (old new : Option (List ℕ)) (order : Order) (size : ℕ) (buf : List ℕ) (found : Found) : Type 0 where
   pub octets : List ℕ
   pub taken : Consumes old new octets
@@ -119,19 +119,19 @@ pub record TakesBlock (inside : Option (List ℕ)) (sections : Sections) (old ne
   pub some : IsPacket found → 0 < length sections.interfaces
   pub sound : IsSound found
 
--- the block at the front was read, or there is none, or it has this fault
+-- the block at the front was read, or the end was reached, or the block has this fault
 abbrev pub ReadsBlock : (inside : Option (List ℕ)) → Sections → (old new : Option (List ℕ)) → (buf : List ℕ) → Result (Option Block) NgFault → Type 0
 ReadsBlock inside sections old new buf (Ok None) = EndsHere inside sections old new
 ReadsBlock inside sections old new buf (Ok (Some block)) = TakesBlock inside sections old new block.order block.size buf block.found
 ReadsBlock inside sections old new buf (Err fault) = Stops inside sections old new fault
 
--- Some octets were taken, which are these blocks, the newest first, whatever stands behind them.
+-- The octets taken are these blocks, the newest first, whatever octets follow.
 pub record TakesSteps (inside : Option (List ℕ)) (sections : Sections) (old new : Option (List ℕ)) (steps : List Step) : Type 0 where
   pub octets : List ℕ
   pub taken : Consumes old new octets
   pub walks : (rest : List ℕ) → Walks inside sections (octets ++ rest) steps rest
 
--- The reader stands behind these blocks, the newest first, and looked last at the block at this offset.
+-- The reader moved past these blocks, the newest first; `asked` is the offset of the block read last.
 pub record Moves (old new : NgReading) (steps : List Step) (asked : ℕ) (is_open : Bool) : Type 0 where
   pub inside : new.inside ≡ old.inside
   pub sections : new.sections ≡ behind old.sections steps
@@ -139,13 +139,13 @@ pub record Moves (old new : NgReading) (steps : List Step) (asked : ℕ) (is_ope
   pub looked : new.asked ≡ asked
   pub goes_on : new.is_open ≡ is_open
 
--- the packet that a block gives, its octets in the buffer
+-- the record of a block, with its octets in the buffer
 abbrev pub IsGiven : Found → (buf : List ℕ) → Option Packet → Type 0
 IsGiven (is.Fails fault) buf given = ⊥
 IsGiven (is.Packet stamp) buf given = given ≡ Some (packet_of stamp (take stamp.size buf))
 IsGiven found buf given = given ≡ None
 
--- One block was taken, which is this step.
+-- One block was taken, with this content.
 pub record LooksAt (old new : NgReading) (before after : Option (List ℕ)) (buf : List ℕ) (found : Found) : Type 0 where
   pub step : Step
   pub steps : TakesSteps old.inside old.sections before after (step ∷ [])
@@ -162,33 +162,33 @@ pub record Halts (old new : NgReading) (P : Type 0) : Type 0 where
   pub moves : Moves old new [] old.place false
   pub why : P
 
--- the block at the front was taken, or there is none, or this is its fault
+-- the block at the front was taken, or the end was reached, or the block has this fault
 abbrev pub Looks : (old new : NgReading) → (before after : Option (List ℕ)) → (buf : List ℕ) → Result (Option Found) NgFault → Type 0
 Looks old new before after buf (Ok None) = Halts old new (EndsHere old.inside old.sections before after)
 Looks old new before after buf (Ok (Some found)) = LooksAt old new before after buf found
 Looks old new before after buf (Err fault) = Halts old new (Stops old.inside old.sections before after fault)
 
--- the fault alone, without its place
+-- the fault alone, without its offset
 abbrev pub only_fault : {T : Type 0} → Result T OpenFault → Result T NgFault
 only_fault (Ok value) = Ok value
 only_fault (Err stop) = Err stop.fault
 
--- Before the first interface one more block was taken, or none was left.
+-- One more block was taken before the first interface, or the end was reached.
 pub record LooksOn (old new : NgReading) (before after : Option (List ℕ)) : Type 0 where
   pub given : Option Found
   pub looked : Looks old new before after [] (Ok given)
 
--- Before the first interface the next block has this fault, or the source failed in it, and this is its offset.
+-- The next block before the first interface has this fault, or the source failed in it; the offset is that of the block.
 pub record LooksStopped (old new : NgReading) (before after : Option (List ℕ)) (stop : OpenFault) : Type 0 where
   pub halted : Halts old new (Stops old.inside old.sections before after stop.fault)
   pub place : stop.offset ≡ new.asked
 
--- one more block was taken before the first interface, or this is its fault
+-- one more block was taken before the first interface, or it has this fault
 abbrev pub LooksAhead : (old new : NgReading) → (before after : Option (List ℕ)) → Result (Unit {0}) OpenFault → Type 0
 LooksAhead old new before after (Ok done) = LooksOn old new before after
 LooksAhead old new before after (Err stop) = LooksStopped old new before after stop
 
--- Blocks without a packet were passed over, and behind them a packet was taken: this one.
+-- Blocks without a record were skipped, and the packet block after them was taken: its record is `packet`.
 pub record TakesPacket (old new : NgReading) (before after : Option (List ℕ)) (packet : Packet) : Type 0 where
   pub step : Step
   pub older : List Step
@@ -197,12 +197,12 @@ pub record TakesPacket (old new : NgReading) (before after : Option (List ℕ)) 
   pub given : step.given ≡ Some packet
   pub moves : Moves old new (step ∷ older) (old.place + size_of older) true
 
--- Blocks without a packet were passed over.
+-- Blocks without a record were skipped.
 pub record PassesOver (old : NgReading) (before after : Option (List ℕ)) (steps : List Step) : Type 0 where
   pub taken : TakesSteps old.inside old.sections before after steps
   pub silent : packets_of steps ≡ []
 
--- Blocks without a packet were passed over, and behind them it is as said.
+-- Blocks without a record were skipped, and `P` holds of the state after them.
 pub record HaltsBehind (old new : NgReading) (before after : Option (List ℕ)) (P : Sections → Option (List ℕ) → Type 0) : Type 0 where
   pub steps : List Step
   pub between : Option (List ℕ)
@@ -210,31 +210,31 @@ pub record HaltsBehind (old new : NgReading) (before after : Option (List ℕ)) 
   pub moves : Moves old new steps (old.place + size_of steps) false
   pub why : P (behind old.sections steps) between
 
--- the next packet of this stamp was read, its octets in the buffer, or there is none, or this is the fault
+-- the next record was read, its octets in the buffer, or the end was reached, or this is the fault
 abbrev pub Finds : (old new : NgReading) → (before after : Option (List ℕ)) → (buf : List ℕ) → Result (Option Stamp) NgFault → Type 0
 Finds old new before after buf (Ok None) = HaltsBehind old new before after (λ sections between. EndsHere old.inside sections between after)
 Finds old new before after buf (Ok (Some stamp)) = TakesPacket old new before after (packet_of stamp (take stamp.size buf))
 Finds old new before after buf (Err fault) = HaltsBehind old new before after (λ sections between. Stops old.inside sections between after fault)
 
--- a packet that was found has no more octets than are read
+-- a packet block has at most 262,144 captured octets
 abbrev pub IsSmall : Result (Option Stamp) NgFault → Type 0
 IsSmall (Ok (Some stamp)) = stamp.size ≤ 262144
 IsSmall (Ok None) = Unit {0}
 IsSmall (Err fault) = Unit {0}
 
--- the next packet was read, or there is none, or this is the fault
+-- the next record was read, or the end was reached, or this is the fault
 abbrev pub Reads : (old new : NgReading) → (before after : Option (List ℕ)) → Result (Option Record) NgFault → Type 0
 Reads old new before after (Ok None) = HaltsBehind old new before after (λ sections between. EndsHere old.inside sections between after)
 Reads old new before after (Ok (Some given)) = TakesPacket old new before after (shown given)
 Reads old new before after (Err fault) = HaltsBehind old new before after (λ sections between. Stops old.inside sections between after fault)
 
--- a fact of the packet, where one was given
+-- a fact of the record, if one was returned
 abbrev pub IfPacket : Result (Option Record) NgFault → (Record → Type 0) → Type 0
 IfPacket (Ok (Some given)) P = P given
 IfPacket (Ok None) P = Unit {0}
 IfPacket (Err fault) P = Unit {0}
 
--- The octets up to the end of the first interface block were taken, and none behind them; no packet stood among them.
+-- The octets up to the end of the first interface block were taken, and none after them; the blocks among them have no record.
 pub record OpensAt (inside old new : Option (List ℕ)) (reading : NgReading) : Type 0 where
   pub steps : List Step
   pub taken : TakesSteps inside no_section old new steps
@@ -242,7 +242,7 @@ pub record OpensAt (inside old new : Option (List ℕ)) (reading : NgReading) : 
   pub ends : EndsAtInterface steps
   pub moves : Moves (first_reading inside) reading steps (size_before steps) true
 
--- Blocks without a packet or an interface were passed over, and the one behind them, at this offset, has this fault.
+-- Blocks without an interface were skipped, and the block after them, at this offset, has this fault, or the source failed in it.
 pub record FailsAhead (inside old new : Option (List ℕ)) (fault : NgFault) (offset : ℕ) : Type 0 where
   pub steps : List Step
   pub between : Option (List ℕ)
@@ -256,7 +256,7 @@ pub record FailsSomewhereAhead (inside old new : Option (List ℕ)) (fault : NgF
   pub offset : ℕ
   pub fails : FailsAhead inside old new fault offset
 
--- the first interface was read, or this is the fault before it
+-- the first interface was read, or a block up to it has this fault
 abbrev pub Opens : (inside old new : Option (List ℕ)) → Result NgReading NgFault → Type 0
 Opens inside old new (Ok reader) = OpensAt inside old new reader
 Opens inside old new (Err fault) = FailsSomewhereAhead inside old new fault

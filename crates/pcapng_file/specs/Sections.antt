@@ -5,38 +5,38 @@ use Rattle.pcapng_file.specs.declared.fault.NgFault.{NgFault}
 use Rattle.pcapng_file.specs.Standing.{Sections, no_section}
 use Rattle.pcapng_file.specs.Blocks.{Step, block_at}
 
--- what the file has said behind these blocks, the newest first
+-- the state of the file after these blocks, the newest first
 abbrev pub behind : Sections → List Step → Sections
 behind sections [] = sections
 behind sections (step ∷ older) = step.after
 
--- Behind these blocks, the newest first, this is left of all the octets.
+-- The octets `all` are these blocks, the newest first, and then `rest`.
 abbrev pub Walks : (inside : Option (List ℕ)) → Sections → (all : List ℕ) → List Step → (rest : List ℕ) → Type 0
 Walks inside sections all [] rest = all ≡ rest
 Walks inside sections all (step ∷ older) rest =
     (left : List ℕ) × Walks inside sections all older left × (block_at inside (behind sections older) left ≡ Ok (Some (step, rest)))
 
--- a packet before the others, where there is one
+-- the records with one more before them, if there is one
 abbrev pub with_given : Option Packet → List Packet → List Packet
 with_given None older = older
 with_given (Some packet) older = packet ∷ older
 
--- the packets of blocks, the newest first
+-- the records of blocks, the newest first
 abbrev pub packets_of : List Step → List Packet
 packets_of [] = []
 packets_of (step ∷ older) = with_given step.given (packets_of older)
 
--- how many octets blocks take
+-- the number of octets of blocks
 abbrev pub size_of : List Step → ℕ
 size_of [] = 0
 size_of (step ∷ older) = size_of older + step.size
 
--- how many octets blocks take before the newest one
+-- the number of octets of the blocks before the newest one
 abbrev pub size_before : List Step → ℕ
 size_before [] = 0
 size_before (step ∷ older) = size_of older
 
--- Blocks end with the first interface block: behind the newest one a link is known, and behind the older ones none.
+-- Blocks end with the first interface block: a link is known after the newest one, and none after the older ones.
 abbrev pub EndsAtInterface : List Step → Type 0
 EndsAtInterface [] = ⊥
 EndsAtInterface (step ∷ older) = ((behind no_section older).link ≡ None) × IsSome step.after.link
@@ -46,7 +46,7 @@ pub record IsSections (inside : Option (List ℕ)) (octets : List ℕ) (steps : 
   pub walks : Walks inside no_section octets steps []
   pub ends : block_at inside (behind no_section steps) [] ≡ Ok None
 
--- The octets have some blocks, and behind them this first fault, at this offset.
+-- The octets are blocks, and after them this first fault, at this offset.
 pub record FailsAt (inside : Option (List ℕ)) (octets : List ℕ) (fault : NgFault) (offset : ℕ) : Type 0 where
   pub steps : List Step
   pub rest : List ℕ

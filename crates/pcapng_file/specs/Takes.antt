@@ -1,4 +1,4 @@
--- What reading a part of a block does to the octets that a source tells, and to its count of faults (this project's profile).
+-- The effect of reading a part of a block on the known octets of a source (this project's profile).
 use Rattle.std.specs.Prelude.{◌≡◌, ℕ, ◌<◌, ◌==◌, Bool, true, false, List, length, take, min, Option, Result, Ok, Err}
 use Rattle.std.specs.Io.KnownBytes.{Consumes, IsAtEnd}
 use Rattle.edge_io.specs.Octets.{TakesFewer}
@@ -15,14 +15,14 @@ is_read_fault (Ok value) = false
 is_read_fault (Err faults.ReadFault) = true
 is_read_fault (Err _) = false
 
--- All octets left were taken, and they are fewer than so many.
+-- All octets left were taken, and they are fewer than `count`.
 pub record EndsBefore (old new : Option (List ℕ)) (count : ℕ) : Type 0 where
   pub octets : List ℕ
   pub taken : Consumes old new octets
   pub fewer : length octets < count
   pub end : IsAtEnd new
 
--- fewer octets than so many were taken: none is left, or the source failed
+-- fewer octets than `count` were taken: none is left, or the source failed
 abbrev pub Short : (old new : Option (List ℕ)) → (count : ℕ) → NgFault → Type 0
 Short old new count faults.Cut = EndsBefore old new count
 Short old new count faults.ReadFault = TakesFewer old new count
@@ -33,30 +33,30 @@ abbrev pub FillsWhole : {T : Type 0} → (old new : Option (List ℕ)) → Resul
 FillsWhole old new (Ok done) buf = Consumes old new buf
 FillsWhole old new (Err fault) buf = Short old new (length buf) fault
 
--- So many octets were taken.
+-- `count` octets were taken.
 pub record TakesCount (old new : Option (List ℕ)) (count : ℕ) : Type 0 where
   pub octets : List ℕ
   pub taken : Consumes old new octets
   pub size : length octets ≡ count
 
--- So many octets were passed over.
+-- `count` octets were skipped.
 abbrev pub Passes : {T : Type 0} → (old new : Option (List ℕ)) → (count : ℕ) → Result T NgFault → Type 0
 Passes old new count (Ok done) = TakesCount old new count
 Passes old new count (Err fault) = Short old new count fault
 
--- Octets of this number were taken, and say whether it is this size.
+-- Four octets were taken, and `same` says whether they are this size.
 pub record TakesSize (old new : Option (List ℕ)) (order : Order) (size : ℕ) (same : Bool) : Type 0 where
   pub octets : List ℕ
   pub taken : Consumes old new octets
   pub four : length octets ≡ 4
   pub says : same ≡ (u32_at order octets 0 == size)
 
--- The four octets were taken that end a block of this size.
+-- The last four octets of a block of this size were taken.
 abbrev pub Closes : (old new : Option (List ℕ)) → Order → (size : ℕ) → Result Bool NgFault → Type 0
 Closes old new order size (Ok same) = TakesSize old new order size same
 Closes old new order size (Err fault) = Short old new 4 fault
 
--- An option's value was taken with its padding, and its first octets, at most 64, kept.
+-- The value of an option was taken with its padding, and its first octets, at most 64, were kept.
 pub record TakesValue (old new : Option (List ℕ)) (size : ℕ) (kept : List ℕ) : Type 0 where
   pub octets : List ℕ
   pub taken : Consumes old new octets
@@ -67,7 +67,7 @@ abbrev pub ReadsValue : {T : Type 0} → (old new : Option (List ℕ)) → (size
 ReadsValue old new size (Ok done) kept = TakesValue old new size kept
 ReadsValue old new size (Err fault) kept = Short old new (padded size) fault
 
--- The options of an interface were taken, and describe this.
+-- The options of an interface were taken, and describe `interface`.
 pub record TakesOptions (old new : Option (List ℕ)) (order : Order) (inside : Option (List ℕ)) (snap room : ℕ) (interface : Option Interface) : Type 0 where
   pub octets : List ℕ
   pub taken : Consumes old new octets

@@ -1,4 +1,4 @@
-//! Octets that were looked at, before those that a source has left.
+//! A source with a look-ahead buffer: octets that were read before, then the octets of a source.
 ghost use Rattle.std.specs.Prelude.{◌≡◌, ◌≤◌, length};
 ghost use Rattle.std.specs.Io.KnownBytes.{prepend_known};
 ghost use Rattle.edge_io.specs.Faults.{HasCause};
@@ -6,15 +6,16 @@ ghost use Rattle.edge_io.specs.Octets.{Fills};
 
 use edge_io::{Failed, Source, read_full};
 
-/// Gives the kept octets, and then those of the source.
+/// A source that returns the octets of its look-ahead buffer first, and then those of another
+/// source.
 #[derive(Drop)]
-pub struct Ahead<'a, S> {
+pub struct Ahead<'a, S: Source> {
     kept: &'a [u8],
     source: &'a mut S,
 }
 
 impl<'a, S: Source> Ahead<'a, S> {
-    /// These octets, and then what the source has left.
+    /// Returns a source of the octets `kept`, and then of those that `source` has left.
     pub fn new(kept: &'a [u8], source: &'a mut S) -> Ahead<'a, S>
         ensures kept { result.kept.now ≡ kept.entry.now }
         ensures source { result.source.now ≡ source.old }
@@ -54,7 +55,8 @@ impl<S: Source> Source for Ahead<'_, S> {
     }
 }
 
-/// Fills the buffer with these octets, which were read before, and those that come behind them; answers how many they are together.
+/// Fills the buffer with the octets `first`, which were read before, and then with those of the
+/// source. Returns the number of octets in the buffer.
 pub fn read_behind<S: Source>(first: &[u8], source: &mut S, buf: &mut [u8]) -> Result<usize, Failed>
     requires { length first.now ≤ length buf.old }
     ensures octets { Fills (prepend_known first.now (S.left source.old)) (S.left source.new) result buf.new }

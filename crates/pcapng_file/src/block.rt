@@ -1,4 +1,4 @@
-//! Reads one block.
+//! Parsing of one block.
 ghost use Rattle.std.specs.Prelude.{◌≡◌, ◌++◌, ◌≤◌, ◌<◌, length, true, false, option_map, IfSome};
 ghost use Rattle.std.specs.Io.KnownBytes.{prepend_known};
 ghost use Rattle.edge_io.specs.Faults.{Rose};
@@ -20,7 +20,7 @@ use crate::take::{closes, pass, read_exact};
 use edge_io::Source;
 use pcap_file::Order;
 
-/// A block that was read: its byte order, its size in octets and what it holds.
+/// A block that was read: its byte order, its size in octets and its content.
 #[derive(Clone, Copy, Debug, PartialEq, Eq)]
 pub struct Block {
     pub order: Order,
@@ -28,8 +28,8 @@ pub struct Block {
     pub found: Found,
 }
 
-// Reads what stands between the fixed fields of a block and its last four octets: the captured octets of a packet
-// into the buffer.
+// Reads the octets between the fixed fields of a block and its last four octets, the captured
+// octets of a packet block into the buffer.
 fn read_body<S: Source>(
     source: &mut S,
     buf: &mut [u8],
@@ -72,7 +72,7 @@ fn read_body<S: Source>(
     }
 }
 
-// What a block of twelve octets is: it has no fixed field but its type.
+// Returns the content of a block of twelve octets, which has no fixed field but its type.
 fn bare(kind: u32) -> Found
     ensures { result ≡ bare kind }
 {
@@ -82,7 +82,7 @@ fn bare(kind: u32) -> Found
     }
 }
 
-// The first twelve octets of a block, and the sixteen behind them.
+// Returns the first twelve octets of a block and the sixteen after them in one array.
 fn joined(head: &[u8; 12], behind: &[u8; 16]) -> [u8; 28]
     ensures { result ≡ head.now ++ behind.now }
 {
@@ -92,7 +92,7 @@ fn joined(head: &[u8; 12], behind: &[u8; 16]) -> [u8; 28]
     fixed
 }
 
-// Reads a block behind its first twelve octets.
+// Reads the rest of a block after its first twelve octets.
 fn read_rest<S: Source>(
     source: &mut S,
     buf: &mut [u8],
@@ -144,8 +144,8 @@ fn read_rest<S: Source>(
     Ok(found)
 }
 
-/// Reads the next block, where one is left, of which these first octets were read before; the captured octets of a packet stand
-/// in the buffer.
+/// Reads the next block, or returns None at the end of the file. The octets `first` of the block
+/// were read before. The captured octets of a packet block are read into the buffer.
 pub(crate) fn read_block<S: Source>(
     first: &[u8],
     source: &mut S,

@@ -1,4 +1,4 @@
-//! What the fixed fields of a block say.
+//! The content of a block, by its fixed fields.
 ghost use Rattle.std.specs.Prelude.{◌≡◌, ◌+◌, ◌*◌, ◌≤◌, ◌^◌, length, slice_get, option_map};
 ghost use Rattle.pcapng_file.specs.Contents as contents;
 ghost use Rattle.pcapng_file.specs.Options.{padded};
@@ -13,32 +13,32 @@ use crate::standing::Standing;
 use pcap_file::{MAX_CAPTURED, Order};
 use wire_base::{Link, Side};
 
-/// A packet that a block holds.
+/// The fields of a packet block.
 #[derive(Clone, Copy, Debug, PartialEq, Eq)]
 pub struct Stamp {
     /// Seconds since 1970, and nanoseconds.
     pub seconds: u32,
     pub fraction: u32,
-    /// The length that the packet had where it was captured, in octets.
+    /// The length of the frame on the link, in octets.
     pub original: u32,
-    /// How many octets were captured, and where in the block they begin.
+    /// The number of captured octets, and their offset in the block.
     pub size: u32,
     pub place: u32,
     pub side: Option<Side>,
 }
 
-/// What a block holds by its fixed fields.
+/// The content of a block by its fixed fields.
 #[derive(Clone, Copy, Debug, PartialEq, Eq)]
 pub enum Content {
     Fails(NgFault),
     Passed,
     Section,
-    /// An interface of this link and snap length; its options are not looked at yet.
+    /// An interface of this link and snap length; its options are not yet read.
     Interface(Link, u32),
     Packet(Stamp),
 }
 
-/// What a block holds.
+/// The content of a block.
 #[derive(Clone, Copy, Debug, PartialEq, Eq)]
 pub enum Found {
     Fails(NgFault),
@@ -60,14 +60,14 @@ pub(crate) const ENHANCED: u32 = 6;
 
 const MAX_INTERFACES: usize = 64;
 
-// A length with the octets that pad it to a multiple of four.
+// Returns the length with the padding to a multiple of four octets.
 pub(crate) fn padded(size: u32) -> u64
     ensures { result ≡ padded size }
 {
     (u64::from(size) + 3) / 4 * 4
 }
 
-/// How many octets behind the first twelve are the fixed fields of a block.
+/// Returns the number of octets of fixed fields after the first twelve octets of a block.
 pub(crate) fn more_of(kind: u32, size: u32) -> usize
     ensures value { result ≡ contents.more_of kind size }
     ensures within { result ≤ 16 }
@@ -80,7 +80,7 @@ pub(crate) fn more_of(kind: u32, size: u32) -> usize
     }
 }
 
-// What a section block says.
+// Returns the content of a section block.
 fn section_says(order: Order, size: u32, fixed: &[u8]) -> Content
     requires { 28 ≤ size → 16 ≤ length fixed.now }
     ensures { result ≡ contents.section_says order size fixed.now }
@@ -94,7 +94,7 @@ fn section_says(order: Order, size: u32, fixed: &[u8]) -> Content
     Content::Section
 }
 
-// The link of a network number.
+// Returns the link of a network number.
 fn link_of(network: u16) -> Option<Link>
     ensures { result ≡ heads.link_of network }
 {
@@ -105,7 +105,8 @@ fn link_of(network: u16) -> Option<Link>
     }
 }
 
-// Whether an interface may have this link behind the first one's.
+// Returns whether an interface may have this link: that of the file's first interface, if there was
+// one.
 fn is_link(first: Option<Link>, link: Link) -> bool
     ensures { result ≡ contents.is_link first link }
 {
@@ -116,7 +117,7 @@ fn is_link(first: Option<Link>, link: Link) -> bool
     }
 }
 
-// What an interface block says.
+// Returns the content of an interface block.
 fn interface_says(standing: &Standing, order: Order, size: u32, fixed: &[u8]) -> Content
     requires { 20 ≤ size → 16 ≤ length fixed.now }
     ensures { result ≡ contents.interface_says (known standing.now) order size fixed.now }
@@ -137,7 +138,8 @@ fn interface_says(standing: &Standing, order: Order, size: u32, fixed: &[u8]) ->
     Content::Interface(link, snap)
 }
 
-// The side of a packet of an interface with the name of the inside, or with another.
+// Returns the side of a record: outward if its interface has the name `inside`, inward if not, None
+// if no name is given.
 fn side_by(inside: Option<&[u8]>, named: bool) -> Option<Side>
     ensures { result ≡ contents.side_by (option_map (λ name. name.now) inside.entry) named }
 {
@@ -148,7 +150,8 @@ fn side_by(inside: Option<&[u8]>, named: bool) -> Option<Side>
     }
 }
 
-// What a packet of this interface says at this time, in the interface's units.
+// Returns the content of an enhanced packet block of this interface at `time`, in the interface's
+// units.
 fn timed_says(
     inside: Option<&[u8]>,
     interface: Interface,
@@ -179,7 +182,7 @@ fn timed_says(
     })
 }
 
-// The time of an enhanced packet, in the units of its interface.
+// Returns the time of an enhanced packet block, in the units of its interface.
 fn time_at(order: Order, fixed: &[u8]) -> u64
     requires { 28 ≤ length fixed.now }
     ensures { result ≡ u32_at order fixed.now 12 * 2 ^ 32 + u32_at order fixed.now 16 }
@@ -189,7 +192,7 @@ fn time_at(order: Order, fixed: &[u8]) -> u64
     u64::from(high) * 4_294_967_296 + u64::from(low)
 }
 
-// What an enhanced packet of this interface says.
+// Returns the content of an enhanced packet block of this interface.
 fn enhanced_of(
     inside: Option<&[u8]>,
     interface: Interface,
@@ -212,14 +215,14 @@ fn enhanced_of(
     timed_says(inside, interface, time, original, captured)
 }
 
-// The interface of the section that has this number, where it is described.
+// Returns the section's interface with this number, if it has one.
 fn interface_at(standing: &Standing, number: u32) -> Option<Interface>
     ensures { result ≡ slice_get standing.now.interfaces.items number }
 {
     standing.interfaces.get(number as usize).copied()
 }
 
-// What an enhanced packet block says.
+// Returns the content of an enhanced packet block.
 fn enhanced_says(
     standing: &Standing,
     inside: Option<&[u8]>,
@@ -239,7 +242,7 @@ fn enhanced_says(
     enhanced_of(inside, interface, order, size, fixed)
 }
 
-// What a simple packet block says.
+// Returns the content of a simple packet block.
 fn simple_says(
     standing: &Standing,
     inside: Option<&[u8]>,
@@ -275,7 +278,7 @@ fn simple_says(
     })
 }
 
-// The captured length of a simple packet.
+// Returns the captured length of a simple packet block.
 fn clipped(snap: u32, original: u32) -> u32
     ensures { result ≡ contents.clipped snap original }
 {
@@ -286,7 +289,7 @@ fn clipped(snap: u32, original: u32) -> u32
     }
 }
 
-/// What the fixed fields of a block of this type and size say.
+/// Returns the content of a block of this type and size by its fixed fields.
 #[tactic(auto, unfolding(crate::specs::Contents::content_of))]
 pub(crate) fn content_of(
     standing: &Standing,

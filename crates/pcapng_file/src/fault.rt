@@ -1,9 +1,10 @@
-//! Why a pcapng file is not read on.
+//! Faults of a pcapng file.
 use edge_io::Failed;
 use thiserror::Error;
 
-/// Why there is no further record. `Magic`, `Many`, and `Block` for a size that no block has are told from the first twelve octets of a block; `Version`,
-/// `Link`, `Long`, and `Block` for anything else only of a block that is not cut short.
+/// Reasons why there is no further record. `Magic`, `Many`, and `Block` for a size that no block
+/// has are found in the first twelve octets of a block; `Version`, `Link`, `Long`, and `Block` for
+/// anything else are returned only if the block is not cut short.
 #[derive(Clone, Copy, Debug, PartialEq, Eq, Error)]
 pub enum NgFault {
     #[error("the octets end inside a block, or before the first interface")]
@@ -24,7 +25,8 @@ pub enum NgFault {
     ReadFault,
 }
 
-/// Why no file was opened, and the place of the block that is at fault, in octets from the first of the file.
+/// The reason why no file was opened, and the offset of the malformed block, in octets from the
+/// start of the file.
 #[derive(Clone, Copy, Debug, PartialEq, Eq, Error)]
 #[error("{fault}, at octet {offset}")]
 pub struct OpenFault {

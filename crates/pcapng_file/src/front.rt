@@ -7,7 +7,7 @@ use crate::content::SECTION;
 use crate::numbers::u32_at;
 use pcap_file::Order;
 
-/// How a block begins: its type and its size in octets, in the byte order of its section.
+/// The front of a block: its type and its size in octets, in the byte order of its section.
 #[derive(Clone, Copy, Debug, PartialEq, Eq)]
 pub struct Front {
     pub order: Order,
@@ -17,14 +17,14 @@ pub struct Front {
 
 const MAGIC: u32 = 0x1a2b_3c4d;
 
-// Whether a block may have this size.
+// Returns whether a block may have this size.
 fn is_size(size: u32) -> bool
     ensures { result ≡ blocks.is_size size }
 {
     size >= 12 && size % 4 == 0
 }
 
-// The byte order that the magic of a section block tells.
+// Returns the byte order by the byte-order magic of a section block.
 fn order_by_magic(head: &[u8]) -> Option<Order>
     requires { length head.now ≡ 12 }
     ensures { result ≡ blocks.order_by_magic head.now }
@@ -38,7 +38,7 @@ fn order_by_magic(head: &[u8]) -> Option<Order>
     None
 }
 
-// The byte order of a block of the section.
+// Returns the byte order of a block: that of its section, or its own if it begins a section.
 fn order_at(section: Option<Order>, head: &[u8]) -> Option<Order>
     requires { length head.now ≡ 12 }
     ensures { result ≡ blocks.order_at section head.now }
@@ -49,7 +49,7 @@ fn order_at(section: Option<Order>, head: &[u8]) -> Option<Order>
     section
 }
 
-/// What the first twelve octets of a block of the section say.
+/// Parses the first twelve octets of a block.
 pub(crate) fn front_of(section: Option<Order>, head: &[u8]) -> Result<Front, NgFault>
     requires { length head.now ≡ 12 }
     ensures { result ≡ blocks.front_in (blocks.order_at section head.now) head.now }

@@ -13,18 +13,19 @@ use crate::take::{pass, read_exact};
 use edge_io::Source;
 use pcap_file::Order;
 
-/// What is known of an interface.
+/// The description of an interface.
 #[derive(Clone, Copy, Debug, Default, PartialEq, Eq)]
 pub struct Interface {
-    /// Whether its times count nanoseconds; otherwise they count microseconds.
+    /// Whether its timestamps count nanoseconds; otherwise they count microseconds.
     pub nano: bool,
-    /// The most octets that are captured of a packet; 0 is no bound.
+    /// The maximum number of octets captured of a frame; 0 means no limit.
     pub snap: u32,
-    /// Whether its name is that of the inside.
+    /// Whether its name is that of the inside interface.
     pub named: bool,
 }
 
-// What the options so far have said: whether the name is that of the inside, and whether times count nanoseconds.
+// The facts read from the options so far: whether the name is that of the inside interface, and
+// whether timestamps count nanoseconds.
 #[derive(Clone, Copy, Debug, PartialEq, Eq)]
 struct Seen {
     named: Option<bool>,
@@ -35,7 +36,7 @@ const NAME: u16 = 2;
 
 const UNIT: u16 = 9;
 
-// Reads the value of an option with its padding, and keeps its first octets, at most 64.
+// Reads the value of an option with its padding, and keeps its first octets, at most 64, in `kept`.
 fn read_value<S: Source>(source: &mut S, size: u16, kept: &mut [u8]) -> Result<(), NgFault>
     requires { 64 ≤ length kept.old }
     ensures octets { ReadsValue (S.left source.old) (S.left source.new) size result kept.new }
@@ -48,7 +49,7 @@ fn read_value<S: Source>(source: &mut S, size: u16, kept: &mut [u8]) -> Result<(
     pass(source, padded(u32::from(size)) as u32 - first as u32)
 }
 
-// What is known behind one more option, or that it is not well formed.
+// Returns the facts after one more option, or None if the option is malformed.
 fn with_option(seen: Seen, inside: Option<&[u8]>, code: u16, size: u16, kept: &[u8]) -> Option<Seen>
     requires room { 64 ≤ length kept.now }
     requires small { IfSome inside (λ name. length name.now ≤ 64) }
@@ -75,7 +76,8 @@ fn with_option(seen: Seen, inside: Option<&[u8]>, code: u16, size: u16, kept: &[
     }
 }
 
-// Whether a value of this size, that begins so, is the name of the inside.
+// Returns whether a value of this size, with these first octets, is the name of the inside
+// interface.
 fn is_name(inside: Option<&[u8]>, size: u16, first: &[u8]) -> bool
     requires { IfSome inside (λ name. length name.now ≤ 64) }
     ensures { (value : List ℕ) → length value ≡ size → first.now ≡ take (min size 64) value
@@ -87,7 +89,8 @@ fn is_name(inside: Option<&[u8]>, size: u16, first: &[u8]) -> bool
     }
 }
 
-// Whether a value of this size, that begins so, means nanoseconds or microseconds.
+// Returns whether a value of this size, with this first octet, means nanoseconds; None if it means
+// neither these nor microseconds.
 fn nano_of(size: u16, first: u8) -> Option<bool>
     ensures { (value : List ℕ) → length value ≡ size → (0 < size → first ≡ slice_index value 0)
         → result ≡ nano_of (Some value) }
@@ -102,7 +105,7 @@ fn nano_of(size: u16, first: u8) -> Option<bool>
     }
 }
 
-// The interface that all its options describe.
+// Returns the interface that the options describe, after the last of them.
 fn described(seen: Seen, snap: u32) -> Interface
     ensures { (inside : Option (List ℕ)) → Some result ≡ described_by inside snap seen (Some []) }
 {
@@ -113,7 +116,8 @@ fn described(seen: Seen, snap: u32) -> Interface
     }
 }
 
-/// Reads the options of an interface, so many octets, and answers what they describe; None where they are not well formed.
+/// Reads the options of an interface, `room` octets, and returns the interface that they describe;
+/// None if they are malformed.
 pub(crate) fn read_options<S: Source>(
     source: &mut S,
     order: Order,

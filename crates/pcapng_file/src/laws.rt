@@ -1,32 +1,32 @@
 //! Laws over the definitions alone.
 ghost use Rattle.pcapng_file.specs.Laws.{SectionsAreOne, FaultIsOne, FaultExcludesEnd, EachFileEnds, LinkStays, WalksOn};
 
-/// A file that ends well is one list of blocks.
+/// States that octets that are sections are one list of blocks.
 pub fn sections_are_one()
     ensures { SectionsAreOne }
 {}
 
-/// Octets have one first fault, at one offset.
+/// States that octets have at most one first fault, at one offset.
 pub fn fault_is_one()
     ensures { FaultIsOne }
 {}
 
-/// Octets with a first fault do not end well.
+/// States that octets with a first fault are not sections.
 pub fn fault_excludes_end()
     ensures { FaultExcludesEnd }
 {}
 
-/// All octets end well or have a first fault.
+/// States that all octets are sections or have a first fault.
 pub fn each_file_ends()
     ensures { EachFileEnds }
 {}
 
-/// The link of the first interface is that of all.
+/// States that the link of the first interface stays the link of the file.
 pub fn link_stays()
     ensures { LinkStays }
 {}
 
-/// What several calls read, one after the other, is read together.
+/// States that blocks read by several calls are the blocks of one list.
 pub fn walks_on()
     ensures { WalksOn }
 {}

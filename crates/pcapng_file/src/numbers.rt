@@ -5,7 +5,7 @@ ghost use Rattle.pcap_file.specs.Numbers as numbers;
 use byteorder::{BigEndian, ByteOrder, LittleEndian};
 use pcap_file::Order;
 
-/// The number of two octets that begins at this place.
+/// Returns the 16-bit number at the offset `at`.
 pub(crate) fn u16_at(order: Order, bytes: &[u8], at: usize) -> u16
     requires { at + 2 ≤ length bytes.now }
     ensures { result ≡ numbers.u16_at order bytes.now at }
@@ -16,7 +16,7 @@ pub(crate) fn u16_at(order: Order, bytes: &[u8], at: usize) -> u16
     }
 }
 
-/// The number of four octets that begins at this place.
+/// Returns the 32-bit number at the offset `at`.
 pub(crate) fn u32_at(order: Order, bytes: &[u8], at: usize) -> u32
     requires { at + 4 ≤ length bytes.now }
     ensures { result ≡ numbers.u32_at order bytes.now at }

@@ -1,4 +1,4 @@
-//! Reads the packets of a pcapng file one by one.
+//! A reader of the records of a pcapng file, one by one.
 ghost use Rattle.std.specs.Prelude.{◌≡◌, ◌≤◌, ◌<◌, length, true, false, option_map, IfOk, IfSome, Some, None, []};
 ghost use Rattle.std.specs.Io.KnownBytes.{prepend_known};
 ghost use Rattle.edge_io.specs.Faults.{Rose};
@@ -16,7 +16,7 @@ use pcap_file::{Head, Order, Record};
 use std::marker::Model;
 use wire_base::Link;
 
-/// Where reading stands in a pcapng file.
+/// A reader of a pcapng file: its state after the blocks read so far.
 #[derive(Debug, Drop)]
 pub struct NgReader {
     inside: Option<ArrayVec<u8, 64>>,
@@ -59,7 +59,8 @@ impl NgReader {
         }
     }
 
-    /// The same for a file whose first octets, at most 12, were read before; a fault is told with the place of its block.
+    /// Does the same for a file whose first octets, at most 12, were read before; a fault is
+    /// returned with the offset of its block.
     pub fn open_behind<S: Source>(
         inside: Option<&[u8]>,
         first: &[u8],
@@ -86,7 +87,8 @@ impl NgReader {
         Ok(reader)
     }
 
-    /// How a classic file with these packets begins: lowest octet first, nanoseconds, the link of the first interface.
+    /// Returns the head of a classic file for these records: least significant octet first,
+    /// nanoseconds, the link of the first interface.
     pub fn head(&self) -> Head
         ensures { result ≡ written_head self.now.sections.link }
     {
@@ -97,21 +99,21 @@ impl NgReader {
         }
     }
 
-    /// Whether the next packet may be asked for.
+    /// Returns whether `next` may be called.
     pub fn is_open(&self) -> bool
         ensures { result ≡ self.now.is_open }
     {
         self.going
     }
 
-    /// The place of the block that was looked at last, in octets from the first of the file.
+    /// Returns the offset of the block read last, in octets from the start of the file.
     pub fn offset(&self) -> u64
         ensures { result ≡ self.now.asked }
     {
         self.asked
     }
 
-    // Looks at the next block before the first interface, of which these first octets were read before.
+    // Reads the next block before the first interface; its octets `first` were read before.
     fn look_ahead<S: Source>(&mut self, first: &[u8], source: &mut S) -> Result<(), OpenFault>
         requires few { length first.now ≤ 12 }
         requires unlinked { self.old.sections.link ≡ None }
@@ -127,7 +129,8 @@ impl NgReader {
         }
     }
 
-    // Looks at the next block, where one is left, of which these first octets were read before.
+    // Reads the next block, or returns None at the end of the file; the octets `first` of the block
+    // were read before.
     fn look<S: Source>(
         &mut self,
         first: &[u8],
@@ -156,7 +159,7 @@ impl NgReader {
         Ok(Some(block.found))
     }
 
-    // Passes over blocks up to the next packet.
+    // Skips blocks up to the next packet block, and reads it.
     fn next_stamp<S: Source>(
         &mut self,
         source: &mut S,
@@ -177,8 +180,9 @@ impl NgReader {
         Ok(None)
     }
 
-    /// The next packet, its octets in the buffer. Its fraction counts nanoseconds, its offset is that of its block, and it has the side that its interface
-    /// tells where the name of the inside is given.
+    /// Returns the next record, with its octets in the buffer. Its fraction counts nanoseconds, its
+    /// offset is that of its block, and it has the side of its interface if the name of the inside
+    /// interface is given.
     pub fn next<'a, S: Source>(
         &mut self,
         source: &mut S,
@@ -207,7 +211,7 @@ impl NgReader {
     }
 }
 
-// The octets of a name.
+// Returns the octets of a name.
 fn octets_of(name: &Option<ArrayVec<u8, 64>>) -> Option<&[u8]>
     ensures value { option_map (λ octets. octets.now) result ≡ option_map (λ octets. octets.items) name.now }
     ensures small { IfSome result (λ octets. length octets.now ≤ 64) }
@@ -218,7 +222,7 @@ fn octets_of(name: &Option<ArrayVec<u8, 64>>) -> Option<&[u8]>
     }
 }
 
-// The same name in memory of its own.
+// Returns a copy of a name.
 fn copied_name(name: Option<&[u8]>) -> Option<ArrayVec<u8, 64>>
     requires { IfSome name (λ octets. length octets.now ≤ 64) }
     ensures { option_map (λ octets. octets.items) result ≡ option_map (λ octets. octets.now) name.entry }

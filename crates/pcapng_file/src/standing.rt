@@ -1,4 +1,4 @@
-//! What a file has said up to a block.
+//! The state of a file up to a block.
 ghost use Rattle.std.specs.Prelude.{◌≡◌, ◌<◌, length};
 ghost use Rattle.pcapng_file.specs.Blocks.{after_found, IsInterface};
 ghost use Rattle.pcapng_file.specs.Standing.{known, counted, no_section};
@@ -9,10 +9,10 @@ use arrayvec::ArrayVec;
 use pcap_file::Order;
 use wire_base::Link;
 
-/// What the blocks so far have said.
+/// The state after the blocks read so far.
 #[derive(Debug, Drop)]
 pub struct Standing {
-    /// The byte order of the section, where one has begun.
+    /// The byte order of the section; None before the first one.
     pub order: Option<Order>,
     /// The interfaces that the section has described.
     pub interfaces: ArrayVec<Interface, 64>,
@@ -21,12 +21,12 @@ pub struct Standing {
     /// The time of the last packet: seconds since 1970, and nanoseconds.
     pub seconds: u32,
     pub fraction: u32,
-    /// How many blocks there were.
+    /// The number of blocks so far.
     pub blocks: u32,
 }
 
 impl Standing {
-    /// Before the first block.
+    /// Returns the state before the first block.
     pub(crate) fn new() -> Standing
         ensures { known result ≡ no_section }
     {
@@ -40,7 +40,7 @@ impl Standing {
         }
     }
 
-    /// Takes note of one more block, in this byte order.
+    /// Updates the state with one more block, of this byte order.
     pub(crate) fn settle(&mut self, order: Order, found: Found)
         requires few { self.old.blocks < 4294967295 }
         requires room { IsInterface found → length self.old.interfaces.items < 64 }

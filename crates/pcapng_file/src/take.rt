@@ -1,4 +1,4 @@
-//! Reads parts of a block.
+//! Reading of parts of a block.
 ghost use Rattle.std.specs.Prelude.{◌≡◌, ◌≤◌, true, false};
 ghost use Rattle.edge_io.specs.Faults.{Rose};
 ghost use Rattle.pcapng_file.specs.Takes.{FillsWhole, Passes, Closes, is_read_fault};
@@ -8,10 +8,10 @@ use crate::numbers::u32_at;
 use edge_io::{Source, read_full};
 use pcap_file::Order;
 
-// How many octets are passed over by one read at most.
+// Maximum number of octets that one read skips.
 const PIECE: usize = 4096;
 
-/// Fills the buffer.
+/// Fills the buffer, or fails with `Cut` if the source ends before.
 pub(crate) fn read_exact<S: Source>(source: &mut S, buf: &mut [u8]) -> Result<(), NgFault>
     ensures octets { FillsWhole (S.left source.old) (S.left source.new) result buf.new }
     ensures later { S.fault_count source.old ≤ S.fault_count source.new }
@@ -25,7 +25,7 @@ pub(crate) fn read_exact<S: Source>(source: &mut S, buf: &mut [u8]) -> Result<()
     Ok(())
 }
 
-/// Passes over so many octets.
+/// Skips `count` octets.
 pub(crate) fn pass<S: Source>(source: &mut S, count: u32) -> Result<(), NgFault>
     ensures octets { Passes (S.left source.old) (S.left source.new) count result }
     ensures later { S.fault_count source.old ≤ S.fault_count source.new }
@@ -42,7 +42,7 @@ pub(crate) fn pass<S: Source>(source: &mut S, count: u32) -> Result<(), NgFault>
     Ok(())
 }
 
-/// Reads the last four octets of a block, and answers whether they are its size.
+/// Reads the last four octets of a block, and returns whether they are its size.
 pub(crate) fn closes<S: Source>(source: &mut S, order: Order, size: u32) -> Result<bool, NgFault>
     ensures octets { Closes (S.left source.old) (S.left source.new) order size result }
     ensures later { S.fault_count source.old ≤ S.fault_count source.new }

@@ -1,37 +1,45 @@
-//! Files of the worked examples, cut into pieces, and a file for each fault.
+//! Worked example files, read in parts, and a file for each fault.
 ghost use Rattle.std.specs.Prelude.{◌≡◌, ◌<◌, ◌≤◌, IfSome, true, length};
 
-use crate::{NgFault, NgReader};
+use crate::{Ahead, NgFault, NgReader};
 use edge_io::{MemSource, Source};
-use pcap_file::{Order, Record};
+use pcap_file::{Head, Order, Reader, Record, read_head};
 use std::test::Fail;
 use wire_base::{Link, Side};
 
-// A section, lowest octet first.
+// The head of a classic file: least significant octet first, microseconds, raw IP.
+const CLASSIC: [u8; 24] = [
+    0xd4, 0xc3, 0xb2, 0xa1, 2, 0, 4, 0, 0, 0, 0, 0, 0, 0, 0, 0, 0, 0, 4, 0, 101, 0, 0, 0,
+];
+
+// The head of its record: 3 seconds and 4 microseconds, 30 octets of 30.
+const RECORD: [u8; 16] = [3, 0, 0, 0, 4, 0, 0, 0, 30, 0, 0, 0, 30, 0, 0, 0];
+
+// A section, least significant octet first.
 const SECTION: [u8; 28] = [
     0x0a, 0x0d, 0x0d, 0x0a, 28, 0, 0, 0, 0x4d, 0x3c, 0x2b, 0x1a, 1, 0, 0, 0, 255, 255, 255, 255,
     255, 255, 255, 255, 28, 0, 0, 0,
 ];
 
-// A section, highest octet first, of version 1.2.
+// A section, most significant octet first, of version 1.2.
 const BIG_SECTION: [u8; 28] = [
     0x0a, 0x0d, 0x0d, 0x0a, 0, 0, 0, 28, 0x1a, 0x2b, 0x3c, 0x4d, 0, 1, 0, 2, 255, 255, 255, 255,
     255, 255, 255, 255, 0, 0, 0, 28,
 ];
 
-// Raw IP, no snap length, by the name `in`.
+// Raw IP, no snap length, named `in`.
 const IN: [u8; 32] = [
     1, 0, 0, 0, 32, 0, 0, 0, 101, 0, 0, 0, 0, 0, 0, 0, 2, 0, 2, 0, 0x69, 0x6e, 0, 0, 0, 0, 0, 0,
     32, 0, 0, 0,
 ];
 
-// The same by the name `ex`.
+// The same, named `ex`.
 const EX: [u8; 32] = [
     1, 0, 0, 0, 32, 0, 0, 0, 101, 0, 0, 0, 0, 0, 0, 0, 2, 0, 2, 0, 0x65, 0x78, 0, 0, 0, 0, 0, 0,
     32, 0, 0, 0,
 ];
 
-// Raw IP, a snap length of 6, times in nanoseconds.
+// Raw IP, a snap length of 6 octets, timestamps in nanoseconds.
 const NANO: [u8; 32] = [
     1, 0, 0, 0, 32, 0, 0, 0, 101, 0, 0, 0, 6, 0, 0, 0, 9, 0, 1, 0, 9, 0, 0, 0, 0, 0, 0, 0, 32, 0,
     0, 0,
@@ -42,7 +50,7 @@ const PLAIN: [u8; 20] = [
     1, 0, 0, 0, 20, 0, 0, 0, 101, 0, 0, 0, 0, 0, 0, 0, 20, 0, 0, 0,
 ];
 
-// Ethernet without options, highest octet first.
+// Ethernet without options, most significant octet first.
 const BIG_ETHERNET: [u8; 20] = [0, 0, 0, 1, 0, 0, 0, 20, 0, 1, 0, 0, 0, 0, 0, 0, 0, 0, 0, 20];
 
 // A datagram of 30 octets.
@@ -51,7 +59,7 @@ const DATAGRAM: [u8; 30] = [
     0x9c, 0x40, 0, 0x35, 0, 0x0a, 0xc6, 0xbf, 0x68, 0x69,
 ];
 
-// How a packet block of this datagram begins, at time 0 on interface 1.
+// The start of a packet block of this datagram, at time 0 on interface 1.
 const BEFORE: [u8; 28] = [
     6, 0, 0, 0, 64, 0, 0, 0, 1, 0, 0, 0, 0, 0, 0, 0, 0, 0, 0, 0, 30, 0, 0, 0, 30, 0, 0, 0,
 ];
@@ -66,38 +74,39 @@ const BEFORE_2: [u8; 28] = [
     6, 0, 0, 0, 64, 0, 0, 0, 2, 0, 0, 0, 0, 0, 0, 0, 0, 0, 0, 0, 30, 0, 0, 0, 30, 0, 0, 0,
 ];
 
-// The padding and the size that end it.
+// The padding and the size at its end.
 const BEHIND: [u8; 6] = [0, 0, 64, 0, 0, 0];
 
-// Three octets of four at 2^32 + 5 units, with an option behind them.
+// Three captured octets of four, at 2^32 + 5 units, with an option after them.
 const STAMPED: [u8; 44] = [
     6, 0, 0, 0, 44, 0, 0, 0, 0, 0, 0, 0, 1, 0, 0, 0, 5, 0, 0, 0, 3, 0, 0, 0, 4, 0, 0, 0, 7, 8, 9,
     0, 0x34, 0x12, 1, 0, 1, 0, 0, 0, 44, 0, 0, 0,
 ];
 
-// A simple packet of five octets.
+// A simple packet block of five octets.
 const SIMPLE: [u8; 24] = [
     3, 0, 0, 0, 24, 0, 0, 0, 5, 0, 0, 0, 1, 2, 3, 4, 5, 0, 0, 0, 24, 0, 0, 0,
 ];
 
-// A simple packet of nine octets, of which six were captured.
+// A simple packet block of nine octets, of which six were captured.
 const CLIPPED: [u8; 24] = [
     3, 0, 0, 0, 24, 0, 0, 0, 9, 0, 0, 0, 1, 2, 3, 4, 5, 6, 0, 0, 24, 0, 0, 0,
 ];
 
-// A block of a type that is not looked into.
+// A block of a type that is skipped.
 const OTHER: [u8; 16] = [0xad, 0x0b, 0, 0, 16, 0, 0, 0, 1, 2, 3, 4, 16, 0, 0, 0];
 
-// The least block.
+// The smallest block.
 const LEAST: [u8; 12] = [0xad, 0x0b, 0, 0, 12, 0, 0, 0, 12, 0, 0, 0];
 
-// The seconds, the fraction, the original length, the offset, the side and the octets of a packet.
+// The seconds, the fraction, the original length, the offset, the side and the octets of a record.
 type Packet<'a> = (u32, u32, u32, u64, Option<Side>, &'a [u8]);
 
-// How many packets there are, at most two, the fault behind them, and its offset; the end is no fault.
+// The number of records, at most two, the fault after them, and its offset; the end is no fault.
 type Outcome = (u32, Option<NgFault>, u64);
 
-// How the head is written, the offsets of the first interface and of the end, and whether the packets between them are those that are wanted.
+// The fields of the head, the offsets of the first interface and of the end, and whether the
+// records between them are the expected ones.
 type Reading = ((Order, bool, Link), (u64, u64), bool);
 
 fn joined(rt: HostRuntime, parts: &[&[u8]]) -> Result<Vec<u8>, Fail> {
@@ -139,7 +148,7 @@ fn outcome(rt: HostRuntime, octets: Vec<u8>) -> Result<Outcome, Fail> {
     Ok(outcome_of(&mut source, &mut buf))
 }
 
-// What comes of blocks of which one octet is changed.
+// Returns the outcome of blocks with one octet changed.
 fn changed(rt: HostRuntime, blocks: &[&[u8]], place: usize, octet: u8) -> Result<Outcome, Fail> {
     let mut octets = joined(rt, blocks)?;
     *octets.get_mut(place).ok_or("no such place")? = octet;
@@ -156,7 +165,7 @@ fn is_packet(record: &Record<'_>, packet: &Packet<'_>) -> bool {
         && record.bytes == bytes
 }
 
-// Whether the reader is open, and this packet is the next.
+// Returns whether the reader is open and this record is the next.
 fn is_next(
     reader: &mut NgReader,
     source: &mut MemSource,
@@ -174,14 +183,14 @@ fn is_next(
     }
 }
 
-// Whether the reader is open until the end, which is next.
+// Returns whether the reader is open, the end is next, and the reader is closed after it.
 fn ends(reader: &mut NgReader, source: &mut MemSource, buf: &mut [u8]) -> bool
     requires { 262144 ≤ length buf.old }
 {
     reader.is_open() && matches!(reader.next(source, buf), Ok(None)) && !reader.is_open()
 }
 
-// Whether these packets are left, and the end behind them.
+// Returns whether these records are left, and then the end.
 fn are_left(
     reader: &mut NgReader,
     source: &mut MemSource,
@@ -231,7 +240,7 @@ fn reading_of(
     }
 }
 
-// What is read of these blocks in pieces, where these packets are wanted.
+// Returns the result of reading these blocks in parts, where these records are expected.
 fn reading(
     rt: HostRuntime,
     inside: Option<&[u8]>,
@@ -284,8 +293,8 @@ fn an_interface_that_is_not_described_is_a_fault_at_its_packet(
 
 #[test]
 fn times_and_lengths_are_those_of_the_interface(rt: HostRuntime) -> Result<(), Fail> {
-    // 4294967301 microseconds, and as many nanoseconds.
-    // The offsets are those of the two packets and of the end.
+    // 4,294,967,301 microseconds, and as many nanoseconds. The offsets are those of the two records
+    // and of the end.
     let rows: [(&[u8], u32, u32, [u64; 3]); 2] = [
         (&PLAIN, 4294, 967_301_000, [76, 120, 160]),
         (&NANO, 4, 294_967_301, [88, 132, 172]),
@@ -351,7 +360,7 @@ fn a_file_has_its_first_fault(rt: HostRuntime) -> Result<(), Fail> {
         (
             [&SECTION, &IN, &STAMPED],
             &[
-                // No octet is another one.
+                // No octet is changed.
                 (0, 0x0a, (1, None, 104)),
                 (8, 0x4e, (0, Some(NgFault::Magic), 0)),
                 (0, 1, (0, Some(NgFault::Magic), 0)),
@@ -361,20 +370,23 @@ fn a_file_has_its_first_fault(rt: HostRuntime) -> Result<(), Fail> {
                 (24, 27, (0, Some(NgFault::Block), 0)),
                 (36, 113, (0, Some(NgFault::Link), 28)),
                 (32, 31, (0, Some(NgFault::Block), 28)),
-                // An option that reaches past the options, and a packet before the first interface.
+                // An option that reaches past the options, and a packet block before the first
+                // interface.
                 (46, 9, (0, Some(NgFault::Block), 28)),
                 (28, 3, (0, Some(NgFault::Block), 28)),
-                // A packet of the old type, and one of another interface.
+                // A packet block of the old type, and one of an interface that the section does not
+                // have.
                 (60, 2, (0, Some(NgFault::Block), 60)),
                 (68, 1, (0, Some(NgFault::Block), 60)),
-                // A captured length that the block does not hold, one above 262144, 2^32 seconds, and another size at the end.
+                // A captured length that does not fit the block, one above 262,144 octets, 2^32
+                // seconds, and another size at the end.
                 (80, 13, (0, Some(NgFault::Block), 60)),
                 (82, 5, (0, Some(NgFault::Long), 60)),
                 (74, 255, (0, Some(NgFault::Block), 60)),
                 (100, 40, (0, Some(NgFault::Block), 60)),
             ],
         ),
-        // Times in other units than those that are read.
+        // Timestamps in units that are not supported.
         (
             [&SECTION, &NANO, &STAMPED],
             &[
@@ -382,7 +394,7 @@ fn a_file_has_its_first_fault(rt: HostRuntime) -> Result<(), Fail> {
                 (46, 2, (0, Some(NgFault::Block), 28)),
             ],
         ),
-        // Simple packets of too many octets, and a second interface of another link.
+        // Simple packet blocks of too many octets, and a second interface of another link.
         (
             [&SECTION, &IN, &SIMPLE],
             &[
@@ -427,7 +439,7 @@ fn a_file_that_is_cut_short_is_told(rt: HostRuntime) -> Result<(), Fail> {
     Ok(())
 }
 
-// Whether the source fails at the first packet, and the reader is not open behind it.
+// Returns whether the source fails at the first packet block, and the reader is not open after it.
 fn fails(source: &mut MemSource, buf: &mut [u8]) -> Result<bool, NgFault>
     requires { 262144 ≤ length buf.old }
 {
@@ -444,7 +456,7 @@ fn is_failed(reader: &mut NgReader, source: &mut MemSource, buf: &mut [u8]) -> b
     matches!(reader.next(source, buf), Err(NgFault::ReadFault)) && !reader.is_open()
 }
 
-// Each call gives ten octets at most, and the fifteenth fails.
+// Reads from a source whose calls return at most ten octets each, and whose fifteenth call fails.
 fn failing(rt: HostRuntime) -> Result<(Result<bool, NgFault>, u64), Fail> {
     let octets = joined(rt, &[&SECTION, &IN, &SIMPLE, &OTHER])?;
     let mut buf = vec![in rt.alloc(); 0u8; 262144]?;
@@ -456,5 +468,58 @@ fn failing(rt: HostRuntime) -> Result<(Result<bool, NgFault>, u64), Fail> {
 #[test]
 fn a_source_that_fails_is_told(rt: HostRuntime) -> Result<(), Fail> {
     assert_eq!(rt; failing(rt)?, (Ok(true), 1));
+    Ok(())
+}
+
+// Returns whether the next record is the datagram at 3 seconds and 4 microseconds, and the end
+// follows.
+fn is_datagram_alone(reader: &mut Reader, source: &mut Ahead<'_, MemSource>, buf: &mut [u8]) -> bool
+    requires open { reader.old.is_open ≡ true }
+    requires room { 262144 ≤ length buf.old }
+{
+    match reader.next(source, buf) {
+        Ok(Some(record)) => {
+            if !is_packet(&record, &(3, 4, 30, 24, None, &DATAGRAM)) {
+                return false;
+            }
+        }
+        _ => return false,
+    }
+    matches!(reader.next(source, buf), Ok(None))
+}
+
+// Returns the head of a classic file, and whether the datagram is the only record after it.
+fn classic_behind(source: &mut Ahead<'_, MemSource>, buf: &mut [u8]) -> Option<(Head, bool)>
+    requires { 262144 ≤ length buf.old }
+{
+    let head = read_head(source).ok()?;
+    let mut reader = Reader::new(head);
+    Some((head, is_datagram_alone(&mut reader, source, buf)))
+}
+
+// Returns the result of reading a classic file whose first `known` octets were read before.
+fn classic_reading(rt: HostRuntime, known: usize) -> Result<Option<(Head, bool)>, Fail> {
+    let file = joined(rt, &[&CLASSIC, &RECORD, &DATAGRAM])?;
+    let first = file.get(..known).ok_or("too many octets")?;
+    let mut rest = Vec::new(rt.alloc());
+    rest.extend_from_slice(file.get(known..).ok_or("too many octets")?)?;
+    let mut buf = vec![in rt.alloc(); 0u8; 262144]?;
+    let mut source = MemSource::new(rest, 7, Vec::new(rt.alloc()));
+    Ok(classic_behind(&mut Ahead::new(first, &mut source), &mut buf))
+}
+
+// The octets that were read to find out the kind of a file are returned again: its head and its
+// record are read as if no octet had been read before.
+#[test]
+fn a_classic_file_is_read_behind_its_first_octets(rt: HostRuntime) -> Result<(), Fail> {
+    let head = Head {
+        order: Order::Little,
+        nano: false,
+        link: Link::Raw,
+    };
+    for known in [0, 4, 24, 50] {
+        let read = classic_reading(rt, known)?;
+        assert_eq!(rt; read, Some((head, true)), "{known}");
+    }
     Ok(())
 }

@@ -1,4 +1,4 @@
--- A piece that no row drops: what is held then, and the datagram where it is whole.
+-- A fragment that no rule drops: what is held afterwards, and the datagram if it is complete.
 use Rattle.std.proofs.Common.{◌≡◌, ◌≢◌, ℕ, zero, suc, ◌+◌, ◌<◌, ◌≤◌, Bool, true, false, cond, List, [], ◌∷◌, ◌++◌, length, map, take, Option, Some, None, is_some, is_none, refl, sym, ap, ap₂, subst, ◌∙◌, arith, add-one}
 use Rattle.std.specs.Prelude.{slice_index}
 use Rattle.std.specs.List.{AllPairs, range_with_len}
@@ -36,7 +36,7 @@ len_is : (total : Option ℕ) (front : Option Front) → (whole_with total front
 len_is total None = refl
 len_is total (Some front) = refl
 
--- a whole datagram: its total is its length, within the longest, and each offset before it has an octet
+-- a complete datagram: its total is its length, at most the longest, and each offset below it has an octet
 pub record IsWhole (ps : List Fragment) (len : ℕ) : Type 0 where
   pub total_is : total_of ps ≡ Some len
   pub short : len ≤ 65515
@@ -77,7 +77,7 @@ whole_octets blocks ps len out rest keeps w long copied =
     ∙ (list_is out (λ o. unwrap_or (octet_of ps o) 0) 0 len long (λ i lt. some_value (octet_of ps (0 + i)) (slice_index out i) (sym (keeps (0 + i)) ∙ copied i (omega (arith, long))))
     ∙ sym (ap (λ t. map (λ o. unwrap_or (octet_of ps o) 0) (range_with_len 0 (unwrap_or t 0))) w.total_is)))
 
--- after the octets of the piece joined those of its datagram
+-- after the octets of the fragment joined those of its datagram
 pub record Taken (gs : List Gathered) (p : Fragment) (entries : List (Entry DatagramId Progress)) (store new : Store) (slot : Slot) (next : Progress) : Type 0 where
   pub place : Found gs entries store slot p.id
   pub progress : ProgressOf next (p ∷ pieces_in gs p.id)
@@ -103,7 +103,7 @@ taken gs p entries store new slot progress next h inside slots keys keyed valued
       count = counts (pieces_in gs p.id) f.keeps;
     }
 
--- what the code tells of the whole
+-- the values that the code computes of the complete datagram
 pub record TellsWhole (ps : List Fragment) (w : Whole) : Type 0 where
   pub whole : is_whole ps ≡ true
   pub value : w ≡ whole_of ps
@@ -128,7 +128,7 @@ done_answer ps w t = ap offers.Done t.value ∙ sym (ap (λ b. offered (cond b d
 pub held_answer : (ps : List Fragment) → is_whole ps ≡ false → offers.Held ≡ offered (answer_by None (is_whole ps)) (whole_of ps)
 held_answer ps none = sym (ap (λ b. offered (cond b done held) (whole_of ps)) none)
 
--- the datagram goes
+-- the datagram is completed and removed
 pub done_holds : (now : ℕ) (gs : List Gathered) (p : Fragment) (entries : List (Entry DatagramId Progress)) (store mid new : Store) (slot : Slot) (next : Progress) (w : Whole)
     → HoldsFor gs entries store → Taken gs p entries store mid slot next → TellsWhole (p ∷ pieces_in gs p.id) w → ChangesOnly store mid slot.0 → ChangesOnly mid new slot.0
     → chain_of new slot.0 ≡ []
@@ -137,7 +137,7 @@ done_holds now gs p entries store mid new slot next w h t whole first second emp
     subst (λ b. HoldsFor (after now p (answer_by None b) gs) (table.without entries slot) new) (sym whole.whole)
     (forget_holds gs entries store new slot p.id h t.place (λ chain ne. others_same mid new slot.0 second chain ne ∙ others_same store mid slot.0 first chain ne) empty)
 
--- the piece is held
+-- the fragment is held
 pub held_holds : (now : ℕ) (gs : List Gathered) (p : Fragment) (entries : List (Entry DatagramId Progress)) (store new : Store) (slot : Slot) (progress next : Progress)
     → HoldsFor gs entries store → Taken gs p entries store new slot next → Wherever entries slot (λ e. e.value ≡ progress) → is_whole (p ∷ pieces_in gs p.id) ≡ false
     → ChangesOnly store new slot.0 → next.since ≡ progress.since

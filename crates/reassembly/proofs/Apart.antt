@@ -1,4 +1,4 @@
--- Datagrams of two identifications have nothing to do with one another.
+-- Datagrams of two identifications are independent.
 use Rattle.std.proofs.Common.{◌≡◌, ℕ, not, ◌&&◌, ◌||◌, Bool, true, false, cond, List, [], ◌∷◌, refl, sym, ap, ap₂, ◌∙◌, arith}
 use Rattle.std.specs.List.{AllByRecursion, filter, list_any}
 use Rattle.linked_table.specs.Table.{Pairwise}
@@ -50,7 +50,7 @@ once time (offer now p held ∷ cs) = once_with now p (gathered time cs) (once t
 once time (offer now p done ∷ cs) = once_filter (λ (g : Gathered). not (is_id g.id p.id)) (gathered time cs) (once time cs)
 once time (offer now p (dropped rule) ∷ cs) = once_rule p.id (gathered time cs) (forgets rule) (once time cs)
 
--- where none has the identification, nothing is found
+-- if none has the identification, nothing is found
 none_in : (q : Gathered → Bool) (gs : List Gathered) (id : DatagramId) → AllByRecursion (λ (g : Gathered). is_id g.id id ≡ false) gs → pieces_in (filter q gs) id ≡ []
 none_in q [] id none = refl
 none_in q (g ∷ gs) id none = by_test (q g) (none_in q gs id none.1)

@@ -1,4 +1,4 @@
--- A datagram of which no piece is held begins.
+-- The first fragment of a datagram.
 use Rattle.std.proofs.Common.{◌≡◌, ◌≢◌, ℕ, zero, suc, ◌+◌, ◌*◌, ◌/◌, ◌<◌, ◌≤◌, not, Bool, true, false, cond, List, [], ◌∷◌, ◌++◌, length, Option, Some, None, refl, sym, ap, ap₂, subst, ◌∙◌, arith, ◌&&◌, append-nil}
 use Rattle.std.specs.Prelude.{nat_lt, nat_le}
 use Rattle.std.specs.List.{AllByRecursion, count_by, range_with_len, list_any}
@@ -22,7 +22,7 @@ use Rattle.linked_table.proofs.Splits.{all_join, all_weaker, all_before}
 use Rattle.linked_table.proofs.Filters.{filter_all}
 use Rattle.reassembly.proofs.Stands.{joined, ids_other, id_same, pieces_none, pieces_at, with_new, with_own, others_at}
 
--- before its first piece
+-- before its first fragment
 abbrev pub blank : (now : ℕ) → Progress
 blank now = record { since = now; total = None; reach = 0; filled = 0; front = None }
 
@@ -41,7 +41,7 @@ not_free entries slot out =
 blank_progress : (now : ℕ) → ProgressOf (blank now) []
 blank_progress now = record { total_is = refl; reach_is = refl; filled_is = refl; front_is = refl; short = omega arith; ends = λ t e. cc }
 
--- the chain of a free slot has nothing
+-- the chain of a free slot is empty
 pub chain_free : (gs : List Gathered) (entries : List (Entry DatagramId Progress)) (store : Store) (slot : Slot) → HoldsFor gs entries store → IsNotIn entries slot → chain_of store slot.0 ≡ []
 chain_free gs entries store slot h out = h.free slot.0 (not_free entries slot out)
 
@@ -83,7 +83,7 @@ blank_after gs p now true none =
     (all_weaker (λ (k : Gathered). is_id k.id p.id ≡ false) (λ (k : Gathered). not (is_id k.id p.id) ≡ true) (λ k e. ap not e) gs none)))
 blank_after gs p now false none = with_own now p gs (fresh_datagram p.id now) [] none (id_same p.id) ∙ sym (with_new now p gs none)
 
--- nothing is at odds with no piece
+-- without held fragments there is no contradiction
 clashes_none : (from : ℕ) (xs : List ℕ) → clashes [] from xs ≡ false
 clashes_none from [] = refl
 clashes_none from (x ∷ xs) = clashes_none (from + 1) xs
@@ -108,7 +108,7 @@ is_many ps max count none le = let full : nat_le max count ≡ true = grind (ari
 pub not_full : (ps : List Fragment) (max count : ℕ) → ps ≡ [] → count < max → (is_none_held ps && nat_le max count) ≡ false
 not_full ps max count none lt = let free : nat_le max count ≡ false = grind (arith, nat_tests) in ap₂ (λ a b. a && b) (ap is_none_held none) free
 
--- all blocks touched have nothing
+-- none of the blocks touched has an octet
 pub any_none : (xs : List ℕ) → list_any (λ (n : ℕ). false) xs ≡ false
 any_none [] = refl
 any_none (x ∷ xs) = any_none xs
@@ -129,7 +129,7 @@ pub blocks_missing_of : (from len blocks : ℕ) → touched from len ≡ range_w
 blocks_missing_of from len blocks is =
     ap (count_by (λ n. not (has_block [] n))) is ∙ count_all (λ n. not (has_block [] n)) (from / 256) blocks (λ m. ap not (any_none (range_with_len (256 * m) 256)))
 
--- the table with a further entry, or as it was
+-- the table with a further entry, or unchanged
 pub entries_added : (old new : Table DatagramId Progress) (slot : Slot) (key id : DatagramId) (value : Progress) (now : ℕ)
     → new ≡ record old { entries = old.entries ++ record { slot = slot; key = key; value = value } ∷ [] } → key ≡ id → value ≡ blank now
     → new.entries ≡ old.entries ++ fresh_entry slot id now ∷ []

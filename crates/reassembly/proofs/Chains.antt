@@ -1,4 +1,4 @@
--- A chain that has the octets of a datagram's pieces has as many blocks as they take.
+-- A chain that has the octets of a datagram's fragments has as many blocks as they take.
 use Rattle.std.proofs.Common.{◌≡◌, ℕ, ◌+◌, ◌*◌, ◌/◌, List, length, arith}
 use Rattle.std.specs.List.{count_by, range_with_len}
 use Rattle.retain_store.specs.Maps.{Block, IsMap, IsWithin, holds}

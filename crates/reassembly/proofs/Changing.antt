@@ -1,4 +1,4 @@
--- How what the table and the store stand for changes: one datagram has a piece more, is forgotten, or is new.
+-- Changes of what the table and the store represent: one datagram has a fragment more, is removed, or is new.
 use Rattle.std.proofs.Common.{◌≡◌, ◌≢◌, ℕ, true, false, List, [], ◌∷◌, ◌++◌, length, sym, ap, subst, ◌∙◌, inl, inr}
 use Rattle.std.specs.List.{AllByRecursion, AllPairs}
 use Rattle.std.proofs.lemmas.Bool.{cases_eq}
@@ -15,7 +15,7 @@ use Rattle.linked_table.proofs.Splits.{all_before, all_after, all_join, all_weak
 use Rattle.linked_table.proofs.Parts.{split_at, wherever, left_out, valued}
 use Rattle.reassembly.proofs.Stands.{Parted, parted, joined, still, ids_other, id_same, pieces_at, with_own, others_at}
 
--- an entry of this identification and the datagram that it stands for
+-- an entry of this identification and the datagram that it represents
 pub record Found (gs : List Gathered) (entries : List (Entry DatagramId Progress)) (store : Store) (slot : Slot) (id : DatagramId) : Type 0 where
   pub entry : SplitAt entries slot
   pub part : Parted store entry.before entry.here entry.after gs
@@ -59,7 +59,7 @@ progress_of gs entries store slot id progress f valued_so =
     let value_is : f.entry.here.value ≡ progress = wherever (λ (e : Entry DatagramId Progress). e.value ≡ progress) entries slot f.entry valued_so in
     subst (λ l. ProgressOf progress l) (sym f.pieces_are) (subst (λ v. ProgressOf v f.part.datagram.pieces) value_is f.part.here_stands.progress)
 
--- an entry of another slot has another slot than the hole's
+-- an entry of another slot has another slot than `slot`
 apart : (entries : List (Entry DatagramId Progress)) (slot : Slot) (here : Entry DatagramId Progress) → here.slot ≡ slot
     → AllByRecursion (λ (e : Entry DatagramId Progress). e.slot ≢ here.slot) entries → IsFree entries slot.0
 apart entries slot here named ne =
@@ -67,7 +67,7 @@ apart entries slot here named ne =
     let number : here.slot.0 ≡ slot.0 = ap (λ (s : Slot). s.0) named in
     all_weaker (λ (e : Entry DatagramId Progress). e.slot ≢ here.slot) (λ (e : Entry DatagramId Progress). e.slot.0 ≢ slot.0) (λ e other same. other (ap mk (same ∙ sym number))) entries ne
 
--- the datagram is forgotten
+-- the datagram is removed
 pub forget_holds : (gs : List Gathered) (entries : List (Entry DatagramId Progress)) (store new : Store) (slot : Slot) (id : DatagramId)
     → HoldsFor gs entries store → Found gs entries store slot id → ((chain : ℕ) → chain ≢ slot.0 → chain_of new chain ≡ chain_of store chain)
     → chain_of new slot.0 ≡ [] → HoldsFor (of_others id gs) (table.without entries slot) new
@@ -89,7 +89,7 @@ forget_holds gs entries store new slot id h f chains empty =
       ];
     }))
 
--- the datagram has a piece more
+-- the datagram has a fragment more
 pub put_holds : (now : ℕ) (p : Fragment) (gs : List Gathered) (entries : List (Entry DatagramId Progress)) (store new : Store) (slot : Slot) (progress next : Progress)
     → HoldsFor gs entries store → Found gs entries store slot p.id → Wherever entries slot (λ e. e.value ≡ progress)
     → ((chain : ℕ) → chain ≢ slot.0 → chain_of new chain ≡ chain_of store chain)

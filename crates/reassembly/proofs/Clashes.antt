@@ -1,4 +1,4 @@
--- Whether the octets of a piece differ from those held.
+-- Whether the octets of a fragment differ from those held.
 use Rattle.std.proofs.Common.{◌≡◌, ℕ, zero, suc, ◌+◌, ◌==◌, ◌<◌, Bool, true, false, not, List, [], ◌∷◌, length, Option, Some, None, refl, sym, ap, ap₂, ◌∙◌, arith, ◌||◌}
 use Rattle.std.specs.Prelude.{slice_index, ◌↔◌}
 use Rattle.std.specs.Option.{unwrap_or}

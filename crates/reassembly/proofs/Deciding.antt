@@ -1,4 +1,4 @@
--- Which row decides.
+-- Which rule decides.
 use Rattle.std.proofs.Common.{◌≡◌, ℕ, ◌<◌, ◌≤◌, Bool, true, false, cond, List, [], ◌∷◌, ◌++◌, Option, Some, None, refl, sym, ap, ◌∙◌, arith, ◌&&◌}
 use Rattle.std.specs.Prelude.{nat_lt}
 use Rattle.std.specs.Option.{option_or}
@@ -19,11 +19,11 @@ first_join : (xs ys : List Row) → first_row (xs ++ ys) ≡ option_or (first_ro
 first_join [] ys = refl
 first_join (x ∷ xs) ys = join_step x.holds x.rule (first_row (xs ++ ys)) (first_row xs) (first_row ys) (first_join xs ys)
 
--- the last two rows
+-- the last two rules
 abbrev pub last_rows : View → Fragment → List Row
 last_rows v p = record { rule = FMany; holds = f_many v } ∷ record { rule = FRoom; holds = f_room v p } ∷ []
 
--- a row on the piece alone
+-- a rule on the fragment alone
 pub own_drops : (v : View) (p : Fragment) (rule : Rule) → first_row (own_rows p) ≡ Some rule → answer_at v p ≡ dropped rule
 own_drops v p rule own = ap (λ r. answer_by (option_or r (first_row (odd_rows v.pieces p ++ last_rows v p))) (is_whole (p ∷ v.pieces))) own
 
@@ -32,7 +32,7 @@ by_rows v p own =
     ap (λ r. answer_by (option_or r (first_row (odd_rows v.pieces p ++ last_rows v p))) (is_whole (p ∷ v.pieces))) own
     ∙ ap (λ r. answer_by r (is_whole (p ∷ v.pieces))) (first_join (odd_rows v.pieces p) (last_rows v p))
 
--- a row under which the piece is at odds with its datagram
+-- a rule under which the fragment contradicts its datagram
 pub odd_drops : (v : View) (p : Fragment) (rule : Rule) → first_row (own_rows p) ≡ None → first_row (odd_rows v.pieces p) ≡ Some rule → answer_at v p ≡ dropped rule
 odd_drops v p rule own odd = by_rows v p own ∙ ap (λ r. answer_by (option_or r (first_row (last_rows v p))) (is_whole (p ∷ v.pieces))) odd
 
@@ -57,7 +57,7 @@ none_drops v p own odd many room =
 pub drop_answer : (v : View) (p : Fragment) (rule : Rule) → answer_at v p ≡ dropped rule → offers.Drop rule ≡ offered_at v p
 drop_answer v p rule e = sym (ap (λ a. offered a (whole_of (p ∷ v.pieces))) e)
 
--- where pieces of the datagram are held, F_MANY does not hold
+-- if fragments of the datagram are held, F_MANY does not hold
 pub not_many : (ps : List Fragment) (full : Bool) → is_none_held ps ≡ false → (is_none_held ps && full) ≡ false
 not_many ps full some = ap (λ b. b && full) some
 
@@ -67,7 +67,7 @@ room_is room need wanted is lt = grind (arith, nat_tests, is)
 pub room_not : (room need wanted : ℕ) → need ≡ wanted → need ≤ room → nat_lt room wanted ≡ false
 room_not room need wanted is le = grind (arith, nat_tests, is)
 
--- the rows in two parts are one list
+-- the rules in two parts are one list
 four_join : (a b c d : Bool) (r s t u : Rule) (rest : Option Rule)
     → option_or (cond a (Some r) (cond b (Some s) (cond c (Some t) (cond d (Some u) None)))) rest ≡ cond a (Some r) (cond b (Some s) (cond c (Some t) (cond d (Some u) rest)))
 four_join true b c d r s t u rest = refl

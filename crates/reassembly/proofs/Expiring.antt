@@ -136,7 +136,7 @@ none_past time now zero (g ∷ gs) below = absurd (omega arith)
 none_past time now (suc i) [] below = refl
 none_past time now (suc i) (g ∷ gs) below = none_past time now i gs (omega arith)
 
--- what is left of an assembly's datagrams, and how many were forgotten
+-- what is left of an assembly's datagrams, and how many were removed
 pub record Expired (time now last i : ℕ) (gs : List Gathered) (entries : List (Entry DatagramId Progress)) (store : Store) : Type 0 where
   pub count : i ≡ count_by (is_old time now) gs
   pub holds : HoldsFor (filter (λ g. not (is_old time now g)) gs) entries store

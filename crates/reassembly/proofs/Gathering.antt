@@ -1,4 +1,4 @@
--- What a piece changes in what is held.
+-- How a fragment changes what is held.
 use Rattle.std.proofs.Common.{◌≡◌, ℕ, not, Bool, true, false, cond, List, [], ◌∷◌, refl, sym, ap, subst, ◌∙◌}
 use Rattle.reassembly.specs.declared.id.DatagramId.{DatagramId}
 use Rattle.reassembly.specs.Pieces.{Fragment}

@@ -1,4 +1,4 @@
--- What holds of a piece that no row drops, and so of the pieces of each datagram that is held.
+-- What holds of a fragment that no rule drops, and so of the fragments of each datagram that is held.
 use Rattle.std.proofs.Common.{◌≡◌, ℕ, ◌<◌, ◌≤◌, ◌==◌, not, Bool, true, false, cond, List, [], ◌∷◌, length, Option, Some, None, refl, sym, ◌∙◌, arith}
 use Rattle.std.specs.List.{AllByRecursion, filter}
 use Rattle.std.specs.Option.{option_or}
@@ -10,7 +10,7 @@ use Rattle.reassembly.specs.Rows.{View, f_df, f_empty, f_end, f_clash, f_many, f
 use Rattle.reassembly.proofs.Ordering.{all_filter}
 use Rattle.reassembly.proofs.Pieces.{not_big}
 
--- a piece that no row drops is at odds with nothing, is no longer than a datagram may be, and finds room
+-- a fragment that no rule drops contradicts nothing, is no longer than a datagram may be, and has enough free cells
 pub record FitsIn (v : View) (p : Fragment) : Type 0 where
   pub end : f_end v.pieces p ≡ false
   pub octets : f_clash v.pieces p ≡ false
@@ -47,7 +47,7 @@ held_not_dropped v p answer as_said is = not_dropped (dropped_by v p) (is_whole 
 pub done_not_dropped : (v : View) (p : Fragment) → answer_at v p ≡ done → dropped_by v p ≡ None
 done_not_dropped v p is = not_dropped (dropped_by v p) (is_whole (p ∷ v.pieces)) done is (λ rule e. cc)
 
--- of the pieces of each datagram
+-- of the fragments of each datagram
 abbrev pub EachHolds : (List Fragment → Type 0) → List Gathered → Type 0
 EachHolds Q gs = AllByRecursion (λ g. Q g.pieces) gs
 

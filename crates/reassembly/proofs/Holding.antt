@@ -1,4 +1,4 @@
--- What the store holds is what the datagrams hold.
+-- The store holds what the datagrams hold.
 use Rattle.std.proofs.Common.{◌≡◌, ◌≢◌, ℕ, ◌<◌, List, [], ◌∷◌, length, ap, ◌∙◌, arith}
 use Rattle.std.specs.List.{sum_by, All, AllPairs}
 use Rattle.std.proofs.lemmas.List.Elements.{recursion_from_All}

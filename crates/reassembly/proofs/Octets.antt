@@ -1,4 +1,4 @@
--- A whole datagram is made of its pieces.
+-- A complete datagram is made of its fragments.
 use Rattle.std.proofs.Common.{◌≡◌, ℕ, zero, suc, ◌+◌, ◌-◌, ◌<◌, ◌≤◌, ◌==◌, ◌||◌, ◌&&◌, not, Bool, true, false, cond, List, [], ◌∷◌, length, map, take, drop, Option, Some, None, is_some, refl, sym, ap, ap₂, subst, ◌∙◌, arith}
 use Rattle.std.specs.Prelude.{nat_lt, nat_le, slice_get, slice_index, is_none}
 use Rattle.std.specs.List.{AllByRecursion, list_any, range_with_len}
@@ -38,7 +38,7 @@ same_or (Some y) b x same is = ap Some same
 stays : (a b : Option ℕ) (x : ℕ) → a ≡ Some x → option_or a b ≡ Some x
 stays a b x is = ap (λ o. option_or o b) is
 
--- the octets of each piece stand at their places, the last piece ends where the last octet does, and no piece is empty
+-- the octets of each fragment are at their offsets, the last fragment ends at the last octet, and no fragment is empty
 abbrev pub StandAt : List Fragment → Fragment → Type 0
 StandAt ps q = (i : ℕ) → i < length q.octets → octet_of ps (q.offset + i) ≡ Some (slice_index q.octets i)
 
@@ -71,7 +71,7 @@ all_sound settings (offer now p answer ∷ cs) answered =
     (λ is. let fits = fits_in v p (held_not_dropped v p answer answered.0 is) in one_more v.pieces p fits.end fits.octets fits.some)
     (all_sound settings cs answered.1)
 
--- a part of what a function gives over a range
+-- a part of the values of a function over a range
 part_of : (f : ℕ → ℕ) (a n k m : ℕ) → k + m ≤ n → take m (drop k (map f (range_with_len a n))) ≡ map f (range_with_len (a + k) m)
 part_of f a n zero zero le = refl
 part_of f a zero zero (suc m) le = absurd (omega arith)
@@ -141,7 +141,7 @@ by_whole : (whole : Bool) → answer_by None whole ≡ done → whole ≡ true
 by_whole true e = refl
 by_whole false e = cc
 
--- an octet at offset 0 is of a piece at offset 0
+-- an octet at offset 0 is of a fragment at offset 0
 front_there : (ps : List Fragment) → is_some (octet_of ps 0) ≡ true → is_some (front_of ps) ≡ true
 front_there [] some = cc
 front_there (p ∷ ps) some = by_held (octet_of ps 0) (front_there ps) some

@@ -1,4 +1,4 @@
--- Datagrams stay in order of their first pieces, each has a piece, and a piece is looked for among them.
+-- Datagrams stay in order of their first fragments, each has a fragment, and a fragment is looked up among them.
 use Rattle.std.proofs.Common.{◌≡◌, ℕ, ◌≤◌, not, Bool, true, false, cond, List, [], ◌∷◌, refl, ap, subst, ◌∙◌, arith}
 use Rattle.std.specs.Prelude.{max}
 use Rattle.std.specs.List.{AllByRecursion, filter}
@@ -79,7 +79,7 @@ order_after now p (dropped rule) gs last order le = by_rule (forgets rule)
     by_rule true = order_others p.id gs last now order
     by_rule false = order_later gs last now order
 
--- each datagram has a piece
+-- each datagram has a fragment
 abbrev pub HasSome : List Gathered → Type 0
 HasSome gs = AllByRecursion (λ g. is_none_held g.pieces ≡ false) gs
 

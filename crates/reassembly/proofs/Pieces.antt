@@ -1,4 +1,4 @@
--- What pieces make together, with one piece more.
+-- What fragments make together, with one fragment more.
 use Rattle.std.proofs.Common.{◌≡◌, ℕ, zero, suc, ◌+◌, ◌-◌, ◌==◌, ◌<◌, ◌≤◌, max, Bool, true, false, cond, not, List, [], ◌∷◌, length, Option, Some, None, is_some, is_none, refl, sym, ap, ap₂, ◌∙◌, arith, ◌||◌, ◌&&◌}
 use Rattle.std.specs.Prelude.{nat_lt, slice_get}
 use Rattle.std.specs.List.{count_by, range_with_len}
@@ -13,7 +13,7 @@ use Rattle.rule_book.specs.declared.rule.Rule.TheVariants.{FDf, FEmpty, FAlign, 
 use Rattle.reassembly.specs.Standing.{Keeps, ProgressOf}
 use Rattle.retain_store.proofs.Counts.{agree, count_most, none_counted, parts, either, full}
 
--- a piece has an octet exactly from its offset to its end
+-- a fragment has an octet exactly from its offset to its end
 pub in_piece : (from : ℕ) (xs : List ℕ) (o : ℕ) → is_some (octet_in from xs o) ≡ true → (from ≤ o) × (o < from + length xs)
 in_piece from xs o some = tests (nat_lt o from) refl some
   where
@@ -44,7 +44,7 @@ pub some_or : (a b : Option ℕ) → is_some (option_or a b) ≡ (is_some a || i
 some_or None b = refl
 some_or (Some x) b = refl
 
--- no octet stands at or past the reach
+-- no octet is at or past the reach
 reach_step : (p : Fragment) (ps : List Fragment) (o : ℕ) (held : Option ℕ) → (is_some held ≡ true → o < reach ps)
     → is_some (option_or held (octet_in p.offset p.octets o)) ≡ true → o < max (reach ps) (end_of p)
 reach_step p ps o (Some x) below got = let under = below refl in omega arith
@@ -54,7 +54,7 @@ pub below_reach : (ps : List Fragment) (o : ℕ) → is_some (octet_of ps o) ≡
 below_reach [] o some = cc
 below_reach (p ∷ ps) o some = reach_step p ps o (octet_of ps o) (below_reach ps o) some
 
--- the chain with a piece more
+-- the chain with a fragment more
 pub placed : (old new : List Block) (p : Fragment) (ps : List Fragment) → Keeps old ps → Places old new p.offset p.octets → Keeps new (p ∷ ps)
 placed old new p ps keeps places o = places o ∙ ap (λ x. option_or x (octet_in p.offset p.octets o)) (keeps o)
 
@@ -62,7 +62,7 @@ pub some_false : (b : Bool) → (b ≡ true → ⊥) → b ≡ false
 some_false true no_way = absurd (no_way refl)
 some_false false no_way = refl
 
--- counted as far as one likes past the reach
+-- counted to any number past the reach
 filled_to : (ps : List Fragment) (n : ℕ) → reach ps ≤ n → count_by (λ o. is_some (octet_of ps o)) (range_with_len 0 n) ≡ filled_in ps
 filled_to ps n le =
     let p : ℕ → Bool = λ o. is_some (octet_of ps o) in
@@ -72,7 +72,7 @@ filled_to ps n le =
     let whole : count_by p (range_with_len 0 (reach ps + (n - reach ps))) ≡ count_by p (range_with_len 0 n) = ap (λ k. count_by p (range_with_len 0 k)) sum in
     omega (arith, rest, both, whole)
 
--- what a piece brings is counted where nothing was
+-- the octets that a fragment adds are counted at offsets that had none
 brought : (p : Fragment) (ps : List Fragment) (n : ℕ) → end_of p ≤ n
     → count_by (λ o. is_some (octet_in p.offset p.octets o) && not (is_some (octet_of ps o))) (range_with_len 0 n)
     ≡ count_by (λ o. is_none (octet_of ps o)) (range_with_len p.offset (length p.octets))
@@ -115,7 +115,7 @@ pub fresh_is : (blocks : List Block) (ps : List Fragment) (from len : ℕ) → K
     → fresh blocks from len ≡ count_by (λ o. is_none (octet_of ps o)) (range_with_len from len)
 fresh_is blocks ps from len keeps = agree (λ o. is_none (octet_at blocks o)) (λ o. is_none (octet_of ps o)) from len (λ m low high. ap is_none (keeps m))
 
--- where the last piece ends, with a piece more that is at odds with none
+-- the end of the last fragment, after one more that contradicts none
 pub ends_more : (total : Option ℕ) (r : ℕ) (p : Fragment) → ((t : ℕ) → total ≡ Some t → r ≡ t) → ends_otherwise total r p ≡ false
     → (t : ℕ) → option_or total (cond p.more None (Some (end_of p))) ≡ Some t → max r (end_of p) ≡ t
 ends_more total r p ends fits t is = by_total total refl
@@ -144,7 +144,7 @@ ends_more total r p ends fits t is = by_total total refl
         let below : end_of p ≤ u = grind (arith, nat_tests, under) in
         omega (arith, same, at, below)
 
--- a piece that no row on it alone drops reaches no further than the longest datagram
+-- a fragment that no rule on it alone drops extends no further than the longest datagram
 pub not_big : (p : Fragment) → first_row (own_rows p) ≡ None → end_of p ≤ 65515
 not_big p none = tests FDf FEmpty FAlign FBig (f_df p) (f_empty p) (f_align p) (nat_lt 65515 (end_of p)) refl none
   where
@@ -178,7 +178,7 @@ pub none_not : (a : Option ℕ) → is_none a ≡ not (is_some a)
 none_not None = refl
 none_not (Some x) = refl
 
--- the count tells whether the datagram is whole
+-- the count decides whether the datagram is complete
 pub whole_is : (v : Progress) (ps : List Fragment) → ProgressOf v ps → whole_if v.total v.filled v.front ≡ cond (is_whole ps) (Some (whole_of ps)) None
 whole_is v ps h = by_total (total_of ps) refl
   where

@@ -1,4 +1,4 @@
--- How many cells are free.
+-- The number of free cells.
 use Rattle.std.proofs.Common.{◌≡◌, ◌≢◌, ◌+◌, ◌-◌, ◌<◌, List, length, arith}
 use Rattle.std.specs.List.{All, AllPairs, sum_by}
 use Rattle.norm_settings.specs.Settings.{PlainSettings}

@@ -1,4 +1,4 @@
--- A datagram of sized pieces is sized.
+-- A datagram of sized fragments is sized.
 use Rattle.std.proofs.Common.{◌≡◌, ℕ, zero, suc, ◌-◌, ◌^◌, ◌<◌, ◌≤◌, ◌==◌, not, Bool, true, false, cond, List, [], ◌∷◌, length, map, Option, Some, None, refl, sym, subst, ◌∙◌, arith}
 use Rattle.std.specs.Prelude.{nat_lt, slice_get, slice_index}
 use Rattle.std.specs.List.{AllByRecursion, range_with_len}
@@ -13,7 +13,7 @@ use Rattle.reassembly.specs.Rows.{view_of, AreAnswered}
 use Rattle.reassembly.specs.Laws.{IsSized, AreSized, IsSizedWhole, WholesAreSized}
 use Rattle.reassembly.proofs.Held.{EachHolds, each_filter, each_after, each_in, fits_in, held_not_dropped, done_not_dropped}
 
--- a sized piece that is no longer than a datagram may be
+-- a sized fragment that is no longer than a datagram may be
 pub record IsShort (p : Fragment) : Type 0 where
   pub sized : IsSized p
   pub short : end_of p ≤ 65515
@@ -31,7 +31,7 @@ all_short settings (offer now p answer ∷ cs) answered sized =
     (λ is rest. let fits = fits_in v p (held_not_dropped v p answer answered.0 is) in (record { sized = sized.0; short = fits.short }, rest))
     (all_short settings cs answered.1 sized.1)
 
--- the fields are those of a piece
+-- the fields are those of a fragment
 record AreFields (o : Option Front) : Type 0 where
   tos : (total : Option ℕ) → (whole_with total o).tos < 2 ^ 8
   ttl : (total : Option ℕ) → (whole_with total o).ttl < 2 ^ 8

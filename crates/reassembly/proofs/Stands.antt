@@ -1,4 +1,4 @@
--- Entries and the datagrams that they stand for, at a slot and elsewhere.
+-- Entries and the datagrams that they represent, at a slot and elsewhere.
 use Rattle.std.proofs.Common.{◌≡◌, ◌≢◌, ℕ, not, true, false, cond, List, [], ◌∷◌, ◌++◌, length, refl, ap, ◌∙◌, arith, get_or-set_other}
 use Rattle.std.specs.List.{AllByRecursion, sum_by}
 use Rattle.std.proofs.lemmas.List.Sums.{sum_by-cons}
@@ -23,12 +23,12 @@ id_other a b ne = elim (is_id a b) as (λ t. is_id a b ≡ t → t ≡ false) [
   | false ↦ λ e. refl
 ] refl
 
--- of another chain nothing has changed
+-- no other chain has changed
 pub others_same : (store new : Store) (hole : ℕ) → ChangesOnly store new hole → (chain : ℕ) → chain ≢ hole → chain_of new chain ≡ chain_of store chain
 others_same store new hole changed chain ne =
     ap (λ (s : Store). chain_of s chain) changed.others ∙ get_or-set_other store.chains hole chain (chain_of new hole) [] ne
 
--- the datagrams parted where the entries are
+-- the datagrams split where the entries are
 pub record Parted (store : Store) (before : List (Entry DatagramId Progress)) (here : Entry DatagramId Progress) (after : List (Entry DatagramId Progress)) (gs : List Gathered) : Type 0 where
   pub left : List Gathered
   pub datagram : Gathered
@@ -78,7 +78,7 @@ cells_are store (e ∷ es) (g ∷ gs) h =
     let here = h.0.count in
     omega (arith, rest, here, sum_by-cons (λ (f : Entry DatagramId Progress). length (chain_of store f.slot.0)) e es, sum_by-cons (λ (k : Gathered). cells_of k.pieces) g gs)
 
--- where the chains of the entries are as they were, they stand for the same
+-- if the chains of the entries are unchanged, they represent the same
 pub still : (hole : ℕ) (store new : Store) (es : List (Entry DatagramId Progress)) (gs : List Gathered) → ((chain : ℕ) → chain ≢ hole → chain_of new chain ≡ chain_of store chain)
     → IsFree es hole → EachStands store es gs → EachStands new es gs
 still hole store new [] [] chains free h = tt
@@ -99,7 +99,7 @@ ids_other store [] (g ∷ gs) id h ne = absurd h
 ids_other store (e ∷ es) [] id h ne = absurd h
 ids_other store (e ∷ es) (g ∷ gs) id h ne = (id_other g.id id (λ same. ne.0 (h.0.id ∙ same)), ids_other store es gs id h.1 ne.1)
 
--- what the datagrams are at one of them, and without it
+-- the datagrams at one of them, and without it
 pub pieces_none : (gs : List Gathered) (id : DatagramId) → AllByRecursion (λ (g : Gathered). is_id g.id id ≡ false) gs → pieces_in gs id ≡ []
 pieces_none [] id none = refl
 pieces_none (g ∷ gs) id none = ap (λ b. cond b g.pieces (pieces_in gs id)) none.0 ∙ pieces_none gs id none.1

@@ -29,7 +29,7 @@ count_less p q a (suc n) implies =
     step true false e = let bad = e refl in cc
     step false c e = omega arith
 
--- no more pass one test than pass another or fail it
+-- at most as many pass one test as pass another or fail it
 count_either : (p q : ℕ → Bool) (a n : ℕ) → count_by p (range_with_len a n) ≤ count_by q (range_with_len a n) + count_by (λ k. not (q k)) (range_with_len a n)
 count_either p q a zero = omega arith
 count_either p q a (suc n) =
@@ -61,7 +61,7 @@ count_around p q a m n le before behind =
     subst (λ b. count_by p (range_with_len 0 b) ≤ count_by q (range_with_len 0 b) + count_by (λ k. not (q k)) (range_with_len a m)) sum
     (omega (arith, low, middle, high, p_two, q_two, p_three, q_three))
 
--- an octet in one of these places that passes one test passes the other
+-- if one of these offsets passes the first test, one passes the second
 any_less : (f g : ℕ → Bool) (a n : ℕ) → ((m : ℕ) → a ≤ m → m < a + n → f m ≡ true → g m ≡ true)
     → list_any f (range_with_len a n) ≡ true → list_any g (range_with_len a n) ≡ true
 any_less f g a zero implies some = cc
@@ -82,7 +82,7 @@ past_reach ps n le =
     ∙ any_less (λ o. is_some (octet_of ps o)) (λ o. false) (256 * n) 256 (λ o low high is. let under = below_reach ps o is in absurd (omega arith)) some in
     cc)
 
--- counted as far as one likes past the reach
+-- counted to any number past the reach
 cells_to : (ps : List Fragment) (n : ℕ) → reach ps / 256 + 1 ≤ n → count_by (has_block ps) (range_with_len 0 n) ≡ cells_of ps
 cells_to ps n le =
     let end = reach ps / 256 + 1 in
@@ -91,7 +91,7 @@ cells_to ps n le =
     let both = parts (has_block ps) 0 end (n - end) in
     subst (λ b. count_by (has_block ps) (range_with_len 0 b) ≡ cells_of ps) sum (omega (arith, rest, both))
 
--- outside a piece a block has an octet only where one was
+-- outside a fragment a block has an octet only if it had one
 elsewhere : (p : Fragment) (ps : List Fragment) (n : ℕ) → ((o : ℕ) → 256 * n ≤ o → o < 256 * n + 256 → p.offset ≤ o → o < end_of p → ⊥)
     → has_block (p ∷ ps) n ≡ true → has_block ps n ≡ true
 elsewhere p ps n outside =
@@ -104,7 +104,7 @@ elsewhere p ps n outside =
     by_old true c no_way is = refl
     by_old false c no_way is = absurd (no_way is)
 
--- a piece takes no more cells than it misses
+-- a fragment takes no more cells than it misses
 cells_more : (p : Fragment) (ps : List Fragment) → 0 < length p.octets → cells_of (p ∷ ps) ≤ cells_of ps + missing_of ps p.offset (length p.octets)
 cells_more p ps some =
     let from = p.offset in
@@ -125,7 +125,7 @@ cells_more p ps some =
 none_cells : cells_of [] ≡ 0
 none_cells = ap (λ b. cond {A = ℕ} b 1 0 + 0) (any_none (range_with_len (256 * 0) 256))
 
--- a first piece adds a datagram, another one none
+-- a first fragment adds a datagram, another one none
 held_with : (now : ℕ) (p : Fragment) (gs : List Gathered) → length (with_piece now p gs) ≤ length gs + cond {A = ℕ} (is_none_held (pieces_in gs p.id)) 1 0
 held_with now p [] = omega arith
 held_with now p (g ∷ gs) = by_test (is_id g.id p.id) (held_with now p gs)
@@ -173,7 +173,7 @@ fewer q (g ∷ gs) = by_test (q g) (fewer q gs)
         let wide = rest.cells in
         record { datagrams = omega (arith, long); cells = omega (arith, wide, sum_by-cons (λ (k : Gathered). cells_of k.pieces) g gs) }
 
--- so many datagrams and cells at most
+-- at most `most` datagrams and `room` cells
 record AreWithin (most room : ℕ) (gs : List Gathered) : Type 0 where
   datagrams : length gs ≤ most
   cells : cells_in gs ≤ room

@@ -1,4 +1,4 @@
--- The worked rows are computed.
+-- The worked cases are computed.
 use Rattle.std.proofs.Common.{refl}
 use Rattle.reassembly.specs.Worked.{WorkedRows}
 

@@ -1,4 +1,4 @@
--- What an assembly stands for (this project's profile).
+-- What an assembly represents (this project's profile).
 use Rattle.std.specs.Prelude.{◌≡◌, ℕ, ◌≤◌, Bool, false, List, [], ◌∷◌, length}
 use Rattle.std.specs.List.{AllByRecursion}
 use Rattle.linked_table.specs.Table.{Pairwise}
@@ -8,12 +8,12 @@ use Rattle.reassembly.specs.Calls.{Call, Gathered, gathered, latest, is_old}
 use Rattle.reassembly.specs.Rows.{AreAnswered}
 use Rattle.reassembly.specs.Standing.{HoldsFor}
 
--- the first pieces came one after another, the last of them by this time
+-- the first fragments arrived in this order, the last of them by this time
 pub record AreInOrder (gs : List Gathered) (now : ℕ) : Type 0 where
   pub rising : Pairwise (λ a b. a.since ≤ b.since) gs
   pub past : AllByRecursion (λ g. g.since ≤ now) gs
 
--- what was opened for these settings
+-- it was opened for these settings
 pub record IsFor (settings : PlainSettings) (a : Assembly) : Type 0 where
   pub datagrams : a.table.max ≡ settings.frags
   pub chains : length a.store.chains ≡ settings.frags
@@ -21,28 +21,28 @@ pub record IsFor (settings : PlainSettings) (a : Assembly) : Type 0 where
   pub store : a.store.cells ≡ settings.frag_cells
   pub time : a.time ≡ settings.frag_time
 
--- the table and the store stand for the datagrams that these calls gathered
+-- the table and the store represent the datagrams that these calls gathered
 pub record KeepsFor (settings : PlainSettings) (a : Assembly) (calls : List Call) : Type 0 where
   pub opened : IsFor settings a
   pub holds : HoldsFor (gathered settings.frag_time calls) a.table.entries a.store
   pub order : AreInOrder (gathered settings.frag_time calls) (latest calls)
 
--- the greatest time of the calls so far, 0 before the first
+-- the greatest time of the calls so far, or 0 before the first
 abbrev pub last_time : Assembly → ℕ
 last_time a = a.last
 
--- The assembly stands for the calls so far, the newest first, each of which was answered as the rows say.
+-- The assembly represents the calls so far, newest first, each of which was answered by the rules.
 pub record StandsFor (settings : PlainSettings) (a : Assembly) (calls : List Call) : Type 0 where
   pub keeps : KeepsFor settings a calls
   pub time : last_time a ≡ latest calls
   pub answered : AreAnswered settings calls
 
--- the datagram that began first did so more than so many seconds before this time
+-- the datagram that began first did so more than `time` seconds before `now`
 abbrev pub begins_old : (time now : ℕ) → List Gathered → Bool
 begins_old time now [] = false
 begins_old time now (g ∷ gs) = is_old time now g
 
--- the datagrams but for the first
+-- the datagrams except the first
 abbrev pub without_first : List Gathered → List Gathered
 without_first [] = []
 without_first (g ∷ gs) = gs

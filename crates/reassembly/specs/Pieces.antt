@@ -1,4 +1,4 @@
--- The pieces of one datagram, and what they make together (RFC 791 sections 2.3 and 3.2). Lists of pieces have the newest at the head.
+-- The fragments of one datagram, and the datagram that they make (RFC 791 sections 2.3 and 3.2). Lists of fragments have the newest at the head.
 use Rattle.std.specs.Prelude.{◌≡◌, ℕ, ◌+◌, ◌*◌, ◌/◌, ◌==◌, ◌<◌, ◌≤◌, ◌&&◌, nat_le, nat_lt, max, Bool, true, false, not, List, [], ◌∷◌, length, map, take, drop, Option, Some, None, is_none, is_some, if◌then◌else◌}
 use Rattle.std.specs.List.{AllByRecursion, list_any, count_by, range_with_len}
 use Rattle.std.specs.Option.{option_or, unwrap_or}
@@ -8,7 +8,7 @@ use Rattle.reassembly.specs.declared.piece.Piece.{Piece}
 use Rattle.reassembly.specs.declared.piece.Front.{Front}
 use Rattle.reassembly.specs.declared.piece.Whole.{Whole}
 
--- a piece: whose it is, where its octets begin, whether further ones follow, the fields that a whole datagram may take from it, and its octets
+-- a fragment: its identification, the offset of its octets, whether further ones follow, the fields that a complete datagram may take from it, and its octets
 pub record Fragment : Type 0 where
   pub id : DatagramId
   pub offset : ℕ
@@ -30,42 +30,42 @@ fragment_of p =
       octets = p.bytes.now;
     }
 
--- it is a fragment (further ones follow, or it is not the first), and its offset and its length are such as a packet may have
+-- it is a fragment (further ones follow, or it is not the first), and its offset and length are possible in a packet
 pub record IsPiece (p : Fragment) : Type 0 where
   pub part : p.more ≡ false → 0 < p.offset
   pub offset : p.offset ≤ 65528
   pub short : length p.octets ≤ 65515
 
--- the offset past the last octet of a piece
+-- the offset after the last octet of a fragment
 abbrev pub end_of : Fragment → ℕ
 end_of p = p.offset + length p.octets
 
--- the octet at an offset of the datagram: that of the piece that brought one there first
+-- the octet at an offset of the datagram: that of the first fragment with an octet there
 abbrev pub octet_of : List Fragment → (offset : ℕ) → Option ℕ
 octet_of [] offset = None
 octet_of (p ∷ ps) offset = option_or (octet_of ps offset) (octet_in p.offset p.octets offset)
 
--- how many octets the datagram has, once its last piece is held, the one without MF
+-- the number of octets of the datagram, once its last fragment is held, the one without MF
 abbrev pub total_of : List Fragment → Option ℕ
 total_of [] = None
 total_of (p ∷ ps) = option_or (total_of ps) (if p.more then None else Some (end_of p))
 
--- the offset past the last octet of all
+-- the offset after the last octet of all
 abbrev pub reach : List Fragment → ℕ
 reach [] = 0
 reach (p ∷ ps) = max (reach ps) (end_of p)
 
--- the fields of the piece at offset 0 that came first
+-- the fields of the first fragment that arrived with offset 0
 abbrev pub front_of : List Fragment → Option Front
 front_of [] = None
 front_of (p ∷ ps) = option_or (front_of ps) (if p.offset == 0 then Some (record { tos = p.tos; ttl = p.ttl; df = p.df }) else None)
 
--- there is an octet at each offset from 0 to the total, where that is known
+-- the total is known, and each offset below it has an octet
 abbrev pub is_filled : List Fragment → Option ℕ → Bool
 is_filled ps None = false
 is_filled ps (Some total) = not (list_any (λ offset. is_none (octet_of ps offset)) (range_with_len 0 total))
 
--- Whole: the last piece is there, and every octet from 0 to its end is
+-- Complete: the last fragment is held, and so is every octet from 0 to its end
 abbrev pub is_whole : List Fragment → Bool
 is_whole ps = is_filled ps (total_of ps)
 
@@ -73,25 +73,25 @@ is_whole ps = is_filled ps (total_of ps)
 abbrev pub datagram_octets : List Fragment → List ℕ
 datagram_octets ps = map (λ offset. unwrap_or (octet_of ps offset) 0) (range_with_len 0 (unwrap_or (total_of ps) 0))
 
--- the octets of this piece stand from its offset on
+-- the octets of this fragment are in the list from its offset on
 abbrev pub StandsIn : List ℕ → Fragment → Type 0
 StandsIn octets p = take (length p.octets) (drop p.offset octets) ≡ p.octets
 
--- the piece has an octet at this offset
+-- the fragment has an octet at this offset
 abbrev pub reaches : (offset : ℕ) → Fragment → Bool
 reaches offset p = nat_le p.offset offset && nat_lt offset (end_of p)
 
--- each piece stands at its place in these octets, and each octet is of a piece
+-- each fragment is at its offset in these octets, and each octet is of a fragment
 pub record IsMadeOf (octets : List ℕ) (ps : List Fragment) : Type 0 where
   pub each : AllByRecursion (StandsIn octets) ps
   pub every : (offset : ℕ) → offset < length octets → list_any (reaches offset) ps ≡ true
 
--- the datagram with so many octets and these fields
+-- the datagram with this number of octets and these fields
 abbrev pub whole_with : Option ℕ → Option Front → Whole
 whole_with total None = record { len = unwrap_or total 0; tos = 0; ttl = 0; df = false }
 whole_with total (Some front) = record { len = unwrap_or total 0; tos = front.tos; ttl = front.ttl; df = front.df }
 
--- the whole datagram, where its total is known and as many octets are held
+-- the complete datagram, if its total is known and as many octets are held
 abbrev pub whole_if : Option ℕ → (filled : ℕ) → Option Front → Option Whole
 whole_if None filled front = None
 whole_if (Some total) filled front = if filled == total then Some (whole_with (Some total) front) else None
@@ -99,18 +99,18 @@ whole_if (Some total) filled front = if filled == total then Some (whole_with (S
 abbrev pub whole_of : List Fragment → Whole
 whole_of ps = whole_with (total_of ps) (front_of ps)
 
--- the block of 256 offsets of this number has an octet
+-- the block of 256 offsets with this number has an octet
 abbrev pub has_block : List Fragment → (number : ℕ) → Bool
 has_block ps number = list_any (λ offset. is_some (octet_of ps offset)) (range_with_len (256 * number) 256)
 
--- how many cells the pieces take: one for each block that has an octet
+-- the number of cells that the fragments take: one for each block with an octet
 abbrev pub cells_of : List Fragment → ℕ
 cells_of ps = count_by (has_block ps) (range_with_len 0 (reach ps / 256 + 1))
 
--- how many of the blocks touched by these offsets have no octet
+-- the number of blocks touched by these offsets that have no octet
 abbrev pub missing_of : List Fragment → (from len : ℕ) → ℕ
 missing_of ps from len = count_by (λ number. not (has_block ps number)) (touched from len)
 
--- how many offsets have an octet
+-- the number of offsets with an octet
 abbrev pub filled_in : List Fragment → ℕ
 filled_in ps = count_by (λ offset. is_some (octet_of ps offset)) (range_with_len 0 (reach ps))

@@ -1,4 +1,4 @@
-//! The datagrams of which pieces are held.
+//! The datagrams with held fragments.
 ghost use Rattle.std.specs.Prelude.{◌≡◌, length};
 ghost use Rattle.reassembly.specs.Standing.{Gathers};
 
@@ -10,17 +10,17 @@ use norm_settings::Settings;
 use retain_store::Retain;
 use std::alloc::Global;
 
-/// Puts datagrams together from their pieces. It takes all its memory when it is opened.
+/// Reassembles datagrams from their fragments. Allocates all its memory when it is opened.
 #[derive(Drop)]
 pub struct Assembly {
-    /// The datagrams of which pieces are held, in order of their first pieces.
+    /// Datagrams with held fragments, in order of their first fragments.
     pub(crate) table: LinkedTable<DatagramId, Progress>,
-    /// The octets of the datagram in each slot of the table, by the slot's number.
+    /// Octets of the datagram in each slot of the table, by the slot's number.
     pub(crate) store: Retain,
     pub(crate) cells: u32,
-    /// After how many seconds a datagram is forgotten.
+    /// Seconds after which a datagram is removed.
     pub(crate) time: u32,
-    /// The time of the latest call, in seconds.
+    /// Time of the latest call, in seconds.
     pub(crate) last: u32,
     ghost sized: { length store.chains ≡ table.max },
     ghost sound: { ∥ Gathers table.entries store ∥₁ },
@@ -32,7 +32,7 @@ impl Assembly {
     ghost use Rattle.reassembly.specs.Calls.{Call, gathered, cells_in};
     ghost use Rattle.reassembly.specs.Assemblies.{StandsFor, last_time};
 
-    /// No piece is held.
+    /// Creates an assembly without fragments.
     pub fn open(alloc: Global, settings: &Settings) -> Result<Assembly, NoMemory>
         requires { AreInRange (plain_settings settings.now) }
         ensures stands { IfOk result (λ a. StandsFor (plain_settings settings.now) a []) }
@@ -49,7 +49,7 @@ impl Assembly {
         })
     }
 
-    /// Of how many datagrams pieces are held.
+    /// Returns the number of datagrams with held fragments.
     pub fn datagrams(&self) -> u32
         ensures number { (settings : PlainSettings) (calls : List Call) → StandsFor settings self.now calls → result ≡ length (gathered settings.frag_time calls) }
         ensures bounded { (settings : PlainSettings) (calls : List Call) → StandsFor settings self.now calls → result ≤ settings.frags }
@@ -57,12 +57,13 @@ impl Assembly {
         self.table.len()
     }
 
-    /// How many cells hold octets.
+    /// Returns the number of cells that hold octets.
     pub fn cells(&self) -> u32
         ensures number { (settings : PlainSettings) (calls : List Call) → StandsFor settings self.now calls → result ≡ cells_in (gathered settings.frag_time calls) }
         ensures bounded { (settings : PlainSettings) (calls : List Call) → StandsFor settings self.now calls → result ≤ settings.frag_cells }
     {
-        // This call, and others like it, is made for what its contract says: here, that no slot stands twice.
+        // This call, and others like it, makes the facts of its contract available: here, that no
+        // slot occurs twice.
         let _count = self.table.len();
         self.cells.saturating_sub(self.store.free())
     }

@@ -1,4 +1,4 @@
-//! Datagrams are forgotten.
+//! Removal of datagrams.
 use crate::assembly::Assembly;
 use linked_table::Slot;
 use retain_store::ChainId;
@@ -13,7 +13,7 @@ impl Assembly {
     ghost use Rattle.reassembly.specs.Standing.{HoldsFor};
     ghost use Rattle.reassembly.specs.Assemblies.{IsFor, KeepsFor, StandsFor, begins_old, last_time, without_first};
 
-    // The datagram in this slot is forgotten: its octets and its entry go, and the others stay.
+    // Removes the datagram in this slot: its octets and its entry. The others stay.
     pub(crate) fn forget(&mut self, slot: Slot)
         requires { IsIn self.old.table.entries slot }
         ensures others { (gs : List Gathered) (id : DatagramId) → HoldsFor gs self.old.table.entries self.old.store →
@@ -26,7 +26,7 @@ impl Assembly {
         let _pair = self.table.remove(slot);
     }
 
-    // Whether the datagram that began first did so more than the time before now.
+    // Returns whether the datagram that began first did so more than `time` seconds before `now`.
     fn begins_old(&self, now: u32) -> bool
         ensures { (gs : List Gathered) → HoldsFor gs self.now.table.entries self.now.store → result ≡ begins_old self.now.time now gs }
     {
@@ -37,7 +37,7 @@ impl Assembly {
         u64::from(since) + u64::from(self.time) < u64::from(now)
     }
 
-    // The datagram that began first is forgotten, if there is one.
+    // Removes the datagram that began first, if there is one.
     fn forget_first(&mut self)
         ensures first { (gs : List Gathered) → HoldsFor gs self.old.table.entries self.old.store → HoldsFor (without_first gs) self.new.table.entries self.new.store }
         ensures opened { (settings : PlainSettings) → IsFor settings self.old → IsFor settings self.new }
@@ -50,7 +50,8 @@ impl Assembly {
         }
     }
 
-    // Forgets the datagrams that began too long before now, from the first one on, and answers how many.
+    // Removes the datagrams that began too long before `now`, from the first one on, and returns
+    // their number.
     fn forget_old(&mut self, now: u32) -> u32
         ensures number { (settings : PlainSettings) (calls : List Call) → KeepsFor settings self.old calls →
             result ≡ count_by (is_old settings.frag_time now) (gathered settings.frag_time calls) }
@@ -66,7 +67,8 @@ impl Assembly {
         most
     }
 
-    /// Forgets each datagram whose first piece came more than the time before now, and answers how many.
+    /// Removes each datagram whose first fragment arrived more than `time` seconds before `now`,
+    /// and returns their number.
     pub fn expire(&mut self, now: u32) -> u32
         requires { last_time self.old ≤ now }
         ensures number { (settings : PlainSettings) (calls : List Call) → StandsFor settings self.old calls →

@@ -1,21 +1,21 @@
-//! What tells the pieces of one datagram from those of others.
+//! The identification of a datagram.
 ghost use Rattle.std.specs.Prelude.{◌≡◌, ◌+◌, ◌*◌, ◌<◌, ◌^◌, ℕ, true};
 ghost use Rattle.std.proofs.Common.{rules};
 ghost use Rattle.reassembly.specs.Keys.{hash_of};
 
 use linked_table::{Key, hash_words};
-use wire_base::{Addr, Protocol};
+use wire_base::Addr;
 
-/// What the pieces of one datagram have in common (RFC 791 section 3.2).
+/// Fields that the fragments of one datagram have in common (RFC 791 section 3.2).
 #[derive(Clone, Copy, PartialEq, Eq)]
 pub struct DatagramId {
     pub src: Addr,
     pub dst: Addr,
-    pub protocol: Protocol,
+    pub protocol: u8,
     pub ident: u16,
 }
 
-// An address and a shorter number as one number.
+// Joins an address and a shorter number into one number.
 fn joined(address: Addr, number: u16) -> u64
     ensures { result ≡ address.0 * 65536 + number }
 {
@@ -28,7 +28,7 @@ impl Key for DatagramId {
     fn hash_with(&self, seed: u64) -> u64 {
         let id = *self;
         let from = joined(id.src, id.ident);
-        let to = joined(id.dst, u16::from(id.protocol.0));
+        let to = joined(id.dst, u16::from(id.protocol));
         hash_words(seed, from, to)
     }
 

@@ -2,32 +2,34 @@
 ghost use Rattle.reassembly.specs.Worked.{WorkedRows};
 ghost use Rattle.reassembly.specs.Laws.{AnsweredIsWithin, DatagramsAreApart, FirstRowDrops, WholeIsItsPieces, WholesAreSized};
 
-/// A whole datagram is made of its pieces: each stands at its place, each octet is of one, and one stands at offset 0.
+/// Proves that a complete datagram is made of its fragments: each is at its offset, each octet is
+/// of one, and one is at offset 0.
 pub fn whole_is_its_pieces()
     ensures { WholeIsItsPieces }
 {}
 
-/// What is held of a datagram is told by its own pieces, by what became of each, and by time; others matter to it by F_MANY and F_ROOM alone.
+/// Proves that what is held of a datagram depends on its own fragments, on the answer to each, and
+/// on time. Other datagrams affect these answers by F_MANY and F_ROOM alone.
 pub fn datagrams_are_apart()
     ensures { DatagramsAreApart }
 {}
 
-/// A piece is dropped by the first row on fragments that holds of it.
+/// Proves that a fragment is dropped by the first rule on fragments that holds of it.
 pub fn first_row_drops()
     ensures { FirstRowDrops }
 {}
 
-/// A datagram that sized pieces make whole is sized, and has at most 65,515 octets.
+/// Proves that a datagram completed by sized fragments is sized, and has at most 65,515 octets.
 pub fn wholes_are_sized()
     ensures { WholesAreSized }
 {}
 
-/// No more datagrams are held, and no more cells, than the settings say.
+/// Proves that the numbers of held datagrams and cells do not exceed the settings.
 pub fn answered_is_within()
     ensures { AnsweredIsWithin }
 {}
 
-/// The worked rows, computed from the definitions.
+/// Computes the worked cases from the definitions.
 pub fn worked_rows()
     ensures { WorkedRows }
 {}

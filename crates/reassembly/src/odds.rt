@@ -1,4 +1,4 @@
-//! A piece that is at odds with what is held of its datagram.
+//! A fragment that contradicts what is held of its datagram.
 ghost use Rattle.std.specs.Prelude.{◌≡◌, ◌<◌, ◌≤◌, List, length, true, false, IfSome, IfNone};
 ghost use Rattle.retain_store.specs.Maps.{chain_of};
 ghost use Rattle.reassembly.specs.Pieces.{Fragment, fragment_of, IsPiece};
@@ -11,7 +11,7 @@ use crate::progress::Progress;
 use retain_store::{ChainId, Retain};
 use rule_book::Rule;
 
-// Whether an octet of the piece differs from the one that is held at its place.
+// Returns whether an octet of the fragment differs from the one held at its offset.
 fn clashes(store: &Retain, chain: ChainId, piece: &Piece<'_>) -> bool
     requires chain_in_range { chain.0 < length store.now.chains }
     requires piece { IsPiece (fragment_of piece.now) }
@@ -20,7 +20,8 @@ fn clashes(store: &Retain, chain: ChainId, piece: &Piece<'_>) -> bool
     !store.agrees(chain, u64::from(piece.offset), piece.bytes)
 }
 
-/// The row under which a piece is at odds with its datagram, if one holds: the end of the datagram, or an octet.
+/// Returns the rule under which a fragment contradicts its datagram, if one holds: by the end of
+/// the datagram, or by an octet.
 pub(crate) fn odds(
     store: &Retain,
     chain: ChainId,

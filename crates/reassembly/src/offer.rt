@@ -1,4 +1,4 @@
-//! A piece is offered.
+//! Calls that offer a fragment.
 use crate::assembly::Assembly;
 use crate::odds::odds;
 use crate::piece::{Offered, Piece};
@@ -20,7 +20,7 @@ impl Assembly {
     ghost use Rattle.reassembly.specs.Standing.{HoldsFor};
     ghost use Rattle.reassembly.specs.Assemblies.{IsFor, KeepsFor, StandsFor, last_time};
 
-    // Takes a piece that no row drops, in the slot of its datagram.
+    // Takes a fragment that no rule drops, in the slot of its datagram.
     fn accept(
         &mut self,
         slot: Slot,
@@ -61,7 +61,7 @@ impl Assembly {
         }
     }
 
-    // Takes a piece of a datagram of which pieces are held.
+    // Takes a fragment of a datagram with held fragments.
     fn join(&mut self, slot: Slot, piece: &Piece<'_>, buf: &mut [u8]) -> Offered
         requires inside { IsIn self.old.table.entries slot }
         requires keyed { Wherever self.old.table.entries slot (λ e. e.key ≡ (fragment_of piece.now).id) }
@@ -94,7 +94,7 @@ impl Assembly {
         self.accept(slot, &progress, piece, buf)
     }
 
-    // Takes the first piece of a datagram.
+    // Takes the first fragment of a datagram.
     fn begin(&mut self, now: u32, piece: &Piece<'_>, buf: &mut [u8]) -> Offered
         requires absent { HasNone self.old.table.entries (fragment_of piece.now).id }
         requires piece { IsPiece (fragment_of piece.now) }
@@ -126,7 +126,7 @@ impl Assembly {
         self.accept(slot, &progress, piece, buf)
     }
 
-    // Takes a piece, whatever was held of its datagram.
+    // Takes a fragment, whether or not other fragments of its datagram are held.
     fn judge(&mut self, now: u32, piece: &Piece<'_>, buf: &mut [u8]) -> Offered
         requires piece { IsPiece (fragment_of piece.now) }
         requires buffer { 65515 ≤ length buf.old }
@@ -149,8 +149,8 @@ impl Assembly {
         }
     }
 
-    /// Takes a piece: it is held, or it makes its datagram whole, whose octets then stand at the front of the buffer, or a
-    /// row drops it.
+    /// Takes a fragment: it is held, it completes its datagram, whose octets are then at the front
+    /// of the buffer, or a rule drops it.
     pub fn offer(&mut self, now: u32, piece: &Piece<'_>, buf: &mut [u8]) -> Offered
         requires piece { IsPiece (fragment_of piece.now) }
         requires buffer { 65515 ≤ length buf.old }

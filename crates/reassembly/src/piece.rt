@@ -1,19 +1,19 @@
-//! Pieces of datagrams, and what becomes of them.
+//! Fragments of datagrams, and the answers to them.
 ghost use Rattle.std.specs.Prelude.{◌≡◌, ◌≤◌, ◌<◌, length};
 ghost use Rattle.reassembly.specs.Pieces.{fragment_of, end_of, IsPiece};
 
 use crate::id::DatagramId;
 use rule_book::Rule;
-use wire_base::{Addr, Protocol};
+use wire_base::Addr;
 
-/// A fragment of a datagram (RFC 791 section 3.2).
+/// Fragment of a datagram (RFC 791 section 3.2).
 #[derive(Clone, Copy)]
 pub struct Piece<'a> {
     pub src: Addr,
     pub dst: Addr,
-    pub protocol: Protocol,
+    pub protocol: u8,
     pub ident: u16,
-    /// Where its octets begin in the datagram, in octets.
+    /// Offset of its octets in the datagram, in octets.
     pub offset: u32,
     /// Whether further octets follow in the datagram.
     pub more: bool,
@@ -24,7 +24,8 @@ pub struct Piece<'a> {
     pub bytes: &'a [u8],
 }
 
-/// A whole datagram: how many octets it has after its header, and what its header takes from the piece at offset 0.
+/// Complete datagram: the number of octets after its header, and the header fields from the
+/// fragment at offset 0.
 #[derive(Clone, Copy, Debug, PartialEq, Eq)]
 pub struct Whole {
     pub len: usize,
@@ -33,18 +34,18 @@ pub struct Whole {
     pub df: bool,
 }
 
-/// What becomes of a piece.
+/// Answer to a fragment.
 #[derive(Clone, Copy, Debug, PartialEq, Eq)]
 pub enum Offered {
-    /// It is held, and its datagram is not whole.
+    /// It is held, and its datagram is not complete.
     Held,
-    /// It makes its datagram whole.
+    /// It completes its datagram.
     Done(Whole),
     /// It is dropped under this rule.
     Drop(Rule),
 }
 
-/// The fields of a header that a whole datagram takes from its piece at offset 0.
+/// Header fields that a complete datagram takes from its fragment at offset 0.
 #[derive(Clone, Copy)]
 pub struct Front {
     pub tos: u8,
@@ -53,7 +54,7 @@ pub struct Front {
 }
 
 impl<'a> Piece<'a> {
-    /// What it has in common with the other pieces of its datagram.
+    /// Returns the fields that the fragment has in common with the others of its datagram.
     pub(crate) fn id(&self) -> DatagramId
         ensures { result ≡ (fragment_of self.now).id }
     {
@@ -65,7 +66,7 @@ impl<'a> Piece<'a> {
         }
     }
 
-    /// How many octets it has.
+    /// Returns the number of its octets.
     pub(crate) fn len(&self) -> u32
         requires { IsPiece (fragment_of self.now) }
         ensures { result ≡ length (fragment_of self.now).octets }
@@ -73,7 +74,7 @@ impl<'a> Piece<'a> {
         self.bytes.len() as u32
     }
 
-    /// The offset past its last octet.
+    /// Returns the offset after its last octet.
     pub(crate) fn end(&self) -> u32
         requires { IsPiece (fragment_of self.now) }
         ensures { result ≡ end_of (fragment_of self.now) }

@@ -1,4 +1,4 @@
-//! What is kept of a datagram's pieces beside their octets.
+//! The values kept of a datagram's fragments besides their octets.
 ghost use Rattle.std.specs.Prelude.{◌≡◌, ◌+◌, ◌^◌, ◌<◌, ◌≤◌, max, ◌==◌, ◌||◌, ◌&&◌, not, nat_lt, List, ◌∷◌, [], length, Option, Some, None, if◌then◌else◌};
 ghost use Rattle.std.specs.Option.{option_or};
 ghost use Rattle.reassembly.specs.Pieces.{fragment_of, end_of, IsPiece, whole_with, whole_if};
@@ -6,22 +6,22 @@ ghost use Rattle.reassembly.specs.Rows.{is_past, is_other, ends_otherwise};
 
 use crate::piece::{Front, Piece, Whole};
 
-/// How far a datagram has come.
+/// State of the reassembly of one datagram.
 #[derive(Clone, Copy)]
 pub struct Progress {
-    /// The time of its first piece, in seconds.
+    /// Time of its first fragment, in seconds.
     pub since: u32,
-    /// How many octets it has, once its last piece is held.
+    /// Number of its octets, once its last fragment is held.
     pub total: Option<u32>,
-    /// The offset past the last octet held.
+    /// Offset after the last octet held.
     pub reach: u32,
-    /// How many octets are held, one at each offset.
+    /// Number of octets held, one at each offset.
     pub filled: u32,
-    /// What its header takes from the piece at offset 0 that came first.
+    /// Header fields of the first fragment that arrived with offset 0.
     pub front: Option<Front>,
 }
 
-// The total that a piece tells.
+// Returns the total that a fragment determines.
 fn total_by(piece: &Piece<'_>) -> Option<u32>
     requires { IsPiece (fragment_of piece.now) }
     ensures { let p = fragment_of piece.now in result ≡ (if p.more then None else Some (end_of p)) }
@@ -29,7 +29,7 @@ fn total_by(piece: &Piece<'_>) -> Option<u32>
     if piece.more { None } else { Some(piece.end()) }
 }
 
-// The fields that a piece gives to the header.
+// Returns the header fields that a fragment determines.
 fn front_by(piece: &Piece<'_>) -> Option<Front>
     ensures { let p = fragment_of piece.now in result ≡ (if p.offset == 0 then Some (record { tos = p.tos; ttl = p.ttl; df = p.df }) else None) }
 {
@@ -44,21 +44,19 @@ fn front_by(piece: &Piece<'_>) -> Option<Front>
     }
 }
 
-// The total that was told first.
 fn either_total(first: Option<u32>, second: Option<u32>) -> Option<u32>
     ensures { result ≡ option_or first second }
 {
     if first.is_some() { first } else { second }
 }
 
-// The fields that were given first.
 fn either_front(first: Option<Front>, second: Option<Front>) -> Option<Front>
     ensures { result ≡ option_or first second }
 {
     if first.is_some() { first } else { second }
 }
 
-// Whether the total, if it is known, is below this end.
+// Returns whether the total is known and below this end.
 fn is_past(total: Option<u32>, end: u32) -> bool
     ensures { result ≡ is_past total end }
 {
@@ -68,7 +66,7 @@ fn is_past(total: Option<u32>, end: u32) -> bool
     }
 }
 
-// Whether the total, if it is known, is another than this end.
+// Returns whether the total is known and differs from this end.
 fn is_other(total: Option<u32>, end: u32) -> bool
     ensures { result ≡ is_other total end }
 {
@@ -79,7 +77,7 @@ fn is_other(total: Option<u32>, end: u32) -> bool
 }
 
 impl Progress {
-    /// Before its first piece, which comes at this time.
+    /// Returns the state before the first fragment, which arrives at this time.
     pub(crate) fn none(now: u32) -> Progress
         ensures { result ≡ record { since = now; total = None; reach = 0; filled = 0; front = None } }
     {
@@ -92,7 +90,8 @@ impl Progress {
         }
     }
 
-    /// After one more piece, which brings so many octets where none were.
+    /// Returns the state after one more fragment, which adds `fresh` octets at offsets that had
+    /// none.
     pub(crate) fn with(&self, piece: &Piece<'_>, fresh: u32) -> Progress
         requires piece { IsPiece (fragment_of piece.now) }
         requires fits { self.now.filled + fresh < 2 ^ 32 }
@@ -113,7 +112,7 @@ impl Progress {
         }
     }
 
-    /// Whether a piece is at odds with the end of the datagram.
+    /// Returns whether a fragment contradicts the end of the datagram.
     pub(crate) fn ends_otherwise(&self, piece: &Piece<'_>) -> bool
         requires { IsPiece (fragment_of piece.now) }
         ensures { result ≡ ends_otherwise self.now.total self.now.reach (fragment_of piece.now) }
@@ -125,7 +124,7 @@ impl Progress {
         past || (!piece.more && (other || beyond))
     }
 
-    /// The whole datagram, where as many octets are held as it has.
+    /// Returns the complete datagram, if as many octets are held as it has.
     pub(crate) fn whole(&self) -> Option<Whole>
         ensures { result ≡ whole_if self.now.total self.now.filled self.now.front }
     {
@@ -137,7 +136,7 @@ impl Progress {
     }
 }
 
-// The datagram with so many octets and these fields.
+// Returns the datagram with `total` octets and these fields.
 fn whole_with(total: u32, front: Option<Front>) -> Whole
     ensures { result ≡ whole_with (Some total) front }
 {

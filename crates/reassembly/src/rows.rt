@@ -1,4 +1,4 @@
-//! The rows on a piece alone.
+//! The rules on a fragment alone.
 ghost use Rattle.std.specs.Prelude.{◌≡◌, false, IfSome};
 ghost use Rattle.reassembly.specs.Calls.{forgets};
 ghost use Rattle.reassembly.specs.Pieces.{fragment_of, IsPiece};
@@ -7,7 +7,7 @@ ghost use Rattle.reassembly.specs.Rows.{first_row, own_rows};
 use crate::piece::Piece;
 use rule_book::Rule;
 
-/// The row on the piece alone that drops it, if one does.
+/// Returns the rule on the fragment alone that drops it, if one does.
 pub(crate) fn own_row(piece: &Piece<'_>) -> Option<Rule>
     requires { IsPiece (fragment_of piece.now) }
     ensures row { result ≡ first_row (own_rows (fragment_of piece.now)) }

@@ -1,4 +1,4 @@
-//! The octets of a piece join those of its datagram.
+//! Addition of a fragment's octets to its datagram.
 ghost use Rattle.std.specs.Prelude.{◌≡◌, ◌<◌, ◌≤◌, List, ◌∷◌, length, None, false};
 ghost use Rattle.retain_store.specs.Maps.{chain_of, missing, ChangesOnly};
 ghost use Rattle.reassembly.specs.Pieces.{Fragment, fragment_of, cells_of, IsPiece};
@@ -9,7 +9,7 @@ use crate::piece::Piece;
 use crate::progress::Progress;
 use retain_store::{ChainId, Retain};
 
-/// Adds the octets of a piece to those of its datagram, and answers how far that has come.
+/// Adds the octets of a fragment to those of its datagram, and returns the new state.
 pub(crate) fn take(
     store: &mut Retain,
     chain: ChainId,
@@ -28,6 +28,6 @@ pub(crate) fn take(
     ensures count { let p = fragment_of piece.now in (ps : List Fragment) → Keeps (chain_of store.old chain.0) ps → length (chain_of store.new chain.0) ≡ cells_of (p ∷ ps) }
 {
     let from = u64::from(piece.offset);
-    let fresh = store.place(chain, from, piece.bytes);
+    let fresh = store.place_counting(chain, from, piece.bytes);
     progress.with(piece, fresh as u32)
 }

@@ -1,4 +1,5 @@
-//! Worked rows by the code: pieces that overlap, a clash, the longest datagram, one datagram at a time, and time.
+//! Worked cases in the code: fragments that overlap, a clash, the longest datagram, one datagram at
+//! a time, and time.
 ghost use Rattle.std.specs.Prelude.{◌≡◌, ◌<◌, ◌≤◌, length, false};
 ghost use Rattle.reassembly.specs.Pieces.{fragment_of, IsPiece};
 
@@ -7,7 +8,7 @@ use arrayvec::ArrayVec;
 use norm_settings::Settings;
 use rule_book::Rule;
 use std::test::Fail;
-use wire_base::{Addr, Protocol};
+use wire_base::{Addr, protocol};
 
 // A UDP message: its header and 16 octets.
 const WHOLE: [u8; 24] = [
@@ -19,7 +20,7 @@ const EIGHT: [u8; 8] = [97; 8];
 
 const OTHER: [u8; 8] = [98, 97, 97, 97, 97, 97, 97, 97];
 
-// A piece with this TTL.
+// Returns a fragment with this TTL.
 fn part(ident: u16, offset: u32, more: bool, ttl: u8, bytes: &[u8]) -> Piece<'_>
     requires part { more ≡ false → 0 < offset }
     requires offset { offset ≤ 65528 }
@@ -29,7 +30,7 @@ fn part(ident: u16, offset: u32, more: bool, ttl: u8, bytes: &[u8]) -> Piece<'_>
     Piece {
         src: Addr(0xc6336407),
         dst: Addr(0x0a000001),
-        protocol: Protocol::UDP,
+        protocol: protocol::UDP,
         ident,
         offset,
         more,

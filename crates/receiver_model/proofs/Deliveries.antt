@@ -15,7 +15,7 @@ slice_get-append_last : {X : Type 0} (xs : List X) (x : X) → slice_get (xs ++ 
 slice_get-append_last [] x = refl
 slice_get-append_last (y ∷ xs) x = slice_get-append_last xs x
 
--- a schedule goes on to mean the same when further frames are written
+-- a schedule keeps its meaning when further frames are appended
 run_more : (distance base start : ℕ) (frames more : List (List ℕ)) (before after : Receiver) (schedule : List ℕ) → Run distance base start frames before schedule after → Run distance base start (frames ++ more) before schedule after
 run_more distance base start frames more before after [] run = run
 run_more distance base start frames more before after (place ∷ schedule) run =

@@ -36,7 +36,7 @@ all_stand-push frame before after each distance base start frames h = record {
   right = stands_as-push _ distance base start before.right after.right frames frame each.right h.right;
 }
 
--- whether a stream took a frame or not, it goes back to what it was
+-- whether a stream took a frame or not, it can go back to its earlier state
 pub goes_back : {T E : Type 0} (result : Result T E) (frame : List ℕ) (before after : StreamState) → OnOk result (IsSameStream before after) → OnOk result (StepsWith (segment_of frame) before after)
     → OnOk result (after.taken ≡ before.taken ++ taken_of (next_of before) (fields_of frame) ∷ []) → OnErr result (after ≡ before) → GoesBack before after
 goes_back (Ok x) frame before after same step taken err =
@@ -47,7 +47,7 @@ goes_back (Err e) frame before after same step taken err =
     let P : StreamState → Type 0 = λ stream. GoesBack before stream in
     subst P (sym err) (λ i. record before { taken = take-length before.taken i; octets = take-length before.octets i })
 
--- a host behind so many routers makes the same of them, whatever its policy
+-- two streams behind `distance` routers agree, whatever their policies
 pub two_agree : (hops distance base start : ℕ) (places : List ℤ) (frames : List (List ℕ)) (a b : StreamState) → distance ≤ hops → TellOneStream hops base places frames
     → ComeInTime places distance base start frames a → ComeInTime places distance base start frames b → StreamsAgree a b
 two_agree hops distance base start places frames a b near tells one other =

@@ -1,4 +1,4 @@
--- From frames that tell of one stream to the agreement of all members.
+-- From frames that describe one stream to the agreement of all members.
 use Rattle.std.proofs.Common.{◌≡◌, ◌⊎◌, ℕ, ◌+◌, ◌<◌, ◌≤◌, List, [], ◌∷◌, length, Some, None, Option, Bool, sym, subst, inl, inr, ⊎_elim, arith, get_or}
 use Rattle.std.specs.Prelude.{ℤ, pos, ◌+ℤ◌, slice_get, All}
 use Rattle.std.proofs.lemmas.Option.{slice_get_within, slice_get-get_or, get_or_from_slice_get}
@@ -21,18 +21,18 @@ plain_nearer hops distance p near h = record { header = h.header; passes = let f
 is_stream : (hops base : ℕ) (places : List ℤ) (frames : List (List ℕ)) → TellOneStream hops base places frames → IsStream (OctetAt places frames) (FinAt places frames)
 is_stream hops base places frames h = record { one_octet = h.one_octet; one_end = h.one_end; none_past = h.none_past }
 
--- a frame of the list with its place, which comes in time
+-- a frame of the list with its place, which arrives in time
 record Comes (places : List ℤ) (frames : List (List ℕ)) (base next number : ℕ) (frame : List ℕ) (place : ℤ) : Type 0 where
   stands : slice_get frames number ≡ Some frame
   placed : slice_get places number ≡ Some place
   from : (s : Segment) → segment_of frame ≡ Some s → IsPlace base s.sequence place
   time : (s : Segment) → segment_of frame ≡ Some s → InTime next place s
 
--- a segment that a member takes a frame for is the frame's
+-- a segment as which a member reads a frame is the frame's
 same_segment : (s : Segment) (o : Option Segment) → (Some s ≡ None) ⊎ (Some s ≡ o) → o ≡ Some s
 same_segment s o is = ⊎_elim (λ (none : Some s ≡ None). absurd (cc)) (λ (same : Some s ≡ o). sym same) is
 
--- so it has only what the frames have
+-- so it has only octets of the frames
 octet_heard : (places : List ℤ) (frames : List (List ℕ)) (base next number : ℕ) (frame : List ℕ) (place : ℤ) (s : Option Segment) → Comes places frames base next number frame place → (s ≡ None) ⊎ (s ≡ segment_of frame) → (offset : ℤ) (x : ℕ) → Carries base next s offset x → OctetAt places frames offset x
 octet_heard places frames base next number frame place None h is offset x c = absurd c
 octet_heard places frames base next number frame place (Some s) h is offset x c =

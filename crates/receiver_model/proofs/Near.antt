@@ -6,15 +6,15 @@ use Rattle.std.proofs.lemmas.Bool.Decides.{nat_tests}
 use Rattle.receiver_model.specs.Offsets.{IsPlace, IsNear, Names, raised_of, offset_in}
 use Rattle.receiver_model.specs.Policies.{is_near, index_of}
 
--- two places of one number that are near to one offset are one
+-- two places of one number that are near to one offset are equal
 pub one_place : (base next number : ℕ) (p q : ℤ) → IsPlace base number p → IsPlace base number q → IsNear next p → IsNear next q → p ≡ q
 one_place base next number p q a b h k = omega (arith, ints)
 
--- a place goes along with the numbers
+-- a place increases with the number
 pub place_on : (base number i : ℕ) (p : ℤ) → IsPlace base number p → IsPlace base (number + i) (p +ℤ pos i)
 place_on base number i p a = record { turns = a.turns; is = let e = a.is in omega (arith, ints, e) }
 
--- the offset that is computed is the one for which the number stands
+-- the computed offset is the one that the number represents
 pub raised_named : (base next number : ℕ) → Names base next number (offset_in (raised_of base next number))
 raised_named base next number =
     record {
@@ -37,7 +37,7 @@ test_near next (negsuc n) h = let a : next + suc n ≤ 2 ^ 31 = omega (arith, in
 pub far_back : (next : ℕ) (o : ℤ) → IsNear next o → pos 0 ≤ℤ (o +ℤ pos (2 ^ 31))
 far_back next o h = omega (arith, ints, h.behind)
 
--- the octet for an offset is the one whose number comes to it
+-- the octet for an offset is the one whose number represents it
 pub goes_there : (base sequence : ℕ) (o : ℤ) → sequence < 2 ^ 32 → pos 0 ≤ℤ (o +ℤ pos (2 ^ 31)) → IsPlace base (sequence + index_of base sequence o) o
 goes_there base sequence (pos n) k low = record { turns = pos ((n + base + 2 ^ 32 - sequence) / 2 ^ 32) -ℤ pos 1; is = omega (arith, ints) }
 goes_there base sequence (negsuc n) k low =

@@ -1,4 +1,4 @@
--- Where the fields of a plain TCP packet stand in its octets.
+-- The positions of the fields of a plain TCP packet in its octets.
 use Rattle.std.proofs.Common.{◌≡◌, ℕ, ◌+◌, ◌*◌, ◌/◌, ◌-◌, ◌≤◌, List, length, take, drop, sym, ap, ◌∙◌, arith, length-drop, add_assoc}
 use Rattle.std.specs.Prelude.{slice_index}
 use Rattle.std.proofs.Math.Seq.{take-length}
@@ -15,14 +15,14 @@ use Rattle.receiver_model.specs.Fields.{segment_in}
 drop-drop : (a b : ℕ) (p : List ℕ) → drop a (drop b p) ≡ drop (b + a) p
 drop-drop a b p = grind (arith, common_steps)
 
--- a plain packet carries what stands after the 20 octets of its header
+-- the payload of a plain packet is what follows the 20 octets of its header
 pub payload_is : (p : List ℕ) → IsPlainHeader p → ip.payload p ≡ drop 20 p
 payload_is p h = (λ i. drop (h.header_length i) (take (h.total_length i) p)) ∙ ap (drop 20) (take-length p)
 
 octet : (p : List ℕ) (k : ℕ) → IsPlainHeader p → slice_index (ip.payload p) k ≡ slice_index p (20 + k)
 octet p k h = ap (λ m. slice_index m k) (payload_is p h) ∙ get_or-drop 20 p k 0
 
--- the place of the first octet of the segment's payload
+-- the index of the first octet of the segment's payload
 abbrev pub start_of : List ℕ → ℕ
 start_of p = 20 + 4 * (slice_index p 32 / 16)
 
@@ -38,7 +38,7 @@ options p h =
 octets : (p : List ℕ) → IsPlainHeader p → drop (start_of p) p ≡ tcp.payload (ip.payload p)
 octets p h = sym (drop-drop (4 * (slice_index p 32 / 16)) 20 p) ∙ (λ i. drop (sym (header_length p h) i) (sym (payload_is p h) i))
 
--- the fields as they are read in their places
+-- the fields as read at their positions
 abbrev pub fields_in : List ℕ → Fields
 fields_in p =
     record {

@@ -1,4 +1,4 @@
--- What the codecs read of a plain packet, and what is plain of what they read.
+-- What the codecs read of a plain packet, and when what they read is plain.
 use Rattle.std.proofs.Common.{◌≡◌, ◌↔◌, ◌⊎◌, inl, inr, ℕ, ◌-◌, ◌≤◌, ◌==◌, ◌&&◌, ◌||◌, not, nat_lt, Bool, true, false, List, [], length, take, drop, Option, Some, None, Ok, is_ok, if◌then◌else◌, refl, sym, ap, ◌∙◌, eq-eqb, length-drop, arith}
 use Rattle.std.proofs.lemmas.Bool.{eqb-true, not-true}
 use Rattle.std.proofs.lemmas.Bool.Decides.{nat_tests}
@@ -53,14 +53,14 @@ tcp-read fields head (Some f) e = cc
 pub tcp-header : (m : List ℕ) (pseudo : ℕ) (head : Tcp) → Ok head ≡ tcp_header.parsed Must pseudo m → head.header ≡ tcp.header_length m
 tcp-header m pseudo head e = ap (λ (h : Tcp). h.header) (tcp-read _ head _ e).0
 
--- the number of octets behind a header
+-- the number of octets after a header
 behind : (m : List ℕ) (header : ℕ) → header ≤ length m → drop header m ≡ [] → header ≡ length m
 behind m header inside e =
     let left = length-drop header m in
     let none : length (drop header m) ≡ 0 = ap length e in
     omega arith
 
--- what is asked of a plain segment's header
+-- the tests of a plain segment's header
 ends : (marked same : Bool) → marked ≡ true → (not marked || same) ≡ true → same ≡ true
 ends true same m o = o
 ends false same m o = cc
@@ -103,7 +103,7 @@ tcp-sound p head e bare kept =
     either-false true b h = cc
     either-false false b h = (refl, h)
 
--- a plain segment is read, and passes what is asked
+-- a plain segment is read, and passes the tests
 pub tcp-reads : (p : List ℕ) → IsPlainTcp p → tcp_header.parsed Must (pseudo_of p) (ip.payload p) ≡ Ok (tcp_header.fields_of (pseudo_of p) (ip.payload p))
 tcp-reads p t =
     let m = ip.payload p in
@@ -120,7 +120,7 @@ tcp-bare p t =
     empty true h = h refl
     empty false h = refl
 
--- all that a segment was asked, and whether it is plain
+-- all tests of a segment, and whether it is plain
 pub tcp-decides : (p m : List ℕ) (pseudo : ℕ) (head : Tcp) (clean bare syn result : Bool) → ip.payload p ≡ m → pseudo_of p ≡ pseudo → Ok head ≡ tcp_header.parsed Must pseudo m → 20 ≤ head.header → syn ≡ tcp.has_syn head.flags.0 → ((clean ≡ true) ↔ (cleaned syn (take (head.header - 20) (drop 20 m)) ≡ take (head.header - 20) (drop 20 m))) → bare ≡ is_bare head (length m) → result ≡ (clean && bare) → (result ≡ true) ↔ IsPlainTcp p
 tcp-decides p m pseudo head clean bare syn result e f read some s kept b r =
     let here : Ok head ≡ tcp_header.parsed Must (pseudo_of p) (ip.payload p) = read ∙ (λ i. tcp_header.parsed Must (sym f i) (sym e i)) in
@@ -138,7 +138,7 @@ tcp-decides p m pseudo head clean bare syn result e f read some s kept b r =
           r ∙ (λ i. one i && two i),
     )
 
--- a message is plain where that of its protocol is
+-- a message is plain if it is plain for its protocol
 pub icmp-message : {P : Type 0} (p : List ℕ) → ip.protocol p ≡ 1 → P ↔ IsPlainIcmp p → P ↔ IsPlainMessage p
 icmp-message p e h = (
   λ x. record { protocol = inl e; icmp = λ _. h.0 x; tcp = λ f. absurd (omega (arith, e, f)); udp = λ f. absurd (omega (arith, e, f)) },
@@ -157,7 +157,7 @@ udp-message p e h = (
   λ t. h.1 (t.udp e),
 )
 
--- what the two codecs of datagrams read is plain
+-- what the codecs of ICMP and UDP read is plain
 icmp-ok : (m : List ℕ) → (is_ok (icmp_header.parsed m) ≡ true) ↔ ((8 ≤ length m) × (sum_is_right m 0 ≡ true))
 icmp-ok m = grind (arith, nat_tests)
 
@@ -180,8 +180,8 @@ udp-decides p m pseudo result e f r =
       λ t. same ∙ ok.1 (t.whole_header, t.size, t.sum),
     )
 
--- what is summed before a message, of the fields that were read
-pub pseudo_is : (p m : List ℕ) (head : Ipv4) → ip.payload p ≡ m → head ≡ ip_header.fields_of p → pseudo_of p ≡ pseudo_sum head.src.0 head.dst.0 head.protocol.0 (length m)
+-- the sum of the pseudo-header, from the fields that were read
+pub pseudo_is : (p m : List ℕ) (head : Ipv4) → ip.payload p ≡ m → head ≡ ip_header.fields_of p → pseudo_of p ≡ pseudo_sum head.src.0 head.dst.0 head.protocol (length m)
 pseudo_is p m head e fields =
     let back : ip_header.fields_of p ≡ head = sym fields in
-    λ i. pseudo_sum (back i).src.0 (back i).dst.0 (back i).protocol.0 (length (e i))
+    λ i. pseudo_sum (back i).src.0 (back i).dst.0 (back i).protocol (length (e i))

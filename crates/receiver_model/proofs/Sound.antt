@@ -1,4 +1,4 @@
--- What a receiver knows at any moment, where each octet and each FIN that it may be given is one of a single stream's.
+-- What a receiver knows at any time, if each octet and each FIN that it may be given is one of a single stream's.
 use Rattle.std.proofs.Common.{◌≡◌, ◌⊎◌, ℕ, ◌+◌, List, [], ◌∷◌, ◌++◌, length, Some, Option, true, refl, sym, ap, ◌∙◌, subst, inl, inr, ⊎_elim, arith, append-nil}
 use Rattle.std.specs.Prelude.{ℤ, pos, ◌<ℤ◌}
 use Rattle.std.proofs.lemmas.Int.{ints}
@@ -12,13 +12,13 @@ abbrev pub ReadFrom : (ℤ → ℕ → Type 0) → ℕ → List ℕ → Type 0
 ReadFrom C at [] = Unit {0}
 ReadFrom C at (x ∷ xs) = C (pos at) x × ReadFrom C (at + 1) xs
 
--- C: this octet stands at this offset. F: the stream ends at this offset
+-- `C`: this octet is at this offset. `F`: the stream ends at this offset
 pub record IsStream (C : ℤ → ℕ → Type 0) (F : ℤ → Type 0) : Type 0 where
   pub one_octet : (offset : ℤ) (x y : ℕ) → C offset x → C offset y → x ≡ y
   pub one_end : (one other : ℤ) → F one → F other → one ≡ other
   pub none_past : (offset : ℤ) (x : ℕ) (end : ℤ) → C offset x → F end → offset <ℤ end
 
--- what waits is the stream's, the place that is kept is its end, what was given is the stream from `start` on, and ended is at its end
+-- waiting octets are the stream's, the kept offset is its end, what was given is the stream from `start` on, and an ended receiver is at its end
 pub record Sound (C : ℤ → ℕ → Type 0) (F : ℤ → Type 0) (start : ℕ) (r : Receiver) : Type 0 where
   pub waits : (offset : ℤ) (x : ℕ) → r.waiting offset ≡ Some x → C offset x
   pub keeps : (offset : ℤ) → r.fin ≡ Some offset → F offset
@@ -39,12 +39,12 @@ read_append C at (x ∷ xs) ys r s = (r.0, read_append C (at + 1) xs ys r.1 (sub
 apart : (at : ℕ) → pos at <ℤ pos at → ⊥
 apart at h = omega (arith, ints)
 
--- at the end nothing more waits
+-- at the end no octet waits
 no_more : (C : ℤ → ℕ → Type 0) (F : ℤ → Type 0) (at : ℕ) (xs : List ℕ) → IsStream C F → F (pos at) → ReadFrom C at xs → xs ≡ []
 no_more C F at [] is f r = refl
 no_more C F at (x ∷ xs) is f r = absurd (apart at (is.none_past (pos at) x (pos at) r.0 f))
 
--- a step with octets and a FIN of the stream stays sound; one that has ended gets nothing more
+-- a step with octets and a FIN of the stream stays sound; a receiver that has ended gets no further octet
 pub step_keeps : (C : ℤ → ℕ → Type 0) (F : ℤ → Type 0) (base start : ℕ) (s : Option Segment) (before after : Receiver) → IsStream C F → ((offset : ℤ) (x : ℕ) → Carries base (start + length before.stream) s offset x → C offset x) → ((offset : ℤ) → Ends base (start + length before.stream) s offset → F offset) → Sound C F start before → Step base start s before after → Sound C F start after
 step_keeps C F base start s before after is octets ends h t = record { waits = waits; keeps = keeps; read = read; ends = at_end }
   where
@@ -79,7 +79,7 @@ step_keeps C F base start s before after is octets ends h t = record { waits = w
         (λ (new : (after.ended ≡ true) × (after.fin ≡ Some (pos (start + length after.stream)))). keeps _ new.1)
         t.ended
 
--- two streams read from one offset are one a prefix of the other
+-- of two streams read from one offset one is a prefix of the other
 prefixes : (C : ℤ → ℕ → Type 0) (at : ℕ) (xs ys : List ℕ) → ((offset : ℤ) (x y : ℕ) → C offset x → C offset y → x ≡ y) → ReadFrom C at xs → ReadFrom C at ys → IsPrefixOf xs ys ⊎ IsPrefixOf ys xs
 prefixes C at [] ys one r s = inl (ys, refl)
 prefixes C at (x ∷ xs) [] one r s = inr (x ∷ xs, refl)
@@ -94,7 +94,7 @@ read_rest : (C : ℤ → ℕ → Type 0) (at : ℕ) (xs rest : List ℕ) → Rea
 read_rest C at [] rest r = subst (λ n. ReadFrom C n rest) (omega arith) r
 read_rest C at (x ∷ xs) rest r = subst (λ n. ReadFrom C n rest) (omega arith) (read_rest C (at + 1) xs rest r.1)
 
--- an ended stream is a prefix of no longer one
+-- an ended stream is a prefix only of an equal one
 ended_whole : (C : ℤ → ℕ → Type 0) (F : ℤ → Type 0) (start : ℕ) (xs ys : List ℕ) → IsStream C F → F (pos (start + length xs)) → ReadFrom C start ys → IsPrefixOf xs ys → xs ≡ ys
 ended_whole C F start xs ys is f r p =
     let rest : ReadFrom C (start + length xs) p.0 = read_rest C start xs p.0 (subst (ReadFrom C start) (sym p.1) r) in

@@ -1,4 +1,4 @@
--- Taking a segment is a step of the family, the one that the stream's policy names.
+-- Taking a segment is a step of the family, the one that the stream's policy selects.
 use Rattle.std.proofs.Common.{◌≡◌, ◌⊎◌, ℕ, ◌+◌, ◌-◌, ◌^◌, ◌<◌, List, [], ◌∷◌, ◌++◌, length, Some, None, Option, Bool, true, false, refl, sym, ap, ◌∙◌, subst, inl, inr, ⊎_elim, arith, take, drop, length-drop}
 use Rattle.std.specs.Prelude.{ℤ, pos, slice_get, nat_eq, option_map, ◌||◌, OnOk, Result, Ok, Err}
 use Rattle.std.proofs.lemmas.Bool.Decides.{nat_tests}
@@ -20,7 +20,7 @@ use Rattle.receiver_model.proofs.Near.{raised_named, named_raised, near_test, te
 use Rattle.receiver_model.proofs.Waits.{waiting_after-push}
 use Rattle.receiver_model.proofs.Deliveries.{stands_push}
 
--- what waits either stays or is the new one
+-- the waiting octet stays or becomes the new one
 chosen_cases : (policy : Policy) (old new : Option Waiting) → (chosen policy old new ≡ old) ⊎ ((w : Waiting) × (new ≡ Some w) × (chosen policy old new ≡ Some w))
 chosen_cases policy old None = inl refl
 chosen_cases policy None (Some new) = inr (new, refl, refl)

@@ -1,4 +1,4 @@
--- What one more segment changes of what waits.
+-- What one more segment changes of the waiting octets.
 use Rattle.std.proofs.Common.{◌≡◌, ℕ, ◌+◌, List, [], ◌∷◌, ◌++◌, length, Some, None, Option, ap, ◌∙◌, subst, arith, length-append, append_assoc}
 use Rattle.std.specs.Prelude.{ℤ, pos}
 use Rattle.std.proofs.lemmas.List.Sums.{fold_push}
@@ -13,7 +13,7 @@ wait_push : (waiting : ℤ → Option ℕ) (at : ℕ) (xs : List ℕ) (x : ℕ) 
 wait_push waiting at [] x w e = (subst (λ n. waiting (pos n) ≡ Some x) (omega arith) e, tt)
 wait_push waiting at (y ∷ ys) x w e = (w.0, wait_push waiting (at + 1) ys x w.1 (subst (λ n. waiting (pos n) ≡ Some x) (omega arith) e))
 
--- one more octet that waits
+-- one more waiting octet
 pub extends_push : (waiting : ℤ → Option ℕ) (start : ℕ) (old now new : List ℕ) (x : ℕ) → Extends waiting start old now → waiting (pos (start + length now)) ≡ Some x → new ≡ now ++ x ∷ [] → Extends waiting start old new
 extends_push waiting start old now new x g e is =
     let long : length now ≡ length old + length g.more = ap length g.joined ∙ length-append old g.more in

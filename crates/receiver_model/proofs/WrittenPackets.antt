@@ -17,7 +17,7 @@ use Rattle.receiver_model.specs.Written.{AreRead, IsPlainSegment, packet_of}
 use Rattle.receiver_model.proofs.Places.{payload_is}
 use Rattle.receiver_model.proofs.PlainPackets.{tcp-sound}
 
--- a segment without urgent mark, and without octets on SYN or RST
+-- a segment without URG, and without octets on SYN or RST
 unmarked : (s : Segment) (size : ℕ) → IsPlainSegment s → size ≡ 20 + length s.options + length s.octets → is_bare (write.header_of s) size ≡ true
 unmarked s size h e =
     rw h.urgent (empty (tcp.has_syn s.flags || tcp.has_rst s.flags) _ (λ marked. let none = ap length (h.bare marked) in eq-eqb _ _ (omega arith)))

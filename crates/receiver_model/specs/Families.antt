@@ -8,7 +8,7 @@ use Rattle.receiver_model.specs.Delivery.{DeliversInTime}
 use Rattle.receiver_model.specs.Marks.{gone_back, mark_of}
 use Rattle.receiver_model.specs.Streams.{StreamState, Chooses, IsSameStream, StandsFor, StepsWith, fresh, next_of, places_from, taken_of}
 
--- what the four streams hold
+-- the states of the four streams
 pub record FamilyState : Type 0 where
   pub first : StreamState
   pub newest : StreamState
@@ -22,12 +22,12 @@ stream_of family Newest = family.newest
 stream_of family Left = family.left
 stream_of family Right = family.right
 
--- four streams that took nothing
+-- four streams that have taken no segment
 abbrev pub fresh_family : (base start : ℕ) → FamilyState
 fresh_family base start =
     record { first = fresh First base start; newest = fresh Newest base start; left = fresh Left base start; right = fresh Right base start }
 
--- a stream takes the frame by a step of the family, and by the choice that its policy names
+-- a stream takes the frame by a step of the family, and by the choice of its policy
 pub record TakesFrame (frame : List ℕ) (before after : StreamState) : Type 0 where
   pub same : IsSameStream before after
   pub step : StepsWith (segment_of frame) before after
@@ -41,7 +41,7 @@ pub record EachTakes (frame : List ℕ) (before after : FamilyState) : Type 0 wh
   pub left : TakesFrame frame before.left after.left
   pub right : TakesFrame frame before.right after.right
 
--- a stream that is brought back to how far it was is as it was
+-- a stream that returns to its mark is as it was
 abbrev pub GoesBack : (before after : StreamState) → Type 0
 GoesBack before after = gone_back after (mark_of before) ≡ before
 
@@ -52,7 +52,7 @@ pub record EachGoesBack (before after : FamilyState) : Type 0 where
   pub left : GoesBack before.left after.left
   pub right : GoesBack before.right after.right
 
--- the stream of this policy, base and begin is what a host at this distance makes of these frames, where each reaches it once and in their order
+-- the stream with this policy, base and start is what a host at this distance makes of these frames, each delivered once and in order
 pub record StandsAs (policy : Policy) (distance base start : ℕ) (stream : StreamState) (frames : List (List ℕ)) : Type 0 where
   pub has_policy : stream.policy ≡ policy
   pub has_base : stream.base ≡ base
@@ -66,11 +66,11 @@ pub record AllStandFor (distance base start : ℕ) (family : FamilyState) (frame
   pub left : StandsAs Left distance base start family.left frames
   pub right : StandsAs Right distance base start family.right frames
 
--- the frames come to a stream in their order, and each in time where its first octet stands at its place
+-- the frames arrive at a stream in order, and each in time if its first octet is at its place
 abbrev pub ComeInTime : (places : List ℤ) (distance base start : ℕ) (frames : List (List ℕ)) → StreamState → Type 0
 ComeInTime places distance base start frames stream = DeliversInTime places distance base start frames (places_from 0 frames) stream.octets stream.ended
 
--- they come so to each of the four
+-- they arrive so at each of the four
 pub record AllInTime (places : List ℤ) (distance base start : ℕ) (frames : List (List ℕ)) (family : FamilyState) : Type 0 where
   pub first : ComeInTime places distance base start frames family.first
   pub newest : ComeInTime places distance base start frames family.newest

@@ -8,8 +8,8 @@ use Rattle.ipv4_codec.specs.declared.header.Ipv4.{Ipv4}
 use Rattle.ipv4_codec.specs.Write.{plain_header}
 use Rattle.tcp_codec.specs.Write.{Fits, segment_octets}
 
--- a segment whose numbers and sizes fit, with legal flags and without URG, with options that are well formed and that cleaning leaves alone, and
--- without octets on SYN or RST
+-- a segment whose numbers and sizes fit, with legal flags and without URG, with well-formed options that cleaning leaves unchanged, and without octets on SYN
+-- or RST
 pub record IsPlainSegment (s : Segment) : Type 0 where
   pub fits : Fits s
   pub legal : are_legal s.flags ≡ true
@@ -20,7 +20,7 @@ pub record IsPlainSegment (s : Segment) : Type 0 where
 
 -- the header of a packet that carries the segment between its addresses
 pub record Carries (head : Ipv4) (s : Segment) : Type 0 where
-  pub protocol : head.protocol.0 ≡ 6
+  pub protocol : head.protocol ≡ 6
   pub source : head.src.0 ≡ s.source
   pub destination : head.dst.0 ≡ s.destination
 
@@ -28,11 +28,11 @@ pub record Carries (head : Ipv4) (s : Segment) : Type 0 where
 abbrev pub packet_of : Ipv4 → Segment → List ℕ
 packet_of head s = plain_header head (length (segment_octets s)) ++ segment_octets s
 
--- it is plain for every host that it reaches, and is read as TCP, as the segment
+-- the packet is plain for every host that it reaches, and is read as TCP, as the segment
 pub record IsRead (head : Ipv4) (s : Segment) : Type 0 where
   pub plain : (hops : ℕ) → hops < head.ttl → Plain hops (packet_of head s)
   pub segment : segment_of (packet_of head s) ≡ Some s
 
--- whatever the octets of the segment and the other fields of the header
+-- this holds for any octets of the segment and any other fields of the header
 abbrev pub AreRead : Type 0
 AreRead = (head : Ipv4) (s : Segment) → IsPlainSegment s → Carries head s → IsRead head s

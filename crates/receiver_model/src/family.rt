@@ -11,9 +11,8 @@ use crate::stream::Stream;
 use edge_io::NoMemory;
 use std::alloc::Global;
 use std::marker::Model;
-use wire_base::SeqNumber;
 
-/// A stream of each policy.
+/// One stream for each policy.
 #[derive(Drop)]
 pub struct Family {
     first: Stream,
@@ -31,9 +30,9 @@ impl Model for Family {
 }
 
 impl Family {
-    /// Four receivers that took nothing; `base` is the sequence number of the octet at offset 0, and the streams begin at the
-    /// offset `start`.
-    pub fn open(alloc: Global, base: SeqNumber, start: u32) -> Result<Family, NoMemory>
+    /// Creates four receivers without segments. `base` is the sequence number of the octet at
+    /// offset 0, and the streams begin at the offset `start`.
+    pub fn open(alloc: Global, base: u32, start: u32) -> Result<Family, NoMemory>
         ensures fresh { IfOk result (λ f. f ≡ fresh_family base start) }
         ensures stands { IfOk result (λ f. (distance : ℕ) → AllStandFor distance base start f []) }
     {
@@ -45,7 +44,7 @@ impl Family {
         })
     }
 
-    /// Gives a packet to each.
+    /// Gives a packet to each. After an error all four are as before.
     pub fn take(&mut self, bytes: &[u8]) -> Result<(), NoMemory>
         requires plain { Plain 0 bytes.now }
         requires tcp { ip.protocol bytes.now ≡ 6 }
@@ -70,7 +69,7 @@ impl Family {
         }
     }
 
-    // Gives a packet to one after another, until one finds no memory.
+    // Gives a packet to one after another, until one cannot allocate memory.
     fn offer(&mut self, bytes: &[u8]) -> Result<(), NoMemory>
         requires plain { Plain 0 bytes.now }
         requires tcp { ip.protocol bytes.now ≡ 6 }
@@ -83,7 +82,6 @@ impl Family {
         self.right.take(bytes)
     }
 
-    // The receiver of a policy.
     fn stream(&self, policy: Policy) -> &Stream
         ensures { result.now ≡ stream_of self.now policy }
     {
@@ -95,21 +93,22 @@ impl Family {
         }
     }
 
-    /// The octets that the receiver of a policy gave to its reader so far.
+    /// Returns the octets that the receiver of a policy has given to its reader.
     pub fn octets(&self, policy: Policy) -> &[u8]
         ensures { let stream = stream_of self.now policy in result.now ≡ stream.octets }
     {
         self.stream(policy).octets()
     }
 
-    /// Whether its stream has come to the place of its FIN.
+    /// Returns whether its stream has reached the offset of its FIN.
     pub fn ended(&self, policy: Policy) -> bool
         ensures { let stream = stream_of self.now policy in result ≡ stream.ended }
     {
         self.stream(policy).ended()
     }
 
-    /// Whether each two agree: they do where frames that tell of one stream reached all four in their order and in time.
+    /// Returns whether each two agree: they do if frames that describe one stream reached all four
+    /// in order and in time.
     pub fn agree(&self) -> bool
         ensures decides { IsTrue result ↔ EachTwoAgree self.now }
         ensures one_stream { (hops distance base start : ℕ) (places : List ℤ) (frames : List (List ℕ)) → distance ≤ hops →

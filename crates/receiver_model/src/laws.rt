@@ -2,12 +2,13 @@
 ghost use Rattle.receiver_model.specs.Agreement.{MembersAgree};
 ghost use Rattle.receiver_model.specs.Written.{AreRead};
 
-/// Frames that tell of one stream tell all members of that stream: any two of them agree.
+/// Proves that frames which describe one stream make any two members agree.
 pub fn members_agree()
     ensures { MembersAgree }
 {}
 
-/// A header and a segment that were written are a plain packet, and it is read as that segment.
+/// Proves that a header and a segment, as written, are a plain packet which is read as that
+/// segment.
 pub fn written_packets_are_read()
     ensures { AreRead }
 {}

@@ -1,4 +1,19 @@
-//! Every receiver that the bridge has to reckon with, and the law that makes all of them agree.
+//! Receivers that put a stream together from frames, and the law that all of them agree.
+//!
+//! Proved (`laws::members_agree`): plain frames that describe one stream, with one octet at each
+//! offset and one end, make any two receivers of the family deliver streams of which one is a
+//! prefix of the other, behind at most `hops` routers, under any schedules in which each octet
+//! arrives within 2^31 of the receiver's next offset. A `Stream` with any of four policies is such
+//! a receiver. `Family::agree` returns exactly whether each two of the four agree, and they do if
+//! their frames describe one stream and arrive in time. `plain` returns exactly whether a packet is
+//! plain. A written header and segment are plain for every number of routers below the TTL, and are
+//! read as that segment (`laws::written_packets_are_read`).
+//!
+//! Choices: offsets are whole numbers, and one relation (`Names`) has the wrap at 2^32. A receiver
+//! reads a number near the offset at which its stream continues, for octets and FIN alike, and a
+//! segment that was taken keeps that offset. Nothing is claimed of a frame that arrives outside of
+//! that range. A stream that has ended may continue if octets wait there; only the premises of the
+//! law exclude such octets.
 #![tactic(auto)]
 
 pub mod agreement;

@@ -1,6 +1,7 @@
-//! How far a stream was before it took a packet.
+//! The state of a stream before it took a packet.
 
-/// How many segments a stream had taken and how many octets it had given to the reader, with the place of its FIN and whether it had ended.
+/// Number of segments that a stream had taken and of octets that it had given to the reader, with
+/// the offset of its FIN and whether it had ended.
 #[derive(Clone, Copy)]
 pub(crate) struct Mark {
     pub taken: usize,

@@ -5,13 +5,14 @@ ghost use Rattle.receiver_model.specs.Policies.{is_near, octet_for, brought};
 
 use crate::policy::Waiting;
 use std::marker::Model;
-use wire_base::SeqNumber;
+use wire_base::{sequence_distance, sequence_plus};
 
-/// A segment's octets, the sequence number of the first one, and the offset at which the stream went on when it came.
+/// Octets of a segment, the sequence number of the first one, and the offset at which the stream
+/// continued when it arrived.
 #[derive(Drop)]
 pub(crate) struct Piece {
     pub next: u64,
-    pub sequence: SeqNumber,
+    pub sequence: u32,
     pub octets: Vec<u8>,
 }
 
@@ -26,19 +27,19 @@ impl Model for Piece {
     ghost invariant = { λ p. (length p.octets.items < 2 ^ 32) × (p.next < 2 ^ 63 + 2 ^ 32) };
 }
 
-/// Half a turn of sequence numbers.
+/// 2^31, half of the sequence numbers.
 pub(crate) const HALF: u64 = 1 << 31;
 
-/// The offset for which a sequence number stands, counted from half a turn below 0.
-pub(crate) fn raised_offset(base: SeqNumber, next: u64, number: SeqNumber) -> u64
+/// Returns the offset that a sequence number represents, plus 2^31.
+pub(crate) fn raised_offset(base: u32, next: u64, number: u32) -> u64
     requires { next < 2 ^ 63 + 2 ^ 32 }
     ensures value { result ≡ raised_of base next number }
     ensures near { result < next + 2 ^ 32 }
 {
-    next + number.plus(HALF).places_behind(base.plus(next))
+    next + sequence_distance(sequence_plus(base, next), sequence_plus(number, HALF))
 }
 
-// The offset lies within half a turn of the next one.
+// Returns whether the offset is at least `next` - 2^31 and below `next` + 2^31.
 fn is_near(next: u64, offset: u64) -> bool
     ensures { result ≡ is_near next (pos offset) }
 {
@@ -50,18 +51,18 @@ fn is_near(next: u64, offset: u64) -> bool
 }
 
 impl Piece {
-    fn octet_at(&self, base: SeqNumber, offset: u64) -> Option<u8>
+    fn octet_at(&self, base: u32, offset: u64) -> Option<u8>
         ensures { result ≡ octet_for base self.now (pos offset) }
     {
         if !is_near(self.next, offset) {
             return None;
         }
-        let at = base.plus(offset).places_behind(self.sequence);
+        let at = sequence_distance(self.sequence, sequence_plus(base, offset));
         self.octets.get(at as usize).copied()
     }
 
-    /// The octet for an offset as it waits.
-    pub fn waiting_at(&self, base: SeqNumber, offset: u64) -> Option<Waiting>
+    /// Returns the octet for an offset, with the ends of its segment.
+    pub fn waiting_at(&self, base: u32, offset: u64) -> Option<Waiting>
         ensures { result ≡ brought base self.now (pos offset) }
     {
         let octet = self.octet_at(base, offset)?;

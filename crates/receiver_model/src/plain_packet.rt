@@ -8,15 +8,16 @@ ghost use Rattle.receiver_model.specs.Tests as test;
 
 use ipv4_codec::Ipv4;
 use tcp_codec::{SumRule, Tcp, clean_options};
-use wire_base::{Protocol, pseudo_sum};
+use wire_base::{protocol, pseudo_sum};
 
-// The octets of a header without options, of IP and of TCP (RFC 791 section 3.1, RFC 9293 section 3.1), and the most that the
-// options of a TCP header have.
+// Octets of a header without options, of IP and of TCP (RFC 791 section 3.1, RFC 9293 section 3.1),
+// and the greatest number of octets of TCP options.
 const HEADER: usize = 20;
 
 const OPTIONS: usize = 40;
 
-/// Whether each host behind at most `hops` routers gets this packet and reads it as its fields say (this project's profile).
+/// Returns whether each host behind at most `hops` routers receives this packet and reads it by its
+/// fields (this project's profile).
 pub fn plain(hops: u8, bytes: &[u8]) -> bool
     ensures { IsTrue result ↔ Plain hops bytes.now }
 {
@@ -29,7 +30,7 @@ pub fn plain(hops: u8, bytes: &[u8]) -> bool
     }
 }
 
-// The header of a packet, where it is plain.
+// Returns the header of a packet, if it is plain.
 fn plain_header(bytes: &[u8]) -> Option<Ipv4>
     ensures fields { IfSome result (λ head. head ≡ fields_of bytes.now) }
     ensures some { IfSome result (λ head. IsPlainHeader bytes.now) }
@@ -41,7 +42,8 @@ fn plain_header(bytes: &[u8]) -> Option<Ipv4>
     }
 }
 
-// Of a packet with so many octets: no options, no octet behind it, no reserved mark, and no piece.
+// Returns whether a packet of `len` octets has no options, no octet after its total length, a clear
+// reserved flag, and is not a fragment.
 fn is_whole(head: &Ipv4, len: usize) -> bool
     ensures { result ≡ test.is_whole head.now len }
 {
@@ -52,7 +54,7 @@ fn is_whole(head: &Ipv4, len: usize) -> bool
         && head.offset == 0
 }
 
-// The message behind a plain header.
+// Returns whether the message after a plain header is plain.
 fn is_plain_message(head: &Ipv4, bytes: &[u8]) -> bool
     requires header { IsPlainHeader bytes.now }
     requires fields { head.now ≡ fields_of bytes.now }
@@ -61,14 +63,14 @@ fn is_plain_message(head: &Ipv4, bytes: &[u8]) -> bool
     let message = &bytes[HEADER..];
     let pseudo = pseudo_sum(head.src, head.dst, head.protocol, message.len() as u16);
     match head.protocol {
-        Protocol::ICMP => icmp_codec::parse(message).is_ok(),
-        Protocol::TCP => is_plain_tcp(message, pseudo),
-        Protocol::UDP => udp_codec::parse(message, pseudo).is_ok(),
+        protocol::ICMP => icmp_codec::parse(message).is_ok(),
+        protocol::TCP => is_plain_tcp(message, pseudo),
+        protocol::UDP => udp_codec::parse(message, pseudo).is_ok(),
         _ => false,
     }
 }
 
-// A segment, with what is summed before it.
+// Returns whether a segment is plain; `pseudo` is the sum of its pseudo-header.
 fn is_plain_tcp(message: &[u8], pseudo: u32) -> bool
     ensures { (p : List ℕ) → ip.payload p ≡ message.now → pseudo_of p ≡ pseudo → IsTrue result ↔ IsPlainTcp p }
 {
@@ -82,7 +84,8 @@ fn is_plain_tcp(message: &[u8], pseudo: u32) -> bool
     }
 }
 
-// Of a segment with so many octets: no reserved bit and no urgent mark, and no octets on SYN or RST.
+// Returns whether a segment of `len` octets has clear reserved bits, no URG, urgent pointer 0, and
+// no octets on SYN or RST.
 fn is_bare(head: &Tcp, len: usize) -> bool
     ensures { result ≡ test.is_bare head.now len }
 {
@@ -90,7 +93,7 @@ fn is_bare(head: &Tcp, len: usize) -> bool
     head.reserved == 0 && !head.flags.urg() && head.urgent == 0 && empty
 }
 
-// Cleaning leaves the options alone.
+// Returns whether cleaning leaves the options unchanged.
 fn is_clean(options: &[u8], syn: bool) -> bool
     requires room { length options.now ≤ 40 }
     requires formed { are_well_formed options.now ≡ true }

@@ -1,21 +1,22 @@
-//! Which octet a receiver keeps where several segments bring one for the same offset.
+//! Which octet a receiver keeps if several segments bring one for the same offset.
 ghost use Rattle.std.specs.Prelude.{◌≡◌};
 ghost use Rattle.receiver_model.specs.Policies.{replaces, chosen};
 
-/// What becomes of an octet that waits when another comes for its offset (this project's profile).
+/// Choice between a waiting octet and another that arrives for its offset (this project's profile).
 #[derive(Clone, Copy, Debug, PartialEq, Eq)]
 pub enum Policy {
-    /// The octet that waits stays.
+    /// The waiting octet stays.
     First,
     /// The newer octet replaces it.
     Newest,
-    /// The newer octet replaces it where its segment begins at a smaller offset.
+    /// The newer octet replaces it if its segment begins at a smaller offset.
     Left,
-    /// The newer octet replaces it where its segment ends at a larger offset.
+    /// The newer octet replaces it if its segment ends at a larger offset.
     Right,
 }
 
-/// An octet that waits, and the offsets at which the segment that brought it begins and ends, counted from half a turn below 0.
+/// Waiting octet, and the offsets at which the segment that brought it begins and ends, plus 2^31
+/// each.
 #[derive(Clone, Copy)]
 pub(crate) struct Waiting {
     pub octet: u8,
@@ -35,7 +36,7 @@ impl Policy {
         }
     }
 
-    /// What waits after an octet came, or none.
+    /// Returns the waiting octet after another arrived, or none did.
     pub(crate) fn choose(self, old: Option<Waiting>, new: Option<Waiting>) -> Option<Waiting>
         ensures { result ≡ chosen self old new }
     {

@@ -5,24 +5,24 @@ ghost use Rattle.wire_base.specs.Plain.{Plain};
 ghost use Rattle.wire_base.specs.Segments.{fields_of};
 ghost use Rattle.receiver_model.specs.Fields.{segment_in};
 
-use wire_base::{Addr, Flags, SeqNumber, u16_at, u32_at};
+use wire_base::{Addr, Flags, u16_at, u32_at};
 
-/// The fields of a TCP packet (RFC 791 section 3.1, RFC 9293 section 3.1); `start` is the place of its first payload octet
-/// in the packet.
+/// Fields of a TCP packet (RFC 791 section 3.1, RFC 9293 section 3.1). `start` is the index of its
+/// first payload octet in the packet.
 #[derive(Clone, Copy, Debug, PartialEq, Eq)]
 pub struct Segment {
     pub src: Addr,
     pub dst: Addr,
     pub sport: u16,
     pub dport: u16,
-    pub seq: SeqNumber,
-    pub ack: SeqNumber,
+    pub seq: u32,
+    pub ack: u32,
     pub flags: Flags,
     pub window: u16,
     pub start: usize,
 }
 
-/// What a plain TCP packet says.
+/// Returns the fields of a plain TCP packet.
 pub fn read_plain(bytes: &[u8]) -> Segment
     requires plain { Plain 0 bytes.now }
     requires tcp { ip.protocol bytes.now ≡ 6 }
@@ -34,8 +34,8 @@ pub fn read_plain(bytes: &[u8]) -> Segment
         dst: Addr(u32_at(bytes, 16)),
         sport: u16_at(bytes, 20),
         dport: u16_at(bytes, 22),
-        seq: SeqNumber::new(u32_at(bytes, 24)),
-        ack: SeqNumber::new(u32_at(bytes, 28)),
+        seq: u32_at(bytes, 24),
+        ack: u32_at(bytes, 28),
         flags: Flags(bytes[33]),
         window: u16_at(bytes, 34),
         start: 20 + 4 * usize::from(bytes[32] / 16),

@@ -1,4 +1,4 @@
-//! One receiver of the family, with a policy of its own.
+//! One receiver of the family, with one of the four policies.
 ghost use Rattle.std.specs.Prelude.{◌≡◌, ℕ, List, ◌∷◌, ◌++◌, [], ◌+◌, ◌<◌, ◌^◌, pos, None, length, IfOk, OnOk, OnErr};
 ghost use Rattle.wire_base.specs.Ipv4 as ip;
 ghost use Rattle.wire_base.specs.Plain.{Plain};
@@ -15,15 +15,16 @@ use crate::segment::read_plain;
 use edge_io::NoMemory;
 use std::alloc::Global;
 use std::marker::Model;
-use wire_base::SeqNumber;
+use wire_base::sequence_plus;
 
-/// A receiver of one connection's octets. `base` is the sequence number of the octet at offset 0, and the stream begins
-/// at the offset `start`. Octets that wait are never forgotten, so that each look-up goes over all segments that were taken.
+/// Receiver of one connection's octets. `base` is the sequence number of the octet at offset 0, and
+/// the stream begins at the offset `start`. Waiting octets are never removed, so each look-up goes
+/// over all segments that were taken.
 #[derive(Drop)]
 pub struct Stream {
     alloc: Global,
     policy: Policy,
-    base: SeqNumber,
+    base: u32,
     start: u32,
     pieces: Vec<Piece>,
     octets: Vec<u8>,
@@ -48,8 +49,8 @@ impl Model for Stream {
         } };
 }
 
-// What waits for an offset after these segments.
-fn waiting_in(policy: Policy, base: SeqNumber, pieces: &[Piece], offset: u64) -> Option<Waiting>
+// Returns the waiting octet at an offset after these segments.
+fn waiting_in(policy: Policy, base: u32, pieces: &[Piece], offset: u64) -> Option<Waiting>
     ensures { result ≡ waiting_after policy base pieces.now (pos offset) }
 {
     pieces.iter().fold(None, |waiting, piece| {
@@ -57,10 +58,10 @@ fn waiting_in(policy: Policy, base: SeqNumber, pieces: &[Piece], offset: u64) ->
     })
 }
 
-// The same after one more.
+// Returns the same after one more segment.
 fn waiting_with(
     policy: Policy,
-    base: SeqNumber,
+    base: u32,
     pieces: &[Piece],
     new: &Piece,
     offset: u64,
@@ -78,7 +79,7 @@ fn extend(
     octets: &mut Vec<u8>,
     start: u32,
     policy: Policy,
-    base: SeqNumber,
+    base: u32,
     pieces: &[Piece],
     new: &Piece,
 ) -> Result<(), NoMemory>
@@ -100,13 +101,8 @@ fn extend(
 }
 
 impl Stream {
-    /// A receiver that took nothing.
-    pub fn open(
-        alloc: Global,
-        policy: Policy,
-        base: SeqNumber,
-        start: u32,
-    ) -> Result<Stream, NoMemory>
+    /// Creates a receiver without segments.
+    pub fn open(alloc: Global, policy: Policy, base: u32, start: u32) -> Result<Stream, NoMemory>
         ensures fresh { IfOk result (λ s. s ≡ fresh policy base start) }
         ensures stands { IfOk result (λ s. (distance : ℕ) → StandsFor distance s []) }
     {
@@ -122,8 +118,9 @@ impl Stream {
         })
     }
 
-    /// Takes a packet in: its octets are set where none waits or the policy says so, the first FIN's place is kept, and
-    /// the stream goes on as far as octets wait. It may go on past its end, where octets wait there.
+    /// Takes a packet: its octets are set if none waits or the policy replaces the waiting one, the
+    /// offset of the first FIN is kept, and the stream is extended as far as octets wait. It may
+    /// continue past its end, if octets wait there.
     pub fn take(&mut self, bytes: &[u8]) -> Result<(), NoMemory>
         requires plain { Plain 0 bytes.now }
         requires tcp { ip.protocol bytes.now ≡ 6 }
@@ -138,7 +135,7 @@ impl Stream {
         self.put(segment.seq, segment.flags.fin(), &bytes[segment.start..])
     }
 
-    fn put(&mut self, sequence: SeqNumber, has_fin: bool, payload: &[u8]) -> Result<(), NoMemory>
+    fn put(&mut self, sequence: u32, has_fin: bool, payload: &[u8]) -> Result<(), NoMemory>
         requires { length payload.now < 2 ^ 32 }
         ensures taken { let taken : Taken = record { next = next_of self.old; sequence = sequence; octets = payload.now } in
             OnOk result (Takes taken has_fin self.old self.new) }
@@ -161,7 +158,7 @@ impl Stream {
             &piece,
         )?;
         self.pieces.push_reserved(piece);
-        let end = sequence.plus(payload.len() as u64);
+        let end = sequence_plus(sequence, payload.len() as u64);
         let place = raised_offset(self.base, next, end);
         self.fin = self.fin.or(has_fin.then_some(place));
         let behind = u64::from(self.start) + self.octets.len() as u64;
@@ -169,21 +166,21 @@ impl Stream {
         Ok(())
     }
 
-    /// The octets given to the reader so far, from the offset `start` on.
+    /// Returns the octets given to the reader, from the offset `start` on.
     pub fn octets(&self) -> &[u8]
         ensures { result.now ≡ self.now.octets }
     {
         self.octets.as_slice()
     }
 
-    /// Whether the stream has come to the place of its FIN.
+    /// Returns whether the stream has reached the offset of its FIN.
     pub fn ended(&self) -> bool
         ensures { result ≡ self.now.ended }
     {
         self.ended
     }
 
-    /// How far it is.
+    /// Returns the mark of the present state.
     pub(crate) fn mark(&self) -> Mark
         ensures { result ≡ mark_of self.now }
     {
@@ -195,7 +192,7 @@ impl Stream {
         }
     }
 
-    /// Forgets what came behind a mark.
+    /// Removes what was taken after a mark.
     pub(crate) fn go_back(&mut self, mark: &Mark)
         ensures { self.new ≡ gone_back self.old mark.now }
     {

@@ -1,12 +1,13 @@
-//! Worked packets that are plain or nearly so, and what each policy delivers of small overlaps.
+//! Packets that are plain or nearly so, and what each policy delivers of small overlaps.
 use crate::{Family, Policy, Segment, Stream, plain, read_plain};
 use edge_io::NoMemory;
 use std::alloc::Global;
 use std::process::Abort;
 use std::test::Fail;
-use wire_base::{Addr, Flags, SeqNumber};
+use wire_base::{Addr, Flags};
 
-// Segments from 198.51.100.7 port 40000 to 10.0.0.1 port 80, PSH ACK, with the acknowledgment 5001 and the window 8192.
+// Segments from 198.51.100.7 port 40000 to 10.0.0.1 port 80, PSH ACK, acknowledgment 5001, window
+// 8192.
 
 /// `abcd` at the sequence number 1000.
 const ABCD: [u8; 44] = [
@@ -50,7 +51,7 @@ const WXYZ: [u8; 44] = [
     0x50, 0x18, 0x20, 0x00, 0xb6, 0x97, 0x00, 0x00, 0x77, 0x78, 0x79, 0x7a,
 ];
 
-/// `abcd` with other octets at some places.
+/// Returns `ABCD` with other octets at some indices.
 fn changed(octets: &[(usize, u8)]) -> [u8; 44] {
     let mut packet = ABCD;
     for (at, octet) in octets {
@@ -61,8 +62,9 @@ fn changed(octets: &[(usize, u8)]) -> [u8; 44] {
     packet
 }
 
-// Routers; another protocol; wrong sums; reserved flag, more fragments, an offset, don't fragment; a total length of one octet
-// less; URG, urgent pointer, reserved bits; no flag that goes alone. The sums are right but where they are what is wrong.
+// Number of routers; another protocol; wrong checksums; reserved flag, more fragments, a fragment
+// offset, don't fragment; a total length one octet too small; URG, urgent pointer, reserved bits;
+// flags that are not legal alone. Checksums are right except where they are the error.
 const MARKS: [(&[(usize, u8)], u8, bool); 15] = [
     (&[], 30, true),
     (&[], 63, true),
@@ -94,8 +96,9 @@ fn a_plain_packet_has_no_mark(rt: HostRuntime) {
     assert!(rt; !plain(0, &[]));
 }
 
-// A SYN, and with an octet; a RST with one; a segment size on a SYN, and without it; an octet after the end option; an option of
-// IP; UDP with a right checksum, none and a wrong one; an echo with a right and a wrong sum.
+// A SYN, and one with an octet; a RST with an octet; a segment size on a SYN, and on a segment that
+// is no SYN; an octet after the end option; an option of IP; UDP with a right checksum, none and a
+// wrong one; an echo request with a right and a wrong checksum.
 const MESSAGES: [(&[u8], bool); 12] = [
     (
         &[
@@ -211,8 +214,8 @@ fn a_segment_is_read_by_its_fields(rt: HostRuntime) {
         dst: Addr(0x0a00_0001),
         sport: 40000,
         dport: 80,
-        seq: SeqNumber::new(1000),
-        ack: SeqNumber::new(5001),
+        seq: 1000,
+        ack: 5001,
         flags: Flags(0x18),
         window: 8192,
         start: 40,
@@ -220,14 +223,14 @@ fn a_segment_is_read_by_its_fields(rt: HostRuntime) {
     assert_eq!(rt; read_plain(&ABCD), segment);
 }
 
-/// Gives a stream a packet that is plain and holds a segment of TCP.
+/// Gives a stream a plain TCP packet.
 fn give(rt: &impl Abort, stream: &mut Stream, packet: &[u8]) -> Result<(), NoMemory> {
     assert!(rt; plain(0, packet));
     assert_eq!(rt; packet[9], 6);
     stream.take(packet)
 }
 
-/// The policy of a stream, its base and its begin.
+/// Policy of a stream, its base and its start.
 #[derive(Clone, Copy)]
 struct Begin {
     policy: Policy,
@@ -235,7 +238,7 @@ struct Begin {
     start: u32,
 }
 
-/// A stream that was opened so and takes these packets, one after another, delivers these octets.
+/// Gives packets to a stream, and checks the octets that it delivers.
 fn follow(
     rt: &impl Abort,
     stream: &mut Stream,
@@ -257,7 +260,7 @@ fn follow(
     Ok(())
 }
 
-/// So does a new one.
+/// Does so with a new stream.
 fn deliver(
     rt: &impl Abort,
     alloc: Global,
@@ -265,7 +268,7 @@ fn deliver(
     packets: &[&[u8]],
     want: &[u8],
 ) -> Result<(), NoMemory> {
-    let base = SeqNumber::new(begin.base);
+    let base = begin.base;
     let mut stream = Stream::open(alloc, begin.policy, base, begin.start)?;
     follow(rt, &mut stream, begin, packets, want)
 }
@@ -282,7 +285,8 @@ fn a_stream_takes_a_segment(rt: HostRuntime) -> Result<(), Fail> {
     Ok(())
 }
 
-// The base is the number 1003, so that `abcd` begins 3 below it: a stream that begins there reads it before the turn, one at 0 below its begin.
+// With base 1003, `abcd` begins 3 below the base: a stream that starts at 2^32 - 3 reads it at
+// offsets before 2^32, and one that starts at 0 reads it 3 below its start.
 const LATE: Begin = Begin {
     policy: Policy::First,
     base: 1003,
@@ -304,14 +308,16 @@ fn numbers_are_read_where_the_stream_goes_on(rt: HostRuntime) -> Result<(), Fail
 
 const POLICIES: [Policy; 4] = [Policy::First, Policy::Newest, Policy::Left, Policy::Right];
 
-/// Two segments that come ahead of the first octet, `a`, and what the streams of the four policies, in their order, deliver of the three.
+/// Two segments that arrive before the first octet, `a`, and what the streams of the four policies,
+/// in order, deliver of the three.
 struct Overlap {
     one: &'static [u8],
     two: &'static [u8],
     want: [&'static [u8]; 4],
 }
 
-// The same place; the newer segment lies further right, and further left; it encloses the older one, and is enclosed.
+// The same offset; the newer segment is further right, and further left; it encloses the older one,
+// and is enclosed by it.
 const OVERLAPS: [Overlap; 5] = [
     Overlap {
         one: &BC,
@@ -340,7 +346,7 @@ const OVERLAPS: [Overlap; 5] = [
     },
 ];
 
-/// The streams of the four policies deliver so, with this base and begin.
+/// Checks what the streams of the four policies deliver, with this base and start.
 fn settle(
     rt: &impl Abort,
     alloc: Global,
@@ -360,7 +366,7 @@ fn settle(
     Ok(())
 }
 
-// From the base on, and where the octets pass offset 2^32.
+// From the base on, and with octets across offset 2^32.
 #[test]
 fn each_policy_settles_an_overlap_its_way(rt: HostRuntime) -> Result<(), Fail> {
     for overlap in &OVERLAPS {
@@ -370,21 +376,22 @@ fn each_policy_settles_an_overlap_its_way(rt: HostRuntime) -> Result<(), Fail> {
     Ok(())
 }
 
-/// What the four streams of a family, in the order of their policies, deliver, and whether they end and agree.
+/// What the four streams of a family, in the order of their policies, deliver, and whether they end
+/// and agree.
 struct Told {
     octets: [&'static [u8]; 4],
     ended: bool,
     agree: bool,
 }
 
-/// Gives a family a packet that is plain and holds a segment of TCP.
+/// Gives a family a plain TCP packet.
 fn give_family(rt: &impl Abort, family: &mut Family, packet: &[u8]) -> Result<(), NoMemory> {
     assert!(rt; plain(0, packet));
     assert_eq!(rt; packet[9], 6);
     family.take(packet)
 }
 
-/// A family tells so.
+/// Checks what a family delivers.
 fn tells(rt: &impl Abort, family: &Family, told: &Told) {
     for i in 0..4 {
         let policy = POLICIES[i];
@@ -394,7 +401,7 @@ fn tells(rt: &impl Abort, family: &Family, told: &Told) {
     assert_eq!(rt; family.agree(), told.agree);
 }
 
-/// It does so of two segments and then `a`.
+/// Checks it after two segments and then `a`.
 fn follow_family(
     rt: &impl Abort,
     family: &mut Family,
@@ -409,9 +416,9 @@ fn follow_family(
     Ok(())
 }
 
-/// So does a new one, with the base 1000.
+/// Checks it of a new family with base 1000.
 fn tell(rt: &impl Abort, alloc: Global, packets: [&[u8]; 2], told: &Told) -> Result<(), NoMemory> {
-    let mut family = Family::open(alloc, SeqNumber::new(1000), 0)?;
+    let mut family = Family::open(alloc, 1000, 0)?;
     follow_family(rt, &mut family, packets, told)
 }
 
@@ -427,7 +434,8 @@ const APART: Told = Told {
     agree: false,
 };
 
-// `abcd` with a FIN comes twice and then `a`: all end. `XY` comes where `bc` waits, which the policies settle in two ways.
+// `abcd` with a FIN arrives twice, then `a`: all streams end. `XY` arrives while `bc` waits, which
+// the policies decide in two ways.
 #[test]
 fn a_family_tells_whether_its_streams_agree(rt: HostRuntime) -> Result<(), Fail> {
     let last = changed(&[(33, 0x19), (37, 0xc3)]);

@@ -1,4 +1,4 @@
--- What two engines answer for one record, frame by frame.
+-- The answers of two engines for one record, frame by frame.
 use Rattle.std.proofs.Common.{◌≡◌, ℕ, ◌+◌, ◌<◌, ◌≤◌, List, [], ◌∷◌, ◌++◌, length, Option, Some, sym, ap, ap₂, subst, ◌∙◌, arith, append-nil}
 use Rattle.std.specs.Prelude.{IfSome}
 use Rattle.std.proofs.lemmas.List.{length-append, length-map}
@@ -17,7 +17,7 @@ use Rattle.record_relay.specs.Runs.{answers}
 
 -- ---- one frame
 
--- the next one was had
+-- the next one was read
 module _ (old new : Joined) (entry : PlainEntry) (out : List (List ℕ))
     (entry_is : (trace mirror : List Item) (r : Packet) (more : List Packet) → StandsFor old trace mirror → old.pending ≡ r ∷ more → entry ≡ (item_of (mirrored old.first.settings) old.first.link mirror r).entry)
     (frames_are : (trace mirror : List Item) (r : Packet) (more : List Packet) → StandsFor old trace mirror → old.pending ≡ r ∷ more → out ≡ (item_of (mirrored old.first.settings) old.first.link mirror r).frames)
@@ -40,7 +40,7 @@ module _ (old new : Joined) (entry : PlainEntry) (out : List (List ℕ))
 
 -- ---- all frames of a record
 
--- what both engines say of the frames of the newest record of a trace
+-- the answers of both engines for the frames of the newest record of a trace
 record Behind (settings : PlainSettings) (link : Link) (trace mirror : List Item) (records : List Packet) (now : Joined) (first second : Option PlainEntry) (frames : List (List ℕ)) : Type 0 where
   text_is : line_for first ++ line_for second ≡ answers_text (answers settings link mirror records)
   frames_are : frames ≡ answers_frames (answers settings link mirror records)

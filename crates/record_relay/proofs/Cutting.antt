@@ -1,4 +1,4 @@
--- What goes out in place of frames, written one after another.
+-- What is written for frames, one after another.
 use Rattle.std.proofs.Common.{◌≡◌, ℕ, ◌+◌, ◌<◌, ◌≤◌, ◌&&◌, ◌||◌, not, Bool, true, false, cond, All, List, [], ◌∷◌, ◌++◌, length, take, drop, take-append-drop, slice_get, Option, Some, refl, sym, ap, ap₂, subst, ◌∙◌, arith, add-one, append_assoc, append-nil}
 use Rattle.std.specs.List.{flat_map, list_any}
 use Rattle.std.specs.Io.KnownBytes.{Appends}
@@ -25,7 +25,7 @@ use Rattle.record_relay.specs.Frames.{frame_octets}
 use Rattle.record_relay.specs.Cut.{CutSoFar, TellsAll, TellsOne, frames_written}
 use Rattle.record_relay.proofs.Writing.{part_of_pieces}
 
--- what stands in a list of which all are so
+-- an element of a list of which all satisfy `P`
 pub at : {X : Type 0} (P : X → Type 0) (xs : List X) (i : ℕ) (x : X) → All P xs → slice_get xs i ≡ Some x → P x
 at P xs i x all here = subst P (get_or_from_slice_get xs i x x here) (all i x (slice_get_within xs i x here))
 
@@ -78,7 +78,7 @@ module _ (mtu : ℕ) (link : Link) where
   written_more frames i frame here =
       ap (flat_map goes) (one_more_taken frames i frame here) ∙ flat_map-append goes (take i frames) (frame ∷ []) ∙ ap (λ l. flat_map goes (take i frames) ++ l) (append-nil (goes frame))
 
-  -- no more are written of the first frames than of all
+  -- no more are written for the first frames than for all
   written_most : (frames : List (List ℕ)) (n : ℕ) → length (frames_written (Some mtu) link (take n frames)) ≤ length (frames_written (Some mtu) link frames)
   written_most frames n =
       let whole : frames_written (Some mtu) link frames ≡ flat_map goes (take n frames) ++ flat_map goes (drop n frames) =

@@ -1,4 +1,4 @@
--- How a run goes on from record to record.
+-- How a run continues from record to record.
 use Rattle.std.proofs.Common.{◌≡◌, ℕ, ◌+◌, Bool, true, false, List, [], ◌∷◌, ◌++◌, length, take, drop, refl, sym, ap, ap₂, subst, ◌∙◌, arith, append_assoc}
 use Rattle.std.proofs.Math.Seq.{drop-append_seam}
 use Rattle.std.proofs.lemmas.List.{length-append, length-map, take_at}
@@ -17,13 +17,13 @@ use Rattle.record_relay.specs.Outputs.{heading}
 use Rattle.record_relay.specs.Puts.{count_put, octets_put, put_by_two, puts, puts_by_two, text_put}
 use Rattle.record_relay.specs.Runs.{answers, empty_run, one, two}
 
--- ---- what the second engine has for the frames of a record
+-- ---- the items of the second engine for the frames of a record
 
 module _ (settings : PlainSettings) (link : Link) where
   abbrev told : List Item → Packet → Item
   told mirror r = item_of (mirrored settings) link mirror r
 
-  -- its items, the oldest first
+  -- its items, oldest first
   apart : (mirror : List Item) (r : Packet) (more : List Packet)
       → answers settings link mirror (r ∷ more) ++ mirror ≡ answers settings link (told mirror r ∷ mirror) more ++ (told mirror r ∷ mirror)
   apart mirror r more = append_assoc (answers settings link (told mirror r ∷ mirror) more) (told mirror r ∷ []) mirror

@@ -14,7 +14,7 @@ use Rattle.record_relay.specs.Laws.{LawfulRunsAreOne, TwoPutTheirMirror}
 use Rattle.record_relay.specs.Puts.{answers_frames, count_put, octets_put, put_by_two, put_octets, puts_by_two}
 use Rattle.record_relay.specs.Runs.{one, two}
 
--- ---- the items that the second engine has for one record
+-- ---- the items of the second engine for one record
 
 -- each has this time
 abbrev Timed : (seconds fraction : ℕ) → List Item → Type 0
@@ -25,7 +25,7 @@ timed-append : (seconds fraction : ℕ) (xs ys : List Item) → Timed seconds fr
 timed-append seconds fraction [] ys p q = q
 timed-append seconds fraction (x ∷ xs) ys p q = (p.0, p.1, timed-append seconds fraction xs ys p.2 q)
 
--- so many items with this time stand before those of these records
+-- `count` items with this time precede those of these records
 record Parted (seconds fraction count : ℕ) (mirror : List Item) (older : List Packet) : Type 0 where
   front : List Item
   back : List Item
@@ -79,7 +79,7 @@ count_of : (xs : List Item) → frame_count xs ≡ length (answers_frames xs)
 count_of [] = refl
 count_of (x ∷ xs) = let others = count_of xs in let size = length-append (answers_frames xs) x.frames in omega (arith, others, size)
 
--- ---- all that is put out
+-- ---- all outputs
 
 none_left : (mirror : List Item) → packets mirror ≡ [] → mirror ≡ []
 none_left [] is = refl

@@ -25,12 +25,12 @@ pub whole_of : {T E : Type 0} (result : Result T E) (a b : Option (List ℕ)) (x
 whole_of (Ok v) a b x failed p = p
 whole_of (Err e) a b x failed p = absurd cc
 
--- octets behind others
+-- octets after others
 pub puts_behind : {T E : Type 0} (result : Result T E) (a b c : Option (List ℕ)) (x y : List ℕ) → Appends a b x → Puts b c result y → Puts a c result (x ++ y)
 puts_behind (Ok v) a b c x y p q = Appends-trans _ _ _ _ _ p q
 puts_behind (Err e) a b c x y p q = part_behind a b c x y p q
 
--- what a fault says, where it says something else
+-- the fact of a fault implies a weaker one
 pub on_err_weaker : {T E P Q : Type 0} (result : Result T E) → (P → Q) → OnErr result P → OnErr result Q
 on_err_weaker (Ok v) f p = tt
 on_err_weaker (Err e) f p = f p
@@ -39,7 +39,7 @@ on_err_weaker (Err e) f p = f p
 pub given_both : (x y : List ℕ) (a b : Sinks) → Appends a.capture.octets b.capture.octets x → Appends a.report.octets b.report.octets y → Given (to_capture x ∷ to_report y ∷ []) a b
 given_both x y a b p q = record { capture = appended _ _ x p; report = appended _ _ y q }
 
--- the capture failed at octets that come first
+-- the capture failed at the next octets
 pub capture_broke : (x : List ℕ) (others : List Output) (a b : Sinks) → 0 < length x → AppendsPart a.capture.octets b.capture.octets x → b.report.octets ≡ a.report.octets
     → BreaksOff [] (to_capture x ∷ others) faults.Capture a b
 capture_broke x others a b some p same = record {
@@ -56,7 +56,7 @@ capture_broke x others a b some p same = record {
   };
 }
 
--- the report failed at octets that come after those of the capture
+-- the report failed at octets after those of the capture
 pub report_broke : (x y : List ℕ) (others : List Output) (a b : Sinks) → Appends a.capture.octets b.capture.octets x → AppendsPart a.report.octets b.report.octets y
     → BreaksOff [] (to_capture x ∷ to_report y ∷ others) faults.Report a b
 report_broke x y others a b p q = record {

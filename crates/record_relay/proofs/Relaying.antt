@@ -16,12 +16,12 @@ use Rattle.emit_mtu.specs.Streams.{PlainHeadersAreWhole}
 use Rattle.record_relay.specs.Cut.{FramesHaveOctets, entry_written, frames_written, item_written}
 use Rattle.record_relay.proofs.Writtens.{InRange, all_sent, written_few}
 
--- what a success says
+-- the fact of a success
 pub if_done : {T E : Type 0} (result : Result T E) (P : Type 0) → false ≡ is_err result → OnOk result P → P
 if_done (Ok v) P done p = p
 if_done (Err e) P done p = absurd (cc)
 
--- an entry is told as before, where it is changed
+-- an entry of this version keeps it when it is changed
 pub version_written : (mtu : Option ℕ) (link : Link) (item : Item) → IsOfVersion 2 item.entry → IsOfVersion 2 (item_written mtu link item).entry
 version_written None link item is = is
 version_written (Some mtu) link item is = is
@@ -36,7 +36,7 @@ pub each_has : (mtu : Option ℕ) (frames : List (List ℕ)) → All AreOctets f
 each_has None frames all = tt
 each_has (Some mtu) frames all = all
 
--- the frames of an item after a history go out on its link, which has this largest packet
+-- the frames of an item after a history are written on its link, which has this MTU
 module _ (goes : ItemsGoOut) (counts : ItemsAreCounted) (whole : PlainHeadersAreWhole) (few : AreFew) (settings : PlainSettings) (link : Link) (history : List Item) (r : Packet)
     (hops : settings.hops ≤ 254) (range : InRange settings.mtu) (older : HaveOctets history) (octets : HasOctets r) where
   abbrev item : Item
@@ -61,7 +61,7 @@ module _ (goes : ItemsGoOut) (counts : ItemsAreCounted) (whole : PlainHeadersAre
   pub named_out : (entry : PlainEntry) → entry ≡ item.entry → length entry.rules ≤ 14
   named_out entry is = subst (λ (e : PlainEntry). length e.rules ≤ 14) (sym is) (goes settings link history r hops older octets).few
 
--- what was written and told of frames is what the item has
+-- what was written and reported of frames is what the item has
 module _ (settings : PlainSettings) (link other : Link) (mtu : Option ℕ) (item : Item) (out : List (List ℕ)) (bound : settings.mtu ≡ mtu) (same : link ≡ other) (is : out ≡ item.frames) where
   pub frames_out : frames_written mtu other out ≡ (item_written settings.mtu link item).frames
   frames_out = λ i. frames_written ((sym bound) i) ((sym same) i) (is i)

@@ -1,4 +1,4 @@
--- What one engine or two stand for, and what is written of a run.
+-- What one engine or two represent, and what is written of a run.
 use Rattle.std.proofs.Common.{◌≡◌, ℕ, ◌≤◌, Bool, true, false, List, [], ◌∷◌, ◌++◌, length, Option, refl, sym, ap, subst, ◌∙◌, arith}
 use Rattle.pcap_file.specs.Records.{Packet}
 use Rattle.norm_settings.specs.Settings.{AreInRange, PlainSettings}
@@ -42,7 +42,7 @@ module _ (engine : Engaged) (r : Packet) where
   abbrev item_after : List Item → Item
   item_after history = item_of engine.settings engine.link history r
 
-  -- what is said of the item that it has after some trace is said of what is put out in each run
+  -- what holds of the item that it has after some trace holds of the output in each run
   pub put_one : (P : Put → Type 0) → ((history : List Item) → single.StandsFor engine history → P (put_by_one (item_written engine.settings.mtu engine.link (item_after history))))
       → (run : RunTrace) → StandsForRun (One engine) run → P (next_put engine.settings engine.link run r)
   put_one P says (one trace) s = says trace s
@@ -102,7 +102,7 @@ module _ (both : Joined) (r : Packet) where
 
 -- ---- what is written
 
--- the laws that this stands on
+-- the laws that this is based on
 pub record SoundLaws : Type 0 where
   pub written : LawfulIsWrittenSoundly
   pub clean : LawfulKeepsClean

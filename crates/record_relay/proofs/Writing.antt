@@ -14,7 +14,7 @@ use Rattle.pcap_file.specs.declared.order.Order.TheVariants.{Little, Big}
 use Rattle.pcap_file.specs.Records.{Packet, record_head, record_octets}
 use Rattle.record_relay.specs.Frames.{frame_octets}
 
--- one piece more
+-- one element more
 piece_more : {X : Type 0} (octets : X → List ℕ) (xs : List X) (i : ℕ) (x : X) → slice_get xs i ≡ Some x
     → flat_map octets (take (i + 1) xs) ≡ flat_map octets (take i xs) ++ octets x
 piece_more octets xs i x here =
@@ -23,7 +23,7 @@ piece_more octets xs i x here =
     ∙ flat_map-append octets (take i xs) (x ∷ [])
     ∙ ap (λ l. flat_map octets (take i xs) ++ l) (append-nil (octets x))
 
--- the pieces before one, and a prefix of it
+-- the elements before one, and a prefix of it
 pub part_of_pieces : {X : Type 0} (octets : X → List ℕ) (xs : List X) (i : ℕ) (x : X) (a b c : Option (List ℕ)) → slice_get xs i ≡ Some x
     → Appends a b (flat_map octets (take i xs)) → AppendsPart b c (octets x) → AppendsPart a c (flat_map octets xs)
 part_of_pieces octets xs i x a b c here before part =
@@ -50,22 +50,22 @@ record_some : (order : Order) (seconds fraction : ℕ) (frame : List ℕ) → 0 
 record_some order seconds fraction frame =
     omega (arith, front_size order seconds fraction (length frame), length-append (record_head order seconds fraction (length frame)) frame)
 
--- some octets are written where there are frames
+-- some octets are written if there are frames
 pub frames_some : (order : Order) (r : Packet) (frames : List (List ℕ)) → 0 < length frames → 0 < length (frame_octets order r frames)
 frames_some order r [] some = absurd (omega (arith, some))
 frames_some order r (frame ∷ frames) some =
     omega (arith, record_some order r.seconds r.fraction frame, length-append (record_octets order r.seconds r.fraction frame) (frame_octets order r frames))
 
--- what a fault says
+-- the fact of a fault
 pub if_failed : {T E : Type 0} (result : Result T E) (P : Type 0) → true ≡ is_err result → OnErr result P → P
 if_failed (Ok v) P failed p = absurd cc
 if_failed (Err e) P failed p = p
 
--- the records of frames and of others behind them
+-- the records of frames and of others after them
 pub frames_append : (order : Order) (r : Packet) (xs ys : List (List ℕ)) → frame_octets order r (xs ++ ys) ≡ frame_octets order r xs ++ frame_octets order r ys
 frames_append order r xs ys = flat_map-append (λ frame. record_octets order r.seconds r.fraction frame) xs ys
 
--- there are some of two lists where there are some of one
+-- two lists are not both empty if the first is not
 pub some_first : {X : Type 0} (xs ys : List X) → 0 < length xs → 0 < length (xs ++ ys)
 some_first xs ys some = let size = length-append xs ys in omega (arith, size, some)
 

@@ -37,7 +37,7 @@ use Rattle.emit_mtu.proofs.Facts.{both, neither}
 use Rattle.emit_mtu.proofs.Sent.{octets_in}
 use Rattle.record_relay.specs.Cut.{AgreeAsWritten, CleanIsWritten, FramesHaveOctets, HaveFrameOctets, NoneIsLong, WritesPayload, WrittenWhole, cuts_some, frames_written, is_of_cuts, item_written, keeps_some_back, places_written, rules_cut, verdict_cut}
 
--- ---- without a largest packet
+-- ---- without an MTU
 
 pub same_trace : (link : Link) (trace : List Item) → map (item_written None link) trace ≡ trace
 same_trace link [] = refl
@@ -46,7 +46,7 @@ same_trace link (item ∷ older) = ap (λ l. item ∷ l) (same_trace link older)
 pub written_whole : WrittenWhole
 written_whole settings link trace none = ap (λ m. map (item_written m link) trace) none ∙ same_trace link trace
 
--- ---- the frames of an item go out
+-- ---- the frames of an item are written
 
 kind_by : (at : ℕ) (short ip arp : Bool) → (cond short Short (cond ip (Ip 14) (cond arp Arp Other))) ≡ Ip at → (cond short Short (cond ip (Ip 14) (cond arp Arp Other))) ≡ Ip 14
 kind_by at true ip arp e = absurd (cc)
@@ -66,18 +66,18 @@ pub all_sent : PlainHeadersAreWhole → (link : Link) (frames : List (List ℕ))
 all_sent whole link [] each = All-nil (IsSent link)
 all_sent whole link (frame ∷ frames) each = All-cons (IsSent link) frame frames (sent_of whole link frame each.0) (all_sent whole link frames each.1)
 
--- the first of a list of which all are so, and the others
+-- the first of a list of which all satisfy `P`, and the others
 first : {X : Type 0} (P : X → Type 0) (x : X) (xs : List X) → All P (x ∷ xs) → P x
 first P x xs all = all 0 x (omega arith)
 
 rest : {X : Type 0} (P : X → Type 0) (x : X) (xs : List X) → All P (x ∷ xs) → All P xs
 rest P x xs all = λ k d l. all (suc k) d (omega (arith, l))
 
--- a largest packet in its range
+-- an MTU in its range
 abbrev pub InRange : Option ℕ → Type 0
 InRange mtu = IfSome mtu (λ n. (576 ≤ n) × (n ≤ 65535))
 
--- ---- how many go out
+-- ---- how many are written
 
 fits_by : (long may : Bool) → long ≡ false → (cond (long && may) Cut (cond (long && not may) Drop Fits)) ≡ Fits
 fits_by false may e = refl
@@ -185,7 +185,7 @@ or_false : (b : Bool) → (b || false) ≡ b
 or_false true = refl
 or_false false = refl
 
--- the payload of a frame that is cut stands behind its TCP header
+-- the payload of a frame that is cut is after its TCP header
 same_payload : (link : Link) (mtu : ℕ) (frame : List ℕ) → e_cut link mtu frame ≡ true → cuts.payload_in link frame ≡ payload_in link frame
 same_payload link mtu frame is =
     let p = packet_in link frame in
@@ -285,7 +285,7 @@ module _ (link : Link) (mtu : ℕ) (alike : PacketsGoOutAlike) (era : ℕ) where
       All-append AreOctets (inward_packets era (sent_in link older)) _ (inward_octets older octets.1)
       (octets_if (is_era era item.entry.era && is_inward item.entry.side) item.frames octets.0)
 
--- a packet that says nothing of a stream is not cut
+-- a packet without octets, SYN and FIN is not cut
 silent_by : (mtu : ℕ) (packet : List ℕ) → IsSilentPacket packet → (kind : LongKind) → long_kind Raw mtu packet ≡ kind → All IsSilentPacket (frames_of kind Raw mtu packet)
 silent_by mtu packet silent Fits is = All-cons IsSilentPacket packet [] silent (All-nil IsSilentPacket)
 silent_by mtu packet silent Drop is = All-nil IsSilentPacket
@@ -310,7 +310,7 @@ silent_cut mtu packets all = all_flat IsSilentPacket (frames_for Raw mtu) packet
 
 -- ---- receivers agree on what was written
 
--- the laws that this stands on
+-- the laws that this is based on
 pub record StreamLaws : Type 0 where
   pub agree : LawfulAgrees
   pub tells : LawfulTellsStreams

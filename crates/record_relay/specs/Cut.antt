@@ -1,5 +1,5 @@
--- What is written where the link behind has a largest packet: the lawful trace, with each frame replaced by what goes out in its place, and with its entries
--- changed as that asks (this project's profile). Where no largest packet is given it is the lawful trace itself.
+-- What is written with an MTU of the next link: the lawful trace, with each frame replaced by the frames written instead, and with its entries changed
+-- accordingly (this project's profile). Without an MTU it is the lawful trace itself.
 use Rattle.std.specs.Prelude.{◌≡◌, ℕ, ℤ, Bool, true, false, List, [], ◌∷◌, ◌++◌, length, map, All, Option, Some, None, if◌then◌else◌}
 use Rattle.std.specs.List.{AllByRecursion, flat_map, list_any}
 use Rattle.wire_base.specs.declared.address.Link.{Link}
@@ -26,7 +26,7 @@ use Rattle.emit_mtu.specs.Streams.{frames_for, places_for}
 use Rattle.record_relay.specs.declared.cut.Emitted.{Emitted}
 use Rattle.record_relay.specs.Frames.{frame_octets}
 
--- the frames that go out in place of these
+-- the frames that are written for these frames
 abbrev pub frames_written : (mtu : Option ℕ) → Link → (frames : List (List ℕ)) → List (List ℕ)
 frames_written None link frames = frames
 frames_written (Some mtu) link frames = flat_map (frames_for link mtu) frames
@@ -36,20 +36,20 @@ abbrev pub cuts_some : (mtu : Option ℕ) → Link → (frames : List (List ℕ)
 cuts_some None link frames = false
 cuts_some (Some mtu) link frames = list_any (e_cut link mtu) frames
 
--- E_MTU: one of the frames does not go out
+-- E_MTU: one of the frames is dropped
 abbrev pub keeps_some_back : (mtu : Option ℕ) → Link → (frames : List (List ℕ)) → Bool
 keeps_some_back None link frames = false
 keeps_some_back (Some mtu) link frames = list_any (e_mtu link mtu) frames
 
--- the rules that are named for that, behind all others
+-- the rules named for this, after all others
 abbrev pub rules_cut : (cut kept_back : Bool) → List Rule
 rules_cut cut kept_back = (if cut then rules.ECut ∷ [] else []) ++ (if kept_back then rules.EMtu ∷ [] else [])
 
--- what does not go out is dropped, what is cut is mended
+-- the verdict is drop if a frame is dropped, otherwise fix if one is cut
 abbrev pub verdict_cut : (cut kept_back : Bool) → Verdict → Verdict
 verdict_cut cut kept_back verdict = if kept_back then verdicts.Drop else if cut then verdicts.Fix else verdict
 
--- the entry of an item, where some of its frames are cut, or do not go out, and so many packets do
+-- the entry of an item of which some frames are cut, or dropped, and `packets` are written
 abbrev pub entry_cut : (cut kept_back : Bool) → (packets : ℕ) → PlainEntry → PlainEntry
 entry_cut cut kept_back packets entry =
     record entry { verdict = verdict_cut cut kept_back entry.verdict; packets = packets; rules = entry.rules ++ rules_cut cut kept_back }
@@ -68,7 +68,7 @@ item_written mtu link item =
 abbrev pub written : PlainSettings → Link → List Item → List Item
 written settings link trace = map (item_written settings.mtu link) trace
 
--- without a largest packet that is the trace itself
+-- without an MTU that is the trace itself
 abbrev pub WrittenWhole : Type 0
 WrittenWhole = (settings : PlainSettings) (link : Link) (trace : List Item) → settings.mtu ≡ None → written settings link trace ≡ trace
 
@@ -78,8 +78,8 @@ is_of_cuts rules.ECut = true
 is_of_cuts rules.EMtu = true
 is_of_cuts _ = false
 
--- Where the written entry names neither rule, exactly one frame is written, with the record's payload, and octet for octet where the verdict is pass. Where a
--- frame is cut, its segments carry the record's payload behind their headers, in order and once.
+-- If the written entry names neither rule, exactly one frame is written, with the record's payload, and octet for octet if the verdict is pass. If a frame is
+-- cut, its segments carry the record's payload after their headers, in order and once.
 pub record WritesPayload (mtu : Option ℕ) (link : Link) (item : Item) : Type 0 where
   pub kept : list_any is_of_cuts (item_written mtu link item).entry.rules ≡ false → KeepsPayload link (item_written mtu link item)
   pub cut : cuts_some mtu link item.frames ≡ true → flat_map (cuts.payload_in link) (item_written mtu link item).frames ≡ payload_in link item.packet.octets
@@ -90,28 +90,28 @@ CleanIsWritten settings link [] = Unit {0}
 CleanIsWritten settings link (item ∷ older) =
     CleanIsWritten settings link older × (is_clean settings link older item.packet ≡ true → WritesPayload settings.mtu link item)
 
--- the places of the packets that are written in place of these
+-- the offsets of the packets that are written for these
 abbrev pub places_written : (mtu : Option ℕ) → (places : List ℤ) → (packets : List (List ℕ)) → List ℤ
 places_written None places packets = places
 places_written (Some mtu) places packets = places_for mtu places packets
 
 -- In each era whose base is fixed, the packets that are written inwards are plain, their SYNs have the number before the base, and any two receivers of the
--- family behind at most so many routers deliver streams of which one is a prefix of the other, and an ended one the longer, whichever packets reach them in
--- time, how often and in which order; an era without a base has no octet, no SYN and no FIN inwards. The base, whether it is fixed, and the places are those of
--- the lawful trace.
+-- family behind at most `hops` routers deliver streams of which one is a prefix of the other, and an ended one the longer, whichever packets reach them in
+-- time, how often and in which order. An era without a base has no octet, no SYN and no FIN inwards. The base, whether it is fixed, and the offsets are those
+-- of the lawful trace.
 abbrev pub AgreeAsWritten : PlainSettings → Link → List Item → Type 0
 AgreeAsWritten settings link trace =
     (era : ℕ) → let sent = sent_in link trace in
     EraIsSound settings.hops (base_of (written_in era sent)) (λ base. places_written settings.mtu (inward_places era base sent) (inward_packets era sent))
     (inward_packets era (sent_in link (written settings link trace)))
 
--- no frame is longer than the largest packet, where one is given
+-- no frame is longer than the MTU, if there is one
 abbrev pub NoneIsLong : (mtu : Option ℕ) → Link → List Item → Type 0
 NoneIsLong None link trace = Unit {0}
 NoneIsLong (Some mtu) link trace = AllByRecursion (λ item. All (λ frame. is_long link mtu frame ≡ false) item.frames) trace
 
--- What is written of a trace. Of each clean record it is one frame with the record's payload, or the segments that carry that, unless a frame of the record is too
--- long and does not go out; receivers agree on it; no frame of it is too long; and after no record more is held than the settings allow.
+-- What is written of a trace. Each clean record has one frame with the record's payload, or the segments that carry it, unless a frame of the record is too
+-- long and dropped; receivers agree on what is written; no frame of it is too long; and after no record more is held than the settings allow.
 pub record IsWrittenSoundly (settings : PlainSettings) (link : Link) (trace : List Item) : Type 0 where
   pub clean_kept : CleanIsWritten settings link trace
   pub within : IsAlwaysWithin settings link trace
@@ -133,7 +133,7 @@ LawfulIsWrittenSoundly =
     (settings : PlainSettings) (link : Link) (trace : List Item) → AreInRange settings → IsSound settings link trace → HaveFrameOctets settings.mtu trace
     → IsWrittenSoundly settings link trace
 
--- what became of one frame: how many are written in its place, whether it was cut, and whether it does not go out
+-- the report on one frame: how many frames are written for it, whether it was cut, and whether it was dropped
 pub record TellsOne (mtu : ℕ) (link : Link) (frame : List ℕ) (emitted : Emitted) : Type 0 where
   pub packets : emitted.packets ≡ length (frames_for link mtu frame)
   pub cut : emitted.cut ≡ e_cut link mtu frame
@@ -145,7 +145,7 @@ pub record TellsAll (mtu : ℕ) (link : Link) (frames : List (List ℕ)) (emitte
   pub cut : emitted.cut ≡ cuts_some (Some mtu) link frames
   pub kept_back : emitted.kept_back ≡ keeps_some_back (Some mtu) link frames
 
--- some first segments of a frame were written, these are left, and so many were
+-- some first segments of a frame were written, `count` of them, and `left` remain
 pub record CutSoFar (order : Order) (r : Packet) (all left : List (List ℕ)) (count : ℕ) (before now : Option (List ℕ)) : Type 0 where
   pub done : List (List ℕ)
   pub are : all ≡ done ++ left

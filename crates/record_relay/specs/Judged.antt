@@ -1,4 +1,4 @@
--- What two engines answer for one record, frame by frame.
+-- The answers of two engines for one record, frame by frame.
 use Rattle.std.specs.Prelude.{◌≡◌, ℕ, ◌≤◌, List, [], ◌∷◌, ◌++◌, length, Option, Some, None, IfSome}
 use Rattle.pcap_file.specs.Records.{Packet}
 use Rattle.rule_book.specs.Entries.{PlainEntry, IsOfVersion}
@@ -9,21 +9,21 @@ use Rattle.both_sides.specs.Traces.{mirrored, records_for}
 use Rattle.record_relay.specs.Puts.{answer_text, answers_frames, answers_text}
 use Rattle.record_relay.specs.Runs.{answers}
 
--- no frame was pending, and the engines stand for what they did
+-- no frame was pending, and the engines represent what they did before
 pub record HadNone (new : Joined) (trace mirror : List Item) (entry : Option PlainEntry) (out : List (List ℕ)) : Type 0 where
   pub none : entry ≡ None
   pub empty : out ≡ []
   pub stands : StandsFor new trace mirror
   pub pending : new.pending ≡ []
 
--- the second engine has had the next pending frame
+-- the second engine has read the next pending frame
 pub record HadNext (old new : Joined) (trace mirror : List Item) (r : Packet) (more : List Packet) (entry : Option PlainEntry) (out : List (List ℕ)) : Type 0 where
   pub told : entry ≡ Some (item_of (mirrored old.first.settings) old.first.link mirror r).entry
   pub frames : out ≡ (item_of (mirrored old.first.settings) old.first.link mirror r).frames
   pub stands : StandsFor new trace (item_of (mirrored old.first.settings) old.first.link mirror r ∷ mirror)
   pub pending : new.pending ≡ more
 
--- what the second engine answers where it is given the next of these pending frames, if there is one
+-- the answer of the second engine to the next of these pending frames, if there is one
 abbrev pub Answers : (old new : Joined) (trace mirror : List Item) (pending : List Packet) (entry : Option PlainEntry) (out : List (List ℕ)) → Type 0
 Answers old new trace mirror [] entry out = HadNone new trace mirror entry out
 Answers old new trace mirror (r ∷ more) entry out = HadNext old new trace mirror r more entry out
@@ -33,8 +33,8 @@ abbrev pub line_for : Option PlainEntry → List ℕ
 line_for None = []
 line_for (Some entry) = answer_text entry
 
--- What two engines say of a record after their traces: the entry of the record, those that the second engine has for the frames of the first, of which there are
--- two at the most, and the frames that go out. The engines then stand for their traces with these items.
+-- The answers of two engines for a record after their traces: the entry of the record, those that the second engine has for the frames of the first (at most
+-- two), and the frames written. The engines then represent their traces with these items.
 pub record IsJudged (old new : Joined) (trace mirror : List Item) (r : Packet) (own : PlainEntry) (first second : Option PlainEntry) (frames : List (List ℕ)) : Type 0 where
   pub own_is : own ≡ (item_of old.first.settings old.first.link trace r).entry
   pub text_is : line_for first ++ line_for second

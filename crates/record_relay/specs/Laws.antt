@@ -1,4 +1,4 @@
--- Laws of the traces of runs, and of what is put out for them.
+-- Laws of the traces of runs, and of the outputs for them.
 use Rattle.std.specs.Prelude.{◌≡◌, false, List, [], ◌∷◌, None}
 use Rattle.wire_base.specs.declared.address.Link.{Link}
 use Rattle.pcap_file.specs.declared.order.Order.{Order}
@@ -17,7 +17,7 @@ use Rattle.record_relay.specs.Frames.{frame_count, frames_octets}
 use Rattle.record_relay.specs.Puts.{count_put, next_put, octets_put, puts, report_of}
 use Rattle.record_relay.specs.Runs.{LawfulRun, RunHasNoSide, RunHasOctets, RunTrace, empty_run, next_run, one, packets_of, two}
 
--- The run has no records, so that all octets are below 256 and none has a side of its own; it is lawful, and nothing is put out for it.
+-- The run has no records, so that all octets are below 256 and none has a side of its own; it is lawful, and has no output.
 pub record Begins (settings : PlainSettings) (link : Link) (run : RunTrace) : Type 0 where
   pub lawful : LawfulRun settings link run
   pub taken : packets_of run ≡ []
@@ -29,8 +29,8 @@ pub record Begins (settings : PlainSettings) (link : Link) (run : RunTrace) : Ty
 abbrev pub RunsBegin : Type 0
 RunsBegin = (settings : PlainSettings) (link : Link) → Begins settings link (empty_run settings.both)
 
--- A run with one record more has that record, is lawful where the run was, and puts out more what is put out for the record; where both sides are protected, no
--- record of it has a side of its own if none of the run had and this one has none.
+-- A run with one record more has that record, is lawful if the run was, and adds the output for the record. If both sides are protected, and neither a record
+-- of the run nor this one has a side of its own, no record of the new run has one.
 pub record GoesOn (settings : PlainSettings) (link : Link) (run : RunTrace) (r : Packet) : Type 0 where
   pub lawful : LawfulRun settings link run → LawfulRun settings link (next_run settings link run r)
   pub taken : packets_of (next_run settings link run r) ≡ r ∷ packets_of run
@@ -40,7 +40,7 @@ pub record GoesOn (settings : PlainSettings) (link : Link) (run : RunTrace) (r :
 abbrev pub RunsGoOn : Type 0
 RunsGoOn = (settings : PlainSettings) (link : Link) (run : RunTrace) (r : Packet) → GoesOn settings link run r
 
--- What is put out by one engine is its trace as it is written: the frames, how many there are, and the report.
+-- The output of one engine is its trace as it is written: the frames, their number, and the report.
 pub record PutsItsTrace (settings : PlainSettings) (link : Link) (trace : List Item) : Type 0 where
   pub octets : (order : Order) → octets_put order (puts settings link (one trace)) ≡ frames_octets order (written settings link trace)
   pub count : count_put (puts settings link (one trace)) ≡ frame_count (written settings link trace)
@@ -49,7 +49,7 @@ pub record PutsItsTrace (settings : PlainSettings) (link : Link) (trace : List I
 abbrev pub OnePutsItsTrace : Type 0
 OnePutsItsTrace = (settings : PlainSettings) (link : Link) (trace : List Item) → PutsItsTrace settings link trace
 
--- What is put out by two engines with such traces is the trace of the second: its frames, each with the time of its record, and how many there are.
+-- The output of two engines with such traces is the trace of the second: its frames, each with the time of its record, and their number.
 pub record PutsItsMirror (settings : PlainSettings) (link : Link) (trace mirror : List Item) : Type 0 where
   pub octets : (order : Order) → octets_put order (puts settings link (two trace mirror)) ≡ frames_octets order mirror
   pub count : count_put (puts settings link (two trace mirror)) ≡ frame_count mirror
@@ -64,8 +64,8 @@ LawfulRunsAreOne =
     (settings : PlainSettings) (link : Link) (run other : RunTrace) → LawfulRun settings link run → LawfulRun settings link other → packets_of run ≡ packets_of other
     → run ≡ other
 
--- What two engines write: the clean records of each keep their payload, and after none more is held than the settings allow; receivers agree on either side; and
--- what goes inwards passes the second engine octet for octet, so that the first engine's agreement speaks of what was written.
+-- What two engines write: the clean records of each keep their payload, and after none more is held than the settings allow; receivers agree on either side;
+-- and frames written inwards pass the second engine octet for octet, so that the first engine's agreement holds of what was written.
 pub record AreWrittenSoundly (settings : PlainSettings) (link : Link) (trace mirror : List Item) : Type 0 where
   pub clean_kept : CleanIsKept settings link trace
   pub clean_kept_behind : CleanIsKept (mirrored settings) link mirror
@@ -80,8 +80,8 @@ abbrev pub RunIsWrittenSoundly : PlainSettings → Link → RunTrace → Type 0
 RunIsWrittenSoundly settings link (one trace) = IsWrittenSoundly settings link trace
 RunIsWrittenSoundly settings link (two trace mirror) = AreWrittenSoundly settings link trace mirror
 
--- This holds of each lawful run under settings that are in their ranges and go together, whose records and frames are octets, and whose records have no side of
--- their own where both sides are protected.
+-- This holds of each lawful run under compatible settings in their ranges, whose records and frames are octets, and whose records have no side of their own if
+-- both sides are protected.
 abbrev pub RunsAreWrittenSoundly : Type 0
 RunsAreWrittenSoundly =
     (settings : PlainSettings) (link : Link) (run : RunTrace) → AreInRange settings → GoTogether settings → LawfulRun settings link run → RunHasOctets settings run

@@ -1,5 +1,5 @@
--- What is put out for each record of a run: its frames as they go out, and its text in the report (this project's profile). Lists of them have the newest at the
--- head.
+-- The output for each record of a run: its frames as they are written, and its text in the report (this project's profile). Lists of outputs have the newest at
+-- the head.
 use Rattle.std.specs.Prelude.{◌≡◌, ℕ, ◌+◌, Bool, List, [], ◌∷◌, ◌++◌, length, map, take, drop}
 use Rattle.std.specs.List.{flat_map}
 use Rattle.wire_base.specs.declared.address.Link.{Link}
@@ -28,7 +28,7 @@ pub record Put : Type 0 where
 abbrev pub put_by_one : Item → Put
 put_by_one item = record { seconds = item.packet.seconds; fraction = item.packet.fraction; frames = item.frames; text = entry_text item.entry }
 
--- the line of the second engine: that of its entry behind `/` (47)
+-- the line of the second engine: that of its entry after `/` (47)
 abbrev pub answer_text : PlainEntry → List ℕ
 answer_text entry = 47 ∷ entry_text entry
 
@@ -42,7 +42,7 @@ abbrev pub answers_frames : List Item → List (List ℕ)
 answers_frames [] = []
 answers_frames (item ∷ older) = answers_frames older ++ item.frames
 
--- by two engines: the frames that the second has for those of the first, and the line of the record with the lines of the second behind it
+-- by two engines: the frames that the second has for those of the first, and the line of the record followed by the lines of the second
 abbrev pub put_by_two : Item → (answers : List Item) → Put
 put_by_two item answers =
     record {
@@ -59,19 +59,19 @@ puts_by_two (item ∷ older) mirror =
     let count = length item.frames in
     put_by_two item (take count mirror) ∷ puts_by_two older (drop count mirror)
 
--- what is put out for each record: by one engine its item as it is written
+-- the output for each record: by one engine its item as it is written
 abbrev pub puts : PlainSettings → Link → RunTrace → List Put
 puts settings link (one trace) = map (λ item. put_by_one (item_written settings.mtu link item)) trace
 puts settings link (two trace mirror) = puts_by_two trace mirror
 
--- what is put out for one record more
+-- the output for the next record
 abbrev pub next_put : PlainSettings → Link → RunTrace → Packet → Put
 next_put settings link (one trace) r = put_by_one (item_written settings.mtu link (item_of settings link trace r))
 next_put settings link (two trace mirror) r =
     let item = item_of settings link trace r in
     put_by_two item (answers settings link mirror (records_for item))
 
--- the records of the written capture that these frames are
+-- the records of the written capture for these frames
 abbrev pub put_octets : Order → Put → List ℕ
 put_octets order put = flat_map (λ frame. record_octets order put.seconds put.fraction frame) put.frames
 
@@ -84,7 +84,7 @@ abbrev pub octets_put : Order → List Put → List ℕ
 octets_put order [] = []
 octets_put order (put ∷ older) = octets_put order older ++ put_octets order put
 
--- how many frames were written
+-- the number of frames written
 abbrev pub count_put : List Put → ℕ
 count_put [] = 0
 count_put (put ∷ older) = count_put older + length put.frames
@@ -94,11 +94,11 @@ abbrev pub text_put : List Put → List ℕ
 text_put [] = []
 text_put (put ∷ older) = text_put older ++ put.text
 
--- the whole report: the first line, the texts of the records, and the last line
+-- the entire report: the first line, the texts of the records, and the last line
 abbrev pub report_of : (both : Bool) → List Put → Last → List ℕ
 report_of both puts last = heading both ++ text_put puts ++ last_text last
 
--- what is put out for a record was written, there are so many frames, and no sink failed
+-- the output for a record was written, it has `frames` frames, and no sink failed
 pub record IsPut (order : Order) (put : Put) (frames : ℕ) (before now : Sinks) : Type 0 where
   pub frames_are : frames ≡ length put.frames
   pub given : Given (put_outputs order put) before now

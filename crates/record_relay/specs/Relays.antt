@@ -1,4 +1,4 @@
--- What a relay holds: one engine or two, and the run that they stand for (this project's profile).
+-- The state of a relay: one engine or two, and the run that they represent (this project's profile).
 use Rattle.std.specs.Prelude.{◌≡◌, ℕ, ◌-◌, ◌^◌, ◌≤◌, nat_le, Bool, true, false, length, Option, None}
 use Rattle.wire_base.specs.declared.address.Link.{Link}
 use Rattle.norm_settings.specs.Settings.{PlainSettings, AreInRange}
@@ -17,33 +17,33 @@ abbrev pub link_of : Engines → Link
 link_of (One engine) = engine.link
 link_of (Two both) = both.first.link
 
--- how many records of the capture came
+-- the number of records of the capture so far
 abbrev pub records_of : Engines → ℕ
 records_of (One engine) = engine.records
 records_of (Two both) = both.first.records
 
--- how many records may come: the second engine counts at most two for each of the first
+-- the greatest number of records: the second engine counts at most two for each of the first
 abbrev pub most_records : Engines → ℕ
 most_records (One engine) = 2 ^ 32 - 1
 most_records (Two both) = 2 ^ 31 - 1
 
--- as many records came as may
+-- the number of records is the greatest
 abbrev pub is_full_of : Engines → Bool
 is_full_of engines = nat_le (most_records engines) (records_of engines)
 
--- one engine stands for its trace, and two for their pair of traces
+-- one engine represents its trace, and two represent their pair of traces
 abbrev pub StandsForRun : Engines → RunTrace → Type 0
 StandsForRun (One engine) (one trace) = single.StandsFor engine trace
 StandsForRun (One engine) (two trace mirror) = ⊥
 StandsForRun (Two both) (one trace) = ⊥
 StandsForRun (Two both) (two trace mirror) = double.StandsFor both trace mirror
 
--- one engine has this largest packet, settings in their ranges, and the room of one segment; of two the second has had each frame of the first
+-- one engine has this MTU, settings in their ranges, and a buffer for one segment; of two the second has read each frame of the first
 abbrev pub IsReady : Engines → (mtu : Option ℕ) → (room : ℕ) → Type 0
 IsReady (One engine) mtu room = (engine.settings.mtu ≡ mtu) × AreInRange engine.settings × (65549 ≤ room)
 IsReady (Two both) mtu room = length both.pending ≡ 0
 
--- What a relay keeps: its engines are ready, and stand for some run over records of octets.
+-- The invariant of a relay: its engines are ready, and represent some run over records of octets.
 pub record IsKept (engines : Engines) (mtu : Option ℕ) (room : ℕ) : Type 0 where
   pub ready : IsReady engines mtu room
   pub run : RunTrace

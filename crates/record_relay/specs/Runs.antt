@@ -1,5 +1,5 @@
--- The trace of a run: that of one engine, or, where both sides are protected, those of two, one behind the other (this project's profile). Traces are lists of
--- items with the newest at the head.
+-- The trace of a run: that of one engine, or, if both sides are protected, those of two in sequence (this project's profile). Traces are lists of items with
+-- the newest at the head.
 use Rattle.std.specs.Prelude.{◌≡◌, Bool, true, false, List, [], ◌∷◌, ◌++◌}
 use Rattle.wire_base.specs.declared.address.Link.{Link}
 use Rattle.pcap_file.specs.Records.{Packet}
@@ -29,13 +29,13 @@ abbrev pub empty_run : (both : Bool) → RunTrace
 empty_run false = one []
 empty_run true = two [] []
 
--- Where one side is protected, one engine has a lawful trace. Where both are, two have a pair of lawful ones: the frames of the first are the records of the second,
--- whose sides are exchanged.
+-- If one side is protected, one engine has a lawful trace. If both are, two engines have a pair of lawful ones: the frames of the first are the records of the
+-- second, whose sides are exchanged.
 abbrev pub LawfulRun : PlainSettings → Link → RunTrace → Type 0
 LawfulRun settings link (one trace) = (settings.both ≡ false) × Lawful settings link trace
 LawfulRun settings link (two trace mirror) = (settings.both ≡ true) × AreLawful settings link trace mirror
 
--- the items that the second engine has for these records, one after another behind a trace of its own
+-- the items of the second engine for these records, one after another after a trace of its own
 abbrev pub answers : PlainSettings → Link → (mirror : List Item) → List Packet → List Item
 answers settings link mirror [] = []
 answers settings link mirror (r ∷ more) =
@@ -54,7 +54,7 @@ abbrev pub RunHasOctets : PlainSettings → RunTrace → Type 0
 RunHasOctets settings (one trace) = HaveOctets trace × HaveFrameOctets settings.mtu trace
 RunHasOctets settings (two trace mirror) = HaveOctets trace × HaveOctets mirror
 
--- Where both sides are protected, no record has a side of its own.
+-- If both sides are protected, no record has a side of its own.
 abbrev pub RunHasNoSide : RunTrace → Type 0
 RunHasNoSide (one trace) = Unit {0}
 RunHasNoSide (two trace mirror) = HaveNoSide trace

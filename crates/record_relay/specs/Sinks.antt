@@ -1,10 +1,10 @@
--- What the two sinks of a run tell (this project's profile).
+-- The visible state of the two sinks of a run (this project's profile).
 use Rattle.std.specs.Prelude.{◌≡◌, ℕ, List, Option}
 use Rattle.edge_io.specs.Faults.{Rose}
 use Rattle.record_relay.specs.declared.fault.RelayFault.{RelayFault}
 use Rattle.record_relay.specs.declared.fault.RelayFault.TheVariants as faults
 
--- an object's octets, where it tells them, and its count of faults
+-- an object's octets, if they are known, and its fault count
 pub record Seen : Type 0 where
   pub octets : Option (List ℕ)
   pub faults : ℕ
@@ -18,12 +18,12 @@ abbrev pub sinks_of : (capture : Option (List ℕ)) (capture_faults : ℕ) (repo
 sinks_of capture capture_faults report report_faults =
     record { capture = record { octets = capture; faults = capture_faults }; report = record { octets = report; faults = report_faults } }
 
--- no count of faults of the sinks rose
+-- no fault count of the sinks rose
 pub record NoSinkRose (before now : Sinks) : Type 0 where
   pub capture : now.capture.faults ≡ before.capture.faults
   pub report : now.report.faults ≡ before.report.faults
 
--- the count of the sink that failed rose, and the other one is as it was
+-- the fault count of the sink that failed rose, and that of the other is unchanged
 abbrev pub OnlyRose : RelayFault → (before now : Sinks) → Type 0
 OnlyRose faults.Capture before now = Rose before.capture.faults now.capture.faults × (now.report.faults ≡ before.report.faults)
 OnlyRose faults.Report before now = (now.capture.faults ≡ before.capture.faults) × Rose before.report.faults now.report.faults

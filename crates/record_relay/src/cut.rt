@@ -1,4 +1,5 @@
-//! What goes out in place of the frames of a record: each is written as it is, cut where it is longer than the largest packet of the link behind, or kept back.
+//! What is written for the frames of a record: each is written as it is, cut if it is longer than
+//! the MTU of the next link, or dropped.
 ghost use Rattle.std.specs.Prelude.{◌≡◌, ◌≤◌, ◌<◌, ◌+◌, ◌^◌, ◌||◌, ℕ, All, Some, length, slice_index, IfOk, IfSome, OnOk, OnErr};
 ghost use Rattle.edge_io.specs.Faults.{HasCause};
 ghost use Rattle.edge_io.specs.Octets.{Puts};
@@ -18,19 +19,20 @@ use emit_mtu::{Cutter, LongKind, long_kind};
 use pcap_file::{Head, Record, write_record};
 use rule_book::{Entry, Rule, Verdict};
 
-/// What became of a frame, or of all frames of a record.
+/// Report on a frame, or on all frames of a record.
 #[derive(Clone, Copy)]
 pub struct Emitted {
-    /// How many frames were written.
+    /// Number of frames written.
     pub packets: u8,
     /// A frame was cut.
     pub cut: bool,
-    /// A frame did not go out.
+    /// A frame was dropped.
     pub kept_back: bool,
 }
 
-/// Writes the frames of a record as they go out, each with the record's time, and tells in its entry what became of them.
-/// `mtu` is how many octets a packet may have, if that is bounded, and `segment` has the room of one frame.
+/// Writes the frames of a record, each with the record's time, and reports cuts and drops in its
+/// entry. `mtu` is the greatest length of a packet in octets, if it is bounded; `segment` has room
+/// for one frame.
 pub fn write_item<K: Sink>(
     out: &Outbox,
     head: &Head,
@@ -85,7 +87,7 @@ pub fn write_frames<K: Sink>(
     Ok(())
 }
 
-// Writes what goes out in place of the frames of a record, and answers what became of them.
+// Writes what is written for the frames of a record with an MTU, and returns a report on them.
 fn write_cut<K: Sink>(
     out: &Outbox,
     head: &Head,
@@ -120,7 +122,7 @@ fn write_cut<K: Sink>(
     Ok(emitted)
 }
 
-// What became of some frames and of one more.
+// Adds the report on one more frame.
 fn joined(emitted: Emitted, one: Emitted) -> Emitted
     requires { emitted.packets + one.packets < 256 }
     ensures packets { result.packets ≡ emitted.packets + one.packets }
@@ -140,7 +142,7 @@ fn either(a: bool, b: bool) -> bool
     a || b
 }
 
-// Writes what goes out in place of a frame, and answers what became of it.
+// Writes what is written for a frame with an MTU, and returns a report on it.
 fn write_one<K: Sink>(
     frame: &[u8],
     head: &Head,
@@ -189,7 +191,7 @@ fn write_one<K: Sink>(
     }
 }
 
-// Writes the segments of a frame that is cut, and answers how many there are.
+// Writes the segments of a frame that is cut, and returns their number.
 fn write_segments<K: Sink>(
     frame: &[u8],
     head: &Head,
@@ -223,7 +225,7 @@ fn write_segments<K: Sink>(
     Ok(count)
 }
 
-// Tells in an entry what became of the record's frames.
+// Enters the report on the record's frames in an entry.
 fn tell_cut(emitted: Emitted, entry: &mut Entry)
     requires { length entry.old.rules.items ≤ 14 }
     ensures { plain entry.new ≡ spec.entry_cut emitted.cut emitted.kept_back emitted.packets (plain entry.old) }
@@ -239,7 +241,7 @@ fn tell_cut(emitted: Emitted, entry: &mut Entry)
     }
 }
 
-/// What stands in frames is below 256.
+/// Proves that the octets of frames are below 256.
 pub fn frames_have_octets(out: &Outbox)
     ensures { All AreOctets out.now }
 {
@@ -248,7 +250,7 @@ pub fn frames_have_octets(out: &Outbox)
     }
 }
 
-/// What stands in a buffer of octets is below 256.
+/// Proves that the octets of a buffer are below 256.
 pub fn have_octets(bytes: &[u8])
     ensures { (at : ℕ) → slice_index bytes.now at < 2 ^ 8 }
 {

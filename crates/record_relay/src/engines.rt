@@ -1,4 +1,4 @@
-//! One engine, or two where both sides are protected.
+//! One engine, or two if both sides are protected.
 ghost use Rattle.std.specs.Prelude.{◌≡◌, IfOk};
 ghost use Rattle.wire_base.specs.declared.address.Link.TheVariants.{Raw};
 ghost use Rattle.norm_settings.specs.Settings.{plain_settings, AreInRange, GoTogether};
@@ -12,7 +12,7 @@ use norm_settings::Settings;
 use std::alloc::Global;
 use wire_base::Link;
 
-/// The engines of a run.
+/// Engines of a run.
 #[derive(Drop)]
 pub enum Engines {
     One(Engine),
@@ -20,7 +20,7 @@ pub enum Engines {
 }
 
 impl Engines {
-    /// The engines that these settings ask for, for records of a raw link, before the first of them.
+    /// Creates the engines for these settings, for records of a raw link, before the first of them.
     pub fn open(alloc: Global, settings: Settings) -> Result<Engines, NoMemory>
         requires range { AreInRange (plain_settings settings) }
         requires together { GoTogether (plain_settings settings) }

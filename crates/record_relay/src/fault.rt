@@ -1,10 +1,10 @@
 //! Why a record could not be written.
 
-/// The sink that failed.
+/// Sink that failed.
 #[derive(Clone, Copy, Debug, PartialEq, Eq)]
 pub enum RelayFault {
-    /// That of the frames.
+    /// The sink of the frames.
     Capture,
-    /// That of the lines.
+    /// The sink of the lines.
     Report,
 }

@@ -1,4 +1,4 @@
-//! Laws of the traces of runs, and of what is put out for them.
+//! Laws of the traces of runs, and of the outputs for them.
 ghost use Rattle.record_relay.specs.Cut.{LawfulIsWrittenSoundly, WrittenWhole};
 ghost use Rattle.record_relay.specs.Laws.{LawfulRunsAreOne, OnePutsItsTrace, RunsAreWrittenSoundly, RunsBegin, RunsGoOn, TwoPutTheirMirror};
 
@@ -12,36 +12,39 @@ use norm_engine::laws::{
 };
 use receiver_model::laws::members_agree;
 
-/// A run begins lawfully, with no records, and each record adds what is put out for it.
+/// Proves that a run begins lawfully, without records, and that each record adds the output for it.
 pub fn runs_go_on()
     ensures begin { RunsBegin }
     ensures next { RunsGoOn }
 {}
 
-/// What is put out by one engine is its trace as it is written.
+/// Proves that the output of one engine is its trace as it is written.
 pub fn one_puts_its_trace()
     ensures { OnePutsItsTrace }
 {}
 
-/// What is put out by two engines is the trace of the second: the frames that are written are its frames.
+/// Proves that the output of two engines is the trace of the second: the frames written are its
+/// frames.
 pub fn two_put_their_mirror()
     ensures { TwoPutTheirMirror }
 {}
 
-/// Under given settings, and on a given link, records have at most one lawful run, by one engine or by two.
+/// Proves that under given settings, and on a given link, records have at most one lawful run, by
+/// one engine or by two.
 pub fn lawful_runs_are_one()
     ensures { LawfulRunsAreOne }
 {
     lawful_is_one();
 }
 
-/// Where no largest packet is given, what is written of a trace is the trace.
+/// Proves that without an MTU what is written of a trace is the trace.
 pub fn unbounded_is_written_whole()
     ensures { WrittenWhole }
 {}
 
-/// What is written of each sound trace has of a clean record its payload, in one frame or in segments, unless a frame of the record is too long and does not
-/// go out; receivers agree on it; nothing of it is too long; and no more is held than the settings allow.
+/// Proves of what is written of each sound trace: a clean record has its payload, in one frame or
+/// in segments, unless a frame of the record is too long and dropped; receivers agree on it; no
+/// frame of it is too long; and no more is held than the settings allow.
 pub fn lawful_is_written_soundly()
     ensures { LawfulIsWrittenSoundly }
 {
@@ -57,8 +60,9 @@ pub fn lawful_is_written_soundly()
     members_agree();
 }
 
-/// The same of each lawful run by one engine. Of one by two, clean records keep their payload in each trace, no more is held in either than the settings allow,
-/// and receivers agree on either side.
+/// Proves the same of each lawful run by one engine. Of one by two: clean records keep their
+/// payload in each trace, no more is held in either than the settings allow, and receivers agree on
+/// either side.
 pub fn runs_are_written_soundly()
     ensures { RunsAreWrittenSoundly }
 {

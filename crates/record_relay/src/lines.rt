@@ -9,7 +9,7 @@ ghost use Rattle.record_relay.specs.Judged.{line_for};
 use edge_io::{Failed, Sink};
 use rule_book::{Entry, entry_line};
 
-/// Room for a line, in octets.
+/// Length of the buffer for a line, in octets.
 pub const LINE: usize = 400;
 
 /// Writes the line of an entry.
@@ -26,7 +26,7 @@ pub fn write_line<R: Sink>(
     report.put(&line[..size])
 }
 
-/// Writes the line of the second engine, if it answered: that of its entry behind `/`.
+/// Writes the line of the second engine, if it answered: that of its entry after `/`.
 pub fn write_answer<R: Sink>(answer: &Option<Entry>, report: &mut R) -> Result<(), Failed>
     requires { IfSome (option_map plain answer.now) (IsOfVersion 2) }
     ensures octets { Puts (R.held report.old) (R.held report.new) result (line_for (option_map plain answer.now)) }

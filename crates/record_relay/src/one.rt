@@ -20,7 +20,7 @@ use norm_engine::Engine;
 use norm_engine::laws::{items_are_counted, items_go_out};
 use pcap_file::{Head, Record};
 
-/// Judges one record, writes its frames as they go out and its line, and answers how many frames it wrote.
+/// Judges one record, writes its frames and its line, and returns the number of frames written.
 pub fn relay_one<K: Sink, R: Sink>(
     engine: &mut Engine,
     out: &mut Outbox,

@@ -1,4 +1,4 @@
-//! The relay: each record of a capture is judged, and what goes out for it is written.
+//! The relay: each record of a capture is judged, and its output is written.
 use crate::RelayFault;
 use crate::engines::Engines;
 use crate::lines::LINE;
@@ -11,17 +11,19 @@ use std::alloc::Global;
 use std::marker::Model;
 use wire_base::Link;
 
-/// Judges the records of a capture, one after another, and writes what goes out for each. It takes all its memory when it is opened.
+/// Judges the records of a capture, one after another, and writes the output for each. Allocates
+/// all its memory when it is opened.
 #[derive(Drop)]
 pub struct Relay {
     engines: Engines,
-    /// The largest packet of the link behind, in octets, if that is bounded.
+    /// MTU of the next link, in octets, if it is bounded.
     mtu: Option<u16>,
-    /// The frames of one record; of two engines what goes out for the first frame of the first one.
+    /// Frames of one record; with two engines those written for the first frame of the first
+    /// engine.
     out: Outbox,
-    /// What goes out for its second frame.
+    /// Frames written for its second frame.
     behind: Outbox,
-    /// The octets of one segment of a frame that is cut.
+    /// Octets of one segment of a frame that is cut.
     segment: Vec<u8>,
     /// One line of the report.
     line: [u8; LINE],
@@ -50,7 +52,8 @@ impl Relay {
     ghost use Rattle.record_relay.specs.Runs.{RunHasOctets, RunTrace, empty_run, next_run};
     ghost use Rattle.record_relay.specs.Sinks.{OnlyRose, sinks_of};
 
-    /// A relay for records of a raw link, before the first of them, with one engine, or with two where both sides are protected.
+    /// Creates a relay for records of a raw link, before the first of them, with one engine, or
+    /// with two if both sides are protected.
     pub fn open(alloc: Global, settings: Settings) -> Result<Relay, NoMemory>
         requires range { AreInRange (plain_settings settings) }
         requires together { GoTogether (plain_settings settings) }
@@ -73,7 +76,7 @@ impl Relay {
         })
     }
 
-    /// Takes the records from here on as those of this link. No record came before.
+    /// Sets the link type of the records. No record may precede this call.
     pub fn set_link(&mut self, link: Link)
         requires { records_of self.old ≡ 0 }
         ensures link { link_of self.new ≡ link }
@@ -86,7 +89,7 @@ impl Relay {
         }
     }
 
-    /// The number of records so far.
+    /// Returns the number of records so far.
     pub fn records(&self) -> u32
         ensures { result ≡ records_of self.now }
     {
@@ -96,7 +99,8 @@ impl Relay {
         }
     }
 
-    /// Whether as many records came as may: 2^32 - 1, and where both sides are protected 2^31 - 1.
+    /// Returns whether the number of records is the greatest: 2^32 - 1, or 2^31 - 1 if both sides
+    /// are protected.
     pub fn is_full(&self) -> bool
         ensures { result ≡ is_full_of self.now }
     {
@@ -106,7 +110,8 @@ impl Relay {
         }
     }
 
-    /// Judges one record, writes all its frames as they go out and then its lines, and answers how many frames it wrote. It takes no memory.
+    /// Judges one record, writes all its frames and then its lines, and returns the number of
+    /// frames written. Allocates no memory.
     pub fn relay<K: Sink, R: Sink>(
         &mut self,
         head: &Head,

@@ -1,4 +1,4 @@
-//! Records by one engine and by two, by worked rows: what goes out, and the lines.
+//! Records by one engine and by two, in worked cases: the frames written, and the lines.
 ghost use Rattle.std.specs.Prelude.{◌≡◌};
 ghost use Rattle.wire_base.specs.declared.address.Link.TheVariants.{Raw};
 ghost use Rattle.norm_settings.specs.Settings.{plain_settings, AreInRange, GoTogether};
@@ -13,56 +13,57 @@ use std::alloc::{AllocError, Global};
 use std::test::Fail;
 use wire_base::{Addr, Link, Prefix};
 
-/// A SYN (RFC 9293) from 198.51.100.7 port 40000 to 10.0.0.1 port 80 with sequence 999 and window 8192.
+/// SYN (RFC 9293) from 198.51.100.7 port 40000 to 10.0.0.1 port 80 with sequence number 999 and
+/// window 8192.
 const SYN: [u8; 40] = [
     0x45, 0x00, 0x00, 0x28, 0x00, 0x01, 0x00, 0x00, 0x40, 0x06, 0x46, 0x94, 0xc6, 0x33, 0x64, 0x07,
     0x0a, 0x00, 0x00, 0x01, 0x9c, 0x40, 0x00, 0x50, 0x00, 0x00, 0x03, 0xe7, 0x00, 0x00, 0x00, 0x00,
     0x50, 0x02, 0x20, 0x00, 0xbb, 0x2f, 0x00, 0x00,
 ];
 
-/// The answer to it, with sequence 5000.
+/// Answer to it, with sequence number 5000.
 const SYN_ACK: [u8; 40] = [
     0x45, 0x00, 0x00, 0x28, 0x00, 0x01, 0x00, 0x00, 0x40, 0x06, 0x46, 0x94, 0x0a, 0x00, 0x00, 0x01,
     0xc6, 0x33, 0x64, 0x07, 0x00, 0x50, 0x9c, 0x40, 0x00, 0x00, 0x13, 0x88, 0x00, 0x00, 0x03, 0xe8,
     0x50, 0x12, 0x20, 0x00, 0xa7, 0x96, 0x00, 0x00,
 ];
 
-/// The acknowledgment of that.
+/// Acknowledgment of that.
 const ACK: [u8; 40] = [
     0x45, 0x00, 0x00, 0x28, 0x00, 0x01, 0x00, 0x00, 0x40, 0x06, 0x46, 0x94, 0xc6, 0x33, 0x64, 0x07,
     0x0a, 0x00, 0x00, 0x01, 0x9c, 0x40, 0x00, 0x50, 0x00, 0x00, 0x03, 0xe8, 0x00, 0x00, 0x13, 0x89,
     0x50, 0x10, 0x20, 0x00, 0xa7, 0x97, 0x00, 0x00,
 ];
 
-/// Outwards, the four octets `abcd` with sequence 5001.
+/// Outwards, the four octets `abcd` with sequence number 5001.
 const ABCD: [u8; 44] = [
     0x45, 0x00, 0x00, 0x2c, 0x00, 0x01, 0x00, 0x00, 0x40, 0x06, 0x46, 0x90, 0x0a, 0x00, 0x00, 0x01,
     0xc6, 0x33, 0x64, 0x07, 0x00, 0x50, 0x9c, 0x40, 0x00, 0x00, 0x13, 0x89, 0x00, 0x00, 0x03, 0xe8,
     0x50, 0x18, 0x20, 0x00, 0xe2, 0xc4, 0x00, 0x00, 0x61, 0x62, 0x63, 0x64,
 ];
 
-/// Outwards, other octets at the same places.
+/// Outwards, other octets at the same sequence numbers.
 const ABXD: [u8; 44] = [
     0x45, 0x00, 0x00, 0x2c, 0x00, 0x01, 0x00, 0x00, 0x40, 0x06, 0x46, 0x90, 0x0a, 0x00, 0x00, 0x01,
     0xc6, 0x33, 0x64, 0x07, 0x00, 0x50, 0x9c, 0x40, 0x00, 0x00, 0x13, 0x89, 0x00, 0x00, 0x03, 0xe8,
     0x50, 0x18, 0x20, 0x00, 0xed, 0xc4, 0x00, 0x00, 0x61, 0x62, 0x58, 0x64,
 ];
 
-/// Inwards, a RST with sequence 1000.
+/// Inwards, a RST with sequence number 1000.
 const RESET: [u8; 40] = [
     0x45, 0x00, 0x00, 0x28, 0x00, 0x01, 0x00, 0x00, 0x40, 0x06, 0x46, 0x94, 0xc6, 0x33, 0x64, 0x07,
     0x0a, 0x00, 0x00, 0x01, 0x9c, 0x40, 0x00, 0x50, 0x00, 0x00, 0x03, 0xe8, 0x00, 0x00, 0x00, 0x00,
     0x50, 0x04, 0x20, 0x00, 0xbb, 0x2c, 0x00, 0x00,
 ];
 
-/// The probe of the connection, with the number before the one that is awaited.
+/// Probe of the connection, with the number before the one that is awaited.
 const PROBE: [u8; 40] = [
     0x45, 0x00, 0x00, 0x28, 0x00, 0x01, 0x00, 0x00, 0x40, 0x06, 0x46, 0x94, 0xc6, 0x33, 0x64, 0x07,
     0x0a, 0x00, 0x00, 0x01, 0x9c, 0x40, 0x00, 0x50, 0x00, 0x00, 0x03, 0xe7, 0x00, 0x00, 0x13, 0x89,
     0x50, 0x10, 0x20, 0x00, 0xa7, 0x98, 0x00, 0x00,
 ];
 
-/// The head of a written record of 40 octets and of one of 44, at second 7 and 9 microseconds.
+/// Head of a written record of 40 octets and of one of 44, at second 7 and 9 microseconds.
 const FRONT: [u8; 16] = [7, 0, 0, 0, 9, 0, 0, 0, 40, 0, 0, 0, 40, 0, 0, 0];
 
 const FRONT_44: [u8; 16] = [7, 0, 0, 0, 9, 0, 0, 0, 44, 0, 0, 0, 44, 0, 0, 0];
@@ -87,7 +88,7 @@ fn settings(both: bool) -> Settings
     settings
 }
 
-/// Relays the record of this packet, and answers how many frames were written.
+/// Relays the record of this packet, and returns the number of frames written.
 fn give(
     relay: &mut Relay,
     packet: &[u8],
@@ -122,7 +123,7 @@ fn give_all(
     give(relay, fifth, capture, report)
 }
 
-// Only here is a relay owned.
+// The only function that owns a relay, since a function that owns one is slow to prove.
 fn answer_to(
     alloc: Global,
     both: bool,
@@ -135,7 +136,7 @@ fn answer_to(
     Ok(answer)
 }
 
-/// How many frames went out for the last packet, or the first fault; and what the sinks hold.
+/// Number of frames written for the last packet, or the first fault; and what the sinks hold.
 #[derive(Drop)]
 struct Outcome {
     answer: Result<u64, RelayFault>,
@@ -143,7 +144,8 @@ struct Outcome {
     report: MemSink,
 }
 
-/// Relays five packets by one engine or by two, to sinks of which the call of the given number fails; 0 is none.
+/// Relays five packets by one engine or by two, to sinks of which the call with the given number
+/// fails; 0 is none.
 fn relayed(
     alloc: Global,
     both: bool,
@@ -162,7 +164,7 @@ fn relayed(
     })
 }
 
-/// The list of this one call, and no call for 0.
+/// Returns the list of this one call, or an empty list for 0.
 fn only(alloc: Global, call: u32) -> Result<Vec<u32>, AllocError> {
     let mut calls = Vec::new(alloc);
     if call > 0 {
@@ -171,11 +173,13 @@ fn only(alloc: Global, call: u32) -> Result<Vec<u32>, AllocError> {
     Ok(calls)
 }
 
-/// The lines of a connection whose other side sends `abcd`, and then `abXd` at the same places.
+/// The lines of a connection whose other side sends `abcd`, and then `abXd` at the same sequence
+/// numbers.
 const MENDED: &[u8] =
     b"1 in pass 1 @1 +1\n/1 out pass 1 @1 +1\n2 out pass 1 @1\n/2 in pass 1 @1\n3 in pass 1 @1\n/3 out pass 1 @1\n4 out pass 1 @1\n/4 in pass 1 @1\n5 out pass 1 @1\n/5 in fix 1 T_CLASH @1\n";
 
-// Two engines: what the first lets pass outwards is held against what went first, and the second tells it.
+// Two engines: the second compares what the first passes outwards with the octets sent first, and
+// reports it.
 #[test]
 fn octets_sent_outwards_again_are_mended(rt: HostRuntime) -> Result<(), Fail> {
     let packets: [&[u8]; 5] = [&SYN, &SYN_ACK, &ACK, &ABCD, &ABXD];
@@ -196,7 +200,8 @@ fn octets_sent_outwards_again_are_mended(rt: HostRuntime) -> Result<(), Fail> {
     Ok(())
 }
 
-/// A reset of no connection, one that opens, and a reset of it, behind which a probe goes in; and the calls that fail.
+/// Relays a reset of no connection, the opening of one, and a reset of it, which a probe follows;
+/// with the calls that fail.
 fn reset(alloc: Global, both: bool, failing: (u32, u32)) -> Result<Outcome, Fail> {
     let packets: [&[u8]; 5] = [&RESET, &SYN, &SYN_ACK, &ACK, &RESET];
     relayed(alloc, both, packets, failing)
@@ -206,7 +211,7 @@ fn reset(alloc: Global, both: bool, failing: (u32, u32)) -> Result<Outcome, Fail
 const LINES: &[u8] =
     b"1 in drop 0 T_COLD\n2 in pass 1 @1 +1\n/1 out pass 1 @1 +1\n3 out pass 1 @1\n/2 in pass 1 @1\n4 in pass 1 @1\n/3 out pass 1 @1\n";
 
-// Two engines: a record without frames has one line, and one with two has three, behind both frames.
+// Two engines: a record without frames has one line, and one with two has three, after both frames.
 #[test]
 fn lines_stand_behind_all_frames(rt: HostRuntime) -> Result<(), Fail> {
     let out = reset(rt.alloc(), true, (0, 0))?;
@@ -247,7 +252,7 @@ fn a_fault_at_a_line_leaves_all_frames(rt: HostRuntime) -> Result<(), Fail> {
     Ok(())
 }
 
-/// What one engine tells of them.
+/// The lines of one engine for them.
 const ALONE: &[u8] =
     b"1 in drop 0 T_COLD\n2 in pass 1 @1 +1\n3 out pass 1 @1\n4 in pass 1 @1\n5 in fix 2 C_PROBE @1\n";
 

@@ -1,4 +1,4 @@
-//! One record by two engines, one behind the other.
+//! One record by two engines in sequence.
 ghost use Rattle.std.specs.Prelude.{◌≡◌, ◌≤◌, ◌<◌, ◌-◌, ◌^◌, List, [], ◌∷◌, ◌++◌, length, option_map, IfOk, IfErr, IfSome, OnErr};
 ghost use Rattle.edge_io.specs.Faults.{HasCause};
 ghost use Rattle.edge_io.specs.Octets.{Puts};
@@ -26,7 +26,8 @@ use norm_engine::laws::items_are_counted;
 use pcap_file::{Head, Record};
 use rule_book::Entry;
 
-/// What two engines say of a record: the first of the record itself, and the second of each frame that the first writes for it.
+/// Entries of two engines for a record: that of the first for the record itself, and those of the
+/// second for each frame that the first writes for it.
 #[derive(Drop)]
 struct Told {
     own: Entry,
@@ -34,7 +35,8 @@ struct Told {
     second: Option<Entry>,
 }
 
-/// Judges one record by both engines, writes what the second lets go out for it and then its lines, and answers how many frames it wrote.
+/// Judges one record by both engines, writes the frames of the second for it and then its lines,
+/// and returns the number of frames written.
 pub fn relay_two<K: Sink, R: Sink>(
     both: &mut Both,
     out: &mut Outbox,
@@ -102,8 +104,8 @@ fn judge_both(both: &mut Both, out: &mut Outbox, behind: &mut Outbox, input: &Re
     Told { own, first, second }
 }
 
-// Gives the next pending frame to the second engine, if there is one, and answers its entry; what goes out for it is put into the outbox, in place of what was
-// there.
+// Gives the next pending frame to the second engine, if there is one, and returns its entry.
+// Replaces the frames in the outbox by those written for it.
 fn answer_next(both: &mut Both, out: &mut Outbox) -> Option<Entry>
     ensures answered { (trace mirror : List Item) → StandsFor both.old trace mirror →
         Answers both.old both.new trace mirror both.old.pending (option_map plain result) out.new }

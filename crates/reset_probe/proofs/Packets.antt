@@ -9,12 +9,12 @@ use Rattle.tcp_codec.proofs.Written.{four-octets, sum-written}
 use Rattle.era_state.specs.declared.probe.Probe.{Probe}
 use Rattle.reset_probe.specs.Write.{ProbesArePlain, probe_octets, probe_segment}
 
--- the addresses are those of the segment, so the same is summed before it
-pseudo : (head : Ipv4) (source_port destination_port : ℕ) (probe : Probe) → head.src.0 < 2 ^ 32 → head.dst.0 < 2 ^ 32 → head.protocol.0 ≡ 6 → pseudo_of (probe_octets head source_port destination_port probe) ≡ write.pseudo_of (probe_segment head source_port destination_port probe)
+-- the addresses are those of the segment, so the sum of the pseudo-header is the same
+pseudo : (head : Ipv4) (source_port destination_port : ℕ) (probe : Probe) → head.src.0 < 2 ^ 32 → head.dst.0 < 2 ^ 32 → head.protocol ≡ 6 → pseudo_of (probe_octets head source_port destination_port probe) ≡ write.pseudo_of (probe_segment head source_port destination_port probe)
 pseudo head source_port destination_port probe source destination tcp =
     λ i. pseudo_sum (four-octets head.src.0 source i) (four-octets head.dst.0 destination i) (tcp i) 20
 
-tcp-plain : (head : Ipv4) (source_port destination_port : ℕ) (probe : Probe) → head.src.0 < 2 ^ 32 → head.dst.0 < 2 ^ 32 → head.protocol.0 ≡ 6 → IsPlainTcp (probe_octets head source_port destination_port probe)
+tcp-plain : (head : Ipv4) (source_port destination_port : ℕ) (probe : Probe) → head.src.0 < 2 ^ 32 → head.dst.0 < 2 ^ 32 → head.protocol ≡ 6 → IsPlainTcp (probe_octets head source_port destination_port probe)
 tcp-plain head source_port destination_port probe source destination tcp =
     let s = probe_segment head source_port destination_port probe in
     record {

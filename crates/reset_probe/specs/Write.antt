@@ -24,16 +24,16 @@ probe_segment head source_port destination_port probe =
       octets = [];
     }
 
--- the 40 octets: the header of a whole datagram before the segment
+-- the 40 octets: the header of an unfragmented packet, then the segment
 abbrev pub probe_octets : Ipv4 → (source_port destination_port : ℕ) → Probe → List ℕ
 probe_octets head source_port destination_port probe = plain_header head 20 ++ segment_octets (probe_segment head source_port destination_port probe)
 
 -- a probe between addresses of 32 bits is plain for every host that it reaches
 abbrev pub ProbesArePlain : Type 0
 ProbesArePlain =
-    (head : Ipv4) (source_port destination_port : ℕ) (probe : Probe) → head.src.0 < 2 ^ 32 → head.dst.0 < 2 ^ 32 → head.protocol.0 ≡ 6 → (hops : ℕ) → hops < head.ttl
+    (head : Ipv4) (source_port destination_port : ℕ) (probe : Probe) → head.src.0 < 2 ^ 32 → head.dst.0 < 2 ^ 32 → head.protocol ≡ 6 → (hops : ℕ) → hops < head.ttl
     → Plain hops (probe_octets head source_port destination_port probe)
 
--- read of its octets a probe brings nothing: it has neither octets nor SYN nor FIN
+-- a probe, read again, adds nothing to the stream: it has neither octets nor SYN nor FIN
 abbrev pub ProbesAreSilent : Type 0
 ProbesAreSilent = (head : Ipv4) (source_port destination_port : ℕ) (probe : Probe) → IsSilent (written_of true (fields_of (probe_octets head source_port destination_port probe)))

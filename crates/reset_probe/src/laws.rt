@@ -1,12 +1,12 @@
 //! Laws of written probes.
 ghost use Rattle.reset_probe.specs.Write.{ProbesArePlain, ProbesAreSilent};
 
-/// Every host that a probe reaches reads it alike, whatever it asks and between which addresses.
+/// Proves that every host which a probe reaches reads it alike, for any fields and addresses.
 pub fn probes_are_plain()
     ensures { ProbesArePlain }
 {}
 
-/// A probe that is written inwards brings an era nothing.
+/// Proves that a probe which is written inwards adds nothing to the stream of an era.
 pub fn probes_are_silent()
     ensures { ProbesAreSilent }
 {}

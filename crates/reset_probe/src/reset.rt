@@ -9,14 +9,14 @@ ghost use Rattle.reset_probe.specs.Rules.{era_probe, probe_before};
 ghost use Rattle.reset_probe.specs.Answers.{reset_answer};
 
 use era_state::{Era, Probe, Seg, Warm};
-use wire_base::SeqNumber;
+use wire_base::{sequence_before, sequence_plus};
 
-/// What becomes of an inbound reset of a live era.
+/// Answer to an inbound reset of a live era.
 #[derive(Clone, Copy)]
 pub enum ResetAnswer {
-    /// It goes inwards, and behind it this probe, if anything was sent outwards.
+    /// It passes, followed by this probe, if anything was sent outwards.
     Pass(Option<Probe>),
-    /// T_RST: it stays outside.
+    /// T_RST: it is dropped.
     Refuse,
 }
 
@@ -33,8 +33,8 @@ pub fn judge_reset(era: &Era, seg: &Seg) -> ResetAnswer
     }
 }
 
-/// The probe that asks a host about a segment of a live era: from one below the number that the host awaits, with the number
-/// behind what it sent, and with the segment's window; and none where it sent nothing.
+/// Returns the probe of a host about a segment of a live era: one below the number that the host
+/// awaits, acknowledging what it sent, with the segment's window; none if it sent nothing.
 pub fn probe_of(era: &Era, seg: &Seg) -> Option<Probe>
     ensures { (ws : List Written) → StandsFor era.now ws → result ≡ era_probe ws (came seg.now) }
 {
@@ -49,19 +49,19 @@ pub fn probe_of(era: &Era, seg: &Seg) -> Option<Probe>
     }
 }
 
-// The probe of an era of which a place is acknowledged.
+// Returns the probe of an era in which an offset is acknowledged.
 fn warm_probe(era: &Warm, seg: &Seg) -> Probe
     ensures { result ≡ probe_before (era.now.base + era.now.acked) era.now.out (came seg.now) }
 {
-    before(era.base.plus(era.acked), era.out, seg)
+    before(sequence_plus(era.base, era.acked), era.out, seg)
 }
 
-// The probe from one below a number.
-fn before(number: SeqNumber, ack: SeqNumber, seg: &Seg) -> Probe
+// Returns the probe one below a number.
+fn before(number: u32, ack: u32, seg: &Seg) -> Probe
     ensures { result ≡ probe_before number ack (came seg.now) }
 {
     Probe {
-        seq: number.before(),
+        seq: sequence_before(number),
         ack,
         window: seg.window,
     }

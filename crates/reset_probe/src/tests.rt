@@ -1,4 +1,4 @@
-//! Resets and probes that were worked out by hand.
+//! Resets and probes computed by hand.
 ghost use Rattle.std.specs.Prelude.{◌≡◌, true, false};
 ghost use Rattle.wire_base.specs.Tcp as tcp;
 
@@ -8,7 +8,7 @@ use ipv4_codec::Ipv4;
 use std::alloc::{AllocError, Global};
 use std::process::Abort;
 use std::test::Fail;
-use wire_base::{Addr, Flags, Protocol, SeqNumber, u32_at};
+use wire_base::{Addr, Flags, protocol, u32_at};
 
 const SYN: u8 = 2;
 
@@ -20,7 +20,7 @@ const FIN_ACK: u8 = 17;
 
 const PSH_ACK: u8 = 24;
 
-/// What was written of an era.
+/// Segments written of an era.
 #[derive(Clone, Copy)]
 enum History {
     /// SYN 5000 outwards.
@@ -35,15 +35,15 @@ enum History {
     Sent,
     /// The same, and ACK of 1004 outwards.
     Acked,
-    /// As open, with both FINs, and ACK of 1001 outwards.
+    /// As `Open`, with both FINs, and ACK of 1001 outwards.
     Closed,
-    /// As open, and ACKs of 2147484647, 998 and 1001 outwards: 2^32 + 1 octets are acknowledged.
+    /// As `Open`, and ACKs of 2147484647, 998 and 1001 outwards: 2^32 + 1 octets are acknowledged.
     Turned,
 }
 
 use History::{Acked, Answered, Closed, Open, Sent, Turned};
 
-/// A reset of an era, without ACK or with ACK of a number, and what becomes of it.
+/// Reset of an era, without ACK or with ACK of a number, and its answer.
 struct Row {
     history: History,
     seq: u32,
@@ -78,13 +78,13 @@ const RESETS: &[Row] = &[
     Row { history: Turned, seq: 1002, ack: None, says: "refuse" },
 ];
 
-// A segment with a window of 8192 and no window scale.
+// Returns a segment with a window of 8192 and no window scale.
 fn segment(flags: u8, seq: u32, ack: u32, len: u32) -> Seg
     ensures { result.flags.0 ≡ flags }
 {
     Seg {
-        seq: SeqNumber::new(seq),
-        ack: SeqNumber::new(ack),
+        seq,
+        ack,
         len,
         window: 8192,
         flags: Flags(flags),
@@ -102,7 +102,7 @@ fn reset_of(row: &Row) -> Seg
     }
 }
 
-// An outbound segment goes on with the era.
+// Returns the era after an outbound segment, and checks that it continues.
 fn goes_out(rt: &impl Abort, era: Era, seg: &Seg) -> Era
     requires { tcp.are_legal seg.now.flags.0 ≡ true }
 {
@@ -116,7 +116,7 @@ fn goes_out(rt: &impl Abort, era: Era, seg: &Seg) -> Era
     }
 }
 
-// The era after an inbound segment that is forwarded.
+// Returns the era after an inbound segment that is forwarded.
 fn comes_in(rt: &impl Abort, era: Era, seg: &Seg) -> Era
     requires legal { tcp.are_legal seg.now.flags.0 ≡ true }
     requires no_syn { tcp.has_syn seg.now.flags.0 ≡ false }
@@ -192,12 +192,7 @@ fn answer_text(alloc: Global, answer: ResetAnswer) -> Result<String, AllocError>
     match answer {
         ResetAnswer::Pass(None) => String::from_str(alloc, "pass"),
         ResetAnswer::Pass(Some(probe)) => {
-            format!(in alloc;
-                "pass, probe {} {} {}",
-                probe.seq.value(),
-                probe.ack.value(),
-                probe.window
-            )
+            format!(in alloc; "pass, probe {} {} {}", probe.seq, probe.ack, probe.window)
         }
         ResetAnswer::Refuse => String::from_str(alloc, "refuse"),
     }
@@ -212,7 +207,8 @@ fn a_reset_passes_with_its_probe_or_is_refused(rt: HostRuntime) -> Result<(), Fa
     Ok(())
 }
 
-// Another call from outside asks the host, and that probe is written; what stands behind it in the buffer stays.
+// Another SYN from outside makes the host be probed, and that probe is written; octets after it in
+// the buffer stay.
 #[test]
 fn another_call_is_asked_about(rt: HostRuntime) {
     let head = Ipv4 {
@@ -225,15 +221,15 @@ fn another_call_is_asked_about(rt: HostRuntime) {
         more: true,
         offset: 800,
         ttl: 64,
-        protocol: Protocol::TCP,
+        protocol: protocol::TCP,
         sum: 0xabcd,
         src: Addr(0xc633_6407),
         dst: Addr(0x0a00_0001),
     };
     let call = segment(SYN, 7000, 0, 0);
     let probe = Probe {
-        seq: SeqNumber::new(999),
-        ack: SeqNumber::new(5001),
+        seq: 999,
+        ack: 5001,
         window: 8192,
     };
     assert!(rt; probe_of(&opened(&rt), &call) == Some(probe));

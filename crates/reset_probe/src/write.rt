@@ -1,4 +1,4 @@
-//! A probe written.
+//! Writing of a probe.
 ghost use Rattle.std.specs.Prelude.{◌≡◌, ◌≤◌, ◌<◌, ◌++◌, ℕ, length, drop, []};
 ghost use Rattle.wire_base.specs.Plain.{Plain};
 ghost use Rattle.tcp_codec.specs.Write.{segment_of};
@@ -10,19 +10,21 @@ use ipv4_codec::{Ipv4, write_plain};
 use tcp_codec::{SegmentParts, write_segment};
 use wire_base::Flags;
 
-// The octets of an IPv4 header and of a TCP header without options, and the flag ACK alone (RFC 791 section 3.1, RFC 9293 section 3.1).
+// Octets of an IPv4 header and of a TCP header without options, and the flag ACK alone (RFC 791
+// section 3.1, RFC 9293 section 3.1).
 const HEADER: usize = 20;
 
 const SEGMENT: u16 = 20;
 
 const ACK: Flags = Flags(16);
 
-/// Writes the packet of a probe between the addresses of `head` and these ports. Answers its length in octets.
+/// Writes the packet of a probe between the addresses of `head` and these ports. Returns its length
+/// in octets.
 pub fn write_probe(head: &Ipv4, sport: u16, dport: u16, probe: &Probe, buf: &mut [u8]) -> usize
     requires room { 40 ≤ length buf.old }
     ensures exact { buf.new ≡ probe_octets head.now sport dport probe.now ++ drop 40 buf.old }
     ensures size { result ≡ 40 }
-    ensures plain { (hops : ℕ) → head.now.protocol.0 ≡ 6 → hops < head.now.ttl → Plain hops (probe_octets head.now sport dport probe.now) }
+    ensures plain { (hops : ℕ) → head.now.protocol ≡ 6 → hops < head.now.ttl → Plain hops (probe_octets head.now sport dport probe.now) }
 {
     let parts = probe_parts(head, sport, dport, probe);
     let (header, segment) = buf.split_at_mut(HEADER);
@@ -30,7 +32,7 @@ pub fn write_probe(head: &Ipv4, sport: u16, dport: u16, probe: &Probe, buf: &mut
     size + write_segment(&parts, &[], segment)
 }
 
-// A segment with ACK alone, without options.
+// Returns a segment with ACK alone, without options.
 fn probe_parts(head: &Ipv4, sport: u16, dport: u16, probe: &Probe) -> SegmentParts
     ensures segment { segment_of result [] ≡ probe_segment head.now sport dport probe.now }
     ensures options { result.options.items ≡ [] }

@@ -1,11 +1,11 @@
--- What a chain has at a block number, where the cells of the chain are known.
+-- The octets of a chain at a block number, if the cells of the chain are known.
 use Rattle.std.proofs.Common.{◌≡◌, ◌≢◌, ℕ, ◌<◌, ◌==◌, true, false, List, [], ◌∷◌, ◌++◌, Option, Some, None, refl, sym, ap, subst, ◌∙◌, arith, ne_eqb, eq-eqb, if◌then◌else◌}
 use Rattle.cell_pool.specs.declared.cells.CellId.{CellId}
 use Rattle.cell_pool.specs.Lists.{Held, HasPlaceFor, IsRising, BeginsAbove, EndsBelow, last_id}
 use Rattle.retain_store.specs.Maps.{IsFull, block_at, holds}
 use Rattle.retain_store.specs.Seats.{AllFull, blocks_of, IsAt, IsCellOf, IsKept, IsNear}
 
--- a later number is not the first one's
+-- a block of another number is not that of the first cell
 pub skips : (x : Held) (rest : List Held) (n : ℕ) → x.block ≢ n → block_at (blocks_of (x ∷ rest)) n ≡ block_at (blocks_of rest) n
 skips x rest n other = rw (ne_eqb x.block n other) refl
 
@@ -17,7 +17,7 @@ pub rising_after : (before rest : List Held) → IsRising (before ++ rest) → I
 rising_after [] rest rises = rises
 rising_after (b ∷ bs) rest rises = rising_after bs rest rises.1
 
--- the first of a rising chain is below where the chain ends
+-- the first cell of a rising chain is below the number that its last cell is below
 first_below : (n : ℕ) (b : Held) (bs rest : List Held) → IsRising (b ∷ bs ++ rest) → EndsBelow n (b ∷ bs) → b.block < n
 first_below n b [] rest rises below = below
 first_below n b (b2 ∷ bs) rest rises below = omega (arith, rises.0, first_below n b2 bs rest rises.1 below)
@@ -26,7 +26,7 @@ tail_below : (n : ℕ) (b : Held) (bs : List Held) → EndsBelow n (b ∷ bs) �
 tail_below n b [] below = tt
 tail_below n b (b2 ∷ bs) below = below
 
--- nothing of this number stands before a place for it
+-- no block of this number is before the position for it
 pub passes_below : (n : ℕ) (before rest : List Held) → IsRising (before ++ rest) → EndsBelow n before →
     block_at (blocks_of (before ++ rest)) n ≡ block_at (blocks_of rest) n
 passes_below n [] rest rises below = refl
@@ -34,7 +34,7 @@ passes_below n (b ∷ bs) rest rises below =
     let first = first_below n b bs rest rises below in
     skips b (bs ++ rest) n (λ same. absurd (omega arith)) ∙ passes_below n bs rest rises.1 (tail_below n b bs below)
 
--- nor behind it
+-- nor after it
 pub none_above : (n : ℕ) (rest : List Held) → IsRising rest → BeginsAbove n rest → block_at (blocks_of rest) n ≡ []
 none_above n [] rises above = refl
 none_above n (x ∷ []) rises above = skips x [] n (λ same. absurd (omega (arith, above)))
@@ -42,7 +42,7 @@ none_above n (x ∷ y ∷ ys) rises above =
     skips x (y ∷ ys) n (λ same. absurd (omega (arith, above)))
     ∙ none_above n (y ∷ ys) rises.1 (omega (arith, rises.0, above))
 
--- what stands before a cell is below it
+-- the cells before a cell are below it
 pub ends_below : (before : List Held) (x : Held) (after : List Held) → IsRising (before ++ x ∷ after) → EndsBelow x.block before
 ends_below [] x after rises = tt
 ends_below (b ∷ []) x after rises = rises.0
@@ -54,7 +54,7 @@ pub found_at : (before : List Held) (x : Held) (after : List Held) → IsRising 
 found_at before x after rises =
     passes_below x.block before (x ∷ after) rises (ends_below before x after rises) ∙ begins x after x.block refl
 
--- the block of a number that has a place and no cell
+-- the block of a number that has a position and no cell
 pub missing_at : {cells : List Held} {link : Option CellId} {n : ℕ} → IsRising cells → HasPlaceFor cells link n →
     block_at (blocks_of cells) n ≡ []
 missing_at {n = n} rises has =
@@ -71,7 +71,7 @@ found_in {n = n} rises cell =
     ∙ (ap (block_at (blocks_of (cell.before ++ cell.cell ∷ cell.after))) (sym cell.numbered)
     ∙ found_at cell.before cell.cell cell.after rises2)
 
--- a cell among these is among these and one before
+-- a cell in a list is also in the list with one cell in front
 near_behind : (x : Held) (cells : List Held) (link : Option CellId) → IsNear cells link → IsNear (x ∷ cells) link
 near_behind x cells None near = tt
 near_behind x cells (Some name) near = record {
@@ -91,7 +91,7 @@ last_near (x ∷ []) rest = record {
 }
 last_near (x ∷ y ∷ ys) rest = near_behind x (y ∷ ys ++ rest) (last_id (y ∷ ys)) (last_near (y ∷ ys) rest)
 
--- the cell before a place is in the chain
+-- the cell before a position is in the chain
 pub place_near : {cells : List Held} {link : Option CellId} {n : ℕ} → HasPlaceFor cells link n → IsNear cells link
 place_near {cells = cells} {link = link} has =
     let here = last_near has.before has.rest in
@@ -100,7 +100,7 @@ place_near {cells = cells} {link = link} has =
 pub cell_near : {cells : List Held} {name : CellId} {n : ℕ} → IsCellOf cells n name → IsNear cells (Some name)
 cell_near cell = record { before = cell.before; cell = cell.cell; after = cell.after; at = cell.at }
 
--- a cell of these is full
+-- a cell of these has an octet
 full_at : (before : List Held) (x : Held) (after : List Held) → AllFull (before ++ x ∷ after) → IsFull x.octets
 full_at [] x after full = full.0
 full_at (b ∷ bs) x after full = full_at bs x after full.1
@@ -109,7 +109,7 @@ pub cell_full : {cells : List Held} {name : CellId} {before : List Held} {x : He
     IsAt cells name before x after → AllFull cells → IsFull x.octets
 cell_full {before = before} {x = x} {after = after} at full = full_at before x after (subst AllFull at.splits full)
 
--- a number has a cell exactly where the block has an octet
+-- a number has a cell exactly if the block has an octet
 pub holds_found : {cells : List Held} {name : CellId} {n : ℕ} → IsKept cells → IsCellOf cells n name →
     holds (blocks_of cells) n ≡ true
 holds_found kept cell = rw (found_in kept.rising cell) (cell_full cell.at kept.full).used
@@ -118,7 +118,7 @@ pub holds_missing : {cells : List Held} {link : Option CellId} {n : ℕ} → IsR
     holds (blocks_of cells) n ≡ false
 holds_missing rises has = rw (missing_at rises has) refl
 
--- with a cell more, and with one fewer, the others are full
+-- with a cell more, and with one fewer, the others have an octet
 pub full_more : (before : List Held) (x : Held) (after : List Held) → AllFull (before ++ after) → IsFull x.octets →
     AllFull (before ++ x ∷ after)
 full_more [] x after full here = (here, full)

@@ -1,4 +1,4 @@
--- Counts over numbers that follow one another.
+-- Counts over consecutive numbers.
 use Rattle.std.proofs.Common.{◌≡◌, ℕ, [], ◌∷◌, ◌++◌, zero, suc, ◌+◌, ◌<◌, ◌≤◌, ◌==◌, ◌||◌, ◌&&◌, not, Bool, true, false, cond, refl, sym, ap, ◌∙◌, arith, add-zero}
 use Rattle.std.specs.List.{count_by, list_any, range_with_len}
 use Rattle.std.proofs.lemmas.List.Sums.{count_by-le-length, sum_by-cons, sum_by_push}
@@ -17,7 +17,7 @@ pub count_more : (p : ℕ → Bool) (a n : ℕ) →
     count_by p (range_with_len a (n + 1)) ≡ count_by p (range_with_len a n) + cond (p (a + n)) 1 0
 count_more p a n = ap (count_by p) (range_more a n) ∙ sum_by_push (λ k. cond (p k) 1 0) (range_with_len a n) (a + n)
 
--- a count goes on
+-- a count continues
 pub counted_yes : (p : ℕ → Bool) (a n k : ℕ) → k ≡ count_by p (range_with_len a n) → p (a + n) ≡ true →
     k + 1 ≡ count_by p (range_with_len a (n + 1))
 counted_yes p a n k so_far passes =
@@ -71,7 +71,7 @@ parts p a (suc m) n =
     let on : count_by p (range_with_len (a + 1 + m) n) ≡ count_by p (range_with_len (a + suc m) n) = ap (λ k. count_by p (range_with_len k n)) next in
     omega (arith, rest, whole, on, sum_by-cons (λ k. cond (p k) 1 0) a (range_with_len (a + 1) (m + n)), sum_by-cons (λ k. cond (p k) 1 0) a (range_with_len (a + 1) m))
 
--- those that one of two tests counts
+-- the count of what one of two tests counts
 pub either : (p q : ℕ → Bool) (a n : ℕ) → count_by (λ k. p k || q k) (range_with_len a n) ≡ count_by p (range_with_len a n) + count_by (λ k. q k && not (p k)) (range_with_len a n)
 either p q a zero = refl
 either p q a (suc n) =
@@ -85,7 +85,7 @@ either p q a (suc n) =
     step false true = refl
     step false false = refl
 
--- all pass exactly where as many are counted as there are
+-- all pass exactly if as many are counted as there are
 full_step : (b rest : Bool) (count n : ℕ) → count ≤ n → rest ≡ (count == n) → (b && rest) ≡ (cond {A = ℕ} b 1 0 + count == suc n)
 full_step true rest count n le same = let here : (count == n) ≡ (1 + count == suc n) = grind arith in same ∙ here
 full_step false rest count n le same = grind arith

@@ -4,7 +4,7 @@ use Rattle.std.proofs.lemmas.List.{get_or-set_same, set-get_or, set-set}
 use Rattle.cell_pool.specs.declared.cells.CellId.{CellId}
 use Rattle.cell_pool.specs.Lists.{Lists, Held, Stands, IsHeld, Writes, chain_at, with_chain}
 
--- a cell stands where it stood, with other octets
+-- a cell stays between the same cells, with other octets
 pub stands_on : {old new : Lists} {c : ℕ} {name : CellId} {before : List Held} {x y : Held} {after : List Held} {free : ℕ} →
     Stands old c name before x after → y.id ≡ x.id → new ≡ with_chain old c (before ++ y ∷ after) free →
     Stands new c name before y after
@@ -49,7 +49,7 @@ held_on f held writes = record {
   stands = stands_on held.stands refl (writes _ _ _ _ held.stands);
 }
 
--- what is written may be said in another way
+-- a write may be described by another function
 pub writes_same : {old new : Lists} {name : CellId} (f g : List (Option ℕ) → List (Option ℕ)) → Writes old new name f →
     ((c : ℕ) (before : List Held) (x : Held) (after : List Held) → Stands old c name before x after → f x.octets ≡ g x.octets) →
     Writes old new name g

@@ -1,4 +1,4 @@
--- What the offsets of a piece have, from what its cell has.
+-- The octets at the offsets of one part of a segment, from those of its cell.
 use Rattle.std.proofs.Common.{◌≡◌, ℕ, ◌+◌, ◌-◌, ◌/◌, ◌%◌, ◌<◌, ◌≤◌, ◌↔◌, Bool, true, false, IsTrue, List, length, get_or, Option, Some, None, is_some, is_none, IsSome, refl, sym, ap, ap₂, subst, ◌∙◌, arith, inl, inr}
 use Rattle.std.specs.Option.{unwrap_or}
 use Rattle.std.proofs.lemmas.Bool.{cases_lt}
@@ -10,7 +10,7 @@ use Rattle.retain_store.proofs.Walks.{stands}
 use Rattle.retain_store.proofs.Blocks.{found_in, missing_at}
 use Rattle.retain_store.proofs.Counts.{all_counted, none_counted, count_agree, count_most, parts}
 
--- an offset of a piece, by its place in the block
+-- an offset of a part, by its position in the block
 offset_in : (blocks : List Block) (from i : ℕ) → from % 256 + i < 256 →
     octet_at blocks (from + i) ≡ get_or (block_at blocks (from / 256)) (from % 256 + i) None
 offset_in blocks from i lt =
@@ -18,7 +18,7 @@ offset_in blocks from i lt =
     let place : (from + i) % 256 ≡ from % 256 + i = omega arith in
     ap₂ (λ b p. get_or (block_at blocks b) p None) block place
 
--- where no cell is, no offset has an octet
+-- without a cell, no offset has an octet
 pub piece_missing : {cells : List Held} {link : Option CellId} (from : ℕ) → IsRising cells → HasPlaceFor cells link (from / 256) →
     (i : ℕ) → from % 256 + i < 256 → octet_at (blocks_of cells) (from + i) ≡ None
 piece_missing {cells = cells} from rises has i lt =
@@ -39,7 +39,7 @@ fresh_none blocks from len some = none_counted (λ offset. is_none (octet_at blo
     let place : from + (m - from) ≡ m = omega arith in
     ap (λ o. is_none (octet_at blocks o)) (sym place) ∙ some_not_none (octet_at blocks (from + (m - from))) (some (m - from) (omega arith)))
 
--- where the octets are the same from here on, as many are fresh
+-- if the octets from here on are the same, as many are fresh
 pub fresh_same : (old new : List Block) (from len : ℕ) → ((offset : ℕ) → from ≤ offset → octet_at new offset ≡ octet_at old offset) →
     fresh new from len ≡ fresh old from len
 fresh_same old new from len same = count_agree (λ offset. is_none (octet_at new offset)) (λ offset. is_none (octet_at old offset)) from len
@@ -47,7 +47,7 @@ fresh_same old new from len same = count_agree (λ offset. is_none (octet_at new
 
 -- the octets of a run are those that are kept
 module _ (blocks : List Block) (from : ℕ) where
-  -- at each offset of the run stands its octet
+  -- each offset of the run has its octet
   abbrev pub AreKept : List ℕ → Type 0
   AreKept run = (i : ℕ) → i < length run → octet_at blocks (from + i) ≡ Some (get_or run i 0)
 
@@ -70,7 +70,7 @@ module _ (blocks : List Block) (from : ℕ) where
   pub kept_settle : (old new : List ℕ) → length new ≡ length old → AreKept new → Settles blocks from old new
   kept_settle old new size kept i lt = sym (ap (λ o. unwrap_or o (get_or old i 0)) (kept i (omega arith)))
 
--- a piece whose block has this cell
+-- a part whose block has this cell
 module _ (pool : Lists) (c from : ℕ) {name : CellId} (at : ℕ) (at_is : at ≡ from % 256) (inside : c < length pool.chains)
     (cell : IsCellOf (chain_at pool c) (from / 256) name) (rises : IsRising (chain_at pool c)) where
   piece_read : (i : ℕ) → at + i < 256 → octet_at (blocks_in pool c) (from + i) ≡ get_or cell.cell.octets (at + i) None
@@ -113,7 +113,7 @@ module _ (pool : Lists) (c from : ℕ) {name : CellId} (at : ℕ) (at_is : at �
         (λ kept. here.1 (λ i lt. sym (piece_read i (omega arith)) ∙ kept i lt)),
       )
 
--- what holds of one piece and of the next holds of both
+-- what holds of one part and of the next holds of both
 pub covers_then : (blocks : List Block) (from m n : ℕ) → Covers blocks from m → Covers blocks (from + m) n → Covers blocks from (m + n)
 covers_then blocks from m n first second i lt = elim (cases_lt i m) [
   | inl low ↦ first i low

@@ -9,7 +9,7 @@ use Rattle.retain_store.specs.Changes.{IsAmongAbove, IsAbove, IsChanged, KeepsAb
 use Rattle.retain_store.proofs.Blocks.{skips, none_above}
 use Rattle.retain_store.proofs.Opens.{chain_is, changed_by}
 
--- these begin with the cell of this name
+-- these begin with the cell with this identifier
 pub record IsFirst (cells : List Held) (name : CellId) : Type 0 where
   pub cell : Held
   pub rest : List Held
@@ -44,7 +44,7 @@ none_before [] number n rises begins lt = refl
 none_before (x ∷ xs) number n rises begins lt =
     none_above n (x ∷ xs) rises (let above = ltb-false x.block number begins in omega arith)
 
--- a cell above this number stays where the first cell goes that is not
+-- a cell above this number stays in the chain if the first cell is removed and is not above the number
 among_behind : (b : Held) (rest : List Held) (number : ℕ) (name : CellId) (before : List Held) (x : Held) (after : List Held) →
     b.block ≤ number → number < x.block → x.id ≡ name → b ∷ rest ≡ before ++ x ∷ after → IsAmongAbove rest number name
 among_behind b rest number name [] x after le above named splits =
@@ -99,7 +99,7 @@ module _ (old : Lists) {new : Lists} (c : ℕ) (x : Held) (rest : List Held) (in
   given_near number le near above = subst (λ l. IsAbove l number near) (sym rest_is)
       (keeps_behind x rest number le near (subst (λ l. IsAbove l number near) splits above))
 
--- octets below a block are forgotten where no block before it is left, and the others stay
+-- octets below a block are removed if no block before it is left, and the others stay
 pub forgets_blocks : (old new : List Held) (number : ℕ) → IsRising new → begins_below new number ≡ false →
     ((n : ℕ) → number ≤ n → block_at (blocks_of new) n ≡ block_at (blocks_of old) n) →
     ForgetsBelow (blocks_of old) (blocks_of new) (256 * number)

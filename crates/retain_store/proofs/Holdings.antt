@@ -24,7 +24,7 @@ count_first : (p : ℕ → Bool) (a n : ℕ) →
     count_by p (range_with_len a (suc n)) ≡ cond (p a) 1 0 + count_by p (range_with_len (a + 1) n)
 count_first p a n = sum_by-cons (λ k. cond (p k) 1 0) a (range_with_len (a + 1) n)
 
--- a full cell is below where the octets end
+-- a cell with an octet is below the end of the octets
 first_within : (x : Held) (xs : List Held) (n : ℕ) → IsFull x.octets → IsWithin (blocks_of (x ∷ xs)) (256 * n) → x.block < n
 first_within x xs n full within =
     let (k, octet, inside, read, some) = Any-from_list_any is_some x.octets full.used in
@@ -38,7 +38,7 @@ first_within x xs n full within =
     let below = within offset (ap is_some here ∙ some) in
     omega arith
 
--- the octets of the further cells end there too
+-- the octets of the further cells have the same end
 rest_within : (x : Held) (xs : List Held) (end : ℕ) → IsRising (x ∷ xs) → IsWithin (blocks_of (x ∷ xs)) end →
     IsWithin (blocks_of xs) end
 rest_within x xs end rises within offset some = elim (cases_eq x.block (offset / 256)) [
@@ -82,7 +82,7 @@ count_held (x ∷ xs) a (suc n) rises full from within =
           omega (arith, first, none, rest)
     ]
 
--- the count of a chain, by its map
+-- the number of cells of a chain, by its map
 pub held_counted : {cells : List Held} (blocks : List Block) (n : ℕ) {count : ℕ} → IsKept cells → blocks_of cells ≡ blocks →
     count ≡ length cells → IsWithin blocks (256 * n) → count ≡ count_by (holds blocks) (range_with_len 0 n)
 held_counted {cells = cells} blocks n kept shown counted within =

@@ -1,4 +1,4 @@
--- A chain that has these octets, and no others, has their blocks.
+-- A chain with these octets, and no others, has their blocks.
 use Rattle.std.proofs.Common.{◌≡◌, ℕ, zero, suc, ◌+◌, ◌*◌, ◌/◌, ◌%◌, ◌==◌, nat_lt, ◌<◌, ◌≤◌, ◌↔◌, inl, inr, Bool, true, false, IsTrue, cond, not, List, [], ◌∷◌, length, get_or, Option, None, is_some, refl, sym, ap, ap₂, ◌∙◌, arith, add-one, lt-ltb, le-ltb}
 use Rattle.std.specs.Prelude.{◌||◌}
 use Rattle.std.specs.List.{AllByRecursion, list_any, count_by, range_with_len}
@@ -11,7 +11,7 @@ any_agree : (f g : ℕ → Bool) (xs : List ℕ) → ((x : ℕ) → f x ≡ g x)
 any_agree f g [] same = refl
 any_agree f g (x ∷ xs) same = rw (same x) (ap (λ b. g x || b) (any_agree f g xs same))
 
--- over a range, an element each
+-- over a range, one element each
 any_range : (l : List (Option ℕ)) (f : ℕ → Bool) (a len : ℕ) → length l ≤ len → ((i : ℕ) → i < len → f (a + i) ≡ is_some (get_or l i None))
     → list_any f (range_with_len a len) ≡ list_any is_some l
 any_range [] f a zero short reads = refl
@@ -32,7 +32,7 @@ block_short (b ∷ bs) n full =
     let rest = block_short bs n full.1 in
     elim (b.number == n) as (λ t. length (cond t b.octets (block_at bs n)) ≤ 256) [ true ↦ here | false ↦ rest ]
 
--- a block is held exactly where one of its 256 offsets has an octet
+-- a block is held exactly if one of its 256 offsets has an octet
 pub holds_are : (blocks : List Block) (octets : ℕ → Option ℕ) (n : ℕ) → IsMap blocks → ((offset : ℕ) → octet_at blocks offset ≡ octets offset)
     → holds blocks n ≡ has_octet octets n
 holds_are blocks octets n map keeps =
@@ -56,7 +56,7 @@ missing_are blocks octets from len map keeps =
     sum_agree (λ n. cond (not (holds blocks n)) 1 0) (λ n. cond (not (has_octet octets n)) 1 0) (touched from len)
     (all_of _ (touched from len) (λ n. ap (λ b. cond {A = ℕ} (not b) 1 0) (holds_are blocks octets n map keeps)))
 
--- there are as many blocks as have one of these octets, where all of them stand in the first ones
+-- the number of blocks is the number of those with one of these octets, if all octets are in the first `n` blocks
 pub count_is : (blocks : List Block) (octets : ℕ → Option ℕ) (n : ℕ) → IsMap blocks → ((offset : ℕ) → octet_at blocks offset ≡ octets offset)
     → ((offset : ℕ) → is_some (octets offset) ≡ true → offset < 256 * n)
     → ((m : ℕ) → IsWithin blocks (256 * m) → length blocks ≡ count_by (holds blocks) (range_with_len 0 m)) → length blocks ≡ count_by (has_octet octets) (range_with_len 0 n)
@@ -65,7 +65,7 @@ count_is blocks octets n map keeps below counted =
     ∙ sum_agree (λ m. cond (holds blocks m) 1 0) (λ m. cond (has_octet octets m) 1 0) (range_with_len 0 n)
     (all_of _ (range_with_len 0 n) (λ m. ap (λ b. cond {A = ℕ} b 1 0) (holds_are blocks octets m map keeps)))
 
--- what the answer says of room
+-- if the answer is that the octets do not fit, too few cells are free
 pub no_room : (free n : ℕ) (fits : Bool) → IsTrue fits ↔ n ≤ free → fits ≡ false → nat_lt free n ≡ true
 no_room free n fits says refused = elim (cases_lt free n) [
   | inl lt ↦ lt-ltb free n lt

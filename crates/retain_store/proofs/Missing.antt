@@ -1,4 +1,4 @@
--- How many blocks are missing, block after block.
+-- The number of missing blocks, block after block.
 use Rattle.std.proofs.Common.{◌≡◌, ◌≢◌, ℕ, suc, ◌+◌, ◌-◌, ◌<◌, ◌≤◌, ◌/◌, ◌%◌, ◌⊎◌, inl, inr, ◌==◌, Bool, true, false, not, cond, ◌||◌, List, ◌∷◌, refl, sym, ap, ◌∙◌, arith, ne_eqb}
 use Rattle.std.specs.List.{count_by, range_with_len}
 use Rattle.std.proofs.Math.Bool.{or-false}
@@ -7,17 +7,17 @@ use Rattle.std.proofs.lemmas.List.Sums.{sum_by-cons}
 use Rattle.retain_store.specs.Maps.{Block, holds, touched, missing}
 use Rattle.retain_store.proofs.Counts.{count_agree}
 
--- how many blocks are touched behind the first
+-- the number of blocks touched after the first
 abbrev pub further : ℕ → ℕ → ℕ
 further from len = (from + len - 1) / 256 - from / 256
 
--- the first block touched, and those behind it
+-- the first block touched, and those after it
 touched_first : (from len : ℕ) → 0 < len → touched from len ≡ from / 256 ∷ range_with_len (from / 256 + 1) (further from len)
 touched_first from len some =
     let more : (from + len - 1) / 256 + 1 - from / 256 ≡ suc (further from len) = omega arith in
     rw (ne_eqb len 0 (λ e. absurd (omega arith)), more) refl
 
--- behind a piece that goes to the end of the first block, or to the end of the segment
+-- after a part that ends with the first block, or with the segment
 touched_rest : (from len count : ℕ) → 0 < count → count ≤ len → from % 256 + count ≤ 256 →
     (count ≡ len) ⊎ (from % 256 + count ≡ 256) →
     touched (from + count) (len - count) ≡ range_with_len (from / 256 + 1) (further from len)
@@ -47,7 +47,7 @@ missing_first blocks from len some =
     turned true = refl
     turned false = refl
 
--- where none is missing, the first has an octet
+-- if none is missing, the first has an octet
 pub first_held : (blocks : List Block) (from len : ℕ) → 0 < len → missing blocks from len ≡ 0 →
     holds blocks (from / 256) ≡ true
 first_held blocks from len some none =
@@ -58,7 +58,7 @@ first_held blocks from len some none =
     go true e = refl
     go false e = absurd (omega arith)
 
--- one piece on
+-- one part further
 pub missing_step : (old new : List Block) (from len count : ℕ) → 0 < count → count ≤ len → from % 256 + count ≤ 256 →
     (count ≡ len) ⊎ (from % 256 + count ≡ 256) →
     ((n : ℕ) → holds new n ≡ (holds old n || n == from / 256)) →

@@ -58,7 +58,7 @@ opens_found {pool = pool} {c = c} kept cell = record {
   held = λ n. refl;
 }
 
--- a block with no octet
+-- a block without octets
 no_octet : (n i : ℕ) (none : Option ℕ) → none ≡ None → get_or (replicate n none) i None ≡ None
 no_octet n i none is = elim (cases_lt i n) [
   | inl lt ↦ get_or-replicate n i none None lt ∙ is

@@ -1,4 +1,4 @@
--- What holds of the pieces of a segment, and of all of it.
+-- What holds of the parts of a segment, and of all of it.
 use Rattle.std.proofs.Common.{◌≡◌, ℕ, ◌+◌, ◌-◌, ◌<◌, ◌≤◌, ◌↔◌, ◌||◌, Bool, true, false, List, length, get_or, Some, refl, sym, ap, subst₂, ◌∙◌, arith, inl, inr}
 use Rattle.std.specs.Option.{unwrap_or}
 use Rattle.std.specs.List.{between}
@@ -39,7 +39,7 @@ module _ (blocks : List Block) (from : ℕ) where
         sym (get_or-between bytes done end i 0 (omega (arith, part_size))) in
         subst₂ AgreesAt place octet (agrees (done + i) (omega (arith, part_size)))
 
-  -- a piece was written
+  -- a part was written
   module _ (bytes : List ℕ) (done k : ℕ) (piece : List ℕ) (size : length piece ≡ k) (within : done + k ≤ length bytes) where
     abbrev pub written : List ℕ
     written = put_mid done k bytes piece
@@ -77,7 +77,7 @@ module _ (blocks : List Block) (from : ℕ) where
       pub left_then : (i : ℕ) → done + k ≤ i → get_or written i 0 ≡ get_or start i 0
       left_then i le = put_behind done k bytes piece size within 0 i le ∙ left i (omega arith)
 
-      -- what is written back is what stood there
+      -- the octets written back are those that were there
       same_back : put_mid done k bytes (between done (done + k) bytes) ≡ bytes
       same_back =
           let part = length-between bytes done (done + k) within in
@@ -105,7 +105,7 @@ module _ (blocks : List Block) (from : ℕ) where
       both_false : (a b : Bool) → a ≡ false → b ≡ false → (a || b) ≡ false
       both_false a b e f = rw (e, f) refl
 
-      -- where all is as it was at the start, so were the parts
+      -- if all octets are as at the start, so were those of the parts
       bytes_back : length bytes ≡ length start → written ≡ start → bytes ≡ start
       bytes_back long same = same_lists bytes start long (λ i d lt. elim (cases_lt i done) [
         | inl low ↦ sym (put_before done k bytes piece size within d i low) ∙ ap (λ l. get_or l i d) same

@@ -1,4 +1,4 @@
--- A chain where octets of one block were added.
+-- A chain to which octets of one block were added.
 use Rattle.std.proofs.Common.{◌≡◌, ◌≢◌, ℕ, ◌+◌, ◌-◌, ◌*◌, ◌<◌, ◌≤◌, ◌/◌, ◌%◌, inl, inr, true, cond, ◌||◌, ◌==◌, nat_lt, List, [], ◌∷◌, ◌++◌, length, get_or, Option, Some, None, is_some, refl, sym, ap, ap₂, subst, ◌∙◌, arith, length-append, length-set, eq-eqb, ne_eqb, le-ltb}
 use Rattle.std.specs.List.{list_any}
 use Rattle.std.specs.Option.{option_or}
@@ -33,14 +33,14 @@ changed_then {old = old} {mid = mid} {c = c} cells free inside changed is total 
     ∙ ap (λ l. record old { chains = l; free = free }) (set-set old.chains c (chain_at mid c) cells)))
     (omega (arith, changed.cells))
 
--- both offsets counted from further on
+-- the same number added to both offsets
 octet_shift : (k at i : ℕ) (piece : List ℕ) → octet_in (k + at) piece (k + i) ≡ octet_in at piece i
 octet_shift k at i piece =
     let less : k + i - (k + at) ≡ i - at = omega arith in
     let test : nat_lt (k + i) (k + at) ≡ nat_lt i at = grind (arith, nat_tests) in
     rw (test, less) refl
 
--- a segment with an octet has one where it begins
+-- a segment with an octet has one at its first offset
 octet_first : (at : ℕ) (piece : List ℕ) → 0 < length piece → is_some (octet_in at piece at) ≡ true
 octet_first at [] some = absurd (omega arith)
 octet_first at (y ∷ ys) some =

@@ -21,20 +21,20 @@ pub or_none : (a : Option ℕ) → option_or a None ≡ a
 or_none None = refl
 or_none (Some x) = refl
 
--- outside of a segment it has no octet
+-- a segment has no octet outside of its offsets
 pub octet_before : (from : ℕ) (octets : List ℕ) (i : ℕ) → i < from → octet_in from octets i ≡ None
 octet_before from octets i lt = rw (lt-ltb i from lt) refl
 
 pub octet_past : (from : ℕ) (octets : List ℕ) (i : ℕ) → from + length octets ≤ i → octet_in from octets i ≡ None
 octet_past from octets i le = rw (le-ltb i from (omega arith)) (slice_get_past octets (i - from) (omega arith))
 
--- behind the octets that were added, what stands is as it was
+-- after the octets that were added, nothing has changed
 pub placed_behind : (old new : List Block) (from : ℕ) (octets : List ℕ) → Places old new from octets → (offset : ℕ) → from + length octets ≤ offset →
     octet_at new offset ≡ octet_at old offset
 placed_behind old new from octets places offset le =
     places offset ∙ (ap (option_or (octet_at old offset)) (octet_past from octets offset le) ∙ or_none (octet_at old offset))
 
--- a segment of one octet has it at its begin alone
+-- a segment of one octet has it at its first offset only
 octet_here : (from y : ℕ) → octet_in from (y ∷ []) from ≡ Some y
 octet_here from y =
     let zero_is : from - from ≡ 0 = omega arith in
@@ -57,7 +57,7 @@ got_append (x ∷ xs) ys (suc j) =
     let test : nat_lt (suc j) (suc (length xs)) ≡ nat_lt j (length xs) = grind (arith, nat_tests) in
     got_append xs ys j ∙ ap (option_or (slice_get xs j)) (rw (test, less) refl)
 
--- a segment behind another
+-- a segment after another
 pub octet_append : (from : ℕ) (xs ys : List ℕ) (i : ℕ) →
     octet_in from (xs ++ ys) i ≡ option_or (octet_in from xs i) (octet_in (from + length xs) ys i)
 octet_append from xs ys i = elim (cases_lt i from) [
@@ -69,14 +69,14 @@ octet_append from xs ys i = elim (cases_lt i from) [
       rw (le-ltb i from le) (got_append xs ys (i - from) ∙ ap (option_or (slice_get xs (i - from))) (rw (test, less) refl))
 ]
 
--- a segment with no octet
+-- a segment without octets
 pub octet_none : (from i : ℕ) → octet_in from [] i ≡ None
 octet_none from i = elim (cases_lt i from) [
   | inl lt ↦ octet_before from [] i lt
   | inr le ↦ octet_past from [] i (omega arith)
 ]
 
--- the octet at a place, with others put in
+-- the octet at an offset, after others were added
 pub got_with : (octets : List (Option ℕ)) (at : ℕ) (piece : List ℕ) (i : ℕ) (d : Option ℕ) → i < length octets →
     get_or (with_octets octets at piece) i d ≡ option_or (get_or octets i None) (octet_in at piece i)
 got_with octets at piece i d lt = get_or-map-range_with_len
@@ -87,7 +87,7 @@ pub length_with : (octets : List (Option ℕ)) (at : ℕ) (piece : List ℕ) →
 length_with octets at piece = length-map-range_with_len
     (λ k. option_or (get_or octets k None) (octet_in at piece k)) 0 (length octets)
 
--- where nothing is put in
+-- nothing is added
 pub with_octets_none : (octets : List (Option ℕ)) (at : ℕ) → with_octets octets at [] ≡ octets
 with_octets_none octets at = same_lists (with_octets octets at []) octets (length_with octets at [])
     (λ k d h.
@@ -95,7 +95,7 @@ with_octets_none octets at = same_lists (with_octets octets at []) octets (lengt
     got_with octets at [] k d lt ∙ (ap (option_or (get_or octets k None)) (octet_none at k)
     ∙ (or_none (get_or octets k None) ∙ get_or_default octets k None d lt)))
 
--- one octet more is put in
+-- one octet more is added
 pub with_octets_more : (octets : List (Option ℕ)) (at : ℕ) (piece : List ℕ) (k : ℕ) → k < length piece →
     with_octet (with_octets octets at (take k piece)) (at + k) (get_or piece k 0) ≡ with_octets octets at (take (k + 1) piece)
 with_octets_more octets at piece k lt =
@@ -127,7 +127,7 @@ with_octets_more octets at piece k lt =
           ∙ sym (goal_is ∙ (ap (option_or (front i)) (octet_elsewhere (at + k) y i other) ∙ or_none (front i))))
     ])
 
--- one segment placed behind another is both placed
+-- two adjacent segments placed one after the other are both placed
 pub places_then : (old mid new : List Block) (from n : ℕ) (xs ys : List ℕ) → length xs ≡ n → Places old mid from xs →
     Places mid new (from + n) ys → Places old new from (xs ++ ys)
 places_then old mid new from n xs ys long first second offset =
@@ -137,13 +137,13 @@ places_then old mid new from n xs ys long first second offset =
     ∙ ap (option_or was) (ap (λ k. option_or (octet_in from xs offset) (octet_in (from + k) ys offset)) (sym long)
     ∙ sym (octet_append from xs ys offset))))
 
--- the front up to one place, and what goes on to another
+-- the octets up to one offset, and those from it to another
 pub pieces_join : (done end : ℕ) (xs : List ℕ) → done ≤ end → take end xs ≡ take done xs ++ take (end - done) (drop done xs)
 pieces_join done end xs le =
     let end_is : end ≡ done + (end - done) = omega arith in
     ap (λ n. take n xs) end_is ∙ take-add done (end - done) xs
 
--- the octet of a segment at one of its places
+-- the octet of a segment at one of its offsets
 got_at : (xs : List ℕ) (j : ℕ) → j < length xs → slice_get xs j ≡ Some (get_or xs j 0)
 got_at [] j lt = absurd (omega arith)
 got_at (x ∷ xs) zero lt = refl
@@ -156,7 +156,7 @@ or_some : (a b : Option ℕ) → IsSome a → option_or a b ≡ a
 or_some None b some = cc
 or_some (Some x) b some = refl
 
--- where none stands, a run is what is added
+-- if no offset has an octet, all octets of the run are added
 pub with_blank : (octets : List (Option ℕ)) (at : ℕ) (piece : List ℕ) → at + length piece ≤ length octets → IsBlank at (length piece) octets →
     with_run at piece octets ≡ with_octets octets at piece
 with_blank octets at piece fits blank =
@@ -184,7 +184,7 @@ with_blank octets at piece fits blank =
       ]
     ])
 
--- where each place has an octet, none is added
+-- if each offset has an octet, none is added
 pub with_covered : (octets : List (Option ℕ)) (at : ℕ) (piece : List ℕ) → IsCovered at (length piece) octets → octets ≡ with_octets octets at piece
 with_covered octets at piece covered = same_lists octets (with_octets octets at piece) (sym (length_with octets at piece)) (λ k d lt.
     let same : (o : Option ℕ) → option_or (get_or octets k None) o ≡ get_or octets k None → octet_in at piece k ≡ o →

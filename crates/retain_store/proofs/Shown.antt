@@ -1,4 +1,4 @@
--- What contracts see of a store, from the pool that keeps it.
+-- What contracts see of a store, from the pool that holds it.
 use Rattle.std.proofs.Common.{◌≡◌, ℕ, zero, suc, ◌<◌, List, [], ◌∷◌, length, map, replicate, refl, sym, ap, ◌∙◌, arith}
 use Rattle.std.specs.List.{All}
 use Rattle.std.proofs.lemmas.List.{get_or-map, length-map, length-set, map-set}

@@ -1,4 +1,4 @@
--- Sums: over the elements of a list that each have a chain it is the sum over all chains, where the others are empty.
+-- Sums over a list whose elements have a chain each: they are sums over all chains, if the other chains are empty.
 use Rattle.std.proofs.Common.{◌≡◌, ◌≢◌, ℕ, suc, ◌<◌, List, [], ◌∷◌, length, map, set, get_or, refl, sym, ap, ◌∙◌, arith, length-set, get_or-set_same, get_or-set_other}
 use Rattle.std.specs.List.{sum_by, AllByRecursion}
 use Rattle.std.proofs.lemmas.Bool.{cases_eq}
@@ -17,7 +17,7 @@ nothing_held (x ∷ xs) none =
     let rest = nothing_held xs (λ c. none (suc c)) in
     omega (arith, sum_by-cons length x xs, first, rest)
 
--- where the functions agree on each element, so do the sums
+-- if the functions agree on each element, so do the sums
 pub sum_agree : {X : Type 0} (f g : X → ℕ) (xs : List X) → AllByRecursion (λ x. f x ≡ g x) xs → sum_by f xs ≡ sum_by g xs
 sum_agree f g [] all = refl
 sum_agree f g (x ∷ xs) all = omega (arith, sum_by-cons f x xs, sum_by-cons g x xs, all.0, sum_agree f g xs all.1)

@@ -28,7 +28,7 @@ length_without k octets =
       length-drop k octets,
     )
 
--- what is left at a place
+-- the octet left at an offset
 pub got_without : (k : ℕ) (octets : List (Option ℕ)) (i : ℕ) →
     get_or (without_below k octets) i None ≡ (if nat_lt i k then None else get_or octets i None)
 got_without k octets i =
@@ -75,7 +75,7 @@ got_none octets i all = elim (cases_lt i (length octets)) [
   | inr le ↦ get_or_past octets i None le
 ]
 
--- octets below an offset are forgotten, where its block has lost those below and no block before it is left
+-- octets below an offset are removed if its block has lost those below and no block before it is left
 pub forgets_in_block : (old new : List Block) (at : ℕ) (octets : List (Option ℕ)) →
     ((n : ℕ) → at / 256 ≢ n → block_at new n ≡ block_at old n) →
     ((n : ℕ) → n < at / 256 → block_at old n ≡ []) → block_at old (at / 256) ≡ octets →
@@ -102,12 +102,12 @@ forgets_in_block old new at octets other before was got offset =
           ]
     ]
 
--- a block further on
+-- a later block
 pub behind_first : (x : Held) (rest : List Held) (number : ℕ) → begins_below (x ∷ rest) number ≡ false →
     x.block ≢ number → number < x.block
 behind_first x rest number begun other = let le = ltb-false x.block number begun in omega arith
 
--- nothing is below, where the chain begins behind the block
+-- no octet is below, if the chain begins after the block
 nothing_below : (cells : List Held) (at : ℕ) → IsRising cells → BeginsAbove (at / 256) cells →
     ForgetsBelow (blocks_of cells) (blocks_of cells) at
 nothing_below cells at rises above offset = elim (cases_lt offset at) [
@@ -149,7 +149,7 @@ near_before x rest number (Some name) above = record {
   above = above.above;
 }
 
--- the first cell has the block of an offset, and lost the octets below it; and this tells whether it has no other
+-- the first cell has the block of an offset and lost the octets below it; `none_left` is true if it has no other
 pub record Clears (old mid : Lists) (c at : ℕ) (none_left : Bool) : Type 0 where
   pub cell : Held
   pub rest : List Held
@@ -235,7 +235,7 @@ module _ {old mid : Lists} {c at : ℕ} {none_left : Bool} (inside : c < length 
             ∙ ap (λ l. get_or l i None) (begins y rest (at / 256) cleared.numbered));
       }
 
-  -- it has none, and goes
+  -- it has none, and is freed
   pub forgets_all : {new : Lists} → none_left ≡ true → GivesBackAfter mid new c None → Forgets old new c (at / 256) at
   forgets_all {new = new} none gives =
       let x = cleared.cell in

@@ -1,4 +1,4 @@
--- The cells of a chain, as the pool's calls ask for them, and a walk along them.
+-- The cells of a chain, in the form that the pool's calls require, and a walk along them.
 use Rattle.std.proofs.Common.{◌≡◌, ℕ, ◌+◌, ◌<◌, ◌≤◌, ◌≢◌, List, [], ◌∷◌, ◌++◌, length, Option, Some, None, refl, sym, ap, ◌∙◌, arith, length-append, append_assoc}
 use Rattle.cell_pool.specs.declared.cells.CellId.{CellId}
 use Rattle.cell_pool.specs.Lists.{Lists, Held, HasPlaceFor, BeginsAbove, EndsBelow, chain_at, first_id, last_id, Stands, StandsUpTo, IsHeld}
@@ -44,7 +44,7 @@ reached_in before (x ∷ xs) splits ends below count named = record {
 
 module _ {cells : List Held} {number : ℕ} {last next : Option CellId} {passed : ℕ}
     (walk : IsWalk cells number last next passed) where
-  -- nothing is left
+  -- no cell is left
   pub walk_ends : next ≡ None → HasPlaceFor cells last number
   walk_ends none = record {
     before = walk.before;
@@ -110,7 +110,7 @@ module _ {cells : List Held} {number : ℕ} {last : Option CellId} {name : CellI
     count = omega (arith, reached.count, length-append reached.before (reached.cell ∷ []));
   }
 
--- a walk begins behind a cell, or at the front
+-- a walk begins after a cell, or at the front
 pub from_cell : {cells : List Held} {number : ℕ} {name : CellId} {next : Option CellId} →
     (among : IsAmong cells name) → among.cell.block < number → next ≡ first_id among.after →
     IsWalk cells number (Some name) next 0

@@ -1,4 +1,4 @@
--- What the steps of a change leave of the pool (this project's profile).
+-- How the steps of a change act on the pool (this project's profile).
 use Rattle.std.specs.Prelude.{◌≡◌, ℕ, ◌+◌, ◌<◌, ◌/◌, ◌==◌, nat_lt, Bool, false, ◌||◌, List, [], ◌++◌, ◌∷◌, length, map, Option, Some, None, slice_index_or, slice_set, if◌then◌else◌}
 use Rattle.std.specs.List.{range_with_len}
 use Rattle.std.specs.Option.{option_or}
@@ -7,21 +7,21 @@ use Rattle.cell_pool.specs.Lists.{Lists, Held, IsRising, chain_at, with_chain}
 use Rattle.retain_store.specs.Maps.{octet_at, octet_in, holds, ForgetsBelow, Places}
 use Rattle.retain_store.specs.Seats.{blocks_in, AllFull, IsAt, IsKept, IsNear}
 
--- The octets with one added, where none stands at this place.
+-- The octets with one added at this offset, unless it has one.
 abbrev pub with_octet : List (Option ℕ) → ℕ → ℕ → List (Option ℕ)
 with_octet octets at octet = slice_set octets at (option_or (slice_index_or octets at None) (Some octet))
 
--- The octets with these added from this place on, where none stand.
+-- The octets with those of `piece` added from this offset on, wherever there is none.
 abbrev pub with_octets : List (Option ℕ) → ℕ → List ℕ → List (Option ℕ)
 with_octets octets at piece =
     map (λ i. option_or (slice_index_or octets i None) (octet_in at piece i)) (range_with_len 0 (length octets))
 
--- Only this chain has changed; the cells that it has gained were free.
+-- Only this chain has changed, and the cells that it gained were free.
 pub record IsChanged (old new : Lists) (chain : ℕ) : Type 0 where
   pub others : new ≡ with_chain old chain (chain_at new chain) new.free
   pub cells : new.free + length (chain_at new chain) ≡ old.free + length (chain_at old chain)
 
--- There is a cell for this block, perhaps a new one with no octet; the map is the same.
+-- There is a cell for this block, perhaps a new one without octets; the map is unchanged.
 pub record Opens (old new : Lists) (chain number : ℕ) (name : CellId) : Type 0 where
   pub before : List Held
   pub cell : Held
@@ -36,7 +36,7 @@ pub record Opens (old new : Lists) (chain number : ℕ) (name : CellId) : Type 0
   pub octets : (offset : ℕ) → octet_at (blocks_in new chain) offset ≡ octet_at (blocks_in old chain) offset
   pub held : (n : ℕ) → holds (blocks_in new chain) n ≡ holds (blocks_in old chain) n
 
--- Octets of one block were added where there were none, and this is its cell.
+-- Octets of one block were added at offsets that had none, and this is its cell.
 pub record PlacesPiece (old new : Lists) (chain from : ℕ) (piece : List ℕ) (name : CellId) : Type 0 where
   pub near : IsNear (chain_at new chain) (Some name)
   pub kept : IsKept (chain_at new chain)
@@ -45,7 +45,7 @@ pub record PlacesPiece (old new : Lists) (chain from : ℕ) (piece : List ℕ) (
   pub octets : Places (blocks_in old chain) (blocks_in new chain) from piece
   pub held : (n : ℕ) → holds (blocks_in new chain) n ≡ (holds (blocks_in old chain) n || n == from / 256)
 
--- The cell of this name is among these, and its block number is above this one.
+-- The cell with this identifier is among these, and its block number is above `number`.
 pub record IsAmongAbove (cells : List Held) (number : ℕ) (name : CellId) : Type 0 where
   pub before : List Held
   pub cell : Held
@@ -53,23 +53,23 @@ pub record IsAmongAbove (cells : List Held) (number : ℕ) (name : CellId) : Typ
   pub at : IsAt cells name before cell after
   pub above : number < cell.block
 
--- The cell named, if one is, is among these, and its block number is above this one.
+-- The given cell, if there is one, is among these, and its block number is above `number`.
 abbrev pub IsAbove : List Held → ℕ → Option CellId → Type 0
 IsAbove cells number None = Unit {0}
 IsAbove cells number (Some name) = IsAmongAbove cells number name
 
--- The cells above this block number are still among these.
+-- The cells above this block number are still in the list.
 abbrev pub KeepsAbove : List Held → List Held → ℕ → Type 0
 KeepsAbove old new number = (near : Option CellId) → IsAbove old number near → IsAbove new number near
 
--- The octets below an offset were forgotten, and cells above this block number still stand.
+-- The octets below an offset were removed, and cells above this block number are still in the chain.
 pub record Forgets (old new : Lists) (chain number at : ℕ) : Type 0 where
   pub kept : IsKept (chain_at new chain)
   pub changed : IsChanged old new chain
   pub near : KeepsAbove (chain_at old chain) (chain_at new chain) number
   pub octets : ForgetsBelow (blocks_in old chain) (blocks_in new chain) at
 
--- The first cell has a block number below this one.
+-- The first cell has a block number below `number`.
 abbrev pub begins_below : List Held → ℕ → Bool
 begins_below [] number = false
 begins_below (x ∷ xs) number = nat_lt x.block number

@@ -1,4 +1,4 @@
--- How a store stands in a pool of cells (this project's profile): a block is a cell, a hint tells where a walk may begin.
+-- How a store is represented in a pool of cells (this project's profile): a block is a cell, a hint is a cell at which a walk may start.
 use Rattle.std.specs.Prelude.{◌≡◌, ℕ, ◌<◌, ◌≤◌, List, [], ◌∷◌, ◌++◌, length, map, Option, Some, None, slice_index_or}
 use Rattle.cell_pool.specs.declared.cells.CellId.{CellId}
 use Rattle.cell_pool.specs.Lists.{Lists, Held, IsRising, HasPlaceFor, chain_at, first_id, IsPlace, EndsBelow}
@@ -6,11 +6,11 @@ use Rattle.retain_store.specs.Maps.{Block, Store, IsFull}
 use Rattle.retain_store.specs.declared.seat.Seat.{Seat}
 use Rattle.retain_store.specs.declared.seat.Seat.TheVariants.{Cell, After}
 
--- The block that a cell keeps.
+-- The block that a cell holds.
 abbrev pub block_of : Held → Block
 block_of x = record { number = x.block; octets = x.octets }
 
--- The blocks that cells keep.
+-- The blocks that cells hold.
 abbrev pub blocks_of : List Held → List Block
 blocks_of cells = map block_of cells
 
@@ -18,11 +18,11 @@ blocks_of cells = map block_of cells
 abbrev pub blocks_in : Lists → ℕ → List Block
 blocks_in pool chain = blocks_of (chain_at pool chain)
 
--- The store that a pool keeps.
+-- The store that a pool holds.
 abbrev pub store_of : Lists → Store
 store_of pool = record { chains = map blocks_of pool.chains; free = pool.free; cells = pool.cells }
 
--- Each cell has an octet.
+-- Each cell has 256 positions, and an octet at one of them at least.
 abbrev pub AllFull : List Held → Type 0
 AllFull [] = Unit {0}
 AllFull (x ∷ xs) = IsFull x.octets × AllFull xs
@@ -32,24 +32,24 @@ pub record IsKept (cells : List Held) : Type 0 where
   pub rising : IsRising cells
   pub full : AllFull cells
 
--- The cell of this name stands between these.
+-- The cell with this identifier is between these.
 pub record IsAt (cells : List Held) (name : CellId) (before : List Held) (x : Held) (after : List Held) : Type 0 where
   pub splits : cells ≡ before ++ x ∷ after
   pub named : x.id ≡ name
 
--- The cell of this name is among these.
+-- The cell with this identifier is among these.
 pub record IsAmong (cells : List Held) (name : CellId) : Type 0 where
   pub before : List Held
   pub cell : Held
   pub after : List Held
   pub at : IsAt cells name before cell after
 
--- The cell named, if one is, is among these.
+-- The given cell, if there is one, is among these.
 abbrev pub IsNear : List Held → Option CellId → Type 0
 IsNear cells None = Unit {0}
 IsNear cells (Some name) = IsAmong cells name
 
--- The cell of this name is among these, and has this block number.
+-- The cell with this identifier is among these, and has this block number.
 pub record IsCellOf (cells : List Held) (number : ℕ) (name : CellId) : Type 0 where
   pub before : List Held
   pub cell : Held
@@ -57,12 +57,12 @@ pub record IsCellOf (cells : List Held) (number : ℕ) (name : CellId) : Type 0 
   pub at : IsAt cells name before cell after
   pub numbered : cell.block ≡ number
 
--- The block of this number stands in this cell, or it would stand after this one.
+-- This cell holds the block with this number, or the block's position would be after this cell.
 abbrev pub IsSeat : List Held → ℕ → Seat → Type 0
 IsSeat cells number (Cell name) = IsCellOf cells number name
 IsSeat cells number (After link) = HasPlaceFor cells link number
 
--- A walk has passed at least so many cells, the last of them `after`, all below this block number; `next` is the first left.
+-- A walk has passed at least `passed` cells, the last of them `after`, all below this block number; `next` is the first cell left.
 pub record IsWalk (cells : List Held) (number : ℕ) (after next : Option CellId) (passed : ℕ) : Type 0 where
   pub before : List Held
   pub rest : List Held
@@ -71,7 +71,7 @@ pub record IsWalk (cells : List Held) (number : ℕ) (after next : Option CellId
   pub next_is : next ≡ first_id rest
   pub count : passed ≤ length before
 
--- The cells of each chain are kept, and each chain has a hint, which is a cell of it or none.
+-- Each cell of a chain has an octet, block numbers rise, and each chain has a hint, which is a cell of it or none.
 pub record IsSound (pool : Lists) (hints : List (Option CellId)) : Type 0 where
   pub number : length hints ≡ length pool.chains
   pub kept : (c : ℕ) → c < length pool.chains → IsKept (chain_at pool c)

@@ -1,4 +1,4 @@
-//! What is read octet by octet, where some of the offsets have an octet and others have none.
+//! Reads octet by octet, for ranges in which only some offsets have an octet.
 ghost use Rattle.std.specs.Prelude.{◌≡◌, ◌+◌, ◌-◌, ◌<◌, ◌≤◌, ◌^◌, ◌↔◌, false, length, IsTrue};
 ghost use Rattle.cell_pool.specs.Lists.{chain_at, IsRising};
 ghost use Rattle.retain_store.specs.Maps.{fresh, Agrees, Settles};
@@ -7,7 +7,7 @@ ghost use Rattle.retain_store.specs.Seats.{blocks_in, IsNear};
 use crate::seat::look;
 use cell_pool::{CellId, ChainId, Pool};
 
-/// How many of the offsets have no octet.
+/// Returns how many of the offsets have no octet.
 pub(crate) fn count_each(
     pool: &Pool,
     chain: ChainId,
@@ -34,7 +34,7 @@ pub(crate) fn count_each(
     count
 }
 
-/// Whether none of the octets differs from the one kept at its offset.
+/// Returns whether none of the octets differs from the one kept at its offset.
 pub(crate) fn agrees_each(
     pool: &Pool,
     chain: ChainId,
@@ -59,7 +59,7 @@ pub(crate) fn agrees_each(
     true
 }
 
-/// Puts kept octets in place of those that differ, and answers whether one did.
+/// Replaces octets by those kept at their offsets, and returns whether one changed.
 pub(crate) fn settle_each(
     pool: &Pool,
     chain: ChainId,

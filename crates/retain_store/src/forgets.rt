@@ -1,4 +1,4 @@
-//! What of a chain is forgotten.
+//! Removal of octets from a chain.
 ghost use Rattle.std.specs.Prelude.{◌≡◌, ◌+◌, ◌*◌, ◌<◌, ◌/◌, [], false, length};
 ghost use Rattle.cell_pool.specs.Lists.{chain_at};
 ghost use Rattle.retain_store.specs.Maps.{ForgetsBelow};
@@ -8,7 +8,7 @@ ghost use Rattle.retain_store.specs.Changes.{begins_below, IsAbove, Forgets, IsC
 use crate::seat::place_of;
 use cell_pool::{CellId, ChainId, Pool};
 
-// Whether the first block of the chain is below this one.
+// Returns whether the number of the first block of the chain is below `block`.
 fn begins_below(pool: &Pool, chain: ChainId, block: u64) -> bool
     requires { chain.0 < length pool.now.chains }
     ensures { result ≡ begins_below (chain_at pool.now chain.0) block }
@@ -19,7 +19,7 @@ fn begins_below(pool: &Pool, chain: ChainId, block: u64) -> bool
     }
 }
 
-// The cell given, where its block is above this one.
+// Returns the given cell if its block number is above `block`.
 fn near_above(pool: &Pool, chain: ChainId, near: Option<CellId>, block: u64) -> Option<CellId>
     requires chain_in_range { chain.0 < length pool.now.chains }
     requires near_in_chain { IsNear (chain_at pool.now chain.0) near }
@@ -31,7 +31,7 @@ fn near_above(pool: &Pool, chain: ChainId, near: Option<CellId>, block: u64) -> 
     }
 }
 
-// Frees the cells of the blocks below this one.
+// Frees the cells of the blocks below `block`.
 fn free_below(pool: &mut Pool, chain: ChainId, block: u64)
     requires chain_in_range { chain.0 < length pool.old.chains }
     requires kept { IsKept (chain_at pool.old chain.0) }
@@ -43,7 +43,7 @@ fn free_below(pool: &mut Pool, chain: ChainId, block: u64)
     }
 }
 
-// Forgets the octets below an offset in its own block, where no block before it is left.
+// Removes the octets below an offset in the block of that offset; no block before it may be left.
 fn trim(pool: &mut Pool, chain: ChainId, at: u64)
     requires chain_in_range { chain.0 < length pool.old.chains }
     requires kept { IsKept (chain_at pool.old chain.0) }
@@ -62,7 +62,7 @@ fn trim(pool: &mut Pool, chain: ChainId, at: u64)
     pool.give_back_after(chain, None);
 }
 
-/// Forgets the octets below an offset, and answers a cell from which the next walk may begin.
+/// Removes the octets below an offset, and returns a cell at which the next walk may start.
 pub(crate) fn forget_before(
     pool: &mut Pool,
     chain: ChainId,
@@ -84,7 +84,7 @@ pub(crate) fn forget_before(
     near
 }
 
-/// Forgets all octets of a chain.
+/// Removes all octets of a chain.
 pub(crate) fn forget_chain(pool: &mut Pool, chain: ChainId)
     requires { chain.0 < length pool.old.chains }
     ensures empty { chain_at pool.new chain.0 ≡ [] }

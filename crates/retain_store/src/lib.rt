@@ -1,4 +1,19 @@
-//! Octets by chain and offset: the first octet at an offset stays until it is forgotten.
+//! Octets by chain and offset: the first octet placed at an offset stays until it is forgotten.
+//!
+//! Proved of `Retain`: `place` adds the octets at offsets that have none, keeps the octet that was
+//! first, and takes exactly the cells that are needed. `fresh` returns how many of the offsets have
+//! none, and `place_counting` does both. `has_room` says whether as many cells are free as are
+//! needed. `settle` replaces octets by those kept and returns whether one changed; `agrees`
+//! compares and changes nothing. `forget_below` forgets exactly the octets below its offset. A
+//! block is held exactly if one of its 256 offsets has an octet. Other chains stay unchanged. Free
+//! cells and held blocks together are the cells at opening. That a call walks past few cells is
+//! tested by time alone.
+//!
+//! Choices: a hint is the name of the cell used last. A walk begins there if it is less than 16
+//! blocks before, otherwise at a landmark of the pool or at the front. An emptied cell is given
+//! back at once, so a chain has as many cells as blocks with an octet. `has_room` counts missing
+//! blocks only if fewer cells are free than blocks are touched. `agrees` exists beside `settle` so
+//! that octets which are only compared are not copied.
 #![tactic(auto)]
 
 mod each;

@@ -1,4 +1,4 @@
-//! What is read along the octets of a segment.
+//! Reads along the octets of a segment.
 ghost use Rattle.std.specs.Prelude.{◌≡◌, ℕ, ◌+◌, ◌-◌, ◌<◌, ◌≤◌, ◌/◌, ◌^◌, ◌↔◌, Some, false, length, slice_index, IsTrue};
 ghost use Rattle.std.specs.List.{range_with_len};
 ghost use Rattle.cell_pool.specs.Lists.{chain_at, IsRising};
@@ -9,7 +9,8 @@ use crate::runs::{agrees_piece, copy_piece, covers_piece, piece_len, settle_piec
 use crate::seat::{Seat, seek};
 use cell_pool::{CellId, ChainId, Pool};
 
-/// How many blocks of 256 offsets are touched by so many offsets from this one on: as many as a chain with no octet needs.
+/// Returns the number of blocks of 256 offsets that `len` offsets from `from` on touch: as many
+/// cells as an empty chain needs for them.
 pub fn blocks_touched(from: u64, len: u32) -> u32
     requires { from + len ≤ 2 ^ 64 - 1 }
     ensures { touched from len ≡ range_with_len (from / 256) result }
@@ -21,7 +22,7 @@ pub fn blocks_touched(from: u64, len: u32) -> u32
     (last / 256 - from / 256 + 1) as u32
 }
 
-// Whether a block has an octet, and a cell from which the next walk may begin.
+// Returns whether a block has an octet, and a cell at which the next walk may start.
 fn look_up(pool: &Pool, chain: ChainId, near: Option<CellId>, block: u64) -> (bool, Option<CellId>)
     requires chain_in_range { chain.0 < length pool.now.chains }
     requires near_in_chain { IsNear (chain_at pool.now chain.0) near }
@@ -35,7 +36,7 @@ fn look_up(pool: &Pool, chain: ChainId, near: Option<CellId>, block: u64) -> (bo
     }
 }
 
-/// How many of the blocks touched have no octet.
+/// Returns the number of touched blocks without an octet.
 pub(crate) fn count_missing(
     pool: &Pool,
     chain: ChainId,
@@ -62,7 +63,7 @@ pub(crate) fn count_missing(
     count
 }
 
-/// Whether each of the offsets has its octet.
+/// Returns whether each of the offsets has an octet.
 pub(crate) fn covers_all(
     pool: &Pool,
     chain: ChainId,
@@ -91,7 +92,7 @@ pub(crate) fn covers_all(
     true
 }
 
-/// Whether none of the octets differs from the one kept at its offset.
+/// Returns whether none of the octets differs from the one kept at its offset.
 pub(crate) fn agrees_all(
     pool: &Pool,
     chain: ChainId,
@@ -120,7 +121,7 @@ pub(crate) fn agrees_all(
     true
 }
 
-/// Copies octets out, where each offset has one.
+/// Copies octets into `out`; each of the offsets must have one.
 pub(crate) fn copy(pool: &Pool, chain: ChainId, near: Option<CellId>, from: u64, out: &mut [u8])
     requires chain_in_range { chain.0 < length pool.now.chains }
     requires near_in_chain { IsNear (chain_at pool.now chain.0) near }
@@ -140,7 +141,7 @@ pub(crate) fn copy(pool: &Pool, chain: ChainId, near: Option<CellId>, from: u64,
     }
 }
 
-/// Puts kept octets in place of those that differ, and answers whether one did.
+/// Replaces octets by those kept at their offsets, and returns whether one changed.
 pub(crate) fn settle_all(
     pool: &Pool,
     chain: ChainId,

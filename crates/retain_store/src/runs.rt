@@ -1,4 +1,4 @@
-//! What is read of a piece, whose offsets are of one block.
+//! Reads of one part of a segment, whose offsets are all in one block.
 ghost use Rattle.std.specs.Prelude.{◌≡◌, ℕ, ◌+◌, ◌-◌, ◌<◌, ◌≤◌, ◌/◌, ◌%◌, ◌^◌, ◌↔◌, Some, false, length, slice_index, IsTrue};
 ghost use Rattle.cell_pool.specs.Lists.{chain_at, IsRising};
 ghost use Rattle.retain_store.specs.Maps.{octet_at, Agrees, Covers, Settles};
@@ -8,7 +8,7 @@ use crate::each::{agrees_each, settle_each};
 use crate::seat::{Seat, place_of, seek};
 use cell_pool::{CellId, ChainId, Pool};
 
-/// How many of `left` offsets from this one on are of its block.
+/// Returns how many of `left` offsets from `from` on are in its block.
 pub(crate) fn piece_len(from: u64, left: usize) -> usize
     ensures within { result ≤ left }
     ensures fits { from % 256 + result ≤ 256 }
@@ -17,7 +17,7 @@ pub(crate) fn piece_len(from: u64, left: usize) -> usize
     left.min(256 - usize::from(place_of(from)))
 }
 
-/// Whether each of the offsets, of which there are some, has its octet, and a cell from which the next walk may begin.
+/// Returns whether each of the offsets has an octet, and a cell at which the next walk may start.
 pub(crate) fn covers_piece(
     pool: &Pool,
     chain: ChainId,
@@ -39,7 +39,8 @@ pub(crate) fn covers_piece(
     }
 }
 
-// Whether none of the octets differs from the one kept at its offset, in the cell of their block.
+// Returns whether none of the octets differs from the one kept at its offset, in the cell of their
+// block.
 fn agrees_in(pool: &Pool, chain: ChainId, cell: CellId, from: u64, bytes: &[u8]) -> bool
     requires chain_in_range { chain.0 < length pool.now.chains }
     requires cell { IsCellOf (chain_at pool.now chain.0) (from / 256) cell }
@@ -58,7 +59,8 @@ fn agrees_in(pool: &Pool, chain: ChainId, cell: CellId, from: u64, bytes: &[u8])
     agrees_each(pool, chain, Some(cell), from, bytes)
 }
 
-/// Whether none of the octets differs from the one kept at its offset, and a cell from which the next walk may begin.
+/// Returns whether none of the octets differs from the one kept at its offset, and a cell at which
+/// the next walk may start.
 pub(crate) fn agrees_piece(
     pool: &Pool,
     chain: ChainId,
@@ -80,7 +82,8 @@ pub(crate) fn agrees_piece(
     }
 }
 
-/// Copies octets out, where each of the offsets, of which there are some, has one, and answers a cell from which the next walk may begin.
+/// Copies octets into `out`, and returns a cell at which the next walk may start. Each of the
+/// offsets must have an octet.
 pub(crate) fn copy_piece(
     pool: &Pool,
     chain: ChainId,
@@ -107,7 +110,8 @@ pub(crate) fn copy_piece(
     }
 }
 
-// Puts kept octets in place of those that differ, in the cell of their block, and answers whether one did.
+// Replaces octets by those kept at their offsets, in the cell of their block, and returns whether
+// one changed.
 fn settle_in(pool: &Pool, chain: ChainId, cell: CellId, from: u64, bytes: &mut [u8]) -> bool
     requires chain_in_range { chain.0 < length pool.now.chains }
     requires cell { IsCellOf (chain_at pool.now chain.0) (from / 256) cell }
@@ -131,7 +135,8 @@ fn settle_in(pool: &Pool, chain: ChainId, cell: CellId, from: u64, bytes: &mut [
     true
 }
 
-/// Puts kept octets in place of those that differ, and answers whether one did and a cell from which the next walk may begin.
+/// Replaces octets by those kept at their offsets, and returns whether one changed and a cell at
+/// which the next walk may start.
 pub(crate) fn settle_piece(
     pool: &Pool,
     chain: ChainId,

@@ -1,4 +1,4 @@
-//! Where a block stands in a chain of the pool.
+//! The position of a block in a chain of the pool.
 ghost use Rattle.std.specs.Prelude.{◌≡◌, ◌<◌, ◌%◌, length};
 ghost use Rattle.cell_pool.specs.Lists.{chain_at, IsRising};
 ghost use Rattle.retain_store.specs.Seats.{blocks_in, IsNear, IsSeat, IsWalk};
@@ -6,17 +6,18 @@ ghost use Rattle.retain_store.specs.Maps.{octet_at};
 
 use cell_pool::{CellId, ChainId, Pool};
 
-/// The cell of a block, or the cell after which a cell for it belongs, none at the front.
+/// Cell of a block, or the cell after which a cell for it belongs (none at the front).
 #[derive(Clone, Copy)]
 pub(crate) enum Seat {
     Cell(CellId),
     After(Option<CellId>),
 }
 
-// So close to each other blocks are walked to from the cell used last.
+// A walk starts at the cell used last if the block is less than this many blocks after it.
 const CLOSE: u64 = 16;
 
-/// Finds the seat of a block. The walk begins at `near` where that cell is less than 16 blocks before, else at a landmark of the pool or at the front.
+/// Finds the seat of a block. The walk starts at `near` if that cell is less than 16 blocks before,
+/// otherwise at a landmark of the pool or at the front.
 pub(crate) fn seek(pool: &Pool, chain: ChainId, near: Option<CellId>, block: u64) -> Seat
     requires chain_in_range { chain.0 < length pool.now.chains }
     requires near_in_chain { IsNear (chain_at pool.now chain.0) near }
@@ -34,7 +35,7 @@ pub(crate) fn seek(pool: &Pool, chain: ChainId, near: Option<CellId>, block: u64
     seek_far(pool, chain, block)
 }
 
-// Finds the seat of a block from a landmark, or from the front where none is before the block.
+// Finds the seat of a block from a landmark, or from the front if no landmark is before the block.
 #[inline(never)]
 fn seek_far(pool: &Pool, chain: ChainId, block: u64) -> Seat
     requires { chain.0 < length pool.now.chains }
@@ -53,7 +54,7 @@ fn seek_far(pool: &Pool, chain: ChainId, block: u64) -> Seat
     walk(pool, chain, Some(cell), pool.next_of(cell), block)
 }
 
-// Walks on to the block, from behind the cell `after` to `next` and the cells that follow.
+// Walks to the block, from the position after the cell `after` to `next` and the cells that follow.
 fn walk(
     pool: &Pool,
     chain: ChainId,
@@ -84,7 +85,7 @@ fn walk(
     Seat::After(after)
 }
 
-/// The octet at an offset, if there is one, and a cell from which the next walk may begin.
+/// Returns the octet at an offset, if there is one, and a cell at which the next walk may start.
 pub(crate) fn look(
     pool: &Pool,
     chain: ChainId,
@@ -103,7 +104,7 @@ pub(crate) fn look(
     }
 }
 
-/// The place of an offset in its block.
+/// Returns the position of an offset in its block.
 pub(crate) fn place_of(offset: u64) -> u8
     ensures { result ≡ offset % 256 }
 {

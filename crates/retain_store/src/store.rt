@@ -3,6 +3,7 @@ ghost use Rattle.std.specs.Prelude.{◌≡◌, ℕ, ◌+◌, ◌-◌, ◌*◌, �
 ghost use Rattle.std.specs.List.{count_by, range_with_len, sum_by};
 ghost use Rattle.retain_store.specs.Maps.{chain_of, has_octet, holds, octet_at, missing, fresh, Agrees, ChangesOnly, Covers, ForgetsBelow, IsMap, IsWithin, Places, Settles};
 
+use crate::each::count_each;
 use crate::forgets::{forget_before, forget_chain};
 use crate::reads::{agrees_all, blocks_touched, copy, count_missing, covers_all, settle_all};
 use crate::writes::place_all;
@@ -11,11 +12,11 @@ use edge_io::NoMemory;
 use std::alloc::Global;
 use std::marker::Model;
 
-/// Octets that are kept until they are forgotten, by chain and offset.
+/// Octets by chain and offset, kept until they are removed.
 #[derive(Drop)]
 pub struct Retain {
     pool: Pool,
-    // For each chain the cell touched last, where the next walk begins, or none.
+    // For each chain, the cell touched last, where the next walk starts, or none.
     hints: Vec<Option<CellId>>,
 }
 
@@ -31,7 +32,7 @@ impl Model for Retain {
 }
 
 impl Retain {
-    /// A store with so many free cells, of 256 octets each, and so many chains with no octet.
+    /// Creates a store with `cells` free cells, of 256 octets each, and `chains` empty chains.
     pub fn open(alloc: Global, cells: u32, chains: u32) -> Result<Retain, NoMemory>
         requires { cells + chains < 2 ^ 32 - 1 }
         ensures { IfOk result
@@ -42,7 +43,7 @@ impl Retain {
         Ok(Retain { pool, hints })
     }
 
-    /// How many cells are free.
+    /// Returns the number of free cells.
     pub fn free(&self) -> u32
         ensures value { result ≡ self.now.free }
         ensures total { self.now.free + sum_by length self.now.chains ≡ self.now.cells }
@@ -50,7 +51,7 @@ impl Retain {
         self.pool.free()
     }
 
-    /// How many blocks of 256 offsets have an octet in the chain. Each takes one cell.
+    /// Returns the number of blocks of 256 offsets with an octet in the chain. Each takes one cell.
     pub fn held(&self, chain: ChainId) -> u32
         requires { chain.0 < length self.now.chains }
         ensures count { result ≡ length (chain_of self.now chain.0) }
@@ -62,7 +63,7 @@ impl Retain {
         self.pool.count(chain)
     }
 
-    /// How many of the blocks touched have no octet yet.
+    /// Returns the number of touched blocks without an octet.
     pub fn need(&self, chain: ChainId, from: u64, len: u32) -> u32
         requires chain_in_range { chain.0 < length self.now.chains }
         requires offsets { from + len ≤ 2 ^ 64 - 1 }
@@ -71,7 +72,8 @@ impl Retain {
         count_missing(&self.pool, chain, self.hints[chain.0 as usize], from, len)
     }
 
-    /// Whether as many cells are free as the blocks touched need. They are counted only where fewer are free than blocks are touched.
+    /// Returns whether as many cells are free as the touched blocks need. Missing blocks are
+    /// counted only if fewer cells are free than blocks are touched.
     pub fn has_room(&self, chain: ChainId, from: u64, len: u32) -> bool
         requires chain_in_range { chain.0 < length self.now.chains }
         requires offsets { from + len ≤ 2 ^ 64 - 1 }
@@ -84,8 +86,33 @@ impl Retain {
         self.need(chain, from, len) <= free
     }
 
-    /// Adds the octets at offsets that have none, and answers how many these are. It takes no memory.
-    pub fn place(&mut self, chain: ChainId, from: u64, bytes: &[u8]) -> usize
+    /// Returns how many of `len` offsets have no octet: as many as `place` would add there.
+    pub fn fresh(&self, chain: ChainId, from: u64, len: u32) -> u32
+        requires chain_in_range { chain.0 < length self.now.chains }
+        requires offsets { from + len ≤ 2 ^ 64 - 1 }
+        ensures { result ≡ fresh (chain_of self.now chain.0) from len }
+    {
+        count_each(&self.pool, chain, self.hints[chain.0 as usize], from, len)
+    }
+
+    /// Adds the octets at offsets that have none. Allocates nothing.
+    pub fn place(&mut self, chain: ChainId, from: u64, bytes: &[u8])
+        requires chain_in_range { chain.0 < length self.old.chains }
+        requires offsets { from + length bytes.now ≤ 2 ^ 64 - 1 }
+        requires room { missing (chain_of self.old chain.0) from (length bytes.now) ≤ self.old.free }
+        ensures octets { Places (chain_of self.old chain.0) (chain_of self.new chain.0) from bytes.now }
+        ensures free { self.new.free + missing (chain_of self.old chain.0) from (length bytes.now) ≡ self.old.free }
+        ensures changed { ChangesOnly self.old self.new chain.0 }
+        ensures map { IsMap (chain_of self.new chain.0) }
+        ensures held { (n : ℕ) → IsWithin (chain_of self.new chain.0) (256 * n) →
+            length (chain_of self.new chain.0) ≡ count_by (holds (chain_of self.new chain.0)) (range_with_len 0 n) }
+    {
+        self.place_counting(chain, from, bytes);
+    }
+
+    /// Adds the octets at offsets that have none, and returns their number: `fresh` and `place` in
+    /// one pass.
+    pub fn place_counting(&mut self, chain: ChainId, from: u64, bytes: &[u8]) -> usize
         requires chain_in_range { chain.0 < length self.old.chains }
         requires offsets { from + length bytes.now ≤ 2 ^ 64 - 1 }
         requires room { missing (chain_of self.old chain.0) from (length bytes.now) ≤ self.old.free }
@@ -104,7 +131,7 @@ impl Retain {
         fresh
     }
 
-    /// Whether none of the octets differs from the one kept at its offset.
+    /// Returns whether none of the octets differs from the one kept at its offset.
     pub fn agrees(&self, chain: ChainId, from: u64, bytes: &[u8]) -> bool
         requires chain_in_range { chain.0 < length self.now.chains }
         requires offsets { from + length bytes.now ≤ 2 ^ 64 - 1 }
@@ -113,7 +140,7 @@ impl Retain {
         agrees_all(&self.pool, chain, self.hints[chain.0 as usize], from, bytes)
     }
 
-    /// Puts kept octets in place of those that differ, and answers whether one did.
+    /// Replaces octets by those kept at their offsets, and returns whether one changed.
     pub fn settle(&self, chain: ChainId, from: u64, bytes: &mut [u8]) -> bool
         requires chain_in_range { chain.0 < length self.now.chains }
         requires offsets { from + length bytes.old ≤ 2 ^ 64 - 1 }
@@ -123,7 +150,7 @@ impl Retain {
         settle_all(&self.pool, chain, self.hints[chain.0 as usize], from, bytes)
     }
 
-    /// Forgets the octets below an offset.
+    /// Removes the octets below an offset.
     pub fn forget_below(&mut self, chain: ChainId, at: u64)
         requires { chain.0 < length self.old.chains }
         ensures octets { ForgetsBelow (chain_of self.old chain.0) (chain_of self.new chain.0) at }
@@ -137,7 +164,7 @@ impl Retain {
         self.hints[chain.0 as usize] = near;
     }
 
-    /// Forgets all octets of the chain.
+    /// Removes all octets of the chain.
     pub fn forget_all(&mut self, chain: ChainId)
         requires { chain.0 < length self.old.chains }
         ensures empty { chain_of self.new chain.0 ≡ [] }
@@ -147,7 +174,7 @@ impl Retain {
         self.hints[chain.0 as usize] = None;
     }
 
-    /// Whether each of so many offsets has its octet.
+    /// Returns whether each of the `len` offsets from `from` on has an octet.
     pub fn covers(&self, chain: ChainId, from: u64, len: u32) -> bool
         requires chain_in_range { chain.0 < length self.now.chains }
         requires offsets { from + len ≤ 2 ^ 64 - 1 }
@@ -156,7 +183,7 @@ impl Retain {
         covers_all(&self.pool, chain, self.hints[chain.0 as usize], from, len)
     }
 
-    /// Copies out octets that are all there.
+    /// Copies octets into `out`; each of the offsets must have one.
     pub fn copy_out(&self, chain: ChainId, from: u64, out: &mut [u8])
         requires chain_in_range { chain.0 < length self.now.chains }
         requires offsets { from + length out.old ≤ 2 ^ 64 - 1 }

@@ -1,4 +1,5 @@
-//! The store beside a plain map from chain and offset to octet, and a chain as long as the store.
+//! The store compared with a plain map from chain and offset to octet, and a chain that takes all
+//! cells.
 ghost use Rattle.std.specs.Prelude.{◌≡◌, ◌+◌, ◌<◌, ◌≤◌, ◌^◌, length};
 
 use crate::{ChainId, Retain};
@@ -13,9 +14,11 @@ fn the_octet_that_came_first_stays(rt: HostRuntime) -> Result<(), Fail> {
     let from = (1 << 62) + 254;
     assert_eq!(rt; store.need(chain, from, 3), 2);
     assert_eq!(rt; store.free(), 3);
-    assert_eq!(rt; store.place(chain, from, b"abc"), 3);
+    assert_eq!(rt; store.fresh(chain, from, 3), 3);
+    store.place(chain, from, b"abc");
     assert_eq!(rt; store.need(chain, from + 1, 4), 0);
-    assert_eq!(rt; store.place(chain, from + 1, b"XYZW"), 2);
+    assert_eq!(rt; store.fresh(chain, from + 1, 4), 2);
+    assert_eq!(rt; store.place_counting(chain, from + 1, b"XYZW"), 2);
     let mut octets = [0; 5];
     assert!(rt; store.covers(chain, from, 5));
     store.copy_out(chain, from, &mut octets);
@@ -31,12 +34,12 @@ fn calls_at_the_end_of_a_long_chain_walk_nothing(rt: HostRuntime) -> Result<(), 
         let from = 256 * block;
         assert_eq!(rt; store.need(ChainId(0), from, 256), 1);
         assert!(rt; store.free() >= 1);
-        assert_eq!(rt; store.place(ChainId(0), from, &octets), 256);
+        assert_eq!(rt; store.place_counting(ChainId(0), from, &octets), 256);
         assert!(rt; !store.settle(ChainId(0), from, &mut octets));
     }
     assert_eq!(rt; store.free(), 0);
     assert_eq!(rt; store.held(ChainId(0)), 65_536);
-    // A call at the end of the chain begins its walk there, also while the front is forgotten.
+    // A call at the end of the chain starts its walk there, even while the front is removed.
     for at in 0..1_000_000 {
         store.forget_below(ChainId(0), at);
         assert!(rt; !store.settle(ChainId(0), 256 * 65_535, &mut octets[..1]));
@@ -48,18 +51,18 @@ fn calls_at_the_end_of_a_long_chain_walk_nothing(rt: HostRuntime) -> Result<(), 
 #[test]
 fn calls_anywhere_in_a_long_chain_walk_little(rt: HostRuntime) -> Result<(), Fail> {
     let mut store = Retain::open(rt.alloc(), 65_536, 1)?;
-    // Each block comes far from the one before, and stands far from its neighbours.
+    // Each block is far from the one placed before it, and far from its neighbours in the chain.
     for index in 0..65_536 {
         let from = 16_384 * (40_503 * index % 65_536);
         assert_eq!(rt; store.need(ChainId(0), from, 1), 1);
         assert!(rt; store.free() >= 1);
-        assert_eq!(rt; store.place(ChainId(0), from, b"a"), 1);
+        assert_eq!(rt; store.place_counting(ChainId(0), from, b"a"), 1);
     }
     assert_eq!(rt; store.free(), 0);
     Ok(())
 }
 
-// Numbers of a fixed pattern.
+// Pseudorandom numbers from a fixed seed.
 #[derive(Drop)]
 struct Pattern(u64);
 
@@ -74,7 +77,7 @@ impl Pattern {
     }
 }
 
-// A plain map from chain and offset to octet, the definition's own program.
+// Plain map from chain and offset to octet, as the definition has it.
 #[derive(Drop)]
 struct Plain {
     octets: BTreeMap<(u32, u64), u8>,
@@ -85,7 +88,7 @@ impl Plain {
         self.octets.get(&(chain.0, offset)).copied()
     }
 
-    // Places octets, and answers how many are new.
+    // Adds octets, and returns how many are new.
     fn place(&mut self, chain: ChainId, from: u64, bytes: &[u8]) -> Result<usize, Fail>
         requires { from + length bytes.now < 2 ^ 64 }
     {
@@ -111,7 +114,7 @@ impl Plain {
         self.octets.retain(|key, _| key.0 != chain.0 || key.1 >= at);
     }
 
-    // Whether the block has an octet, by its number and by an offset in it.
+    // Returns whether the block with this number has an octet.
     fn holds(&self, chain: ChainId, block: u64) -> bool {
         self.octets
             .keys()
@@ -119,7 +122,7 @@ impl Plain {
     }
 }
 
-// Both after the same calls: the store, and what it stands for.
+// The store and the plain map after the same calls.
 #[derive(Drop)]
 struct Both {
     store: Retain,
@@ -128,7 +131,7 @@ struct Both {
     ghost three: { length store.chains ≡ 3 },
 }
 
-// Where the offsets of a chain begin.
+// Returns the first offset used in a chain.
 fn base_of(chain: ChainId) -> u64
     ensures { result + 5000 < 2 ^ 64 }
 {
@@ -140,7 +143,7 @@ fn base_of(chain: ChainId) -> u64
 }
 
 impl Both {
-    // How many blocks are missing, as both say.
+    // Returns the number of missing blocks, and checks that both agree.
     fn need(&self, rt: &impl Abort, chain: ChainId, from: u64, len: u32) -> u32
         requires chain_in_range { chain.0 < 3 }
         requires offsets { from + len < 2 ^ 64 }
@@ -174,7 +177,11 @@ impl Both {
         assert_eq!(rt; self.store.has_room(chain, from, bytes.len() as u32), fits);
         if self.store.has_room(chain, from, bytes.len() as u32) {
             let plain = self.plain.place(chain, from, bytes)?;
-            assert_eq!(rt; self.store.place(chain, from, bytes), plain);
+            assert_eq!(rt;
+                self.store.fresh(chain, from, bytes.len() as u32) as usize,
+                plain
+            );
+            assert_eq!(rt; self.store.place_counting(chain, from, bytes), plain);
         }
         Ok(())
     }
@@ -193,7 +200,7 @@ impl Both {
         assert!(rt; &*plain == &*bytes);
     }
 
-    // What both have at the offsets of a chain.
+    // Checks that both have the same octets at the offsets of a chain.
     fn read(&self, rt: &impl Abort, chain: ChainId, from: u64, len: u32)
         requires chain_in_range { chain.0 < 3 }
         requires offsets { from + len < 2 ^ 64 }
@@ -225,7 +232,7 @@ impl Both {
         }
     }
 
-    // How many blocks a chain has, and how many cells are free.
+    // Checks the number of blocks of each chain and the number of free cells.
     fn count(&self, rt: &impl Abort) {
         let mut held: u32 = 0;
         for number in 0..3 {
@@ -243,7 +250,7 @@ impl Both {
         assert_eq!(rt; self.store.free().saturating_add(held), 40);
     }
 
-    // One call more of each of the two.
+    // Makes one more call of each of the two.
     fn step(&mut self, rt: &impl Abort) -> Result<(), Fail> {
         let chain = ChainId(self.pattern.next(3) as u32);
         let from = base_of(chain) + self.pattern.next(4_000);

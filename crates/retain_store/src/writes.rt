@@ -1,4 +1,4 @@
-//! What is added to a chain.
+//! Additions to a chain.
 ghost use Rattle.std.specs.Prelude.{◌≡◌, ℕ, ◌+◌, ◌-◌, ◌<◌, ◌≤◌, ◌/◌, ◌%◌, ◌^◌, Some, true, length};
 ghost use Rattle.cell_pool.specs.Lists.{chain_at, IsHeld, IsRising, Writes};
 ghost use Rattle.retain_store.specs.Maps.{fresh, holds, missing, Places};
@@ -9,7 +9,7 @@ use crate::each::count_each;
 use crate::seat::{Seat, place_of, seek};
 use cell_pool::{CellId, ChainId, Pool};
 
-// Puts an octet into a cell where there is none.
+// Writes an octet into a cell, unless the offset has one.
 fn add(pool: &mut Pool, cell: CellId, at: u8, octet: u8)
     requires { IsHeld pool.old cell }
     ensures { Writes pool.old pool.new cell (λ octets. with_octet octets at octet) }
@@ -19,7 +19,7 @@ fn add(pool: &mut Pool, cell: CellId, at: u8, octet: u8)
     }
 }
 
-// Puts octets into a cell, one by one from a place on, where there are none.
+// Writes octets into a cell one by one, at the offsets from `at` on that have none.
 fn fill_each(pool: &mut Pool, cell: CellId, at: u8, piece: &[u8])
     requires held { IsHeld pool.old cell }
     requires fits { at + length piece.now ≤ 256 }
@@ -30,7 +30,7 @@ fn fill_each(pool: &mut Pool, cell: CellId, at: u8, piece: &[u8])
     }
 }
 
-// Adds octets of one block, in its cell, where there are none, and answers how many they are.
+// Adds octets of one block, in its cell, at the offsets that have none, and returns their number.
 fn fill(pool: &mut Pool, chain: ChainId, cell: CellId, from: u64, piece: &[u8]) -> u32
     requires chain_in_range { chain.0 < length pool.old.chains }
     requires cell { IsCellOf (chain_at pool.old chain.0) (from / 256) cell }
@@ -54,7 +54,7 @@ fn fill(pool: &mut Pool, chain: ChainId, cell: CellId, from: u64, piece: &[u8]) 
     fresh
 }
 
-// The cell of a block, taken where there is none.
+// Returns the cell of a block; takes a free one if the block has none.
 fn cell_for(pool: &mut Pool, chain: ChainId, near: Option<CellId>, block: u64) -> CellId
     requires chain_in_range { chain.0 < length pool.old.chains }
     requires near_in_chain { IsNear (chain_at pool.old chain.0) near }
@@ -73,7 +73,7 @@ fn cell_for(pool: &mut Pool, chain: ChainId, near: Option<CellId>, block: u64) -
     }
 }
 
-// Adds octets of one block where there are none, and answers its cell and how many they are.
+// Adds octets of one block at the offsets that have none, and returns its cell and their number.
 fn place_piece(
     pool: &mut Pool,
     chain: ChainId,
@@ -96,7 +96,8 @@ fn place_piece(
     (cell, fresh)
 }
 
-/// Adds octets at the offsets that have none, and answers a cell from which the next walk may begin and how many they are.
+/// Adds octets at the offsets that have none, and returns a cell at which the next walk may start
+/// and the number of added octets.
 pub(crate) fn place_all(
     pool: &mut Pool,
     chain: ChainId,

@@ -1,4 +1,4 @@
--- What cleaning leaves of an area: laws over all areas.
+-- Laws of cleaned areas.
 use Rattle.std.proofs.Common.{◌≡◌, ℕ, zero, suc, ◌-◌, ◌≤◌, ◌<◌, ◌⊎◌, ◌==◌, ◌&&◌, inl, inr, Bool, true, false, List, [], ◌∷◌, length, get_or, replicate, not, min, Some, refl, sym, subst, ap, ◌∙◌, ⊎_elim, arith}
 use Rattle.std.proofs.lemmas.Bool.{cases_lt}
 use Rattle.std.proofs.lemmas.Bool.Decides.{nat_tests}
@@ -10,7 +10,7 @@ use Rattle.wire_base.proofs.OptionLists.{are_well_formed-walk, has-first, scale_
 use Rattle.tcp_codec.specs.Cleaning.{CleansOctets, CleansOnce, KeepsScale, StaysWellFormed, is_kept_after}
 use Rattle.tcp_codec.proofs.CleanedWalk.{cleaned_from, cleaned_from-first, cleaned_from-other, cleaned-walk, end_from, end_from-sized, end_of-walk}
 
--- the octets that still belong to an option where the cleaned area is walked: those of one that was kept
+-- the number of octets that still belong to the option before in a walk over the cleaned area: 0 if that option was not kept
 abbrev pub again : Bool → ℕ → ℕ
 again true left = left
 again false left = 0
@@ -19,17 +19,17 @@ again-zero : (keep : Bool) → again keep zero ≡ zero
 again-zero true = refl
 again-zero false = refl
 
--- an option that is kept has its length octet
+-- a kept option has a length of at least 2
 kept-size : (syn : Bool) (before : List ℕ) (kind size : ℕ) → is_kept_after syn before kind size ≡ true → 2 ≤ size
 kept-size syn before kind size keep = grind (arith, nat_tests)
 
--- which is kept
+-- and its length octet is kept
 first-octet : (syn : Bool) (before : List ℕ) (left : ℕ) (octets : List ℕ) → 1 ≤ left → get_or (cleaned_from syn before true left octets) 0 0 ≡ get_or octets 0 0
 first-octet syn before zero octets some = absurd (omega arith)
 first-octet syn before (suc left) [] some = refl
 first-octet syn before (suc left) (x ∷ octets) some = refl
 
--- a cleaned area stays as it is
+-- cleaning a cleaned area changes nothing
 once : (syn : Bool) (before : List ℕ) (keep : Bool) (left : ℕ) (octets : List ℕ) → cleaned_from syn before true (again keep left) (cleaned_from syn before keep left octets) ≡ cleaned_from syn before keep left octets
 once syn before keep left [] = refl
 once syn before true (suc left) (x ∷ octets) = ap (λ xs. x ∷ xs) (once syn before true left octets)
@@ -59,14 +59,14 @@ cleans_once syn area =
     let e = cleaned-walk syn area in
     ap (cleaned syn) e ∙ cleaned-walk syn (cleaned_from syn [] true 0 area) ∙ once syn [] true 0 area ∙ sym e
 
--- what a well formed list says of an option at its front
+-- an option at the front of a well-formed list has a length of at least 2
 sized-some : (kind : ℕ) (octets : List ℕ) → 2 ≤ kind → formed_from 0 (kind ∷ octets) ≡ true → 2 ≤ get_or octets 0 0
 sized-some kind octets other formed =
     ⊎_elim (λ small. let bad = formed_from-small kind octets other small in cc)
     (λ some. some)
     (cases_lt (get_or octets 0 0) 2)
 
--- well formed options still are when they are cleaned
+-- well-formed options stay well formed when they are cleaned
 formed : (syn : Bool) (before : List ℕ) (keep : Bool) (left : ℕ) (octets : List ℕ) → formed_from left octets ≡ true → formed_from (again keep left) (cleaned_from syn before keep left octets) ≡ true
 formed syn before true left [] h = h
 formed syn before false left [] h = refl
@@ -95,7 +95,7 @@ pub stays_well_formed : StaysWellFormed
 stays_well_formed syn area h =
     are_well_formed-walk (cleaned syn area) ∙ ap (formed_from 0) (cleaned-walk syn area) ∙ formed syn [] true 0 area (sym (are_well_formed-walk area) ∙ h)
 
--- an octet at a place: it stays or is a no-operation before the end option, and it is 0 from there on
+-- an octet at the offset `place`: it is unchanged or a no-operation before the end option, and it is 0 from there on
 abbrev pub IsOctet : (end : ℕ) (area new : List ℕ) (place : ℕ) → Type 0
 IsOctet end area new place = (place < end → (get_or new place 0 ≡ get_or area place 0) ⊎ (get_or new place 0 ≡ 1)) × (end ≤ place → get_or new place 0 ≡ 0)
 
@@ -169,7 +169,7 @@ first-scale before kind size none e =
 other-kind : (before : List ℕ) (kind size : ℕ) → is_kept_after true before kind size ≡ true → ((kind == 3) && (size == 3)) ≡ false → (kind == 3) ≡ false
 other-kind before kind size kept another = grind (arith, nat_tests)
 
--- the scale behind an option that is kept, or in it
+-- the window scale after a kept option, or in it
 kept-scale : (before : List ℕ) (kind : ℕ) (octets : List ℕ) → list_any (λ other. other == 3) before ≡ false → 2 ≤ kind → is_kept_after true before kind (get_or octets 0 0) ≡ true
     → (list_any (λ other. other == 3) (kind ∷ before) ≡ false → scale_from (get_or octets 0 0 - 1) (cleaned_from true (kind ∷ before) true (get_or octets 0 0 - 1) octets) ≡ scale_from (get_or octets 0 0 - 1) octets)
     → scale_from 0 (kind ∷ cleaned_from true (kind ∷ before) true (get_or octets 0 0 - 1) octets) ≡ scale_from 0 (kind ∷ octets)
@@ -188,7 +188,7 @@ kept-scale before kind octets none other kept behind =
     scale_from-size kind left other (here ∙ another) ∙ ap (λ n. scale_from (n - 1) left) first ∙ behind others ∙ sym (scale_from-size kind octets other another))
     (which ((kind == 3) && (size == 3)))
 
--- the scale of what is left is that of what cleaning makes of it
+-- the octets not yet read have the same window scale when they are cleaned
 same-scale : (before : List ℕ) (keep : Bool) (left : ℕ) (octets : List ℕ) → list_any (λ other. other == 3) before ≡ false → scale_from (again keep left) (cleaned_from true before keep left octets) ≡ scale_from left octets
 same-scale before keep left [] none = refl
 same-scale before true (suc left) (x ∷ octets) none = same-scale before true left octets none

@@ -1,4 +1,4 @@
--- Cleaning as one walk over the octets, and that it is what is said of the list of options.
+-- Cleaning as one walk over the octets, and that it is equal to cleaning by the list of options.
 use Rattle.std.proofs.Common.{◌≡◌, ℕ, zero, suc, ◌+◌, ◌-◌, ◌≤◌, ◌<◌, ◌==◌, ◌&&◌, ◌||◌, nat_lt, not, Bool, true, false, List, [], ◌∷◌, ◌++◌, length, get_or, take, drop, replicate, if◌then◌else◌, refl, sym, ap, ◌∙◌, ⊎_elim, arith}
 use Rattle.std.specs.List.{flat_map, list_any}
 use Rattle.std.proofs.lemmas.Bool.{ne_eqb}
@@ -9,8 +9,8 @@ use Rattle.wire_base.specs.Options.{Listed, OptionList, options_from, may_be_kep
 use Rattle.wire_base.proofs.OptionLists.{at_front, options_from-size, front-size, which}
 use Rattle.tcp_codec.specs.Cleaning.{is_kept_after}
 
--- The cleaned area: the octets of an option that is not kept are 1, those from the end option on are 0.
--- It reads the kinds kept before, whether the option before is kept, and the octets that still belong to it.
+-- The cleaned area: the octets of an option that is not kept are 1, those from the end option on are 0. Arguments: the kinds kept before, whether the option
+-- before is kept, and the number of octets that still belong to it.
 abbrev pub cleaned_from : (syn : Bool) (before : List ℕ) (keep : Bool) → (left : ℕ) → List ℕ → List ℕ
 cleaned_from syn before keep left [] = []
 cleaned_from syn before keep (suc left) (x ∷ octets) = (if keep then x else 1) ∷ cleaned_from syn before keep left octets
@@ -26,18 +26,18 @@ cleaned_from syn before keep zero (kind ∷ octets) =
       ]
     ]
 
--- it keeps the octets of an option that is kept
+-- the walk keeps the octets of a kept option
 pub cleaned_from-kept : (syn : Bool) (before : List ℕ) (n : ℕ) (octets : List ℕ) → cleaned_from syn before true n octets ≡ take n octets ++ cleaned_from syn before true 0 (drop n octets)
 cleaned_from-kept syn before zero octets = refl
 cleaned_from-kept syn before (suc n) [] = refl
 cleaned_from-kept syn before (suc n) (x ∷ octets) = ap (λ xs. x ∷ xs) (cleaned_from-kept syn before n octets)
 
--- before an option's kind it is the same whether the option before was kept
+-- where an option begins, it does not matter whether the option before was kept
 cleaned_from-next : (syn : Bool) (before octets : List ℕ) → cleaned_from syn before false 0 octets ≡ cleaned_from syn before true 0 octets
 cleaned_from-next syn before [] = refl
 cleaned_from-next syn before (x ∷ octets) = refl
 
--- it makes no-operations of the octets of an option that is not kept
+-- the walk replaces the octets of an option that is not kept with no-operations
 blanked-octets : (syn : Bool) (before : List ℕ) (n : ℕ) (octets : List ℕ) → cleaned_from syn before false n octets ≡ replicate (length (take n octets)) 1 ++ cleaned_from syn before true 0 (drop n octets)
 blanked-octets syn before zero octets = cleaned_from-next syn before octets
 blanked-octets syn before (suc n) [] = refl
@@ -47,7 +47,7 @@ pub cleaned_from-blank : (syn : Bool) (before : List ℕ) (n : ℕ) (octets : Li
 cleaned_from-blank syn before n octets inside =
     blanked-octets syn before n octets ∙ ap (λ count. replicate count 1 ++ cleaned_from syn before true 0 (drop n octets)) (length-take-le n octets inside)
 
--- a kept option, and one that is not kept, at the front of what is left
+-- a kept option, and one that is not kept, at the front of the octets
 pub cleaned_from-first : (syn : Bool) (before : List ℕ) (kind : ℕ) (octets : List ℕ) → 2 ≤ kind → is_kept_after syn before kind (get_or octets 0 0) ≡ true → cleaned_from syn before true 0 (kind ∷ octets) ≡ kind ∷ cleaned_from syn (kind ∷ before) true (get_or octets 0 0 - 1) octets
 cleaned_from-first syn before kind octets other e =
     let a : (kind == 0) ≡ false = ne_eqb kind 0 (omega arith) in
@@ -60,7 +60,7 @@ cleaned_from-other syn before kind octets other e =
     let b : (kind == 1) ≡ false = ne_eqb kind 1 (omega arith) in
     rw (a, b, e, cleaned_from) refl
 
--- the options of the list that stand before a place
+-- all options of a list begin before the offset `place`
 abbrev Earlier : (place : ℕ) → List Listed → Type 0
 Earlier place [] = Unit
 Earlier place (option ∷ options) = (option.place < place) × Earlier place options
@@ -73,7 +73,7 @@ earlier-append : (place : ℕ) (front : List Listed) (option : Listed) → Earli
 earlier-append place [] option h here = (here, tt)
 earlier-append place (first ∷ front) option h here = (h.0, earlier-append place front option h.1 here)
 
--- of those before a place some pass a test where some pass it at all, and of those from there on none
+-- options that all begin before `place` pass a test restricted to offsets below it exactly if they pass it, and options from there on never
 earlier-any : (test : Listed → Bool) (place : ℕ) (front : List Listed) → Earlier place front → list_any (λ other. nat_lt other.place place && test other) front ≡ list_any test front
 earlier-any test place [] h = refl
 earlier-any test place (option ∷ front) h =
@@ -97,7 +97,7 @@ later-any test place next zero (suc (suc k) ∷ octets) past =
 abbrev of_kind : (syn : Bool) (kind : ℕ) → Listed → Bool
 of_kind syn kind other = (other.kind == kind) && may_stay syn other
 
--- of these kinds some option in front may be kept, and of no other
+-- the kinds `kinds` are exactly those of the options in `front` that may be kept
 abbrev SameKinds : (syn : Bool) → List Listed → (kinds : List ℕ) → Type 0
 SameKinds syn front kinds = (kind : ℕ) → list_any (of_kind syn kind) front ≡ list_any (λ other. other == kind) kinds
 
@@ -115,7 +115,7 @@ or-false : (b : Bool) → (b || false) ≡ b
 or-false true = refl
 or-false false = refl
 
--- the option at the front of what is left is kept where the walk keeps it
+-- the option at the front of the octets is kept exactly if the walk keeps it
 front-kept : (syn : Bool) (front : List Listed) (kinds : List ℕ) (place kind : ℕ) (octets : List ℕ) → Earlier place front → SameKinds syn front kinds
     → is_kept syn (front ++ at_front place kind octets ∷ (options_from (suc place) (get_or octets 0 0 - 1) octets).options) (at_front place kind octets) ≡ is_kept_after syn kinds kind (get_or octets 0 0)
 front-kept syn front kinds place kind octets earlier same =
@@ -129,7 +129,7 @@ front-kept syn front kinds place kind octets earlier same =
     let may = front-may syn place kind octets in
     λ i. may i && not (before i)
 
--- the kinds with one more option in front: it is kept, or it is not
+-- the kinds with one more option in `front`: it is kept, or it is not
 more-kept : (a b m : Bool) → m ≡ true → (a || ((b && m) || false)) ≡ (b || a)
 more-kept true true true e = refl
 more-kept true false true e = refl
@@ -166,11 +166,11 @@ same-other syn front kinds option same blank other =
     (λ elsewhere. rw elsewhere (or-false (list_any (λ k. k == other) kinds)))
     (which (option.kind == other))
 
--- what is left, cleaned with the options in front of it
+-- the rest of the list, cleaned as part of the list `all`
 abbrev rest_cleaned : (syn : Bool) (all : List Listed) → OptionList → List ℕ
 rest_cleaned syn all list = flat_map (cleaned_option syn all) list.options ++ replicate (length list.behind) 0
 
--- with one more option at the front of what is left
+-- one more option before the rest
 rest-more : (syn : Bool) (front : List Listed) (option : Listed) (list : OptionList) → rest_cleaned syn (front ++ option ∷ list.options) (record { options = option ∷ list.options; behind = list.behind })
     ≡ cleaned_option syn (front ++ option ∷ list.options) option ++ rest_cleaned syn ((front ++ option ∷ []) ++ list.options) list
 rest-more syn front option list =
@@ -221,7 +221,7 @@ cleaned_rest syn front kinds place zero (suc (suc k) ∷ octets) earlier same =
 pub cleaned-walk : (syn : Bool) (area : List ℕ) → cleaned syn area ≡ cleaned_from syn [] true 0 area
 cleaned-walk syn area = cleaned_rest syn [] [] 0 0 area tt (λ kind. refl)
 
--- the place of the end option, or the area's length where none stands
+-- the offset of the end option, or the area's length if there is none
 abbrev pub end_from : (left : ℕ) → List ℕ → ℕ
 end_from left [] = 0
 end_from (suc left) (x ∷ octets) = suc (end_from left octets)

@@ -1,4 +1,4 @@
--- Cleaning an area in place, option by option.
+-- Cleaning of an area in its buffer, option by option.
 use Rattle.std.proofs.Common.{◌≡◌, ◌↔◌, ℕ, zero, suc, ◌+◌, ◌-◌, ◌≤◌, ◌<◌, ◌==◌, ◌||◌, not, Bool, true, false, List, [], ◌∷◌, ◌++◌, length, get_or, take, drop, replicate, refl, sym, ap, ◌∙◌, ⊎_elim, arith}
 use Rattle.std.proofs.Math.Seq.{take-add}
 use Rattle.std.proofs.Math.Dec.{eqb-suc-zero}
@@ -18,7 +18,7 @@ take-option area at size begins some =
     let e : size ≡ suc (size - 1) = omega arith in
     ap (take size) (drop-kind area at _ begins refl) ∙ ap (λ n. take n (get_or area at 0 ∷ drop (at + 1) area)) e
 
--- cleaning at a place: an option that is kept, one that is not, a no-operation, and the end
+-- cleaning at the offset `at`: an option that is kept, one that is not, a no-operation, and the end option
 cleaned_from-keep : (syn : Bool) (before area : List ℕ) (at size : ℕ) → get_or area (at + 1) 0 ≡ size → 2 ≤ size → at + size ≤ length area → 2 ≤ get_or area at 0 → is_kept_after syn before (get_or area at 0) size ≡ true → cleaned_from syn before true 0 (drop at area) ≡ take size (drop at area) ++ cleaned_from syn (get_or area at 0 ∷ before) true 0 (drop (at + size) area)
 cleaned_from-keep syn before area at size e two inside other keep =
     let kind = get_or area at 0 in
@@ -56,7 +56,7 @@ cleaned_from-end syn before area at ends =
     (λ past. let e = drop_all at area past in ap (cleaned_from syn before true 0) e ∙ ap (λ xs. replicate (length xs) 0) (sym e))
     (cases_lt at (length area))
 
--- how far an area was cleaned: up to a place that an option begins at, with these kinds kept before
+-- an area cleaned up to the offset `at` where an option begins; `before` are the kinds kept there
 pub record SoFar (syn : Bool) (old now : List ℕ) (at : ℕ) (kept : Kept) (changed : Bool) : Type 0 where
   pub before : List ℕ
   pub stands : StandsFor kept before
@@ -66,7 +66,7 @@ pub record SoFar (syn : Bool) (old now : List ℕ) (at : ℕ) (kept : Kept) (cha
   pub untouched : drop at now ≡ drop at old
   pub same : (changed ≡ false) ↔ (now ≡ old)
 
--- what stays where more was passed over
+-- octets unchanged from an offset on are unchanged from a later offset on
 passed : (at n : ℕ) (old now : List ℕ) → drop at now ≡ drop at old → drop (at + n) now ≡ drop (at + n) old
 passed at n old now e = sym (drop-drop n at now) ∙ ap (drop n) e ∙ drop-drop n at old
 
@@ -104,7 +104,7 @@ SoFar-kept syn old now at size kept new changed s e two inside other keep stands
   same = s.same;
 }
 
--- an octet of the blanked option
+-- the first octet of an option overwritten with no-operations
 blanked-first : (now new : List ℕ) (at size : ℕ) → new ≡ take at now ++ (replicate size 1 ++ drop (at + size) now) → 2 ≤ size → at + size ≤ length now → get_or new at 0 ≡ 1
 blanked-first now new at size e two inside =
     let front : length (take at now) ≡ at = length-take-le at now (omega arith) in
@@ -140,7 +140,7 @@ SoFar-blanked syn old now new at size kept noted changed s e two inside other ke
       same = (λ no. cc, λ same. let one = blanked-first now new at size written two inside in let first = same-first old now at s.untouched in let there = ap (λ xs. get_or xs at 0) same in absurd (omega (arith, one, first, there)));
     }
 
--- no octet is other than 0 exactly where all are 0
+-- if no octet differs from 0, all are 0
 zeros : (xs : List ℕ) → list_any (λ octet. not (octet == 0)) xs ≡ false → xs ≡ replicate (length xs) 0
 zeros [] none = refl
 zeros (zero ∷ xs) none = ap (λ ys. 0 ∷ ys) (zeros xs none)
@@ -152,7 +152,7 @@ no_others : (n : ℕ) → list_any (λ octet. not (octet == 0)) (replicate n 0) 
 no_others zero = refl
 no_others (suc n) = no_others n
 
--- the octets of an option that were written, and those behind them
+-- the octets written over an option, and those after them
 pub blanked : (now ones : List ℕ) (at size : ℕ) → at + size ≤ length now → ones ≡ replicate (length (take (at + size - at) (drop at now))) 1 → take at now ++ (ones ++ drop (at + size - at) (drop at now)) ≡ take at now ++ (replicate size 1 ++ drop (at + size) now)
 blanked now ones at size inside e =
     let k : at + size - at ≡ size = omega arith in
@@ -162,19 +162,19 @@ blanked now ones at size inside e =
     let all : ones ≡ replicate size 1 = e ∙ ap (λ n. replicate n 1) count in
     λ i. take at now ++ (all i ++ behind i)
 
--- octets that were written from a place on, and nothing behind them
+-- octets written from an offset on, and none after them
 pub filled : (now zeros : List ℕ) (at : ℕ) → zeros ≡ replicate (length (take (length now - at) (drop at now))) 0 → take at now ++ (zeros ++ drop (length now - at) (drop at now)) ≡ take at now ++ replicate (length (drop at now)) 0
 filled now zeros at e =
     let past : drop (length now - at) (drop at now) ≡ [] = drop-drop (length now - at) at now ∙ drop_all _ now (omega arith) in
     let all : zeros ≡ replicate (length (drop at now)) 0 = e ∙ ap (λ xs. replicate (length xs) 0) (take_rest now at) in
     (λ i. take at now ++ (all i ++ past i)) ∙ ap (λ xs. take at now ++ xs) (append-nil (replicate (length (drop at now)) 0))
 
--- with all from the end option on made 0 the area is clean
+-- when all octets from the end option on are set to 0, the area is cleaned
 pub SoFar-end : (syn : Bool) (old now new : List ℕ) (at : ℕ) (kept : Kept) (changed : Bool) → SoFar syn old now at kept changed → (at < length now → get_or now at 0 ≡ 0) → new ≡ take at now ++ replicate (length (drop at now)) 0 → new ≡ cleaned syn old
 SoFar-end syn old now new at kept changed s ends e =
     e ∙ ap (λ xs. take at now ++ xs) (sym (cleaned_from-end syn s.before now at ends)) ∙ sym s.front
 
--- what is made 0 from a place on stays exactly where it was 0
+-- setting the octets from an offset on to 0 leaves as many octets of 0 there; it changes nothing exactly if they were 0
 cleared : (now new : List ℕ) (at : ℕ) → at ≤ length now → new ≡ take at now ++ replicate (length (drop at now)) 0 → drop at new ≡ replicate (length (drop at now)) 0
 cleared now new at inside e = ap (drop at) e ∙ drop_at (take at now) _ at (length-take-le at now inside)
 

@@ -1,4 +1,4 @@
--- What is read of a segment with its checksum mended.
+-- Parsing a segment with its checksum rewritten.
 use Rattle.std.proofs.Common.{◌≡◌, ℕ, zero, suc, ◌+◌, ◌-◌, ◌*◌, ◌/◌, ◌<◌, ◌≤◌, true, List, [], ◌∷◌, ◌++◌, length, take, drop, refl, sym, ap, ap₂, ◌∙◌, arith, length-take-le, length-drop, append_assoc}
 use Rattle.std.specs.Prelude.{slice_index}
 use Rattle.std.proofs.lemmas.List.{drop-take, drop-drop, drop_at, take_at, length-append}
@@ -8,7 +8,7 @@ use Rattle.wire_base.specs.Tcp as tcp
 use Rattle.wire_base.proofs.Mending.{word_sum-with_u16, checksum_for-below, is_right-checked}
 use Rattle.tcp_codec.specs.Mending.{mended, SaysTheSame}
 
--- octets before a place
+-- octets before the offset `n`
 front : (xs ys : List ℕ) (n i : ℕ) → n ≤ length xs → i < n → slice_index (take n xs ++ ys) i ≡ slice_index xs i
 front xs ys zero i le lt = absurd (omega arith)
 front [] ys (suc n) i le lt = absurd (omega arith)
@@ -18,7 +18,7 @@ front (x ∷ xs) ys (suc n) (suc i) le lt = front xs ys n i (omega arith) (omega
 shape : (m : List ℕ) (n : ℕ) → with_u16 m 16 n ≡ take 16 m ++ (u16_octets n ++ drop 18 m)
 shape m n = append_assoc (take 16 m) (u16_octets n) (drop 18 m)
 
--- octets behind it
+-- octets after the checksum
 behind : (m : List ℕ) (n : ℕ) → 18 ≤ length m → drop 18 (with_u16 m 16 n) ≡ drop 18 m
 behind m n le =
     ap (drop 18) (shape m n) ∙ (sym (drop-drop 2 16 (take 16 m ++ (u16_octets n ++ drop 18 m))) ∙ ap (drop 2) (drop_at (take 16 m) (u16_octets n ++ drop 18 m) 16 (length-take-le 16 m (omega arith))))
@@ -57,12 +57,12 @@ says_the_same n m long words =
         let e = ap length (shape m n) in
         omega (arith, a, b, c, d, e)
 
--- what was written there first is gone
+-- a second write of the checksum replaces the first
 pub written_once : (m : List ℕ) (a b : ℕ) → 18 ≤ length m → with_u16 (with_u16 m 16 a) 16 b ≡ with_u16 m 16 b
 written_once m a b le =
     ap₂ (λ x y. x ++ u16_octets b ++ y) (ap (take 16) (shape m a) ∙ take_at (take 16 m) (u16_octets a ++ drop 18 m) 16 (length-take-le 16 m (omega arith))) (behind m a le)
 
--- a mended segment sums right
+-- the sum of a segment with its checksum rewritten is right
 pub sum_is_right-mended : (pseudo : ℕ) (m : List ℕ) → 18 ≤ length m → sum_is_right (mended pseudo m) pseudo ≡ true
 sum_is_right-mended pseudo m whole =
     let rest = pseudo + word_sum (with_u16 m 16 0) in

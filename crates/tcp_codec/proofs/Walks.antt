@@ -1,4 +1,4 @@
--- Steps of walks over a well formed list of options, by the place reached.
+-- Steps of walks over a well-formed list of options, by the offset reached.
 use Rattle.std.proofs.Common.{◌≡◌, ℕ, ◌+◌, ◌≤◌, ◌<◌, true, List, length, get_or, drop, refl, sym, ◌∙◌, ⊎_elim, arith}
 use Rattle.std.proofs.lemmas.Bool.{cases_lt}
 use Rattle.std.proofs.lemmas.List.{get_or_past}
@@ -6,7 +6,7 @@ use Rattle.wire_base.specs.Options.{are_well_formed}
 use Rattle.wire_base.proofs.OptionWalk.{formed_from-none, formed_from-option, formed_from-bad, formed_from-outside}
 use Rattle.wire_base.proofs.OptionLists.{are_well_formed-walk}
 
--- an option in a well formed list has a length of at least 2
+-- an option in a well-formed list has a length of at least 2
 pub option_some : (area : List ℕ) (at : ℕ) → are_well_formed (drop at area) ≡ true → at < length area → 2 ≤ get_or area at 0 → 2 ≤ get_or area (at + 1) 0
 option_some area at formed begins sized =
     ⊎_elim (λ small. let bad = are_well_formed-walk (drop at area) ∙ formed_from-bad area at _ begins refl small sized in cc)
@@ -25,7 +25,7 @@ option_inside area at formed begins sized =
     (λ inside. inside)
     (cases_lt (length area) (at + get_or area (at + 1) 0))
 
--- what is left behind a no-operation, and behind an option, is as well formed
+-- the octets after a no-operation, and after an option, are well formed exactly if those from it on are
 pub formed-none : (area : List ℕ) (at : ℕ) → at < length area → get_or area at 0 ≡ 1 → are_well_formed (drop at area) ≡ are_well_formed (drop (at + 1) area)
 formed-none area at inside kind = are_well_formed-walk (drop at area) ∙ formed_from-none area at inside kind ∙ sym (are_well_formed-walk (drop (at + 1) area))
 

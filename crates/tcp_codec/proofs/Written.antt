@@ -1,4 +1,4 @@
--- A segment that was written, read again.
+-- Parsing a written segment.
 use Rattle.std.proofs.Common.{◌≡◌, ℕ, ◌+◌, ◌*◌, ◌/◌, ◌%◌, ◌^◌, ◌<◌, ◌≤◌, ◌&&◌, not, Bool, true, false, length, take, drop, refl, sym, ap, ◌∙◌, arith}
 use Rattle.std.proofs.lemmas.List.{drop-take, drop-drop, take_at, drop_at, length-append}
 use Rattle.wire_base.specs.Segments.{Segment}
@@ -13,14 +13,14 @@ use Rattle.tcp_codec.specs.Header.{fields_of, is_judged}
 use Rattle.tcp_codec.specs.Write.{AreReadBack, Fits, checksum_of, header_of, octets_with, pseudo_of, segment_octets}
 use Rattle.tcp_codec.proofs.Faults.{fault_of-options}
 
--- a number is read of its two octets, and of its four
+-- a number is read from its two octets, and from its four
 pub two-octets : (n : ℕ) → n < 2 ^ 16 → 256 * (n / 256 % 256) + n % 256 ≡ n
 two-octets n small = omega arith
 
 pub four-octets : (n : ℕ) → n < 2 ^ 32 → 65536 * (256 * (n / 16777216 % 256) + n / 65536 % 256) + (256 * (n / 256 % 256) + n % 256) ≡ n
 four-octets n small = omega arith
 
--- the header's length in words, of four bits
+-- the header length from the data offset of four bits
 header-words : (n : ℕ) → n % 4 ≡ 0 → n ≤ 40 → 4 * (16 * ((20 + n) / 4) / 16) ≡ 20 + n
 header-words n words room = omega arith
 

@@ -1,35 +1,35 @@
--- What is kept in mind while options are cleaned, and what cleaning leaves of an area (this project's profile).
+-- The state of cleaning a list of options, and laws of cleaned areas (this project's profile).
 use Rattle.std.specs.Prelude.{◌≡◌, ℕ, ◌<◌, ◌≤◌, ◌⊎◌, ◌==◌, ◌&&◌, not, Bool, true, false, List, length, slice_index, slice_index_or}
 use Rattle.std.specs.List.{list_any}
 use Rattle.wire_base.specs.Options.{are_well_formed, may_be_kept, cleaned, scale_of, end_of}
 use Rattle.tcp_codec.specs.declared.cleaning.Kept.{Kept}
 
--- an option of this kind and length is kept after options of these kinds were: it may be, and none of its kind was
+-- an option of this kind and length is kept after options of the kinds `before`: it may be kept, and its kind is not among these
 abbrev pub is_kept_after : (syn : Bool) (before : List ℕ) (kind size : ℕ) → Bool
 is_kept_after syn before kind size = may_be_kept syn kind size && not (list_any (λ other. other == kind) before)
 
--- of these kinds one was kept, and of no other kind below 9
+-- `kept` represents the kinds `before`: its entry of a kind below 9 is true exactly if the kind is one of them
 abbrev pub StandsFor : Kept → (before : List ℕ) → Type 0
 StandsFor kept before = (kind : ℕ) → kind < 9 → slice_index_or kept.0 kind false ≡ list_any (λ other. other == kind) before
 
--- an area that cleaning leaves of another: the octets before the end option stay or are no-operations, all from there on are 0
+-- `new` has the length of `area`; its octets before the end option of `area` are unchanged or no-operations, all from there on are 0
 pub record IsCleaned (area new : List ℕ) : Type 0 where
   pub size : length new ≡ length area
   pub options : (place : ℕ) → place < end_of area → (slice_index new place ≡ slice_index area place) ⊎ (slice_index new place ≡ 1)
   pub behind : (place : ℕ) → end_of area ≤ place → slice_index new place ≡ 0
 
--- cleaning leaves such an area
+-- cleaning an area gives such an area
 abbrev pub CleansOctets : Type 0
 CleansOctets = (syn : Bool) (area : List ℕ) → IsCleaned area (cleaned syn area)
 
--- a cleaned area stays as it is when it is cleaned again
+-- cleaning a cleaned area again changes nothing
 abbrev pub CleansOnce : Type 0
 CleansOnce = (syn : Bool) (area : List ℕ) → cleaned syn (cleaned syn area) ≡ cleaned syn area
 
--- options that are well formed still are when they are cleaned
+-- well-formed options stay well formed when they are cleaned
 abbrev pub StaysWellFormed : Type 0
 StaysWellFormed = (syn : Bool) (area : List ℕ) → are_well_formed area ≡ true → are_well_formed (cleaned syn area) ≡ true
 
--- the window scale of a SYN stays when its options are cleaned
+-- cleaning the options of a SYN keeps its window scale
 abbrev pub KeepsScale : Type 0
 KeepsScale = (area : List ℕ) → scale_of (cleaned true area) ≡ scale_of area

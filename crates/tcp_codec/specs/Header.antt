@@ -9,7 +9,7 @@ use Rattle.tcp_codec.specs.declared.header.SumRule.TheVariants.{Must, Skip}
 use Rattle.tcp_codec.specs.declared.header.TcpFault.{TcpFault}
 use Rattle.tcp_codec.specs.declared.header.TcpFault.TheVariants.{Short, DataOffset, Sum, Flags, Options}
 
--- each field at its place in the octets of a segment, and whether its sum is right; `pseudo` is what is summed before the segment
+-- each field at its offset in the octets of a segment, and whether its sum is right; `pseudo` is the sum of the pseudo-header
 abbrev pub fields_of : (pseudo : ℕ) → List ℕ → Tcp
 fields_of pseudo segment =
     record {
@@ -40,6 +40,6 @@ fault_of rule pseudo segment =
     else if tcp.has_bad_options segment then Some Options
     else None
 
--- what is read of a segment: its fields, or its first fault
+-- the result of parsing a segment: its fields, or its first fault
 abbrev pub parsed : SumRule → (pseudo : ℕ) → List ℕ → Result Tcp TcpFault
 parsed rule pseudo segment = value_or_fault (fields_of pseudo segment) (fault_of rule pseudo segment)

@@ -1,14 +1,14 @@
--- A segment of which only the checksum is written anew (RFC 9293 section 3.1).
+-- A segment with only its checksum rewritten (RFC 9293 section 3.1).
 use Rattle.std.specs.Prelude.{◌≡◌, ℕ, ◌+◌, ◌≤◌, List, length}
 use Rattle.wire_base.specs.Numbers.{with_u16}
 use Rattle.wire_base.specs.Sums.{word_sum, checksum_for}
 use Rattle.wire_base.specs.Tcp as tcp
 
--- the segment with the right checksum, which is summed with 0 in its own place, and all other octets as they were; `pseudo` is what is summed before it
+-- the segment with the right checksum, summed with 0 in the checksum field, all other octets unchanged; `pseudo` is the sum of the pseudo-header
 abbrev pub mended : (pseudo : ℕ) → List ℕ → List ℕ
 mended pseudo segment = with_u16 segment 16 (checksum_for (pseudo + word_sum (with_u16 segment 16 0)))
 
--- two segments say the same but for what stands behind the window in their headers
+-- two segments have the same ports, sequence and acknowledgment numbers, flags, window, options, payload and length
 pub record SaysTheSame (a b : List ℕ) : Type 0 where
   pub source_port : tcp.source_port a ≡ tcp.source_port b
   pub destination_port : tcp.destination_port a ≡ tcp.destination_port b
@@ -20,6 +20,6 @@ pub record SaysTheSame (a b : List ℕ) : Type 0 where
   pub payload : tcp.payload a ≡ tcp.payload b
   pub size : length a ≡ length b
 
--- a mended segment says what it said before
+-- a segment with its checksum rewritten has all these as before
 abbrev pub MendedSayTheSame : Type 0
 MendedSayTheSame = (pseudo : ℕ) (segment : List ℕ) → 20 ≤ length segment → 20 ≤ tcp.header_length segment → SaysTheSame (mended pseudo segment) segment

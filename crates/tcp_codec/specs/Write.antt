@@ -1,4 +1,4 @@
--- A segment's octets as they are written (RFC 9293 section 3.1).
+-- The octets of a written segment (RFC 9293 section 3.1).
 use Rattle.std.specs.Prelude.{◌≡◌, ℕ, ◌+◌, ◌*◌, ◌/◌, ◌%◌, ◌^◌, ◌<◌, ◌≤◌, true, List, ◌∷◌, ◌++◌, length, Ok}
 use Rattle.wire_base.specs.Numbers.{u16_octets, u32_octets}
 use Rattle.wire_base.specs.Sums.{word_sum, checksum_for, pseudo_sum}
@@ -11,7 +11,7 @@ use Rattle.tcp_codec.specs.declared.header.SumRule.{SumRule}
 use Rattle.tcp_codec.specs.declared.write.SegmentParts.{SegmentParts}
 use Rattle.tcp_codec.specs.Header.{fields_of, parsed}
 
--- the segment that these parts and octets are
+-- the segment of these parts and this payload
 abbrev pub segment_of : SegmentParts → (octets : List ℕ) → Segment
 segment_of parts octets =
     record {
@@ -27,8 +27,8 @@ segment_of parts octets =
       octets = octets;
     }
 
--- the fields before the options: ports, sequence and acknowledgment, the header's length in words with reserved bits 0, flags, window, checksum, and
--- the urgent pointer, which is 0
+-- the fields before the options: ports, sequence and acknowledgment numbers, data offset in words of four octets, reserved bits 0, flags, window, checksum, and
+-- urgent pointer 0
 abbrev pub header_octets : Segment → (checksum : ℕ) → List ℕ
 header_octets s checksum =
     u16_octets s.source_port ++ u16_octets s.destination_port
@@ -37,15 +37,15 @@ header_octets s checksum =
     ++ (16 * ((20 + length s.options) / 4) ∷ s.flags ∷ u16_octets s.window)
     ++ u16_octets checksum ++ u16_octets 0
 
--- the header, the options and the octets, with this checksum
+-- the header, the options and the payload, with this checksum
 abbrev pub octets_with : Segment → (checksum : ℕ) → List ℕ
 octets_with s checksum = header_octets s checksum ++ (s.options ++ s.octets)
 
--- what is summed before the segment
+-- the sum of the pseudo-header of the segment
 abbrev pub pseudo_of : Segment → ℕ
 pseudo_of s = pseudo_sum s.source s.destination 6 (20 + length s.options + length s.octets)
 
--- the checksum, summed with 0 in its own place
+-- the checksum, summed with 0 in the checksum field
 abbrev pub checksum_of : Segment → ℕ
 checksum_of s = checksum_for (pseudo_of s + word_sum (octets_with s 0))
 
@@ -53,7 +53,7 @@ checksum_of s = checksum_for (pseudo_of s + word_sum (octets_with s 0))
 abbrev pub segment_octets : Segment → List ℕ
 segment_octets s = octets_with s (checksum_of s)
 
--- the numbers fit their places, the options fill words of four octets, and the segment fits an IPv4 packet with a header of 20 octets
+-- the numbers fit their fields, the options fill words of four octets, and the segment fits an IPv4 packet with a header of 20 octets
 pub record Fits (s : Segment) : Type 0 where
   pub source : s.source < 2 ^ 32
   pub destination : s.destination < 2 ^ 32
@@ -67,7 +67,7 @@ pub record Fits (s : Segment) : Type 0 where
   pub room : length s.options ≤ 40
   pub size : 20 + length s.options + length s.octets ≤ 65515
 
--- the header that is read of it
+-- the header that parsing the segment returns
 abbrev pub header_of : Segment → Tcp
 header_of s =
     record {
@@ -83,7 +83,7 @@ header_of s =
       urgent = 0;
     }
 
--- a segment that was written is read as it was: its header, its options and its octets
+-- parsing a written segment returns its header, its options and its payload
 pub record IsReadBack (s : Segment) : Type 0 where
   pub header : fields_of (pseudo_of s) (segment_octets s) ≡ header_of s
   pub options : tcp.options (segment_octets s) ≡ s.options

@@ -1,4 +1,4 @@
-//! The options of a TCP header, cleaned.
+//! Cleaning of the options of a TCP header.
 ghost use Rattle.std.specs.Prelude.{◌≡◌, ◌↔◌, ◌<◌, ◌==◌, ℕ, List, IsFalse, IsTrue, true, not, length, replicate, if◌then◌else◌, ◌∷◌};
 ghost use Rattle.std.specs.List.{list_any};
 ghost use Rattle.wire_base.specs.Options.{are_well_formed, cleaned, may_be_kept};
@@ -6,8 +6,8 @@ ghost use Rattle.tcp_codec.specs.Cleaning.{StandsFor, is_kept_after};
 
 use crate::option_area::{END, NO_OPERATION, WINDOW_SCALE, size_at};
 
-// The kinds of options that may be kept, beside the window scale: the maximum segment size (RFC 9293 section 3.2), SACK
-// permitted and SACK (RFC 2018), and timestamps (RFC 7323).
+// The option kinds that may be kept, besides the window scale: maximum segment size (RFC 9293
+// section 3.2), SACK permitted and SACK (RFC 2018), and timestamps (RFC 7323).
 const SEGMENT_SIZE: u8 = 2;
 
 const SACK_PERMITTED: u8 = 4;
@@ -16,15 +16,16 @@ const SACK: u8 = 5;
 
 const TIMESTAMPS: u8 = 8;
 
-// All of them are below this number.
+// One more than the greatest of these kinds.
 const KINDS: usize = 9;
 
-// Which kinds of options were kept.
+// The option kinds kept so far, one entry for each kind below 9.
 #[derive(Clone, Copy, Default)]
 struct Kept([bool; KINDS]);
 
 impl Kept {
-    // Whether an option of this kind and length is kept; it is the first of its kind that is, then.
+    // Returns whether an option of this kind and length is kept, and if so records its kind: only
+    // the first of a kind is kept.
     fn keeps(&mut self, syn: bool, kind: u8, size: usize) -> bool
         ensures exact { (before : List ℕ) → StandsFor self.old before → result ≡ is_kept_after syn before kind size }
         ensures stands { (before : List ℕ) → StandsFor self.old before → StandsFor self.new (if result then kind ∷ before else before) }
@@ -39,7 +40,7 @@ impl Kept {
     }
 }
 
-// Whether an option of this kind and length may be kept (this project's profile).
+// Returns whether an option of this kind and length may be kept (this project's profile).
 fn may_be_kept(syn: bool, kind: u8, size: usize) -> bool
     ensures exact { result ≡ may_be_kept syn kind size }
     ensures known { IsTrue result → kind < 9 }
@@ -54,10 +55,11 @@ fn may_be_kept(syn: bool, kind: u8, size: usize) -> bool
     }
 }
 
-/// Makes no-operations of the octets of each option before the end option that is not kept, and 0 of each octet after it.
-/// On a SYN the maximum segment size, the window scale and SACK permitted are kept, and on every segment SACK of one to four
-/// blocks and timestamps, each with its length, and the first of its kind alone (this project's profile). Answers whether
-/// an octet changed.
+/// Overwrites each option before the end option that is not kept with no-operations, and each octet
+/// after the end option with 0. Maximum segment size, window scale and SACK permitted are kept on a
+/// SYN, and SACK of one to four blocks and timestamps on every segment, each only with its own
+/// length, and only the first of its kind (this project's profile). Returns whether an octet
+/// changed.
 pub fn clean_options(options: &mut [u8], syn: bool) -> bool
     requires { are_well_formed options.old ≡ true }
     ensures exact { options.new ≡ cleaned syn options.old }
@@ -82,7 +84,7 @@ pub fn clean_options(options: &mut [u8], syn: bool) -> bool
     changed
 }
 
-// Makes each octet 0, and answers whether one was not.
+// Sets each octet to 0, and returns whether one was not 0.
 fn clear(octets: &mut [u8]) -> bool
     ensures exact { octets.new ≡ replicate (length octets.old) 0 }
     ensures changed { result ≡ list_any (λ octet. not (octet == 0)) octets.old }
@@ -97,8 +99,9 @@ mod tests {
     use super::*;
     use crate::option_area::are_well_formed;
 
-    // Kinds that are known and one that is not; those of a SYN without it; lengths that are not theirs; a second one of its kind,
-    // and after one that was not kept; octets after the end (RFC 9293 section 3.2, RFC 7323, RFC 2018).
+    // Known kinds and an unknown one; kinds of a SYN on another segment; wrong lengths; a second
+    // option of a kind, also after one that was not kept; octets after the end option (RFC 9293
+    // section 3.2, RFC 7323, RFC 2018).
     #[test]
     fn options_are_kept_or_cleared(rt: HostRuntime) {
         let rows: [(bool, &[u8], &[u8]); 17] = [

@@ -6,12 +6,12 @@ ghost use Rattle.wire_base.specs.Tcp as tcp;
 
 use crate::option_area::are_well_formed;
 use thiserror::Error;
-use wire_base::{Flags, SeqNumber, sum_right, u16_at, u32_at};
+use wire_base::{Flags, sum_right, u16_at, u32_at};
 
-// The octets of a header without options.
+// Length of a header without options in octets.
 const HEADER: usize = 20;
 
-/// The fields of a TCP header, but for its checksum and its options (RFC 9293 section 3.1).
+/// The fields of a TCP header, without its checksum and its options (RFC 9293 section 3.1).
 #[derive(Clone, Copy, Debug, PartialEq, Eq)]
 pub struct Tcp {
     /// The source port.
@@ -19,32 +19,32 @@ pub struct Tcp {
     /// The destination port.
     pub dport: u16,
     /// The sequence number.
-    pub seq: SeqNumber,
+    pub seq: u32,
     /// The acknowledgment number.
-    pub ack: SeqNumber,
+    pub ack: u32,
     /// The header's length in octets, options included.
     pub header: usize,
     /// The four bits between the data offset and the flags.
     pub reserved: u8,
     pub flags: Flags,
     pub window: u16,
-    /// The segment and what is summed before it sum right.
+    /// The sum over the pseudo-header and the segment is right.
     pub sum_right: bool,
     /// The urgent pointer.
     pub urgent: u16,
 }
 
-/// Whether a wrong sum is a fault.
+/// The treatment of a wrong sum.
 #[derive(Clone, Copy, Debug, PartialEq, Eq)]
 pub enum SumRule {
-    /// The sum must be right.
+    /// A wrong sum is a fault.
     Must,
-    /// The sum is not judged, as where a network card has still to make it.
+    /// The sum is not tested, as where a network card computes the checksum later.
     Skip,
 }
 
 impl SumRule {
-    // Whether a sum that is right or not is a fault.
+    // Returns whether a sum is a fault; `right` says whether it is right.
     fn refuses(self, right: bool) -> bool
         ensures { result ≡ (is_judged self && not right) }
     {
@@ -55,7 +55,7 @@ impl SumRule {
     }
 }
 
-/// Why octets are no TCP segment, in the order of testing.
+/// Reasons why octets are not a TCP segment, in the order of the tests.
 #[derive(Clone, Copy, Debug, PartialEq, Eq, Error)]
 pub enum TcpFault {
     #[error("fewer than 20 octets")]
@@ -70,8 +70,8 @@ pub enum TcpFault {
     Options,
 }
 
-/// Reads the header of the segment that these octets are; `pseudo` is what is summed before it: the addresses, the protocol
-/// and the length.
+/// Parses the header of a segment; `pseudo` is the sum of the pseudo-header: addresses, protocol
+/// and length.
 pub fn parse(bytes: &[u8], pseudo: u32, rule: SumRule) -> Result<Tcp, TcpFault>
     ensures exact { result ≡ parsed rule pseudo bytes.now }
     ensures header { IfOk result (λ head. (20 ≤ head.header) × (head.header ≤ 60)) }
@@ -99,7 +99,7 @@ pub fn parse(bytes: &[u8], pseudo: u32, rule: SumRule) -> Result<Tcp, TcpFault>
     Ok(head)
 }
 
-// Each field at its place.
+// Returns the fields, each read at its offset.
 fn fields(bytes: &[u8], pseudo: u32) -> Tcp
     requires { 20 ≤ length bytes.now }
     ensures { result ≡ fields_of pseudo bytes.now }
@@ -107,8 +107,8 @@ fn fields(bytes: &[u8], pseudo: u32) -> Tcp
     Tcp {
         sport: u16_at(bytes, 0),
         dport: u16_at(bytes, 2),
-        seq: SeqNumber::new(u32_at(bytes, 4)),
-        ack: SeqNumber::new(u32_at(bytes, 8)),
+        seq: u32_at(bytes, 4),
+        ack: u32_at(bytes, 8),
         header: 4 * usize::from(bytes[12] / 16),
         reserved: bytes[12] % 16,
         flags: Flags(bytes[13]),
@@ -118,7 +118,8 @@ fn fields(bytes: &[u8], pseudo: u32) -> Tcp
     }
 }
 
-// Those that are set of SYN, FIN, RST and ACK are SYN; SYN ACK; ACK; FIN ACK; RST; or RST ACK.
+// Returns whether the flags set of SYN, FIN, RST and ACK are SYN; SYN ACK; ACK; FIN ACK; RST; or
+// RST ACK.
 fn are_legal(flags: Flags) -> bool
     ensures { result ≡ tcp.are_legal flags.0 }
 {
@@ -132,7 +133,7 @@ fn are_legal(flags: Flags) -> bool
 #[cfg(test)]
 mod tests {
     use super::*;
-    use wire_base::{Addr, Protocol, pseudo_sum};
+    use wire_base::{Addr, protocol, pseudo_sum};
 
     /// `abcd` from port 40000 to port 80, PSH ACK, at the sequence number 1000 with the acknowledgment 5001.
     const SEGMENT: [u8; 24] = [
@@ -147,12 +148,14 @@ mod tests {
         0x63,
     ];
 
-    /// What is summed before a segment of so many octets from 198.51.100.7 to 10.0.0.1.
+    /// Returns the sum of the pseudo-header of a segment of `len` octets from 198.51.100.7 to
+    /// 10.0.0.1.
     fn pseudo(len: u16) -> u32 {
-        pseudo_sum(Addr(0xc633_6407), Addr(0x0a00_0001), Protocol::TCP, len)
+        pseudo_sum(Addr(0xc633_6407), Addr(0x0a00_0001), protocol::TCP, len)
     }
 
-    /// The segment with another data offset octet, flags, and last four octets, and the old checksum.
+    /// Returns the segment with another data offset octet, flags, and last four octets, and the old
+    /// checksum.
     fn changed(offset: u8, flags: u8, last: [u8; 4]) -> [u8; 24] {
         let mut segment = SEGMENT;
         segment[12] = offset;
@@ -166,8 +169,8 @@ mod tests {
         let segment = Tcp {
             sport: 40000,
             dport: 80,
-            seq: SeqNumber::new(1000),
-            ack: SeqNumber::new(5001),
+            seq: 1000,
+            ack: 5001,
             header: 20,
             reserved: 0,
             flags: Flags(0x18),
@@ -178,8 +181,8 @@ mod tests {
         let marked = Tcp {
             sport: 0x0102,
             dport: 0x0304,
-            seq: SeqNumber::new(0x0506_0708),
-            ack: SeqNumber::new(0x090a_0b0c),
+            seq: 0x0506_0708,
+            ack: 0x090a_0b0c,
             header: 28,
             reserved: 13,
             flags: Flags(0x12),
@@ -191,8 +194,8 @@ mod tests {
         assert_eq!(rt; parse(&MARKED, pseudo(31), SumRule::Must), Ok(marked));
     }
 
-    // The checksum; the data offset; flags; options that run past the header, with one octet or a length below 2, and after the
-    // end; and of two faults the first.
+    // The checksum; the data offset; flags; options that reach past the header, with one octet or a
+    // length below 2, and after the end option; the first of two faults.
     #[test]
     fn the_first_fault_is_told(rt: HostRuntime) {
         let last = *b"abcd";

@@ -3,25 +3,27 @@ ghost use Rattle.tcp_codec.specs.Cleaning.{CleansOctets, CleansOnce, KeepsScale,
 ghost use Rattle.tcp_codec.specs.Mending.{MendedSayTheSame};
 ghost use Rattle.tcp_codec.specs.Write.{AreReadBack};
 
-/// Cleaned options are those that cleaning leaves alone, and they are as well formed as before; octet for octet they are kept
-/// or no-operations up to the end option, and 0 from there on.
+/// States that cleaning cleaned options again changes nothing, that well-formed options stay well
+/// formed, and that each octet before the end option is unchanged or a no-operation, and each from
+/// there on 0.
 pub fn options_are_cleaned()
     ensures once { CleansOnce }
     ensures formed { StaysWellFormed }
     ensures octets { CleansOctets }
 {}
 
-/// A SYN with cleaned options has the window scale that it had.
+/// States that cleaning keeps the window scale of a SYN.
 pub fn cleaned_keep_the_scale()
     ensures { KeepsScale }
 {}
 
-/// A segment that was written is read as the parts that it was written from.
+/// States that parsing a written segment returns the parts that it was written from.
 pub fn segments_are_read_back()
     ensures { AreReadBack }
 {}
 
-/// A segment with its checksum mended says what it said before.
+/// States that rewriting the checksum of a segment changes neither its ports, sequence and
+/// acknowledgment numbers, flags, window, options and payload, nor its length.
 pub fn mended_say_the_same()
     ensures { MendedSayTheSame }
 {}

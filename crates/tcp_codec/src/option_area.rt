@@ -1,22 +1,24 @@
-//! The options of a TCP header, read.
+//! The options of a TCP header, parsed.
 ghost use Rattle.std.specs.Prelude.{◌≡◌, ◌+◌, ◌≤◌, ◌<◌, ◌==◌, ◌&&◌, true, length, drop, slice_index};
 ghost use Rattle.wire_base.specs.Options as spec;
 
 /// The kind of the option that ends the list (RFC 9293 section 3.2).
 pub const END: u8 = 0;
 
-/// The kind of the option that is one octet and does nothing (RFC 9293 section 3.2).
+/// The kind of the no-operation, an option of one octet (RFC 9293 section 3.2).
 pub const NO_OPERATION: u8 = 1;
 
 /// The kind of the window scale option (RFC 7323 section 2).
 pub const WINDOW_SCALE: u8 = 3;
 
-// The length of a window scale option, and the largest shift that counts (RFC 7323 section 2).
+// The length of a window scale option in octets, and the limit of its shift count (RFC 7323 section
+// 2).
 const WINDOW_SCALE_SIZE: usize = 3;
 
 const LARGEST_SHIFT: u8 = 14;
 
-/// Whether each option before the end option or the area's end has a length of at least 2 and lies inside the area.
+/// Returns whether each option before the end option or the area's end has a length of at least 2
+/// and lies inside the area.
 pub fn are_well_formed(area: &[u8]) -> bool
     ensures { result ≡ spec.are_well_formed area.now }
 {
@@ -38,7 +40,8 @@ pub fn are_well_formed(area: &[u8]) -> bool
     true
 }
 
-/// The length in octets of the option at this place, which is neither the end option nor a no-operation.
+/// Returns the length in octets of the option at the offset `at`, which is neither the end option
+/// nor a no-operation.
 pub fn size_at(area: &[u8], at: usize) -> usize
     requires formed { spec.are_well_formed (drop at area.now) ≡ true }
     requires begins { at < length area.now }
@@ -50,7 +53,8 @@ pub fn size_at(area: &[u8], at: usize) -> usize
     usize::from(area[at + 1])
 }
 
-/// The shift, at most 14, of the first window scale option of length 3 before the end option (RFC 7323 section 2).
+/// Returns the shift count, at most 14, of the first window scale option of length 3 before the end
+/// option (RFC 7323 section 2).
 pub fn scale_of(options: &[u8]) -> Option<u8>
     requires { spec.are_well_formed options.now ≡ true }
     ensures { result ≡ spec.scale_of options.now }
@@ -70,7 +74,7 @@ pub fn scale_of(options: &[u8]) -> Option<u8>
     None
 }
 
-// A window scale option.
+// Returns whether an option of this kind and length is a window scale option.
 fn is_window_scale(kind: u8, size: usize) -> bool
     ensures { result ≡ ((kind == 3) && (size == 3)) }
 {
@@ -81,7 +85,8 @@ fn is_window_scale(kind: u8, size: usize) -> bool
 mod tests {
     use super::*;
 
-    // The first of two; one of another length, and one of another kind; behind the end; past 14, where 14 counts (RFC 7323).
+    // The first of two; one of another length, and one of another kind; after the end option; above
+    // 14, which is limited to 14 (RFC 7323).
     #[test]
     fn the_first_window_scale_counts(rt: HostRuntime) {
         let rows: [(&[u8], Option<u8>); 10] = [

@@ -1,4 +1,4 @@
-//! A segment written.
+//! Segments, written.
 ghost use Rattle.std.specs.Prelude.{◌≡◌, ◌+◌, ◌%◌, ◌≤◌, ◌++◌, true, false, length, drop, []};
 ghost use Rattle.wire_base.specs.Sums.{pseudo_sum, sum_is_right};
 ghost use Rattle.wire_base.specs.Tcp as tcp;
@@ -6,16 +6,16 @@ ghost use Rattle.tcp_codec.specs.Mending.{mended};
 ghost use Rattle.tcp_codec.specs.Write.{header_octets, octets_with, pseudo_of, segment_octets, segment_of};
 
 use arrayvec::ArrayVec;
-use wire_base::{Addr, Flags, Protocol, SeqNumber, pseudo_sum, put_u16, sum_for};
+use wire_base::{Addr, Flags, protocol, pseudo_sum, put_u16, sum_for};
 
-// The octets of a header without options (RFC 9293 section 3.1).
+// Length of a header without options in octets (RFC 9293 section 3.1).
 const HEADER: usize = 20;
 
-// Where the checksum stands in a segment, in octets.
+// Offset of the checksum in a segment, in octets.
 const CHECKSUM: usize = 16;
 
-/// What a segment says beside its octets: the fields of its header (RFC 9293 section 3.1), and the addresses that its
-/// checksum covers.
+/// The parts of a segment other than its payload: the fields of its header (RFC 9293 section 3.1),
+/// and the addresses that its checksum covers.
 #[derive(Debug, Drop)]
 pub struct SegmentParts {
     pub src: Addr,
@@ -25,17 +25,17 @@ pub struct SegmentParts {
     /// The destination port.
     pub dport: u16,
     /// The sequence number.
-    pub seq: SeqNumber,
+    pub seq: u32,
     /// The acknowledgment number.
-    pub ack: SeqNumber,
+    pub ack: u32,
     pub flags: Flags,
     pub window: u16,
     /// The octets of the option area.
     pub options: ArrayVec<u8, 40>,
 }
 
-/// Writes a segment: its header with reserved bits and urgent pointer 0 and the right checksum, its options and its payload.
-/// Answers its length in octets.
+/// Writes a segment: its header with reserved bits and urgent pointer 0 and the right checksum, its
+/// options and its payload. Returns its length in octets.
 pub fn write_segment(parts: &SegmentParts, payload: &[u8], buf: &mut [u8]) -> usize
     requires words { length parts.now.options.items % 4 ≡ 0 }
     requires size { 20 + length parts.now.options.items + length payload.now ≤ 65515 }
@@ -50,13 +50,14 @@ pub fn write_segment(parts: &SegmentParts, payload: &[u8], buf: &mut [u8]) -> us
     put_parts(parts, payload, segment);
     let sum = sum_for(
         segment,
-        pseudo_sum(parts.src, parts.dst, Protocol::TCP, size as u16),
+        pseudo_sum(parts.src, parts.dst, protocol::TCP, size as u16),
     );
     put_u16(segment, CHECKSUM, sum);
     size
 }
 
-/// Writes the right checksum of the segment that these octets are, and leaves all other octets. `pseudo` is what is summed before it.
+/// Writes the right checksum into a segment, and leaves all other octets unchanged. `pseudo` is the
+/// sum of the pseudo-header.
 pub fn mend(bytes: &mut [u8], pseudo: u32)
     requires { 18 ≤ length bytes.old }
     ensures exact { bytes.new ≡ mended pseudo bytes.old }
@@ -67,7 +68,7 @@ pub fn mend(bytes: &mut [u8], pseudo: u32)
     put_u16(bytes, CHECKSUM, sum);
 }
 
-// Writes the whole segment, with 0 in the place of the checksum.
+// Writes the whole segment, with 0 in the checksum field.
 fn put_parts(parts: &SegmentParts, payload: &[u8], segment: &mut [u8])
     requires { length segment.old ≡ 20 + length parts.now.options.items + length payload.now }
     ensures { segment.new ≡ octets_with (segment_of parts.now payload.now) 0 }
@@ -79,14 +80,14 @@ fn put_parts(parts: &SegmentParts, payload: &[u8], segment: &mut [u8])
     octets.copy_from_slice(payload);
 }
 
-// The 20 octets before the options, with 0 in the place of the checksum.
+// Returns the 20 octets before the options, with 0 in the checksum field.
 fn without_sum(parts: &SegmentParts) -> [u8; 20]
     ensures { result ≡ header_octets (segment_of parts.now []) 0 }
 {
     let [sport_high, sport_low] = parts.sport.to_be_bytes();
     let [dport_high, dport_low] = parts.dport.to_be_bytes();
-    let [a, b, c, d] = parts.seq.value().to_be_bytes();
-    let [e, f, g, h] = parts.ack.value().to_be_bytes();
+    let [a, b, c, d] = parts.seq.to_be_bytes();
+    let [e, f, g, h] = parts.ack.to_be_bytes();
     let words = (HEADER + parts.options.len()) / 4;
     let [window_high, window_low] = parts.window.to_be_bytes();
     [
@@ -118,7 +119,8 @@ mod tests {
     use super::*;
     use std::test::Fail;
 
-    /// A segment from 198.51.100.7 port 40000 to 10.0.0.1 port 80 without options.
+    /// Returns the parts of a segment from 198.51.100.7 port 40000 to 10.0.0.1 port 80 without
+    /// options.
     fn parts(seq: u32, ack: u32, flags: Flags) -> SegmentParts
         ensures options { result.options.items ≡ [] }
         ensures flags { result.flags ≡ flags }
@@ -128,15 +130,16 @@ mod tests {
             dst: Addr(0x0a00_0001),
             sport: 40000,
             dport: 80,
-            seq: SeqNumber::new(seq),
-            ack: SeqNumber::new(ack),
+            seq,
+            ack,
             flags,
             window: 8192,
             options: ArrayVec::new(),
         }
     }
 
-    // Octets; options and none; an odd count of octets, and fields that all differ.
+    // Payload without options; options without payload; an odd number of octets, and fields that
+    // all differ.
     #[test]
     fn segments_are_written_with_their_sums(rt: HostRuntime) -> Result<(), Fail> {
         let mut buf = [0xee; 28];

@@ -1,4 +1,4 @@
--- The sum of a message with its checksum mended.
+-- The sum of a message with its checksum rewritten.
 use Rattle.std.proofs.Common.{◌≡◌, ℕ, ◌+◌, ◌≤◌, ◌<◌, true, List, length, arith}
 use Rattle.std.proofs.lemmas.Bool.Decides.{nat_tests}
 use Rattle.wire_base.specs.Numbers.{with_u16}
@@ -6,7 +6,7 @@ use Rattle.wire_base.specs.Sums.{word_sum, is_right, checksum_for, sum_is_right}
 use Rattle.wire_base.proofs.Mending.{word_sum-with_u16}
 use Rattle.udp_codec.specs.Checksum.{written, mended}
 
--- a written checksum fits its place
+-- a written checksum has 16 bits
 pub written-below : (total : ℕ) → written (checksum_for total) < 65536
 written-below total = grind (arith, nat_tests)
 
@@ -14,7 +14,7 @@ written-below total = grind (arith, nat_tests)
 pub is_right-written : (total : ℕ) → is_right (total + written (checksum_for total)) ≡ true
 is_right-written total = grind (arith, nat_tests)
 
--- a mended message sums right
+-- the sum of a message with its checksum rewritten is right
 pub sum_is_right-mended : (pseudo : ℕ) (message : List ℕ) → 8 ≤ length message → sum_is_right (mended pseudo message) pseudo ≡ true
 sum_is_right-mended pseudo message whole =
     let rest = pseudo + word_sum (with_u16 message 6 0) in

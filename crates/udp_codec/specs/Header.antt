@@ -6,7 +6,7 @@ use Rattle.udp_codec.specs.declared.header.Udp.{Udp}
 use Rattle.udp_codec.specs.declared.header.UdpFault.{UdpFault}
 use Rattle.udp_codec.specs.declared.header.UdpFault.TheVariants.{Short, Length, Sum}
 
--- each field at its place in the octets of a message
+-- each field at its offset in the octets of a message
 abbrev pub fields_of : List ℕ → Udp
 fields_of message =
     record {
@@ -16,7 +16,7 @@ fields_of message =
       sum = udp.checksum message;
     }
 
--- the first fault that holds, in the order of testing (this project's profile); `pseudo` is what is summed before the message
+-- the first fault that holds, in the order of testing (this project's profile); `pseudo` is the sum of the pseudo-header
 abbrev pub fault_of : (pseudo : ℕ) → List ℕ → Option UdpFault
 fault_of pseudo message =
     if udp.is_short message then Some Short
@@ -24,6 +24,6 @@ fault_of pseudo message =
     else if udp.has_wrong_sum pseudo message then Some Sum
     else None
 
--- what is read of a message: its fields, or its first fault
+-- the result of parsing a message: its fields, or its first fault
 abbrev pub parsed : (pseudo : ℕ) → List ℕ → Result Udp UdpFault
 parsed pseudo message = value_or_fault (fields_of message) (fault_of pseudo message)

@@ -6,11 +6,11 @@ ghost use Rattle.udp_codec.specs.Checksum.{mended};
 
 use wire_base::{put_u16, sum_for};
 
-/// Where the checksum stands in a message, in octets.
+/// Offset of the checksum in a message, in octets.
 const CHECKSUM: usize = 6;
 
-/// Writes the right checksum of the message that these octets are, as a sender that made one writes it: 65,535 stands in
-/// place of 0, which would say that none was made (RFC 768). `pseudo` is what is summed before the message.
+/// Writes the right checksum into a message, with 65,535 instead of 0: a checksum of 0 means that
+/// the sender made none (RFC 768). `pseudo` is the sum of the pseudo-header.
 pub fn mend(bytes: &mut [u8], pseudo: u32)
     requires { 8 ≤ length bytes.old }
     ensures exact { bytes.new ≡ mended pseudo bytes.old }
@@ -25,9 +25,9 @@ pub fn mend(bytes: &mut [u8], pseudo: u32)
 #[cfg(test)]
 mod tests {
     use super::*;
-    use wire_base::{Addr, Protocol, pseudo_sum};
+    use wire_base::{Addr, protocol, pseudo_sum};
 
-    // None made; a wrong one; a right one; one that comes to 0.
+    // No checksum; a wrong one; a right one; one that computes to 0.
     #[test]
     fn a_mended_message_has_the_senders_checksum(rt: HostRuntime) {
         let rows = [
@@ -36,7 +36,7 @@ mod tests {
             ([0xc6, 0xbf], [0x68, 0x69], [0xc6, 0xbf]),
             ([0, 0], [0x2f, 0x29], [0xff, 0xff]),
         ];
-        let pseudo = pseudo_sum(Addr(0xc633_6407), Addr(0x0a00_0001), Protocol::UDP, 10);
+        let pseudo = pseudo_sum(Addr(0xc633_6407), Addr(0x0a00_0001), protocol::UDP, 10);
         for ([a, b], [h, i], [c, d]) in rows {
             let mut message = [0x9c, 0x40, 0, 0x35, 0, 10, a, b, h, i];
             mend(&mut message, pseudo);

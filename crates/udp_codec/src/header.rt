@@ -14,11 +14,11 @@ pub struct Udp {
     pub dport: u16,
     /// The message's length in octets, header included.
     pub len: u16,
-    /// The checksum; 0 says that none was made.
+    /// The checksum; 0 if the sender made none.
     pub sum: u16,
 }
 
-/// Why octets are no UDP message, in the order of testing.
+/// Reasons why octets are not a UDP message, in the order of the tests.
 #[derive(Clone, Copy, Debug, PartialEq, Eq, Error)]
 pub enum UdpFault {
     #[error("fewer than 8 octets")]
@@ -29,8 +29,8 @@ pub enum UdpFault {
     Sum,
 }
 
-/// Reads the header of the message that these octets are; `pseudo` is what is summed before it: the addresses, the protocol
-/// and the length.
+/// Parses the header of a message; `pseudo` is the sum of the pseudo-header: addresses, protocol
+/// and length.
 pub fn parse(bytes: &[u8], pseudo: u32) -> Result<Udp, UdpFault>
     ensures exact { result ≡ parsed pseudo bytes.now }
     ensures whole { IfOk result (λ head. 8 ≤ head.len) }
@@ -49,7 +49,7 @@ pub fn parse(bytes: &[u8], pseudo: u32) -> Result<Udp, UdpFault>
     Ok(head)
 }
 
-/// Each field at its place.
+/// Returns the fields, each read at its offset.
 fn fields(bytes: &[u8]) -> Udp
     requires { 8 ≤ length bytes.now }
     ensures { result ≡ fields_of bytes.now }
@@ -65,14 +65,15 @@ fn fields(bytes: &[u8]) -> Udp
 #[cfg(test)]
 mod tests {
     use super::*;
-    use wire_base::{Addr, Protocol, pseudo_sum};
+    use wire_base::{Addr, protocol, pseudo_sum};
 
-    /// What is summed before a message of ten octets from 198.51.100.7 to 10.0.0.1.
+    /// Returns the sum of the pseudo-header of a message of ten octets from 198.51.100.7 to
+    /// 10.0.0.1.
     fn pseudo() -> u32 {
-        pseudo_sum(Addr(0xc633_6407), Addr(0x0a00_0001), Protocol::UDP, 10)
+        pseudo_sum(Addr(0xc633_6407), Addr(0x0a00_0001), protocol::UDP, 10)
     }
 
-    /// A message from port 40000 to port 53 as it is read.
+    /// Returns the parsed header of a message from port 40000 to port 53.
     fn read(len: u16, sum: u16) -> Result<Udp, UdpFault> {
         Ok(Udp {
             sport: 40000,
@@ -82,7 +83,8 @@ mod tests {
         })
     }
 
-    // A right checksum; none; one that is 65,535; wrong ones; a length below and above the octets, with a wrong checksum too; too few octets.
+    // A right checksum; none; one of 65,535; wrong ones; a length below and above the number of
+    // octets, also with a wrong checksum; too few octets.
     #[test]
     fn the_first_fault_is_told(rt: HostRuntime) {
         let rows: [(&[u8], Result<Udp, UdpFault>); 11] = [

@@ -1,4 +1,4 @@
--- The list of the options of an area, and what the one walk over the octets tells.
+-- The definitions over the list of options are equal to those by one walk over the octets.
 use Rattle.std.proofs.Common.{◌≡◌, ℕ, zero, suc, ◌+◌, ◌-◌, ◌≤◌, ◌<◌, ◌⊎◌, ◌==◌, ◌&&◌, ◌||◌, nat_le, min, inl, inr, Bool, true, false, List, [], ◌∷◌, ◌++◌, length, get_or, take, drop, Some, option_map, refl, sym, ap, ◌∙◌, ⊎_elim, arith}
 use Rattle.std.specs.List.{find, flat_map, list_all, list_any}
 use Rattle.std.proofs.Math.Dec.{eqb-suc-zero}
@@ -9,7 +9,7 @@ use Rattle.wire_base.specs.Options.{Listed, OptionList, with_first, options_from
 use Rattle.wire_base.specs.OptionLaws.{AreTheArea, FollowEachOther, WorkedAreas, follow_from}
 use Rattle.wire_base.proofs.OptionWalk.{formed_from, formed_from-size, formed_from-small, has_from, has_from-size, scale_from, scale_from-size}
 
--- the option at the front of what is left
+-- the option at the front of the octets
 abbrev pub at_front : (place kind : ℕ) → List ℕ → Listed
 at_front place kind octets = record { kind = kind; octets = kind ∷ take (get_or octets 0 0 - 1) octets; place = place }
 
@@ -19,14 +19,14 @@ options_from-size place kind octets other =
     let b : (kind == 1) ≡ false = ne_eqb kind 1 (omega arith) in
     rw (a, b, options_from) refl
 
--- its length octet is read, or is none or below 2
+-- the length octet is that of the octets, or it reads as 0 where that is below 2 or missing
 pub front-size : (octets : List ℕ) → (get_or (take (get_or octets 0 0 - 1) octets) 0 0 ≡ get_or octets 0 0) ⊎ ((get_or (take (get_or octets 0 0 - 1) octets) 0 0 ≡ 0) × (get_or octets 0 0 < 2))
 front-size [] = inl refl
 front-size (zero ∷ octets) = inl refl
 front-size (suc zero ∷ octets) = inr (refl, omega arith)
 front-size (suc (suc n) ∷ octets) = inl (get_or-take (suc (suc n) - 1) (suc (suc n) ∷ octets) 0 0 (omega arith))
 
--- as many octets stand as the length octet says exactly where they lie inside
+-- the option has as many octets as its length says exactly if it lies inside the area
 whole-size : (n : ℕ) (octets : List ℕ) → 2 ≤ n → (suc (length (take (n - 1) octets)) == n) ≡ nat_le (n - 1) (length octets)
 whole-size n octets two =
     let count : length (take (n - 1) octets) ≡ min (n - 1) (length octets) = length-take (n - 1) octets in
@@ -38,7 +38,7 @@ whole-size n octets two =
     eq-eqb (suc (length (take (n - 1) octets))) n (omega (arith, all)) ∙ sym (le-leb (n - 1) (length octets) inside))
     (cases_lt (length octets) (n - 1))
 
--- an option at the front, as the walk reads it
+-- an option at the front is whole exactly if the walk finds it inside the area
 front-whole : (place kind : ℕ) (octets : List ℕ) (rest : Bool) → 2 ≤ kind → 2 ≤ get_or octets 0 0 → (is_whole (at_front place kind octets) && rest) ≡ (nat_le (get_or octets 0 0 - 1) (length octets) && rest)
 front-whole place kind octets rest other two =
     let b : (kind == 1) ≡ false = ne_eqb kind 1 (omega arith) in
@@ -53,7 +53,7 @@ front-small place kind octets other small =
     ⊎_elim (λ e. ap (nat_le 2) e ∙ lt-leb 2 (get_or octets 0 0) small) (λ s. ap (nat_le 2) s.0) (front-size octets) in
     rw (b, none) refl
 
--- a length octet of at least 2 stands
+-- a length octet that reads as at least 2 is present
 pub has-first : (octets : List ℕ) → 2 ≤ get_or octets 0 0 → 1 ≤ length octets
 has-first [] some = absurd (omega arith)
 has-first (x ∷ octets) some = omega arith
@@ -113,7 +113,7 @@ front-scale place kind octets =
     ap (λ n. (kind == 3) && (n == 3)) s.0 ∙ sym (ap (λ b. (kind == 3) && b) other))
     (front-size octets)
 
--- a test tells one or the other
+-- a test is true or false
 pub which : (b : Bool) → (b ≡ true) ⊎ (b ≡ false)
 which true = inl refl
 which false = inr refl
@@ -147,7 +147,7 @@ scale_list place zero (suc (suc k) ∷ octets) =
 pub scale_of-walk : (area : List ℕ) → scale_of area ≡ scale_from 0 area
 scale_of-walk area = scale_list 0 0 area
 
--- the octets of the options and those behind them are what is left
+-- the octets of the options and those after them are the octets that were walked
 nothing_left : (place left : ℕ) (octets : List ℕ) → length octets < left → options_from place left octets ≡ record { options = []; behind = [] }
 nothing_left place left [] past = refl
 nothing_left place zero (x ∷ octets) past = absurd (omega arith)

@@ -1,12 +1,12 @@
--- The one walk over a list of options, octet by octet, with the number of octets that still belong to the option before; and its steps by the place
--- reached: what is still to read of the area is what is left from there on.
+-- One walk over a list of options, octet by octet: `left` is the number of octets that still belong to the option before. Its steps are stated by the offset
+-- `at` reached: the octets of the area from there on are still to be read.
 use Rattle.std.proofs.Common.{◌≡◌, length-drop, ℕ, zero, suc, ◌+◌, ◌-◌, ◌≤◌, ◌<◌, ◌&&◌, ◌||◌, ◌==◌, nat_le, min, Bool, true, false, Option, Some, None, List, [], ◌∷◌, length, get_or, drop, refl, ap, ◌∙◌, arith}
 use Rattle.std.proofs.Math.Bool.{and-false}
 use Rattle.std.proofs.Math.Dec.{eqb-suc-zero}
 use Rattle.std.proofs.lemmas.Bool.{ne_eqb, le-leb, lt-leb}
 use Rattle.std.proofs.lemmas.List.{drop_more, drop-drop, get_or-drop}
 
--- before the end option or the end of the area every option has a length octet of at least 2 and lies inside
+-- before the end option or the end of the area every option has a length octet of at least 2 and lies inside the area
 abbrev pub formed_from : (left : ℕ) → List ℕ → Bool
 formed_from left [] = left == 0
 formed_from (suc left) (x ∷ octets) = formed_from left octets
@@ -22,7 +22,7 @@ formed_from zero (kind ∷ octets) =
       ]
     ]
 
--- an option of a kind that passes the test, other than a no-operation, stands before the end option
+-- before the end option there is an option, other than a no-operation, of a kind that passes the test
 abbrev pub has_from : (test : ℕ → Bool) → (left : ℕ) → List ℕ → Bool
 has_from test left [] = false
 has_from test (suc left) (x ∷ octets) = has_from test left octets
@@ -35,7 +35,7 @@ has_from test zero (kind ∷ octets) =
       ]
     ]
 
--- the shift of the first window scale option before the end option
+-- the shift count of the first window scale option before the end option
 abbrev pub scale_from : (left : ℕ) → List ℕ → Option ℕ
 scale_from left [] = None
 scale_from (suc left) (x ∷ octets) = scale_from left octets
@@ -51,7 +51,7 @@ scale_from zero (kind ∷ octets) =
       ]
     ]
 
--- octets that still belong to the option before are passed over
+-- the walk skips octets that still belong to the option before
 pub formed_from-skip : (n : ℕ) (octets : List ℕ) → n ≤ length octets → formed_from n octets ≡ formed_from 0 (drop n octets)
 formed_from-skip zero octets inside = refl
 formed_from-skip (suc n) [] inside = absurd (omega arith)
@@ -73,23 +73,23 @@ scale_from-skip zero octets inside = refl
 scale_from-skip (suc n) [] inside = absurd (omega arith)
 scale_from-skip (suc n) (x ∷ octets) inside = scale_from-skip n octets (omega arith)
 
--- what is left begins with the kind of the next option
+-- the octets from `at` on begin with the kind of the next option
 pub drop-kind : (area : List ℕ) (at kind : ℕ) → at < length area → get_or area at 0 ≡ kind → drop at area ≡ kind ∷ drop (at + 1) area
 drop-kind area at kind inside e = drop_more area at 0 inside ∙ ap (λ x. x ∷ drop (at + 1) area) e
 
--- the octets of an option of this size, but for its kind, and what is left after it
+-- skipping an option of this size after its kind leads to the offset after the option
 pub drop-option : (area : List ℕ) (at size : ℕ) → 1 ≤ size → drop (size - 1) (drop (at + 1) area) ≡ drop (at + size) area
 drop-option area at size some =
     let e : at + 1 + (size - 1) ≡ at + size = omega arith in
     drop-drop (size - 1) (at + 1) area ∙ ap (λ n. drop n area) e
 
--- the size of the option at a place is the octet after its kind
+-- the size of the option at the offset `at` is the octet after its kind
 pub size-at : (area : List ℕ) (at size : ℕ) → get_or area (at + 1) 0 ≡ size → get_or (drop (at + 1) area) 0 0 ≡ size
 size-at area at size e =
     let same : at + 1 + 0 ≡ at + 1 = omega arith in
     get_or-drop (at + 1) area 0 0 ∙ ap (λ n. get_or area n 0) same ∙ e
 
--- an option other than the end and a no-operation reaches as far as the octet after its kind says
+-- an option other than the end and a no-operation ends where its length octet says
 pub formed_from-size : (kind : ℕ) (octets : List ℕ) → 2 ≤ kind → 1 ≤ length octets → 2 ≤ get_or octets 0 0 → formed_from 0 (kind ∷ octets) ≡ formed_from (get_or octets 0 0 - 1) octets
 formed_from-size kind octets other some two =
     let a : (kind == 0) ≡ false = ne_eqb kind 0 (omega arith) in
@@ -98,7 +98,7 @@ formed_from-size kind octets other some two =
     let d : nat_le 2 (get_or octets 0 0) ≡ true = le-leb 2 (get_or octets 0 0) two in
     rw (a, b, c, d, formed_from) refl
 
--- its length does not count its own two octets
+-- a length below 2 does not count the option's kind and length octets
 pub formed_from-small : (kind : ℕ) (octets : List ℕ) → 2 ≤ kind → get_or octets 0 0 < 2 → formed_from 0 (kind ∷ octets) ≡ false
 formed_from-small kind octets other small =
     let a : (kind == 0) ≡ false = ne_eqb kind 0 (omega arith) in
@@ -119,7 +119,7 @@ scale_from-size kind octets other another =
     let b : (kind == 1) ≡ false = ne_eqb kind 1 (omega arith) in
     rw (a, b, another, scale_from) refl
 
--- the walk at a place: at a no-operation, and at an option with its size
+-- the walk at the offset `at`: at a no-operation, and at an option with its size
 pub formed_from-none : (area : List ℕ) (at : ℕ) → at < length area → get_or area at 0 ≡ 1 → formed_from 0 (drop at area) ≡ formed_from 0 (drop (at + 1) area)
 formed_from-none area at inside kind = ap (formed_from 0) (drop-kind area at 1 inside kind)
 

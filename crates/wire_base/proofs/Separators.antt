@@ -1,4 +1,4 @@
--- What a search for the first separator answers.
+-- The result of a search for the first separator.
 use Rattle.std.proofs.Common.{◌≡◌, ℕ, Bool, true, false, cond, Option, Some, None, refl}
 
 pub found : (b : Bool) (i n : ℕ) (o : Option ℕ) → o ≡ cond b (Some n) None → o ≡ Some i → i ≡ n

@@ -1,4 +1,4 @@
--- Totals that count alike.
+-- Totals that count as the same sum.
 use Rattle.std.proofs.Common.{◌≡◌, ℕ, ◌+◌, ◌≤◌, List, length, drop, slice_index, ◌*◌, refl, arith}
 use Rattle.wire_base.specs.Sums.{CountsAs, lowest_first_at, word_sum}
 use Rattle.wire_base.proofs.Words.{word_sum-drop}
@@ -6,23 +6,23 @@ use Rattle.wire_base.proofs.Words.{word_sum-drop}
 pub CountsAs-refl : (a : ℕ) → CountsAs a a
 CountsAs-refl a = record { up = 0; down = 0; same = refl; zero = λ e. e; back = λ e. e }
 
--- both in turn
+-- transitivity
 pub CountsAs-trans : (a b c : ℕ) → CountsAs a b → CountsAs b c → CountsAs a c
 CountsAs-trans a b c p q = record { up = p.up + q.up; down = p.down + q.down; same = omega (arith, p.same, q.same); zero = λ e. q.zero (p.zero e); back = λ e. p.back (q.back e) }
 
--- with the same added before both
+-- the same number added to both
 pub CountsAs-add : (x a b : ℕ) → CountsAs a b → CountsAs (x + a) (x + b)
 CountsAs-add x a b p = record { up = p.up; down = p.down; same = omega (arith, p.same); zero = λ e. omega (arith, p.zero); back = λ e. omega (arith, p.back) }
 
--- 65,536 times a number counts as the number
+-- a carry: 65,536 times a number counts as the number
 pub CountsAs-carry : (high low total : ℕ) → total ≡ 65536 * high + low → CountsAs (high + low) total
 CountsAs-carry high low total e = record { up = high; down = 0; same = omega arith; zero = λ z. omega arith; back = λ z. omega arith }
 
--- 256 times the number of four octets, the lowest first, counts as their two words
+-- 256 times a 32-bit number, least significant octet first, counts as its two words
 CountsAs-swapped : (a b c d sum rest : ℕ) → CountsAs (256 * (sum + (a + 256 * b + 65536 * c + 16777216 * d)) + rest) (256 * sum + (256 * a + b + (256 * c + d + rest)))
 CountsAs-swapped a b c d sum rest = record { up = 0; down = b + 256 * c + 65537 * d; same = omega arith; zero = λ z. omega arith; back = λ z. omega arith }
 
--- four octets and what is left behind them count as what was left before them
+-- a step of the loop: four octets and those after them count as the octets before the step
 pub CountsAs-four : (octets : List ℕ) (sum total at next : ℕ) → at + 4 ≤ length octets → next ≡ at + 4 → CountsAs (256 * sum + word_sum (drop at octets)) total → CountsAs (256 * (sum + lowest_first_at octets at) + word_sum (drop next octets)) total
 CountsAs-four octets sum total at next inside e before =
     let first = word_sum-drop octets at (omega arith) in
@@ -32,7 +32,7 @@ CountsAs-four octets sum total at next inside e before =
     let step : CountsAs (256 * (sum + lowest_first_at octets at) + word_sum (drop next octets)) (256 * sum + word_sum (drop at octets)) = rw (four, first, second, third) (CountsAs-swapped (slice_index octets at) (slice_index octets (at + 1)) (slice_index octets (at + 2)) (slice_index octets (at + 3)) sum (word_sum (drop (at + 2 + 2) octets))) in
     CountsAs-trans _ _ _ step before
 
--- a folded total and what is left behind a piece count as the total before and what was left before the piece
+-- a step of the loop: the folded total and the octets after `front` count as the total and the octets before the step
 pub CountsAs-piece : (folded total sum front back rest whole : ℕ) → CountsAs folded (total + sum) → CountsAs sum front → front + back ≡ rest → CountsAs (total + rest) whole → CountsAs (folded + back) whole
 CountsAs-piece folded total sum front back rest whole p q e before =
     let step : CountsAs (folded + back) (total + rest) = record { up = p.up + q.up; down = p.down + q.down; same = omega (arith, p.same, q.same); zero = λ z. omega (arith, p.zero, q.zero); back = λ z. omega (arith, p.back, q.back) } in

@@ -5,7 +5,7 @@ use Rattle.std.proofs.lemmas.Bool.{cases_lt}
 use Rattle.wire_base.specs.Numbers.{u16_at}
 use Rattle.wire_base.specs.Sums.{word_sum}
 
--- what is left from a place on begins with a word
+-- the octets from the offset `at` on begin with a word
 pub word_sum-drop : (octets : List ℕ) (at : ℕ) → at + 2 ≤ length octets → word_sum (drop at octets) ≡ u16_at octets at + word_sum (drop (at + 2) octets)
 word_sum-drop octets at inside =
     let first : at < length octets = omega arith in
@@ -14,7 +14,7 @@ word_sum-drop octets at inside =
     let two : at + 1 + 1 ≡ at + 2 = omega arith in
     rw (e, two) refl
 
--- the words up to an even place, and those from there on
+-- the words up to an even offset, and those from there on
 pub word_sum-split : (n : ℕ) (octets : List ℕ) → word_sum (take (2 * n) octets) + word_sum (drop (2 * n) octets) ≡ word_sum octets
 word_sum-split zero octets = omega arith
 word_sum-split (suc n) [] =
@@ -27,7 +27,7 @@ word_sum-split (suc n) (x ∷ y ∷ octets) =
     let e : 2 * suc n ≡ suc (suc (2 * n)) = omega arith in
     rw e (omega (arith, word_sum-split n octets))
 
--- the words of a front of at most 65,536 octets, which is all or ends at an even place, and of the rest
+-- the words of the first 65,536 octets, or of all if there are fewer, and those of the rest
 pub word_sum-piece : (octets : List ℕ) (n : ℕ) → n ≡ min (length octets) 65536 → word_sum (take n octets) + word_sum (drop n octets) ≡ word_sum octets
 word_sum-piece octets n e =
     ⊎_elim (λ short. let past : length octets ≤ n = omega arith in rw (take_all n octets past, drop_all n octets past) (add-zero (word_sum octets)))

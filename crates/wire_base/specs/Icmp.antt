@@ -1,4 +1,4 @@
--- The ICMP header (RFC 792), read in the octets of a message: what an IPv4 packet carries.
+-- The ICMP header (RFC 792), read from the octets of a message, the payload of an IPv4 packet.
 use Rattle.std.specs.Prelude.{nat_lt, not, Bool, ℕ, List, length, slice_index}
 use Rattle.wire_base.specs.Sums.{sum_is_right}
 
@@ -8,10 +8,10 @@ kind m = slice_index m 0
 abbrev pub code : List ℕ → ℕ
 code m = slice_index m 1
 
--- fewer octets than the header
+-- fewer than the 8 octets of the header
 abbrev pub is_short : List ℕ → Bool
 is_short m = nat_lt (length m) 8
 
--- the sum over the whole message is not right
+-- the sum over the whole message is wrong
 abbrev pub has_wrong_sum : List ℕ → Bool
 has_wrong_sum m = not (sum_is_right m 0)

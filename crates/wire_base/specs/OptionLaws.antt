@@ -1,13 +1,13 @@
--- Laws of the list of options: nothing of the area is lost in it, and rows that are worked by hand.
+-- Laws of the list of options: it has every octet of the area, and the definitions over it give the results of cases worked by hand.
 use Rattle.std.specs.Prelude.{◌≡◌, ℕ, ◌+◌, ◌==◌, ◌&&◌, Bool, true, false, List, [], ◌∷◌, ◌++◌, length, map, Option, Some, None, if◌then◌else◌}
 use Rattle.std.specs.List.{flat_map}
 use Rattle.wire_base.specs.Options.{Listed, options_of, are_well_formed, has_route, scale_of, cleaned}
 
--- the octets of the options in their order, and those behind them, are the area
+-- the octets of the options in their order, and those after them, are the area
 abbrev pub AreTheArea : Type 0
 AreTheArea = (area : List ℕ) → flat_map (λ option. option.octets) (options_of area).options ++ (options_of area).behind ≡ area
 
--- each begins where the one before it ends, the first one at this place
+-- the first option begins at the offset `place`, each other one where the one before it ends
 abbrev pub follow_from : (place : ℕ) → List Listed → Bool
 follow_from place [] = true
 follow_from place (option ∷ options) = (option.place == place) && follow_from (place + length option.octets) options
@@ -15,11 +15,11 @@ follow_from place (option ∷ options) = (option.place == place) && follow_from 
 abbrev pub FollowEachOther : Type 0
 FollowEachOther = (area : List ℕ) → follow_from 0 (options_of area).options ≡ true
 
--- whether a source route stands in the area; None where the options are not well formed
+-- whether the area has a source route; None if the options are not well formed
 abbrev pub route_in : List ℕ → Option Bool
 route_in area = if are_well_formed area then Some (has_route area) else None
 
--- areas of IPv4 headers: options that are passed over, routes, what stands behind the end option, and lengths that are none, too small or too large
+-- areas of IPv4 headers: options other than routes, routes, octets after the end option, and lengths that are missing, too small or too large
 abbrev pub routes : List (List ℕ × Option Bool)
 routes =
     ([], Some false)
@@ -42,7 +42,7 @@ routes =
     ∷ (7 ∷ 255 ∷ 0 ∷ 0 ∷ [], None)
     ∷ []
 
--- areas with their window scales: the first of two; one of another length, and of another kind; behind the end; past 14
+-- areas with their window scales: the first of two; one of another length, and of another kind; after the end option; above 14
 abbrev pub scales : List (List ℕ × Option ℕ)
 scales =
     ([], None)
@@ -57,8 +57,8 @@ scales =
     ∷ (0 ∷ 3 ∷ 3 ∷ 7 ∷ [], None)
     ∷ []
 
--- whether the segment is a SYN, its area, and the cleaned area: kinds that are known and one that is not; those of a SYN without it; lengths that are
--- not theirs; a second one of its kind, also after one that was not kept; octets behind the end
+-- whether the segment is a SYN, its area, and the cleaned area: known kinds and an unknown one; kinds of a SYN on another segment; wrong lengths; a second
+-- option of a kind, also after one that was not kept; octets after the end option
 abbrev pub cleanings : List (Bool × List ℕ × List ℕ)
 cleanings =
     (false, [], [])
@@ -80,7 +80,7 @@ cleanings =
     ∷ (false, 0 ∷ 0 ∷ 0 ∷ 0 ∷ [], 0 ∷ 0 ∷ 0 ∷ 0 ∷ [])
     ∷ []
 
--- the words give what the rows say
+-- the definitions give the results of these cases
 pub record WorkedAreas : Type 0 where
   pub routes_are : map (λ row. (row.0, route_in row.0)) routes ≡ routes
   pub scales_are : map (λ row. (row.0, scale_of row.0)) scales ≡ scales

@@ -1,9 +1,9 @@
--- Lists of options, which IP and TCP spell alike (RFC 791 section 3.1, RFC 9293 section 3.1): 0 ends the list, 1 is one octet that does nothing,
--- and every other option has a length octet that counts the whole option.
+-- Lists of options, which IP and TCP encode alike (RFC 791 section 3.1, RFC 9293 section 3.1): kind 0 ends the list, kind 1 is a no-operation of one octet, and
+-- every other option has a length octet that counts the whole option.
 use Rattle.std.specs.Prelude.{ℕ, zero, suc, ◌-◌, ◌==◌, ◌&&◌, ◌||◌, nat_le, nat_lt, not, min, Bool, true, false, List, [], ◌∷◌, ◌++◌, length, take, replicate, slice_index, Option, option_map, if◌then◌else◌}
 use Rattle.std.specs.List.{find, flat_map, list_all, list_any}
 
--- an option: its kind, its octets as far as they stand in the area, beginning with the kind, and the place in the area at which it begins
+-- an option: its kind, its octets as far as the area has them, the kind first, and its offset in the area
 pub record Listed : Type 0 where
   pub kind : ℕ
   pub octets : List ℕ
@@ -14,15 +14,15 @@ pub record OptionList : Type 0 where
   pub options : List Listed
   pub behind : List ℕ
 
--- a list with one more option at its front
+-- a list with one more option before the others
 abbrev pub with_first : Listed → OptionList → OptionList
 with_first option list = record { options = option ∷ list.options; behind = list.behind }
 
--- how many of the octets after its kind belong to an option: none to a no-operation, and else one fewer than its length octet says, which is the first of them
+-- the number of octets of an option after its kind: 0 for a no-operation, else one less than its length octet, which is the first of these octets
 abbrev pub more_octets : (kind : ℕ) → List ℕ → ℕ
 more_octets kind octets = if kind == 1 then 0 else slice_index octets 0 - 1
 
--- The options from a place on. It goes over the octets once, with the number of octets that still belong to the option before.
+-- the options from the offset `place` on, in one walk over the octets; `left` is the number of octets that still belong to the option before
 abbrev pub options_from : (place left : ℕ) → List ℕ → OptionList
 options_from place left [] = record { options = []; behind = [] }
 options_from place (suc left) (x ∷ octets) = options_from (suc place) left octets
@@ -36,19 +36,19 @@ options_from place zero (kind ∷ octets) =
 abbrev pub options_of : List ℕ → OptionList
 options_of area = options_from 0 0 area
 
--- the place of the end option, or the area's length where none stands
+-- the offset of the end option, or the area's length if there is none
 abbrev pub end_of : List ℕ → ℕ
 end_of area = length area - length (options_of area).behind
 
--- what an option's length octet says, which is the second of its octets; 0 where it says less than 2 or does not stand
+-- the length octet of an option, the second of its octets; 0 if it is below 2 or missing
 abbrev pub size_of : Listed → ℕ
 size_of option = slice_index option.octets 1
 
--- a no-operation, or an option whose length octet says at least 2 and as many octets as stand
+-- a no-operation, or an option whose length octet is at least 2 and the number of its octets
 abbrev pub is_whole : Listed → Bool
 is_whole option = (option.kind == 1) || (nat_le 2 (size_of option) && (length option.octets == size_of option))
 
--- before the end option or the end of the area every option has a length octet of at least 2 and lies inside
+-- before the end option or the end of the area every option has a length octet of at least 2 and lies inside the area
 abbrev pub are_well_formed : List ℕ → Bool
 are_well_formed area = list_all is_whole (options_of area).options
 
@@ -56,23 +56,23 @@ are_well_formed area = list_all is_whole (options_of area).options
 abbrev pub is_route : (kind : ℕ) → Bool
 is_route kind = (kind == 131) || (kind == 137)
 
--- a source route stands before the end option
+-- the area has a source route before the end option
 abbrev pub has_route : List ℕ → Bool
 has_route area = list_any (λ option. is_route option.kind) (options_of area).options
 
--- a window scale option of length 3, and its shift, of which at most 14 counts (RFC 7323 section 2)
+-- a window scale option of length 3, and its shift count, limited to 14 (RFC 7323 section 2)
 abbrev pub is_scale : Listed → Bool
 is_scale option = (option.kind == 3) && (size_of option == 3)
 
 abbrev pub shift_of : Listed → ℕ
 shift_of option = min 14 (slice_index option.octets 2)
 
--- the shift of the first window scale option before the end option
+-- the shift count of the first window scale option before the end option
 abbrev pub scale_of : List ℕ → Option ℕ
 scale_of area = option_map shift_of (find is_scale (options_of area).options)
 
--- a TCP option of this kind and length may be kept: on a SYN maximum segment size, window scale and SACK permitted; SACK of one to four blocks; timestamps
--- (RFC 9293 section 3.2, RFC 7323, RFC 2018; which are kept is this project's profile)
+-- a TCP option of this kind and length may be kept: on a SYN maximum segment size, window scale and SACK permitted; on every segment SACK of one to four
+-- blocks, and timestamps (RFC 9293 section 3.2, RFC 7323, RFC 2018; which are kept is this project's profile)
 abbrev pub may_be_kept : (syn : Bool) (kind size : ℕ) → Bool
 may_be_kept syn kind size =
     (syn && (((kind == 2) && (size == 4)) || ((kind == 3) && (size == 3)) || ((kind == 4) && (size == 2))))
@@ -83,15 +83,15 @@ may_be_kept syn kind size =
 abbrev pub may_stay : (syn : Bool) → Listed → Bool
 may_stay syn option = may_be_kept syn option.kind (size_of option)
 
--- an option of these is kept: it may be, and none of its kind that may be stands before it
+-- an option of the list is kept: it may be kept, and no earlier option of its kind may be kept
 abbrev pub is_kept : (syn : Bool) → List Listed → Listed → Bool
 is_kept syn options option = may_stay syn option && not (list_any (λ other. nat_lt other.place option.place && ((other.kind == option.kind) && may_stay syn other)) options)
 
--- what cleaning leaves of an option of these: its octets where it is kept, else a no-operation for each
+-- the cleaned octets of an option of the list: its own if it is kept, else a no-operation for each
 abbrev pub cleaned_option : (syn : Bool) → List Listed → Listed → List ℕ
 cleaned_option syn options option = if is_kept syn options option then option.octets else replicate (length option.octets) 1
 
--- the cleaned area: what cleaning leaves of each option, and 0 for each octet from the end option on
+-- the cleaned area: the cleaned octets of each option, and 0 for each octet from the end option on
 abbrev pub cleaned_list : (syn : Bool) → OptionList → List ℕ
 cleaned_list syn list = flat_map (cleaned_option syn list.options) list.options ++ replicate (length list.behind) 0
 

@@ -6,12 +6,12 @@ use Rattle.wire_base.specs.Udp as udp
 use Rattle.wire_base.specs.Tcp as tcp
 use Rattle.wire_base.specs.Options.{are_well_formed, cleaned}
 
--- what is summed before the message that the packet carries
+-- the sum of the pseudo-header of a packet
 abbrev pub pseudo_of : List ℕ → ℕ
 pseudo_of p = pseudo_sum (ip.source p) (ip.destination p) (ip.protocol p) (length (ip.payload p))
 
--- a TCP segment with a whole header, a right sum and legal flags, without reserved bits, urgent marks, or options that cleaning would change, and
--- without octets on SYN or RST
+-- a TCP segment with a whole header, a right sum, legal flags and well-formed options that cleaning does not change, without reserved bits, URG or urgent
+-- pointer, and without payload on a SYN or RST
 pub record IsPlainTcp (p : List ℕ) : Type 0 where
   pub whole_header : 20 ≤ length (ip.payload p)
   pub data_offset : 20 ≤ tcp.header_length (ip.payload p)
@@ -34,14 +34,14 @@ pub record IsPlainIcmp (p : List ℕ) : Type 0 where
   pub whole_header : 8 ≤ length (ip.payload p)
   pub sum : sum_is_right (ip.payload p) 0 ≡ true
 
--- a message of one of the three protocols: ICMP 1, TCP 6, UDP 17
+-- a plain payload of one of the three protocols: ICMP 1, TCP 6, UDP 17
 pub record IsPlainMessage (p : List ℕ) : Type 0 where
   pub protocol : (ip.protocol p ≡ 1) ⊎ (ip.protocol p ≡ 6) ⊎ (ip.protocol p ≡ 17)
   pub icmp : ip.protocol p ≡ 1 → IsPlainIcmp p
   pub tcp : ip.protocol p ≡ 6 → IsPlainTcp p
   pub udp : ip.protocol p ≡ 17 → IsPlainUdp p
 
--- a whole datagram with a header of its 20 octets and no reserved mark
+-- a packet that is no fragment and ends at its total length, with a header of 20 octets, the reserved flag clear, and a right sum over the header
 pub record IsPlainHeader (p : List ℕ) : Type 0 where
   pub whole_header : 20 ≤ length p
   pub version : ip.version p ≡ 4
@@ -52,7 +52,7 @@ pub record IsPlainHeader (p : List ℕ) : Type 0 where
   pub fragment_offset : ip.fragment_offset p ≡ 0
   pub sum : sum_is_right (ip.header p) 0 ≡ true
 
--- The packet is plain for hosts behind at most so many routers: it reaches each of them, and all read it alike.
+-- a packet that is plain for hosts behind at most `hops` routers: its time to live is above `hops`, and its header and payload are plain
 pub record Plain (hops : ℕ) (p : List ℕ) : Type 0 where
   pub header : IsPlainHeader p
   pub passes : hops < ip.time_to_live p

@@ -1,4 +1,4 @@
--- Address prefixes and their text: four numbers with dots, a slash and a length (RFC 4632 section 3.1; the numbers of digits are this project's profile).
+-- Address prefixes and their text: four numbers with dots, a slash and a length (RFC 4632 section 3.1; the counts of digits are this project's profile).
 use Rattle.std.specs.Prelude.{ℕ, ◌+◌, ◌-◌, ◌*◌, ◌/◌, ◌^◌, ◌==◌, ◌&&◌, ◌||◌, nat_lt, nat_le, Bool, List, length, fold, Result, Ok, Err, if◌then◌else◌}
 use Rattle.std.specs.List.{list_all, before_first, after_first}
 use Rattle.wire_base.specs.declared.prefix.Prefix.{Prefix}
@@ -17,18 +17,18 @@ is_digit c = nat_le 48 c && nat_le c 57
 abbrev pub is_number : ℕ → List ℕ → Bool
 is_number most text = nat_lt 0 (length text) && nat_le (length text) most && list_all is_digit text
 
--- the number that decimal digits are
+-- the value of decimal digits
 abbrev pub number_of : List ℕ → ℕ
 number_of text = fold (λ n c. 10 * n + (c - 48)) 0 text
 
--- what stands before the first such character, and after it
+-- the characters before the first `c`, and those after it
 abbrev pub before : ℕ → List ℕ → List ℕ
 before c text = before_first (λ x. x == c) text
 
 abbrev pub after : ℕ → List ℕ → List ℕ
 after c text = after_first (λ x. x == c) text
 
--- a prefix of these four numbers and this length, or the first fault: another shape, a number over 255, a length over 32
+-- the prefix of four numbers and a length, or the first fault: another shape, a number over 255, a length over 32
 abbrev pub prefix_of_parts : (a b c d size : List ℕ) → Result Prefix PrefixFault
 prefix_of_parts a b c d size =
     if is_number 3 a && is_number 3 b && is_number 3 c && is_number 3 d && is_number 2 size then
@@ -37,7 +37,7 @@ prefix_of_parts a b c d size =
     else Ok (record { addr = record { 0 = 16777216 * number_of a + 65536 * number_of b + 256 * number_of c + number_of d }; len = number_of size }))
     else Err Shape
 
--- the prefix that a text is: what stands between its first three dots (46), the slash (47) after them, and the rest
+-- the prefix of a text: its numbers end at the first three dots (46) and at the first slash (47) after them, and the rest is its length
 abbrev pub prefix_of : List ℕ → Result Prefix PrefixFault
 prefix_of text =
     let second = after 46 text in

@@ -4,7 +4,7 @@ use Rattle.wire_base.specs.Ipv4 as ip
 use Rattle.wire_base.specs.Tcp as tcp
 use Rattle.wire_base.specs.Options.{scale_of}
 
--- what a TCP packet says: its fields and the octets that it carries
+-- a TCP segment: the addresses of its packet, the fields of its header, and its payload
 pub record Segment : Type 0 where
   pub source : ℕ
   pub destination : ℕ
@@ -17,7 +17,7 @@ pub record Segment : Type 0 where
   pub options : List ℕ
   pub octets : List ℕ
 
--- the segment of a packet's fields and octets
+-- the payload of a packet, read as a TCP segment
 abbrev pub fields_of : List ℕ → Segment
 fields_of p =
     let m = ip.payload p in
@@ -34,11 +34,11 @@ fields_of p =
       octets = tcp.payload m;
     }
 
--- the segment of a packet, and none of a packet of another protocol than TCP
+-- the segment of a packet, or None if its protocol is not TCP (6)
 abbrev pub segment_of : List ℕ → Option Segment
 segment_of p = if ip.protocol p == 6 then Some (fields_of p) else None
 
--- a segment that was written to one side of the bridge: inwards, or outwards
+-- a segment that was written inwards or outwards
 pub record Written : Type 0 where
   pub inward : Bool
   pub seq : ℕ
@@ -48,7 +48,7 @@ pub record Written : Type 0 where
   pub scale : Option ℕ
   pub octets : List ℕ
 
--- a segment as one that was written to this side
+-- the segment as one that was written in this direction
 abbrev pub written_of : Bool → Segment → Written
 written_of inward s =
     record { inward = inward; seq = s.sequence; ack = s.acknowledgment; flags = s.flags; window = s.window; scale = scale_of s.options; octets = s.octets }

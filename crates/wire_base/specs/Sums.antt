@@ -7,29 +7,29 @@ word_sum [] = 0
 word_sum (x ∷ []) = 256 * x
 word_sum (x ∷ y ∷ octets) = 256 * x + y + word_sum octets
 
--- a sum of words, the checksum among them, is right: a positive multiple of 65,535
+-- the sum of words, the checksum among them, is right: a positive multiple of 65,535
 abbrev pub is_right : ℕ → Bool
 is_right total = nat_lt 0 total && (total % 65535 == 0)
 
--- the octets, with what stands before them in the sum, are right
+-- the sum of `extra` and the words of the octets is right
 abbrev pub sum_is_right : List ℕ → ℕ → Bool
 sum_is_right octets extra = is_right (extra + word_sum octets)
 
--- the checksum that makes a sum right which has 0 in its place
+-- the checksum that makes a sum right; `total` is this sum with 0 for the checksum
 abbrev pub checksum_for : ℕ → ℕ
 checksum_for total = if is_right total then 0 else 65535 - total % 65535
 
--- what TCP and UDP sum before the message: the addresses, the protocol and the message's length in octets (RFC 768, RFC 9293 section 3.1)
+-- the sum of the pseudo-header of TCP and UDP: addresses, protocol, and the payload's length in octets (RFC 768, RFC 9293 section 3.1)
 abbrev pub pseudo_sum : (source destination protocol size : ℕ) → ℕ
 pseudo_sum source destination protocol size =
     source / 65536 + source % 65536 + destination / 65536 + destination % 65536 + protocol + size
 
--- the number of four octets that begins at this place, the lowest first
+-- the 32-bit number at the offset `at`, least significant octet first
 abbrev pub lowest_first_at : List ℕ → ℕ → ℕ
 lowest_first_at octets at =
     slice_index octets at + 256 * slice_index octets (at + 1) + 65536 * slice_index octets (at + 2) + 16777216 * slice_index octets (at + 3)
 
--- two totals that count alike wherever sums are compared: they differ by multiples of 65,535, and one is 0 exactly where the other is
+-- two totals that count as the same sum: they differ by a multiple of 65,535, and one is 0 exactly if the other is
 pub record CountsAs (a b : ℕ) : Type 0 where
   pub up : ℕ
   pub down : ℕ

@@ -1,4 +1,4 @@
--- The TCP header (RFC 9293 section 3.1), read in the octets of a segment: what an IPv4 packet carries.
+-- The TCP header (RFC 9293 section 3.1), read from the octets of a segment, the payload of an IPv4 packet.
 use Rattle.std.specs.Prelude.{ℕ, ◌*◌, ◌/◌, ◌%◌, ◌==◌, ◌&&◌, ◌||◌, nat_lt, not, Bool, true, false, List, length, take, drop, slice_index}
 use Rattle.wire_base.specs.Numbers.{u16_at, u32_at}
 use Rattle.wire_base.specs.Sums.{sum_is_right}
@@ -16,7 +16,7 @@ sequence m = u32_at m 4
 abbrev pub acknowledgment : List ℕ → ℕ
 acknowledgment m = u32_at m 8
 
--- in octets; the header counts it in words of four
+-- in octets; the data offset counts words of four octets
 abbrev pub header_length : List ℕ → ℕ
 header_length m = 4 * (slice_index m 12 / 16)
 
@@ -40,7 +40,7 @@ options m = drop 20 (take (header_length m) m)
 abbrev pub payload : List ℕ → List ℕ
 payload m = drop (header_length m) m
 
--- the flag of this weight is set
+-- the flag with this value is set
 abbrev pub has_flag : ℕ → ℕ → Bool
 has_flag weight flags = (flags / weight % 2) == 1
 
@@ -62,7 +62,7 @@ has_syn flags = has_flag 2 flags
 abbrev pub has_fin : ℕ → Bool
 has_fin flags = has_flag 1 flags
 
--- those that are set of SYN, FIN, RST and ACK are SYN; SYN ACK; ACK; FIN ACK; RST; or RST ACK (this project's profile)
+-- the flags set of SYN, FIN, RST and ACK are SYN; SYN ACK; ACK; FIN ACK; RST; or RST ACK (this project's profile)
 abbrev pub go_together : (syn fin rst ack : Bool) → Bool
 go_together true fin rst ack = not fin && not rst
 go_together false fin true ack = not fin
@@ -71,19 +71,19 @@ go_together false fin false ack = ack
 abbrev pub are_legal : ℕ → Bool
 are_legal flags = go_together (has_syn flags) (has_fin flags) (has_rst flags) (has_ack flags)
 
--- fewer octets than the header's fields
+-- fewer than the 20 octets of a header without options
 abbrev pub is_short : List ℕ → Bool
 is_short m = nat_lt (length m) 20
 
--- the header length is below its fields' or above the octets that stand
+-- the header length is below 20 or above the number of octets
 abbrev pub has_bad_header_length : List ℕ → Bool
 has_bad_header_length m = nat_lt (header_length m) 20 || nat_lt (length m) (header_length m)
 
--- the sum is not right; `pseudo` is what is summed before the segment
+-- the sum over the pseudo-header and the segment is wrong; `pseudo` is the sum of the pseudo-header
 abbrev pub has_wrong_sum : (pseudo : ℕ) → List ℕ → Bool
 has_wrong_sum pseudo m = not (sum_is_right m pseudo)
 
--- SYN, FIN, RST and ACK do not go together
+-- the combination of SYN, FIN, RST and ACK is illegal
 abbrev pub has_illegal_flags : List ℕ → Bool
 has_illegal_flags m = not (are_legal (flags m))
 

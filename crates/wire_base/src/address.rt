@@ -1,25 +1,26 @@
 //! Addresses, links, sides and four-tuples.
 
-/// An IPv4 address as a number, its first octet the highest (RFC 791 section 3.2).
+/// An IPv4 address as a number, most significant octet first (RFC 791 section 3.2).
 #[derive(Clone, Copy, Debug, Default, PartialEq, Eq, Hash)]
 pub struct Addr(pub u32);
 
-/// What a frame begins with: an Ethernet II header of 14 octets, or the IPv4 packet itself.
+/// The kind of frames in a capture: an Ethernet II header of 14 octets before the packet, or the
+/// IPv4 packet alone.
 #[derive(Clone, Copy, Debug, PartialEq, Eq)]
 pub enum Link {
     Ethernet,
     Raw,
 }
 
-/// Which way a packet goes: towards the trusted hosts, or away from them.
+/// The direction of a packet: towards the trusted hosts, or away from them.
 #[derive(Clone, Copy, Debug, PartialEq, Eq)]
 pub enum Side {
     Inward,
     Outward,
 }
 
-/// A connection's four-tuple, the same for both directions: the address and port of the outside and of the inside
-/// (RFC 9293 section 3.3.1).
+/// A connection's four-tuple, the same for both directions: address and port of the outside host
+/// and of the inside host (RFC 9293 section 3.3.1).
 #[derive(Clone, Copy, Debug, PartialEq, Eq, Hash)]
 pub struct FlowKey {
     pub outside: Addr,

@@ -1,10 +1,10 @@
-//! What a frame carries.
+//! The packet of a frame, by its link and EtherType.
 ghost use Rattle.std.specs.Prelude.{◌≡◌, ◌≤◌, length};
 ghost use Rattle.wire_base.specs.Frames as spec;
 
 use crate::{Link, u16_at};
 
-// The octets of an Ethernet II header: two addresses of six octets, and the EtherType (RFC 894).
+// Length of an Ethernet II header in octets: two addresses of six, and the EtherType (RFC 894).
 const ETHERNET_HEADER: usize = 14;
 
 // The EtherTypes of IPv4 (RFC 894) and of ARP (RFC 826).
@@ -12,20 +12,21 @@ const IPV4: u16 = 0x0800;
 
 const ARP: u16 = 0x0806;
 
-/// What a frame carries.
+/// The kind of packet that a frame carries.
 #[derive(Clone, Copy, Debug, PartialEq, Eq)]
 pub enum FrameKind {
-    /// An IPv4 packet, from this octet of the frame on.
+    /// An IPv4 packet; it begins at this offset of the frame, in octets.
     Ip(usize),
     /// An ARP packet.
     Arp,
-    /// Nothing that is known: fewer octets than an Ethernet II header has.
+    /// A frame of fewer octets than an Ethernet II header has.
     Short,
     /// A packet of another EtherType.
     Other,
 }
 
-/// What the frame carries: on Ethernet by its EtherType (RFC 894, RFC 826), on a raw link always IPv4.
+/// Returns what a frame carries: on Ethernet by its EtherType (RFC 894, RFC 826), on a raw link
+/// always an IPv4 packet.
 pub fn frame_kind(link: Link, bytes: &[u8]) -> FrameKind
     ensures { result ≡ spec.kind_of link bytes.now }
 {
@@ -42,7 +43,8 @@ pub fn frame_kind(link: Link, bytes: &[u8]) -> FrameKind
     }
 }
 
-/// The packet in a frame: what stands behind the Ethernet II header, and the whole frame on a raw link.
+/// Returns the packet of a frame: on Ethernet the octets after its header, on a raw link the whole
+/// frame.
 pub fn packet_in(link: Link, frame: &[u8]) -> &[u8]
     ensures { result.now ≡ spec.packet_in link frame.now }
 {
@@ -52,7 +54,8 @@ pub fn packet_in(link: Link, frame: &[u8]) -> &[u8]
     }
 }
 
-/// What stands in a frame before its packet: the Ethernet II header, as far as it is there, and nothing on a raw link.
+/// Returns the octets of a frame before its packet: on Ethernet its header, or as much of it as the
+/// frame has, on a raw link none.
 pub fn link_octets(link: Link, frame: &[u8]) -> &[u8]
     ensures octets { result.now ≡ spec.link_octets link frame.now }
     ensures short { length result.now ≤ 14 }

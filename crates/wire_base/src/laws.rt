@@ -1,8 +1,9 @@
 //! Laws over the definitions alone.
 ghost use Rattle.wire_base.specs.OptionLaws.{AreTheArea, FollowEachOther, WorkedAreas};
 
-/// The list of the options of an area has all octets of the area, each at its place, and rows that are worked by hand
-/// say of an area what the words over the list say.
+/// States that the list of the options of an area has all octets of the area, that each option
+/// begins where the one before it ends, and that the definitions over this list give the results of
+/// cases worked by hand.
 pub fn options_are_listed()
     ensures octets { AreTheArea }
     ensures places { FollowEachOther }

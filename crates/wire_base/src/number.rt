@@ -1,10 +1,10 @@
-//! Numbers in octets, the highest octet first.
+//! Numbers in octets, most significant octet first.
 ghost use Rattle.std.specs.Prelude.{◌≡◌, ◌+◌, ◌≤◌, length};
 ghost use Rattle.wire_base.specs.Numbers as numbers;
 
 use byteorder::{BigEndian, ByteOrder};
 
-/// The number of two octets that begins at this place.
+/// Returns the 16-bit number at the offset `at`.
 pub fn u16_at(bytes: &[u8], at: usize) -> u16
     requires { at + 2 ≤ length bytes.now }
     ensures { result ≡ numbers.u16_at bytes.now at }
@@ -12,7 +12,7 @@ pub fn u16_at(bytes: &[u8], at: usize) -> u16
     BigEndian::read_u16(&bytes[at..])
 }
 
-/// The number of four octets that begins at this place.
+/// Returns the 32-bit number at the offset `at`.
 pub fn u32_at(bytes: &[u8], at: usize) -> u32
     requires { at + 4 ≤ length bytes.now }
     ensures { result ≡ numbers.u32_at bytes.now at }
@@ -20,7 +20,7 @@ pub fn u32_at(bytes: &[u8], at: usize) -> u32
     BigEndian::read_u32(&bytes[at..])
 }
 
-/// Writes the two octets of a number at this place.
+/// Writes a 16-bit number at the offset `at`.
 pub fn put_u16(bytes: &mut [u8], at: usize, value: u16)
     requires { at + 2 ≤ length bytes.old }
     ensures { bytes.new ≡ numbers.with_u16 bytes.old at value }
@@ -28,7 +28,7 @@ pub fn put_u16(bytes: &mut [u8], at: usize, value: u16)
     BigEndian::write_u16(&mut bytes[at..], value);
 }
 
-/// Writes the four octets of a number at this place.
+/// Writes a 32-bit number at the offset `at`.
 pub fn put_u32(bytes: &mut [u8], at: usize, value: u32)
     requires { at + 4 ≤ length bytes.old }
     ensures { bytes.new ≡ numbers.with_u32 bytes.old at value }

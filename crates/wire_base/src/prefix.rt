@@ -1,4 +1,4 @@
-//! Address prefixes, and their text.
+//! Address prefixes and their text.
 ghost use Rattle.std.specs.Prelude.{◌≡◌, ◌≤◌, IfOk, if◌then◌else◌};
 ghost use Rattle.wire_base.specs.Prefixes as spec;
 
@@ -12,7 +12,7 @@ pub struct Prefix {
     pub len: u8,
 }
 
-/// Why a text is no prefix, in the order of testing.
+/// Reasons why a text is not a prefix, in the order of the tests.
 #[derive(Clone, Copy, Debug, PartialEq, Eq, Error)]
 pub enum PrefixFault {
     #[error("not four numbers with dots, a slash and a length")]
@@ -24,7 +24,7 @@ pub enum PrefixFault {
 }
 
 impl Prefix {
-    /// Whether the first `len` bits of the address are those of the prefix.
+    /// Returns whether the first `len` bits of the address are those of the prefix.
     pub fn holds(&self, a: Addr) -> bool
         requires { self.now.len ≤ 32 }
         ensures { result ≡ spec.holds self.now a.0 }
@@ -34,8 +34,8 @@ impl Prefix {
     }
 }
 
-/// The prefix that a text is: four numbers of one to three digits with dots, a slash, and a length of one or two digits.
-/// Leading zeros are read.
+/// Parses a prefix: four numbers of one to three digits with dots between them, a slash, and a
+/// length of one or two digits. Numbers may have leading zeros.
 pub fn read_prefix(text: &str) -> Result<Prefix, PrefixFault>
     ensures exact { result ≡ spec.prefix_of text.now }
     ensures in_range { IfOk result (λ prefix. prefix.len ≤ 32) }
@@ -61,7 +61,8 @@ pub fn read_prefix(text: &str) -> Result<Prefix, PrefixFault>
     })
 }
 
-// What stands before the first separator, and after it; all and nothing where none stands.
+// Returns the octets before the first separator and those after it; without a separator, all octets
+// and none.
 fn split_at_first(text: &[u8], separator: u8) -> (&[u8], &[u8])
     ensures before { result.0.now ≡ spec.before separator text.now }
     ensures after { result.1.now ≡ spec.after separator text.now }
@@ -72,7 +73,7 @@ fn split_at_first(text: &[u8], separator: u8) -> (&[u8], &[u8])
     }
 }
 
-// The number that one to `most` decimal digits are.
+// Parses a number of one to `most` decimal digits.
 fn read_number(text: &[u8], most: usize) -> Result<u32, PrefixFault>
     requires { most ≤ 3 }
     ensures exact { result ≡ (if spec.is_number most text.now then Ok (spec.number_of text.now) else Err PrefixFault.Shape) }

@@ -1,16 +1,10 @@
-//! The protocol that a packet carries.
+//! Protocol numbers of the IPv4 header (RFC 791 section 3.1, RFC 790).
 
-/// The protocol of the message in a packet, by its assigned number (RFC 791 section 3.1, RFC 790).
-#[derive(Clone, Copy, Debug, PartialEq, Eq, Hash)]
-pub struct Protocol(pub u8);
+/// The Internet Control Message Protocol (RFC 792).
+pub const ICMP: u8 = 1;
 
-impl Protocol {
-    /// Internet Control Message Protocol (RFC 792).
-    pub const ICMP: Protocol = Protocol(1);
+/// The Transmission Control Protocol (RFC 9293).
+pub const TCP: u8 = 6;
 
-    /// Transmission Control Protocol (RFC 9293).
-    pub const TCP: Protocol = Protocol(6);
-
-    /// User Datagram Protocol (RFC 768).
-    pub const UDP: Protocol = Protocol(17);
-}
+/// The User Datagram Protocol (RFC 768).
+pub const UDP: u8 = 17;

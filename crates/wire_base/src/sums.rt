@@ -1,31 +1,33 @@
-//! Checksums: sums of 16-bit words.
+//! Checksums: sums of 16-bit words (RFC 1071).
 ghost use Rattle.std.specs.Prelude.{◌≡◌, ◌+◌, ◌*◌, ◌≤◌, ◌<◌, ◌^◌, length};
 ghost use Rattle.wire_base.specs.Sums as sums;
 
-use crate::{Addr, Protocol};
+use crate::Addr;
 use byteorder::{ByteOrder, LittleEndian};
 
-// Octets that are summed before carries are folded.
+// Number of octets that are summed before the carries are folded.
 const PIECE: usize = 65536;
 
-/// What TCP and UDP sum before the message: the addresses, the protocol, and the message's length in octets
-/// (RFC 768, RFC 9293 section 3.1).
-pub fn pseudo_sum(src: Addr, dst: Addr, protocol: Protocol, len: u16) -> u32
-    ensures { result ≡ sums.pseudo_sum src.0 dst.0 protocol.0 len }
+/// Returns the sum of the pseudo-header of TCP and UDP: the addresses, the protocol, and the length
+/// of the packet's payload in octets (RFC 768, RFC 9293 section 3.1).
+pub fn pseudo_sum(src: Addr, dst: Addr, protocol: u8, len: u16) -> u32
+    ensures { result ≡ sums.pseudo_sum src.0 dst.0 protocol len }
 {
     let source = (src.0 >> 16) + (src.0 & 0xffff);
     let destination = (dst.0 >> 16) + (dst.0 & 0xffff);
-    source + destination + u32::from(protocol.0) + u32::from(len)
+    source + destination + u32::from(protocol) + u32::from(len)
 }
 
-/// Whether `extra` and the words of the octets, the checksum among them, sum right: to a positive multiple of 65,535.
+/// Returns whether the sum of `extra` and the words of the octets, the checksum among them, is
+/// right: a positive multiple of 65,535.
 pub fn sum_right(bytes: &[u8], extra: u32) -> bool
     ensures { result ≡ sums.sum_is_right bytes.now extra }
 {
     is_right(folded_sum(bytes, extra))
 }
 
-/// The checksum that makes the sum of `extra` and the words of the octets right, with 0 in its own place among them.
+/// Returns the checksum that makes the sum of `extra` and the words of the octets right. The octets
+/// have 0 in the checksum field.
 pub fn sum_for(bytes: &[u8], extra: u32) -> u16
     ensures { result ≡ sums.checksum_for (extra + sums.word_sum bytes.now) }
 {
@@ -37,14 +39,14 @@ pub fn sum_for(bytes: &[u8], extra: u32) -> u16
     }
 }
 
-// Whether a total is a positive multiple of 65,535.
+// Returns whether a total is a positive multiple of 65,535.
 fn is_right(total: u64) -> bool
     ensures { result ≡ sums.is_right total }
 {
     total > 0 && total % 65535 == 0
 }
 
-// The sum of `extra` and the words of the octets, with its carries folded in.
+// Returns the sum of `extra` and the words of the octets, with its carries folded in.
 fn folded_sum(bytes: &[u8], extra: u32) -> u64
     ensures { sums.CountsAs result (extra + sums.word_sum bytes.now) }
 {
@@ -58,7 +60,7 @@ fn folded_sum(bytes: &[u8], extra: u32) -> u64
     total
 }
 
-// The sum with what stands above its low 16 bits added to them.
+// Folds the carries once: adds the bits above the low 16 bits to these.
 fn folded(total: u64) -> u64
     requires { total < 2 ^ 56 }
     ensures alike { sums.CountsAs result total }
@@ -67,8 +69,9 @@ fn folded(total: u64) -> u64
     (total >> 16) + (total & 0xffff)
 }
 
-// The sum of a piece, by words of 32 bits as this machine has them, the lowest octet first: their octets are put into the order of the wire once, behind the
-// sum (RFC 1071 section 2), where 256 times an octet that stands too low counts as it would in its place.
+// Returns the sum of the words of `piece`, up to multiples of 65,535. Adds 32-bit words in the
+// order of this machine, least significant octet first, and multiplies their sum by 256 once:
+// modulo 65,535 that swaps the two octets of each 16-bit word (RFC 1071 section 2).
 fn sum_of_piece(piece: &[u8]) -> u64
     requires { length piece.now ≤ PIECE }
     ensures alike { sums.CountsAs result (sums.word_sum piece.now) }
@@ -82,7 +85,7 @@ fn sum_of_piece(piece: &[u8]) -> u64
     256 * sum + sum_of_rest(&piece[4 * words..])
 }
 
-// The number of four octets that begins at this place, the lowest first.
+// Returns the 32-bit number at the offset `at`, least significant octet first.
 fn lowest_first_at(bytes: &[u8], at: usize) -> u32
     requires { at + 4 ≤ length bytes.now }
     ensures { result ≡ sums.lowest_first_at bytes.now at }
@@ -90,7 +93,7 @@ fn lowest_first_at(bytes: &[u8], at: usize) -> u32
     LittleEndian::read_u32(&bytes[at..])
 }
 
-// The sum of what is left of a piece after its words of 32 bits.
+// Returns the sum of the words of the 0 to 3 octets after the 32-bit words.
 fn sum_of_rest(rest: &[u8]) -> u64
     requires { length rest.now < 4 }
     ensures exact { result ≡ sums.word_sum rest.now }
@@ -108,7 +111,8 @@ fn sum_of_rest(rest: &[u8]) -> u64
 mod tests {
     use super::*;
 
-    // The example of RFC 1071 section 3, alone and with its checksum; a sum of 0; an odd last octet; a word of ones; what stands before.
+    // The example of RFC 1071 section 3, alone and with its checksum; a sum of 0; an odd last
+    // octet; a word of ones; a sum `extra` before the octets.
     #[test]
     fn words_sum_as_the_standards_say(rt: HostRuntime) {
         let rows: [(&[u8], u32, bool, u16); 8] = [

@@ -16,7 +16,7 @@ accepted : (fields head : Ipv4) (fault : Option IpFault) → Ok head ≡ value_o
 accepted fields head None e = (cc, refl)
 accepted fields head (Some f) e = cc
 
-whole_by : (p : List ℕ) (head : Ipv4) → Ok head ≡ ip_header.parsed p → ((head.header == 20) && not head.more && (head.offset == 0) && (head.total == length p)) ≡ true → (head.protocol.0 ≡ 6 → tcp_header.fault_of Skip 0 (drop 20 p) ≡ None) → IsWhole p
+whole_by : (p : List ℕ) (head : Ipv4) → Ok head ≡ ip_header.parsed p → ((head.header == 20) && not head.more && (head.offset == 0) && (head.total == length p)) ≡ true → (head.protocol ≡ 6 → tcp_header.fault_of Skip 0 (drop 20 p) ≡ None) → IsWhole p
 whole_by p head read single segment =
     let fields = accepted (ip_header.fields_of p) head (ip_header.fault_of p) read in
     let a = both _ _ single in
@@ -29,7 +29,7 @@ whole_by p head read single segment =
       whole = not_one _ _ (ap (λ (h : Ipv4). h.more) (sym fields.0) ∙ not-true _ d.1) (ap (λ (h : Ipv4). h.offset) (sym fields.0) ∙ eqb-true _ _ b.1);
       ends = ends;
       datagram = fields.1;
-      segment = λ six. ap (tcp_header.fault_of Skip 0) (payload_is p header ends) ∙ segment (ap (λ (h : Ipv4). h.protocol.0) fields.0 ∙ six);
+      segment = λ six. ap (tcp_header.fault_of Skip 0) (payload_is p header ends) ∙ segment (ap (λ (h : Ipv4). h.protocol) fields.0 ∙ six);
     }
 
 pub returns-then-is_single : goal.returns-then-is_single

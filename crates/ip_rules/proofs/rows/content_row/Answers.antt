@@ -10,17 +10,17 @@ returns-in_default c = bad_options c.args.packet.now c.in_default.field-0 (sym (
 
 pub returns-then-facts : goal.returns-then-facts
 returns-then-facts c =
-    sym (read_options c.args.packet.now c.in-Ok.facts c.is_known-known.result (sym (ap facts_of c.options_of.ensures) ∙ sym c.options.ensures ∙ c.in-Ok.is) (c.is_known-known.ensures ∙ ap (λ (h : Ipv4). (h.protocol.0 == 1) || (h.protocol.0 == 6) || (h.protocol.0 == 17)) c.requires.fields)
+    sym (read_options c.args.packet.now c.in-Ok.facts c.is_known-known.result (sym (ap facts_of c.options_of.ensures) ∙ sym c.options.ensures ∙ c.in-Ok.is) (c.is_known-known.ensures ∙ ap (λ (h : Ipv4). (h.protocol == 1) || (h.protocol == 6) || (h.protocol == 17)) c.requires.fields)
     ∙ ap (λ route. if route then Some rules.IRoute else if not c.is_known-known.result then Some rules.PProto else None) c.if-facts.true)
 
 pub returns-then-known : goal.returns-then-known
 returns-then-known c =
-    sym (read_options c.args.packet.now c.in-Ok.facts c.is_known-known.result (sym (ap facts_of c.options_of.ensures) ∙ sym c.options.ensures ∙ c.in-Ok.is) (c.is_known-known.ensures ∙ ap (λ (h : Ipv4). (h.protocol.0 == 1) || (h.protocol.0 == 6) || (h.protocol.0 == 17)) c.requires.fields)
+    sym (read_options c.args.packet.now c.in-Ok.facts c.is_known-known.result (sym (ap facts_of c.options_of.ensures) ∙ sym c.options.ensures ∙ c.in-Ok.is) (c.is_known-known.ensures ∙ ap (λ (h : Ipv4). (h.protocol == 1) || (h.protocol == 6) || (h.protocol == 17)) c.requires.fields)
     ∙ ap (λ route. if route then Some rules.IRoute else if not c.is_known-known.result then Some rules.PProto else None) c.if-facts.false
     ∙ ap (λ known. if not known then Some rules.PProto else None) c.if-known.true)
 
 pub returns : goal.returns
 returns c =
-    sym (read_options c.args.packet.now c.in-Ok.facts c.is_known-known.result (sym (ap facts_of c.options_of.ensures) ∙ sym c.options.ensures ∙ c.in-Ok.is) (c.is_known-known.ensures ∙ ap (λ (h : Ipv4). (h.protocol.0 == 1) || (h.protocol.0 == 6) || (h.protocol.0 == 17)) c.requires.fields)
+    sym (read_options c.args.packet.now c.in-Ok.facts c.is_known-known.result (sym (ap facts_of c.options_of.ensures) ∙ sym c.options.ensures ∙ c.in-Ok.is) (c.is_known-known.ensures ∙ ap (λ (h : Ipv4). (h.protocol == 1) || (h.protocol == 6) || (h.protocol == 17)) c.requires.fields)
     ∙ ap (λ route. if route then Some rules.IRoute else if not c.is_known-known.result then Some rules.PProto else None) c.if-facts.false
     ∙ ap (λ known. if not known then Some rules.PProto else None) c.if-known.false)

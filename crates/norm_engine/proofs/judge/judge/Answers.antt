@@ -49,7 +49,7 @@ judge_piece-requires-clause-piece c =
 
 pub judge_piece-requires-clause-known : goal.judge_piece-requires-clause-known
 judge_piece-requires-clause-known c =
-    subst (λ (head : Ipv4). ((head.protocol.0 == 1) || (head.protocol.0 == 6) || (head.protocol.0 == 17)) ≡ true) (sym c.in-Piece.ensures.2.head)
+    subst (λ (head : Ipv4). ((head.protocol == 1) || (head.protocol == 6) || (head.protocol == 17)) ≡ true) (sym c.in-Piece.ensures.2.head)
     (kept_packet (plain_settings c.args.settings.now) c.args.link (shown c.args.input.now) c.in-Piece.ensures.0).known
 
 pub judge_piece-requires-clause-few : goal.judge_piece-requires-clause-few
@@ -59,7 +59,7 @@ judge_piece-requires-clause-few c =
 
 pub judge_whole-requires-clause-known : goal.judge_whole-requires-clause-known
 judge_whole-requires-clause-known c =
-    subst (λ (head : Ipv4). ((head.protocol.0 == 1) || (head.protocol.0 == 6) || (head.protocol.0 == 17)) ≡ true) (sym c.in-Whole.ensures.2.head)
+    subst (λ (head : Ipv4). ((head.protocol == 1) || (head.protocol == 6) || (head.protocol == 17)) ≡ true) (sym c.in-Whole.ensures.2.head)
     (kept_packet (plain_settings c.args.settings.now) c.args.link (shown c.args.input.now) c.in-Whole.ensures.0).known
 
 pub judge_whole-requires-clause-few : goal.judge_whole-requires-clause-few

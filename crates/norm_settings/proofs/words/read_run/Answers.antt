@@ -34,7 +34,7 @@ returns-in-Ok-clause-err c =
     (λ fault h. ⊎_elim (λ memory. inl memory) (λ e. inr (asked_is (map string_bytes c.args.words.now) line is whole ∙ e)) (h line (c.in-Ok.ensures.ok line is whole)))
     c.run_found.ensures.err
 
--- a whole line is refused only for want of memory
+-- a whole line is refused only if memory could not be allocated
 pub returns : goal.returns
 returns c =
     let whole : is_whole (plain_line c.in-Some.line) ≡ true = search rules in

@@ -2,7 +2,7 @@ use Rattle.std.proofs.Common.{◌≡◌, ◌≤◌, length, option_map}
 use Rattle.pcapng_file.proofs.Values.{SeesOptions}
 use Rattle.pcapng_file.proofs.interface.read_options.Given as goal
 
--- the options so far were taken, and are seen
+-- the options so far were taken, and `seen` are their facts
 abbrev pub invariant-loop-left : goal.invariant-loop-left
 invariant-loop-left g l = record {
   within : l.left ≤ l.fn.room;

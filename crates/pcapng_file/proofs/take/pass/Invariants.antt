@@ -2,7 +2,7 @@ use Rattle.std.proofs.Common.{◌≡◌, ◌-◌, ◌≤◌}
 use Rattle.pcapng_file.specs.Takes.{TakesCount}
 use Rattle.pcapng_file.proofs.take.pass.Given as goal
 
--- what is not left to pass over was taken
+-- the octets that are no longer left to skip were taken
 abbrev pub invariant-loop-left : goal.invariant-loop-left
 invariant-loop-left g l = record {
   within : l.left ≤ l.fn.count;

@@ -13,7 +13,7 @@ overflow_add-count c = omega (
   count_most (λ offset. is_none (octet_at (blocks_in c.args.pool.now c.args.chain.0) offset)) c.args.from c.loop-index.index,
 )
 
--- the test, as it is asked
+-- the test, in the form of the code
 none_asked : (b : Bool) (o : Option ℕ) → not b ≡ is_some o → b ≡ is_none o
 none_asked true None e = refl
 none_asked true (Some x) e = cc

@@ -3,7 +3,7 @@ use Rattle.wire_base.specs.Options.{are_well_formed}
 use Rattle.wire_base.proofs.OptionWalk.{formed_from}
 use Rattle.tcp_codec.proofs.option_area.are_well_formed.Given as goal
 
--- what is left of the area is as well formed as the whole
+-- the area is well formed exactly if the octets not yet read are
 abbrev pub invariant-loop-at : goal.invariant-loop-at
 invariant-loop-at l = are_well_formed l.area ≡ formed_from 0 (drop l.at l.area)
 

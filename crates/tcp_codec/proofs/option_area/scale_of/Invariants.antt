@@ -3,7 +3,7 @@ use Rattle.wire_base.specs.Options.{are_well_formed, scale_of}
 use Rattle.wire_base.proofs.OptionWalk.{scale_from}
 use Rattle.tcp_codec.proofs.option_area.scale_of.Given as goal
 
--- what is left of the area is well formed, and has the scale of the whole
+-- the octets not yet read are well formed, and have the window scale of the area
 abbrev pub invariant-loop-at : goal.invariant-loop-at
 invariant-loop-at l = record {
   formed : are_well_formed (drop l.at l.options) ≡ true;

@@ -2,7 +2,7 @@ use Rattle.std.proofs.Common.{◌+◌, ◌<◌, ◌^◌, length}
 use Rattle.wire_base.specs.Sums as sums
 use Rattle.wire_base.proofs.sums.folded_sum.Given as goal
 
--- what is left of the octets makes the total count as that of the whole
+-- the total and the octets not yet summed count as the sum of all octets
 abbrev pub invariant-loop-rest : goal.invariant-loop-rest
 invariant-loop-rest l = record {
   alike : sums.CountsAs (l.total + sums.word_sum l.rest) (l.extra + sums.word_sum l.bytes);

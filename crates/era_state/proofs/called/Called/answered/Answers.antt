@@ -7,5 +7,5 @@ pub returns : goal.returns
 returns c = record {
   stands = λ ws h.
       offered_first c.args.seg.now _ c.args.self.syns ws c.requires.syn (legal_syn _ c.requires.legal c.requires.syn) h.unbased h.untouched
-      c.plus.ensures (sym h.iss_is) (sym h.out_is) h.syns_are c.came.ensures (sym h.unfinished);
+      c.sequence_plus.ensures (sym h.iss_is) (sym h.out_is) h.syns_are c.came.ensures (sym h.unfinished);
 }

@@ -10,7 +10,7 @@ pub returns-clause-stands : goal.returns-clause-stands
 returns-clause-stands c octets long = record {
   base_is = refl;
   iss_is = c.first_call-self.ensures;
-  out_is = c.behind-self.ensures octets long;
+  out_is = c.behind.ensures octets long;
   syns_are = c.sent-self.ensures;
   acked_is = c.greater.ensures ∙ ap (λ o. max c.args.self.acked (number_in o)) (c.acknowledged-place.ensures.value);
   edge_is = c.greater_edge.ensures.value octets ∙ (λ i. max c.args.self.edge (edge_place (c.acknowledged-place.ensures.value i) (c.shift-shift.ensures.value i) (sent c.args.seg.now octets)));

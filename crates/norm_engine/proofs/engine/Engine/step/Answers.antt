@@ -41,9 +41,9 @@ take-requires-clause-short c = ∥∥₁_elim c.self.invariant.2 le_prop (λ k. 
 
 pub take-requires-clause-fields : goal.take-requires-clause-fields
 take-requires-clause-fields c =
-    let six : c.in-Segment.packet.head.protocol.0 ≡ 6 = ∥∥₁_elim c.self.invariant.2 (hlevel ℕ_set) (λ k.
+    let six : c.in-Segment.packet.head.protocol ≡ 6 = ∥∥₁_elim c.self.invariant.2 (hlevel ℕ_set) (λ k.
     let t = (c.in-Segment.ensures.rows (past_with (plain_settings c.self.inside.settings) c.max-self-inside.result k.calls k.offers) (c.expire.ensures.stands (plain_settings c.self.inside.settings) k.calls k.stands) (c.expire-forgotten.ensures.stands (plain_settings c.self.inside.settings) k.offers k.holds)) in
-    sym (ap (λ (h : Ipv4). h.protocol.0) t.is.head) ∙ t.protocol) in
+    sym (ap (λ (h : Ipv4). h.protocol) t.is.head) ∙ t.protocol) in
     c.in-Segment.ensures.read.fields
     ∙ ap (λ n. fields_of (pseudo_sum c.in-Segment.packet.head.src.0 c.in-Segment.packet.head.dst.0 n (length c.in-Segment.packet.payload.now)) c.in-Segment.packet.payload.now) six
 

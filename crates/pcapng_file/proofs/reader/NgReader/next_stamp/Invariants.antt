@@ -2,7 +2,7 @@ use Rattle.std.proofs.Common.{◌≡◌, ◌-◌, ◌≤◌, length}
 use Rattle.pcapng_file.proofs.Walking.{Between}
 use Rattle.pcapng_file.proofs.reader.NgReader.next_stamp.Given as goal
 
--- blocks without a packet were passed over
+-- blocks without a record were skipped
 abbrev pub invariant-loop-found : goal.invariant-loop-found
 invariant-loop-found g l = record {
   passed : Between l.fn.self l.self (g.S.Source.left l.fn.source) (g.S.Source.left l.source);

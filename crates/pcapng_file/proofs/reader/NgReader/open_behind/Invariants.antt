@@ -3,7 +3,7 @@ use Rattle.std.specs.Io.KnownBytes.{prepend_known}
 use Rattle.pcapng_file.proofs.Walking.{OpensSoFar}
 use Rattle.pcapng_file.proofs.reader.NgReader.open_behind.Given as goal
 
--- no packet stood in what was read
+-- the blocks read so far have no record, and those before the newest one no interface
 abbrev pub invariant-loop-reader : goal.invariant-loop-reader
 invariant-loop-reader g l = record {
   so_far : OpensSoFar (option_map (λ name. name.now) l.fn.inside) l.reader (prepend_known l.fn.first (g.S.Source.left l.fn.source)) (g.S.Source.left l.source);

@@ -6,7 +6,7 @@ use Rattle.retain_store.specs.Seats.{block_of, blocks_in}
 use Rattle.retain_store.proofs.Found.{fresh_most}
 use Rattle.retain_store.proofs.Holdings.{held_counted}
 use Rattle.retain_store.proofs.Shown.{chain_shown, change_shown, kept_map, shown_after}
-use Rattle.retain_store.proofs.store.Retain.place.Goals as goal
+use Rattle.retain_store.proofs.store.Retain.place_counting.Goals as goal
 
 pub returns-clause-fresh : goal.returns-clause-fresh
 returns-clause-fresh c = c.place_all-near.ensures.fresh
