@@ -15,7 +15,7 @@ use Rattle.tcp_norm.specs.declared.key.EraKey.{EraKey}
 use Rattle.tcp_norm.specs.Calls.{Alive, segments}
 use Rattle.tcp_norm.specs.Held.{kept_at, has_block, held_of}
 use Rattle.tcp_norm.specs.Standing.{HoldsFor, IsFree, alive_in}
-use Rattle.tcp_norm.proofs.Splits.{all_weaker}
+use Rattle.linked_table.proofs.Splits.{all_weaker}
 use Rattle.tcp_norm.proofs.Steps.{leave, change, add, Other}
 
 any_none : (f : ℕ → Bool) (xs : List ℕ) → ((x : ℕ) → f x ≡ false) → list_any f xs ≡ false

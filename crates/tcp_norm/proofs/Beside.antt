@@ -6,7 +6,7 @@ use Rattle.std.proofs.lemmas.Grind.{common_steps}
 use Rattle.wire_base.specs.Tcp as tcp
 use Rattle.wire_base.specs.Options.{cleaned}
 use Rattle.tcp_codec.specs.declared.header.Tcp.{Tcp}
-use Rattle.tcp_codec.specs.Header.{fields_of}
+use Rattle.tcp_norm.specs.Heads.{seen}
 use Rattle.rule_book.specs.declared.rule.Rule.{Rule}
 use Rattle.rule_book.specs.declared.rule.Rule.TheVariants as rules
 use Rattle.norm_settings.specs.Settings.{PlainSettings}
@@ -18,7 +18,7 @@ use Rattle.tcp_norm.specs.Views.{View}
 use Rattle.tcp_norm.specs.Rows.{is_live, holds_era, mended_by, differ, t_res, t_urg, t_opt, t_strip, c_probe, clashes}
 use Rattle.tcp_norm.specs.Streams.{bare_rows}
 use Rattle.ip_rules.specs.Judged.{where_holds}
-use Rattle.tcp_norm.proofs.Filters.{filter_none}
+use Rattle.linked_table.proofs.Filters.{filter_none}
 use Rattle.tcp_norm.proofs.Judging.{row_is}
 
 first_two : (a b c : Bool) → (a && b) ≡ false → (a && (b && c)) ≡ false
@@ -53,13 +53,13 @@ dropped_long : (n : ℕ) (m : List ℕ) → length (drop n m) ≡ length m - n
 dropped_long n m = grind (arith, common_steps)
 
 -- the rows by the fields of the header are those of the datagram
-pub beside_are : (settings : PlainSettings) (v : View) (d : Datagram) (m : List ℕ) (head : Tcp) (pseudo : ℕ) (changed probe : Bool) (rows : List Rule)
-    → head ≡ fields_of pseudo m → d.octets ≡ m → goes_in d.side ≡ true → (is_live v && era.is_of_stream v.segments (segment_in d)) ≡ false → c_probe v (segment_in d) ≡ probe
+pub beside_are : (settings : PlainSettings) (v : View) (d : Datagram) (m : List ℕ) (head : Tcp) (changed probe : Bool) (rows : List Rule)
+    → head ≡ seen m head → d.octets ≡ m → goes_in d.side ≡ true → (is_live v && era.is_of_stream v.segments (segment_in d)) ≡ false → c_probe v (segment_in d) ≡ probe
     → changed ≡ differ (cleaned (tcp.has_syn head.flags.0) (tcp.options m)) (tcp.options m)
     → rows ≡ bare_rows (not (head.reserved == 0)) (tcp.has_urg head.flags.0 || not (head.urgent == 0)) changed
     ((tcp.has_syn head.flags.0 || tcp.has_rst head.flags.0) && nat_lt 0 (length m - head.header)) probe
     → mended_by settings v d ≡ rows
-beside_are settings v d m head pseudo changed probe rows fields octets side none asks cleans listed =
+beside_are settings v d m head changed probe rows fields octets side none asks cleans listed =
     let here = sym octets in
     let res : not (head.reserved == 0) ≡ t_res d =
     ap (λ (h : Tcp). not (h.reserved == 0)) fields ∙ ap₂ (λ b l. b && not (tcp.reserved l == 0)) (sym side) here in

@@ -19,7 +19,8 @@ use Rattle.tcp_norm.specs.Near.{AreBounded, IsAtMost}
 use Rattle.tcp_norm.specs.Views.{view_of, number_of, segments_of}
 use Rattle.tcp_norm.specs.Rows.{is_live, holds_era, dropped_by, exceeds, wanted_of}
 use Rattle.tcp_norm.specs.Standing.{HoldsFor, EntryStands, alive_in}
-use Rattle.tcp_norm.proofs.Splits.{all_map, all_weaker}
+use Rattle.linked_table.proofs.Splits.{all_weaker}
+use Rattle.tcp_norm.proofs.Splits.{all_map}
 use Rattle.tcp_norm.proofs.Judging.{both_true}
 use Rattle.tcp_norm.proofs.Quotas.{at_most}
 

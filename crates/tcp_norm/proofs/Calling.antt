@@ -13,24 +13,13 @@ use Rattle.tcp_norm.specs.Calls.{Alive, Call, segments, eras, without, numbers_o
 use Rattle.tcp_norm.specs.Held.{held_of}
 use Rattle.tcp_norm.specs.Standing.{HoldsFor, alive_in}
 use Rattle.tcp_norm.specs.Chains.{Keeps}
-use Rattle.tcp_norm.proofs.Splits.{all_weaker, all_after, map_join}
-use Rattle.tcp_norm.proofs.Filters.{filter_all}
+use Rattle.linked_table.proofs.Splits.{all_weaker, all_after, map_join}
+use Rattle.linked_table.proofs.Filters.{filter_all}
 use Rattle.tcp_norm.proofs.Steps.{take, change, add, put_touch, none_left, Other}
-use Rattle.tcp_norm.proofs.Finds.{At}
-
-pub same_lives : (c : Call) (cs : List Call) (a : Alive) → ended_by c ≡ [] → touched_by c ≡ a ∷ []
-    → eras (c ∷ cs) ≡ without (a.number ∷ []) (eras cs) ++ a ∷ []
-same_lives c cs a ended touched =
-    ap (λ e. without e (without (numbers_of (touched_by c)) (eras cs) ++ touched_by c)) ended
-    ∙ (ap (λ t. without [] (without (numbers_of t) (eras cs) ++ t)) touched
-    ∙ filter_all (λ (b : Alive). not (is_among [] b.number)) (without (a.number ∷ []) (eras cs) ++ a ∷ []) (whole (without (a.number ∷ []) (eras cs) ++ a ∷ [])))
-  where
-    whole : (xs : List Alive) → AllByRecursion (λ (b : Alive). not (is_among [] b.number) ≡ true) xs
-    whole [] = tt
-    whole (x ∷ xs) = (refl, whole xs)
+use Rattle.linked_table.specs.Table.{SplitAt}
 
 -- the entry's segments have the new ones behind, all others stay
-pub writes_in : (lives : List Alive) (segments later : ℕ → List Written) (begun : ℕ) (entries : List (Entry EraKey Flow)) (store new : Store) (slot : Slot) (a : At entries slot) (value : Flow) (more : List Written) (now : ℕ)
+pub writes_in : (lives : List Alive) (segments later : ℕ → List Written) (begun : ℕ) (entries : List (Entry EraKey Flow)) (store new : Store) (slot : Slot) (a : SplitAt entries slot) (value : Flow) (more : List Written) (now : ℕ)
     → HoldsFor lives segments begun entries store
     → later a.here.value.number ≡ segments a.here.value.number ++ more → ((m : ℕ) → m ≢ a.here.value.number → later m ≡ segments m)
     → value.number ≡ a.here.value.number → value.touched ≡ now

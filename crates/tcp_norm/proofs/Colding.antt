@@ -20,8 +20,8 @@ use Rattle.tcp_norm.specs.Calls.{segment_in}
 use Rattle.tcp_norm.specs.Views.{View}
 use Rattle.tcp_norm.specs.Rows.{dropped_by, t_full}
 use Rattle.tcp_norm.specs.Colds.{Comes}
-use Rattle.tcp_norm.specs.Steps.{IsStep, began, evicted}
-use Rattle.tcp_norm.proofs.Outwards.{got, place_in, placed}
+use Rattle.tcp_norm.specs.Steps.{IsStep, began, evicted, place_in}
+use Rattle.tcp_norm.proofs.Outwards.{got, placed}
 
 pub cold_dropped : (settings : PlainSettings) (v : View) (d : Datagram) → goes_in d.side ≡ true → v.era ≡ None
     → dropped_by settings v d ≡ cond (t_cold (segment_in d)) (Some rules.TCold) (cond (t_full v (segment_in d)) (Some rules.TFull) None)

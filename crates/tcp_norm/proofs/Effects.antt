@@ -16,11 +16,13 @@ use Rattle.ip_rules.specs.Datagrams.{Datagram, Packet, goes_in}
 use Rattle.tcp_norm.specs.Calls.{Call, expiry, datagram, Outcome, Alive, read, is_era, is_written, segments, eras, written_by, touched_by, ended_by, begins_by, asks_by, time_of, alive_at, key_of, without, numbers_of, is_among}
 use Rattle.era_state.specs.Eras as era
 use Rattle.tcp_norm.specs.Held.{held_of}
-use Rattle.tcp_norm.specs.Standing.{HoldsFor, IsFor, IsTimely, StandsFor, Pairwise, EntryStands, alive_in}
+use Rattle.linked_table.specs.Table.{Pairwise}
+use Rattle.tcp_norm.specs.Standing.{HoldsFor, IsFor, IsTimely, StandsFor, EntryStands, alive_in}
 use Rattle.tcp_norm.specs.Chains.{Keeps}
 use Rattle.tcp_norm.specs.Steps.{listed, one, Does}
-use Rattle.tcp_norm.proofs.Splits.{all_weaker, all_join, all_unmap, pairs_push}
-use Rattle.tcp_norm.proofs.Filters.{filter_all}
+use Rattle.linked_table.proofs.Splits.{all_weaker, all_join}
+use Rattle.tcp_norm.proofs.Splits.{all_unmap, pairs_push}
+use Rattle.linked_table.proofs.Filters.{filter_all}
 use Rattle.tcp_norm.proofs.Nears.{all_filter}
 use Rattle.tcp_norm.proofs.Steps.{number_other, number_same}
 use Rattle.tcp_norm.proofs.Beginning.{others_before}

@@ -29,7 +29,8 @@ use Rattle.tcp_norm.specs.Inwards.{bare_read}
 use Rattle.tcp_norm.specs.Outcomes.{begun_with, outcome_by, call_of}
 use Rattle.tcp_norm.specs.Lives.{AreMade, last_begun, writes_in, made_of}
 use Rattle.tcp_norm.specs.Segments.{IsSegment, AsksSegment, CallsAreEmitted}
-use Rattle.tcp_norm.proofs.Splits.{all_map, all_weaker}
+use Rattle.linked_table.proofs.Splits.{all_weaker}
+use Rattle.tcp_norm.proofs.Splits.{all_map}
 use Rattle.tcp_norm.proofs.Judging.{of_stream, stream_begins_none}
 use Rattle.tcp_norm.proofs.Entering.{asks, step_asked, packets_begun, packets_live, packets_reset, early_now}
 use Rattle.tcp_norm.proofs.Marked.{called_marked, cold_stream, call_stream, reset_stream, syn_marked, rst_marked, stream_is, probes_silent}

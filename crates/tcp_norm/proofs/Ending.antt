@@ -10,8 +10,9 @@ use Rattle.tcp_norm.specs.declared.flow.Flow.{Flow}
 use Rattle.tcp_norm.specs.declared.key.EraKey.{EraKey}
 use Rattle.tcp_norm.specs.Calls.{Alive, without}
 use Rattle.tcp_norm.specs.Standing.{HoldsFor}
-use Rattle.tcp_norm.proofs.Splits.{all_weaker, filter_rest}
-use Rattle.tcp_norm.proofs.Finds.{At, at, wherever}
+use Rattle.linked_table.proofs.Splits.{all_weaker, filter_rest}
+use Rattle.linked_table.specs.Table.{SplitAt}
+use Rattle.linked_table.proofs.Parts.{left_out, split_at, wherever}
 use Rattle.tcp_norm.proofs.Steps.{take, change, close, number_other, number_same}
 use Rattle.tcp_norm.proofs.Forwarding.{others_same}
 
@@ -19,25 +20,12 @@ all_same : (segments : ℕ → List Written) (lives : List Alive) → AllByRecur
 all_same segments [] = tt
 all_same segments (a ∷ more) = (refl, all_same segments more)
 
--- the entries of the other slots
-pub left_out : (entries : List (Entry EraKey Flow)) (slot : Slot) (a : At entries slot) → table.without entries slot ≡ a.before ++ a.after
-left_out entries slot a =
-    let mk : ℕ → Slot = λ n. record { 0 = n } in
-    let named : a.here.slot.0 ≡ slot.0 = ap (λ (s : Slot). s.0) a.named in
-    let apart : (e : Entry EraKey Flow) → e.slot ≢ a.here.slot → not (e.slot.0 == slot.0) ≡ true =
-    λ e ne. rw (number_other e.slot.0 slot.0 (λ same. ne (ap mk (same ∙ sym named)))) refl in
-    let here : not (a.here.slot.0 == slot.0) ≡ false = ap (λ n. not (n == slot.0)) named ∙ ap not (number_same slot.0) in
-    ap (λ l. table.without l slot) a.splits
-    ∙ filter_rest (λ (e : Entry EraKey Flow). not (e.slot.0 == slot.0)) a.before a.here a.after
-    (all_weaker (λ (e : Entry EraKey Flow). e.slot ≢ a.here.slot) (λ (e : Entry EraKey Flow). not (e.slot.0 == slot.0) ≡ true) apart a.before a.slots_before) here
-    (all_weaker (λ (e : Entry EraKey Flow). e.slot ≢ a.here.slot) (λ (e : Entry EraKey Flow). not (e.slot.0 == slot.0) ≡ true) apart a.after a.slots_after)
-
 pub end_holds : (lives : List Alive) (segments : ℕ → List Written) (begun number : ℕ) (entries : List (Entry EraKey Flow)) (store new : Store) (slot : Slot)
     → HoldsFor lives segments begun entries store → IsIn entries slot → AllPairs (λ e f. e.slot ≢ f.slot) entries → AllPairs (λ e f. e.key ≢ f.key) entries
     → Wherever entries slot (λ e. e.value.number ≡ number) → chain_of new slot.0 ≡ [] → ChangesOnly store new slot.0
     → HoldsFor (without (number ∷ []) lives) segments begun (table.without entries slot) new
 end_holds lives segments begun number entries store new slot h inside slots keys numbered empty changed =
-    let a = at entries slot inside slots keys in
+    let a = split_at entries slot inside slots keys in
     let n_is : a.here.value.number ≡ number = wherever (λ (e : Entry EraKey Flow). e.value.number ≡ number) entries slot a numbered in
     let rest = change segments begun new (others_same store new slot.0 changed) (all_same segments (without (a.here.value.number ∷ []) lives)) (omega arith) h.given.fresh (take slot a h) in
     subst (λ n. HoldsFor (without (n ∷ []) lives) segments begun (table.without entries slot) new) n_is

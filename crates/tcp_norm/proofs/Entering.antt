@@ -66,9 +66,6 @@ in_does d w s fixes named packets writes = record {
   packets_are = writes;
 }
 
-pub not_both : (a b : Bool) → a ≡ false → (a && b) ≡ false
-not_both a b e = ap (λ x. x && b) e
-
 -- a host is asked about a datagram without an era
 pub record Asks (w : Written) : Type 0 where
   pub inward : w.inward ≡ true

@@ -5,12 +5,14 @@ use Rattle.std.specs.List.{AllPairs, AllByRecursion, find}
 use Rattle.std.proofs.lemmas.List.Elements.{recursion_from_All}
 use Rattle.wire_base.specs.declared.address.FlowKey.{FlowKey}
 use Rattle.linked_table.specs.declared.table.Slot.{Slot}
-use Rattle.linked_table.specs.Table.{Entry, IsIn, HasNone, Wherever}
+use Rattle.linked_table.specs.Table.{Entry, IsIn, HasNone, SplitAt, Wherever}
 use Rattle.tcp_norm.specs.declared.flow.Flow.{Flow}
 use Rattle.tcp_norm.specs.declared.key.EraKey.{EraKey}
 use Rattle.tcp_norm.specs.Calls.{Alive, is_key}
-use Rattle.tcp_norm.specs.Standing.{Pairwise, alive_in}
-use Rattle.tcp_norm.proofs.Splits.{split_any, pairwise, pairs_before, pairs_after, all_after, all_weaker, all_map, map_join, find_split, find_none}
+use Rattle.tcp_norm.specs.Standing.{alive_in}
+use Rattle.linked_table.proofs.Parts.{split_at, wherever}
+use Rattle.linked_table.proofs.Splits.{all_weaker, map_join}
+use Rattle.tcp_norm.proofs.Splits.{all_map, find_split, find_none}
 
 pub key_same : (a : FlowKey) → is_key a a ≡ true
 key_same a = grind arith
@@ -24,44 +26,8 @@ key_other a b ne = elim (is_key a b) as (λ t. is_key a b ≡ t → t ≡ false)
   | false ↦ λ e. refl
 ] refl
 
--- an entry of a slot, with those before it and those after it, none of which has its slot or its key
-pub record At (entries : List (Entry EraKey Flow)) (slot : Slot) : Type 0 where
-  pub before : List (Entry EraKey Flow)
-  pub here : Entry EraKey Flow
-  pub after : List (Entry EraKey Flow)
-  pub splits : entries ≡ before ++ here ∷ after
-  pub named : here.slot ≡ slot
-  pub slots_before : AllByRecursion (λ (e : Entry EraKey Flow). e.slot ≢ here.slot) before
-  pub slots_after : AllByRecursion (λ (e : Entry EraKey Flow). e.slot ≢ here.slot) after
-  pub keys_before : AllByRecursion (λ (e : Entry EraKey Flow). e.key ≢ here.key) before
-  pub keys_after : AllByRecursion (λ (e : Entry EraKey Flow). e.key ≢ here.key) after
-
-pub at : (entries : List (Entry EraKey Flow)) (slot : Slot) → IsIn entries slot → AllPairs (λ e f. e.slot ≢ f.slot) entries → AllPairs (λ e f. e.key ≢ f.key) entries → At entries slot
-at entries slot inside slots keys =
-    let s = split_any (λ (e : Entry EraKey Flow). e.slot ≡ slot) entries inside in
-    let by_slot = subst (λ l. Pairwise (λ (e f : Entry EraKey Flow). e.slot ≢ f.slot) l) s.splits (pairwise (λ (e f : Entry EraKey Flow). e.slot ≢ f.slot) entries slots) in
-    let by_key = subst (λ l. Pairwise (λ (e f : Entry EraKey Flow). e.key ≢ f.key) l) s.splits (pairwise (λ (e f : Entry EraKey Flow). e.key ≢ f.key) entries keys) in
-    record {
-      before = s.before;
-      here = s.here;
-      after = s.after;
-      splits = s.splits;
-      named = s.holds;
-      slots_before = pairs_before (λ (e f : Entry EraKey Flow). e.slot ≢ f.slot) s.before s.here s.after by_slot;
-      slots_after = all_weaker _ _ (λ e ne h. ne (sym h)) s.after (pairs_after (λ (e f : Entry EraKey Flow). e.slot ≢ f.slot) s.before s.here s.after by_slot);
-      keys_before = pairs_before (λ (e f : Entry EraKey Flow). e.key ≢ f.key) s.before s.here s.after by_key;
-      keys_after = all_weaker _ _ (λ e ne h. ne (sym h)) s.after (pairs_after (λ (e f : Entry EraKey Flow). e.key ≢ f.key) s.before s.here s.after by_key);
-    }
-
--- a fact of the entry of the slot
-pub wherever : (P : Entry EraKey Flow → Type 0) (entries : List (Entry EraKey Flow)) (slot : Slot) (a : At entries slot) → Wherever entries slot P → P a.here
-wherever P entries slot a all =
-    let whole = recursion_from_All (λ (e : Entry EraKey Flow). e.slot ≡ slot → P e) entries all in
-    let split = subst (λ l. AllByRecursion (λ (e : Entry EraKey Flow). e.slot ≡ slot → P e) l) a.splits whole in
-    (all_after (λ (e : Entry EraKey Flow). e.slot ≡ slot → P e) a.before (a.here ∷ a.after) split).0 a.named
-
 -- the live era of its key is that of the entry
-pub live_here : (entries : List (Entry EraKey Flow)) (eras : List Alive) (slot : Slot) (key : FlowKey) (a : At entries slot) → map alive_in entries ≡ eras
+pub live_here : (entries : List (Entry EraKey Flow)) (eras : List Alive) (slot : Slot) (key : FlowKey) (a : SplitAt entries slot) → map alive_in entries ≡ eras
     → a.here.key.0 ≡ key → find (λ (v : Alive). is_key v.key key) eras ≡ Some (alive_in a.here)
 live_here entries eras slot key a shown same =
     let mk : FlowKey → EraKey = λ k. record { 0 = k } in
@@ -89,7 +55,7 @@ pub live_is : (entries : List (Entry EraKey Flow)) (eras : List Alive) (key : Fl
     → is_some r ≡ is_some (find (λ (v : Alive). is_key v.key key) eras)
 live_is entries eras key None slots keys shown inside same none = ap is_some (sym (live_nowhere entries eras key shown (none.0 refl)))
 live_is entries eras key (Some slot) slots keys shown inside same none =
-    let a = at entries slot inside slots keys in
+    let a = split_at entries slot inside slots keys in
     let unwrapped : EraKey → FlowKey = λ k. k.0 in
     let here = wherever (λ (e : Entry EraKey Flow). e.key ≡ record { 0 = key }) entries slot a same in
     ap is_some (sym (live_here entries eras slot key a shown (ap unwrapped here)))

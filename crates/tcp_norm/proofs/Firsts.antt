@@ -18,8 +18,9 @@ use Rattle.tcp_norm.specs.Held.{held_of}
 use Rattle.tcp_norm.specs.Views.{head_of}
 use Rattle.tcp_norm.specs.Steps.{evicted_of, first_empty}
 use Rattle.tcp_norm.specs.Spare.{spares}
-use Rattle.tcp_norm.specs.Standing.{HoldsFor, EntryStands, Pairwise, alive_in}
-use Rattle.tcp_norm.proofs.Splits.{all_weaker, all_join, pairwise, pairs_before, pairs_after}
+use Rattle.linked_table.specs.Table.{Pairwise}
+use Rattle.tcp_norm.specs.Standing.{HoldsFor, EntryStands, alive_in}
+use Rattle.linked_table.proofs.Splits.{all_weaker, all_join, pairwise, pairs_before, pairs_after}
 
 -- an era that ends since its place is needed
 abbrev pub ended_at : (ℕ → List Written) → ℕ → Ended

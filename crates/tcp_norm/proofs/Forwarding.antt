@@ -23,8 +23,9 @@ use Rattle.tcp_norm.specs.Writes.{BringsNone}
 use Rattle.tcp_norm.proofs.Acks.{keeps_behind}
 use Rattle.tcp_norm.specs.Standing.{HoldsFor, EntryStands}
 use Rattle.tcp_norm.specs.Chains.{Keeps}
-use Rattle.tcp_norm.proofs.Splits.{all_after}
-use Rattle.tcp_norm.proofs.Finds.{At, at, wherever}
+use Rattle.linked_table.proofs.Splits.{all_after}
+use Rattle.linked_table.specs.Table.{SplitAt}
+use Rattle.linked_table.proofs.Parts.{split_at, wherever}
 use Rattle.tcp_norm.proofs.Chains.{count_is}
 use Rattle.tcp_norm.proofs.Streams.{keeps_with}
 use Rattle.tcp_norm.proofs.Calling.{writes_in}
@@ -35,7 +36,7 @@ others_same store new hole changed chain ne =
     ap (λ (s : Store). chain_of s chain) changed.others ∙ get_or-set_other store.chains hole chain (chain_of new hole) [] ne
 
 -- what stands of an entry
-pub stands_at : {eras : List Alive} {segments : ℕ → List Written} {begun : ℕ} (entries : List (Entry EraKey Flow)) (store : Store) (slot : Slot) (a : At entries slot)
+pub stands_at : {eras : List Alive} {segments : ℕ → List Written} {begun : ℕ} (entries : List (Entry EraKey Flow)) (store : Store) (slot : Slot) (a : SplitAt entries slot)
     → HoldsFor eras segments begun entries store → EntryStands segments store a.here
 stands_at {segments = segments} entries store slot a h =
     (all_after (EntryStands segments store) a.before (a.here ∷ a.after) (subst (AllByRecursion (EntryStands segments store)) a.splits h.each)).0
@@ -64,7 +65,7 @@ pub forward_holds : FirstStays → FrameOctets → IntervalsFit
     → HoldsFor (without (flow.number ∷ []) lives ++ record { number = flow.number; key = key; touched = now } ∷ []) later begun
     (table.without (with_value entries slot value) slot ++ table.only (with_value entries slot value) slot) new
 forward_holds stays law fit lives segments later begun entries store new slot flow value key warm next w frame kept octets fresh now count h inside slots keys valued keyed was is with keptof framed same stands numbered touched own others changed places map counted within =
-    let a = at entries slot inside slots keys in
+    let a = split_at entries slot inside slots keys in
     let value_is : a.here.value ≡ flow = wherever (λ (e : Entry EraKey Flow). e.value ≡ flow) entries slot a valued in
     let key_is : a.here.key.0 ≡ key = wherever (λ (e : Entry EraKey Flow). e.key.0 ≡ key) entries slot a keyed in
     let n_is : a.here.value.number ≡ flow.number = ap (λ (v : Flow). v.number) value_is in
@@ -94,7 +95,7 @@ pub go_on_holds : FirstStays → AckedNeverFalls
     → HoldsFor (without (flow.number ∷ []) lives ++ record { number = flow.number; key = key; touched = now } ∷ []) later begun
     (table.without (with_value entries slot value) slot ++ table.only (with_value entries slot value) slot) new
 go_on_holds stays grows lives segments later begun entries store new slot flow value key w now count h inside slots keys valued keyed none stands numbered touched own others changed forgets map counted within =
-    let a = at entries slot inside slots keys in
+    let a = split_at entries slot inside slots keys in
     let value_is : a.here.value ≡ flow = wherever (λ (e : Entry EraKey Flow). e.value ≡ flow) entries slot a valued in
     let key_is : a.here.key.0 ≡ key = wherever (λ (e : Entry EraKey Flow). e.key.0 ≡ key) entries slot a keyed in
     let n_is : a.here.value.number ≡ flow.number = ap (λ (v : Flow). v.number) value_is in
@@ -117,7 +118,7 @@ pub count_at : (lives : List Alive) (segments : ℕ → List Written) (begun : �
     → HoldsFor lives segments begun entries store → IsIn entries slot → AllPairs (λ e f. e.slot ≢ f.slot) entries → AllPairs (λ e f. e.key ≢ f.key) entries
     → Wherever entries slot (λ e. e.value ≡ flow) → length (chain_of store slot.0) ≡ held_of (segments flow.number)
 count_at lives segments begun entries store slot flow h inside slots keys valued =
-    let a = at entries slot inside slots keys in
+    let a = split_at entries slot inside slots keys in
     let value_is : a.here.value ≡ flow = wherever (λ (e : Entry EraKey Flow). e.value ≡ flow) entries slot a valued in
     let n_is : a.here.value.number ≡ flow.number = ap (λ (v : Flow). v.number) value_is in
     let named : a.here.slot.0 ≡ slot.0 = ap (λ (s : Slot). s.0) a.named in
@@ -128,7 +129,7 @@ pub keeps_at : (lives : List Alive) (segments : ℕ → List Written) (begun : �
     → HoldsFor lives segments begun entries store → IsIn entries slot → AllPairs (λ e f. e.slot ≢ f.slot) entries → AllPairs (λ e f. e.key ≢ f.key) entries
     → Wherever entries slot (λ e. e.value ≡ flow) → Keeps (chain_of store slot.0) (segments flow.number)
 keeps_at lives segments begun entries store slot flow h inside slots keys valued =
-    let a = at entries slot inside slots keys in
+    let a = split_at entries slot inside slots keys in
     let value_is : a.here.value ≡ flow = wherever (λ (e : Entry EraKey Flow). e.value ≡ flow) entries slot a valued in
     let n_is : a.here.value.number ≡ flow.number = ap (λ (v : Flow). v.number) value_is in
     let named : a.here.slot.0 ≡ slot.0 = ap (λ (s : Slot). s.0) a.named in

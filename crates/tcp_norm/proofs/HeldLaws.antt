@@ -21,9 +21,9 @@ use Rattle.tcp_norm.specs.Outcomes.{call_of}
 use Rattle.tcp_norm.specs.Lives.{AreMade, made_of, writes_in}
 use Rattle.tcp_norm.specs.Segments.{IsSegment, AsksSegment, AreOfSegments, CallsAreEmitted, IsBounded, HeldIsBounded, QuotaLeavesRoom}
 use Rattle.tcp_norm.specs.Writes.{BringsNone}
-use Rattle.tcp_norm.proofs.Splits.{all_weaker, all_join}
+use Rattle.linked_table.proofs.Splits.{all_weaker, all_join}
 use Rattle.tcp_norm.proofs.Nears.{all_filter}
-use Rattle.tcp_norm.proofs.Sums.{sum_agree}
+use Rattle.retain_store.proofs.Sums.{sum_agree}
 use Rattle.tcp_norm.proofs.Steps.{number_same}
 use Rattle.tcp_norm.proofs.Quotas.{at_most}
 use Rattle.tcp_norm.proofs.Bounds.{never_for_room}

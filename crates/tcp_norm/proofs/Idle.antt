@@ -16,9 +16,10 @@ use Rattle.tcp_norm.specs.declared.state.TcpNorm.{TcpNorm}
 use Rattle.tcp_norm.specs.Calls.{Alive, Call, expiry, eras, segments, without, numbers_of, is_among}
 use Rattle.tcp_norm.specs.Views.{idle_at}
 use Rattle.tcp_norm.specs.Steps.{first_old}
-use Rattle.tcp_norm.specs.Standing.{HoldsFor, IsFor, IsTimely, StandsFor, Pairwise}
-use Rattle.tcp_norm.proofs.Splits.{all_weaker}
-use Rattle.tcp_norm.proofs.Filters.{filter_all, filter_none}
+use Rattle.linked_table.specs.Table.{Pairwise}
+use Rattle.tcp_norm.specs.Standing.{HoldsFor, IsFor, IsTimely, StandsFor}
+use Rattle.linked_table.proofs.Splits.{all_weaker}
+use Rattle.linked_table.proofs.Filters.{filter_all, filter_none}
 use Rattle.tcp_norm.proofs.Steps.{number_other, number_same}
 use Rattle.tcp_norm.proofs.Effects.{without_none, stands_next, relabel}
 

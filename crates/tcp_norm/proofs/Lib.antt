@@ -1,4 +1,3 @@
-pub mod Filters
 pub mod Others
 pub mod LivesLists
 pub mod Lives
@@ -8,7 +7,6 @@ pub mod LivesEffects
 pub mod LivesLaws
 pub mod LivesCount
 pub mod Splits
-pub mod Sums
 pub mod Finds
 pub mod Holding
 pub mod Worked
@@ -63,3 +61,6 @@ pub mod HeldCounts
 pub mod HeldGrowth
 pub mod HeldWrites
 pub mod HeldLaws
+pub mod Read
+pub mod Ruled
+pub mod OfLive

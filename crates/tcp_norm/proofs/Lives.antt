@@ -6,9 +6,9 @@ use Rattle.std.specs.List.{AllByRecursion}
 use Rattle.std.specs.Option.{option_or}
 use Rattle.wire_base.specs.declared.address.FlowKey.{FlowKey}
 use Rattle.tcp_norm.specs.Calls.{Call, Alive, eras, is_among, ended_by, begun_in, begins_by, touched_by, time_of, numbers_of}
-use Rattle.tcp_norm.specs.Standing.{Pairwise}
+use Rattle.linked_table.specs.Table.{Pairwise}
 use Rattle.tcp_norm.specs.Lives.{begun_for, last_begun, has_ended, writes_in, last_touch, touch_place, IsLast}
-use Rattle.tcp_norm.proofs.Splits.{all_join, all_weaker, all_before, all_after}
+use Rattle.linked_table.proofs.Splits.{all_join, all_weaker, all_before, all_after}
 use Rattle.tcp_norm.proofs.Nears.{all_filter}
 use Rattle.tcp_norm.proofs.Steps.{number_other}
 use Rattle.tcp_norm.proofs.LivesLists.{all_passed, all_unfiltered, all_two, pairs_passed, pairs_join, pairs_weaker, pairs_alone}

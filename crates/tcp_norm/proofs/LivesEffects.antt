@@ -11,7 +11,7 @@ use Rattle.tcp_norm.specs.Calls.{Call, expiry, datagram, Alive, eras, live, is_k
 use Rattle.tcp_norm.specs.Held.{held_in, evictable}
 use Rattle.tcp_norm.specs.Views.{number_of, head_of, view_of}
 use Rattle.tcp_norm.specs.Outcomes.{call_of, expiry_of}
-use Rattle.tcp_norm.specs.Standing.{Pairwise}
+use Rattle.linked_table.specs.Table.{Pairwise}
 use Rattle.tcp_norm.specs.Lives.{begun_for, last_begun, has_ended, made_of}
 use Rattle.tcp_norm.proofs.Finds.{key_is, key_same}
 use Rattle.tcp_norm.proofs.Splits.{all_map}

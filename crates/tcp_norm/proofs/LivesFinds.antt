@@ -6,7 +6,7 @@ use Rattle.wire_base.specs.declared.address.FlowKey.{FlowKey}
 use Rattle.tcp_norm.specs.Calls.{Call, Alive, eras, live, is_key, begun_in}
 use Rattle.tcp_norm.specs.Views.{number_of}
 use Rattle.tcp_norm.specs.Lives.{last_begun, has_ended, IsLast}
-use Rattle.tcp_norm.proofs.Splits.{all_weaker}
+use Rattle.linked_table.proofs.Splits.{all_weaker}
 use Rattle.tcp_norm.proofs.Finds.{key_is, key_same}
 use Rattle.tcp_norm.proofs.LivesLists.{found_is, found_none}
 use Rattle.tcp_norm.proofs.Lives.{Lasts}

@@ -3,8 +3,8 @@ use Rattle.std.proofs.Common.{◌≡◌, ℕ, ◌==◌, ◌||◌, Bool, true, fa
 use Rattle.std.proofs.lemmas.Bool.{false≢true}
 use Rattle.std.specs.List.{AllByRecursion, find, filter}
 use Rattle.tcp_norm.specs.Calls.{is_among}
-use Rattle.tcp_norm.specs.Standing.{Pairwise}
-use Rattle.tcp_norm.proofs.Splits.{all_join, all_weaker}
+use Rattle.linked_table.specs.Table.{Pairwise}
+use Rattle.linked_table.proofs.Splits.{all_join, all_weaker}
 use Rattle.tcp_norm.proofs.Nears.{all_filter}
 
 module _ {X : Type 0} where

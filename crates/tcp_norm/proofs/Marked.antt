@@ -22,12 +22,11 @@ use Rattle.era_state.specs.States.{State, state_of, is_acknowledged, is_closed}
 use Rattle.era_state.specs.Rules as era
 use Rattle.reset_probe.specs.Rules.{era_probe, probe_with, awaited_number}
 use Rattle.cold_start.specs.Rules.{is_asked}
-use Rattle.ip_rules.specs.Datagrams.{Datagram, Packet, goes_in, raised, IsDatagram}
+use Rattle.ip_rules.specs.Datagrams.{Datagram, Packet, goes_in, IsDatagram}
 use Rattle.tcp_norm.specs.Calls.{read, segment_in}
 use Rattle.tcp_norm.specs.Views.{View}
-use Rattle.tcp_norm.specs.Heads.{IsHead, AreBits}
+use Rattle.tcp_norm.specs.Heads.{IsRead, AreBits}
 use Rattle.tcp_norm.specs.Rows.{is_live, c_probe, t_quota, t_room, dropped_by, mended_by, options_sent}
-use Rattle.tcp_norm.specs.declared.parts.Anew.{Anew}
 use Rattle.tcp_norm.specs.declared.step.Step.{Step}
 use Rattle.tcp_norm.specs.Emits.{packet_by, probe_packets, probe_dropped, without_flag, is_fin_kept, octets_sent, segment_anew, stream_segment, bare_segment}
 use Rattle.tcp_norm.specs.Inwards.{bare_read, passed}
@@ -62,7 +61,7 @@ begun_probes v w none asked = rw (none, asked) refl
 
 -- what is read of its packet is what the era was asked about
 pub bare_writes : AreReadBack → (settings : PlainSettings) (v : View) (d : Datagram) (packet : IpPacket) (link : List ℕ) (head : Tcp) (probe : Bool) (rows : List Rule) (s : Seg)
-    → goes_in d.side ≡ true → IsDatagram packet link d → AreBits packet.head packet.payload.now → IsHead packet.payload.now head
+    → goes_in d.side ≡ true → IsDatagram packet link d → AreBits packet.head packet.payload.now → IsRead packet.payload.now head
     → (options : List ℕ) → options ≡ cleaned (tcp.has_syn head.flags.0) (tcp.options packet.payload.now) → length options % 4 ≡ 0 → 20 + length options ≡ head.header
     → (tcp.has_syn (segment_in d).flags || tcp.has_rst (segment_in d).flags) ≡ true → (is_live v && era.is_of_stream v.segments (segment_in d)) ≡ false → c_probe v (segment_in d) ≡ probe
     → mended_by settings v d ≡ rows → came s ≡ bare_read packet.payload.now
@@ -103,7 +102,7 @@ pub rst_marked : (w : Written) → tcp.has_syn w.flags ≡ false → tcp.has_rst
 rst_marked w syn rst = rw (syn, rst) refl
 
 -- the flags of the segment are those of its header
-pub flags_are : (packet : IpPacket) (link : List ℕ) (d : Datagram) (head : Tcp) → IsDatagram packet link d → IsHead packet.payload.now head → head.flags.0 ≡ (segment_in d).flags
+pub flags_are : (packet : IpPacket) (link : List ℕ) (d : Datagram) (head : Tcp) → IsDatagram packet link d → IsRead packet.payload.now head → head.flags.0 ≡ (segment_in d).flags
 flags_are packet link d head is h = ap (λ (x : Tcp). x.flags.0) h.fields ∙ ap tcp.flags (sym is.octets)
 
 -- a segment of the stream of an era of which a place is acknowledged
@@ -122,11 +121,11 @@ step_stream v w n live f =
     }
 
 -- it is written anew from the fields of its header
-pub stream_anew : (ws : List Written) (d : Datagram) (packet : IpPacket) (link : List ℕ) (head : Tcp) (hops : ℕ) (anew : Anew) (octets : List ℕ)
-    → IsDatagram packet link d → IsHead packet.payload.now head → tcp.has_syn (segment_in d).flags ≡ false → tcp.has_rst (segment_in d).flags ≡ false
-    → anew.seq ≡ frame_sequence_of ws (segment_in d) → anew.fin ≡ is_fin_kept ws (segment_in d) → anew.options.items ≡ options_sent d → octets ≡ octets_sent ws (segment_in d)
-    → segment_anew ws d ≡ anew_segment (raised hops packet.head) head anew octets
-stream_anew ws d packet link head hops anew octets is h syn rst seq fin options sent =
+pub stream_anew : (ws : List Written) (d : Datagram) (packet : IpPacket) (link : List ℕ) (head : Tcp) (seq : ℕ) (fin : Bool) (octets : List ℕ)
+    → IsDatagram packet link d → IsRead packet.payload.now head → tcp.has_syn (segment_in d).flags ≡ false → tcp.has_rst (segment_in d).flags ≡ false
+    → seq ≡ frame_sequence_of ws (segment_in d) → fin ≡ is_fin_kept ws (segment_in d) → octets ≡ octets_sent ws (segment_in d)
+    → segment_anew ws d ≡ anew_segment packet.head head seq fin (cleaned (tcp.has_syn head.flags.0) (tcp.options packet.payload.now)) octets
+stream_anew ws d packet link head seq fin octets is h syn rst seq_is fin_is sent =
     let m = sym is.octets in
     let whole : segment_anew ws d ≡ stream_segment ws d = ap₂ (λ a b. cond (a || b) (bare_segment d) (stream_segment ws d)) syn rst in
     whole ∙ sym (λ k. record {
@@ -134,11 +133,11 @@ stream_anew ws d packet link head hops anew octets is h syn rst seq fin options 
       destination = ((sym is.head) k).dst.0;
       source_port = (ap (λ (x : Tcp). x.sport) h.fields ∙ ap tcp.source_port m) k;
       destination_port = (ap (λ (x : Tcp). x.dport) h.fields ∙ ap tcp.destination_port m) k;
-      sequence = seq k;
+      sequence = seq_is k;
       acknowledgment = (ap (λ (x : Tcp). x.ack) h.fields ∙ ap tcp.acknowledgment m) k;
-      flags = without_flag 32 (cond (fin k) (flags_are packet link d head is h k) (without_flag 1 (flags_are packet link d head is h k)));
+      flags = without_flag 32 (cond (fin_is k) (flags_are packet link d head is h k) (without_flag 1 (flags_are packet link d head is h k)));
       window = (ap (λ (x : Tcp). x.window) h.fields ∙ ap tcp.window m) k;
-      options = options k;
+      options = (ap (λ (x : Tcp). cleaned (tcp.has_syn x.flags.0) (tcp.options packet.payload.now)) h.fields ∙ ap (λ o. cleaned (tcp.has_syn (tcp.flags o)) (tcp.options o)) m) k;
       octets = sent k;
     })
 

@@ -16,7 +16,7 @@ use Rattle.ip_rules.specs.Datagrams.{Datagram}
 use Rattle.tcp_norm.specs.Calls.{Call, datagram, Outcome, Alive, segments, eras, key_of, without}
 use Rattle.tcp_norm.specs.Steps.{Does, one, number_ended, listed, place_of}
 use Rattle.tcp_norm.specs.Standing.{HoldsFor, IsFor, StandsFor}
-use Rattle.tcp_norm.proofs.Splits.{all_weaker}
+use Rattle.linked_table.proofs.Splits.{all_weaker}
 use Rattle.tcp_norm.proofs.Steps.{none_left}
 use Rattle.tcp_norm.proofs.Effects.{own_of, others_of, nothing_of, touched_of, ended_of, begins_of, lives_stay, lives_touch, lives_end, lives_begin, stands_next, relabel}
 
@@ -35,30 +35,6 @@ own_then cs now n d w s o does era = ap (λ l. segments n cs ++ l) (own_of now n
 pub other_then : (cs : List Call) (now n m : ℕ) (d : Datagram) (w : Written) (s : Step) (o : Outcome) → Does d w s o → s.era ≡ Some n → m ≢ n
     → segments m (datagram now d o ∷ cs) ≡ segments m cs
 other_then cs now n m d w s o does era ne = ap (λ l. segments m cs ++ l) (others_of now n m d w s o does era ne) ∙ append-nil (segments m cs)
-
-pub same_then : (cs : List Call) (now m : ℕ) (d : Datagram) (w : Written) (s : Step) (o : Outcome) → Does d w s o → s.era ≡ None
-    → segments m (datagram now d o ∷ cs) ≡ segments m cs
-same_then cs now m d w s o does era = ap (λ l. segments m cs ++ l) (nothing_of now m d w s o does era) ∙ append-nil (segments m cs)
-
--- a segment of no era
-pub stays_outside : (settings : PlainSettings) (old new : TcpNorm) (cs : List Call) (now : ℕ) (d : Datagram) (w : Written) (o : Outcome) (full : Bool)
-    → StandsFor settings old cs → IsFor settings new → GoesOn old new now 0
-    → Does d w (record { era = None; begun = None; ended = None; full = full }) o
-    → HoldsFor (eras cs) (λ m. segments m cs) new.begun new.table.entries new.store
-    → StandsFor settings new (datagram now d o ∷ cs)
-stays_outside settings old new cs now d w o full st opened goes does holds =
-    let s : Step = record { era = None; begun = None; ended = None; full = full } in
-    let c = datagram now d o in
-    let same : (m : ℕ) → segments m (c ∷ cs) ≡ segments m cs = λ m. same_then cs now m d w s o does refl in
-    let begins = begins_of now d w s o None does refl in
-    stands_next settings old new cs c (eras cs) st opened
-    (relabel (eras cs) (λ m. segments m cs) (λ m. segments m (c ∷ cs)) new.begun new.table.entries new.store (each (eras cs) same) (λ m above. same m ∙ holds.given.fresh m above) holds)
-    (lives_stay c cs (ended_of now d w s o does) (touched_of now d w s o None does refl))
-    (omega (arith, goes.begun, begins)) goes.latest goes.later goes.calls
-  where
-    each : (xs : List Alive) → ((m : ℕ) → segments m (datagram now d o ∷ cs) ≡ segments m cs) → AllByRecursion (λ (a : Alive). segments a.number (datagram now d o ∷ cs) ≡ segments a.number cs) xs
-    each [] same = tt
-    each (x ∷ xs) same = (same x.number, each xs same)
 
 -- a segment of a live era, which goes on
 pub goes_within : (settings : PlainSettings) (old new : TcpNorm) (cs : List Call) (now n : ℕ) (d : Datagram) (w : Written) (o : Outcome)

@@ -8,7 +8,7 @@ use Rattle.era_state.specs.declared.era.Era.{Era}
 use Rattle.tcp_norm.specs.declared.flow.Flow.{Flow}
 use Rattle.tcp_norm.specs.declared.key.EraKey.{EraKey}
 use Rattle.tcp_norm.specs.Near.{IsNear, AreNear}
-use Rattle.tcp_norm.proofs.Splits.{all_weaker, all_join, split_any, all_after}
+use Rattle.linked_table.proofs.Splits.{all_weaker, all_join, split_any, all_after}
 use Rattle.std.proofs.lemmas.List.Elements.{recursion_from_All, All-from_recursion}
 
 pub near_weaker : (a b : ℕ) (e : Era) → a ≤ b → IsNear a e → IsNear b e
@@ -37,9 +37,6 @@ near_valued calls slot value (e ∷ es) is near = (valued_one calls slot value e
 pub near_left : (calls : ℕ) (p : Entry EraKey Flow → Bool) (entries : List (Entry EraKey Flow)) → AreNear calls entries → AreNear calls (filter p entries)
 near_left calls p entries near = All-from_recursion (Near calls) (filter p entries) (all_filter (Near calls) p entries (recursion_from_All (Near calls) entries near))
 
-pub near_put : (calls : ℕ) (slot : Slot) (value : Flow) (entries : List (Entry EraKey Flow)) → IsNear calls value.era → AreNear calls entries → AreNear calls (with_value entries slot value)
-near_put calls slot value entries is near = All-from_recursion (Near calls) (with_value entries slot value) (near_valued calls slot value entries is (recursion_from_All (Near calls) entries near))
-
 pub near_touched : (calls : ℕ) (slot : Slot) (value : Flow) (entries : List (Entry EraKey Flow)) → IsNear calls value.era → AreNear calls entries
     → AreNear calls (table.without (with_value entries slot value) slot ++ table.only (with_value entries slot value) slot)
 near_touched calls slot value entries is near =
@@ -52,11 +49,3 @@ near_touched calls slot value entries is near =
 pub near_added : (calls : ℕ) (e : Entry EraKey Flow) (entries : List (Entry EraKey Flow)) → IsNear calls e.value.era → AreNear calls entries → AreNear calls (entries ++ e ∷ [])
 near_added calls e entries is near =
     All-from_recursion (Near calls) (entries ++ e ∷ []) (all_join (Near calls) entries (e ∷ []) (recursion_from_All (Near calls) entries near) (is, tt))
-
-pub near_at : (calls : ℕ) (entries : List (Entry EraKey Flow)) (slot : Slot) (flow : Flow) → AreNear calls entries → IsIn entries slot → Wherever entries slot (λ e. e.value ≡ flow) → IsNear calls flow.era
-near_at calls entries slot flow near inside valued =
-    let s = split_any (λ (e : Entry EraKey Flow). e.slot ≡ slot) entries inside in
-    let Q : Entry EraKey Flow → Type 0 = λ e. e.slot ≡ slot → e.value ≡ flow in
-    let here = (all_after (Near calls) s.before (s.here ∷ s.after) (subst (AllByRecursion (Near calls)) s.splits (recursion_from_All (Near calls) entries near))).0 in
-    let is = (all_after Q s.before (s.here ∷ s.after) (subst (AllByRecursion Q) s.splits (recursion_from_All Q entries valued))).0 s.holds in
-    subst (λ (f : Flow). IsNear calls f.era) is here

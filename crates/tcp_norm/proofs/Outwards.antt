@@ -22,9 +22,10 @@ use Rattle.ip_rules.specs.Datagrams.{Datagram}
 use Rattle.tcp_norm.specs.Calls.{Call, Alive, segments, eras, key_of}
 use Rattle.tcp_norm.specs.Views.{View, view_of, number_of, segments_of}
 use Rattle.tcp_norm.specs.Rows.{reopens}
-use Rattle.tcp_norm.specs.Steps.{IsStep, began, evicted, place_of}
+use Rattle.tcp_norm.specs.Steps.{IsStep, began, evicted, place_of, place_in}
 use Rattle.tcp_norm.specs.Standing.{HoldsFor}
-use Rattle.tcp_norm.proofs.Finds.{at, wherever, live_here, live_nowhere}
+use Rattle.linked_table.proofs.Parts.{split_at, wherever}
+use Rattle.tcp_norm.proofs.Finds.{live_here, live_nowhere}
 use Rattle.tcp_norm.proofs.Forwarding.{stands_at}
 
 -- what is asked of the calls before, of a connection with this live era
@@ -36,7 +37,7 @@ pub view_live : (settings : PlainSettings) (cs : List Call) (begun : ℕ) (entri
     → HoldsFor (eras cs) (λ n. segments n cs) begun entries store → IsIn entries slot → AllPairs (λ e f. e.slot ≢ f.slot) entries → AllPairs (λ e f. e.key ≢ f.key) entries
     → Wherever entries slot (λ e. e.value ≡ flow) → Wherever entries slot (λ e. e.key.0 ≡ key) → key_of d ≡ key → IsLive settings cs d flow.number
 view_live settings cs begun entries store slot flow key d h inside slots keys valued keyed same =
-    let a = at entries slot inside slots keys in
+    let a = split_at entries slot inside slots keys in
     let is = wherever (λ (e : Entry EraKey Flow). e.value ≡ flow) entries slot a valued in
     let key_is = wherever (λ (e : Entry EraKey Flow). e.key.0 ≡ key) entries slot a keyed in
     let live = live_here entries (eras cs) slot (key_of d) a h.eras_are (key_is ∙ sym same) in
@@ -56,7 +57,7 @@ pub era_at : (lives : List Alive) (segs : ℕ → List Written) (begun : ℕ) (e
     → HoldsFor lives segs begun entries store → IsIn entries slot → AllPairs (λ e f. e.slot ≢ f.slot) entries → AllPairs (λ e f. e.key ≢ f.key) entries
     → Wherever entries slot (λ e. e.value ≡ flow) → era.StandsFor flow.era (segs flow.number)
 era_at lives segs begun entries store slot flow h inside slots keys valued =
-    let a = at entries slot inside slots keys in
+    let a = split_at entries slot inside slots keys in
     let is = wherever (λ (e : Entry EraKey Flow). e.value ≡ flow) entries slot a valued in
     subst (λ (f : Flow). era.StandsFor f.era (segs f.number)) is (stands_at entries store slot a h).era
 
@@ -110,10 +111,6 @@ step_reset v s octets n live legal rst =
 pub step_stray : (v : View) (s : Seg) (octets : List ℕ) → v.era ≡ None → tcp.has_rst s.flags.0 ≡ true
     → IsStep v (sent s octets) (record { era = None; begun = None; ended = None; full = false })
 step_stray v s octets none rst = record { era_is = rw (none, rst) refl; begun_is = rw (none, rst) refl; ended_is = rw (none, rst) refl; full_is = rw (none, rst) refl }
-
--- where the era that begins next finds its place
-abbrev pub place_in : View → Option Place
-place_in v = place_of v.is_full (evicted v.evictable v.evictable_octets) v.next
 
 pub placed : (v : View) (full : Bool) (first : Option ℕ) → v.is_full ≡ full → v.evictable ≡ first → place_in v ≡ place_of full (evicted first v.evictable_octets) v.next
 placed v full first f e = ap₂ (λ a b. place_of a (evicted b v.evictable_octets) v.next) f e

@@ -15,7 +15,7 @@ use Rattle.wire_base.specs.Tcp as tcp
 use Rattle.wire_base.specs.Options.{cleaned}
 use Rattle.rule_book.specs.declared.rule.Rule.{Rule}
 use Rattle.tcp_codec.specs.declared.header.Tcp.{Tcp}
-use Rattle.tcp_codec.specs.Header.{fields_of}
+use Rattle.tcp_norm.specs.Heads.{seen}
 use Rattle.tcp_norm.specs.Streams.{stream_rows}
 use Rattle.tcp_norm.specs.Rows.{is_live, clashes, differ, mended_by, t_res, t_urg, t_opt}
 use Rattle.tcp_norm.proofs.Judging.{OfStream, stream_mended}
@@ -39,12 +39,12 @@ passes law settings v d e i n now ws sent live segs was stream kept quota room n
     (subst (λ (l : List Written). IsFrame l (segment_in d) i it.0) segs it.2.framed) (it.2.octets_are ∙ sym sends) it.1
 
 -- the rows by the fields of the header are those of the datagram
-pub rows_are : (settings : PlainSettings) (v : View) (d : Datagram) (m : List ℕ) (head : Tcp) (pseudo : ℕ) (i : Interval) (clash changed : Bool) (rows : List Rule)
-    → head ≡ fields_of pseudo m → d.octets ≡ m → goes_in d.side ≡ true → is_live v ≡ true → OfStream v.segments (segment_in d) → KeptOf v.segments (segment_in d) i
+pub rows_are : (settings : PlainSettings) (v : View) (d : Datagram) (m : List ℕ) (head : Tcp) (i : Interval) (clash changed : Bool) (rows : List Rule)
+    → head ≡ seen m head → d.octets ≡ m → goes_in d.side ≡ true → is_live v ≡ true → OfStream v.segments (segment_in d) → KeptOf v.segments (segment_in d) i
     → clash ≡ clashes v.segments (segment_in d) → changed ≡ differ (cleaned (tcp.has_syn head.flags.0) (tcp.options m)) (tcp.options m)
     → rows ≡ stream_rows (not (head.reserved == 0)) (tcp.has_urg head.flags.0 || not (head.urgent == 0)) changed i.below i.window i.end clash
     → rows ≡ mended_by settings v d
-rows_are settings v d m head pseudo i clash changed rows fields octets side live f kept clashed cleans listed =
+rows_are settings v d m head i clash changed rows fields octets side live f kept clashed cleans listed =
     let here = sym octets in
     let res : not (head.reserved == 0) ≡ t_res d =
     ap (λ (h : Tcp). not (h.reserved == 0)) fields ∙ ap₂ (λ b l. b && not (tcp.reserved l == 0)) (sym side) here in

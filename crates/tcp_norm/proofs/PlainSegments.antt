@@ -38,7 +38,7 @@ pub record IsPlainSegment (d : Datagram) (m : List ℕ) : Type 0 where
   pub kept : cleaned (tcp.has_syn (tcp.flags m)) (tcp.options m) ≡ tcp.options m
   pub bare : (tcp.has_syn (tcp.flags m) || tcp.has_rst (tcp.flags m)) ≡ true → tcp.payload m ≡ []
 
-tcp_plain : (settings : PlainSettings) (d : Datagram) (p : Packet) → IsPacketOf settings d p → d.head.protocol.0 ≡ 6 → IsPlainSegment d p.octets → IsPlainTcp (p.header ++ p.octets)
+tcp_plain : (settings : PlainSettings) (d : Datagram) (p : Packet) → IsPacketOf settings d p → d.head.protocol ≡ 6 → IsPlainSegment d p.octets → IsPlainTcp (p.header ++ p.octets)
 tcp_plain settings d p i six s =
     let back = sym i.carries in
     record {
@@ -55,7 +55,7 @@ tcp_plain settings d p i six s =
       bare = λ marked. ap tcp.payload i.carries ∙ s.bare (ap (λ m. tcp.has_syn (tcp.flags m) || tcp.has_rst (tcp.flags m)) back ∙ marked);
     }
 
-pub plain_packet : (settings : PlainSettings) (d : Datagram) (p : Packet) → IsPacketOf settings d p → d.head.protocol.0 ≡ 6 → goes_in d.side ≡ true → IsPlainSegment d p.octets
+pub plain_packet : (settings : PlainSettings) (d : Datagram) (p : Packet) → IsPacketOf settings d p → d.head.protocol ≡ 6 → goes_in d.side ≡ true → IsPlainSegment d p.octets
     → Plain settings.hops (p.header ++ p.octets)
 plain_packet settings d p i six side s =
     let protocol = i.protocol ∙ six in

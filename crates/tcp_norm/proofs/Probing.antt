@@ -11,7 +11,7 @@ use Rattle.edge_io.specs.Outboxes.{extended, last_frame}
 use Rattle.rule_book.specs.declared.rule.Rule.{Rule}
 use Rattle.norm_settings.specs.Settings.{PlainSettings}
 use Rattle.tcp_codec.specs.declared.header.Tcp.{Tcp}
-use Rattle.tcp_codec.specs.Header.{fields_of}
+use Rattle.tcp_norm.specs.Heads.{seen}
 use Rattle.tcp_codec.specs.Write.{segment_octets}
 use Rattle.era_state.specs.declared.probe.Probe.{Probe}
 use Rattle.reset_probe.specs.Write.{probe_octets, probe_segment}
@@ -64,16 +64,6 @@ frame_rewritten settings d ws packet link (rule ∷ more) s ip side head some an
 not_empty : {X : Type 0} (x : X) (xs : List X) → (length (x ∷ xs) == 0) ≢ true
 not_empty x xs e = let none : length (x ∷ xs) ≡ 0 = grind arith in absurd (omega (arith, none))
 
-pub frame_read : (settings : PlainSettings) (d : Datagram) (ws : List Written) (packet : IpPacket) (link : List ℕ) (rows : List Rule) → IsDatagram packet link d
-    → (length rows == 0) ≡ true → (length packet.fixes.items == 0) ≡ true → packet.frame.now ∷ [] ≡ frames_of link (packet_by settings ws d d.fixes rows ∷ [])
-frame_read settings d ws packet link (x ∷ xs) is none unfixed = absurd (not_empty x xs none)
-frame_read settings d ws packet link [] is none unfixed = cases packet.fixes.items unfixed is.frame is.fixes
-  where
-    cases : (fixes : List Rule) → (length fixes == 0) ≡ true → (fixes ≡ [] → packet.frame.now ≡ link ++ d.header ++ d.octets) → d.fixes ≡ fixes
-        → packet.frame.now ∷ [] ≡ frames_of link (packet_by settings ws d d.fixes [] ∷ [])
-    cases [] e whole same = ap (λ f. f ∷ []) (whole refl) ∙ ap (λ f. frames_of link (packet_by settings ws d f [] ∷ [])) (sym same)
-    cases (x ∷ xs) e whole same = absurd (not_empty x xs e)
-
 pub frame_headed : (settings : PlainSettings) (d : Datagram) (ws : List Written) (packet : IpPacket) (link : List ℕ) (rows : List Rule) (ip : Ipv4) → IsDatagram packet link d
     → ip ≡ head_sent settings d → (length rows == 0) ≡ true → (length packet.fixes.items == 0) ≡ false
     → (link ++ plain_header ip (length packet.payload.now) ++ packet.payload.now) ∷ [] ≡ frames_of link (packet_by settings ws d d.fixes rows ∷ [])
@@ -87,21 +77,15 @@ frame_headed settings d ws packet link [] ip is head none fixed =
     headed (x ∷ xs) never = refl
 
 -- a probe alone, and one behind a packet
-probe_is : (settings : PlainSettings) (d : Datagram) (packet : IpPacket) (link : List ℕ) (head : Tcp) (pseudo hops : ℕ) (ip : Ipv4) (probe : Probe)
-    → hops ≡ settings.hops → packet.side ≡ Inward → IsDatagram packet link d → head ≡ fields_of pseudo packet.payload.now → ip ≡ raised hops packet.head
+pub probe_is : (settings : PlainSettings) (d : Datagram) (packet : IpPacket) (link : List ℕ) (head : Tcp) (hops : ℕ) (ip : Ipv4) (probe : Probe)
+    → hops ≡ settings.hops → packet.side ≡ Inward → IsDatagram packet link d → head ≡ seen packet.payload.now head → ip ≡ raised hops packet.head
     → (link ++ probe_octets ip head.sport head.dport probe) ∷ [] ≡ frames_of link (probe_packet settings d probe ∷ [])
-probe_is settings d packet link head pseudo hops ip probe same side is fields raises =
+probe_is settings d packet link head hops ip probe same side is fields raises =
     frame_probe settings d link ip head.sport head.dport probe (raises ∙ head_is settings hops packet link d same side is)
     (ap (λ (h : Tcp). h.sport) fields ∙ ap tcp.source_port (sym is.octets)) (ap (λ (h : Tcp). h.dport) fields ∙ ap tcp.destination_port (sym is.octets))
 
-pub probe_alone : (settings : PlainSettings) (d : Datagram) (packet : IpPacket) (link : List ℕ) (head : Tcp) (pseudo hops : ℕ) (ip : Ipv4) (probe : Probe) (old new : List (List ℕ))
-    → hops ≡ settings.hops → packet.side ≡ Inward → IsDatagram packet link d → head ≡ fields_of pseudo packet.payload.now → ip ≡ raised hops packet.head
+pub probe_alone : (settings : PlainSettings) (d : Datagram) (packet : IpPacket) (link : List ℕ) (head : Tcp) (hops : ℕ) (ip : Ipv4) (probe : Probe) (old new : List (List ℕ))
+    → hops ≡ settings.hops → packet.side ≡ Inward → IsDatagram packet link d → head ≡ seen packet.payload.now head → ip ≡ raised hops packet.head
     → old ≡ [] → new ≡ old ++ (link ++ probe_octets ip head.sport head.dport probe) ∷ [] → new ≡ frames_of link (probe_packet settings d probe ∷ [])
-probe_alone settings d packet link head pseudo hops ip probe old new same side is fields raises empty puts =
-    puts ∙ (ap (λ l. l ++ (link ++ probe_octets ip head.sport head.dport probe) ∷ []) empty ∙ probe_is settings d packet link head pseudo hops ip probe same side is fields raises)
-
-pub probe_behind : (settings : PlainSettings) (d : Datagram) (packet : IpPacket) (link : List ℕ) (head : Tcp) (pseudo hops : ℕ) (ip : Ipv4) (probe : Probe) (own : Packet) (old new : List (List ℕ))
-    → hops ≡ settings.hops → packet.side ≡ Inward → IsDatagram packet link d → head ≡ fields_of pseudo packet.payload.now → ip ≡ raised hops packet.head
-    → old ≡ frames_of link (own ∷ []) → new ≡ old ++ (link ++ probe_octets ip head.sport head.dport probe) ∷ [] → new ≡ frames_of link (own ∷ probe_packet settings d probe ∷ [])
-probe_behind settings d packet link head pseudo hops ip probe own old new same side is fields raises first puts =
-    puts ∙ (λ k. first k ++ probe_is settings d packet link head pseudo hops ip probe same side is fields raises k)
+probe_alone settings d packet link head hops ip probe old new same side is fields raises empty puts =
+    puts ∙ (ap (λ l. l ++ (link ++ probe_octets ip head.sport head.dport probe) ∷ []) empty ∙ probe_is settings d packet link head hops ip probe same side is fields raises)

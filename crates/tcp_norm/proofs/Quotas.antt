@@ -8,7 +8,7 @@ use Rattle.std.proofs.lemmas.List.Sums.{sum_by-cons}
 use Rattle.retain_store.specs.Maps.{Block, Store, ChangesOnly, ForgetsBelow, IsMap, IsWithin, block_at, chain_of, holds, octet_at}
 use Rattle.tcp_norm.specs.Near.{AreBounded, IsAtMost}
 use Rattle.tcp_norm.specs.Rows.{exceeds}
-use Rattle.tcp_norm.proofs.Chains.{holds_octets}
+use Rattle.retain_store.proofs.Kept.{holds_are}
 use Rattle.tcp_norm.proofs.Forwarding.{others_same}
 
 pub at_most : (quota : Option ℕ) (n : ℕ) → exceeds quota n ≡ false → IsAtMost quota n
@@ -63,8 +63,8 @@ shorter_below old new at was map forgets counted counts =
     let fewer : (o : ℕ) → is_some (octet_at new o) ≡ true → is_some (octet_at old o) ≡ true =
     λ o some. left (nat_lt o at) (octet_at old o) (sym (ap is_some (forgets o)) ∙ some) in
     let goes : (m : ℕ) → holds new m ≡ true → holds old m ≡ true = λ m e.
-    holds_octets old (octet_at old) m was (λ o. refl)
-    ∙ any_weaker (λ o. is_some (octet_at new o)) (λ o. is_some (octet_at old o)) (range_with_len (256 * m) 256) fewer (sym (holds_octets new (octet_at new) m map (λ o. refl)) ∙ e) in
+    holds_are old (octet_at old) m was (λ o. refl)
+    ∙ any_weaker (λ o. is_some (octet_at new o)) (λ o. is_some (octet_at old o)) (range_with_len (256 * m) 256) fewer (sym (holds_are new (octet_at new) m map (λ o. refl)) ∙ e) in
     omega (arith, counted n (within_end old), counts n (λ o some. within_end old o (fewer o some)), count_below (holds new) (holds old) (range_with_len 0 n) goes)
   where
     left : (b : Bool) (x : Option ℕ) → is_some (cond b None x) ≡ true → is_some x ≡ true

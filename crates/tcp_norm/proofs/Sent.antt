@@ -31,7 +31,7 @@ use Rattle.tcp_norm.specs.Emits.{packet_by, packets_passed, probe_packet, probe_
 use Rattle.tcp_norm.specs.Outcomes.{outcome_at, outcome_by, verdict_of}
 use Rattle.ip_rules.specs.Judged.{where_holds}
 use Rattle.tcp_norm.specs.Steps.{IsStep, Does, Sends, listed}
-use Rattle.tcp_norm.proofs.Filters.{filter_none}
+use Rattle.linked_table.proofs.Filters.{filter_none}
 use Rattle.tcp_norm.proofs.Judging.{row_is}
 use Rattle.tcp_norm.proofs.Passing.{fixed_or_passed}
 

@@ -11,8 +11,9 @@ use Rattle.retain_store.specs.Maps.{Block, Store, chain_of}
 use Rattle.tcp_norm.specs.declared.flow.Flow.{Flow}
 use Rattle.tcp_norm.specs.declared.key.EraKey.{EraKey}
 use Rattle.tcp_norm.specs.Spare.{is_empty, spares, settled}
-use Rattle.tcp_norm.proofs.Splits.{all_weaker, map_join, filter_rest}
-use Rattle.tcp_norm.proofs.Finds.{At, at}
+use Rattle.linked_table.proofs.Splits.{all_weaker, map_join, filter_rest}
+use Rattle.linked_table.specs.Table.{SplitAt}
+use Rattle.linked_table.proofs.Parts.{split_at}
 use Rattle.tcp_norm.proofs.Steps.{put_touch}
 
 spares-join : (store : Store) (xs ys : List (Entry EraKey Flow)) → spares store (xs ++ ys) ≡ spares store xs ++ spares store ys
@@ -85,7 +86,7 @@ settled-last new e slot rest slots same is =
     by true = refl
     by false = append-none (others slots slot)
 
-module _ (store new : Store) (entries : List (Entry EraKey Flow)) (slot : Slot) (a : At entries slot) (chains : (chain : ℕ) → chain ≢ slot.0 → chain_of new chain ≡ chain_of store chain) where
+module _ (store new : Store) (entries : List (Entry EraKey Flow)) (slot : Slot) (a : SplitAt entries slot) (chains : (chain : ℕ) → chain ≢ slot.0 → chain_of new chain ≡ chain_of store chain) where
   apart_before : AllByRecursion (λ (e : Entry EraKey Flow). e.slot ≢ slot) a.before
   apart_before = subst (λ s. AllByRecursion (λ (e : Entry EraKey Flow). e.slot ≢ s) a.before) a.named a.slots_before
 
@@ -110,7 +111,7 @@ pub spares-touched : (store new : Store) (entries : List (Entry EraKey Flow)) (s
     → AllPairs (λ e f. e.slot ≢ f.slot) entries → AllPairs (λ e f. e.key ≢ f.key) entries → ((chain : ℕ) → chain ≢ slot.0 → chain_of new chain ≡ chain_of store chain)
     → spares new (table.without (with_value entries slot value) slot ++ table.only (with_value entries slot value) slot) ≡ settled new slot (spares store entries)
 spares-touched store new entries slot value inside slots keys chains =
-    let a = at entries slot inside slots keys in
+    let a = split_at entries slot inside slots keys in
     ap (spares new) (put_touch entries slot a value)
     ∙ settled-last new (record a.here { value = value }) slot (a.before ++ a.after) (spares store entries) a.named (others-rest store new entries slot a chains)
 
@@ -124,7 +125,7 @@ pub spares-left : (store new : Store) (entries : List (Entry EraKey Flow)) (slot
     → AllPairs (λ e f. e.slot ≢ f.slot) entries → AllPairs (λ e f. e.key ≢ f.key) entries → ((chain : ℕ) → chain ≢ slot.0 → chain_of new chain ≡ chain_of store chain)
     → spares new (table.without entries slot) ≡ others (spares store entries) slot
 spares-left store new entries slot inside slots keys chains =
-    let a = at entries slot inside slots keys in
+    let a = split_at entries slot inside slots keys in
     let mk : ℕ → Slot = λ n. record { 0 = n } in
     let apart : (e : Entry EraKey Flow) → e.slot ≢ slot → not (e.slot.0 == slot.0) ≡ true = λ e ne. ap not (ne_eqb e.slot.0 slot.0 (λ same. ne (ap mk same))) in
     let here : not (a.here.slot.0 == slot.0) ≡ false = ap not (eq-eqb a.here.slot.0 slot.0 (ap (λ (s : Slot). s.0) a.named)) in

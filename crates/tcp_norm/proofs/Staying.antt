@@ -21,7 +21,7 @@ use Rattle.tcp_norm.specs.Calls.{Alive, without}
 use Rattle.tcp_norm.specs.Held.{kept_at, held_of}
 use Rattle.tcp_norm.specs.Standing.{HoldsFor}
 use Rattle.tcp_norm.specs.Chains.{Keeps}
-use Rattle.tcp_norm.proofs.Finds.{at, wherever}
+use Rattle.linked_table.proofs.Parts.{split_at, wherever}
 use Rattle.tcp_norm.proofs.Forwarding.{stands_at, renamed}
 use Rattle.tcp_norm.proofs.Calling.{writes_in}
 
@@ -74,7 +74,7 @@ pub stay_holds : SilenceStands → SilenceChangesNothing
     → HoldsFor (without (flow.number ∷ []) lives ++ record { number = flow.number; key = key; touched = now } ∷ []) later begun
     (table.without (with_value entries slot value) slot ++ table.only (with_value entries slot value) slot) store
 stay_holds stays same lives segments later begun entries store slot flow value key ws now h inside slots keys valued keyed silent is numbered touched own others =
-    let a = at entries slot inside slots keys in
+    let a = split_at entries slot inside slots keys in
     let value_is : a.here.value ≡ flow = wherever (λ (e : Entry EraKey Flow). e.value ≡ flow) entries slot a valued in
     let key_is : a.here.key.0 ≡ key = wherever (λ (e : Entry EraKey Flow). e.key.0 ≡ key) entries slot a keyed in
     let n_is : a.here.value.number ≡ flow.number = ap (λ (v : Flow). v.number) value_is in

@@ -6,7 +6,8 @@ use Rattle.std.proofs.lemmas.List.Elements.{recursion_from_All, filter_passes}
 use Rattle.std.specs.List.{AllByRecursion, filter}
 use Rattle.wire_base.specs.Segments.{Written}
 use Rattle.linked_table.specs.declared.table.Slot.{Slot}
-use Rattle.linked_table.specs.Table.{Entry, with_value, revalued}
+use Rattle.linked_table.specs.Table.{Entry, SplitAt, with_value, revalued}
+use Rattle.linked_table.proofs.Parts.{left_out, valued}
 use Rattle.linked_table.specs.Table as table
 use Rattle.retain_store.specs.Maps.{Store, chain_of}
 use Rattle.era_state.specs.Eras as era
@@ -14,10 +15,11 @@ use Rattle.tcp_norm.specs.declared.flow.Flow.{Flow}
 use Rattle.tcp_norm.specs.declared.key.EraKey.{EraKey}
 use Rattle.tcp_norm.specs.Calls.{Alive, without, is_among}
 use Rattle.tcp_norm.specs.Held.{held_of}
-use Rattle.tcp_norm.specs.Standing.{Pairwise, IsFree, HoldsFor, EntryStands, AreGiven, alive_in}
+use Rattle.linked_table.specs.Table.{Pairwise}
+use Rattle.tcp_norm.specs.Standing.{IsFree, HoldsFor, EntryStands, AreGiven, alive_in}
 use Rattle.tcp_norm.specs.Chains.{Keeps}
-use Rattle.tcp_norm.proofs.Splits.{all_before, all_after, all_join, all_weaker, all_unmap, map_join, pairs_before, pairs_after, pairs_rest, pairs_push, filter_rest, filter_only, map_same}
-use Rattle.tcp_norm.proofs.Finds.{At}
+use Rattle.linked_table.proofs.Splits.{all_before, all_after, all_join, all_weaker, map_join, pairs_before, pairs_after, filter_rest, map_same}
+use Rattle.tcp_norm.proofs.Splits.{all_unmap, pairs_rest, pairs_push, filter_only}
 
 pub number_other : (m n : ℕ) → m ≢ n → (m == n) ≡ false
 number_other m n ne = grind arith
@@ -46,7 +48,7 @@ without_rest n before here after is left right =
     (all_weaker (λ (a : Alive). a.number ≢ n) (λ (a : Alive). not (is_among (n ∷ []) a.number) ≡ true) (λ a ne. rw (number_other n a.number (λ h. ne (sym h))) refl) after right)
 
 -- an entry is taken out
-pub take : {eras : List Alive} {segments : ℕ → List Written} {begun : ℕ} {entries : List (Entry EraKey Flow)} {store : Store} (slot : Slot) (a : At entries slot)
+pub take : {eras : List Alive} {segments : ℕ → List Written} {begun : ℕ} {entries : List (Entry EraKey Flow)} {store : Store} (slot : Slot) (a : SplitAt entries slot)
     → HoldsFor eras segments begun entries store
     → RestFor slot.0 (without (a.here.value.number ∷ []) eras) segments begun (a.before ++ a.after) store
 take {eras} {segments} {begun} {entries} {store} slot a h =
@@ -170,7 +172,7 @@ pub leave : {eras : List Alive} {segments : ℕ → List Written} {begun : ℕ} 
 leave hole apart h = record { eras_are = h.eras_are; each = h.each; apart = apart; free = λ chain ne is. h.free chain is; given = h.given }
 
 -- the table where an entry has another value and was touched
-pub put_touch : (entries : List (Entry EraKey Flow)) (slot : Slot) (a : At entries slot) (value : Flow)
+pub put_touch : (entries : List (Entry EraKey Flow)) (slot : Slot) (a : SplitAt entries slot) (value : Flow)
     → table.without (with_value entries slot value) slot ++ table.only (with_value entries slot value) slot ≡ (a.before ++ a.after) ++ record a.here { value = value } ∷ []
 put_touch entries slot a value =
     let mk : ℕ → Slot = λ n. record { 0 = n } in
@@ -178,22 +180,22 @@ put_touch entries slot a value =
     let apart : (e : Entry EraKey Flow) → e.slot ≢ a.here.slot → (e.slot.0 == slot.0) ≡ false =
     λ e ne. number_other e.slot.0 slot.0 (λ same. ne (ap mk (same ∙ sym named))) in
     let here : (a.here.slot.0 == slot.0) ≡ true = ap (λ n. n == slot.0) named ∙ number_same slot.0 in
-    let left = map_same (revalued slot value) a.before (all_weaker (λ (e : Entry EraKey Flow). e.slot ≢ a.here.slot) _ (λ e ne. rw (apart e ne) refl) a.before a.slots_before) in
-    let right = map_same (revalued slot value) a.after (all_weaker (λ (e : Entry EraKey Flow). e.slot ≢ a.here.slot) _ (λ e ne. rw (apart e ne) refl) a.after a.slots_after) in
-    let same : revalued slot value a.here ≡ record a.here { value = value } = rw here refl in
-    let valued : with_value entries slot value ≡ a.before ++ record a.here { value = value } ∷ a.after =
-    ap (map (revalued slot value)) a.splits ∙ (map_join (revalued slot value) a.before (a.here ∷ a.after)
-    ∙ (ap (λ l. l ++ revalued slot value a.here ∷ map (revalued slot value) a.after) left
-    ∙ (ap (λ l. a.before ++ revalued slot value a.here ∷ l) right ∙ ap (λ x. a.before ++ x ∷ a.after) same))) in
-    let out : table.without (a.before ++ record a.here { value = value } ∷ a.after) slot ≡ a.before ++ a.after =
-    filter_rest (λ (e : Entry EraKey Flow). not (e.slot.0 == slot.0)) a.before (record a.here { value = value }) a.after
-    (all_weaker (λ (e : Entry EraKey Flow). e.slot ≢ a.here.slot) _ (λ e ne. rw (apart e ne) refl) a.before a.slots_before) (rw here refl)
-    (all_weaker (λ (e : Entry EraKey Flow). e.slot ≢ a.here.slot) _ (λ e ne. rw (apart e ne) refl) a.after a.slots_after) in
+    let put : SplitAt (with_value entries slot value) slot = record {
+      before = a.before;
+      here = record a.here { value = value };
+      after = a.after;
+      splits = valued entries slot a value;
+      named = a.named;
+      slots_before = a.slots_before;
+      slots_after = a.slots_after;
+      keys_before = a.keys_before;
+      keys_after = a.keys_after;
+    } in
     let alone : table.only (a.before ++ record a.here { value = value } ∷ a.after) slot ≡ record a.here { value = value } ∷ [] =
     filter_only (λ (e : Entry EraKey Flow). e.slot.0 == slot.0) a.before (record a.here { value = value }) a.after
     (all_weaker (λ (e : Entry EraKey Flow). e.slot ≢ a.here.slot) _ apart a.before a.slots_before) here
     (all_weaker (λ (e : Entry EraKey Flow). e.slot ≢ a.here.slot) _ apart a.after a.slots_after) in
-    ap (λ l. table.without l slot ++ table.only l slot) valued ∙ ap₂ (λ l m. l ++ m) out alone
+    ap₂ (λ l m. l ++ m) (left_out (with_value entries slot value) slot put) (ap (λ l. table.only l slot) (valued entries slot a value) ∙ alone)
 
 -- an entry stays where it is when it gets another value
 pub in_valued : (entries : List (Entry EraKey Flow)) (slot : Slot) (value : Flow) → table.IsIn entries slot → table.IsIn (with_value entries slot value) slot

@@ -12,10 +12,10 @@ use Rattle.tcp_norm.specs.declared.flow.Flow.{Flow}
 use Rattle.tcp_norm.specs.declared.key.EraKey.{EraKey}
 use Rattle.tcp_norm.specs.Calls.{Alive}
 use Rattle.tcp_norm.specs.Standing.{HoldsFor, alive_in}
-use Rattle.tcp_norm.proofs.Splits.{all_weaker, all_join, all_after, map_join}
+use Rattle.linked_table.proofs.Splits.{all_weaker, all_join, all_after, map_join}
 use Rattle.tcp_norm.proofs.Nears.{all_filter}
-use Rattle.tcp_norm.proofs.Finds.{at, wherever}
-use Rattle.tcp_norm.proofs.Ending.{left_out}
+use Rattle.linked_table.proofs.Parts.{split_at, wherever}
+use Rattle.linked_table.proofs.Parts.{left_out}
 
 pub where_weaker : (P Q : Entry EraKey Flow → Type 0) (entries : List (Entry EraKey Flow)) (slot : Slot) → ((e : Entry EraKey Flow) → P e → Q e) → Wherever entries slot P → Wherever entries slot Q
 where_weaker P Q entries slot goes all =
@@ -41,7 +41,7 @@ joined (x ∷ xs) y ys = let rest = joined xs y ys in omega (arith, rest)
 pub shorter : (entries : List (Entry EraKey Flow)) (slot : Slot) → IsIn entries slot → AllPairs (λ e f. e.slot ≢ f.slot) entries → AllPairs (λ e f. e.key ≢ f.key) entries
     → length (table.without entries slot) < length entries
 shorter entries slot inside slots keys =
-    let a = at entries slot inside slots keys in
+    let a = split_at entries slot inside slots keys in
     let here = ap length (left_out entries slot a) in
     let whole = ap length a.splits ∙ joined a.before a.here a.after in
     omega (arith, here, whole)
@@ -51,7 +51,7 @@ pub key_left : (entries : List (Entry EraKey Flow)) (slot : Slot) (key : FlowKey
     → Wherever entries slot (λ e. e.key.0 ≡ key) → HasNone (table.without entries slot) (record { 0 = key })
 key_left entries slot key inside slots keys is =
     let mk : FlowKey → EraKey = λ k. record { 0 = k } in
-    let a = at entries slot inside slots keys in
+    let a = split_at entries slot inside slots keys in
     let here : a.here.key ≡ mk key = ap mk (wherever (λ (e : Entry EraKey Flow). e.key.0 ≡ key) entries slot a is) in
     let apart : (es : List (Entry EraKey Flow)) → AllByRecursion (λ (e : Entry EraKey Flow). e.key ≢ a.here.key) es → AllByRecursion (λ (e : Entry EraKey Flow). e.key ≢ mk key) es =
     λ es all. all_weaker (λ (e : Entry EraKey Flow). e.key ≢ a.here.key) (λ (e : Entry EraKey Flow). e.key ≢ mk key) (λ e ne same. ne (same ∙ sym here)) es all in
@@ -63,7 +63,7 @@ key_left entries slot key inside slots keys is =
 pub number_given : (lives : List Alive) (segments : ℕ → List Written) (begun : ℕ) (entries : List (Entry EraKey Flow)) (store : Store) (slot : Slot) (flow : Flow) → HoldsFor lives segments begun entries store
     → IsIn entries slot → AllPairs (λ e f. e.slot ≢ f.slot) entries → AllPairs (λ e f. e.key ≢ f.key) entries → Wherever entries slot (λ e. e.value ≡ flow) → flow.number ≤ begun
 number_given lives segments begun entries store slot flow h inside slots keys valued =
-    let a = at entries slot inside slots keys in
+    let a = split_at entries slot inside slots keys in
     let is = wherever (λ (e : Entry EraKey Flow). e.value ≡ flow) entries slot a valued in
     let below = subst (AllByRecursion (λ (b : Alive). b.number ≤ begun)) (sym h.eras_are ∙ (ap (map alive_in) a.splits ∙ map_join alive_in a.before (a.here ∷ a.after))) h.given.below in
     subst (λ (f : Flow). f.number ≤ begun) is (all_after (λ (b : Alive). b.number ≤ begun) (map alive_in a.before) (alive_in a.here ∷ map alive_in a.after) below).0

@@ -1,12 +1,14 @@
 -- A call of which no era hears leaves them all.
-use Rattle.std.proofs.Common.{◌≡◌, ℕ, ◌&&◌, Bool, true, false, cond, List, [], ◌∷◌, ◌++◌, map, is_some, refl, ap, ap₂, ◌∙◌, arith}
+use Rattle.std.proofs.Common.{◌≡◌, ℕ, ◌&&◌, Bool, true, false, cond, List, [], ◌∷◌, ◌++◌, map, None, is_some, refl, ap, ap₂, ◌∙◌, arith}
 use Rattle.std.proofs.lemmas.List.{append-nil}
 use Rattle.std.specs.List.{AllByRecursion}
 use Rattle.norm_settings.specs.Settings.{PlainSettings}
 use Rattle.tcp_norm.specs.declared.state.TcpNorm.{TcpNorm}
 use Rattle.ip_rules.specs.Datagrams.{Datagram, Packet, goes_in}
 use Rattle.tcp_norm.specs.Calls.{Call, datagram, Outcome, Alive, read, is_era, is_written, segments, eras, written_by, touched_by, begins_by, alive_at, key_of}
+use Rattle.wire_base.specs.Segments.{Written}
 use Rattle.tcp_norm.specs.Colds.{IsUnheard}
+use Rattle.tcp_norm.specs.Steps.{Does}
 use Rattle.tcp_norm.specs.Standing.{HoldsFor, IsFor, StandsFor}
 use Rattle.tcp_norm.proofs.Effects.{lives_stay, stands_next, relabel}
 use Rattle.tcp_norm.proofs.Moves.{GoesOn}
@@ -22,6 +24,10 @@ none_written now m d o false e u = ap (λ b. cond (is_era m o.era && b) (map (λ
 none_touched : (now : ℕ) (d : Datagram) (o : Outcome) (b : Bool) → is_written o.verdict ≡ b → IsUnheard o → touched_by (datagram now d o) ≡ []
 none_touched now d o true e u = ap₂ (λ b a. cond b (alive_at now (key_of d) a) []) e (u.era e)
 none_touched now d o false e u = ap (λ b. cond b (alive_at now (key_of d) o.era) []) e
+
+-- a segment of no era
+pub outside_unheard : (d : Datagram) (w : Written) (o : Outcome) (full : Bool) → Does d w (record { era = None; begun = None; ended = None; full = full }) o → IsUnheard o
+outside_unheard d w o full does = record { era = λ written. does.era_is; begun = does.begun_is; ended = does.ended_are }
 
 pub stays_unheard : (settings : PlainSettings) (old new : TcpNorm) (cs : List Call) (now : ℕ) (d : Datagram) (o : Outcome)
     → StandsFor settings old cs → IsFor settings new → GoesOn old new now 0 → IsUnheard o

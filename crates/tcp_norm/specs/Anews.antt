@@ -1,23 +1,22 @@
 -- A segment that is written anew, by the fields of the one that was read.
-use Rattle.std.specs.Prelude.{ℕ, List, if◌then◌else◌}
+use Rattle.std.specs.Prelude.{ℕ, Bool, List, if◌then◌else◌}
 use Rattle.wire_base.specs.Segments.{Segment}
 use Rattle.ipv4_codec.specs.declared.header.Ipv4.{Ipv4}
 use Rattle.tcp_codec.specs.declared.header.Tcp.{Tcp}
-use Rattle.tcp_norm.specs.declared.parts.Anew.{Anew}
 use Rattle.tcp_norm.specs.Emits.{without_flag}
 
--- its ports, acknowledgment and window stand; its urgent marks are 0, and its FIN is left out where it is not kept
-abbrev pub anew_segment : Ipv4 → Tcp → Anew → List ℕ → Segment
-anew_segment ip head anew octets =
+-- with its ports, acknowledgment and window; its urgent marks are 0, and its FIN is left out where it is not kept
+abbrev pub anew_segment : Ipv4 → Tcp → (sequence : ℕ) (fin : Bool) (options octets : List ℕ) → Segment
+anew_segment ip head sequence fin options octets =
     record {
       source = ip.src.0;
       destination = ip.dst.0;
       source_port = head.sport;
       destination_port = head.dport;
-      sequence = anew.seq;
+      sequence = sequence;
       acknowledgment = head.ack;
-      flags = without_flag 32 (if anew.fin then head.flags.0 else without_flag 1 head.flags.0);
+      flags = without_flag 32 (if fin then head.flags.0 else without_flag 1 head.flags.0);
       window = head.window;
-      options = anew.options.items;
+      options = options;
       octets = octets;
     }

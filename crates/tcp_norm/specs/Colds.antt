@@ -7,8 +7,6 @@ use Rattle.norm_settings.specs.Settings.{PlainSettings}
 use Rattle.era_state.specs.declared.segment.Seg.{Seg}
 use Rattle.era_state.specs.Read.{came}
 use Rattle.cold_start.specs.Rules.{is_asked, cold_probe_of}
-use Rattle.tcp_norm.specs.declared.come_cold.ColdEffect.{ColdEffect}
-use Rattle.tcp_norm.specs.declared.come_cold.ColdEffect.TheVariants.{Refused, Full, Asked, Begun}
 use Rattle.ip_rules.specs.Datagrams.{Datagram, goes_in}
 use Rattle.tcp_norm.specs.Calls.{Outcome, segment_in, key_of, is_written}
 use Rattle.tcp_norm.specs.Views.{View}
@@ -26,22 +24,8 @@ pub record Comes (d : Datagram) (key : FlowKey) (s : Seg) : Type 0 where
   pub rst : tcp.has_rst s.flags.0 ≡ tcp.has_rst (segment_in d).flags
   pub ack_flag : tcp.has_ack s.flags.0 ≡ tcp.has_ack (segment_in d).flags
 
--- which row drops it, or what it does
-abbrev pub IsColdEffect : PlainSettings → View → Datagram → ColdEffect → Type 0
-IsColdEffect settings v d Refused = dropped_by settings v d ≡ Some rules.TCold
-IsColdEffect settings v d Full = dropped_by settings v d ≡ Some rules.TFull
-IsColdEffect settings v d (Asked probe) = (dropped_by settings v d ≡ None) × (is_asked (segment_in d) ≡ true) × (probe ≡ cold_probe_of (segment_in d))
-IsColdEffect settings v d (Begun place) = (dropped_by settings v d ≡ None) × (is_asked (segment_in d) ≡ false) × IsStep v (segment_in d) (began place)
-
 -- an outcome of which no era hears
 pub record IsUnheard (o : Outcome) : Type 0 where
   pub era : is_written o.verdict ≡ true → o.era ≡ None
   pub begun : o.begun ≡ None
   pub ended : o.ended ≡ []
-
--- an outcome does this: where an era begins, what goes inwards is written in it
-abbrev pub DoesCold : Datagram → Seg → ColdEffect → Outcome → Type 0
-DoesCold d s Refused o = IsUnheard o
-DoesCold d s Full o = IsUnheard o
-DoesCold d s (Asked probe) o = IsUnheard o
-DoesCold d s (Begun place) o = Does d (came s) (began place) o

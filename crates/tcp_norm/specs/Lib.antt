@@ -18,9 +18,8 @@ pub mod Spare
 pub mod Steps
 pub mod Passing
 pub mod Colds
-pub mod Recalls
 pub mod Worked
 pub mod Anews
 pub mod Inwards
-pub mod Passed
 pub mod Resets
+pub mod Rulings

@@ -7,7 +7,7 @@ use Rattle.norm_settings.specs.Settings.{PlainSettings}
 use Rattle.tcp_norm.specs.Calls.{Call, expiry, datagram, Alive, eras, live, is_key, key_of, is_era, is_written, is_among, ended_by, begun_in, time_of}
 use Rattle.tcp_norm.specs.Views.{number_of}
 use Rattle.tcp_norm.specs.Outcomes.{call_of, expiry_of}
-use Rattle.tcp_norm.specs.Standing.{Pairwise}
+use Rattle.linked_table.specs.Table.{Pairwise}
 
 -- the call that the rules make of what is asked, after these calls
 abbrev pub made_of : PlainSettings → List Call → Call → Call

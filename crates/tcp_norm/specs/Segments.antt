@@ -22,7 +22,7 @@ use Rattle.tcp_norm.specs.Near.{IsAtMost}
 -- a right sum.
 pub record IsSegment (settings : PlainSettings) (d : Datagram) : Type 0 where
   pub known : IsKnown settings d
-  pub protocol : d.head.protocol.0 ≡ 6
+  pub protocol : d.head.protocol ≡ 6
   pub least : 20 ≤ tcp.header_length d.octets
   pub inside : tcp.header_length d.octets ≤ length d.octets
   pub legal : tcp.are_legal (tcp.flags d.octets) ≡ true

@@ -3,7 +3,7 @@ use Rattle.std.specs.Prelude.{◌≡◌, ◌≢◌, ℕ, ◌<◌, ◌≤◌, Lis
 use Rattle.std.specs.List.{AllByRecursion}
 use Rattle.wire_base.specs.Segments.{Written}
 use Rattle.norm_settings.specs.Settings.{PlainSettings}
-use Rattle.linked_table.specs.Table.{Entry}
+use Rattle.linked_table.specs.Table.{Entry, Pairwise}
 use Rattle.retain_store.specs.Maps.{Store, chain_of}
 use Rattle.era_state.specs.Eras as era
 use Rattle.tcp_norm.specs.declared.flow.Flow.{Flow}
@@ -26,11 +26,6 @@ pub record EntryStands (segments : ℕ → List Written) (store : Store) (e : En
 -- no entry has the slot of this number
 abbrev pub IsFree : List (Entry EraKey Flow) → (chain : ℕ) → Type 0
 IsFree entries chain = AllByRecursion (λ e. e.slot.0 ≢ chain) entries
-
--- R holds of each element and each later one
-abbrev pub Pairwise : {X : Type 0} → (X → X → Type 0) → List X → Type 0
-Pairwise R [] = Unit {0}
-Pairwise R (x ∷ xs) = AllByRecursion (R x) xs × Pairwise R xs
 
 -- numbers are given once: each live era has one that was given, no two have the same, and nothing was written in an era to come
 pub record AreGiven (begun : ℕ) (segments : ℕ → List Written) (eras : List Alive) : Type 0 where

@@ -78,16 +78,29 @@ abbrev pub place_by : Option Ended → (next : ℕ) → Option Place
 place_by None next = None
 place_by (Some e) next = Some (record { begun = next; evicted = Some e })
 
+abbrev pub place_of : (is_full : Bool) → Option Ended → (next : ℕ) → Option Place
+place_of false empty next = Some (record { begun = next; evicted = None })
+place_of true empty next = place_by empty next
+
+-- the era of this number goes on
+abbrev pub continued_in : (number : ℕ) → Step
+continued_in number = record { era = Some number; begun = None; ended = None; full = false }
+
+-- the era of this number ends, of so many octets, and another of its connection begins
+abbrev pub reopened_by : (number next octets : ℕ) → Step
+reopened_by number next octets =
+    record { era = Some next; begun = Some next; ended = Some (record { era = number; reason = reasons.Reopened; octets = Some octets }); full = false }
+
 -- an era begins at this place
 abbrev pub began : Place → Step
 began p = record { era = Some p.begun; begun = Some p.begun; ended = p.evicted; full = false }
+
+-- where the era that begins next finds its place
+abbrev pub place_in : View → Option Place
+place_in v = place_of v.is_full (evicted v.evictable v.evictable_octets) v.next
 
 -- the datagram goes outwards between these ends, and carries this segment
 pub record Sends (d : Datagram) (key : FlowKey) (s : Seg) (octets : List ℕ) : Type 0 where
   pub side : goes_in d.side ≡ false
   pub key_is : key_of d ≡ key
   pub segment_is : segment_in d ≡ sent s octets
-
-abbrev pub place_of : (is_full : Bool) → Option Ended → (next : ℕ) → Option Place
-place_of false empty next = Some (record { begun = next; evicted = None })
-place_of true empty next = place_by empty next

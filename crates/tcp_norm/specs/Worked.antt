@@ -15,7 +15,7 @@ use Rattle.tcp_norm.specs.Outcomes.{call_of, outcome_at}
 
 abbrev pub head : (source destination : ℕ) → Ipv4
 head source destination =
-    record { header = 20; tos = 0; total = 0; ident = 1; reserved = false; df = false; more = false; offset = 0; ttl = 64; protocol = record { 0 = 6 }; sum = 0; src = record { 0 = source }; dst = record { 0 = destination } }
+    record { header = 20; tos = 0; total = 0; ident = 1; reserved = false; df = false; more = false; offset = 0; ttl = 64; protocol = 6; sum = 0; src = record { 0 = source }; dst = record { 0 = destination } }
 
 abbrev pub parts : (source destination source_port destination_port flags sequence acknowledgment : ℕ) → List ℕ → Segment
 parts source destination source_port destination_port flags sequence acknowledgment octets =

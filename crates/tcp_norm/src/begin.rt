@@ -1,21 +1,136 @@
-//! An era begins.
-use crate::flow::Flow;
+//! Eras begin and end.
+use crate::flow::{Flow, Live};
 use crate::key::EraKey;
 use crate::spare::settle;
 use crate::state::TcpNorm;
+use crate::step::Place;
 use era_state::Era;
+use linked_table::Slot;
+use retain_store::ChainId;
+use rule_book::{Ended, Reason};
 use wire_base::FlowKey;
 
 impl TcpNorm {
-    ghost use Rattle.std.specs.Prelude.{◌≡◌, ◌≢◌, ◌+◌, ◌-◌, ◌<◌, ◌≤◌, ◌^◌, ℕ, None, List, [], ◌∷◌, ◌++◌, length};
+    ghost use Rattle.std.specs.Prelude.{◌≡◌, ◌+◌, ◌-◌, ◌<◌, ◌≤◌, ◌^◌, ℕ, IfSome, IfNone, None, List, [], ◌∷◌, ◌≢◌, ◌==◌, nat_le, Option, Some, is_some, ◌++◌, length, if◌then◌else◌};
     ghost use Rattle.wire_base.specs.Segments.{Written};
     ghost use Rattle.norm_settings.specs.Settings.{PlainSettings};
-    ghost use Rattle.linked_table.specs.Table.{HasNone};
-    ghost use Rattle.tcp_norm.specs.Calls.{Alive};
+    ghost use Rattle.linked_table.specs.Table.{HasNone, IsIn, Wherever};
+    ghost use Rattle.ip_rules.specs.Datagrams.{Datagram};
+    ghost use Rattle.tcp_norm.specs.Calls.{Call, Outcome, datagram, key_of, Alive, without};
+    ghost use Rattle.tcp_norm.specs.Views.{view_of};
+    ghost use Rattle.tcp_norm.specs.Colds.{IsUnheard};
     ghost use Rattle.tcp_norm.specs.Held.{kept_at};
     ghost use Rattle.tcp_norm.specs.Near.{IsNear};
-    ghost use Rattle.tcp_norm.specs.Standing.{HoldsFor, IsFor};
+    ghost use Rattle.tcp_norm.specs.Steps.{Does, began, place_in, first_empty, number_ended, one, place_of, reopened_by};
+    ghost use Rattle.tcp_norm.specs.Standing.{StandsFor, HoldsFor, IsFor};
+    ghost use Rattle.tcp_norm.specs.declared.key.EraKey.{EraKey};
+    ghost use Rattle.era_state.specs.Quantities.{octets_of};
+    ghost use Rattle.tcp_norm.specs.Rulings.{IsHeld};
     ghost use Rattle.era_state.specs.Eras as eras;
+    ghost use Rattle.rule_book.specs.declared.entry.Reason.TheVariants as reasons;
+    ghost use Rattle.linked_table.specs.Table as table;
+
+    /// Begins an era with a segment that comes at this time, if there is a place for it.
+    pub(crate) fn admit(&mut self, key: FlowKey, era: Era, now: u32) -> Option<Place>
+        requires absent { HasNone self.old.table.entries (record { 0 = key }) }
+        requires near { IsNear (self.old.calls + 1) era }
+        requires few { self.old.calls < 2 ^ 32 - 1 }
+        requires later { self.old.latest ≤ now }
+        ensures answer { (settings : PlainSettings) (calls : List Call) (d : Datagram) → StandsFor settings self.old calls → result ≡ place_in (view_of settings calls d) }
+        ensures some { IfSome result (λ p. (settings : PlainSettings) (calls : List Call) (d : Datagram) (w : Written) (o : Outcome) → StandsFor settings self.old calls →
+            key_of d ≡ key → eras.StandsFor era (w ∷ []) → ((offset : ℕ) → kept_at (w ∷ []) offset ≡ None) → Does d w (began p) o → StandsFor settings self.new (datagram now d o ∷ calls)) }
+        ensures none { IfNone result ((settings : PlainSettings) (calls : List Call) (d : Datagram) (o : Outcome) → StandsFor settings self.old calls →
+            IsUnheard o → StandsFor settings self.new (datagram now d o ∷ calls)) }
+    {
+        self.arrive(now);
+        match self.place(key, era, now) {
+            None => None,
+            Some(place) => Some(place),
+        }
+    }
+
+    // The least recently touched era that holds no octet.
+    fn oldest_empty(&self) -> Option<Slot>
+        ensures inside { IfSome result (IsIn self.now.table.entries) }
+        ensures first { IfSome result (λ slot. (lives : List Alive) (segments : ℕ → List Written) (begun : ℕ) →
+            HoldsFor lives segments begun self.now.table.entries self.now.store →
+            Wherever self.now.table.entries slot (λ e. first_empty lives segments ≡
+            Some (record { era = e.value.number; reason = reasons.Evicted; octets = Some (octets_of (segments e.value.number)) }))) }
+        ensures none { IfNone result ((lives : List Alive) (segments : ℕ → List Written) (begun : ℕ) →
+            HoldsFor lives segments begun self.now.table.entries self.now.store → first_empty lives segments ≡ None) }
+    {
+        self.entries_are_apart();
+        self.spare.first()
+    }
+
+    // The least recently touched era that holds no octet ends, if there is one.
+    fn evict(&mut self) -> Option<Ended>
+        ensures answer { (lives : List Alive) (segments : ℕ → List Written) (begun : ℕ) →
+            HoldsFor lives segments begun self.old.table.entries self.old.store → result ≡ first_empty lives segments }
+        ensures given { IfSome result (λ ended. (lives : List Alive) (segments : ℕ → List Written) (begun : ℕ) →
+            HoldsFor lives segments begun self.old.table.entries self.old.store → ended.era ≤ begun) }
+        ensures some { IfSome result (λ ended. (lives : List Alive) (segments : ℕ → List Written) (begun : ℕ) →
+            HoldsFor lives segments begun self.old.table.entries self.old.store →
+            HoldsFor (without (ended.era ∷ []) lives) segments begun self.new.table.entries self.new.store) }
+        ensures none { IfNone result ((lives : List Alive) (segments : ℕ → List Written) (begun : ℕ) →
+            HoldsFor lives segments begun self.old.table.entries self.old.store →
+            HoldsFor lives segments begun self.new.table.entries self.new.store) }
+        ensures absent { (key : EraKey) → HasNone self.old.table.entries key → HasNone self.new.table.entries key }
+        ensures room { IfSome result (λ ended. length self.new.table.entries < self.new.table.max) }
+        ensures opened { (settings : PlainSettings) → IsFor settings self.old → IsFor settings self.new }
+        ensures begun { self.new.begun ≡ self.old.begun }
+        ensures calls { self.new.calls ≡ self.old.calls }
+        ensures latest { self.new.latest ≡ self.old.latest }
+    {
+        self.entries_are_apart();
+        let slot = self.oldest_empty()?;
+        let flow = self.flow_at(slot);
+        let octets = flow.era.octets();
+        self.end(slot);
+        Some(Ended {
+            era: flow.number,
+            reason: Reason::Evicted,
+            octets: Some(octets),
+        })
+    }
+
+    // An era of a connection that has none begins: beside the others, or in the place of one that holds no octet, or else not at all.
+    pub(crate) fn place(&mut self, key: FlowKey, era: Era, now: u32) -> Option<Place>
+        requires absent { HasNone self.old.table.entries (record { 0 = key }) }
+        requires number { self.old.begun + 1 ≤ self.old.calls }
+        requires near { IsNear self.old.calls era }
+        ensures answer { (lives : List Alive) (segments : ℕ → List Written) →
+            HoldsFor lives segments self.old.begun self.old.table.entries self.old.store →
+            result ≡ place_of (nat_le self.old.table.max (length lives)) (first_empty lives segments) (self.old.begun + 1) }
+        ensures given { IfSome result (λ p. (number : ℕ) → number_ended p.evicted ≡ Some number → (lives : List Alive) (segments : ℕ → List Written) →
+            HoldsFor lives segments self.old.begun self.old.table.entries self.old.store → number ≤ self.old.begun) }
+        ensures some { IfSome result (λ p. (lives : List Alive) (segments later : ℕ → List Written) →
+            HoldsFor lives segments self.old.begun self.old.table.entries self.old.store →
+            eras.StandsFor era (later (self.old.begun + 1)) → ((offset : ℕ) → kept_at (later (self.old.begun + 1)) offset ≡ None) →
+            ((m : ℕ) → m ≢ self.old.begun + 1 → later m ≡ segments m) →
+            HoldsFor (without (one (number_ended p.evicted)) lives ++ record { number = self.old.begun + 1; key = key; touched = now } ∷ []) later self.new.begun self.new.table.entries self.new.store) }
+        ensures none { IfNone result ((lives : List Alive) (segments : ℕ → List Written) →
+            HoldsFor lives segments self.old.begun self.old.table.entries self.old.store →
+            HoldsFor lives segments self.new.begun self.new.table.entries self.new.store) }
+        ensures opened { (settings : PlainSettings) → IsFor settings self.old → IsFor settings self.new }
+        ensures begun { self.new.begun ≡ self.old.begun + (if is_some result then 1 else 0) }
+        ensures calls { self.new.calls ≡ self.old.calls }
+        ensures latest { self.new.latest ≡ self.old.latest }
+    {
+        if self.table.len() < self.table.max() {
+            let begun = self.begin(key, era, now);
+            return Some(Place {
+                begun,
+                evicted: None,
+            });
+        }
+        let ended = self.evict()?;
+        let begun = self.begin(key, era, now);
+        Some(Place {
+            begun,
+            evicted: Some(ended),
+        })
+    }
 
     // An era of a connection that has none begins, where fewer are live than may be. It holds no octet. Answers its number.
     pub(crate) fn begin(&mut self, key: FlowKey, era: Era, now: u32) -> u32
@@ -33,6 +148,7 @@ impl TcpNorm {
         ensures begun { self.new.begun ≡ self.old.begun + 1 }
         ensures calls { self.new.calls ≡ self.old.calls }
         ensures latest { self.new.latest ≡ self.old.latest }
+        ensures scratch { self.new.scratch ≡ self.old.scratch }
     {
         let number = self.begun + 1;
         let flow = Flow {
@@ -46,5 +162,43 @@ impl TcpNorm {
         }
         self.begun = number;
         number
+    }
+
+    /// Ends the live era and begins another of its connection with a segment that comes at this time. Returns the number of the new era.
+    pub(crate) fn reopen(&mut self, live: &Live, era: Era, now: u32) -> u32
+        requires held { IsHeld self.old.table live.now }
+        requires near { IsNear (self.old.calls + 1) era }
+        requires few { self.old.calls < 2 ^ 32 - 1 }
+        requires later { self.old.latest ≤ now }
+        ensures number { result ≡ self.old.begun + 1 }
+        ensures stands { (settings : PlainSettings) (calls : List Call) (d : Datagram) (w : Written) (octets : ℕ) (o : Outcome) → StandsFor settings self.old calls →
+            live.now.key ≡ key_of d → eras.StandsFor era (w ∷ []) → ((offset : ℕ) → kept_at (w ∷ []) offset ≡ None) →
+            Does d w (reopened_by live.now.flow.number (self.old.begun + 1) octets) o → StandsFor settings self.new (datagram now d o ∷ calls) }
+        ensures scratch { self.new.scratch ≡ self.old.scratch }
+    {
+        self.arrive(now);
+        self.end(live.slot);
+        self.begin(live.key, era, now)
+    }
+
+    // The era in this slot ends: its octets and its entry go, and the others stay.
+    pub(crate) fn end(&mut self, slot: Slot)
+        requires { IsIn self.old.table.entries slot }
+        ensures holds { (lives : List Alive) (segments : ℕ → List Written) (begun number : ℕ) →
+            HoldsFor lives segments begun self.old.table.entries self.old.store → Wherever self.old.table.entries slot (λ e. e.value.number ≡ number) →
+            HoldsFor (without (number ∷ []) lives) segments begun self.new.table.entries self.new.store }
+        ensures left { self.new.table.entries ≡ table.without self.old.table.entries slot }
+        ensures max { self.new.table.max ≡ self.old.table.max }
+        ensures opened { (settings : PlainSettings) → IsFor settings self.old → IsFor settings self.new }
+        ensures idle { self.new.idle ≡ self.old.idle }
+        ensures begun { self.new.begun ≡ self.old.begun }
+        ensures calls { self.new.calls ≡ self.old.calls }
+        ensures latest { self.new.latest ≡ self.old.latest }
+        ensures scratch { self.new.scratch ≡ self.old.scratch }
+    {
+        self.entries_are_apart();
+        self.store.forget_all(ChainId(slot.0));
+        let _pair = self.table.remove(slot);
+        self.spare.take_out(slot);
     }
 }

@@ -67,7 +67,7 @@ impl TcpNorm {
         ensures calls { self.new.calls ≡ self.old.calls }
         ensures latest { self.new.latest ≡ self.old.latest }
     {
-        let _count = self.table.len();
+        self.entries_are_apart();
         let slot = self.table.oldest()?;
         let flow = self.flow_at(slot);
         if !self.is_idle(&flow, now) {

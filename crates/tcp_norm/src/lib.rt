@@ -1,42 +1,44 @@
-//! The connections: which segments of a TCP connection go on, and what they carry.
+//! The connections: which segments of a TCP connection are passed on, and what they carry.
+//!
+//! Proved over every list of calls of `TcpNorm`: whether an era of a four-tuple is live (`live`),
+//! how many are live (`flows`) and how many cells they hold (`held`), all within the settings. The
+//! eras, the entry and the frames of an inbound and of an outbound datagram are those that
+//! `outcome_at` defines after these calls: rules that drop or change it, resets with their probe,
+//! cold probes, reopening, eviction, the full table, the quota. `expire` ends at most two idle
+//! eras, those written least recently first. An era that ends is reported with the number of
+//! offsets at which an octet was sent inwards. Each live era holds at most the quota, and if there
+//! are cells for the quota of each, T_ROOM drops nothing.
+//!
+//! Laws over calls that the rules make: the live era of a four-tuple is the one last begun for it
+//! and not ended; the live eras are these, each once, in the order of the calls that last wrote in
+//! them. A call that neither names nor ends an era leaves it unchanged. What is written of a
+//! segment of the stream is the frame of its kept interval, with the octets first sent at their
+//! offsets. If the datagrams are segments, each segment of an era is emitted after those before it;
+//! each packet sent is a packet of its datagram, and inwards it is plain; a probe for a dropped
+//! segment has no octet, SYN or FIN; if no rule touches the payload, exactly one packet is sent,
+//! with that payload; no more blocks hold octets than there are cells, and no more of one era than
+//! the quota.
 #![tactic(auto)]
 
-mod anew;
-mod arrive;
+mod apply;
+mod arrival;
 mod begin;
-mod come_call;
-mod come_cold;
-mod come_reset;
-mod end;
-mod entry;
-mod evict;
+mod decide;
+mod emit;
 mod expire;
 mod flow;
-mod forward;
-mod go_on;
-mod go_out;
-mod in_call;
-mod in_cold;
-mod in_early;
-mod in_reset;
-mod in_stream;
 mod inbound;
 mod key;
 pub mod laws;
 mod outbound;
-mod parts;
-mod pass;
 mod reading;
-mod refuse;
+mod report;
 mod rows;
-mod send_in;
+mod ruling;
 mod spare;
 mod state;
-mod stay;
 mod step;
-mod stream;
 #[cfg(test)]
 mod tests;
-mod write;
 
 pub use state::TcpNorm;

@@ -1,26 +1,36 @@
-//! An outbound datagram: what becomes of it.
-use crate::entry::tell_out;
+//! Outbound packets.
+ghost use Rattle.std.specs.Prelude.{◌≡◌, ◌+◌, ◌-◌, ◌<◌, ◌≤◌, ◌^◌, ℕ, true, false, List, [], ◌∷◌, length};
+ghost use Rattle.era_state.specs.Read.{sent};
+ghost use Rattle.wire_base.specs.Tcp as tcp;
+ghost use Rattle.era_state.specs.Eras as eras;
+
+use crate::emit::put_mended;
+use crate::flow::Live;
+use crate::key::EraKey;
 use crate::reading::{outward_key, seg_of};
+use crate::report::tell_out;
 use crate::state::TcpNorm;
-use crate::write::put_mended;
+use crate::step::Step;
+use cold_start::warm_from;
 use edge_io::Outbox;
+use era_state::laws::acked_grows_near;
+use era_state::{Called, Era, Moved, Seg};
 use ip_rules::IpPacket;
 use ip_rules::write::{put_anew, put_read};
 use rule_book::Entry;
 use tcp_codec::Tcp;
 use tcp_codec::laws::mended_say_the_same;
+use wire_base::FlowKey;
 
 impl TcpNorm {
     ghost use Rattle.std.specs.Prelude.{◌≡◌, ◌+◌, ◌-◌, ◌<◌, ◌≤◌, ◌^◌, List, [], ◌∷◌, ◌++◌, length, true, false};
-    ghost use Rattle.wire_base.specs.Tcp as tcp;
     ghost use Rattle.wire_base.specs.Sums.{pseudo_sum};
     ghost use Rattle.wire_base.specs.Segments.{Written};
     ghost use Rattle.wire_base.specs.declared.address.Side.TheVariants.{Outward};
-    ghost use Rattle.rule_book.specs.declared.rule.Rule.TheVariants as rules;
     ghost use Rattle.tcp_codec.specs.Header.{fields_of};
     ghost use Rattle.norm_settings.specs.Settings.{PlainSettings};
     ghost use Rattle.ip_rules.specs.Datagrams.{Datagram, frames_of, IsDatagram};
-    ghost use Rattle.tcp_norm.specs.Calls.{Call};
+    ghost use Rattle.tcp_norm.specs.Calls.{Call, Outcome, datagram, segment_in};
     ghost use Rattle.tcp_norm.specs.Views.{view_of};
     ghost use Rattle.tcp_norm.specs.Heads.{IsHead};
     ghost use Rattle.ip_rules.specs.Judged.{where_holds};
@@ -28,43 +38,49 @@ impl TcpNorm {
     ghost use Rattle.tcp_norm.specs.Outcomes.{call_of, outcome_at};
     ghost use Rattle.tcp_norm.specs.Passing.{Reports};
     ghost use Rattle.tcp_norm.specs.Standing.{StandsFor};
+    ghost use Rattle.linked_table.specs.Table.{HasNone};
+    ghost use Rattle.tcp_norm.specs.Steps.{Sends, IsStep, Does};
+    ghost use Rattle.tcp_norm.specs.Near.{IsNear};
+    ghost use Rattle.tcp_norm.specs.Rulings.{IsHeld};
+    ghost use Rattle.wire_base.specs.Tcp as tcp;
+    ghost use Rattle.rule_book.specs.declared.rule.Rule.TheVariants as rules;
 
     /// Takes an outbound datagram: it goes on in its era, or ends, reopens or begins one.
     pub fn outbound(
         &mut self,
         now: u32,
         packet: &IpPacket<'_>,
-        link: &[u8],
-        head: &Tcp,
+        link_octets: &[u8],
+        seg: &Tcp,
         out: &mut Outbox,
         entry: &mut Entry,
     )
         requires side { packet.now.side ≡ Outward }
         requires short { length packet.now.payload.now ≤ 65515 }
-        requires head { IsHead packet.now.payload.now head.now }
-        requires fields { head.now ≡ fields_of (pseudo_sum packet.now.head.src.0 packet.now.head.dst.0 6 (length packet.now.payload.now)) packet.now.payload.now }
-        requires link { length link.now ≤ 14 }
+        requires head { IsHead packet.now.payload.now seg.now }
+        requires fields { seg.now ≡ fields_of (pseudo_sum packet.now.head.src.0 packet.now.head.dst.0 6 (length packet.now.payload.now)) packet.now.payload.now }
+        requires link { length link_octets.now ≤ 14 }
         requires frame { packet.now.fixes.items ≡ [] → length packet.now.frame.now ≤ 65549 }
         requires fixes { length packet.now.fixes.items ≤ 6 }
         requires empty { out.old ≡ [] }
         requires ended { length entry.old.ended.items ≤ 2 }
         requires few { self.old.calls < 2 ^ 32 - 1 }
         requires later { self.old.latest ≤ now }
-        ensures stands { (settings : PlainSettings) (calls : List Call) (d : Datagram) → StandsFor settings self.old calls → IsDatagram packet.now link.now d →
+        ensures stands { (settings : PlainSettings) (calls : List Call) (d : Datagram) → StandsFor settings self.old calls → IsDatagram packet.now link_octets.now d →
             StandsFor settings self.new (call_of settings calls now d ∷ calls) }
-        ensures entry { (settings : PlainSettings) (calls : List Call) (d : Datagram) → StandsFor settings self.old calls → IsDatagram packet.now link.now d →
+        ensures entry { (settings : PlainSettings) (calls : List Call) (d : Datagram) → StandsFor settings self.old calls → IsDatagram packet.now link_octets.now d →
             Reports entry.old entry.new (outcome_at settings (view_of settings calls d) d) }
-        ensures frames { (settings : PlainSettings) (calls : List Call) (d : Datagram) → StandsFor settings self.old calls → IsDatagram packet.now link.now d →
-            out.new ≡ frames_of link.now (outcome_at settings (view_of settings calls d) d).packets }
+        ensures frames { (settings : PlainSettings) (calls : List Call) (d : Datagram) → StandsFor settings self.old calls → IsDatagram packet.now link_octets.now d →
+            out.new ≡ frames_of link_octets.now (outcome_at settings (view_of settings calls d) d).packets }
     {
         mended_say_the_same();
-        let seg = seg_of(packet.payload, head);
-        let key = outward_key(&packet.head, packet.payload, head);
+        let parsed = seg_of(packet.payload, seg);
+        let key = outward_key(&packet.head, packet.payload, seg);
         let offload = self.offload;
-        let step = self.go_out(key, &seg, now);
-        let wrong = offload & !head.sum_right;
+        let step = self.go_out(key, &parsed, now);
+        let wrong = offload & !seg.sum_right;
         tell_out(&step, &packet.fixes, wrong, entry);
-        self.send_out(packet, link, wrong, out);
+        self.send_out(packet, link_octets, wrong, out);
     }
 
     // Puts the one packet of an outbound datagram into the empty outbox.
@@ -86,5 +102,94 @@ impl TcpNorm {
         } else {
             put_anew(link, &packet.head, packet.payload, out);
         }
+    }
+
+    // An outbound segment comes.
+    pub(crate) fn go_out(&mut self, key: FlowKey, seg: &Seg, now: u32) -> Step
+        requires legal { tcp.are_legal seg.now.flags.0 ≡ true }
+        requires few { self.old.calls < 2 ^ 32 - 1 }
+        requires later { self.old.latest ≤ now }
+        ensures steps { (settings : PlainSettings) (calls : List Call) (d : Datagram) (octets : List ℕ) → length octets ≡ seg.now.len →
+            StandsFor settings self.old calls → Sends d key seg.now octets → IsStep (view_of settings calls d) (segment_in d) result }
+        ensures stands { (settings : PlainSettings) (calls : List Call) (d : Datagram) (octets : List ℕ) (o : Outcome) → length octets ≡ seg.now.len →
+            StandsFor settings self.old calls → Sends d key seg.now octets → Does d (segment_in d) result o →
+            StandsFor settings self.new (datagram now d o ∷ calls) }
+    {
+        match self.table.find(&EraKey(key)) {
+            Some(slot) => {
+                let live = self.live_at(slot, key);
+                self.go_out_live(&live, seg, now)
+            }
+            None => self.go_out_cold(key, seg, now),
+        }
+    }
+
+    // One of a connection that has no live era.
+    fn go_out_cold(&mut self, key: FlowKey, seg: &Seg, now: u32) -> Step
+        requires absent { HasNone self.old.table.entries (record { 0 = key }) }
+        requires legal { tcp.are_legal seg.now.flags.0 ≡ true }
+        requires few { self.old.calls < 2 ^ 32 - 1 }
+        requires later { self.old.latest ≤ now }
+        ensures steps { (settings : PlainSettings) (calls : List Call) (d : Datagram) (octets : List ℕ) → length octets ≡ seg.now.len →
+            StandsFor settings self.old calls → Sends d key seg.now octets → IsStep (view_of settings calls d) (segment_in d) result }
+        ensures stands { (settings : PlainSettings) (calls : List Call) (d : Datagram) (octets : List ℕ) (o : Outcome) → length octets ≡ seg.now.len →
+            StandsFor settings self.old calls → Sends d key seg.now octets → Does d (segment_in d) result o →
+            StandsFor settings self.new (datagram now d o ∷ calls) }
+    {
+        if seg.flags.rst() {
+            self.arrive(now);
+            return Step::outside(false);
+        }
+        match self.admit(key, era_of(seg), now) {
+            None => Step::outside(true),
+            Some(place) => Step::begun(place),
+        }
+    }
+
+    // One of a connection whose live era is in this slot.
+    fn go_out_live(&mut self, live: &Live, seg: &Seg, now: u32) -> Step
+        requires held { IsHeld self.old.table live.now }
+        requires near { IsNear self.old.calls live.now.flow.era }
+        requires legal { tcp.are_legal seg.now.flags.0 ≡ true }
+        requires few { self.old.calls < 2 ^ 32 - 1 }
+        requires later { self.old.latest ≤ now }
+        ensures steps { (settings : PlainSettings) (calls : List Call) (d : Datagram) (octets : List ℕ) → length octets ≡ seg.now.len →
+            StandsFor settings self.old calls → Sends d live.now.key seg.now octets → IsStep (view_of settings calls d) (segment_in d) result }
+        ensures stands { (settings : PlainSettings) (calls : List Call) (d : Datagram) (octets : List ℕ) (o : Outcome) → length octets ≡ seg.now.len →
+            StandsFor settings self.old calls → Sends d live.now.key seg.now octets → Does d (segment_in d) result o →
+            StandsFor settings self.new (datagram now d o ∷ calls) }
+    {
+        let number = live.flow.number;
+        let octets = live.flow.era.octets();
+        match live.flow.era.outbound(seg) {
+            Moved::Next(era) => {
+                self.go_on(live, era, now);
+                Step::within(number)
+            }
+            Moved::Reset => {
+                self.arrive(now);
+                self.end(live.slot);
+                Step::reset(number, octets)
+            }
+            Moved::Reopen => {
+                let next = self.reopen(live, era_of(seg), now);
+                Step::reopened(next, number, octets)
+            }
+        }
+    }
+}
+
+// The era that an outbound segment begins.
+fn era_of(seg: &Seg) -> Era
+    requires legal { tcp.are_legal seg.now.flags.0 ≡ true }
+    requires no_rst { tcp.has_rst seg.now.flags.0 ≡ false }
+    ensures stands { (octets : List ℕ) → length octets ≡ seg.now.len → eras.StandsFor result (sent seg.now octets ∷ []) }
+    ensures acked { eras.acked_in result < 2 ^ 31 }
+    ensures octets { eras.octets_in result ≡ 0 }
+{
+    acked_grows_near();
+    match warm_from(seg) {
+        Some(warm) => Era::settled(warm),
+        None => Era::Called(Called::call(seg)),
     }
 }

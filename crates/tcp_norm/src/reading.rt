@@ -5,11 +5,11 @@ ghost use Rattle.wire_base.specs.Options.{cleaned};
 ghost use Rattle.era_state.specs.Read.{received, sent, came};
 ghost use Rattle.wire_base.specs.declared.address.Side.TheVariants.{Inward, Outward};
 ghost use Rattle.tcp_norm.specs.Calls.{key_at, read};
-ghost use Rattle.tcp_norm.specs.Heads.{IsHead, AreBits};
+ghost use Rattle.tcp_norm.specs.Heads.{IsRead, AreBits};
 ghost use Rattle.tcp_norm.specs.Rows.{differ};
 ghost use Rattle.tcp_norm.specs.Inwards.{bare_read};
 
-use crate::anew::flags_sent;
+use crate::emit::flags_sent;
 use arrayvec::ArrayVec;
 use era_state::Seg;
 use ipv4_codec::Ipv4;
@@ -19,7 +19,7 @@ use wire_base::FlowKey;
 
 /// The segment of these octets, of which the header was read.
 pub(crate) fn seg_of(octets: &[u8], head: &Tcp) -> Seg
-    requires head { IsHead octets.now head.now }
+    requires head { IsRead octets.now head.now }
     requires short { length octets.now ≤ 65515 }
     ensures inward { received result (tcp.payload octets.now) ≡ read true octets.now }
     ensures outward { sent result (tcp.payload octets.now) ≡ read false octets.now }
@@ -38,7 +38,7 @@ pub(crate) fn seg_of(octets: &[u8], head: &Tcp) -> Seg
 
 /// The four-tuple of an outbound segment.
 pub(crate) fn outward_key(ip: &Ipv4, octets: &[u8], head: &Tcp) -> FlowKey
-    requires { IsHead octets.now head.now }
+    requires { IsRead octets.now head.now }
     ensures { result ≡ key_at Outward ip.now octets.now }
 {
     FlowKey {
@@ -51,7 +51,7 @@ pub(crate) fn outward_key(ip: &Ipv4, octets: &[u8], head: &Tcp) -> FlowKey
 
 /// The four-tuple of an inbound segment.
 pub(crate) fn inward_key(ip: &Ipv4, octets: &[u8], head: &Tcp) -> FlowKey
-    requires { IsHead octets.now head.now }
+    requires { IsRead octets.now head.now }
     ensures { result ≡ key_at Inward ip.now octets.now }
 {
     FlowKey {
@@ -78,7 +78,7 @@ fn has_bits(number: u32)
 
 /// What goes inwards of a SYN or a RST: without octets and urgent marks, with cleaned options.
 pub(crate) fn bare_seg(octets: &[u8], head: &Tcp) -> Seg
-    requires head { IsHead octets.now head.now }
+    requires head { IsRead octets.now head.now }
     ensures read { came result ≡ bare_read octets.now }
     ensures flags { tcp.are_legal result.flags.0 ≡ true }
 {
@@ -96,7 +96,7 @@ pub(crate) fn bare_seg(octets: &[u8], head: &Tcp) -> Seg
 
 /// What a segment carries.
 pub(crate) fn payload_of<'a>(octets: &'a [u8], head: &Tcp) -> &'a [u8]
-    requires { IsHead octets.now head.now }
+    requires { IsRead octets.now head.now }
     ensures { result.now ≡ tcp.payload octets.now }
 {
     &octets[head.header..]
@@ -104,7 +104,7 @@ pub(crate) fn payload_of<'a>(octets: &'a [u8], head: &Tcp) -> &'a [u8]
 
 /// The options of a segment as they go out, and whether that changes them.
 pub(crate) fn options_of(octets: &[u8], head: &Tcp) -> (ArrayVec<u8, 40>, bool)
-    requires { IsHead octets.now head.now }
+    requires { IsRead octets.now head.now }
     ensures exact { result.0.items ≡ cleaned (tcp.has_syn head.now.flags.0) (tcp.options octets.now) }
     ensures changed { result.1 ≡ differ (cleaned (tcp.has_syn head.now.flags.0) (tcp.options octets.now)) (tcp.options octets.now) }
     ensures words { length result.0.items % 4 ≡ 0 }
@@ -113,9 +113,26 @@ pub(crate) fn options_of(octets: &[u8], head: &Tcp) -> (ArrayVec<u8, 40>, bool)
     options_are_cleaned();
     let mut options = ArrayVec::new();
     let area = &octets[20..head.header];
+    if area.is_empty() {
+        return (options, false);
+    }
     if options.try_extend_from_slice(area).is_err() {
         unreachable!()
     }
     let changed = clean_options(options.as_mut_slice(), head.flags.syn());
     (options, changed)
+}
+
+/// Returns whether the options of a segment change as it is sent.
+pub(crate) fn options_change(octets: &[u8], head: &Tcp) -> bool
+    requires { IsRead octets.now head.now }
+    ensures changed { result ≡ differ (cleaned (tcp.has_syn head.now.flags.0) (tcp.options octets.now)) (tcp.options octets.now) }
+    ensures words { length (cleaned (tcp.has_syn head.now.flags.0) (tcp.options octets.now)) % 4 ≡ 0 }
+    ensures size { 20 + length (cleaned (tcp.has_syn head.now.flags.0) (tcp.options octets.now)) ≡ head.now.header }
+{
+    if octets[20..head.header].is_empty() {
+        return false;
+    }
+    let (_options, changed) = options_of(octets, head);
+    changed
 }

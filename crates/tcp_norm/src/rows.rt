@@ -4,7 +4,7 @@ ghost use Rattle.wire_base.specs.Tcp as tcp;
 ghost use Rattle.tcp_norm.specs.Streams.{stream_rows, bare_rows};
 ghost use Rattle.ip_rules.specs.Judged.{where_holds};
 
-use crate::stream::Stream;
+use crate::decide::stream::Stream;
 use arrayvec::ArrayVec;
 use rule_book::Rule;
 use tcp_codec::Tcp;

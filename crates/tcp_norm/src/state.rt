@@ -3,10 +3,10 @@ ghost use Rattle.std.specs.Prelude.{◌≡◌, ◌≤◌, length, vec_len};
 ghost use Rattle.tcp_norm.specs.Near.{AreBounded, AreNear};
 ghost use Rattle.tcp_norm.specs.Spare.{spares};
 
-use crate::flow::Flow;
+use crate::flow::{Flow, Live};
 use crate::key::EraKey;
 use edge_io::NoMemory;
-use linked_table::{LinkedTable, SlotList};
+use linked_table::{LinkedTable, Slot, SlotList};
 use norm_settings::Settings;
 use retain_store::Retain;
 use std::alloc::Global;
@@ -52,17 +52,21 @@ pub struct TcpNorm {
 }
 
 impl TcpNorm {
-    ghost use Rattle.std.specs.Prelude.{ℕ, ◌≢◌, ◌*◌, ◌<◌, List, [], ◌∷◌, Some, is_some, IfOk};
-    ghost use Rattle.std.specs.List.{AllByRecursion};
-    ghost use Rattle.rule_book.specs.declared.rule.Rule.TheVariants as rules;
+    ghost use Rattle.std.specs.Prelude.{ℕ, ◌≢◌, ◌*◌, ◌<◌, List, [], ◌∷◌, Some, is_some, IfOk, ◌≡◌, ◌+◌, ◌-◌, ◌≤◌, ◌^◌, length};
+    ghost use Rattle.std.specs.List.{AllByRecursion, All, AllPairs};
     ghost use Rattle.norm_settings.specs.Settings.{PlainSettings, plain_settings, AreInRange};
     ghost use Rattle.ip_rules.specs.Datagrams.{Datagram};
-    ghost use Rattle.tcp_norm.specs.Calls.{Call, eras, live};
+    ghost use Rattle.tcp_norm.specs.Calls.{Call, eras, live, Alive, Outcome, datagram};
     ghost use Rattle.tcp_norm.specs.Held.{held_all, held_in};
-    ghost use Rattle.tcp_norm.specs.Near.{IsAtMost};
+    ghost use Rattle.tcp_norm.specs.Near.{IsAtMost, IsNear};
     ghost use Rattle.tcp_norm.specs.Rows.{dropped_by};
     ghost use Rattle.tcp_norm.specs.Views.{view_of};
-    ghost use Rattle.tcp_norm.specs.Standing.{StandsFor};
+    ghost use Rattle.tcp_norm.specs.Standing.{StandsFor, HoldsFor, IsFor};
+    ghost use Rattle.linked_table.specs.Table.{IsIn, Wherever};
+    ghost use Rattle.wire_base.specs.Segments.{Written};
+    ghost use Rattle.tcp_norm.specs.Colds.{IsUnheard};
+    ghost use Rattle.tcp_norm.specs.Rulings.{IsHeld};
+    ghost use Rattle.rule_book.specs.declared.rule.Rule.TheVariants as rules;
 
     /// No era is live, and none began.
     pub fn open(alloc: Global, settings: &Settings) -> Result<TcpNorm, NoMemory>
@@ -95,7 +99,7 @@ impl TcpNorm {
     pub fn live(&self, key: &FlowKey) -> bool
         ensures { (settings : PlainSettings) (calls : List Call) → StandsFor settings self.now calls → result ≡ is_some (live calls key.now) }
     {
-        let _count = self.table.len();
+        self.entries_are_apart();
         self.table.find(&EraKey(*key)).is_some()
     }
 
@@ -116,7 +120,62 @@ impl TcpNorm {
         ensures room { (settings : PlainSettings) (calls : List Call) (d : Datagram) (most : ℕ) → StandsFor settings self.now calls → settings.quota ≡ Some most →
             settings.flows * most ≤ settings.cells → dropped_by settings (view_of settings calls d) d ≢ Some rules.TRoom }
     {
-        let _count = self.table.len();
+        self.entries_are_apart();
         self.cells.saturating_sub(self.store.free())
+    }
+
+    // A datagram comes at this time.
+    pub(crate) fn arrive(&mut self, now: u32)
+        requires few { self.old.calls < 2 ^ 32 - 1 }
+        requires later { self.old.latest ≤ now }
+        ensures unheard { (settings : PlainSettings) (calls : List Call) (d : Datagram) (o : Outcome) → StandsFor settings self.old calls →
+            IsUnheard o → StandsFor settings self.new (datagram now d o ∷ calls) }
+        ensures holds { (lives : List Alive) (segments : ℕ → List Written) → HoldsFor lives segments self.old.begun self.old.table.entries self.old.store →
+            HoldsFor lives segments self.new.begun self.new.table.entries self.new.store }
+        ensures entries { self.new.table ≡ self.old.table }
+        ensures opened { (settings : PlainSettings) → IsFor settings self.old → IsFor settings self.new }
+        ensures begun { self.new.begun ≡ self.old.begun }
+        ensures calls { self.new.calls ≡ self.old.calls + 1 }
+        ensures latest { self.new.latest ≡ now }
+        ensures scratch { self.new.scratch ≡ self.old.scratch }
+    {
+        self.calls += 1;
+        self.latest = now;
+    }
+
+    // No slot and no key stands twice in the table.
+    pub(crate) fn entries_are_apart(&self)
+        ensures bounded { length self.now.table.entries ≤ self.now.table.max }
+        ensures slots_below { All (λ e. e.slot.0 < self.now.table.max) self.now.table.entries }
+        ensures slots_apart { AllPairs (λ e f. e.slot ≢ f.slot) self.now.table.entries }
+        ensures keys_apart { AllPairs (λ e f. e.key ≢ f.key) self.now.table.entries }
+    {
+        let _count = self.table.len();
+    }
+
+    // The live era of this connection, in this slot.
+    pub(crate) fn live_at(&self, slot: Slot, key: FlowKey) -> Live
+        requires inside { IsIn self.now.table.entries slot }
+        requires keyed { Wherever self.now.table.entries slot (λ e. e.key.0 ≡ key) }
+        ensures held { IsHeld self.now.table result }
+        ensures near { IsNear self.now.calls result.flow.era }
+        ensures key { result.key ≡ key }
+    {
+        self.entries_are_apart();
+        Live {
+            key,
+            slot,
+            flow: *self.table.at(slot),
+        }
+    }
+
+    // The era in this slot.
+    pub(crate) fn flow_at(&self, slot: Slot) -> Flow
+        requires { IsIn self.now.table.entries slot }
+        ensures value { Wherever self.now.table.entries slot (λ e. e.value ≡ result) }
+        ensures near { IsNear self.now.calls result.era }
+    {
+        self.entries_are_apart();
+        *self.table.at(slot)
     }
 }

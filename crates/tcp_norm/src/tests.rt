@@ -16,7 +16,7 @@ use std::alloc::Global;
 use std::process::Abort;
 use std::test::Fail;
 use tcp_codec::{SegmentParts, SumRule, Tcp, mend, parse, write_segment};
-use wire_base::{Addr, Flags, Protocol, SeqNumber, Side, pseudo_sum};
+use wire_base::{Addr, Flags, Side, protocol, pseudo_sum};
 
 mod rows;
 
@@ -40,7 +40,7 @@ fn head_of(way: Side, ttl: u8) -> Ipv4 {
         more: false,
         offset: 0,
         ttl,
-        protocol: Protocol::TCP,
+        protocol: protocol::TCP,
         sum: 0,
         src,
         dst,
@@ -103,8 +103,8 @@ fn write_sent(sent: &Sent, buf: &mut [u8; 400]) -> usize
         dst: head.dst,
         sport,
         dport,
-        seq: SeqNumber::new(seq),
-        ack: SeqNumber::new(ack),
+        seq,
+        ack,
         flags: Flags(flags % 32),
         window: more.window,
         options: options_of(more.options),
@@ -115,7 +115,7 @@ fn write_sent(sent: &Sent, buf: &mut [u8; 400]) -> usize
     let size = write_segment(&parts, &octets[..count], back);
     mark(
         &mut back[..size],
-        pseudo_sum(head.src, head.dst, Protocol::TCP, size as u16),
+        pseudo_sum(head.src, head.dst, protocol::TCP, size as u16),
         &more,
     );
     write_plain(&head, size as u16, front) + size
@@ -186,7 +186,7 @@ fn hand(
     let octets = &frame[20..size];
     let tcp = read_head(
         octets,
-        pseudo_sum(head.src, head.dst, Protocol::TCP, octets.len() as u16),
+        pseudo_sum(head.src, head.dst, protocol::TCP, octets.len() as u16),
     )?;
     let mut entry = entry_of(number, way);
     norm.expire(now, &mut entry);

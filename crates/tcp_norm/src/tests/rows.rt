@@ -85,7 +85,8 @@ const NEXT: More = More {
     ..PLAIN
 };
 
-const V4: Sent = Sent(Inward, ACK, 999, 5001, "", PLAIN);
+/// The probe of a connection whose first octet has the sequence number 1000.
+const PROBE: Sent = Sent(Inward, ACK, 999, 5001, "", PLAIN);
 
 #[rattlefmt::skip]
 pub(super) const RUNS: &[Run] = &[
@@ -118,19 +119,19 @@ pub(super) const RUNS: &[Run] = &[
     ], ..RUN },
     // A segment of an unknown connection is asked about, and so is a reset.
     Run { rows: &[
-        Row(0, Sent(Inward, PSH_ACK, 1000, 5001, "abcd", PLAIN), "1 in fix 1 C_PROBE\n", &[V4]),
+        Row(0, Sent(Inward, PSH_ACK, 1000, 5001, "abcd", PLAIN), "1 in fix 1 C_PROBE\n", &[PROBE]),
         Row(0, Sent(Outward, ACK, 5001, 1000, "", PLAIN), "2 out pass 1 @1 +1\n", &[]),
         Row(0, Sent(Inward, PSH_ACK, 1000, 5001, "abcd", PLAIN), "3 in pass 1 @1\n", &[]),
-        Row(0, Sent(Inward, RST, 1000, 0, "", PLAIN), "4 in fix 2 C_PROBE @1\n", &[Sent(Inward, RST, 1000, 0, "", PLAIN), V4]),
+        Row(0, Sent(Inward, RST, 1000, 0, "", PLAIN), "4 in fix 2 C_PROBE @1\n", &[Sent(Inward, RST, 1000, 0, "", PLAIN), PROBE]),
         Row(0, Sent(Outward, RST, 5001, 0, "", PLAIN), "5 out pass 1 @1 -1:reset:4\n", &[]),
-        Row(0, Sent(Inward, ACK, 1000, 5001, "", PLAIN), "6 in fix 1 C_PROBE\n", &[V4]),
+        Row(0, Sent(Inward, ACK, 1000, 5001, "", PLAIN), "6 in fix 1 C_PROBE\n", &[PROBE]),
         Row(0, Sent(Inward, RST, 1000, 0, "", PLAIN), "7 in drop 0 T_COLD\n", &[]),
     ], ..RUN },
     // The inside calls.
     Run { rows: &[
         Row(0, Sent(Outward, SYN, 5000, 0, "", PLAIN), "1 out pass 1 @1 +1\n", &[]),
         Row(0, Sent(Inward, SYN_ACK, 999, 7000, "", PLAIN), "2 in drop 1 T_STATE @1\n", &[Sent(Inward, ACK, 998, 7000, "", PLAIN)]),
-        Row(0, Sent(Inward, PSH_ACK, 1000, 5001, "abcd", PLAIN), "3 in drop 1 T_STATE @1\n", &[V4]),
+        Row(0, Sent(Inward, PSH_ACK, 1000, 5001, "abcd", PLAIN), "3 in drop 1 T_STATE @1\n", &[PROBE]),
         Row(0, Sent(Inward, RST_ACK, 0, 5001, "", PLAIN), "4 in fix 2 C_PROBE @1\n", &[Sent(Inward, RST_ACK, 0, 5001, "", PLAIN), Sent(Inward, ACK, 4_294_967_295, 5001, "", PLAIN)]),
         Row(0, Sent(Inward, SYN_ACK, 999, 5001, "", PLAIN), "5 in pass 1 @1\n", &[]),
         Row(0, Sent(Outward, ACK, 5001, 1000, "", PLAIN), "6 out pass 1 @1\n", &[]),
@@ -164,7 +165,7 @@ pub(super) const RUNS: &[Run] = &[
         Row(0, Sent(Outward, SYN_ACK, 5000, 1000, "", PLAIN), "2 out pass 1 @1\n", &[]),
         Row(0, Sent(Inward, ACK, 1000, 5001, "", PLAIN), "3 in pass 1 @1\n", &[]),
         Row(0, Sent(Outward, RST, 5001, 0, "", PLAIN), "4 out pass 1 @1 -1:reset:0\n", &[]),
-        Row(0, Sent(Inward, ACK, 1000, 5001, "", PLAIN), "5 in fix 1 C_PROBE\n", &[V4]),
+        Row(0, Sent(Inward, ACK, 1000, 5001, "", PLAIN), "5 in fix 1 C_PROBE\n", &[PROBE]),
     ], ..RUN },
     // Reserved bits, urgent marks and options that are not kept; octets on a SYN.
     Run { rows: &[

@@ -18,7 +18,7 @@ returns-clause-holds c lives segments begun number h numbered =
     subst (λ (l : List (table.Entry EraKey Flow)). HoldsFor (without (number ∷ []) lives) segments begun l c.forget_all.new.self)
     (sym (ap (λ (t : table.Table EraKey Flow). t.entries) c.remove-pair.ensures.left))
     (end_holds lives segments begun number c.args.self.now.table.entries c.args.self.now.store c.forget_all.new.self c.args.slot h c.requires
-    c.len-count.ensures.slots_apart c.len-count.ensures.keys_apart numbered c.forget_all.ensures.empty c.forget_all.ensures.changed)
+    c.entries_are_apart.ensures.slots_apart c.entries_are_apart.ensures.keys_apart numbered c.forget_all.ensures.empty c.forget_all.ensures.changed)
 
 pub returns-clause-opened : goal.returns-clause-opened
 returns-clause-opened c settings is =
@@ -46,5 +46,5 @@ invariant_of-self-clause-bounded c =
 pub invariant_of-self-clause-spare_listed : goal.invariant_of-self-clause-spare_listed
 invariant_of-self-clause-spare_listed c =
     left_listed c.args.self.now.spare _ c.args.self.now.store c.forget_all.new.self c.args.self.now.table.entries _ c.args.slot c.requires
-    c.len-count.ensures.slots_apart c.len-count.ensures.keys_apart (others_same c.args.self.now.store c.forget_all.new.self c.args.slot.0 c.forget_all.ensures.changed)
+    c.entries_are_apart.ensures.slots_apart c.entries_are_apart.ensures.keys_apart (others_same c.args.self.now.store c.forget_all.new.self c.args.slot.0 c.forget_all.ensures.changed)
     c.args.self.now.spare_listed c.take_out.ensures (ap (λ (t : table.Table EraKey Flow). t.entries) c.remove-pair.ensures.left)

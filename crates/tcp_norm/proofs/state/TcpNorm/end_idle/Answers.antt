@@ -17,7 +17,7 @@ returns-clause-answer c lives segments begun h =
 
 pub returns-clause-told : goal.returns-clause-told
 returns-clause-told c lives segments begun h =
-    let stood = era_at lives segments begun c.args.self.now.table.entries _ _ c.flow_at-flow.result h c.in_ok-slot.ensures.inside c.len-count.ensures.slots_apart c.len-count.ensures.keys_apart c.flow_at-flow.ensures.value in
+    let stood = era_at lives segments begun c.args.self.now.table.entries _ _ c.flow_at-flow.result h c.in_ok-slot.ensures.inside c.entries_are_apart.ensures.slots_apart c.entries_are_apart.ensures.keys_apart c.flow_at-flow.ensures.value in
     ap (λ n. record { era = c.flow_at-flow.result.number; reason = reasons.Idle; octets = Some n }) (c.octets-octets.ensures.list (segments c.flow_at-flow.result.number) stood)
 
 pub returns-clause-some : goal.returns-clause-some

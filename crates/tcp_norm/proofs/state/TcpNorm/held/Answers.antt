@@ -11,7 +11,7 @@ use Rattle.tcp_norm.proofs.state.TcpNorm.held.Goals as goal
 
 pub returns-clause-number : goal.returns-clause-number
 returns-clause-number c settings calls st =
-    let total = held_is calls _ _ _ _ st.holds (st.opened.chains ∙ sym st.opened.flows) c.len-count.ensures.slots_below c.len-count.ensures.slots_apart in
+    let total = held_is calls _ _ _ _ st.holds (st.opened.chains ∙ sym st.opened.flows) c.entries_are_apart.ensures.slots_below c.entries_are_apart.ensures.slots_apart in
     omega (arith, total, c.free.ensures.total, c.free.ensures.value, c.saturating_sub.ensures, st.opened.cells, st.opened.store)
 
 pub returns-clause-quota : goal.returns-clause-quota
@@ -23,5 +23,5 @@ pub returns-clause-room : goal.returns-clause-room
 returns-clause-room c settings calls d most st is ample =
     let each = subst (λ q. AllByRecursion (λ (a : Alive). IsAtMost q (held_in calls a)) (eras calls)) st.opened.quota
     (each_at_most c.args.self.now.quota calls _ _ _ st.holds c.args.self.now.bounded) in
-    let few : length (eras calls) ≤ settings.flows = omega (arith, sym (ap length st.holds.eras_are), length-map c.args.self.now.table.entries alive_in, c.len-count.ensures.bounded, st.opened.flows) in
+    let few : length (eras calls) ≤ settings.flows = omega (arith, sym (ap length st.holds.eras_are), length-map c.args.self.now.table.entries alive_in, c.entries_are_apart.ensures.bounded, st.opened.flows) in
     never_for_room settings calls d most each few is ample

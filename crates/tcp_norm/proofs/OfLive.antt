@@ -1,0 +1,54 @@
+-- What holds of an inbound segment of a live era.
+use Rattle.std.proofs.Common.{◌≡◌, true, List, refl, sym, ap, ◌∙◌}
+use Rattle.norm_settings.specs.Settings.{PlainSettings}
+use Rattle.era_state.specs.declared.segment.Seg.{Seg}
+use Rattle.era_state.specs.Eras as era
+use Rattle.era_state.specs.Read.{came}
+use Rattle.ip_rules.specs.Datagrams.{Datagram, goes_in, IsDatagram}
+use Rattle.tcp_norm.specs.declared.arrival.Arrival.{Arrival}
+use Rattle.tcp_norm.specs.declared.flow.Live.{Live}
+use Rattle.tcp_norm.specs.declared.state.TcpNorm.{TcpNorm}
+use Rattle.tcp_norm.specs.Calls.{Call, segment_in, segments, eras, key_of}
+use Rattle.tcp_norm.specs.Colds.{Comes}
+use Rattle.tcp_norm.specs.Inwards.{bare_read}
+use Rattle.tcp_norm.specs.Rulings.{IsFound, IsHeld}
+use Rattle.tcp_norm.specs.Standing.{StandsFor}
+use Rattle.tcp_norm.proofs.Outwards.{IsLive, view_live, era_at}
+use Rattle.tcp_norm.proofs.Bares.{comes_bare}
+use Rattle.tcp_norm.proofs.Entering.{keyed}
+use Rattle.tcp_norm.proofs.Probing.{side_is}
+use Rattle.tcp_norm.proofs.Marked.{flags_are}
+
+-- what was asked of the calls before, of a connection whose live era the table has
+pub record HeldLive (settings : PlainSettings) (calls : List Call) (d : Datagram) (here : Live) : Type 0 where
+  pub live : IsLive settings calls d here.flow.number
+  pub stood : era.StandsFor here.flow.era (segments here.flow.number calls)
+
+pub held_live : (settings : PlainSettings) (calls : List Call) (d : Datagram) (norm : TcpNorm) (here : Live) → StandsFor settings norm calls → IsHeld norm.table here → key_of d ≡ here.key → HeldLive settings calls d here
+held_live settings calls d norm here st h key_is = record {
+  live = view_live settings calls _ _ _ here.slot here.flow _ d st.holds h.inside h.slots_apart h.keys_apart h.entry h.keyed key_is;
+  stood = era_at (eras calls) (λ m. segments m calls) _ _ _ here.slot here.flow st.holds h.inside h.slots_apart h.keys_apart h.entry;
+}
+
+pub record OfLive (settings : PlainSettings) (calls : List Call) (d : Datagram) (a : Arrival) (here : Live) : Type 0 where
+  pub side : goes_in d.side ≡ true
+  pub key_is : key_of d ≡ here.key
+  pub live : IsLive settings calls d here.flow.number
+  pub stood : era.StandsFor here.flow.era (segments here.flow.number calls)
+  pub flags : a.head.now.flags.0 ≡ (segment_in d).flags
+  pub comes : (s : Seg) → came s ≡ bare_read a.packet.now.payload.now → Comes d here.key s
+
+pub of_live : (settings : PlainSettings) (calls : List Call) (d : Datagram) (a : Arrival) (norm : TcpNorm) (here : Live)
+    → StandsFor settings norm calls → IsDatagram a.packet.now a.link.now d → IsFound norm a here → OfLive settings calls d a here
+of_live settings calls d a norm here st is f =
+    let side = side_is a.packet.now a.link.now d a.side is in
+    let key_is = keyed a.packet.now a.link.now d here.key a.side is f.key_is in
+    let h = held_live settings calls d norm here st f.held key_is in
+    record {
+      side = side;
+      key_is = key_is;
+      live = h.live;
+      stood = h.stood;
+      flags = flags_are a.packet.now a.link.now d a.head.now is a.read;
+      comes = λ s reads. comes_bare d here.key s side key_is (reads ∙ ap bare_read (sym is.octets));
+    }

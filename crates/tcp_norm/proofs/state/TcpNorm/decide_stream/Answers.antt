@@ -1,0 +1,201 @@
+use Rattle.std.proofs.Common.{◌≡◌, ℕ, ◌+◌, ◌-◌, ◌<◌, ◌≤◌, ◌^◌, ◌%◌, ◌&&◌, ◌∙◌, Bool, true, false, cond, Some, None, List, [], ◌∷◌, ◌++◌, length, map, take, drop, is_some, sym, ap, ap₂, subst, arith, refl}
+use Rattle.std.specs.Prelude.{nat_lt}
+use Rattle.std.specs.List.{refill}
+use Rattle.std.proofs.Math.Seq.{take-append_seam}
+use Rattle.std.proofs.lemmas.List.{length-drop}
+use Rattle.wire_base.specs.Tcp as tcp
+use Rattle.wire_base.specs.Options.{cleaned}
+use Rattle.wire_base.specs.Segments.{Written}
+use Rattle.ipv4_codec.specs.declared.header.Ipv4.{Ipv4}
+use Rattle.tcp_codec.specs.declared.header.Tcp.{Tcp}
+use Rattle.retain_store.specs.Maps.{chain_of, missing}
+use Rattle.tcp_norm.specs.Near.{IsAtMost}
+use Rattle.rule_book.specs.declared.rule.Rule.TheVariants as rules
+use Rattle.era_state.specs.States.{state_of}
+use Rattle.era_state.specs.Standing.{WarmFor}
+use Rattle.era_state.specs.Read.{received}
+use Rattle.era_state.specs.Intervals.{KeptOf}
+use Rattle.era_state.specs.Keeping.{frame_sequence_of}
+use Rattle.era_state.specs.Rules as era
+use Rattle.ip_rules.specs.Datagrams.{goes_in}
+use Rattle.tcp_norm.specs.Calls.{read, segment_in, segments, eras}
+use Rattle.tcp_norm.specs.Views.{view_of}
+use Rattle.tcp_norm.specs.Heads.{AreBits, seen}
+use Rattle.tcp_norm.specs.Held.{held_of}
+use Rattle.tcp_norm.specs.Chains.{Keeps}
+use Rattle.tcp_norm.specs.Rows.{t_quota, t_room, is_live, exceeds, wanted_of, clashes, options_sent}
+use Rattle.tcp_norm.specs.Emits.{packet_by, octets_sent}
+use Rattle.tcp_norm.specs.Resets.{WritesAll}
+use Rattle.tcp_norm.specs.Steps.{IsStep}
+use Rattle.tcp_norm.proofs.OfLive.{of_live}
+use Rattle.tcp_norm.proofs.Holding.{held_is}
+use Rattle.tcp_norm.proofs.Forwarding.{keeps_at, count_at}
+use Rattle.tcp_norm.proofs.Judging.{of_stream, stream_dropped}
+use Rattle.tcp_norm.proofs.Fitting.{stream_fits}
+use Rattle.tcp_norm.proofs.Rewritten.{sent_long}
+use Rattle.tcp_norm.proofs.Passes.{passes, rows_are}
+use Rattle.tcp_norm.proofs.Entering.{in_dropped, in_unheard, in_outcome, packets_live}
+use Rattle.tcp_norm.proofs.Marked.{no_probe_behind, stream_is, step_stream, stream_anew, writes_all}
+use Rattle.tcp_norm.proofs.state.TcpNorm.decide_stream.Goals as goal
+
+last_false : (a b t : Bool) → t ≡ false → (a && b && t) ≡ false
+last_false true true t e = e
+last_false true false t e = refl
+last_false false b t e = refl
+
+none_dropped : (a b : Bool) → None ≡ cond a (Some rules.TQuota) (cond b (Some rules.TRoom) None) → (a ≡ false) × (b ≡ false)
+none_dropped false false e = (refl, refl)
+none_dropped false true e = cc
+none_dropped true b e = cc
+
+payload_long : (m : List ℕ) (head : Tcp) → head ≡ seen m head → length (tcp.payload m) ≡ length m - head.header
+payload_long m head fields = ap (λ (h : Tcp). length (drop h.header m)) (sym fields) ∙ length-drop head.header m
+
+refilled : (n : ℕ) (xs ws : List ℕ) → length ws ≡ n → refill n xs ws ≡ ws
+refilled n xs ws long = ap (λ m. take m (ws ++ drop (length ws) xs)) (sym long) ∙ take-append_seam ws (drop (length ws) xs)
+
+pub returns-clause-fits : goal.returns-clause-fits
+returns-clause-fits c =
+    let a = c.args.arrival.now in
+    let here = c.args.live.now in
+    let near = c.requires.found.near in
+    let store = c.args.self.now.store in
+    let seg = c.seg_of-seg.result in
+    let kept = c.interval-kept.result in (
+      c.requires.found.held,
+      record {
+        given = record { sequence = seg.seq; len = seg.len; fin = tcp.has_fin seg.flags.0; keeps = c.interval-kept.ensures.value };
+        long = omega (arith, c.size_of-size.ensures, c.interval-kept.ensures.order);
+        fits = omega (arith, a.short, a.read.inside, c.interval-kept.ensures.short, c.size_of-size.ensures, c.seg_of-seg.ensures.len, payload_long a.packet.now.payload.now a.head.now a.read.fields);
+        acked = omega (arith, near.0, c.requires.last.acked_is);
+        few = omega (arith, near.1, c.requires.last.octets_are);
+        room = subst (λ n. missing (chain_of store here.slot.0) kept.lo n ≤ store.free) (sym c.size_of-size.ensures) c.in_default.ensures.free;
+        quota = subst (λ n. IsAtMost c.args.self.now.quota (length (chain_of store here.slot.0) + missing (chain_of store here.slot.0) kept.lo n)) (sym c.size_of-size.ensures) c.in_default.ensures.within;
+      },
+    )
+
+pub returns-in-Some-clause-decides : goal.returns-in-Some-clause-decides
+returns-in-Some-clause-decides c settings calls d st is =
+    let a = c.args.arrival.now in
+    let here = c.args.live.now in
+    let h = c.requires.found.held in
+    let n = here.flow.number in
+    let l = of_live settings calls d a c.args.self.now here st is c.requires.found in
+    let v = view_of settings calls d in
+    let w = segment_in d in
+    let side = l.side in
+    let live = l.live in
+    let stood = l.stood in
+    let flags = l.flags in
+    let syn : tcp.has_syn w.flags ≡ false = sym (ap tcp.has_syn flags) ∙ c.requires.no_syn in
+    let rst : tcp.has_rst w.flags ≡ false = sym (ap tcp.has_rst flags) ∙ c.requires.no_rst in
+    let stream = stream_is v.segments w _ ((c.states_are_the_lists.ensures here.flow.era (segments n calls) stood).state_is ∙ ap state_of (sym live.segments_are)) c.requires.last.acknowledged side syn rst in
+    let f = of_stream v.segments w stream in
+    let warm = subst (WarmFor c.args.warm.now) (sym live.segments_are) (c.requires.last.settled (segments n calls) stood) in
+    let total = held_is calls _ _ _ _ st.holds (st.opened.chains ∙ sym st.opened.flows) h.below h.slots_apart in
+    let roomy : v.room ≡ c.args.self.now.store.free = omega (arith, total, c.free-free.ensures.total, st.opened.store) in
+    let keeps : Keeps (chain_of c.args.self.now.store here.slot.0) v.segments =
+    subst (Keeps (chain_of c.args.self.now.store here.slot.0)) (sym live.segments_are)
+    (keeps_at (eras calls) (λ m. segments m calls) _ _ _ here.slot here.flow st.holds h.inside h.slots_apart h.keys_apart h.entry) in
+    let count : length (chain_of c.args.self.now.store here.slot.0) ≡ held_of v.segments =
+    count_at (eras calls) (λ m. segments m calls) _ _ _ here.slot here.flow st.holds h.inside h.slots_apart h.keys_apart h.entry ∙ ap held_of (sym live.segments_are) in
+    let bound = st.opened.quota in
+    let is_live' = ap is_some live.era_is in
+    let octets = is.octets in
+    let w_is : received c.seg_of-seg.result c.payload_of-payload.result.now ≡ w =
+    ap (received c.seg_of-seg.result) c.payload_of-payload.ensures ∙ (c.seg_of-seg.ensures.inward ∙ ap₂ read (sym side) (sym octets)) in
+    let long : length c.payload_of-payload.result.now ≡ c.seg_of-seg.result.len = ap length c.payload_of-payload.ensures ∙ sym c.seg_of-seg.ensures.len in
+    let keptof : KeptOf v.segments w c.interval-kept.result = subst (λ (w : Written). KeptOf v.segments w c.interval-kept.result) w_is (c.interval-kept.ensures.list v.segments c.payload_of-payload.result.now long warm) in
+    let drops = stream_dropped settings v d is_live' f
+    ∙ (ap₂ (λ a b. cond (a && b && exceeds settings.quota (held_of v.segments + wanted_of v.segments w)) (Some rules.TQuota)
+    (cond (a && b && nat_lt v.room (wanted_of v.segments w)) (Some rules.TRoom) None)) is_live' stream
+    ∙ (ap₂ (λ q f. cond (exceeds q (held_of v.segments + wanted_of v.segments w)) (Some rules.TQuota) (cond (nat_lt f (wanted_of v.segments w)) (Some rules.TRoom) None)) (sym bound) roomy
+    ∙ sym (c.in-Some.ensures.value v.segments w keeps count keptof))) in
+    record {
+      rules = record { outcome_is = in_dropped settings v d c.in-Some.rule (Some n) [] drops live.era_is (no_probe_behind settings v d c.in-Some.rule drops is_live' f); carried = tt {0} };
+      needs = in_unheard settings v d c.in-Some.rule drops;
+    }
+
+pub returns-clause-decides : goal.returns-clause-decides
+returns-clause-decides c settings calls d st is =
+    let a = c.args.arrival.now in
+    let here = c.args.live.now in
+    let h = c.requires.found.held in
+    let n = here.flow.number in
+    let l = of_live settings calls d a c.args.self.now here st is c.requires.found in
+    let v = view_of settings calls d in
+    let w = segment_in d in
+    let side = l.side in
+    let live = l.live in
+    let stood = l.stood in
+    let flags = l.flags in
+    let syn : tcp.has_syn w.flags ≡ false = sym (ap tcp.has_syn flags) ∙ c.requires.no_syn in
+    let rst : tcp.has_rst w.flags ≡ false = sym (ap tcp.has_rst flags) ∙ c.requires.no_rst in
+    let stream = stream_is v.segments w _ ((c.states_are_the_lists.ensures here.flow.era (segments n calls) stood).state_is ∙ ap state_of (sym live.segments_are)) c.requires.last.acknowledged side syn rst in
+    let f = of_stream v.segments w stream in
+    let warm = subst (WarmFor c.args.warm.now) (sym live.segments_are) (c.requires.last.settled (segments n calls) stood) in
+    let total = held_is calls _ _ _ _ st.holds (st.opened.chains ∙ sym st.opened.flows) h.below h.slots_apart in
+    let roomy : v.room ≡ c.args.self.now.store.free = omega (arith, total, c.free-free.ensures.total, st.opened.store) in
+    let keeps : Keeps (chain_of c.args.self.now.store here.slot.0) v.segments =
+    subst (Keeps (chain_of c.args.self.now.store here.slot.0)) (sym live.segments_are)
+    (keeps_at (eras calls) (λ m. segments m calls) _ _ _ here.slot here.flow st.holds h.inside h.slots_apart h.keys_apart h.entry) in
+    let count : length (chain_of c.args.self.now.store here.slot.0) ≡ held_of v.segments =
+    count_at (eras calls) (λ m. segments m calls) _ _ _ here.slot here.flow st.holds h.inside h.slots_apart h.keys_apart h.entry ∙ ap held_of (sym live.segments_are) in
+    let bound = st.opened.quota in
+    let is_live' = ap is_some live.era_is in
+    let octets = is.octets in
+    let kept = c.interval-kept.result in
+    let w_is : received c.seg_of-seg.result c.payload_of-payload.result.now ≡ w =
+    ap (received c.seg_of-seg.result) c.payload_of-payload.ensures ∙ (c.seg_of-seg.ensures.inward ∙ ap₂ read (sym side) (sym octets)) in
+    let long : length c.payload_of-payload.result.now ≡ c.seg_of-seg.result.len = ap length c.payload_of-payload.ensures ∙ sym c.seg_of-seg.ensures.len in
+    let kept_here = c.interval-kept.ensures.list v.segments c.payload_of-payload.result.now long warm in
+    let keptof : KeptOf v.segments w kept = subst (λ (w : Written). KeptOf v.segments w kept) w_is kept_here in
+    let open' = none_dropped _ _ (c.in_default.ensures.value v.segments w keeps count keptof) in
+    let enough : nat_lt v.room (wanted_of v.segments w) ≡ false = ap (λ f. nat_lt f (wanted_of v.segments w)) roomy ∙ open'.1 in
+    let within : exceeds settings.quota (held_of v.segments + wanted_of v.segments w) ≡ false = ap (λ q. exceeds q (held_of v.segments + wanted_of v.segments w)) (sym bound) ∙ open'.0 in
+    let quota : t_quota settings v w ≡ false = last_false (is_live v) (era.is_of_stream v.segments w) _ within in
+    let room : t_room v w ≡ false = last_false (is_live v) (era.is_of_stream v.segments w) _ enough in
+    let clash = c.settle-clash.ensures.clash v.segments keeps warm kept_here ∙ ap (clashes v.segments) w_is in
+    let held = c.settle-clash.ensures.octets v.segments keeps warm kept_here ∙ ap (octets_sent v.segments) w_is in
+    let front = refilled c.args.self.now.scratch.len c.args.self.now.scratch.items c.settle-clash.new.scratch (c.settle-clash.auto.scratch ∙ c.deref_mut.ensures.len) in
+    let sent = take c.size_of-size.result (refill c.args.self.now.scratch.len c.args.self.now.scratch.items c.settle-clash.new.scratch) in
+    let sent_are : sent ≡ octets_sent v.segments w = ap (take c.size_of-size.result) front ∙ (ap (λ m. take m c.settle-clash.new.scratch) c.size_of-size.ensures ∙ held) in
+    let passed = stream_dropped settings v d is_live' f ∙ ap₂ (λ a b. cond a (Some rules.TQuota) (cond b (Some rules.TRoom) None)) quota room in
+    let rows = c.rows_of-rows.result.items in
+    let mends = rows_are settings v d a.packet.now.payload.now a.head.now _ _ c.options_change-changed.result _ a.read.fields octets side is_live' f keptof clash c.options_change-changed.ensures.changed c.rows_of-rows.ensures.rows in
+    let seq = c.frame_sequence-seq.ensures v.segments c.payload_of-payload.result.now long warm ∙ ap (frame_sequence_of v.segments) w_is in
+    let options : cleaned (tcp.has_syn a.head.now.flags.0) (tcp.options a.packet.now.payload.now) ≡ options_sent d = (ap (λ (h : Tcp). cleaned (tcp.has_syn h.flags.0) (tcp.options a.packet.now.payload.now)) a.read.fields
+    ∙ ap (λ m. cleaned (tcp.has_syn (tcp.flags m)) (tcp.options m)) (sym octets)) in
+    let step = subst (IsStep v w) (sym c.within-step.ensures) (step_stream v w n live.era_is f) in
+    let packets = packet_by settings v.segments d d.fixes rows ∷ [] in
+    let is_it = in_outcome settings v d c.within-step.result d.fixes rows packets side refl passed (sym mends) step (packets_live settings v d rows n live.era_is rst) in
+    let more = map (λ p. read (goes_in d.side) p.octets) packets in
+    let writes = subst (WritesAll d n more) (sym is_it) (writes_all d n c.within-step.result d.fixes rows packets c.within-step.ensures) in
+    let bits = subst (λ m. AreBits d.head m) (sym octets) (subst (λ (x : Ipv4). AreBits x a.packet.now.payload.now) (sym is.head) c.are_bits.ensures) in
+    let wide = ap length options in
+    let size = ap length (sym sent_are) in
+    let number : w.seq < 2 ^ 32 =
+    subst (λ m. tcp.sequence m < 2 ^ 32) (sym octets) (omega (arith, c.are_bits.ensures.each 4, c.are_bits.ensures.each 5, c.are_bits.ensures.each 6, c.are_bits.ensures.each 7)) in
+    let sized = sent_long v.segments w in
+    let count_sent : length (octets_sent v.segments w) ≡ c.size_of-size.result = sized ∙ omega (arith, keptof.spans.lo_is, keptof.spans.hi_is, c.size_of-size.ensures) in
+    let fits = stream_fits v.segments d bits (ap (λ k. k % 4) (sym wide) ∙ c.options_change-changed.ensures.words)
+    (omega (arith, wide, c.options_change-changed.ensures.size, a.read.most)) (omega (arith, wide, count_sent, c.options_change-changed.ensures.size, a.short, a.read.inside, c.interval-kept.ensures.short, c.size_of-size.ensures, c.seg_of-seg.ensures.len, payload_long a.packet.now.payload.now a.head.now a.read.fields)) in
+    record {
+      rules = record {
+        outcome_is = is_it;
+        carried = stream_anew v.segments d a.packet.now a.link.now a.head.now c.frame_sequence-seq.result kept.fin sent is a.read syn rst seq keptof.spans.fin_is sent_are;
+      };
+      needs = passes c.streams_are_written.ensures settings v d c.args.warm.now kept n 0 (segments n calls) sent live.era_is live.segments_are warm stream keptof quota room number fits sent_are
+          _
+          (λ frame warm_for kept_of framed same wrote. record {
+            key_is = sym l.key_is;
+            stood = warm_for;
+            kept_is = kept_of;
+            frame = frame;
+            framed = framed;
+            octets_are = same;
+            own = wrote.own;
+            more = more;
+            writes = writes;
+          });
+    }

@@ -1,0 +1,191 @@
+-- Rulings on inbound segments: the outcome that each stands for, what is rewritten, and what changes in the tables (this project's profile).
+use Rattle.std.specs.Prelude.{◌≡◌, ◌≢◌, ℕ, true, false, ◌+◌, ◌*◌, ◌^◌, ◌<◌, ◌≤◌, length, List, [], ◌∷◌, ◌++◌, take, Option, Some, None}
+use Rattle.std.specs.List.{All, AllByRecursion, AllPairs}
+use Rattle.wire_base.specs.Segments.{Written}
+use Rattle.ipv4_codec.specs.declared.header.Ipv4.{Ipv4}
+use Rattle.linked_table.specs.Table as table
+use Rattle.rule_book.specs.declared.entry.Verdict.TheVariants as verdicts
+use Rattle.norm_settings.specs.Settings.{PlainSettings}
+use Rattle.era_state.specs.declared.probe.Probe.{Probe}
+use Rattle.era_state.specs.Silence.{IsSilent}
+use Rattle.era_state.specs.Standing.{WarmFor}
+use Rattle.era_state.specs.Intervals.{KeptOf}
+use Rattle.era_state.specs.Frames.{IsGiven, IsFrame}
+use Rattle.retain_store.specs.Maps.{Store, chain_of, missing}
+use Rattle.reset_probe.specs.Write.{probe_octets}
+use Rattle.ip_rules.specs.Datagrams.{Datagram, Packet, IsDatagram}
+use Rattle.tcp_norm.specs.declared.arrival.Arrival.{Arrival}
+use Rattle.tcp_norm.specs.declared.state.TcpNorm.{TcpNorm}
+use Rattle.tcp_norm.specs.declared.ruling.Passage.{Passage}
+use Rattle.tcp_norm.specs.declared.ruling.Ruling.{Ruling}
+use Rattle.tcp_norm.specs.declared.ruling.Ruling.TheVariants.{Drop, Pass, Ask}
+use Rattle.tcp_norm.specs.declared.ruling.Taking.{Taking}
+use Rattle.tcp_norm.specs.declared.ruling.Change.{Change}
+use Rattle.tcp_norm.specs.declared.flow.Live.{Live}
+use Rattle.tcp_norm.specs.declared.flow.Flow.{Flow}
+use Rattle.tcp_norm.specs.declared.key.EraKey.{EraKey}
+use Rattle.era_state.specs.declared.era.Era.{Era}
+use Rattle.era_state.specs.declared.warm.Warm.{Warm}
+use Rattle.era_state.specs.declared.segment.Seg.{Seg}
+use Rattle.era_state.specs.declared.offered.Offered.{Offered}
+use Rattle.era_state.specs.Read.{came}
+use Rattle.era_state.specs.States.{is_acknowledged}
+use Rattle.era_state.specs.Eras as eraspec
+use Rattle.era_state.specs.Standing as erastanding
+use Rattle.wire_base.specs.Tcp as tcp
+use Rattle.wire_base.specs.Options.{cleaned}
+use Rattle.wire_base.specs.declared.address.Side.TheVariants.{Inward}
+use Rattle.rule_book.specs.declared.entry.Reason.TheVariants as reasons
+use Rattle.tcp_norm.specs.Steps.{Does}
+use Rattle.tcp_norm.specs.declared.ruling.Change.TheVariants.{Nothing, Touch, Take, Hear, Reopen}
+use Rattle.tcp_norm.specs.Calls.{Call, datagram, Outcome, key_at, key_of, segment_in, segments, written_by}
+use Rattle.tcp_norm.specs.Views.{View, view_of}
+use Rattle.tcp_norm.specs.Near.{IsNear, IsAtMost}
+use Rattle.tcp_norm.specs.Emits.{packet_by, probe_packet, probe_packets, segment_anew}
+use Rattle.tcp_norm.specs.Anews.{anew_segment}
+use Rattle.tcp_norm.specs.Inwards.{passed}
+use Rattle.tcp_norm.specs.Outcomes.{call_of, outcome_at}
+use Rattle.tcp_norm.specs.Standing.{StandsFor}
+use Rattle.tcp_norm.specs.Colds.{IsUnheard}
+use Rattle.tcp_norm.specs.Resets.{WritesAll}
+
+-- the packets of a segment that passes
+abbrev pub packets_of : PlainSettings → List Written → Datagram → Passage → List Packet
+packets_of settings ws d p = packet_by settings ws d d.fixes p.rows.items ∷ probe_packets settings d p.probe
+
+-- the outcome of a ruling
+abbrev pub outcome_of : PlainSettings → List Written → Datagram → Ruling → Outcome
+outcome_of settings ws d (Drop r) =
+    record { verdict = verdicts.Drop; rules = r.rule ∷ []; era = r.era; begun = None; ended = []; packets = probe_packets settings d r.probe }
+outcome_of settings ws d (Pass p) = passed p.step d.fixes p.rows.items (packets_of settings ws d p)
+outcome_of settings ws d (Ask q) = passed (record { era = None; begun = None; ended = None; full = false }) d.fixes q.rows.items (probe_packet settings d q.probe ∷ [])
+
+-- the segment as it is rewritten: from the fields that were read, the ruling and the front of the scratch
+abbrev pub IsRewritten : List Written → Datagram → Arrival → (scratch : List ℕ) → Passage → Type 0
+IsRewritten ws d a scratch p =
+    segment_anew ws d
+    ≡ anew_segment a.packet.now.head a.head.now p.seq p.fin (cleaned (tcp.has_syn a.head.now.flags.0) (tcp.options a.packet.now.payload.now)) (take p.size scratch)
+
+abbrev pub IsCarried : List Written → Datagram → Arrival → (scratch : List ℕ) → Ruling → Type 0
+IsCarried ws d a scratch (Drop r) = Unit {0}
+IsCarried ws d a scratch (Ask q) = Unit {0}
+IsCarried ws d a scratch (Pass p) = IsRewritten ws d a scratch p
+
+-- a segment that is rewritten is no longer than the longest
+abbrev pub IsShort : Arrival → Ruling → Type 0
+IsShort a (Drop r) = Unit {0}
+IsShort a (Ask q) = Unit {0}
+IsShort a (Pass p) = a.head.now.header + p.size ≤ 65515
+
+-- the ruling is that of the rule table
+pub record IsRuling (settings : PlainSettings) (v : View) (d : Datagram) (a : Arrival) (scratch : List ℕ) (r : Ruling) : Type 0 where
+  pub outcome_is : outcome_at settings v d ≡ outcome_of settings v.segments d r
+  pub carried : IsCarried v.segments d a scratch r
+
+-- the ruling on a datagram, and the eras after it
+pub record IsJudged (settings : PlainSettings) (calls : List Call) (d : Datagram) (a : Arrival) (norm : TcpNorm) (r : Ruling) : Type 0 where
+  pub stands : StandsFor settings norm (call_of settings calls a.time d ∷ calls)
+  pub rules : IsRuling settings (view_of settings calls d) d a norm.scratch.items r
+
+-- after any calls
+abbrev pub Judges : Arrival → (old new : TcpNorm) → Ruling → Type 0
+Judges a old new r =
+    (settings : PlainSettings) (calls : List Call) (d : Datagram) → StandsFor settings old calls → IsDatagram a.packet.now a.link.now d
+    → IsJudged settings calls d a new r
+
+-- the table has the era in its slot
+pub record IsHeld (t : table.Table EraKey Flow) (live : Live) : Type 0 where
+  pub inside : table.IsIn t.entries live.slot
+  pub entry : table.Wherever t.entries live.slot (λ e. e.value ≡ live.flow)
+  pub keyed : table.Wherever t.entries live.slot (λ e. e.key.0 ≡ live.key)
+  pub bounded : length t.entries ≤ t.max
+  pub below : All (λ e. e.slot.0 < t.max) t.entries
+  pub slots_apart : AllPairs (λ e f. e.slot ≢ f.slot) t.entries
+  pub keys_apart : AllPairs (λ e f. e.key ≢ f.key) t.entries
+
+-- and it is that of the segment's connection
+pub record IsFound (norm : TcpNorm) (a : Arrival) (live : Live) : Type 0 where
+  pub held : IsHeld norm.table live
+  pub near : IsNear norm.calls live.flow.era
+  pub key_is : live.key ≡ key_at Inward a.packet.now.head a.packet.now.payload.now
+
+-- the era is in the state Warm or Closed, with these quantities
+pub record IsLast (era : Era) (warm : Warm) : Type 0 where
+  pub settled : (ws : List Written) → eraspec.StandsFor era ws → WarmFor warm ws
+  pub acknowledged : is_acknowledged (eraspec.state_in era) ≡ true
+  pub acked_is : warm.acked ≡ eraspec.acked_in era
+  pub octets_are : warm.octets ≡ eraspec.octets_in era
+
+-- the octets can be taken, after so many calls, with this quota
+pub record CanTake (calls : ℕ) (store : Store) (most : Option ℕ) (live : Live) (t : Taking) : Type 0 where
+  pub given : IsGiven t.warm.now t.kept
+  pub long : t.kept.lo + t.size ≡ t.kept.hi
+  pub fits : t.size ≤ 65515
+  pub acked : t.warm.now.acked ≤ calls * 2 ^ 31
+  pub few : t.warm.now.octets + 2 ^ 16 ≤ calls * 2 ^ 16
+  pub room : missing (chain_of store live.slot.0) t.kept.lo t.size ≤ store.free
+  pub quota : IsAtMost most (length (chain_of store live.slot.0) + missing (chain_of store live.slot.0) t.kept.lo t.size)
+
+-- the change can be made
+abbrev pub IsOpenTo : TcpNorm → Live → Change → Type 0
+IsOpenTo norm live Nothing = Unit {0}
+IsOpenTo norm live Touch = IsHeld norm.table live × IsNear norm.calls live.flow.era
+IsOpenTo norm live (Take t) = IsHeld norm.table live × CanTake (norm.calls + 1) norm.store norm.quota live t
+IsOpenTo norm live (Hear s) = IsHeld norm.table live × IsNear norm.calls live.flow.era × (tcp.are_legal s.flags.0 ≡ true) × (tcp.has_syn s.flags.0 ≡ true)
+IsOpenTo norm live (Reopen o) = IsHeld norm.table live
+
+-- the outcome writes these octets in the era, after the segments before
+pub record Brings (calls : List Call) (scratch : List ℕ) (d : Datagram) (live : Live) (t : Taking) (o : Outcome) : Type 0 where
+  pub key_is : live.key ≡ key_of d
+  pub stood : WarmFor t.warm.now (segments live.flow.number calls)
+  pub kept_is : KeptOf (segments live.flow.number calls) (segment_in d) t.kept
+  pub frame : Written
+  pub framed : IsFrame (segments live.flow.number calls) (segment_in d) t.kept frame
+  pub octets_are : frame.octets ≡ take t.size scratch
+  pub own : written_by live.flow.number (datagram 0 d o) ≡ frame ∷ []
+  pub more : List Written
+  pub writes : WritesAll d live.flow.number more o
+
+-- the outcome writes in the era what brings it no octet
+pub record Extends (calls : List Call) (d : Datagram) (live : Live) (s : Seg) (o : Outcome) : Type 0 where
+  pub key_is : live.key ≡ key_of d
+  pub stood : eraspec.StandsFor live.flow.era (segments live.flow.number calls)
+  pub does : Does d (came s) (record { era = Some live.flow.number; begun = None; ended = None; full = false }) o
+
+-- the outcome ends the era, and begins the next one of its connection
+pub record Reopens (norm : TcpNorm) (d : Datagram) (live : Live) (era : Offered) (o : Outcome) : Type 0 where
+  pub key_is : live.key ≡ key_of d
+  pub first : Seg
+  pub stands : erastanding.OfferedFor era (came first ∷ [])
+  pub octets : ℕ
+  pub does : Does d (came first) (record { era = Some (norm.begun + 1); begun = Some (norm.begun + 1); ended = Some (record { era = live.flow.number; reason = reasons.Reopened; octets = Some octets }); full = false }) o
+
+-- the outcome needs this change
+abbrev pub Needs : List Call → TcpNorm → Datagram → Live → Change → Outcome → Type 0
+Needs calls norm d live Nothing o = IsUnheard o
+Needs calls norm d live Touch o = (live.key ≡ key_of d) × ((ws : List Written) × AllByRecursion IsSilent ws × WritesAll d live.flow.number ws o)
+Needs calls norm d live (Take t) o = Brings calls norm.scratch.items d live t o
+Needs calls norm d live (Hear s) o = Extends calls d live s o
+Needs calls norm d live (Reopen era) o = Reopens norm d live era o
+
+-- the ruling on a datagram, and the change that its outcome needs
+pub record IsDecision (settings : PlainSettings) (calls : List Call) (d : Datagram) (a : Arrival) (norm : TcpNorm) (live : Live) (r : Ruling) (change : Change) : Type 0 where
+  pub rules : IsRuling settings (view_of settings calls d) d a norm.scratch.items r
+  pub needs : Needs calls norm d live change (outcome_at settings (view_of settings calls d) d)
+
+-- after any calls
+abbrev pub Decides : Arrival → (old new : TcpNorm) → Live → Ruling → Change → Type 0
+Decides a old new live r change =
+    (settings : PlainSettings) (calls : List Call) (d : Datagram) → StandsFor settings old calls → IsDatagram a.packet.now a.link.now d
+    → IsDecision settings calls d a new live r change
+
+-- only the scratch has changed
+pub record IsSame (old new : TcpNorm) : Type 0 where
+  pub stays : (settings : PlainSettings) (calls : List Call) → StandsFor settings old calls → StandsFor settings new calls
+  pub calls_are : new.calls ≡ old.calls
+  pub latest_is : new.latest ≡ old.latest
+
+-- the frames of a probe, if there is one
+abbrev pub probe_frames : (link : List ℕ) → Ipv4 → (source destination : ℕ) → Option Probe → List (List ℕ)
+probe_frames link ip source destination None = []
+probe_frames link ip source destination (Some probe) = (link ++ probe_octets ip source destination probe) ∷ []

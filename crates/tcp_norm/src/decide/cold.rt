@@ -1,0 +1,72 @@
+//! A segment of a connection that has no live era.
+use crate::arrival::Arrival;
+use crate::reading::{are_bits, bare_seg, options_change};
+use crate::rows::rows_beside;
+use crate::ruling::{Passage, Question, Refusal, Ruling};
+use crate::state::TcpNorm;
+use crate::step::Step;
+use cold_start::{ColdAnswer, cold};
+use era_state::Era;
+use rule_book::Rule;
+use tcp_codec::laws::segments_are_read_back;
+use wire_base::FlowKey;
+
+impl TcpNorm {
+    ghost use Rattle.std.specs.Prelude.{◌≡◌, ◌-◌, ◌<◌, ◌≤◌, ◌^◌};
+    ghost use Rattle.wire_base.specs.declared.address.Side.TheVariants.{Inward};
+    ghost use Rattle.linked_table.specs.Table.{HasNone};
+    ghost use Rattle.tcp_norm.specs.Calls.{key_at};
+    ghost use Rattle.tcp_norm.specs.Rulings.{IsShort, Judges};
+
+    // Begins an era, asks a host about the segment, or drops it by a rule.
+    pub(super) fn judge_cold(&mut self, key: FlowKey, arrival: &Arrival<'_>, ruling: &mut Ruling)
+        requires absent { HasNone self.old.table.entries (record { 0 = key }) }
+        requires key { key ≡ key_at Inward arrival.now.packet.now.head arrival.now.packet.now.payload.now }
+        requires few { self.old.calls < 2 ^ 32 - 1 }
+        requires later { self.old.latest ≤ arrival.now.time }
+        ensures judges { Judges arrival.now self.old self.new ruling.new }
+        ensures short { IsShort arrival.now ruling.new }
+    {
+        segments_are_read_back();
+        are_bits(&arrival.packet.head, arrival.packet.payload);
+        let octets = arrival.packet.payload;
+        let seg = bare_seg(octets, arrival.head);
+        let changed = options_change(octets, arrival.head);
+        match cold(&seg) {
+            ColdAnswer::Refuse => {
+                self.arrive(arrival.time);
+                *ruling = Ruling::Drop(Refusal {
+                    rule: Rule::TCold,
+                    era: None,
+                    probe: None,
+                });
+            }
+            ColdAnswer::Probe(probe) => {
+                self.arrive(arrival.time);
+                let rows = rows_beside(octets, arrival.head, changed, true);
+                *ruling = Ruling::Ask(Question { rows, probe });
+            }
+            ColdAnswer::Begin(era) => match self.admit(key, Era::Offered(era), arrival.time) {
+                None => {
+                    *ruling = Ruling::Drop(Refusal {
+                        rule: Rule::TFull,
+                        era: None,
+                        probe: None,
+                    });
+                }
+                Some(place) => {
+                    let rows = rows_beside(octets, arrival.head, changed, false);
+                    let step = Step::begun(place);
+                    *ruling = Ruling::Pass(Passage {
+                        step,
+                        rows,
+                        seq: arrival.head.seq,
+                        fin: true,
+                        size: 0,
+                        probe: None,
+                    });
+                }
+            },
+        }
+    }
+}

@@ -1,0 +1,219 @@
+//! The packets that are sent for a segment.
+ghost use Rattle.std.specs.Prelude.{◌≡◌, ◌<◌, ◌≤◌, ◌++◌, length, ◌+◌, [], ◌∷◌, ◌-◌, ◌%◌, drop, true, false, if◌then◌else◌};
+ghost use Rattle.tcp_norm.specs.Rulings.{probe_frames};
+ghost use Rattle.ipv4_codec.specs.Write.{plain_header};
+ghost use Rattle.tcp_codec.specs.Mending.{mended};
+ghost use Rattle.tcp_codec.specs.Write.{segment_octets, segment_of};
+ghost use Rattle.reset_probe.specs.Write.{probe_octets};
+ghost use Rattle.tcp_norm.specs.Anews.{anew_segment};
+ghost use Rattle.tcp_norm.specs.Emits.{without_flag};
+ghost use Rattle.wire_base.specs.Sums as sums;
+ghost use Rattle.wire_base.specs.Tcp as tcp;
+
+use crate::arrival::Arrival;
+use crate::reading::options_of;
+use crate::ruling::{Passage, Ruling};
+use crate::state::TcpNorm;
+use arrayvec::ArrayVec;
+use edge_io::Outbox;
+use era_state::Probe;
+use ip_rules::write::{put_anew, put_read, raised};
+use ipv4_codec::Ipv4;
+use reset_probe::write_probe;
+use tcp_codec::laws::mended_say_the_same;
+use tcp_codec::{SegmentParts, Tcp, mend, write_segment};
+use wire_base::{Flags, protocol, pseudo_sum};
+
+impl TcpNorm {
+    ghost use Rattle.std.specs.Prelude.{List, [], ◌∷◌, ◌+◌, take};
+    ghost use Rattle.wire_base.specs.Segments.{Written};
+    ghost use Rattle.wire_base.specs.Options.{cleaned};
+    ghost use Rattle.norm_settings.specs.Settings.{PlainSettings};
+    ghost use Rattle.ip_rules.specs.Datagrams.{Datagram, frames_of, raised, IsDatagram};
+    ghost use Rattle.tcp_norm.specs.Calls.{Call};
+    ghost use Rattle.tcp_norm.specs.Standing.{IsFor, StandsFor};
+    ghost use Rattle.tcp_norm.specs.Rulings.{outcome_of, packets_of, IsCarried, IsShort, IsRewritten};
+    ghost use Rattle.tcp_norm.specs.Emits.{packet_by};
+    ghost use Rattle.wire_base.specs.Tcp as tcp;
+
+    /// Puts the packets of a ruling into the empty outbox.
+    pub(crate) fn emit(&mut self, ruling: &Ruling, arrival: &Arrival<'_>, out: &mut Outbox)
+        requires empty { out.old ≡ [] }
+        requires short { IsShort arrival.now ruling.now }
+        ensures stays { (settings : PlainSettings) (calls : List Call) → StandsFor settings self.old calls → StandsFor settings self.new calls }
+        ensures frames { (settings : PlainSettings) (ws : List Written) (d : Datagram) → IsFor settings self.old → IsDatagram arrival.now.packet.now arrival.now.link.now d →
+            IsCarried ws d arrival.now self.old.scratch.items ruling.now → out.new ≡ frames_of arrival.now.link.now (outcome_of settings ws d ruling.now).packets }
+    {
+        let ip = raised(&arrival.packet.head, self.hops);
+        match ruling {
+            Ruling::Drop(refusal) => {
+                put_if_any(arrival.link, &ip, arrival.head, refusal.probe, out)
+            }
+            Ruling::Pass(passage) => {
+                self.emit_own(passage, arrival, &ip, out);
+                put_if_any(arrival.link, &ip, arrival.head, passage.probe, out);
+            }
+            Ruling::Ask(question) => {
+                put_probe(arrival.link, &ip, arrival.head, &question.probe, out)
+            }
+        }
+    }
+
+    // Puts the packet of a segment that passes, as read or rewritten.
+    fn emit_own(&mut self, passage: &Passage, arrival: &Arrival<'_>, ip: &Ipv4, out: &mut Outbox)
+        requires short { arrival.now.head.now.header + passage.now.size ≤ 65515 }
+        requires ip { ip.now ≡ raised self.old.hops arrival.now.packet.now.head }
+        requires empty { out.old ≡ [] }
+        ensures stays { (settings : PlainSettings) (calls : List Call) → StandsFor settings self.old calls → StandsFor settings self.new calls }
+        ensures one { length out.new ≡ 1 }
+        ensures frames { (settings : PlainSettings) (d : Datagram) (ws : List Written) → IsFor settings self.old → IsDatagram arrival.now.packet.now arrival.now.link.now d →
+            IsRewritten ws d arrival.now self.old.scratch.items passage.now →
+            out.new ≡ frames_of arrival.now.link.now (packet_by settings ws d d.fixes passage.now.rows.items ∷ []) }
+    {
+        let link = arrival.link;
+        let octets = arrival.packet.payload;
+        if !passage.rows.is_empty() {
+            let (options, _changed) = options_of(octets, arrival.head);
+            let anew = Anew {
+                seq: passage.seq,
+                fin: passage.fin,
+                options,
+            };
+            put_rewritten(
+                link,
+                ip,
+                arrival.head,
+                anew,
+                &self.scratch[..passage.size],
+                &mut self.page,
+                out,
+            );
+        } else if arrival.packet.fixes.is_empty() {
+            put_read(arrival.packet.frame, out);
+        } else {
+            put_anew(link, ip, octets, out);
+        }
+    }
+}
+
+// Puts the packet of a probe, if there is one, behind one that may stand there.
+fn put_if_any(link: &[u8], ip: &Ipv4, head: &Tcp, probe: Option<Probe>, out: &mut Outbox)
+    requires room { length out.old < 2 }
+    requires link { length link.now ≤ 14 }
+    ensures { out.new ≡ out.old ++ probe_frames link.now ip.now head.now.sport head.now.dport probe }
+{
+    if let Some(probe) = probe {
+        put_probe(link, ip, head, &probe, out);
+    }
+}
+
+/// Puts a packet with its header anew and with its segment's checksum mended into the empty outbox.
+pub(crate) fn put_mended(
+    link: &[u8],
+    head: &Ipv4,
+    segment: &[u8],
+    scratch: &mut [u8],
+    out: &mut Outbox,
+)
+    requires empty { out.old ≡ [] }
+    requires link { length link.now ≤ 14 }
+    requires short { length segment.now ≤ 65515 }
+    requires long { 20 ≤ length segment.now }
+    requires words { 20 ≤ tcp.header_length segment.now }
+    requires room { 65515 ≤ length scratch.old }
+    ensures { let m = mended (sums.pseudo_sum head.now.src.0 head.now.dst.0 6 (length segment.now)) segment.now in
+        out.new ≡ (link.now ++ plain_header head.now (length m) ++ m) ∷ [] }
+{
+    mended_say_the_same();
+    let copy = &mut scratch[..segment.len()];
+    copy.copy_from_slice(segment);
+    mend(
+        copy,
+        pseudo_sum(head.src, head.dst, protocol::TCP, segment.len() as u16),
+    );
+    put_anew(link, head, copy, out);
+}
+
+/// Puts a packet with its header anew and its segment written anew into the empty outbox.
+pub(crate) fn put_rewritten(
+    link: &[u8],
+    ip: &Ipv4,
+    head: &Tcp,
+    anew: Anew,
+    octets: &[u8],
+    page: &mut [u8],
+    out: &mut Outbox,
+)
+    requires empty { out.old ≡ [] }
+    requires link { length link.now ≤ 14 }
+    requires size { 20 + length anew.options.items + length octets.now ≤ 65515 }
+    requires room { 65515 ≤ length page.old }
+    ensures { let m = segment_octets (anew_segment ip.now head.now anew.seq anew.fin anew.options.items octets.now) in
+        out.new ≡ (link.now ++ plain_header ip.now (length m) ++ m) ∷ [] }
+{
+    let size = write_anew(ip, head, anew, octets, page);
+    put_anew(link, ip, &page[..size], out);
+}
+
+/// Puts the packet of a probe between the addresses of `ip` and the ports of `head` into the outbox, behind a packet that may stand there.
+pub(crate) fn put_probe(link: &[u8], ip: &Ipv4, head: &Tcp, probe: &Probe, out: &mut Outbox)
+    requires room { length out.old < 2 }
+    requires link { length link.now ≤ 14 }
+    ensures { out.new ≡ out.old ++ (link.now ++ probe_octets ip.now head.now.sport head.now.dport probe.now) ∷ [] }
+{
+    let mut packet = [0u8; 40];
+    let _size = write_probe(ip, head.sport, head.dport, probe, &mut packet);
+    out.begin();
+    out.append(link);
+    out.append(&packet);
+}
+
+/// The flags without URG, and without FIN where it is not kept.
+pub(crate) fn flags_sent(flags: Flags, fin: bool) -> Flags
+    ensures exact { result.0 ≡ without_flag 32 (if fin then flags.0 else without_flag 1 flags.0) }
+    ensures urgent { tcp.has_urg result.0 ≡ false }
+{
+    let flags = if fin { flags.0 } else { without_fin(flags) };
+    if flags / 32 % 2 == 1 {
+        Flags(flags - 32)
+    } else {
+        Flags(flags)
+    }
+}
+
+fn without_fin(flags: Flags) -> u8
+    ensures { result ≡ without_flag 1 flags.0 }
+{
+    if flags.fin() { flags.0 - 1 } else { flags.0 }
+}
+
+/// Writes a segment anew, with these octets. Answers its length.
+pub(crate) fn write_anew(ip: &Ipv4, head: &Tcp, anew: Anew, octets: &[u8], buf: &mut [u8]) -> usize
+    requires size { 20 + length anew.options.items + length octets.now ≤ 65515 }
+    requires room { 65515 ≤ length buf.old }
+    ensures exact { buf.new ≡ segment_octets (anew_segment ip.now head.now anew.seq anew.fin anew.options.items octets.now) ++ drop result buf.old }
+    ensures size { result ≡ 20 + length anew.options.items + length octets.now }
+{
+    let flags = flags_sent(head.flags, anew.fin);
+    let parts = SegmentParts {
+        src: ip.src,
+        dst: ip.dst,
+        sport: head.sport,
+        dport: head.dport,
+        seq: anew.seq,
+        ack: head.ack,
+        flags,
+        window: head.window,
+        options: anew.options,
+    };
+    write_segment(&parts, octets, buf)
+}
+
+/// What changes in a segment that is written anew: its sequence number, whether its FIN stays, and its options.
+#[derive(Drop)]
+pub(crate) struct Anew {
+    pub(crate) seq: u32,
+    pub(crate) fin: bool,
+    pub(crate) options: ArrayVec<u8, 40>,
+    ghost words: { length options.items % 4 ≡ 0 },
+}

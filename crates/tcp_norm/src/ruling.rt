@@ -1,0 +1,72 @@
+//! What becomes of an inbound segment.
+ghost use Rattle.std.specs.Prelude.{◌≤◌, length};
+
+use crate::step::Step;
+use era_state::{Interval, Offered, Probe, Seg, Warm};
+use ip_rules::Fixes;
+use rule_book::Rule;
+
+/// A segment that this rule drops, with the number of its live era and the probe that is sent in its place.
+#[derive(Clone, Copy)]
+pub(crate) struct Refusal {
+    pub(crate) rule: Rule,
+    pub(crate) era: Option<u32>,
+    pub(crate) probe: Option<Probe>,
+}
+
+/// A segment that passes: what it does to the eras, the rules that rewrite it, and, for one that is rewritten, its sequence number, whether its FIN
+/// stays and the number of its octets, which stand at the front of the scratch; and the probe that is sent behind it.
+#[derive(Drop)]
+pub(crate) struct Passage {
+    pub(crate) step: Step,
+    pub(crate) rows: Fixes,
+    pub(crate) seq: u32,
+    pub(crate) fin: bool,
+    pub(crate) size: usize,
+    pub(crate) probe: Option<Probe>,
+    ghost few: { length rows.items ≤ 10 },
+}
+
+/// A segment that belongs to no era, of which only a probe to its host is sent, and the rules that hold.
+#[derive(Drop)]
+pub(crate) struct Question {
+    pub(crate) rows: Fixes,
+    pub(crate) probe: Probe,
+    ghost few: { length rows.items ≤ 10 },
+}
+
+#[derive(Drop)]
+pub(crate) enum Ruling {
+    Drop(Refusal),
+    Pass(Passage),
+    Ask(Question),
+}
+
+impl Ruling {
+    /// Returns a ruling to be filled in.
+    pub(crate) fn unset() -> Ruling {
+        Ruling::Drop(Refusal {
+            rule: Rule::TState,
+            era: None,
+            probe: None,
+        })
+    }
+}
+
+/// The octets of an interval, at the front of the scratch, that an era takes.
+#[derive(Clone, Copy)]
+pub(crate) struct Taking<'a> {
+    pub(crate) warm: &'a Warm,
+    pub(crate) kept: Interval,
+    pub(crate) size: usize,
+}
+
+/// What becomes of a live era: nothing; it is touched; it takes octets; it hears a SYN; or another era begins in its place.
+#[derive(Clone, Copy)]
+pub(crate) enum Change<'a> {
+    Nothing,
+    Touch,
+    Take(Taking<'a>),
+    Hear(Seg),
+    Reopen(Offered),
+}
