@@ -1,4 +1,4 @@
--- What words ask for.
+-- What words request.
 use Rattle.std.proofs.Common.{◌≡◌, ℕ, List, Result, Ok, Err, sym, ◌∙◌, subst}
 use Rattle.norm_settings.specs.declared.fault.WordFault.{WordFault}
 use Rattle.norm_settings.specs.Settings.{PlainSettings}
@@ -7,7 +7,7 @@ use Rattle.bridge_run.specs.Rows.{UnderWords}
 use Rattle.bridge_run.specs.Run.{AsksRun}
 use Rattle.bridge_run.specs.Summary.{AsksLoad}
 
--- words ask for one run, under one list of settings
+-- words request one run, under one list of settings
 same_settings : (words : List (List ℕ)) (one other : PlainSettings) → AsksRun words one → AsksRun words other → one ≡ other
 same_settings words one other p q =
     let same : ◌≡◌ {A = Result PlainCommand WordFault} (Ok (run p.0 one)) (Ok (run q.0 other)) = sym p.1 ∙ q.1 in
@@ -16,7 +16,7 @@ same_settings words one other p q =
 pub under : (words : List (List ℕ)) (Row : PlainSettings → Type 0) (settings : PlainSettings) → AsksRun words settings → UnderWords words Row → Row settings
 under words Row settings asks (other, others, row) = subst Row (same_settings words other settings others asks) row
 
--- words that are refused, or ask for a load, ask for no run
+-- words that are refused, or request a load, request no run
 pub no_run_refused : (words : List (List ℕ)) (Row : PlainSettings → Type 0) (fault : WordFault) → asked words ≡ Err fault → UnderWords words Row → ⊥
 no_run_refused words Row fault refused (settings, asks, row) =
     let same : ◌≡◌ {A = Result PlainCommand WordFault} (Ok (run asks.0 settings)) (Err fault) = sym asks.1 ∙ refused in

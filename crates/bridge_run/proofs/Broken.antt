@@ -11,7 +11,7 @@ use Rattle.bridge_run.specs.Outputs.{BreaksOff, stop_by}
 use Rattle.bridge_run.specs.Rows.{GivenUpTo}
 use Rattle.bridge_run.proofs.Outputs.{capture_part-append, report_part-append}
 
--- how a run stops where this output failed, at this offset
+-- the stop of a run if this output failed, at this offset
 abbrev pub stop_at : Output → (offset : ℕ) → Stop
 stop_at output offset = stop_by (fault_at output) offset
 
@@ -31,7 +31,7 @@ pub none_fails : (whole : List Output) (failed : Output) (others : List Output) 
 none_fails [] failed others e = cc
 none_fails (w ∷ whole) failed others e = cc
 
--- what was given, apart
+-- what was given, in two parts
 given_at : (behind mid : List Output) (a c : Sinks) → Given (behind ++ mid) a c
     → Appends a.capture.octets c.capture.octets (capture_part behind ++ capture_part mid) × Appends a.report.octets c.report.octets (report_part behind ++ report_part mid)
 given_at behind mid a c g = (
@@ -39,7 +39,7 @@ given_at behind mid a c g = (
   subst (Appends a.report.octets c.report.octets) (report_part-append behind mid) g.report,
 )
 
--- what was given up to the failure, where it is known which output failed
+-- what was given up to the failure, if it is known which output failed
 given_up_to : (behind whole known : List Output) (failed x : Output) (count : ℕ) (a c : Sinks) → whole ≡ known → failed ≡ x → Given (behind ++ (whole ++ cut count failed ∷ [])) a c
     → Appends a.capture.octets c.capture.octets (capture_part behind ++ capture_part (known ++ cut count x ∷ []))
     × Appends a.report.octets c.report.octets (report_part behind ++ report_part (known ++ cut count x ∷ []))
@@ -53,7 +53,7 @@ ForReport (to_report octets ∷ outputs) = ForReport outputs
 ForReport (report_hands_on ∷ outputs) = ForReport outputs
 ForReport (_ ∷ outputs) = ⊥
 
--- where one of them fails, the run stops by a fault of the report
+-- if one of them fails, the run stops by a fault of the report
 report_fails : (next : List Output) → ForReport next → (whole : List Output) (failed : Output) (others : List Output) (offset : ℕ) → next ≡ whole ++ failed ∷ others → stop_at failed offset ≡ stops.Report
 report_fails [] only whole failed others offset e = absurd (none_fails whole failed others e)
 report_fails (to_capture x ∷ next) only whole failed others offset e = absurd only
@@ -79,7 +79,7 @@ same_place offset place e = cc
 pub no_capture : (behind next : List Output) → ForReport next → (offset place : ℕ) (a c : Sinks) → BreaksOff behind next offset (stops.At kinds.Capture place) a c → ⊥
 no_capture behind next only offset place a c p = apart place (answered _ _ offset _ a c p ∙ report_fails next only p.broke.whole p.broke.failed p.broke.others offset p.broke.are)
 
--- the capture failed at octets that come first
+-- the capture failed at the next octets
 pub record CaptureFails (behind : List Output) (x : List ℕ) (offset place : ℕ) (a c : Sinks) : Type 0 where
   pub here : place ≡ offset
   pub some : 0 < length x
@@ -101,7 +101,7 @@ capture_fails behind x next only offset place a c p =
       | later more w e ↦ absurd (apart place (answered _ _ offset _ a c p ∙ report_fails next only more p.broke.failed p.broke.others offset e))
     ]
 
--- the capture could not hand on what it keeps back
+-- the capture could not be flushed
 pub record HandingFails (behind : List Output) (offset place : ℕ) (a c : Sinks) : Type 0 where
   pub here : place ≡ offset
   pub untold : c.capture.octets ≡ None
@@ -120,7 +120,7 @@ handing_fails behind next only offset place a c p =
       | later more w e ↦ absurd (apart place (answered _ _ offset _ a c p ∙ report_fails next only more p.broke.failed p.broke.others offset e))
     ]
 
--- the report failed at octets that come first
+-- the report failed at the next octets
 pub first_fails : (behind : List Output) (y : List ℕ) (offset : ℕ) (a c : Sinks) → BreaksOff behind (to_report y ∷ []) offset stops.Report a c
     → Appends a.capture.octets c.capture.octets (capture_part behind) × GivenUpTo (report_part behind) y a.report.octets c.report.octets
 first_fails behind y offset a c p =
@@ -141,7 +141,7 @@ no_report behind x offset a c p =
       | later more w e ↦ none_fails more p.broke.failed p.broke.others e
     ]
 
--- at most the report hands on
+-- at most the report is flushed
 abbrev pub HandsOn : List Output → Type 0
 HandsOn next = (whole : List Output) (failed : Output) (others : List Output) → next ≡ whole ++ failed ∷ others → (whole ≡ []) × (failed ≡ report_hands_on)
 
@@ -155,7 +155,7 @@ handing whole failed others e =
       | later more w e' ↦ absurd (none_fails more failed others e')
     ]
 
--- the report failed at octets that come after an output for the capture, or where it was to hand them on
+-- the report failed at octets after an output for the capture, or when it was flushed
 module _ (behind next : List Output) (first : Output) (x y : List ℕ) (offset : ℕ) (a c : Sinks)
     (gives : (more : List Output) → capture_part (first ∷ more) ≡ x ++ capture_part more) (says : (more : List Output) → report_part (first ∷ more) ≡ report_part more)
     (stopped : stop_at first offset ≡ stops.At kinds.Capture offset) (hands : HandsOn next) where

@@ -1,4 +1,4 @@
--- How a load goes on from record to record, and what it comes to.
+-- How a load continues from record to record, and its result.
 use Rattle.std.proofs.Common.{◌≡◌, ℕ, ◌+◌, ◌-◌, ◌<◌, ◌≤◌, ◌^◌, List, [], ◌∷◌, ◌++◌, length, map, take, reverse, Option, Some, None, refl, sym, ap, ap₂, subst, ◌∙◌, arith, add-one, length-append, inl, inr}
 use Rattle.std.proofs.lemmas.List.{reverse-append, take_all, take_more}
 use Rattle.std.proofs.lemmas.List.FromFn.{length-map-range_with_len}
@@ -43,7 +43,7 @@ at_most_one : (begun : Option ℕ) (e : PlainEntry) → e.begun ≡ begun → er
 at_most_one (Some era) e is = rw is (omega arith)
 at_most_one None e is = rw is (omega arith)
 
--- one item more is counted
+-- one more item is counted
 counted_more : (tally tally' : Tally) (trace : List Item) (item : Item) → Counts tally trace → IsCounted item
     → tally'.packets ≡ tally.packets + item.entry.packets → tally'.eras ≡ tally.eras + eras_of item.entry
     → ((named : List Rule) → tally.rules.items ≡ rule_counts named → tally'.rules.items ≡ rule_counts (named ++ item.entry.rules))
@@ -92,7 +92,7 @@ module _ (seed count : ℕ) (load : Making) (engine : Engaged) (tally : Tally) (
             (λ named h. rules named h ∙ ap (λ (x : PlainEntry). rule_counts (named ++ x.rules)) entry) (subst (λ (x : PlainEntry). length x.rules ≤ 16) entry few);
       }
 
-  -- so many records are left
+  -- more records are left
   pub made_few : (p : Packet) → Some p ≡ slice_get (Generated load.seed load.count) load.made → length going.trace < count
   made_few p found =
       let within = slice_get_within (Generated seed count) (length going.trace) p (made_at (Some p) found) in
@@ -102,7 +102,7 @@ module _ (seed count : ℕ) (load : Making) (engine : Engaged) (tally : Tally) (
   pub counted_few : (p : Packet) → Some p ≡ slice_get (Generated load.seed load.count) load.made → count < 2 ^ 32 → engine.records < 2 ^ 32 - 1
   counted_few p found most = let few = made_few p found in omega (arith, few, going.stands.counted, most)
 
-  -- fewer are left behind another one
+  -- fewer are left after another one
   pub falls : (load' : Making) (p : Packet) → Some p ≡ slice_get (Generated load.seed load.count) load.made → load' ≡ record load { made = load.made + 1 }
       → count - load'.made < count - load.made
   falls load' p found next =

@@ -40,7 +40,7 @@ given_after xs ys a b c p q = record {
   report = subst (Appends a.report.octets c.report.octets) (sym (report_part-append xs ys)) (Appends-trans _ _ _ _ _ p.report q.report);
 }
 
--- what came before a failure
+-- outputs before a failure
 pub broke_behind : (behind next : List Output) (offset : ℕ) (stop : Stop) (a b c : Sinks) → Given behind a b → BreaksOff [] next offset stop b c → BreaksOff behind next offset stop a c
 broke_behind behind next offset stop a b c given p = record {
   fault = p.fault;
@@ -64,12 +64,12 @@ appended a b x p = subst (Appends a b) (sym (append-nil x)) p
 stays : (a b : Option (List ℕ)) → b ≡ a → Appends a b []
 stays a b same = subst (λ s. Appends a s []) (sym same) (Appends-nil a)
 
--- the capture failed at octets that come first
+-- the capture failed at the next octets
 pub capture_broke : (x : List ℕ) (others : List Output) (offset : ℕ) (a b : Sinks) → 0 < length x → AppendsPart a.capture.octets b.capture.octets x → b.report.octets ≡ a.report.octets
     → BreaksOff [] (to_capture x ∷ others) offset (stops.At kinds.Capture offset) a b
 capture_broke x others offset a b some p same = record { fault = faults.Capture; broke = puts.capture_broke x others a b some p same; answered = refl }
 
--- the report failed at octets that come first
+-- the report failed at the next octets
 pub first_broke : (x : List ℕ) (others : List Output) (offset : ℕ) (a b : Sinks) → b.capture.octets ≡ a.capture.octets → AppendsPart a.report.octets b.report.octets x
     → BreaksOff [] (to_report x ∷ others) offset stops.Report a b
 first_broke x others offset a b same p = record {
@@ -115,12 +115,12 @@ report_is both head (put ∷ older) =
     ∙ ap (λ l. (heading both ++ text_put older) ++ l) (append-nil put.text)
     ∙ append_assoc (heading both) (text_put older) put.text
 
--- a sink that could not hand on tells no octets
+-- the octets of a sink that could not be flushed are not known
 pub untold : {T E : Type 0} (result : Result T E) (a b : Option (List ℕ)) → true ≡ is_err result → Flushes a b result → b ≡ None
 untold (Ok v) a b failed p = absurd cc
 untold (Err e) a b failed p = p.1
 
--- the capture could not hand on what it keeps back
+-- the capture could not be flushed
 pub handing_broke : (others : List Output) (offset : ℕ) (a b : Sinks) → b.capture.octets ≡ None → b.capture.octets ≡ a.capture.octets → b.report.octets ≡ a.report.octets
     → BreaksOff [] (capture_hands_on ∷ others) offset (stops.At kinds.Capture offset) a b
 handing_broke others offset a b untold same_capture same_report = record {
@@ -138,7 +138,7 @@ handing_broke others offset a b untold same_capture same_report = record {
   answered = refl;
 }
 
--- the report failed at octets that come after the capture handed on what it keeps back
+-- the report failed at octets after the capture was flushed
 pub last_broke : (y : List ℕ) (others : List Output) (offset : ℕ) (a b : Sinks) → b.capture.octets ≡ a.capture.octets → AppendsPart a.report.octets b.report.octets y
     → BreaksOff [] (capture_hands_on ∷ to_report y ∷ others) offset stops.Report a b
 last_broke y others offset a b same q = record {
@@ -156,7 +156,7 @@ last_broke y others offset a b same q = record {
   answered = refl;
 }
 
--- the report could not hand on what it keeps back, behind octets for it
+-- the report could not be flushed, after octets for it
 pub flush_broke : (y : List ℕ) (offset : ℕ) (a b : Sinks) (mid : Option (List ℕ)) → b.report.octets ≡ None → b.capture.octets ≡ a.capture.octets → Appends a.report.octets mid y → b.report.octets ≡ mid
     → BreaksOff [] (capture_hands_on ∷ to_report y ∷ report_hands_on ∷ []) offset stops.Report a b
 flush_broke y offset a b mid untold same p kept = record {

@@ -1,4 +1,4 @@
--- Which stop is answered where the input or a sink fails, and what then stands.
+-- The stop at a fault of the input or a sink, and the state at it.
 use Rattle.std.proofs.Common.{◌≡◌, ◌==◌, ℕ, true, false, refl, sym, subst, ◌∙◌, inl}
 use Rattle.edge_io.specs.Faults.{Rose}
 use Rattle.capture_input.specs.declared.fault.InputFault.{InputFault}
@@ -43,7 +43,7 @@ stands_faulty settings faults.Long offset a c p = p
 stands_faulty settings faults.Many offset a c p = inl p
 stands_faulty settings faults.ReadFault offset a c p = p
 
--- the first fault is that of the source, where it failed, and otherwise there is none
+-- the first fault is that of the source, if it failed, and otherwise there is none
 pub first_at_fault : (fault : InputFault) (offset : ℕ) (a b c : Moment) → NoneRose a b → (is_read_fault fault ≡ false → c.source.faults ≡ b.source.faults)
     → (is_read_fault fault ≡ true → Rose b.source.faults c.source.faults) → c.sinks ≡ b.sinks → FirstFault (stop_at_fault fault offset) a c
 first_at_fault fault offset a b c none kept rose same = by fault kept rose where

@@ -1,4 +1,4 @@
--- What stands when a run has stopped, read row by row.
+-- The state when a run has stopped, status by status.
 use Rattle.std.proofs.Common.{◌≡◌, ℕ, ◌<◌, ◌==◌, List, [], ◌∷◌, ◌++◌, length, take, Option, None, Some, refl, sym, ap, ◌∙◌, subst, append-nil, append_assoc, arith, inl, inr, ◌⊎◌, ◌≤◌, false, true}
 use Rattle.std.proofs.Math.Seq.{take-nil}
 use Rattle.std.proofs.KnownBytes.{Appends-trans}
@@ -32,7 +32,7 @@ use Rattle.bridge_run.proofs.Outputs.{capture_is, report_is}
 use Rattle.bridge_run.proofs.Broken.{no_capture, capture_fails, first_fails, handing_fails, no_report, line_fails, nothing, handing}
 use Rattle.bridge_run.proofs.Statuses.{known_of}
 
--- a line that was told behind octets
+-- a line that was given after octets
 says : (first line : List ℕ) (b a n : Seen) → Appends b.octets a.octets first → a.faults ≡ b.faults → Told a.octets n.octets a.faults n.faults line → Says first line b n
 says first line b a n given same (inl whole) = inl (Appends-trans _ _ _ _ _ given whole)
 says first line b a n given same (inr part) = inr (
@@ -40,19 +40,19 @@ says first line b a n given same (inr part) = inr (
   record { count = part.1.count; given = Appends-trans _ _ _ _ _ given part.1.part },
 )
 
--- an object that tells nothing told nothing
+-- octets that are not known afterwards were not known before
 told_none : (old new : Option (List ℕ)) (octets : List ℕ) → Appends old new octets → new ≡ None → old ≡ None
 told_none None new octets p e = refl
 told_none (Some x) new octets p e = absurd (subst (λ s. Appends (Some x) s octets) e p)
 
--- a record of which octets are written has a frame
+-- a record with written octets has a frame
 framed : (order : Order) (put : Put) → 0 < length (put_octets order put) → 0 < length put.frames
 framed order put some = by put.frames some where
   by : (frames : List (List ℕ)) → 0 < length (flat_map (λ frame. record_octets order put.seconds put.fraction frame) frames) → 0 < length frames
   by [] some = some
   by (frame ∷ frames) some = omega arith
 
--- no line was told
+-- no line was given
 quiet : (first next : List ℕ) (b a n : Seen) → GivenUpTo first next b.octets a.octets → Told a.octets n.octets a.faults n.faults [] → GivenUpTo first next b.octets n.octets
 quiet first next b a n up told = record {
   count = up.count;
@@ -66,7 +66,7 @@ quiet first next b a n up told = record {
       ]
 
 module _ (settings : PlainSettings) (b a n : Moment) where
-  -- at the moment of the stop and behind it the source and the capture are alike
+  -- at the moment of the stop and after it the source and the capture are alike
   pub record Behind : Type 0 where
     pub source : n.source ≡ a.source
     pub capture : n.sinks.capture.octets ≡ a.sinks.capture.octets
@@ -117,7 +117,7 @@ module _ (settings : PlainSettings) (b a n : Moment) where
   faulty_row fault offset behind (inl p) same told = inl (ends_at_head fault offset behind p same told)
   faulty_row fault offset behind (inr p) same told = inr (ends_at_record fault offset behind p same told)
 
-  -- one record came more than may
+  -- there is one record more than allowed
 
   too_many_row : (offset : ℕ) → Behind → StopsAtTooMany settings offset b a → a.sinks.report.faults ≡ b.sinks.report.faults
       → Told a.sinks.report.octets n.sinks.report.octets a.sinks.report.faults n.sinks.report.faults (stop_of kinds.Many offset) → EndsByTooMany settings b n
@@ -242,7 +242,7 @@ module _ (settings : PlainSettings) (b a n : Moment) where
         report = quiet (report_octets settings.both out) line b.sinks.report a.sinks.report n.sinks.report (subst (λ l. GivenUpTo l line b.sinks.report.octets a.sinks.report.octets) (report_is settings.both p.head out) f.1) told;
       }))
 
-  -- the row of a status between the ends
+  -- the definition of a status between 0 and 8
   abbrev pub RowAt : (status : ℕ) → Type 0
   RowAt status =
       elim (status == 3) [
@@ -275,14 +275,14 @@ module _ (settings : PlainSettings) (b a n : Moment) where
       → Told a.sinks.report.octets n.sinks.report.octets a.sinks.report.faults n.sinks.report.faults (stop_line stop) → RowAt status
   row_at status stop answered p first behind told = subst RowAt (sym answered) (row_of stop p first behind told)
 
--- what stands between the ends under given settings
+-- the state at such a status under given settings
 under_row : (status : ℕ) → (status ≡ 0 → ⊥) → (status ≡ 8 → ⊥) → (settings : PlainSettings) (b n : Moment) → StoppedUnder settings status b n → RowAt settings b n n status
 under_row status not_0 not_8 settings b n (inl finished) = absurd (not_0 finished.0)
 under_row status not_0 not_8 settings b n (inr (inl wanting)) = absurd (not_8 wanting.0)
 under_row status not_0 not_8 settings b n (inr (inr p)) =
     row_at settings b p.at n status p.stop p.answered p.stands p.first (record { source = p.source_stays; capture = p.capture_stays.octets }) p.told
 
--- a load that neither finished nor wanted memory
+-- a load that neither finished nor failed to allocate memory
 load_row : (status : ℕ) → (status ≡ 0 → ⊥) → (status ≡ 8 → ⊥) → (seed count : ℕ) (b n : Moment) → LoadStopped seed count status b n → (status ≡ 7) × EndsSummedInPart seed count b n
 load_row status not_0 not_8 seed count b n p =
     elim p.leaves [
@@ -291,7 +291,7 @@ load_row status not_0 not_8 seed count b n p =
       | inr (inr wanting) ↦ absurd (not_8 wanting.0)
     ]
 
--- a run that was not refused, and had its memory, and did not finish
+-- a run that was not refused, had its memory, and did not finish
 pub stopped_row : (status : ℕ) → (status ≡ 0 → ⊥) → (status ≡ 2 → ⊥) → (status ≡ 7 → ⊥) → (status ≡ 8 → ⊥) → (words : List (List ℕ)) (b n : Moment) → Stopped words status b n → UnderWords words (λ settings. RowAt settings b n n status)
 stopped_row status not_0 not_2 not_7 not_8 words b n (inl refused) = absurd (not_2 refused.1)
 stopped_row status not_0 not_2 not_7 not_8 words b n (inr (inl wanting)) = absurd (not_8 wanting.0)
@@ -325,7 +325,7 @@ finished_row words b n (inr (inr (inl (settings, asks, inr (inl wanting))))) = a
 finished_row words b n (inr (inr (inl (settings, asks, inr (inr p))))) = absurd (let least = (known_of settings p.stop b p.at p.stands).0 in let e = p.answered in omega (arith, least, e))
 finished_row words b n (inr (inr (inr (seed, count, asks, p)))) = inr (seed, count, asks, summed_row seed count b n p)
 
--- a load answers 0, 7 or 8
+-- a load returns 0, 7 or 8
 load_answers : (seed count status : ℕ) (b n : Moment) → LoadStopped seed count status b n → (status ≡ 0) ⊎ (7 ≤ status)
 load_answers seed count status b n p =
     elim p.leaves [
@@ -346,7 +346,7 @@ refused_row words b n (inr (inr (inl (settings, asks, inr (inl wanting))))) = ab
 refused_row words b n (inr (inr (inl (settings, asks, inr (inr p))))) = absurd (let least = (known_of settings p.stop b p.at p.stands).0 in let e = p.answered in omega (arith, least, e))
 refused_row words b n (inr (inr (inr (seed, count, asks, p)))) = absurd (no_load seed count b n p)
 
--- a load that wanted memory
+-- a load whose memory could not be allocated
 wanted : (seed count : ℕ) (b n : Moment) → LoadStopped seed count 8 b n → SaysOnly memory_line b n
 wanted seed count b n p =
     elim p.leaves [
@@ -355,7 +355,7 @@ wanted seed count b n p =
       | inr (inr wanting) ↦ record { source_stays = p.source_stays; capture_stays = p.capture_stays; told = wanting.1 }
     ]
 
--- memory was wanting
+-- memory could not be allocated
 pub wanting_row : (words : List (List ℕ)) (b n : Moment) → Stopped words 8 b n → SaysOnly memory_line b n
 wanting_row words b n (inl refused) = absurd (let e = refused.1 in omega (arith, e))
 wanting_row words b n (inr (inl wanting)) = wanting.1

@@ -1,4 +1,4 @@
--- How a run goes on from record to record, and how it ends.
+-- How a run continues from record to record, and how it ends.
 use Rattle.std.proofs.Common.{◌≡◌, ℕ, ◌+◌, ◌<◌, ◌≤◌, ◌-◌, ◌^◌, Bool, true, false, List, [], ◌∷◌, ◌++◌, length, Option, None, Ok, Err, Result, IfErr, refl, sym, ap, ap₂, subst, ◌∙◌, arith, suc, append_assoc, append-nil}
 use Rattle.std.specs.Prelude.{nat_le}
 use Rattle.std.proofs.lemmas.Bool.Decides.{nat_tests}
@@ -49,7 +49,7 @@ pub none_counted : (engines : Engines) (both : Bool) → StandsForRun engines (e
 none_counted engines false s = counted engines (empty_run false) s
 none_counted engines true s = counted engines (empty_run true) s
 
--- as many records came as may: both sides are protected, unless 2^32 - 1 came
+-- the number of records is the greatest: both sides are protected, unless it is 2^32 - 1
 full_means : (settings : PlainSettings) (link : Link) (engines : Engines) (run : RunTrace) → StandsForRun engines run → LawfulRun settings link run → IsFew settings run → is_full_of engines ≡ true
     → length (packets_of run) + 1 < 2 ^ 32 → (settings.both ≡ true) × (length (packets_of run) ≡ 2 ^ 31 - 1)
 full_means settings link (One engine) (one trace) s lawful few full room = absurd (let count = s.counted in let size = length-packets trace in grind (arith, nat_tests))
@@ -72,13 +72,13 @@ still_few settings link (Two joined) (two trace mirror) r s lawful more size = �
     let less : joined.first.records < 2 ^ 31 - 1 = grind (arith, nat_tests) in
     omega (arith, count, less, size)
 
--- two engines ask that the record has no side
+-- two engines require that the record has no side
 sideless_more : (settings : PlainSettings) (link : Link) (run : RunTrace) (r : Packet) → LawfulRun settings link run → GoesOn settings link run r → RunHasNoSide run → (settings.both ≡ true → r.side ≡ None)
     → RunHasNoSide (next_run settings link run r)
 sideless_more settings link (one trace) r lawful law older none = tt
 sideless_more settings link (two trace mirror) r lawful law older none = law.sideless older (none lawful.0)
 
--- what was read on from behind a walk
+-- what was read after a walk
 took_on : (inside all b c : Option (List ℕ)) (mine head : Head) (walk farther : Walk) → mine ≡ head → Continues inside mine walk farther b c → Took inside all b head walk → Took inside all c head farther
 took_on inside all b c mine head walk farther is continues took =
     subst (λ (h : Head). Took inside all c h farther) is (continues all (subst (λ (h : Head). Took inside all b h walk) (sym is) took))
@@ -89,7 +89,7 @@ none_rose_after a b c p q = record {
   sinks = record { capture = q.sinks.capture ∙ p.sinks.capture; report = q.sinks.report ∙ p.sinks.report };
 }
 
--- The run begins behind the head.
+-- The run begins after the head.
 pub begins : RunsBegin → (settings : PlainSettings) (head : Head) (a b : Moment) (engines : Engines) (input : Input) → head ≡ head_in input → settings_of engines ≡ settings → link_of engines ≡ head.link
     → StandsForRun engines (empty_run settings.both) → Begun settings input a b → Going settings head a b engines input 0
 begins law settings head a b engines input is set linked stands p =
@@ -117,7 +117,7 @@ begins law settings head a b engines input is set linked stands p =
     }
 
 module _ (settings : PlainSettings) (head : Head) (a b : Moment) (engines : Engines) (input : Input) (frames : ℕ) (going : Going settings head a b engines input frames) where
-  -- the run with one record more, and what is put out for it, as the engines have it
+  -- the run with one record more, and the output for it, as the engines have it
   run_is : (p : Packet) → next_run (settings_of engines) (link_of engines) going.run p ≡ next_run settings head.link going.run p
   run_is p = ap₂ (λ s l. next_run s l going.run p) going.engine_settings going.engine_link
 
@@ -168,7 +168,7 @@ module _ (settings : PlainSettings) (head : Head) (a b : Moment) (engines : Engi
           let size = ap length step.taken in
           omega (arith, after, before, size, few_before)
 
-      -- what it puts out was written, and the run goes on
+      -- the output for it was written, and the run continues
       module _ (engines' : Engines) (n : ℕ) (counted_so : c.source.faults ≡ b.source.faults) (more : is_full_of engines ≡ false)
           (put_out : (run : RunTrace) → StandsForRun engines run → IsPut head.order (next_put (settings_of engines) (link_of engines) run (shown given)) n b.sinks c.sinks) (short : n < 256)
           (stands : (run : RunTrace) → StandsForRun engines run → StandsForRun engines' (next_run (settings_of engines) (link_of engines) run (shown given)))
@@ -207,7 +207,7 @@ module _ (settings : PlainSettings) (head : Head) (a b : Moment) (engines : Engi
               few = omega (arith, going.few, short, size);
             }
 
-      -- something of what it puts out failed
+      -- an output for it failed
       pub stops_at_packet : is_full_of engines ≡ false → (fault : RelayFault)
           → ((run : RunTrace) → StandsForRun engines run → relayed.BreaksOff [] (put_outputs head.order (next_put (settings_of engines) (link_of engines) run (shown given))) fault b.sinks c.sinks)
           → StopsAtPacket settings (stop_by fault given.offset) a c
@@ -267,7 +267,7 @@ module _ (settings : PlainSettings) (head : Head) (a b : Moment) (engines : Engi
           sound = soundly settings head.link run range together now.lawful now.octets now.sideless;
         }
 
-    -- the end could not be told
+    -- an output at the end failed
     pub stops_at_end : (offset : ℕ) (stop : Stop) → offset ≡ asked_in input' → BreaksOff [] (end_outputs count frames) offset stop b.sinks c.sinks → StopsAtEnd settings stop a c
     stops_at_end offset stop place broke =
         let run = going.run in
@@ -287,7 +287,7 @@ module _ (settings : PlainSettings) (head : Head) (a b : Moment) (engines : Engi
               (subst (λ next. BreaksOff [] next offset stop b.sinks c.sinks) outputs broke));
         }
 
-  -- the input could not be read on
+  -- the next record of the input could not be read
   pub stops_at_record : (c : Moment) (input' : Input) (fault : InputFault) (offset : ℕ) → StopsBehind input input' settings.inside going.walk b.source.octets c.source.octets fault
       → offset ≡ asked_in input' → c.sinks ≡ b.sinks → StopsAtRecord settings fault offset a c
   stops_at_record c input' fault offset stops place same = record {
@@ -304,7 +304,7 @@ module _ (settings : PlainSettings) (head : Head) (a b : Moment) (engines : Engi
     given = subst (Given (outputs_of settings.both head (puts settings head.link going.run)) a.sinks) (sym same) going.so_far.given;
   }
 
--- what an error says, where it says something else
+-- the fact of an error implies a weaker one
 pub if_err_weaker : {T E : Type 0} {P Q : E → Type 0} (r : Result T E) → ((e : E) → P e → Q e) → IfErr r P → IfErr r Q
 if_err_weaker (Ok x) f p = tt
 if_err_weaker (Err e) f p = f e p

@@ -1,4 +1,4 @@
--- Which status a stop is answered by, and what that says.
+-- The status of a stop, and its consequences.
 use Rattle.std.proofs.Common.{◌≡◌, ◌==◌, ℕ, ◌≤◌, true, false, List, length, Option, Some, None, refl, sym, ap, subst, ◌∙◌, arith, ◌⊎◌, inl, inr}
 use Rattle.edge_io.specs.Faults.{Rose}
 use Rattle.capture_input.specs.declared.fault.InputFault.{InputFault}
@@ -17,11 +17,11 @@ use Rattle.bridge_run.specs.Stops.{AreFew, BeginsTooMany, Faulted, FirstFault, f
 use Rattle.bridge_run.specs.Run.{Normalized}
 use Rattle.bridge_run.specs.Stopped.{Faulty, Stands, StopsAtTooMany}
 
--- the status that a fault of the input is answered by
+-- the status of a fault of the input
 abbrev fault_status : InputFault → ℕ
 fault_status fault = kind_status (fault_kind fault)
 
--- this fault of the octets is the first, and answered by this status
+-- this fault of the octets is the first, and has this status
 record HasFaultOf (inside source : Option (List ℕ)) (status : ℕ) : Type 0 where
   fault : InputFault
   offset : ℕ
@@ -29,13 +29,13 @@ record HasFaultOf (inside source : Option (List ℕ)) (status : ℕ) : Type 0 wh
   answered : status ≡ fault_status fault
   lasts : is_read_fault fault ≡ false
 
--- one record came more than may
+-- there is one record more than allowed
 record HasTooMany (settings : PlainSettings) (source : Option (List ℕ)) (status : ℕ) : Type 0 where
   offset : ℕ
   was : WasTooMany settings source offset
   answered : status ≡ 3
 
--- a stop before the end is answered by 3 to 7
+-- a stop before the end has a status from 3 to 7
 pub known_of : (settings : PlainSettings) (stop : Stop) (a b : Moment) → Stands settings stop a b → (3 ≤ status_of stop) × (status_of stop ≤ 7)
 known_of settings (stops.At kinds.Magic offset) a b p = (omega arith, omega arith)
 known_of settings (stops.At kinds.Version offset) a b p = (omega arith, omega arith)
@@ -79,17 +79,17 @@ faulty_status faults.Block other = refl
 faulty_status faults.Long other = refl
 faulty_status faults.Many other = refl
 
--- the source told these octets
+-- the octets of the source are known
 here : (inside source : Option (List ℕ)) (octets : List ℕ) (fault : InputFault) (offset : ℕ) → source ≡ Some octets → HasFaultAt inside source fault offset → FailsAt inside octets fault offset
 here inside source octets fault offset told first = subst (λ s. HasFaultAt inside s fault offset) told first
 
--- nothing is left behind the end or a fault
+-- no octet is left after the end or a fault
 pub record LeavesNone : Type 0 where
   pub input : InputHasAll
   pub head : HeadStopsLeaveNone
   pub stops : StopsLeaveNone
 
--- what a stop says of the octets that the source had left
+-- the consequences of a stop for the octets that the source had left
 module _ (in_head : HeadStopsAreFaults) (behind : StopsAreFaults) (settings : PlainSettings) where
   fault_at : (fault : InputFault) (offset : ℕ) (a b : Moment) → is_read_fault fault ≡ false → Faulty settings fault offset a b → HasFaultAt settings.inside a.source.octets fault offset
   fault_at fault offset a b lasts (inl p) = in_head settings.inside a.source.octets b.source.octets fault offset lasts p.found
@@ -100,7 +100,7 @@ module _ (in_head : HeadStopsAreFaults) (behind : StopsAreFaults) (settings : Pl
   has_fault : (fault : InputFault) (offset : ℕ) (a b : Moment) → is_read_fault fault ≡ false → Faulty settings fault offset a b → HasFaultOf settings.inside a.source.octets (fault_status fault)
   has_fault fault offset a b lasts p = record { fault = fault; offset = offset; first = fault_at fault offset a b lasts p; answered = refl; lasts = lasts }
 
-  -- the octets begin with one record more than may come
+  -- the octets begin with one record more than allowed
   too_many : (offset : ℕ) (a b : Moment) → StopsAtTooMany settings offset a b → WasTooMany settings a.source.octets offset
   too_many offset a b p = by a.source.octets b.source.octets p.took where
     by : (old new : Option (List ℕ)) → Took settings.inside old new p.head p.walk → WasTooMany settings old offset
@@ -141,7 +141,7 @@ module _ (in_head : HeadStopsAreFaults) (behind : StopsAreFaults) (settings : Pl
         | inr (inr least) ↦ absurd (omega (arith, least, s))
       ]
 
-  -- where reading stops at a cut, no more records came than may
+  -- if reading stops at a cut, there are no more records than allowed
   cut_is_few : LeavesNone → (octets : List ℕ) (place : ℕ) (a b : Moment) → a.source.octets ≡ Some octets → Faulty settings faults.Cut place a b → AreFew settings octets
   cut_is_few left octets place a b told (inl p) offset more =
       left.head settings.inside b.source.octets octets faults.Cut place more.head more.walk more.rest refl
@@ -173,7 +173,7 @@ module _ (in_head : HeadStopsAreFaults) (behind : StopsAreFaults) (settings : Pl
   cut_of left (stops.At kinds.Memory place) a b p s = absurd p
   cut_of left stops.Report a b p s = absurd (omega (arith, s))
 
-  -- where the octets begin with one record more than may come, the run stops there, or before
+  -- if the octets begin with one record more than allowed, the run stops there, or before
   too_many_is_3 : LeavesNone → (octets : List ℕ) (offset : ℕ) → BeginsTooMany settings octets offset → (stop : Stop) (a b : Moment) → a.source.octets ≡ Some octets → Stands settings stop a b
       → (status_of stop ≡ 3) ⊎ (5 ≤ status_of stop)
   too_many_is_3 left octets offset more (stops.At kinds.Magic place) a b told p = inl refl
@@ -220,7 +220,7 @@ module _ (in_head : HeadStopsAreFaults) (behind : StopsAreFaults) (settings : Pl
         | inr (inr outside) ↦ outside
       ]
 
--- the count that a status names rose
+-- the fault count of the status rose
 
 pub read_of : (stop : Stop) (a b : Moment) → FirstFault stop a b → status_of stop ≡ 5 → Rose a.source.faults b.source.faults
 read_of stop a b p s = subst (λ n. Faulted (n == 5) a.source b.source) s p.source

@@ -1,4 +1,4 @@
--- One use more of a rule: how it changes the counts, and how many rules there are to count.
+-- One more use of a rule: how it changes the counts, and how many rules there are to count.
 use Rattle.std.proofs.Common.{◌≡◌, ◌==◌, ◌||◌, not, ℕ, zero, suc, ◌+◌, ◌<◌, ◌≤◌, nat_lt, Bool, true, false, cond, All, List, [], ◌∷◌, ◌++◌, length, get_or, map, take, drop, set, refl, sym, ap, ap₂, ◌∙◌, arith, add-one, if◌then◌else◌}
 use Rattle.std.specs.List.{AllByRecursion, IsDistinct, count_by, filter, list_any, refill}
 use Rattle.std.proofs.lemmas.Bool.Decides.{nat_tests}
@@ -15,15 +15,15 @@ use Rattle.bridge_run.specs.declared.tally.RuleCount.{RuleCount}
 use Rattle.bridge_run.specs.Summary.{is_same, first_uses, rule_counts}
 use Rattle.bridge_run.specs.Counting.{counted_once}
 
--- the rule stands in the list
+-- the rule is in the list
 abbrev pub is_in : Rule → List Rule → Bool
 is_in rule rules = list_any (λ other. is_same other rule) rules
 
--- the rule, where it is not in the list
+-- the rule, if it is not in the list
 abbrev fresh : Bool → Rule → List Rule
 fresh b rule = if b then [] else rule ∷ []
 
--- ---- the rules, each where it stands first
+-- ---- the rules, each at its first use
 
 kept : (b c : Bool) (x rule : Rule) (rest : List Rule) → is_same x rule ≡ b → is_in rule rest ≡ c
     → filter (λ later. not (is_same x later)) (fresh c rule) ≡ fresh (b || c) rule
@@ -40,7 +40,7 @@ first_more (x ∷ rules) rule =
     ∙ ap (λ l. x ∷ l) (filter-append passes (first_uses rules) (fresh (is_in rule rules) rule)
     ∙ ap (λ l. filter passes (first_uses rules) ++ l) (kept (is_same x rule) (is_in rule rules) x rule rules refl refl))
 
--- ---- a rule stands among them where it stands in the list
+-- ---- a rule is among them if it is in the list
 
 other_than : (x y rule : Rule) → is_same x rule ≡ false → is_same y rule ≡ true → not (is_same x y) ≡ true
 other_than x y rule e f = grind (arith, nat_tests)
@@ -68,7 +68,7 @@ in_first : (rules : List Rule) (rule : Rule) → is_in rule (first_uses rules) �
 in_first [] rule = refl
 in_first (x ∷ rules) rule = among (is_same x rule) x rule (first_uses rules) rules refl (in_first rules rule)
 
--- the row of a rule over a list
+-- the count of a rule over a list
 abbrev row_over : List Rule → Rule → RuleCount
 row_over rules rule = record { rule = rule; count = count_by (is_same rule) rules }
 
@@ -76,7 +76,7 @@ any-map : (rules over : List Rule) (rule : Rule) → list_any (λ row. is_same r
 any-map [] over rule = refl
 any-map (x ∷ rules) over rule = ap (λ b. is_same x rule || b) (any-map rules over rule)
 
--- a row is found where the rule was named
+-- a count is found if the rule was named
 pub row_found : (named : List Rule) (rule : Rule) → list_any (λ row. is_same row.rule rule) (rule_counts named) ≡ is_in rule named
 row_found named rule = any-map (first_uses named) named rule ∙ in_first named rule
 
@@ -104,7 +104,7 @@ none_counted (x ∷ rules) rule e =
     not_counted : (a b : ℕ) (more : Bool) (count : ℕ) → (a == b || more) ≡ false → (more ≡ false → count ≡ 0) → cond (b == a) 1 0 + count ≡ 0
     not_counted a b more count e ih = grind (arith, nat_tests)
 
--- the row of a rule that was not named before
+-- the count of a rule that was not named before
 abbrev fresh_row : Bool → Rule → List RuleCount
 fresh_row b rule = if b then [] else record { rule = rule; count = 1 } ∷ []
 
@@ -125,13 +125,13 @@ counts_more rules rule =
     ∙ map-append rows (first_uses rules) (fresh (is_in rule rules) rule)
     ∙ ap₂ (λ l m. l ++ m) (rows_more rules rule (first_uses rules)) (last_row (is_in rule rules) rules rule refl)
 
--- no count is above the number of uses
+-- no count exceeds the number of uses
 pub counts_few : (rules : List Rule) (most : ℕ) → length rules + 1 < most → All (λ row. row.count + 1 < most) (rule_counts rules)
 counts_few rules most h =
     All-map (λ (row : RuleCount). row.count + 1 < most) (row_over rules) (first_uses rules)
     (λ k d l. let few = count_by-le-length (is_same (get_or (first_uses rules) k d)) rules in omega (arith, few, h))
 
--- ---- one pass over the rows
+-- ---- one pass over the counts
 
 here : {X : Type 0} (f : X → X) (xs : List X) (i : ℕ) (d : X) → i < length xs → get_or (map f (take i xs) ++ drop i xs) i d ≡ get_or xs i d
 here f [] i d h = absurd (omega arith)
@@ -144,14 +144,14 @@ changed f [] i d h = absurd (omega arith)
 changed f (x ∷ xs) zero d h = refl
 changed f (x ∷ xs) (suc i) d h = ap (λ l. f x ∷ l) (changed f xs i d (omega arith))
 
--- the rows behind one more row
+-- the counts after one more was updated
 pub passed : {X : Type 0} (f : X → X) (xs rows : List X) (i : ℕ) (d y : X) → i < length xs → rows ≡ map f (take i xs) ++ drop i xs → y ≡ f (get_or rows i d)
     → set rows i y ≡ map f (take (i + 1) xs) ++ drop (i + 1) xs
 passed f xs rows i d y h is e =
     let item : y ≡ f (get_or xs i d) = e ∙ ap (λ l. f (get_or l i d)) is ∙ ap f (here f xs i d h) in
     ap₂ (λ l z. set l i z) is item ∙ changed f xs i d h ∙ ap (λ n. map f (take n xs) ++ drop n xs) (sym (add-one i))
 
--- a row passes, or one before it
+-- an element passes, or one before it
 pub any_more : {X : Type 0} (f : X → X) (test : X → Bool) (xs rows : List X) (i : ℕ) (d : X) (found b : Bool) → i < length xs → rows ≡ map f (take i xs) ++ drop i xs
     → found ≡ list_any test (take i xs) → b ≡ test (get_or rows i d) → (found || b) ≡ list_any test (take (i + 1) xs)
 any_more f test xs rows i d found b h is before now =
@@ -165,7 +165,7 @@ any_more f test xs rows i d found b h is before now =
 pub refilled : {X : Type 0} (xs ws : List X) → length ws ≡ length xs → refill (length xs) xs ws ≡ ws
 refilled xs ws e = grind (arith, common_steps)
 
--- ---- there are at most 62 rules
+-- ---- there are at most 63 different rule numbers
 
 all_by : (P : ℕ → Type 0) (b : Bool) (y : Rule) (rest : List Rule) → P (rule_number y) → AllByRecursion P (map rule_number rest) → AllByRecursion P (map rule_number (cond b (y ∷ rest) rest))
 all_by P true y rest p all = (p, all)

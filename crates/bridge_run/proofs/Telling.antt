@@ -1,4 +1,4 @@
--- Lines that are told after what a sink keeps back was handed on.
+-- Lines that are given after the sink was flushed.
 use Rattle.std.proofs.Common.{◌≡◌, ℕ, ◌≤◌, List, [], Option, None, Some, Result, Ok, Err, sym, subst, ◌∙◌, arith, inl, inr}
 use Rattle.std.proofs.KnownBytes.{Appends-nil}
 use Rattle.edge_io.specs.Faults.{HasCause}
@@ -7,7 +7,7 @@ use Rattle.std.specs.Io.KnownBytes.{Appends}
 use Rattle.record_relay.specs.Sinks.{Seen}
 use Rattle.bridge_run.specs.Stops.{Kept, Told}
 
--- a line that was told after the sink was flushed
+-- a line that was given after the sink was flushed
 pub told_behind : {T E : Type 0} (result : Result T E) (a b c : Option (List ℕ)) (before mid now : ℕ) (line : List ℕ) → Flushes a b result → before ≤ mid → Told b c mid now line → Told a c before now line
 told_behind (Ok x) a b c before mid now line kept later told =
     elim told [
@@ -16,7 +16,7 @@ told_behind (Ok x) a b c before mid now line kept later told =
     ]
 told_behind (Err e) a b c before mid now line none later told = inl (subst (λ s. Appends s c line) (sym none.0) tt)
 
--- where no line is told, the sink is only flushed
+-- if no line is given, the sink is only flushed
 pub told_after : {T E : Type 0} (result : Result T E) (a b : Option (List ℕ)) (before now : ℕ) → Flushes a b result → Told a b before now []
 told_after (Ok x) a b before now kept = inl (subst (λ s. Appends a s []) (sym kept) (Appends-nil a))
 told_after (Err e) a b before now none = inl (subst (λ s. Appends s b []) (sym none.0) tt)
@@ -26,7 +26,7 @@ pub flush_keeps : {T E : Type 0} (result : Result T E) (a b : Option (List ℕ))
 flush_keeps (Ok x) a b kept = kept
 flush_keeps (Err e) a b none = none.1 ∙ sym none.0
 
--- a sink that was told to hand on
+-- a sink that was flushed
 pub kept_by : {T E : Type 0} (result : Result T E) (a b : Seen) → Flushes a.octets b.octets result → HasCause a.faults b.faults result → Kept a b
 kept_by (Ok x) a b kept cause = record { octets = kept; faults = λ octets told. cause.kept }
 kept_by (Err e) a b none cause = record { octets = none.1 ∙ sym none.0; faults = λ octets told. absurd (apart octets (sym none.0 ∙ told)) } where

@@ -1,4 +1,4 @@
--- What stands in the course of a load.
+-- The state of a load between records.
 use Rattle.std.specs.Prelude.{◌≡◌, ℕ, ◌*◌, ◌≤◌, List, [], ◌∷◌, ◌++◌, length, map, take, reverse, Option}
 use Rattle.wire_base.specs.declared.address.Link.TheVariants.{Raw}
 use Rattle.rule_book.specs.declared.load.LoadLine.{LoadLine}
@@ -16,7 +16,7 @@ use Rattle.bridge_run.specs.Summary.{load_settings, eras_begun, rules_named, rul
 abbrev pub seen_of : Option (List ℕ) → (faults : ℕ) → Seen
 seen_of octets faults = record { octets = octets; faults = faults }
 
--- The tally counts what came of a trace: an item has two frames at the most, and names at most 16 rules.
+-- The tally counts a trace: an item has at most two frames, and names at most 16 rules.
 pub record Counts (tally : Tally) (trace : List Item) : Type 0 where
   pub packets : tally.packets ≡ frame_count trace
   pub eras : tally.eras ≡ eras_begun trace
@@ -25,7 +25,7 @@ pub record Counts (tally : Tally) (trace : List Item) : Type 0 where
   pub few_eras : eras_begun trace ≤ length trace
   pub few_rules : length (rules_named trace) ≤ 16 * length trace
 
--- So far: a lawful trace of the records that were made, for which the engine stands, and which the tally counts.
+-- So far: a lawful trace of the records that were made, which the engine represents, and which the tally counts.
 pub record Going (seed count : ℕ) (load : Making) (engine : Engaged) (tally : Tally) : Type 0 where
   pub trace : List Item
   pub lawful : Lawful load_settings Raw trace
@@ -36,14 +36,14 @@ pub record Going (seed count : ℕ) (load : Making) (engine : Engaged) (tally : 
   pub stands : StandsFor engine trace
   pub counts : Counts tally trace
 
--- All records were made and judged, and the tally counts what came of them.
+-- All records were made and judged, and the tally counts them.
 pub record IsTallied (seed count records : ℕ) (tally : Tally) : Type 0 where
   pub trace : List Item
   pub of_load : IsTraceOf seed count trace
   pub records_are : records ≡ length trace
   pub counts : Counts tally trace
 
--- the lines that say what the tally counts
+-- the lines of the tally's counts
 abbrev pub lines_of : (seed count records : ℕ) → Tally → List LoadLine
 lines_of seed count records tally =
     lines.Load seed count ∷ lines.Records records ∷ lines.Packets tally.packets ∷ lines.Eras tally.eras ∷ (map rule_line tally.rules.items ++ lines.End ∷ [])

@@ -1,4 +1,4 @@
--- What the source and the two sinks tell at a moment of a run (this project's profile).
+-- The visible state of the source and the two sinks at a moment of a run (this project's profile).
 use Rattle.std.specs.Prelude.{◌≡◌, ℕ, List, Option}
 use Rattle.record_relay.specs.Sinks.{Seen, Sinks, NoSinkRose, sinks_of}
 
@@ -11,7 +11,7 @@ abbrev pub moment_of : (source : Option (List ℕ)) (source_faults : ℕ) (captu
 moment_of source source_faults capture capture_faults report report_faults =
     record { source = record { octets = source; faults = source_faults }; sinks = sinks_of capture capture_faults report report_faults }
 
--- no count of faults rose
+-- no fault count rose
 pub record NoneRose (before now : Moment) : Type 0 where
   pub source : now.source.faults ≡ before.source.faults
   pub sinks : NoSinkRose before.sinks now.sinks

@@ -1,5 +1,5 @@
--- What a run over a capture writes besides what it puts out for its records, as one list of outputs in the order in which they are written (this project's
--- profile). Lists of what is put out have the newest at the head.
+-- The outputs of a run over a capture besides those for its records, as one list in the order in which they are written (this project's profile). Lists of
+-- outputs for records have the newest at the head.
 use Rattle.std.specs.Prelude.{◌≡◌, ℕ, Bool, List, [], ◌∷◌, ◌++◌}
 use Rattle.pcap_file.specs.declared.head.Head.{Head}
 use Rattle.pcap_file.specs.Heads.{head_octets}
@@ -23,21 +23,21 @@ first_outputs both = to_report (heading both) ∷ []
 abbrev pub head_outputs : Head → List Output
 head_outputs head = to_capture (head_octets head) ∷ []
 
--- what is written up to what is put out for the newest record
+-- the outputs up to those for the newest record
 abbrev pub outputs_of : (both : Bool) → Head → List Put → List Output
 outputs_of both head [] = first_outputs both ++ head_outputs head
 outputs_of both head (put ∷ older) = outputs_of both head older ++ put_outputs head.order put
 
--- what ends a run: the last line, after the capture and before the report hand on what they keep back
+-- the end of a run: the last line, after the capture and before the report is flushed
 abbrev pub end_outputs : (records frames : ℕ) → List Output
 end_outputs records frames = capture_hands_on ∷ to_report (last_text (End records frames)) ∷ report_hands_on ∷ []
 
--- how a run stops where this sink failed, at this offset
+-- the stop of a run if this sink failed, at this offset
 abbrev pub stop_by : RelayFault → (offset : ℕ) → Stop
 stop_by faults.Capture offset = stops.At kinds.Capture offset
 stop_by faults.Report offset = stops.Report
 
--- Of the outputs that come next, the first ones were given whole, and then a prefix of the one that failed. So the run stops, at this offset.
+-- Of the next outputs, the first ones were given completely, and then a prefix of the one that failed. So the run stops, at this offset.
 pub record BreaksOff (behind next : List Output) (offset : ℕ) (stop : Stop) (before now : Sinks) : Type 0 where
   pub fault : RelayFault
   pub broke : relayed.BreaksOff behind next fault before now

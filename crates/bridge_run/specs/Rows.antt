@@ -1,5 +1,5 @@
--- What each status says, row by row (this project's profile): what the two sinks were given, and what was taken from the source. Each row follows from
--- what stands when a run has stopped, by a law. Where an object does not tell its octets nothing is claimed of them.
+-- The meaning of each status (this project's profile): what the two sinks were given, and what was taken from the source. Each definition follows from the
+-- state at which a run has stopped, by a law. Nothing is claimed of octets that are not known.
 use Rattle.std.specs.Prelude.{◌≡◌, ℕ, ◌-◌, ◌^◌, ◌<◌, ◌⊎◌, Bool, true, List, [], ◌∷◌, ◌++◌, length, take, Option, None, Err}
 use Rattle.std.specs.Io.KnownBytes.{Appends}
 use Rattle.edge_io.specs.Faults.{Rose}
@@ -28,20 +28,20 @@ use Rattle.bridge_run.specs.Stops.{fault_kind, is_faulty, words_line}
 use Rattle.bridge_run.specs.Stopped.{Stopped, SaysOnly}
 use Rattle.bridge_run.specs.Summary.{Summed, SummedInPart, AsksLoad}
 
--- what the capture is given for a head and what is put out for records
+-- the octets of a head and of the outputs for records in the capture
 abbrev pub capture_octets : Head → List Put → List ℕ
 capture_octets head puts = head_octets head ++ octets_put head.order puts
 
--- what the report is given for them: the first line, and the lines of each
+-- their octets in the report: the first line, and the lines of each
 abbrev pub report_octets : (both : Bool) → List Put → List ℕ
 report_octets both puts = heading both ++ text_put puts
 
--- The first octets were given whole, and then a prefix of the next ones, which may be all of them.
+-- The first octets were given completely, and then a prefix of the next ones, which may be all of them.
 pub record GivenUpTo (first next : List ℕ) (old new : Option (List ℕ)) : Type 0 where
   pub count : ℕ
   pub given : Appends old new (first ++ take count next)
 
--- The first octets were given, and then this line: whole, unless the count of faults rose in this call.
+-- The first octets were given, and then this line: completely, unless the fault count rose in this call.
 abbrev pub Says : (first line : List ℕ) → (before now : Seen) → Type 0
 Says first line before now =
     Appends before.octets now.octets (first ++ line) ⊎ (Rose before.faults now.faults × GivenUpTo first line before.octets now.octets)
@@ -57,8 +57,8 @@ pub record EndsAtHead (settings : PlainSettings) (fault : InputFault) (before no
   pub capture : Appends before.sinks.capture.octets now.sinks.capture.octets []
   pub report : Says (heading settings.both) (stop_of (fault_kind fault) offset) before.sinks.report now.sinks.report
 
--- Statuses 3 to 5, at the record or block behind those of a lawful run: these were taken, and what is left begins with the one at which the run stopped. The
--- capture was given the head and the frames of these packets, the report their lines and the stop, at the offset behind them.
+-- Statuses 3 to 5, at the record or block after those of a lawful run: these were taken, and what is left begins with the one at which the run stopped. The
+-- capture was given the head and the frames of these packets, the report their lines and the stop, at the offset after them.
 pub record EndsAtRecord (settings : PlainSettings) (fault : InputFault) (before now : Moment) : Type 0 where
   pub head : Head
   pub run : RunTrace
@@ -76,14 +76,14 @@ pub record EndsAtRecord (settings : PlainSettings) (fault : InputFault) (before 
 abbrev pub EndsAtFault : PlainSettings → InputFault → (before now : Moment) → Type 0
 EndsAtFault settings fault before now = EndsAtHead settings fault before now ⊎ EndsAtRecord settings fault before now
 
--- Status 3, by a fault of the octets that is no cut.
+-- Status 3, by a fault of the octets that is not a cut.
 pub record EndsByFault (settings : PlainSettings) (before now : Moment) : Type 0 where
   pub fault : InputFault
   pub other : is_faulty fault ≡ true
   pub ends : EndsAtFault settings fault before now
 
--- Status 3, by one record more than may come where both sides are protected: exactly the head and what stands up to the end of its record or block was taken. The
--- capture was given the head and the frames of the packets before it, the report their lines and the stop, at its offset.
+-- Status 3, by one record more than allowed if both sides are protected: exactly the octets up to the end of its record or block were taken. The capture was
+-- given the head and the frames of the packets before it, the report their lines and the stop, at its offset.
 pub record EndsByTooMany (settings : PlainSettings) (before now : Moment) : Type 0 where
   pub both : settings.both ≡ true
   pub head : Head
@@ -109,7 +109,7 @@ EndsCut settings before now = EndsAtFault settings faults.Cut before now
 abbrev pub EndsUnread : PlainSettings → (before now : Moment) → Type 0
 EndsUnread settings before now = EndsAtFault settings faults.ReadFault before now
 
--- Status 6, at the head: exactly that was taken, and the capture was given a prefix of the written one.
+-- Status 6, at the head: exactly the head was taken, and the capture was given a prefix of the written head.
 pub record CaptureEndsInHead (settings : PlainSettings) (before now : Moment) : Type 0 where
   pub head : Head
   pub walk : Walk
@@ -119,8 +119,8 @@ pub record CaptureEndsInHead (settings : PlainSettings) (before now : Moment) : 
   pub capture : GivenUpTo [] (head_octets head) before.sinks.capture.octets now.sinks.capture.octets
   pub report : Says (heading settings.both) (stop_of kinds.Capture 0) before.sinks.report now.sinks.report
 
--- Status 6, at the newest packet: exactly the head and what stands up to the end of its record or block was taken. The capture was given all but its frames,
--- and a prefix of these; the report the lines of the older packets, and the stop at the offset of that record or block.
+-- Status 6, at the newest packet: exactly the octets up to the end of its record or block were taken. The capture was given all octets before its frames, and a
+-- prefix of these; the report the lines of the older packets, and the stop at the offset of that record or block.
 pub record CaptureEndsInPacket (settings : PlainSettings) (before now : Moment) : Type 0 where
   pub head : Head
   pub packet : Packet
@@ -135,7 +135,7 @@ pub record CaptureEndsInPacket (settings : PlainSettings) (before now : Moment) 
   pub capture : GivenUpTo (capture_octets head (puts settings head.link older)) (put_octets head.order (next_put settings head.link older packet)) before.sinks.capture.octets now.sinks.capture.octets
   pub report : Says (report_octets settings.both (puts settings head.link older)) (stop_of kinds.Capture (newest_place walk)) before.sinks.report now.sinks.report
 
--- Status 6, at the end: a capture that keeps octets back, and so tells none, could not hand them on. All was taken, and the report was given all lines of
+-- Status 6, at the end: a capture that buffers, so that its octets are not known, could not be flushed. All was taken, and the report was given all lines of
 -- records, and the stop at the offset of the end.
 pub record CaptureEndsBehind (settings : PlainSettings) (before now : Moment) : Type 0 where
   pub head : Head
@@ -158,8 +158,8 @@ pub record ReportEndsInFirst (settings : PlainSettings) (before now : Moment) : 
   pub capture : Appends before.sinks.capture.octets now.sinks.capture.octets []
   pub report : GivenUpTo [] (heading settings.both) before.sinks.report.octets now.sinks.report.octets
 
--- Status 7, at the line of the newest packet: exactly the head and what stands up to the end of its record or block was taken. The capture
--- was given the frames of all packets, the report the lines of the older ones and a prefix of that line.
+-- Status 7, at the line of the newest packet: exactly the octets up to the end of its record or block were taken. The capture was given the frames of all
+-- packets, the report the lines of the older ones and a prefix of that line.
 pub record ReportEndsInLine (settings : PlainSettings) (before now : Moment) : Type 0 where
   pub head : Head
   pub packet : Packet
@@ -189,11 +189,11 @@ pub record ReportEndsInLast (settings : PlainSettings) (before now : Moment) : T
 abbrev pub EndsUntold : PlainSettings → (before now : Moment) → Type 0
 EndsUntold settings before now = ReportEndsInFirst settings before now ⊎ (ReportEndsInLine settings before now ⊎ ReportEndsInLast settings before now)
 
--- The words ask for a run, and this holds under its settings.
+-- The words request a run, and this holds under its settings.
 abbrev pub UnderWords : List (List ℕ) → (PlainSettings → Type 0) → Type 0
 UnderWords words Row = (settings : PlainSettings) × AsksRun words settings × Row settings
 
--- The words ask for a load, and this holds of its seed and its number of records.
+-- The words request a load, and this holds of its seed and its number of records.
 abbrev pub UnderLoad : List (List ℕ) → (ℕ → ℕ → Type 0) → Type 0
 UnderLoad words Row = (seed : ℕ) × (count : ℕ) × AsksLoad words seed count × Row seed count
 
@@ -219,6 +219,6 @@ pub record EndsRefused (words : List (List ℕ)) (before now : Moment) : Type 0 
   pub refused : asked words ≡ Err fault
   pub says : SaysOnly (words_line (number_of fault)) before now
 
--- A run over these words that answers this status leaves this row.
+-- A run over any words that returns this status satisfies `Row`.
 abbrev pub Leaves : (status : ℕ) → (Row : List (List ℕ) → (before now : Moment) → Type 0) → Type 0
 Leaves status Row = (words : List (List ℕ)) (before now : Moment) → Stopped words status before now → Row words before now

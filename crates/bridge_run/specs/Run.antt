@@ -1,4 +1,4 @@
--- What stands in the course of a run, and at its end. Where an object does not tell its octets nothing is claimed of them.
+-- The state of a run between records, and at its end. Nothing is claimed of octets that are not known.
 use Rattle.std.specs.Prelude.{◌≡◌, ℕ, ◌*◌, ◌-◌, ◌^◌, ◌≤◌, ◌⊎◌, true, List, [], ◌++◌, length, Option, Ok, Err}
 use Rattle.std.specs.Io.KnownBytes.{Appends}
 use Rattle.pcap_file.specs.declared.head.Head.{Head}
@@ -24,19 +24,19 @@ use Rattle.bridge_run.specs.Outputs.{outputs_of, end_outputs}
 use Rattle.bridge_run.specs.Stops.{Told, words_line}
 use Rattle.bridge_run.specs.Summary.{Summed, AsksLoad}
 
--- the words ask for a run with these settings
+-- the words request a run with these settings
 abbrev pub AsksRun : List (List ℕ) → PlainSettings → Type 0
 AsksRun words settings = (names : PlainNames) × (asked words ≡ Ok (command.run names settings))
 
--- where both sides are protected, at most 2^31 - 1 records came
+-- if both sides are protected, there are at most 2^31 - 1 records
 abbrev pub IsFew : PlainSettings → RunTrace → Type 0
 IsFew settings run = settings.both ≡ true → length (packets_of run) ≤ 2 ^ 31 - 1
 
--- A capture was normalized: what the source had left is an input, whose octets are below 256, and all of it was taken; where both sides are protected it has fewer
--- than 2^31 records; what was written is the head, and the frames and the report of its one lawful run under these settings, as they go out; every clean packet of
--- an engine's trace has exactly one frame with its payload there, or is cut into segments that carry it, unless its frame is too long and can't be cut; after no
--- record more is held than the settings allow; in each era all receivers agree on what was written, on either side where both are protected; and no frame is too
--- long. Where a source or a sink does not tell its octets, nothing is claimed of these.
+-- A capture was normalized. The octets that the source had left are an input, whose octets are below 256, and all of it was taken; if both sides are protected
+-- it has fewer than 2^31 records. Written were the head, and the frames and the report of its one lawful run under these settings. Each clean packet of an
+-- engine's trace has exactly one frame with its payload there, or is cut into segments that carry it, unless its frame is too long and cannot be cut. After no
+-- record more is held than the settings allow. In each era all receivers agree on what was written, on either side if both are protected. No frame is too long.
+-- Nothing is claimed of octets of a source or a sink that are not known.
 pub record Normalized (settings : PlainSettings) (source source' capture capture' report report' : Option (List ℕ)) : Type 0 where
   pub head : Head
   pub run : RunTrace
@@ -49,25 +49,25 @@ pub record Normalized (settings : PlainSettings) (source source' capture capture
   pub report_written : Appends report report' (report_of settings.both (puts settings head.link run) (End (length (packets_of run)) (count_put (puts settings head.link run))))
   pub sound : RunIsWrittenSoundly settings head.link run
 
--- A finished run over a capture: the words ask for a run, and under their settings the capture was normalized.
+-- A finished run over a capture: the words request a run, and under their settings the capture was normalized.
 pub record FinishedRun (words : List (List ℕ)) (source source' capture capture' report report' : Option (List ℕ)) : Type 0 where
   pub settings : PlainSettings
   pub accepted : AsksRun words settings
   pub normalized : Normalized settings source source' capture capture' report report'
 
--- A finished load: the words ask for a load, and the report was given its summary.
+-- A finished load: the words request a load, and the report was given its summary.
 pub record FinishedLoad (words : List (List ℕ)) (report report' : Option (List ℕ)) : Type 0 where
   pub seed : ℕ
   pub count : ℕ
   pub accepted : AsksLoad words seed count
   pub summed : Summed seed count report report'
 
--- A finished run: over a capture, or over a load, as the words ask.
+-- A finished run: over a capture, or over a load, as the words request.
 abbrev pub Finished : (words : List (List ℕ)) → (source source' capture capture' report report' : Option (List ℕ)) → Type 0
 Finished words source source' capture capture' report report' =
     FinishedRun words source source' capture capture' report report' ⊎ FinishedLoad words report report'
 
--- The words ask for a load.
+-- The words request a load.
 abbrev pub IsLoad : List (List ℕ) → Type 0
 IsLoad words = (seed : ℕ) × (count : ℕ) × AsksLoad words seed count
 
@@ -75,8 +75,8 @@ IsLoad words = (seed : ℕ) × (count : ℕ) × AsksLoad words seed count
 abbrev pub IsRefused : List (List ℕ) → Type 0
 IsRefused words = (fault : WordFault) × (asked words ≡ Err fault)
 
--- So far: a lawful run over the packets that were taken, whose octets are below 256; where both sides are protected none of them has a side of its own, and fewer
--- than 2^31 came; the first line, the head, and the frames and lines of the run were written as they go out, and nothing failed.
+-- So far: a lawful run over the packets that were taken, whose octets are below 256. If both sides are protected, none of them has a side of its own, and there
+-- are fewer than 2^31. The first line, the head, and the frames and lines of the run were written, and nothing failed.
 pub record SoFar (settings : PlainSettings) (head : Head) (before now : Moment) (walk : Walk) (run : RunTrace) : Type 0 where
   pub lawful : LawfulRun settings head.link run
   pub octets : RunHasOctets settings run
@@ -87,7 +87,7 @@ pub record SoFar (settings : PlainSettings) (head : Head) (before now : Moment) 
   pub given : Given (outputs_of settings.both head (puts settings head.link run)) before.sinks now.sinks
   pub none_rose : NoneRose before now
 
--- The same of some run, which the engines stand for under these settings and on the link of the head, with the input behind its packets, and so many frames
+-- The same of some run, which the engines represent under these settings and on the link of the head, with the input after its packets, and `frames` frames
 -- written, at most 255 for each record.
 pub record Going (settings : PlainSettings) (head : Head) (before now : Moment) (engines : Engines) (input : Input) (frames : ℕ) : Type 0 where
   pub walk : Walk
@@ -101,7 +101,7 @@ pub record Going (settings : PlainSettings) (head : Head) (before now : Moment) 
   pub frames_are : frames ≡ count_put (puts settings head.link run)
   pub few : frames ≤ 255 * length (packets_of run)
 
--- The first line and the head were written, and the head was read, and nothing behind it.
+-- The first line and the head were written, and the head was read, and nothing after it.
 pub record Begun (settings : PlainSettings) (input : Input) (before now : Moment) : Type 0 where
   pub walk : Walk
   pub took : Took settings.inside before.source.octets now.source.octets (head_in input) walk
@@ -117,7 +117,7 @@ pub record Ended (records frames : ℕ) (before now : Sinks) : Type 0 where
   pub given : Given (end_outputs records frames) before now
   pub none_rose : NoSinkRose before now
 
--- what the run answers where the words are refused: their fault, in one line of the report
+-- the answer to refused words: their fault, in one line of the report
 pub record Refused (words : List (List ℕ)) (report report' : Option (List ℕ)) (before now : ℕ) : Type 0 where
   pub fault : WordFault
   pub refused : asked words ≡ Err fault

@@ -1,6 +1,6 @@
--- What stands when a run has stopped: what was taken from the source, and what was given to the sinks, by the lawful run over the records that were judged (this
--- project's profile). Where an object does not tell its octets nothing is claimed of them. A run stops at a moment (`Stands`), and then tells why
--- (`StoppedShort`): up to `Stands`, `now` is that moment.
+-- The state when a run has stopped: what was taken from the source, and what was given to the sinks, by the lawful run over the records that were judged (this
+-- project's profile). Nothing is claimed of octets that are not known. A run stops at a moment (`Stands`), and then reports why (`StoppedShort`): up to
+-- `Stands`, `now` is that moment.
 use Rattle.std.specs.Prelude.{◌≡◌, ℕ, ◌-◌, ◌^◌, ◌⊎◌, true, List, [], ◌∷◌, length, Option, Err}
 use Rattle.pcap_file.specs.declared.head.Head.{Head}
 use Rattle.pcap_file.specs.Records.{Packet}
@@ -24,13 +24,13 @@ use Rattle.bridge_run.specs.Run.{Normalized, AsksRun, IsFew}
 use Rattle.bridge_run.specs.Stops.{FirstFault, Kept, Told, status_of, stop_line, words_line, memory_line}
 use Rattle.bridge_run.specs.Summary.{LoadLeaves, AsksLoad}
 
--- The head could not be read: this is its fault, and what was taken of it. The first line of the report stands alone.
+-- The head could not be read: this is its fault, and what was taken of it. The report has only its first line.
 pub record StopsAtHead (settings : PlainSettings) (fault : InputFault) (offset : ℕ) (before now : Moment) : Type 0 where
   pub found : StopsInHead settings.inside before.source.octets now.source.octets fault offset
   pub given : Given (first_outputs settings.both) before.sinks now.sinks
 
--- The record or block behind those of a lawful run, which where both sides are protected has fewer than 2^31 records, could not be read: this is its fault, and what
--- was taken of it. The head and all records or blocks before it were taken, and all that the run's packets put out was given.
+-- The record or block after those of a lawful run could not be read: this is its fault, and what was taken of it. If both sides are protected, the run has
+-- fewer than 2^31 records. The head and all records or blocks before it were taken, and all outputs for the run's packets were given.
 pub record StopsAtRecord (settings : PlainSettings) (fault : InputFault) (offset : ℕ) (before now : Moment) : Type 0 where
   pub head : Head
   pub run : RunTrace
@@ -44,12 +44,12 @@ pub record StopsAtRecord (settings : PlainSettings) (fault : InputFault) (offset
   pub place : offset ≡ place_behind walk
   pub given : Given (outputs_of settings.both head (puts settings head.link run)) before.sinks now.sinks
 
--- This fault is the first, and at most the octets of the head, record or block that has it were taken; where the source failed there, not all of them.
+-- This fault is the first, and at most the octets of the head, record or block that has it were taken; if the source failed there, not all of them.
 abbrev pub Faulty : PlainSettings → InputFault → (offset : ℕ) → (before now : Moment) → Type 0
 Faulty settings fault offset before now = StopsAtHead settings fault offset before now ⊎ StopsAtRecord settings fault offset before now
 
--- Both sides are protected, and one record came more than may, which is not judged. The head and all up to the end of its record or block were taken, and all that
--- the packets before it put out was given.
+-- Both sides are protected, and there is one record more than allowed, which is not judged. The head and all up to the end of its record or block were taken,
+-- and all outputs for the packets before it were given.
 pub record StopsAtTooMany (settings : PlainSettings) (offset : ℕ) (before now : Moment) : Type 0 where
   pub both : settings.both ≡ true
   pub head : Head
@@ -69,7 +69,7 @@ pub record StopsAtFirstLine (settings : PlainSettings) (stop : Stop) (before now
   pub untaken : now.source.octets ≡ before.source.octets
   pub broke : BreaksOff [] (first_outputs settings.both) 0 stop before.sinks now.sinks
 
--- The written head failed, and the head was taken, and nothing behind it.
+-- The written head failed, and the head was taken, and nothing after it.
 pub record StopsAtWrittenHead (settings : PlainSettings) (stop : Stop) (before now : Moment) : Type 0 where
   pub head : Head
   pub walk : Walk
@@ -78,8 +78,8 @@ pub record StopsAtWrittenHead (settings : PlainSettings) (stop : Stop) (before n
   pub took : Took settings.inside before.source.octets now.source.octets head walk
   pub broke : BreaksOff (first_outputs settings.both) (head_outputs head) 0 stop before.sinks now.sinks
 
--- Something of what the newest packet puts out failed, and where both sides are protected fewer than 2^31 records had come. The head and the run's packets were
--- taken, nothing behind the record or block of that one, and all that the older ones put out was given.
+-- An output for the newest packet failed. If both sides are protected, there were fewer than 2^31 records. The head and the run's packets were taken, nothing
+-- after the record or block of the newest one, and all outputs for the older ones were given.
 pub record StopsAtPacket (settings : PlainSettings) (stop : Stop) (before now : Moment) : Type 0 where
   pub head : Head
   pub packet : Packet
@@ -92,7 +92,7 @@ pub record StopsAtPacket (settings : PlainSettings) (stop : Stop) (before now : 
   pub took : Took settings.inside before.source.octets now.source.octets head walk
   pub broke : BreaksOff (outputs_of settings.both head (puts settings head.link older)) (put_outputs head.order (next_put settings head.link older packet)) (newest_place walk) stop before.sinks now.sinks
 
--- The end could not be told. All was taken, where both sides are protected fewer than 2^31 records, and all that the packets put out was given.
+-- An output at the end failed. All was taken (fewer than 2^31 records if both sides are protected), and all outputs for the packets were given.
 pub record StopsAtEnd (settings : PlainSettings) (stop : Stop) (before now : Moment) : Type 0 where
   pub head : Head
   pub run : RunTrace
@@ -104,12 +104,12 @@ pub record StopsAtEnd (settings : PlainSettings) (stop : Stop) (before now : Mom
   pub taken : TakenWhole before.source.octets now.source.octets
   pub broke : BreaksOff (outputs_of settings.both head (puts settings head.link run)) (end_outputs (length (packets_of run)) (count_put (puts settings head.link run))) (place_behind walk) stop before.sinks now.sinks
 
--- A sink failed, and a prefix of what it was to be given was.
+-- A sink failed, and was given a prefix of its output.
 abbrev pub Unwritten : PlainSettings → Stop → (before now : Moment) → Type 0
 Unwritten settings stop before now =
     StopsAtFirstLine settings stop before now ⊎ (StopsAtWrittenHead settings stop before now ⊎ (StopsAtPacket settings stop before now ⊎ StopsAtEnd settings stop before now))
 
--- what stands at a stop, before a line says why
+-- the state at a stop, before a line reports why
 abbrev pub Stands : PlainSettings → Stop → (before now : Moment) → Type 0
 Stands settings (stops.At kinds.Magic offset) before now = Faulty settings faults.Magic offset before now
 Stands settings (stops.At kinds.Version offset) before now = Faulty settings faults.Version offset before now
@@ -123,8 +123,8 @@ Stands settings (stops.At kinds.Capture offset) before now = Unwritten settings 
 Stands settings (stops.At kinds.Memory offset) before now = ⊥
 Stands settings stops.Report before now = Unwritten settings stops.Report before now
 
--- A run that stopped before its end. What stood at the stop, and the first fault, tell the status. Then the line that says why was told, and nothing else:
--- a fault in telling it changes no status.
+-- A run that stopped before its end. The state at the stop, and the first fault, determine the status. Then the line that reports why was given, and nothing
+-- else: a fault in giving it changes no status.
 pub record StoppedShort (settings : PlainSettings) (status : ℕ) (before now : Moment) : Type 0 where
   pub stop : Stop
   pub answered : status ≡ status_of stop
@@ -135,7 +135,7 @@ pub record StoppedShort (settings : PlainSettings) (status : ℕ) (before now : 
   pub capture_stays : Kept at.sinks.capture now.sinks.capture
   pub told : Told at.sinks.report.octets now.sinks.report.octets at.sinks.report.faults now.sinks.report.faults (stop_line stop)
 
--- Nothing was read or written but this line of the report, which stands alone.
+-- Nothing was read or written except this line of the report, the only one.
 pub record SaysOnly (line : List ℕ) (before now : Moment) : Type 0 where
   pub source_stays : now.source ≡ before.source
   pub capture_stays : now.sinks.capture ≡ before.sinks.capture
@@ -146,18 +146,18 @@ pub record Finishes (settings : PlainSettings) (before now : Moment) : Type 0 wh
   pub normalized : Normalized settings before.source.octets now.source.octets before.sinks.capture.octets now.sinks.capture.octets before.sinks.report.octets now.sinks.report.octets
   pub none_rose : NoneRose before now
 
--- what stands at each status under given settings: 0 at the end, 8 at opening, and otherwise at a stop between them
+-- the state at each status under given settings: 0 at the end, 8 at opening, and otherwise at a stop between them
 abbrev pub StoppedUnder : PlainSettings → (status : ℕ) → (before now : Moment) → Type 0
 StoppedUnder settings status before now =
     ((status ≡ 0) × Finishes settings before now) ⊎ (((status ≡ 8) × SaysOnly memory_line before now) ⊎ StoppedShort settings status before now)
 
--- A load touches neither the source nor the capture; what it leaves in the report goes by its status.
+-- A load touches neither the source nor the capture; what it leaves in the report depends on its status.
 pub record LoadStopped (seed count status : ℕ) (before now : Moment) : Type 0 where
   pub source_stays : now.source ≡ before.source
   pub capture_stays : now.sinks.capture ≡ before.sinks.capture
   pub leaves : LoadLeaves seed count status before.sinks.report now.sinks.report
 
--- the same of words: 2 where they are refused, 8 where they found no memory, and otherwise by the settings or the load that they ask for
+-- the same of words: 2 if they are refused, 8 if there was not enough memory for them, and otherwise by the settings or the load that they request
 abbrev pub Stopped : (words : List (List ℕ)) → (status : ℕ) → (before now : Moment) → Type 0
 Stopped words status before now =
     ((fault : WordFault) × (status ≡ 2) × (asked words ≡ Err fault) × SaysOnly (words_line (number_of fault)) before now)

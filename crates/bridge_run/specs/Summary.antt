@@ -22,15 +22,15 @@ use Rattle.record_relay.specs.Sinks.{Seen}
 use Rattle.bridge_run.specs.declared.tally.RuleCount.{RuleCount}
 use Rattle.bridge_run.specs.Stops.{Told, memory_line}
 
--- the settings of a load: the standard ones, where 10.0.0.0/8 is trusted
+-- the settings of a load: the standard ones, with 10.0.0.0/8 as trusted prefix
 abbrev pub load_settings : PlainSettings
 load_settings = standard (record { addr = record { 0 = 167772160 }; len = 8 } ∷ [])
 
--- one where an entry began an era
+-- 1 if an entry began an era
 abbrev pub eras_of : PlainEntry → ℕ
 eras_of entry = if is_some entry.begun then 1 else 0
 
--- how many eras began
+-- the number of eras that began
 abbrev pub eras_begun : List Item → ℕ
 eras_begun [] = 0
 eras_begun (item ∷ older) = eras_begun older + eras_of item.entry
@@ -40,16 +40,16 @@ abbrev pub rules_named : List Item → List Rule
 rules_named [] = []
 rules_named (item ∷ older) = rules_named older ++ item.entry.rules
 
--- two rules are one
+-- two rules are the same
 abbrev pub is_same : Rule → Rule → Bool
 is_same first second = rule_number first == rule_number second
 
--- each rule of a list once, where it stands first
+-- each rule of a list once, in the order of first use
 abbrev pub first_uses : List Rule → List Rule
 first_uses [] = []
 first_uses (rule ∷ rules) = rule ∷ filter (λ later. not (is_same rule later)) (first_uses rules)
 
--- how often each rule stands in a list, in the order of first use
+-- how often each rule occurs in a list, in the order of first use
 abbrev pub rule_counts : List Rule → List RuleCount
 rule_counts rules = map (λ rule. record { rule = rule; count = count_by (is_same rule) rules }) (first_uses rules)
 
@@ -57,8 +57,7 @@ rule_counts rules = map (λ rule. record { rule = rule; count = count_by (is_sam
 abbrev pub rule_line : RuleCount → LoadLine
 rule_line row = lines.Rule row.rule row.count
 
--- the lines of the summary of a trace: what the load was made from, the records, the frames that went out, the eras that began, each rule that was named,
--- and the end
+-- the lines of the summary of a trace: the parameters of the load, the records, the frames written, the eras that began, each rule that was named, and the end
 abbrev pub summary_lines : (seed count : ℕ) → List Item → List LoadLine
 summary_lines seed count trace =
     lines.Load seed count ∷ lines.Records (length trace) ∷ lines.Packets (frame_count trace) ∷ lines.Eras (eras_begun trace)
@@ -84,14 +83,14 @@ pub record SummedInPart (seed count : ℕ) (report report' : Option (List ℕ)) 
   pub of_load : IsTraceOf seed count trace
   pub written : AppendsPart report report' (summary_text seed count trace)
 
--- what a load that answers this status leaves in the report: at 0 the summary, and no fault; at 7 a prefix of it, and a fault; at 8 the line that tells want
--- of memory, alone
+-- what a load that returns this status leaves in the report: at 0 the summary, and no fault; at 7 a prefix of it, and a fault; at 8 only the line that reports
+-- that memory could not be allocated
 abbrev pub LoadLeaves : (seed count status : ℕ) → (before now : Seen) → Type 0
 LoadLeaves seed count status before now =
     ((status ≡ 0) × Summed seed count before.octets now.octets × (now.faults ≡ before.faults))
     ⊎ (((status ≡ 7) × SummedInPart seed count before.octets now.octets × Rose before.faults now.faults)
     ⊎ ((status ≡ 8) × Told before.octets now.octets before.faults now.faults memory_line))
 
--- the words ask for a load of so many records from this seed
+-- the words request a load of `count` records from this seed
 abbrev pub AsksLoad : List (List ℕ) → (seed count : ℕ) → Type 0
 AsksLoad words seed count = asked words ≡ Ok (load seed count)

@@ -23,12 +23,12 @@ use rule_book::{LoadLine, load_line};
 use std::alloc::Global;
 use wire_base::{Addr, Prefix};
 
-/// Makes so many records from the seed, puts them through an engine, and says in the report what came of them; the status
-/// that it answers is
+/// Makes `count` records from the seed, has an engine judge them, and reports a summary. The status
+/// returned is
 ///
-/// - 0 where the summary was written;
+/// - 0 if the summary was written;
 /// - 7 for a fault of the report;
-/// - 8 for want of memory at opening.
+/// - 8 if memory could not be allocated at opening.
 ///
 /// Nothing is written before the last record was judged.
 pub fn run_load<R: Sink>(alloc: Global, seed: u64, count: u32, report: &mut R) -> u8
@@ -51,15 +51,15 @@ pub fn run_load<R: Sink>(alloc: Global, seed: u64, count: u32, report: &mut R) -
     }
 }
 
-/// What a load works in.
+/// Memory of a load.
 #[derive(Drop)]
 struct Room {
-    /// The frames of one record.
+    /// Frames of one record.
     out: Outbox,
     engine: Engine,
 }
 
-// Takes the memory of a load: the outbox and the engine.
+// Allocates the memory of a load: the outbox and the engine.
 fn take_room(alloc: Global) -> Result<Room, NoMemory>
     ensures stands { IfOk result (λ room. StandsFor room.engine []) }
     ensures settings { IfOk result (λ room. room.engine.settings ≡ summary.load_settings) }
@@ -70,7 +70,7 @@ fn take_room(alloc: Global) -> Result<Room, NoMemory>
     Ok(Room { out, engine })
 }
 
-// The settings of a load: the standard ones, with 10.0.0.0/8 as the one prefix.
+// Returns the settings of a load: the standard ones, with 10.0.0.0/8 as the one prefix.
 fn load_settings() -> Settings
     ensures exact { plain_settings result ≡ summary.load_settings }
     ensures range { AreInRange (plain_settings result) }
@@ -83,7 +83,7 @@ fn load_settings() -> Settings
     Settings::standard(prefixes)
 }
 
-// Makes the records, has each judged, and sums up what came of them.
+// Makes the records, has each judged, and returns the summary.
 fn summarize(room: &mut Room, seed: u64, count: u32) -> ArrayVec<LoadLine, 69>
     requires stands { StandsFor room.old.engine [] }
     requires settings { room.old.engine.settings ≡ summary.load_settings }
@@ -95,7 +95,7 @@ fn summarize(room: &mut Room, seed: u64, count: u32) -> ArrayVec<LoadLine, 69>
     summary_of(seed, count, room.engine.records(), &tally)
 }
 
-// Makes the records, has each judged, and counts what came of them.
+// Makes the records, has each judged, and counts their entries.
 fn tally_of(engine: &mut Engine, out: &mut Outbox, seed: u64, count: u32) -> Tally
     requires stands { StandsFor engine.old [] }
     requires settings { engine.old.settings ≡ summary.load_settings }
@@ -113,7 +113,7 @@ fn tally_of(engine: &mut Engine, out: &mut Outbox, seed: u64, count: u32) -> Tal
     tally
 }
 
-// The lines that say what came of a load.
+// Returns the lines of the summary.
 fn summary_of(seed: u64, count: u32, records: u32, tally: &Tally) -> ArrayVec<LoadLine, 69>
     ensures { result.items ≡ spec.lines_of seed count records tally.now }
 {
@@ -132,7 +132,7 @@ fn summary_of(seed: u64, count: u32, records: u32, tally: &Tally) -> ArrayVec<Lo
     lines
 }
 
-// Writes the lines, and hands them on.
+// Writes the lines, and flushes the report.
 fn put_lines<R: Sink>(lines: &[LoadLine], report: &mut R) -> Result<(), Failed>
     ensures octets { Puts (R.held report.old) (R.held report.new) result (flat_map load_text lines.now) }
     ensures cause { HasCause (R.fault_count report.old) (R.fault_count report.new) result }

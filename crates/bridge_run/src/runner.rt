@@ -1,4 +1,4 @@
-//! The run over a whole capture.
+//! The run over a capture.
 ghost use Rattle.std.specs.Prelude.{◌≡◌, ◌⊎◌, ◌≤◌, [], length, map, option_map, string_bytes, vec_len, IfOk, IfErr, IfSome, OnOk};
 ghost use Rattle.edge_io.specs.Faults.{Rose};
 ghost use Rattle.norm_settings.specs.Settings.{plain_settings, AreInRange, GoTogether};
@@ -32,20 +32,21 @@ use record_relay::laws::{runs_are_written_soundly, runs_go_on};
 use rule_book::{Last, last_line};
 use std::alloc::Global;
 
-/// Normalizes a capture as the words say, or puts a load through that they ask for, writes the report, and answers the
-/// status:
+/// Normalizes a capture as the words request, or judges the load that they request, writes the
+/// report, and returns the status:
 ///
-/// - 0 where the source was read to its end, or the load was put through;
-/// - 2 where the words are refused;
-/// - 3 for a fault of the head or of a block, a captured length above 262,144 octets, a record or block after 2^32 - 1
-///   others, a record after 2^31 - 1 others where both sides are protected, or a classic file where the words name the
-///   interface on the inside;
+/// - 0 if the source was read to its end, or the load was judged;
+/// - 2 if the words are refused;
+/// - 3 for a fault of the head or of a block, a captured length above 262,144 octets, a record or
+///   block after 2^32 - 1 others, a record after 2^31 - 1 others if both sides are protected, or a
+///   classic file if the words name the interface on the inside;
 /// - 4 for a capture that ends inside its head, a record or a block;
 /// - 5, 6 and 7 for a fault of the source, of the capture sink and of the report sink;
-/// - 8 for want of memory at opening.
+/// - 8 if memory could not be allocated at opening.
 ///
-/// The words do not hold the program's own name. Nothing is read before they are accepted, a fault stops the run, and
-/// what was written before it stays. A load touches neither the source nor the capture; its statuses are 0, 7 and 8.
+/// The words do not contain the program's own name. Nothing is read before they are accepted, a
+/// fault stops the run, and what was written before it stays. A load touches neither the source nor
+/// the capture; its statuses are 0, 7 and 8.
 pub fn run<S: Source, K: Sink, R: Sink>(
     alloc: Global,
     words: &[String],
@@ -57,7 +58,8 @@ pub fn run<S: Source, K: Sink, R: Sink>(
         (S.left source.old) (S.left source.new) (K.held capture.old) (K.held capture.new)
         (R.held report.old) (R.held report.new) }
 
-    // What stands then: what was taken from the source and given to the sinks, by the lawful run over the records that were judged.
+    // The state at the return: what was taken from the source and given to the sinks, by the lawful
+    // run over the records that were judged.
     ensures stopped { stopped.Stopped (map string_bytes words.now) result
         (moment_of (S.left source.old) (S.fault_count source.old) (K.held capture.old) (K.fault_count capture.old)
         (R.held report.old) (R.fault_count report.old))
@@ -69,7 +71,8 @@ pub fn run<S: Source, K: Sink, R: Sink>(
         (moment_of (S.left source.new) (S.fault_count source.new) (K.held capture.new) (K.fault_count capture.new)
         (R.held report.new) (R.fault_count report.new)) }
 
-    // Words that are refused are answered by 2, want of memory by 8; then nothing but the report is touched, by one line.
+    // The status is 2 for refused words, and 8 if memory could not be allocated; then only the
+    // report is touched, by one line.
     ensures refused { result ≡ 2 → spec.Refused (map string_bytes words.now)
         (R.held report.old) (R.held report.new) (R.fault_count report.old) (R.fault_count report.new) }
     ensures refused_exactly { spec.IsRefused (map string_bytes words.now) → (result ≡ 2) ⊎ (result ≡ 8) }
@@ -79,25 +82,31 @@ pub fn run<S: Source, K: Sink, R: Sink>(
     ensures source_untouched { (result ≡ 2) ⊎ (result ≡ 8) → source.new ≡ source.old }
     ensures capture_untouched { (result ≡ 2) ⊎ (result ≡ 8) → capture.new ≡ capture.old }
 
-    // A load leaves the source and the capture as they were, and ends but for a fault of the report and want of memory.
+    // A load leaves the source and the capture unchanged, and finishes unless the report fails or
+    // memory cannot be allocated.
     ensures load_source { spec.IsLoad (map string_bytes words.now) → source.new ≡ source.old }
     ensures load_capture { spec.IsLoad (map string_bytes words.now) → capture.new ≡ capture.old }
     ensures load_complete { spec.IsLoad (map string_bytes words.now) → (result ≡ 0) ⊎ (7 ≤ result) }
 
-    // Statuses 3 and 4 say what stands in the source, 5 to 7 that a count of faults rose.
+    // Statuses 3 and 4 describe the octets of the source; at 5 to 7 a fault count rose.
     ensures faulty { result ≡ 3 → UnderWords (map string_bytes words.now) (λ settings. stops.WasFaulty settings (S.left source.old)) }
     ensures cut { result ≡ 4 → UnderWords (map string_bytes words.now) (λ settings. stops.WasCut settings (S.left source.old)) }
     ensures read { result ≡ 5 → Rose (S.fault_count source.old) (S.fault_count source.new) }
     ensures capture { result ≡ 6 → Rose (K.fault_count capture.old) (K.fault_count capture.new) }
     ensures report { result ≡ 7 → Rose (R.fault_count report.old) (R.fault_count report.new) }
 
-    // What stands in the source is answered, unless a count rises or memory is wanting.
+    // Known octets of the source determine the status, unless a fault count rises or memory cannot
+    // be allocated.
     ensures faulty_exactly { UnderWords (map string_bytes words.now) (λ settings. stops.IsFaulty settings (S.left source.old))
         → (result ≡ 3) ⊎ (5 ≤ result) }
     ensures cut_exactly { UnderWords (map string_bytes words.now) (λ settings. stops.IsCutShort settings (S.left source.old))
         → (result ≡ 4) ⊎ (5 ≤ result) }
     ensures complete { UnderWords (map string_bytes words.now) (λ settings. stops.IsWhole settings (S.left source.old))
         → (result ≡ 0) ⊎ (5 ≤ result) }
+
+    // At 7 the source is as it was, or it has a head: a run that found no head stops with 3, 4 or 5.
+    ensures untouched_or_opened { result ≡ 7 → (source.new ≡ source.old)
+        ⊎ UnderWords (map string_bytes words.now) (λ settings. stops.HasHead settings (S.left source.old)) }
 
     ensures known { (result ≡ 0) ⊎ ((2 ≤ result) × (result ≤ 8)) }
     ensures source_later { S.fault_count source.old ≤ S.fault_count source.new }
@@ -124,9 +133,10 @@ pub fn run<S: Source, K: Sink, R: Sink>(
     }
 }
 
-/// Normalizes a capture under these settings, writes the report, and answers the status as `run` does; 2 is none of them.
-/// Where both sides are protected, they exchange no sides and give neither an interface on the inside nor a largest
-/// packet. The memory of the run is taken first: the buffer of one record and the relay.
+/// Normalizes a capture under these settings, writes the report, and returns the status as `run`
+/// does; 2 is not returned. If both sides are protected, the settings have no exchanged sides, no
+/// interface on the inside and no MTU. The memory of the run is allocated first: the buffer of one
+/// record and the relay.
 pub fn run_capture<S: Source, K: Sink, R: Sink>(
     alloc: Global,
     settings: &Settings,
@@ -161,6 +171,7 @@ pub fn run_capture<S: Source, K: Sink, R: Sink>(
     ensures faulty_exactly { stops.IsFaulty (plain_settings settings.now) (S.left source.old) → (result ≡ 3) ⊎ (5 ≤ result) }
     ensures cut_exactly { stops.IsCutShort (plain_settings settings.now) (S.left source.old) → (result ≡ 4) ⊎ (5 ≤ result) }
     ensures complete { stops.IsWhole (plain_settings settings.now) (S.left source.old) → (result ≡ 0) ⊎ (5 ≤ result) }
+    ensures untouched_or_opened { result ≡ 7 → (source.new ≡ source.old) ⊎ stops.HasHead (plain_settings settings.now) (S.left source.old) }
     ensures known { (result ≡ 0) ⊎ ((3 ≤ result) × (result ≤ 8)) }
     ensures source_later { S.fault_count source.old ≤ S.fault_count source.new }
     ensures capture_later { K.fault_count capture.old ≤ K.fault_count capture.new }
@@ -182,7 +193,8 @@ pub fn run_capture<S: Source, K: Sink, R: Sink>(
     stop.status()
 }
 
-// Takes the memory of a run, and normalizes the capture in it. Here it is given back, and nowhere else.
+// Allocates the memory of a run, and normalizes the capture in it. The only function that frees
+// this memory.
 fn normalize_in_room<S: Source, K: Sink, R: Sink>(
     alloc: Global,
     settings: &Settings,
@@ -210,6 +222,8 @@ fn normalize_in_room<S: Source, K: Sink, R: Sink>(
         (R.held report.old) (R.fault_count report.old))
         (moment_of (S.left source.new) (S.fault_count source.new) (K.held capture.new) (K.fault_count capture.new)
         (R.held report.new) (R.fault_count report.new)))) }
+    ensures opened { IfOk result (λ ended. IfErr ended (λ stop. stops.status_of stop ≡ 7
+        → (source.new ≡ source.old) ⊎ stops.HasHead (plain_settings settings.now) (S.left source.old))) }
     ensures source_stays { IfErr result (λ fault. source.new ≡ source.old) }
     ensures capture_stays { IfErr result (λ fault. capture.new ≡ capture.old) }
     ensures report_stays { IfErr result (λ fault. report.new ≡ report.old) }
@@ -222,7 +236,7 @@ fn normalize_in_room<S: Source, K: Sink, R: Sink>(
     Ok(ended)
 }
 
-// The memory of a run: the buffer of one record, and the relay.
+// Allocates the memory of a run: the buffer of one record, and the relay.
 fn take_room(alloc: Global, settings: &Settings) -> Result<(Vec<u8>, Relay), NoMemory>
     requires range { AreInRange (plain_settings settings.now) }
     requires together { GoTogether (plain_settings settings.now) }
@@ -235,7 +249,7 @@ fn take_room(alloc: Global, settings: &Settings) -> Result<(Vec<u8>, Relay), NoM
     Ok((buffer, relay))
 }
 
-// Judges every record of the capture, writes what goes out and the report, and hands on what the sinks keep back.
+// Judges every record of the capture, writes the frames and the report, and flushes the sinks.
 fn normalize<S: Source, K: Sink, R: Sink>(
     relay: &mut Relay,
     settings: &Settings,
@@ -267,6 +281,8 @@ fn normalize<S: Source, K: Sink, R: Sink>(
         (R.held report.old) (R.fault_count report.old))
         (moment_of (S.left source.new) (S.fault_count source.new) (K.held capture.new) (K.fault_count capture.new)
         (R.held report.new) (R.fault_count report.new))) }
+    ensures opened { IfErr result (λ stop. stops.status_of stop ≡ 7
+        → (source.new ≡ source.old) ⊎ stops.HasHead (plain_settings settings.now) (S.left source.old)) }
     ensures source_later { S.fault_count source.old ≤ S.fault_count source.new }
     ensures capture_later { K.fault_count capture.old ≤ K.fault_count capture.new }
     ensures report_later { R.fault_count report.old ≤ R.fault_count report.new }
@@ -295,7 +311,7 @@ fn normalize<S: Source, K: Sink, R: Sink>(
     finish(relay.records(), frames, input.offset(), capture, report)
 }
 
-// The name of the interface on the inside, where one is given.
+// Returns the name of the interface on the inside, if one is given.
 fn inside_of(settings: &Settings) -> Option<&[u8]>
     ensures name { option_map (λ name. name.now) result ≡ (plain_settings settings.now).inside }
     ensures small { IfSome result (λ name. length name.now ≤ 64) }
@@ -306,7 +322,7 @@ fn inside_of(settings: &Settings) -> Option<&[u8]>
     }
 }
 
-// The first line of the report.
+// Returns the first line of the report.
 fn first_line(both: bool) -> &'static [u8]
     ensures { result.now ≡ heading both }
 {
@@ -335,6 +351,7 @@ fn begin<S: Source, K: Sink, R: Sink>(
         (R.held report.old) (R.fault_count report.old))
         (moment_of (S.left source.new) (S.fault_count source.new) (K.held capture.new) (K.fault_count capture.new)
         (R.held report.new) (R.fault_count report.new))) }
+    ensures untouched { IfErr result (λ stop. stops.status_of stop ≡ 7 → source.new ≡ source.old) }
     ensures source_later { S.fault_count source.old ≤ S.fault_count source.new }
     ensures capture_later { K.fault_count capture.old ≤ K.fault_count capture.new }
     ensures report_later { R.fault_count report.old ≤ R.fault_count report.new }
@@ -352,7 +369,7 @@ fn begin<S: Source, K: Sink, R: Sink>(
     Ok(input)
 }
 
-// Hands on the frames, writes the last line, and hands on the report.
+// Flushes the frames, writes the last line, and flushes the report.
 fn finish<K: Sink, R: Sink>(
     records: u32,
     frames: u64,

@@ -1,4 +1,4 @@
-//! Why a run stops before it has finished, and the line that says so.
+//! Why a run stops before it has finished, and the line that reports it.
 ghost use Rattle.std.specs.Prelude.{◌≡◌, ◌≤◌, ◌<◌, codes};
 ghost use Rattle.edge_io.specs.Faults.{Rose};
 ghost use Rattle.rule_book.specs.Text.{last_text};
@@ -13,17 +13,17 @@ use norm_settings::WordFault;
 use record_relay::RelayFault;
 use rule_book::{Last, StopKind, last_line};
 
-/// Why a run stops before it has finished.
+/// Reason why a run stops before it has finished.
 #[derive(Clone, Copy, Debug, PartialEq, Eq)]
 pub enum Stop {
     /// For this reason, at the head, record or block whose first octet has this offset.
     At { kind: StopKind, offset: u64 },
-    /// The report failed, so that it cannot say more.
+    /// The report failed, so that it has no further line.
     Report,
 }
 
 impl Stop {
-    /// The status that the run answers.
+    /// Returns the status of the run.
     pub fn status(self) -> u8
         ensures { result ≡ spec.status_of self }
     {
@@ -34,7 +34,7 @@ impl Stop {
     }
 }
 
-// The status of a stop that the report tells.
+// Returns the status of a stop that the report contains.
 fn kind_status(kind: StopKind) -> u8
     ensures { result ≡ spec.kind_status kind }
 {
@@ -48,7 +48,7 @@ fn kind_status(kind: StopKind) -> u8
     }
 }
 
-/// The stop at the head, record or block with this fault, which begins at this offset.
+/// Returns the stop at the head, record or block with this fault, which begins at this offset.
 pub fn stop_at_fault(fault: InputFault, offset: u64) -> Stop
     ensures { result ≡ spec.stop_at_fault fault offset }
 {
@@ -65,7 +65,7 @@ pub fn stop_at_fault(fault: InputFault, offset: u64) -> Stop
     Stop::At { kind, offset }
 }
 
-/// The stop at a fault of the capture, which stood at the record or block with this offset.
+/// Returns the stop at a fault of the capture, at the record or block with this offset.
 pub fn stop_at_capture(offset: u64) -> Stop
     ensures { result ≡ Stop.At kinds.Capture offset }
 {
@@ -75,7 +75,7 @@ pub fn stop_at_capture(offset: u64) -> Stop
     }
 }
 
-/// The stop at the record or block with this offset, which is one too many.
+/// Returns the stop at the record or block with this offset, which is one too many.
 pub fn stop_at_too_many(offset: u64) -> Stop
     ensures { result ≡ Stop.At kinds.Many offset }
 {
@@ -85,7 +85,8 @@ pub fn stop_at_too_many(offset: u64) -> Stop
     }
 }
 
-/// The stop at a fault of this sink, at which what the record or block with this offset puts out was written.
+/// Returns the stop at a fault of this sink, during the output for the record or block with this
+/// offset.
 pub fn stop_at_sink(fault: RelayFault, offset: u64) -> Stop
     ensures { result ≡ outputs.stop_by fault offset }
 {
@@ -95,7 +96,7 @@ pub fn stop_at_sink(fault: RelayFault, offset: u64) -> Stop
     }
 }
 
-/// Hands on what the sinks keep back, and says in the report why the run stops. A fault here changes no status.
+/// Flushes the sinks, and reports why the run stops. A fault here changes no status.
 pub fn tell_stop<K: Sink, R: Sink>(stop: Stop, capture: &mut K, report: &mut R)
     ensures told { spec.Told (R.held report.old) (R.held report.new)
         (R.fault_count report.old) (R.fault_count report.new) (spec.stop_line stop) }
@@ -112,7 +113,7 @@ pub fn tell_stop<K: Sink, R: Sink>(stop: Stop, capture: &mut K, report: &mut R)
     }
 }
 
-/// Says that the memory of a run was not to be had.
+/// Reports that the memory of a run could not be allocated.
 pub fn tell_memory<R: Sink>(report: &mut R)
     ensures told { spec.Told (R.held report.old) (R.held report.new)
         (R.fault_count report.old) (R.fault_count report.new) spec.memory_line }
@@ -121,7 +122,7 @@ pub fn tell_memory<R: Sink>(report: &mut R)
     tell_kind(StopKind::Memory, 0, report);
 }
 
-/// Says that the words are refused, by the number of their fault.
+/// Reports that the words are refused, by the number of their fault.
 pub fn tell_words<R: Sink>(fault: &WordFault, report: &mut R)
     ensures told { spec.Told (R.held report.old) (R.held report.new)
         (R.fault_count report.old) (R.fault_count report.new) (spec.words_line (number_of fault.now)) }
@@ -153,7 +154,7 @@ fn tell_kind<R: Sink>(kind: StopKind, offset: u64, report: &mut R)
     tell(&line[..size], report);
 }
 
-// Writes a line and hands it on, as far as the report takes it.
+// Writes a line and flushes it, as far as the report accepts it.
 fn tell<R: Sink>(line: &[u8], report: &mut R)
     ensures told { spec.Told (R.held report.old) (R.held report.new)
         (R.fault_count report.old) (R.fault_count report.new) line.now }

@@ -1,4 +1,4 @@
-//! What a load comes to, counted entry by entry.
+//! The counts of a load, entry by entry.
 ghost use Rattle.std.specs.Prelude.{◌≡◌, ◌+◌, ◌<◌, ◌≤◌, ◌^◌, List, All, [], ◌∷◌, ◌++◌, length, map};
 ghost use Rattle.std.specs.List.{list_any};
 ghost use Rattle.rule_book.specs.declared.rule.Rule as rules;
@@ -16,19 +16,19 @@ pub struct RuleCount {
     pub count: u64,
 }
 
-/// What came of the records so far. It takes no memory.
+/// Counts of the records so far. Allocates no memory.
 #[derive(Drop)]
 pub struct Tally {
-    /// How many frames went out.
+    /// Number of frames written.
     pub packets: u64,
-    /// How many eras began.
+    /// Number of eras that began.
     pub eras: u64,
     /// Each rule that was named, in the order of first use; there are 61 rules.
     pub rules: ArrayVec<RuleCount, 64>,
 }
 
 impl Tally {
-    /// Nothing is counted yet.
+    /// Creates a tally with all counts 0.
     pub fn new() -> Tally
         ensures packets { result.packets ≡ 0 }
         ensures eras { result.eras ≡ 0 }
@@ -41,7 +41,7 @@ impl Tally {
         }
     }
 
-    /// Counts one entry more.
+    /// Counts one more entry.
     pub fn add(&mut self, entry: &Entry)
         requires packets { self.old.packets + 255 < 2 ^ 64 }
         requires eras { self.old.eras + 1 < 2 ^ 64 }
@@ -62,7 +62,7 @@ impl Tally {
     }
 }
 
-// Counts one use more of a rule.
+// Counts one more use of a rule.
 fn note(rows: &mut ArrayVec<RuleCount, 64>, rule: Rule)
     requires { (named : List rules.Rule) × (rows.old.items ≡ rule_counts named) × (length named + 1 < 2 ^ 64) }
     ensures { (named : List rules.Rule) → rows.old.items ≡ rule_counts named →
@@ -73,7 +73,7 @@ fn note(rows: &mut ArrayVec<RuleCount, 64>, rule: Rule)
     }
 }
 
-// Counts the use at the row of the rule, if there is one, and answers whether there is.
+// Counts the use in the element of the rule, if there is one, and returns whether there is.
 fn count_in(rows: &mut [RuleCount], rule: Rule) -> bool
     requires { All (λ row. row.count + 1 < 2 ^ 64) rows.old }
     ensures rows { rows.new ≡ map (counted_once rule) rows.old }
@@ -86,7 +86,7 @@ fn count_in(rows: &mut [RuleCount], rule: Rule) -> bool
     is_found
 }
 
-// Counts the use at a row, where it is that of the rule, and answers whether it is.
+// Counts the use in this element if it is that of the rule, and returns whether it is.
 fn count_at(row: &mut RuleCount, rule: Rule) -> bool
     requires { row.old.count + 1 < 2 ^ 64 }
     ensures row { row.new ≡ counted_once rule row.old }

@@ -4,7 +4,7 @@ use Rattle.bridge_run.specs.Summary.{is_same}
 use Rattle.bridge_run.specs.Counting.{counted_once}
 use Rattle.bridge_run.proofs.tally.count_in.Given as goal
 
--- the rows so far are counted, and the others are as they were
+-- the counts so far are updated, and the others are unchanged
 abbrev pub invariant-loop-row : goal.invariant-loop-row
 invariant-loop-row l = record {
   rows : l.rows ≡ map (counted_once l.rule) (take l.row-index l.initial.rows) ++ drop l.row-index l.initial.rows;
