@@ -1,5 +1,5 @@
 -- Frames without a fault tell one stream in each era, so that all receivers agree.
-use Rattle.std.proofs.Common.{◌≡◌, ℕ, zero, suc, ◌+◌, ◌%◌, ◌^◌, ◌==◌, ◌&&◌, List, [], ◌∷◌, ◌++◌, map, length, Option, Some, None, Bool, true, false, refl, sym, ap, ◌∙◌, subst, if◌then◌else◌, append-nil}
+use Rattle.std.proofs.Common.{◌≡◌, ℕ, zero, suc, ◌+◌, ◌%◌, ◌^◌, ◌==◌, ◌&&◌, ◌||◌, List, [], ◌∷◌, ◌++◌, map, length, Option, Some, None, Bool, true, false, refl, sym, ap, ◌∙◌, subst, if◌then◌else◌, append-nil}
 use Rattle.std.specs.Prelude.{ℤ, All, IfSome, IsTrue, slice_get}
 use Rattle.std.proofs.lemmas.Bool.{eqb-true}
 use Rattle.std.proofs.lemmas.List.Elements.{All-nil, All-cons, All-append}
@@ -11,7 +11,6 @@ use Rattle.wire_base.specs.Plain.{Plain}
 use Rattle.wire_base.specs.Segments.{Segment, Written, fields_of, segment_of, written_of}
 use Rattle.era_state.specs.Offsets.{off}
 use Rattle.era_state.specs.Quantities.{base_of, acked, first, end_of}
-use Rattle.era_state.specs.Laws.{OctetsAreBelowTop}
 use Rattle.era_state.specs.Emitted.{HasNoOtherBase}
 use Rattle.era_state.specs.Silence.{IsSilent, SilenceChangesNothing}
 use Rattle.receiver_model.specs.Agreement.{OctetAt, FinAt, HasSynBefore, TellOneStream, MembersAgree}
@@ -21,14 +20,13 @@ use Rattle.era_agreement.proofs.Facts.{EraLaws, IsTold, told_still, other_before
 use Rattle.era_agreement.proofs.Told.{Each, Told}
 use Rattle.run_audit.specs.Faults.{in_stream, lacks_base, has_other_syn, has_other_octet, has_other_fin, IsWellReadAs, IsFaultless}
 use Rattle.run_audit.specs.FirstFault.{AreFaultless}
-use Rattle.run_audit.specs.Frames.{Frame, is_inward, sent}
+use Rattle.run_audit.specs.Frames.{Frame, is_based, is_inward, sent}
 use Rattle.run_audit.specs.Sound.{FaultlessAgrees}
 use Rattle.run_audit.proofs.Telling.{IsRight, EndsBehind, told, silent_unbased, ends_on, ends_silent, ends_outward}
 
 -- the laws that are cited
 pub record Laws : Type 0 where
   pub eras : EraLaws
-  pub below : OctetsAreBelowTop
   pub silence : SilenceChangesNothing
 
 each_append : (P : ℤ → List ℕ → Type 0) (zs : List ℤ) (ps : List (List ℕ)) (ys : List ℤ) (qs : List (List ℕ)) → Each P zs ps → Each P ys qs → Each P (zs ++ ys) (ps ++ qs)
@@ -110,7 +108,7 @@ named_is era None e = absurd (cc e)
 -- the frames of an era, one after the other
 era_tells : Laws → (hops era base : ℕ) (frames : List Frame) → AreFaultless hops frames → HasNoOtherBase base (written_in era (sent frames)) → EraTells hops base (written_in era (sent frames)) (inward_places era base (sent frames)) (inward_packets era (sent frames))
 era_tells laws hops era base [] h only = record { each = tt; ends = λ o x end ex ee. absurd (cc ex); plain = All-nil (λ p. Plain hops p) }
-era_tells laws hops era base (f ∷ older) h only = by (era_tells laws hops era base older h.0) (is_era era f.era) refl (is_inward f.side) refl only
+era_tells laws hops era base (f ∷ older) h only = by (era_tells laws hops era base older h.0) (is_era era f.era) refl (is_inward f.side) refl (is_based (sent older) f.era f.packet) only
   where
     ws : List Written
     ws = written_in era (sent older)
@@ -171,17 +169,18 @@ era_tells laws hops era base (f ∷ older) h only = by (era_tells laws hops era 
 
         ends : (o : Option ℕ) → base_of (ws ++ w ∷ []) ≡ o → EndsBehind base (ws ++ w ∷ [])
         ends None e = ends_silent laws.silence base ws w (silent_unbased ws s e right) before.ends
-        ends (Some b) e = ends_on laws.below base ws s (e ∙ ap (λ n. Some n) (only_one b e)) right before.ends
+        ends (Some b) e = ends_on base ws s (e ∙ ap (λ n. Some n) (only_one b e)) right before.ends
 
-    by : Rest → (named : Bool) → is_era era f.era ≡ named → (inw : Bool) → is_inward f.side ≡ inw → HasNoOtherBase base (ws ++ (if named && true then segments_in inw (p ∷ []) else [])) → EraTells hops base (ws ++ (if named && true then segments_in inw (p ∷ []) else [])) (zs ++ (if named && inw then map (place_of base (acked base ws)) (p ∷ []) else [])) (ps ++ (if named && inw then p ∷ [] else []))
-    by go false e inw i only = outward go None only
-    by go true e false i only = outward go (segment_of p) only
-    by go true e true i only = inward go (inward_is f.side i) (named_is era f.era e) only
+    by : Rest → (named : Bool) → is_era era f.era ≡ named → (inw : Bool) → is_inward f.side ≡ inw → (based : Bool) → HasNoOtherBase base (ws ++ (if named && (inw || based) then segments_in inw (p ∷ []) else [])) → EraTells hops base (ws ++ (if named && (inw || based) then segments_in inw (p ∷ []) else [])) (zs ++ (if named && inw then map (place_of base (acked base ws)) (p ∷ []) else [])) (ps ++ (if named && inw then p ∷ [] else []))
+    by go false e inw i based only = outward go None only
+    by go true e false i false only = outward go None only
+    by go true e false i true only = outward go (segment_of p) only
+    by go true e true i based only = inward go (inward_is f.side i) (named_is era f.era e) only
 
 -- where no base is fixed, the packets say nothing of a stream
 all_silent : Laws → (hops era : ℕ) (frames : List Frame) → AreFaultless hops frames → ((b : ℕ) → base_of (written_in era (sent frames)) ≡ Some b → ⊥) → All IsSilentPacket (inward_packets era (sent frames))
 all_silent laws hops era [] h none = All-nil IsSilentPacket
-all_silent laws hops era (f ∷ older) h none = by (all_silent laws hops era older h.0) (is_era era f.era) refl (is_inward f.side) refl none
+all_silent laws hops era (f ∷ older) h none = by (all_silent laws hops era older h.0) (is_era era f.era) refl (is_inward f.side) refl (is_based (sent older) f.era f.packet) none
   where
     ws : List Written
     ws = written_in era (sent older)
@@ -231,10 +230,10 @@ all_silent laws hops era (f ∷ older) h none = by (all_silent laws hops era old
     same : All IsSilentPacket ps → All IsSilentPacket (ps ++ [])
     same k = subst (All IsSilentPacket) (sym (append-nil ps)) k
 
-    by : Rest → (named : Bool) → is_era era f.era ≡ named → (inw : Bool) → is_inward f.side ≡ inw → Unbased (ws ++ (if named && true then segments_in inw (p ∷ []) else [])) → All IsSilentPacket (ps ++ (if named && inw then p ∷ [] else []))
-    by go false e inw i none = same (go (before [] none))
-    by go true e false i none = same (go (before (segments_in false (p ∷ [])) none))
-    by go true e true i none = inward go (inward_is f.side i) (named_is era f.era e) none
+    by : Rest → (named : Bool) → is_era era f.era ≡ named → (inw : Bool) → is_inward f.side ≡ inw → (based : Bool) → Unbased (ws ++ (if named && (inw || based) then segments_in inw (p ∷ []) else [])) → All IsSilentPacket (ps ++ (if named && inw then p ∷ [] else []))
+    by go false e inw i based none = same (go (before [] none))
+    by go true e false i based none = same (go (before (if based then segments_in false (p ∷ []) else []) none))
+    by go true e true i based none = inward go (inward_is f.side i) (named_is era f.era e) none
 
 if_some : (P : Segment → Type 0) (o : Option Segment) → ((s : Segment) → o ≡ Some s → P s) → IfSome o P
 if_some P None h = tt

@@ -1,5 +1,5 @@
 -- A ledger with one more segment that went inwards.
-use Rattle.std.proofs.Common.{◌≡◌, ℕ, ◌+◌, ◌%◌, ◌^◌, ◌≤◌, ◌==◌, ◌&&◌, ◌||◌, not, List, [], ◌∷◌, ◌++◌, length, Option, Some, None, Bool, true, false, refl, sym, ap, ap₂, ◌∙◌, subst, arith, if◌then◌else◌, nat_lt, is_none, vec_len}
+use Rattle.std.proofs.Common.{◌≡◌, ℕ, ◌+◌, ◌%◌, ◌^◌, ◌==◌, ◌&&◌, ◌||◌, not, List, [], ◌∷◌, ◌++◌, length, Option, Some, None, Bool, true, false, refl, sym, ap, ap₂, ◌∙◌, subst, arith, if◌then◌else◌, nat_lt, is_none}
 use Rattle.std.specs.Prelude.{pos, ◌+ℤ◌, IfOk, Result, Ok, Err}
 use Rattle.std.specs.Option.{option_or}
 use Rattle.std.proofs.lemmas.Bool.{or_parts, ltb-false}
@@ -8,7 +8,7 @@ use Rattle.wire_base.specs.Tcp as tcp
 use Rattle.wire_base.specs.Segments.{Written}
 use Rattle.era_state.specs.Offsets.{off}
 use Rattle.era_state.specs.Marks.{has_octets, fixes}
-use Rattle.era_state.specs.Quantities.{base_of, base_at, acked, top, first, end_of}
+use Rattle.era_state.specs.Quantities.{base_of, base_at, acked, first, end_of}
 use Rattle.era_state.specs.Rules.{precedes}
 use Rattle.era_state.specs.Silence.{IsSilent, Same}
 use Rattle.era_state.proofs.Steps.{base_push}
@@ -18,8 +18,10 @@ use Rattle.run_audit.specs.declared.answer.Reason.TheVariants as reasons
 use Rattle.run_audit.specs.declared.ledger.Inward.{Inward}
 use Rattle.run_audit.specs.declared.ledger.Ledger.{Ledger}
 use Rattle.run_audit.specs.Faults.{lacks_base, has_other_syn, has_other_octet, has_other_fin, some_strays, fin_strays}
-use Rattle.run_audit.specs.Ledgers.{IsInward, ReadBy, Tells, StandsFor, IsRightAt, IsVerdict, IsVerdictAt, octets_reason, stream_reason, acked_by, fixed, settled}
-use Rattle.run_audit.proofs.Advancing.{longer, other_before, one_base}
+use Rattle.run_audit.specs.Ledgers.{IsInward, Tells, StandsFor, IsRightAt, IsVerdict, IsVerdictAt, octets_reason, stream_reason, settled}
+use Rattle.run_audit.specs.Tops.{top}
+use Rattle.run_audit.proofs.Advancing.{other_before, one_base}
+use Rattle.run_audit.proofs.Tops.{last_same, bare_end}
 
 fixes_in : (s : Inward) (w : Written) → IsInward s w → fixes w ≡ (if tcp.has_syn s.flags.0 then Some ((s.seq + 1) % 2 ^ 32) else None)
 fixes_in s w is =
@@ -28,9 +30,9 @@ fixes_in s w is =
 
 -- the base that is fixed with it
 base_settled : (l : Ledger) (o : Option ℕ) (syn : Bool) (behind : ℕ) → l.base ≡ o → (settled l syn behind).base ≡ option_or o (if syn then Some behind else None)
-base_settled l None true behind e = ap (λ (q : Option ℕ). (if true && is_none q then fixed l behind else l).base) e
+base_settled l None true behind e = ap (λ (q : Option ℕ). (if true && is_none q then record l { base = Some behind } else l).base) e
 base_settled l None false behind e = e
-base_settled l (Some x) true behind e = ap (λ (q : Option ℕ). (if true && is_none q then fixed l behind else l).base) e ∙ e
+base_settled l (Some x) true behind e = ap (λ (q : Option ℕ). (if true && is_none q then record l { base = Some behind } else l).base) e ∙ e
 base_settled l (Some x) false behind e = e
 
 pub base_with : (l : Ledger) (s : Inward) (ws : List Written) (w : Written) → StandsFor l ws → IsInward s w → (settled l (tcp.has_syn s.flags.0) ((s.seq + 1) % 2 ^ 32)).base ≡ base_of (ws ++ w ∷ [])
@@ -39,33 +41,13 @@ base_with l s ws w st is =
     ∙ ap (option_or (base_of ws)) (sym (fixes_in s w is))
     ∙ sym (base_push ws w)
 
--- read by that base
-pub read_by : (l : Ledger) (ws : List Written) (syn : Bool) (behind base : ℕ) → StandsFor l ws → (settled l syn behind).base ≡ Some base → ReadBy base (settled l syn behind) ws
-read_by l ws syn behind base st based = by l.base refl syn based
+-- the other fields stay
+pub tells_settled : (base : ℕ) (l : Ledger) (ws : List Written) (syn : Bool) (behind : ℕ) → Tells base l ws → Tells base (settled l syn behind) ws
+tells_settled base l ws syn behind t = by (syn && is_none l.base)
   where
-    by : (o : Option ℕ) → l.base ≡ o → (c : Bool) → (settled l c behind).base ≡ Some base → ReadBy base (settled l c behind) ws
-    by o e false based = record { acked_is = st.acked_is base here; tells = st.tells base (λ number f. one_base number base ws f here) }
-      where
-        here : base_of ws ≡ Some base
-        here = sym st.base_is ∙ based
-    by (Some x) e true based =
-        let is : settled l true behind ≡ l = ap (λ (q : Option ℕ). if true && is_none q then fixed l behind else l) e in
-        let here : base_of ws ≡ Some base = sym st.base_is ∙ sym (ap (λ (k : Ledger). k.base) is) ∙ based in
-        let read : ReadBy base l ws = record { acked_is = st.acked_is base here; tells = st.tells base (λ number f. one_base number base ws f here) } in
-        let P : Ledger → Type 0 = λ k. ReadBy base k ws in
-        subst P (sym is) read
-    by None e true based =
-        let is : settled l true behind ≡ fixed l behind = ap (λ (q : Option ℕ). if true && is_none q then fixed l behind else l) e in
-        let none : base_of ws ≡ None = sym st.base_is ∙ e in
-        let same : Some behind ≡ Some base = sym (ap (λ (k : Ledger). k.base) is) ∙ based in
-        let t : Tells base l ws = st.tells base (λ number f. absurd (cc (f, none))) in
-        let there : behind ≡ base = cc same in
-        let read : ReadBy base (fixed l behind) ws = record {
-          acked_is = ap (λ n. acked_by n l.resets.items) there ∙ sym (st.resets_are none base);
-          tells = record { top_is = t.top_is; end_is = t.end_is; octets_are = t.octets_are };
-        } in
-        let P : Ledger → Type 0 = λ k. ReadBy base k ws in
-        subst P (sym is) read
+    by : (b : Bool) → Tells base (if b then record l { base = Some behind } else l) ws
+    by true = record { acked_is = t.acked_is; top_is = t.top_is; end_is = t.end_is; octets_are = t.octets_are }
+    by false = t
 
 -- the reasons, one after the other
 pub base_is_missing : (s : Inward) (ws : List Written) (w : Written) → IsInward s w → base_of (ws ++ w ∷ []) ≡ None → (nat_lt 0 (length s.octets.now) || tcp.has_fin s.flags.0) ≡ true → stream_reason ws w ≡ Some reasons.Base
@@ -94,38 +76,29 @@ octets_left s ws w base is based other =
     ap₂ (λ (a b : Bool). if a then Some reasons.Base else if b then Some reasons.Syn else octets_reason ws w) (based_lacks_none ws w base based) (other_syn s ws w base is based ∙ other)
 
 -- a ledger that is read by the base stands for the segments with the new one
-stands_by : (l new : Ledger) (ws : List Written) (w : Written) (base : ℕ) → StandsFor l ws → base_of (ws ++ w ∷ []) ≡ Some base → ReadBy base new (ws ++ w ∷ []) → new.base ≡ Some base → new.resets ≡ l.resets → StandsFor new (ws ++ w ∷ [])
-stands_by l new ws w base st based read new_base same_resets = record {
+stands_by : (new : Ledger) (ws : List Written) (w : Written) (base : ℕ) → base_of (ws ++ w ∷ []) ≡ Some base → Tells base new (ws ++ w ∷ []) → new.base ≡ Some base → StandsFor new (ws ++ w ∷ [])
+stands_by new ws w base based read new_base = record {
   base_is = new_base ∙ sym based;
-  tells = λ other only. let same : base ≡ other = only base based in subst (λ b. Tells b new (ws ++ w ∷ [])) same read.tells;
-  acked_is = λ other e. let same : base ≡ other = one_base base other (ws ++ w ∷ []) based e in subst (λ b. new.acked ≡ acked b (ws ++ w ∷ [])) same read.acked_is;
-  resets_are = λ e other. absurd (cc (e, based));
-  few = longer (vec_len new.resets) ws w (subst (λ r. vec_len r ≤ length ws) (sym same_resets) st.few);
+  tells = λ other only. let same : base ≡ other = only base based in subst (λ b. Tells b new (ws ++ w ∷ [])) same read;
 }
 
 -- the verdict on octets and FIN is that on the segment
-pub whole_verdict : (l mid new : Ledger) (s : Inward) (ws : List Written) (w : Written) (base : ℕ) (verdict : Option Reason) → StandsFor l ws → IsInward s w → mid ≡ settled l (tcp.has_syn s.flags.0) ((s.seq + 1) % 2 ^ 32) → mid.base ≡ Some base → (tcp.has_syn s.flags.0 && not (((s.seq + 1) % 2 ^ 32) == base)) ≡ false → IsVerdictAt base mid new ws w verdict → new.base ≡ mid.base → new.resets ≡ mid.resets → IsVerdict new ws w verdict
-whole_verdict l mid new s ws w base verdict st is mid_is mid_base other at same_base same_resets = by verdict (at read based)
+pub whole_verdict : (l mid new : Ledger) (s : Inward) (ws : List Written) (w : Written) (base : ℕ) (verdict : Option Reason) → StandsFor l ws → IsInward s w → mid ≡ settled l (tcp.has_syn s.flags.0) ((s.seq + 1) % 2 ^ 32) → mid.base ≡ Some base → (tcp.has_syn s.flags.0 && not (((s.seq + 1) % 2 ^ 32) == base)) ≡ false → IsVerdictAt base mid new ws w verdict → new.base ≡ mid.base → IsVerdict new ws w verdict
+whole_verdict l mid new s ws w base verdict st is mid_is mid_base other at same_base = by verdict (at read based)
   where
-    lit : (settled l (tcp.has_syn s.flags.0) ((s.seq + 1) % 2 ^ 32)).base ≡ Some base
-    lit = sym (ap (λ (k : Ledger). k.base) mid_is) ∙ mid_base
-
     based : base_of (ws ++ w ∷ []) ≡ Some base
-    based = sym (base_with l s ws w st is) ∙ lit
+    based = sym (base_with l s ws w st is) ∙ sym (ap (λ (k : Ledger). k.base) mid_is) ∙ mid_base
 
-    read : ReadBy base mid ws
-    read = let P : Ledger → Type 0 = λ k. ReadBy base k ws in subst P (sym mid_is) (read_by l ws (tcp.has_syn s.flags.0) ((s.seq + 1) % 2 ^ 32) base st lit)
-
-    resets_settled : (c d : Bool) (behind : ℕ) → (if c && d then fixed l behind else l).resets ≡ l.resets
-    resets_settled true true behind = refl
-    resets_settled true false behind = refl
-    resets_settled false d behind = refl
+    read : Tells base mid ws
+    read =
+        let P : Ledger → Type 0 = λ k. Tells base k ws in
+        subst P (sym mid_is) (tells_settled base l ws (tcp.has_syn s.flags.0) ((s.seq + 1) % 2 ^ 32) (st.tells base (other_before base ws w (λ number f. one_base number base (ws ++ w ∷ []) f based))))
 
     left : stream_reason ws w ≡ octets_reason ws w
     left = octets_left s ws w base is based other
 
     by : (v : Option Reason) → IsRightAt base new ws w v → IsVerdict new ws w v
-    by None r = (left ∙ r.0, stands_by l new ws w base st based r.1 (same_base ∙ mid_base) (same_resets ∙ ap (λ (k : Ledger). k.resets) mid_is ∙ resets_settled (tcp.has_syn s.flags.0) (is_none l.base) ((s.seq + 1) % 2 ^ 32)))
+    by None r = (left ∙ r.0, stands_by new ws w base based r.1 (same_base ∙ mid_base))
     by (Some reason) r = left ∙ r
 
 -- nothing comes, and no base is fixed
@@ -179,13 +152,11 @@ silent_verdict l mid s ws w st is mid_is mid_base brings = (right, subst P (sym 
       tells = λ base only.
           let t = st.tells base (other_before base ws w only) in
           record {
-            top_is = t.top_is ∙ ap pos (sym (same.top_is base));
+            acked_is = t.acked_is ∙ sym (same.numbers.acked_is base);
+            top_is = t.top_is ∙ sym (last_same base ws w (bare_end base (acked base ws) w silent.no_octets));
             end_is = t.end_is ∙ sym (same.end_is base);
             octets_are = λ raised. t.octets_are raised ∙ sym (same.first_is base _);
           };
-      acked_is = λ base e. st.acked_is base (sym same.numbers.base_is ∙ e) ∙ sym (same.numbers.acked_is base);
-      resets_are = λ e base. same.numbers.acked_is base ∙ st.resets_are (sym same.numbers.base_is ∙ e) base;
-      few = longer (vec_len l.resets) ws w st.few;
     }
 
     lacks : lacks_base ws w ≡ false
@@ -210,7 +181,7 @@ silent_verdict l mid s ws w st is mid_is mid_base brings = (right, subst P (sym 
 
 -- what holds of the verdict and of the fields holds of the whole
 pub whole_result : (r : Result (Option Reason) NoMemory) (l mid new : Ledger) (s : Inward) (base : ℕ) → mid ≡ settled l (tcp.has_syn s.flags.0) ((s.seq + 1) % 2 ^ 32) → mid.base ≡ Some base → (tcp.has_syn s.flags.0 && not (((s.seq + 1) % 2 ^ 32) == base)) ≡ false
-    → IfOk r (λ _. new.base ≡ mid.base) → IfOk r (λ _. new.resets ≡ mid.resets) → IfOk r (λ verdict. (ws : List Written) (w : Written) → IsInward s w → IsVerdictAt base mid new ws w verdict)
+    → IfOk r (λ _. new.base ≡ mid.base) → IfOk r (λ verdict. (ws : List Written) (w : Written) → IsInward s w → IsVerdictAt base mid new ws w verdict)
     → IfOk r (λ verdict. (ws : List Written) (w : Written) → StandsFor l ws → IsInward s w → IsVerdict new ws w verdict)
-whole_result (Ok verdict) l mid new s base mid_is mid_base other same_base same_resets at = λ ws w st is. whole_verdict l mid new s ws w base verdict st is mid_is mid_base other (at ws w is) same_base same_resets
-whole_result (Err e) l mid new s base mid_is mid_base other same_base same_resets at = tt
+whole_result (Ok verdict) l mid new s base mid_is mid_base other same_base at = λ ws w st is. whole_verdict l mid new s ws w base verdict st is mid_is mid_base other (at ws w is) same_base
+whole_result (Err e) l mid new s base mid_is mid_base other same_base at = tt

@@ -1,42 +1,47 @@
 -- A segment that may be written in an era has no fault, also where others that say nothing stand between those before it.
 use Rattle.std.proofs.Common.{◌≡◌, ⊎_elim, ℕ, zero, suc, ◌+◌, ◌%◌, ◌^◌, ◌≤◌, ◌&&◌, ◌||◌, not, nat_lt, nat_eq, List, [], ◌∷◌, ◌++◌, length, Option, Some, None, is_none, Bool, true, false, refl, sym, ap, ap₂, ◌∙◌, subst, arith, eq-eqb}
-use Rattle.std.specs.Prelude.{ℤ, pos, negsuc, ◌+ℤ◌, ◌<ℤ◌, max, int_lt, slice_get}
+use Rattle.std.specs.Prelude.{ℤ, pos, negsuc, ◌+ℤ◌, ◌-ℤ◌, ◌<ℤ◌, ◌≤ℤ◌, max, int_lt, slice_get, if◌then◌else◌}
 use Rattle.std.specs.Option.{option_or}
+use Rattle.std.proofs.Math.Nat.{max-zero}
 use Rattle.std.proofs.lemmas.Int.{ints}
 use Rattle.std.proofs.lemmas.Bool.{and_right, not_from_true}
 use Rattle.wire_base.specs.Tcp as tcp
 use Rattle.wire_base.specs.Segments.{Written}
-use Rattle.era_state.specs.Offsets.{off, number_in}
-use Rattle.era_state.specs.Marks.{has_octets, octet_at, fin_place, top_place, fixes, ack_of}
-use Rattle.era_state.specs.Quantities.{base_of, acked, edge, top, first, end_of}
+use Rattle.era_state.specs.Offsets.{off, natural, number_in}
+use Rattle.era_state.specs.Marks.{acknowledges, has_octets, get_at, octet_at, fin_place, fixes, ack_of}
+use Rattle.era_state.specs.Quantities.{base_of, acked, edge, first, end_of}
+use Rattle.era_state.specs.Quantities as era
 use Rattle.era_state.specs.Rules.{precedes}
 use Rattle.era_state.specs.Emission.{IsOutward, IsBare, IsKeptFrame, IsEmitted, AreEmitted}
 use Rattle.era_state.specs.Emitted.{EmittedOctetsArePlaces, HasNoOtherBase, IsTold}
 use Rattle.era_state.specs.Silence.{IsSilent, SilenceChangesNothing}
 use Rattle.era_state.proofs.Framed.{EndLies}
 use Rattle.era_state.proofs.Emitting.{bounded}
-use Rattle.era_state.proofs.Steps.{base_push, acked_push, octet_push, end_push, top_push}
+use Rattle.era_state.proofs.Pushes.{or_none}
+use Rattle.era_state.proofs.Steps.{base_push, acked_push, octet_push, end_push}
 use Rattle.era_agreement.proofs.Facts.{EraLaws}
 use Rattle.run_audit.specs.Faults.{is_other, is_past, some_strays, fin_strays}
+use Rattle.run_audit.specs.Tops.{octets_end, greater, last_end, place_in, top}
 use Rattle.run_audit.proofs.Telling.{IsRight}
+use Rattle.run_audit.proofs.Tops.{last_push, last_same, outward_end, bare_end, top_most}
 
 -- two lists have the quantities of which faults are read in common
 pub record Alike (ws vs : List Written) : Type 0 where
   pub base_is : base_of vs ≡ base_of ws
   pub acked_is : (base : ℕ) → acked base vs ≡ acked base ws
-  pub top_is : (base : ℕ) → top base vs ≡ top base ws
+  pub last_is : (base : ℕ) → last_end base vs ≡ last_end base ws
   pub end_is : (base : ℕ) → end_of base vs ≡ end_of base ws
   pub first_is : (base : ℕ) (offset : ℤ) → first base vs offset ≡ first base ws offset
 
 pub alike_none : Alike [] []
-alike_none = record { base_is = refl; acked_is = λ base. refl; top_is = λ base. refl; end_is = λ base. refl; first_is = λ base offset. refl }
+alike_none = record { base_is = refl; acked_is = λ base. refl; last_is = λ base. refl; end_is = λ base. refl; first_is = λ base offset. refl }
 
 -- with the same segment behind both
 pub alike_on : (ws vs : List Written) (w : Written) → Alike ws vs → Alike (ws ++ w ∷ []) (vs ++ w ∷ [])
 alike_on ws vs w a = record {
   base_is = base_push vs w ∙ ap (λ o. option_or o (fixes w)) a.base_is ∙ sym (base_push ws w);
   acked_is = λ base. acked_push base vs w ∙ ap (λ n. max n (number_in (ack_of base n w))) (a.acked_is base) ∙ sym (acked_push base ws w);
-  top_is = λ base. top_push base vs w ∙ ap₂ (λ t n. max t (top_place base n w)) (a.top_is base) (a.acked_is base) ∙ sym (top_push base ws w);
+  last_is = λ base. last_push base vs w ∙ ap₂ (λ t n. greater t (octets_end base n w)) (a.last_is base) (a.acked_is base) ∙ sym (last_push base ws w);
   end_is = λ base. end_push base vs w ∙ ap₂ (λ o n. option_or o (fin_place base n w)) (a.end_is base) (a.acked_is base) ∙ sym (end_push base ws w);
   first_is = λ base offset. octet_push base vs w offset ∙ ap₂ (λ o n. option_or o (octet_at base n offset w)) (a.first_is base offset) (a.acked_is base) ∙ sym (octet_push base ws w offset);
 }
@@ -48,10 +53,34 @@ alike_silent silence ws vs w silent a =
     record {
       base_is = same.numbers.base_is ∙ a.base_is;
       acked_is = λ base. same.numbers.acked_is base ∙ a.acked_is base;
-      top_is = λ base. same.top_is base ∙ a.top_is base;
+      last_is = λ base. last_same base vs w (bare_end base (acked base vs) w silent.no_octets) ∙ a.last_is base;
       end_is = λ base. same.end_is base ∙ a.end_is base;
       first_is = λ base offset. same.first_is base offset ∙ a.first_is base offset;
     }
+
+-- with an outward one behind the first that acknowledges nothing and fixes no base
+pub alike_idle : (ws vs : List Written) (w : Written) → w.inward ≡ false → acknowledges w ≡ false → Alike ws vs → Alike (ws ++ w ∷ []) vs
+alike_idle ws vs w out idle a = record {
+  base_is = a.base_is ∙ sym (base_push ws w ∙ ap (option_or (base_of ws)) no_base ∙ or_none (base_of ws));
+  acked_is = λ base. a.acked_is base ∙ sym (acked_push base ws w ∙ ap (λ (b : Bool). max (acked base ws) (number_in (if b then natural (off base (acked base ws) w.ack) else None))) idle ∙ max-zero (acked base ws));
+  last_is = λ base. a.last_is base ∙ sym (last_same base ws w (outward_end base (acked base ws) w out));
+  end_is = λ base. a.end_is base ∙ sym (end_push base ws w ∙ ap (option_or (end_of base ws)) (no_fin base) ∙ or_none (end_of base ws));
+  first_is = λ base offset. a.first_is base offset ∙ sym (octet_push base ws w offset ∙ ap (option_or (first base ws offset)) (no_octet base offset) ∙ or_none (first base ws offset));
+}
+  where
+    no_ack : tcp.has_ack w.flags ≡ false
+    no_ack = ap (λ (i : Bool). not i && tcp.has_ack w.flags) (sym out) ∙ idle
+
+    no_base : fixes w ≡ None
+    no_base =
+        ap (λ (i : Bool). if i then (if tcp.has_syn w.flags then Some ((w.seq + 1) % 2 ^ 32) else None) else (if tcp.has_ack w.flags && not (tcp.has_rst w.flags) then Some w.ack else None)) out
+        ∙ ap (λ (b : Bool). if b && not (tcp.has_rst w.flags) then Some w.ack else None) no_ack
+
+    no_fin : (base : ℕ) → fin_place base (acked base ws) w ≡ None
+    no_fin base = ap (λ (i : Bool). if i && tcp.has_fin w.flags then Some (off base (acked base ws) w.seq +ℤ pos (length w.octets)) else None) out
+
+    no_octet : (base : ℕ) (o : ℤ) → octet_at base (acked base ws) o w ≡ None
+    no_octet base o = ap (λ (i : Bool). if i then get_at w.octets (natural (o -ℤ off base (acked base ws) w.seq)) else None) out
 
 -- a segment without a fault behind one list has none behind the other
 pub right_alike : (ws vs : List Written) (w : Written) → Alike ws vs → IsRight ws w → IsRight vs w
@@ -64,7 +93,7 @@ right_alike ws vs w a right = record {
       ∙ right.octet;
   fin =
       ap (λ b. tcp.has_fin w.flags && fin_strays (end_of b vs) (top b (vs ++ w ∷ [])) (off b (acked b vs) w.seq +ℤ pos (length w.octets))) (ap number_in on.base_is)
-      ∙ (λ i. tcp.has_fin w.flags && fin_strays (a.end_is base i) (on.top_is base i) (off base (a.acked_is base i) w.seq +ℤ pos (length w.octets)))
+      ∙ (λ i. tcp.has_fin w.flags && fin_strays (a.end_is base i) (place_in (on.last_is base i)) (off base (a.acked_is base i) w.seq +ℤ pos (length w.octets)))
       ∙ right.fin;
 }
   where
@@ -143,19 +172,19 @@ right_based laws places b ws w based all told = record {
         let less : o <ℤ end = (places b (ws ++ w ∷ []) based all).below_end o end x has ((laws.remains b ws (w ∷ [])).end_is end is) in
         grind (arith, ints, less)
 
-    lies : end_of b (ws ++ w ∷ []) ≡ Some behind → EndLies (Some behind) (top b (ws ++ w ∷ [])) (edge b (ws ++ w ∷ []))
-    lies is = subst (λ o. EndLies o (top b (ws ++ w ∷ [])) (edge b (ws ++ w ∷ []))) is (bounded b (ws ++ w ∷ []) only all).end_lies
+    lies : end_of b (ws ++ w ∷ []) ≡ Some behind → EndLies (Some behind) (era.top b (ws ++ w ∷ [])) (edge b (ws ++ w ∷ []))
+    lies is = subst (λ o. EndLies o (era.top b (ws ++ w ∷ [])) (edge b (ws ++ w ∷ []))) is (bounded b (ws ++ w ∷ []) only all).end_lies
 
-    high : (z : ℤ) (most far : ℕ) → EndLies (Some z) most far → int_lt z (pos most) ≡ false
-    high (pos p) most far h = let above : most ≤ p = h.0 in grind (arith, ints, above)
-    high (negsuc n) most far h = absurd h
+    high : (z t : ℤ) (most far : ℕ) → t ≤ℤ pos most → EndLies (Some z) most far → int_lt z t ≡ false
+    high (pos p) t most far low h = let above : most ≤ p = h.0 in grind (arith, ints, low, above)
+    high (negsuc n) t most far low h = absurd h
 
     fin : (c : Bool) → tcp.has_fin w.flags ≡ c → (c && fin_strays (end_of b ws) (top b (ws ++ w ∷ [])) behind) ≡ false
     fin false is = refl
     fin true is = at (end_of b ws) refl
       where
         at : (o : Option ℤ) → end_of b ws ≡ o → fin_strays o (top b (ws ++ w ∷ [])) behind ≡ false
-        at None none = high behind (top b (ws ++ w ∷ [])) (edge b (ws ++ w ∷ [])) (lies (told.fin is))
+        at None none = high behind (top b (ws ++ w ∷ [])) (era.top b (ws ++ w ∷ [])) (edge b (ws ++ w ∷ [])) (top_most b (ws ++ w ∷ [])) (lies (told.fin is))
         at (Some end) pinned =
             let stays = (laws.remains b ws (w ∷ [])).end_is end pinned in
             let has = told.fin is in

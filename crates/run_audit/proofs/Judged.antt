@@ -1,5 +1,5 @@
 -- The judgment on a frame, by what its era says of its segment.
-use Rattle.std.proofs.Common.{◌≡◌, ◌≢◌, ℕ, ◌-◌, ◌==◌, ◌&&◌, List, [], ◌∷◌, ◌++◌, length, take, drop, append-nil, Option, Some, None, Bool, true, false, refl, sym, ap, ◌∙◌, subst, arith, if◌then◌else◌, nat_eq}
+use Rattle.std.proofs.Common.{◌≡◌, ◌≢◌, ℕ, ◌-◌, ◌==◌, ◌&&◌, ◌||◌, List, [], ◌∷◌, ◌++◌, length, take, drop, append-nil, eq-eqb, Option, Some, None, is_some, Bool, true, false, refl, sym, ap, ◌∙◌, subst, arith, if◌then◌else◌, nat_eq}
 use Rattle.std.specs.Prelude.{IsSome, IfOk, Result, Ok, Err}
 use Rattle.std.proofs.lemmas.List.{take_all, length-drop}
 use Rattle.std.proofs.lemmas.Bool.{eqb-true, eqb-false}
@@ -10,6 +10,7 @@ use Rattle.wire_base.specs.declared.address.Side.TheVariants.{Inward, Outward}
 use Rattle.wire_base.specs.Ipv4 as ip
 use Rattle.wire_base.specs.Plain.{Plain}
 use Rattle.wire_base.specs.Segments.{Segment, Written, fields_of, segment_of, written_of}
+use Rattle.era_state.specs.Quantities.{base_of}
 use Rattle.receiver_model.specs.declared.segment.Segment.{Segment as Fields}
 use Rattle.receiver_model.specs.Fields.{segment_in}
 use Rattle.tcp_codec.specs.declared.header.Tcp.{Tcp}
@@ -19,8 +20,8 @@ use Rattle.run_audit.specs.declared.answer.Reason.TheVariants as reasons
 use Rattle.run_audit.specs.declared.ledger.Inward.{Inward as Came}
 use Rattle.run_audit.specs.declared.ledger.Ledger.{Ledger}
 use Rattle.run_audit.specs.Faults.{is_segment, IsWellRead, IsWellReadAs, IsFirstReason, IsFaultless, in_stream, lacks_base, has_other_syn, has_other_octet, has_other_fin}
-use Rattle.run_audit.specs.Frames.{Frame, is_inward, sent}
-use Rattle.run_audit.specs.Ledgers.{IsInward, IsOutward, IsVerdict, StandsFor, stream_reason}
+use Rattle.run_audit.specs.Frames.{Frame, is_based, is_inward, sent}
+use Rattle.run_audit.specs.Ledgers.{IsInward, IsOutward, IsVerdict, StandsFor, counted, stream_reason}
 use Rattle.run_audit.specs.Eras.{Eras, EraStands, AllStandFor, AreThere, IsTaken, Takes, IsNoted, IsJudged}
 use Rattle.run_audit.specs.Read.{IsSegment}
 
@@ -62,48 +63,43 @@ first_in_stream hops older p era s is read =
 written_one : (inward : Bool) (p : List ℕ) (s : Segment) → segment_of p ≡ Some s → segments_in inward (p ∷ []) ≡ written_of inward s ∷ []
 written_one inward p s is = ap (λ o. written_as inward o ++ []) is
 
-written_new : (q era : ℕ) (p : List ℕ) (side : Option Side) (frames : List Frame) (w : Written) → segments_in (is_inward side) (p ∷ []) ≡ w ∷ [] → (b : Bool) → (era == q) ≡ b → written_in q (sent (record { packet = p; side = side; era = Some era } ∷ frames)) ≡ (if b then written_in q (sent frames) ++ w ∷ [] else written_in q (sent frames))
-written_new q era p side frames w one true e =
-    ap (λ (t : Bool). written_in q (sent frames) ++ (if t && true then segments_in (is_inward side) (p ∷ []) else [])) e
-    ∙ ap (λ ws. written_in q (sent frames) ++ ws) one
-written_new q era p side frames w one false e =
-    ap (λ (t : Bool). written_in q (sent frames) ++ (if t && true then segments_in (is_inward side) (p ∷ []) else [])) e
+-- a frame of an era adds its segment to that era, if it counts, and nothing to another one
+written_here : (era : ℕ) (p : List ℕ) (side : Option Side) (frames : List Frame)
+    → written_in era (sent (record { packet = p; side = side; era = Some era } ∷ frames))
+    ≡ written_in era (sent frames) ++ (if is_inward side || is_based (sent frames) (Some era) p then segments_in (is_inward side) (p ∷ []) else [])
+written_here era p side frames =
+    ap (λ (t : Bool). written_in era (sent frames) ++ (if t && (is_inward side || is_based (sent frames) (Some era) p) then segments_in (is_inward side) (p ∷ []) else [])) (eq-eqb era era refl)
+
+written_there : (q era : ℕ) (p : List ℕ) (side : Option Side) (frames : List Frame) → (era == q) ≡ false → written_in q (sent (record { packet = p; side = side; era = Some era } ∷ frames)) ≡ written_in q (sent frames)
+written_there q era p side frames other =
+    ap (λ (t : Bool). written_in q (sent frames) ++ (if t && (is_inward side || is_based (sent frames) (Some era) p) then segments_in (is_inward side) (p ∷ []) else [])) other
     ∙ append-nil (written_in q (sent frames))
 
--- what is known of the eras, with the segment taken in one
-all_stand : (old new : Eras) (era : ℕ) (p : List ℕ) (side : Option Side) (frames : List Frame) (w : Written) → segments_in (is_inward side) (p ∷ []) ≡ w ∷ [] → AllStandFor old (sent frames) → Takes old new era (written_in era (sent frames)) w → AllStandFor new (sent (record { packet = p; side = side; era = Some era } ∷ frames))
-all_stand old new era p side frames w one stand takes q = by (era == q) refl
+-- what is known of the eras, with the segments of one as they are with the frame
+all_stand : (old new : Eras) (era : ℕ) (p : List ℕ) (side : Option Side) (frames : List Frame) (ws : List Written) → written_in era (sent (record { packet = p; side = side; era = Some era } ∷ frames)) ≡ ws → AllStandFor old (sent frames) → Takes old new era ws → AllStandFor new (sent (record { packet = p; side = side; era = Some era } ∷ frames))
+all_stand old new era p side frames ws here stand takes q = by (era == q) refl
   where
-    all : List Written
-    all = written_in q (sent (record { packet = p; side = side; era = Some era } ∷ frames))
+    all : ℕ → List Written
+    all n = written_in n (sent (record { packet = p; side = side; era = Some era } ∷ frames))
 
-    by : (b : Bool) → (era == q) ≡ b → EraStands (get nat_eq new q) all
+    by : (b : Bool) → (era == q) ≡ b → EraStands (get nat_eq new q) (all q)
     by true e =
-        let is : era ≡ q = eqb-true era q e in
-        let P : ℕ → Type 0 = λ n. EraStands (get nat_eq new n) (written_in n (sent frames) ++ w ∷ []) in
-        let Q : List Written → Type 0 = λ ws. EraStands (get nat_eq new q) ws in
-        subst Q (sym (written_new q era p side frames w one true e)) (subst P is takes.stands)
+        let P : ℕ → Type 0 = λ n. EraStands (get nat_eq new n) (all n) in
+        let Q : List Written → Type 0 = λ vs. EraStands (get nat_eq new era) vs in
+        subst P (eqb-true era q e) (subst Q (sym here) takes.stands)
     by false e =
         let same : get nat_eq new q ≡ get nat_eq old q = takes.others q (λ is. eqb-false era q e (sym is)) in
         let P : Option Ledger → Type 0 = λ o. EraStands o (written_in q (sent frames)) in
-        let Q : List Written → Type 0 = λ ws. EraStands (get nat_eq new q) ws in
-        subst Q (sym (written_new q era p side frames w one false e)) (subst P (sym same) (stand q))
+        let Q : List Written → Type 0 = λ vs. EraStands (get nat_eq new q) vs in
+        subst Q (sym (written_there q era p side frames e)) (subst P (sym same) (stand q))
 
-pushed_some : (ws : List Written) (w : Written) → ws ++ w ∷ [] ≡ [] → ⊥
-pushed_some [] w e = absurd (cc e)
-pushed_some (v ∷ ws) w e = absurd (cc e)
-
-all_there : (old new : Eras) (era : ℕ) (ws : List Written) (w : Written) → Takes old new era ws w → AreThere old new
-all_there old new era ws w takes q some = by (era == q) refl
+all_there : (old new : Eras) (era : ℕ) (ws : List Written) → Takes old new era ws → AreThere old new
+all_there old new era ws takes q some = by (era == q) refl
   where
-    there : (o : Option Ledger) → EraStands o (ws ++ w ∷ []) → IsSome o
-    there None h = absurd (pushed_some ws w h)
-    there (Some l) h = refl
-
     by : (b : Bool) → (era == q) ≡ b → IsSome (get nat_eq new q)
     by true e =
         let P : ℕ → Type 0 = λ n. IsSome (get nat_eq new n) in
-        subst P (eqb-true era q e) (there (get nat_eq new era) takes.stands)
+        subst P (eqb-true era q e) takes.there
     by false e =
         let P : Option Ledger → Type 0 = λ o. IsSome o in
         subst P (sym (takes.others q (λ is. eqb-false era q e (sym is)))) some
@@ -115,17 +111,31 @@ outward_faultless hops older p era is = record { read = λ _. is; base = refl; s
 tcp_segment : (p : List ℕ) → ip.protocol p ≡ 6 → segment_of p ≡ Some (fields_of p)
 tcp_segment p six = ap (λ n. if n == 6 then Some (fields_of p) else None) six
 
-pub noted_outward : (hops : ℕ) (old new : Eras) (era : ℕ) (p : List ℕ) (head : Tcp) (frames : List Frame) → IsSegment p head → AllStandFor old (sent frames) → ((ws : List Written) (w : Written) → EraStands (get nat_eq old era) ws → IsOutward head.flags.0 head.ack w → Takes old new era ws w) → IsNoted hops frames (record { packet = p; side = Some Outward; era = Some era }) old new
+-- the segments with an outward one
+written_outward : (era : ℕ) (p : List ℕ) (s : Segment) (frames : List Frame) → segment_of p ≡ Some s
+    → written_in era (sent (record { packet = p; side = Some Outward; era = Some era } ∷ frames)) ≡ counted (written_in era (sent frames)) (written_of false s)
+written_outward era p s frames is =
+    let ws = written_in era (sent frames) in
+    let w = written_of false s in
+    written_here era p (Some Outward) frames
+    ∙ ap (λ vs. ws ++ (if is_some (base_of (ws ++ vs)) then vs else [])) (written_one false p s is)
+    ∙ by ws w (is_some (base_of (ws ++ w ∷ [])))
+  where
+    by : (ws : List Written) (w : Written) (b : Bool) → ws ++ (if b then w ∷ [] else []) ≡ (if b then ws ++ w ∷ [] else ws)
+    by ws w true = refl
+    by ws w false = append-nil ws
+
+pub noted_outward : (hops : ℕ) (old new : Eras) (era : ℕ) (p : List ℕ) (head : Tcp) (frames : List Frame) → IsSegment p head → AllStandFor old (sent frames) → ((ws : List Written) (w : Written) → EraStands (get nat_eq old era) ws → IsOutward head.flags.0 head.ack w → Takes old new era (counted ws w)) → IsNoted hops frames (record { packet = p; side = Some Outward; era = Some era }) old new
 noted_outward hops old new era p head frames is stand takes = record {
   faultless = outward_faultless hops (sent frames) p era is.is;
-  stand = all_stand old new era p (Some Outward) frames w (written_one false p (fields_of p) (tcp_segment p is.protocol)) stand taken;
-  there = all_there old new era (written_in era (sent frames)) w taken;
+  stand = all_stand old new era p (Some Outward) frames (counted (written_in era (sent frames)) w) (written_outward era p (fields_of p) frames (tcp_segment p is.protocol)) stand taken;
+  there = all_there old new era (counted (written_in era (sent frames)) w) taken;
 }
   where
     w : Written
     w = written_of false (fields_of p)
 
-    taken : Takes old new era (written_in era (sent frames)) w
+    taken : Takes old new era (counted (written_in era (sent frames)) w)
     taken = takes (written_in era (sent frames)) w (stand era) (record { inward_is = refl; flags_are = sym is.flags_are; number_is = sym is.number_is })
 
 -- a plain packet that went inwards in an era and is TCP
@@ -133,10 +143,10 @@ well_read : (hops : ℕ) (p : List ℕ) (era : ℕ) → Plain hops p → ip.prot
 well_read hops p era plain six = (plain, λ _. six)
 
 judged_by : (hops : ℕ) (old new : Eras) (era : ℕ) (p : List ℕ) (frames : List Frame) (verdict : Option Reason) → Plain hops p → ip.protocol p ≡ 6 → AllStandFor old (sent frames) → IsTaken old new era (written_in era (sent frames)) (written_of true (fields_of p)) verdict → IsJudged hops frames (inward_frame p era) old new verdict
-judged_by hops old new era p frames None plain six stand taken = record {
+judged_by hops old new era p frames None plain six stand taken = let with_it = written_in era (sent frames) ++ written_of true (fields_of p) ∷ [] in record {
   faultless = let P : Option Reason → Type 0 = FirstOrNone hops (sent frames) (inward_frame p era) in subst P taken.0 (first_in_stream hops (sent frames) p era (fields_of p) (tcp_segment p six) (well_read hops p era plain six));
-  stand = all_stand old new era p (Some Inward) frames (written_of true (fields_of p)) (written_one true p (fields_of p) (tcp_segment p six)) stand taken.1;
-  there = all_there old new era (written_in era (sent frames)) (written_of true (fields_of p)) taken.1;
+  stand = all_stand old new era p (Some Inward) frames with_it (written_here era p (Some Inward) frames ∙ ap (λ vs. written_in era (sent frames) ++ vs) (written_one true p (fields_of p) (tcp_segment p six))) stand taken.1;
+  there = all_there old new era with_it taken.1;
 }
 judged_by hops old new era p frames (Some reason) plain six stand taken =
     let P : Option Reason → Type 0 = FirstOrNone hops (sent frames) (inward_frame p era) in
@@ -169,7 +179,7 @@ taken_in (Ok None) old new era l newer s was is others judged = λ ws w stands c
     let P : Option Ledger → Type 0 = λ o. EraStands o ws in
     let Q : Option Ledger → Type 0 = λ o. EraStands o (ws ++ w ∷ []) in
     let told = judged ws w (subst P was stands) came in
-    (told.0, record { stands = subst Q (sym is) told.1; others = others })
+    (told.0, record { stands = subst Q (sym is) told.1; there = ap is_some is; others = others })
 taken_in (Ok (Some reason)) old new era l newer s was is others judged = λ ws w stands came.
     let P : Option Ledger → Type 0 = λ o. EraStands o ws in
     judged ws w (subst P was stands) came

@@ -1,16 +1,17 @@
 -- What the fields of a ledger say of a segment that went inwards.
 use Rattle.std.proofs.Common.{◌≡◌, ℕ, ◌+◌, ◌-◌, ◌^◌, ◌&&◌, ◌||◌, not, List, [], ◌∷◌, ◌++◌, length, Option, Some, None, Bool, true, false, refl, sym, ap, ap₂, ◌∙◌, arith, slice_get, if◌then◌else◌, nat_le, nat_lt}
-use Rattle.std.specs.Prelude.{ℤ, pos, negsuc, ◌+ℤ◌, ◌-ℤ◌, max}
+use Rattle.std.specs.Prelude.{ℤ, pos, negsuc, ◌+ℤ◌, ◌-ℤ◌}
+use Rattle.std.specs.Int.{int_max}
 use Rattle.std.specs.Option.{option_or}
-use Rattle.std.proofs.lemmas.Int.{ints}
+use Rattle.std.proofs.lemmas.Int.{ints, int_max_is}
 use Rattle.std.proofs.lemmas.Bool.{leb-true, leb-false}
 use Rattle.wire_base.specs.Tcp as tcp
 use Rattle.wire_base.specs.Segments.{Written}
 use Rattle.receiver_model.specs.Offsets as receiver
-use Rattle.era_state.specs.Offsets.{off, nat_of, natural, number_in}
+use Rattle.era_state.specs.Offsets.{off, natural, number_in}
 use Rattle.era_state.specs.Marks.{has_octets, get_at, octet_at}
-use Rattle.era_state.specs.Quantities.{base_of, acked, top, first, end_of}
-use Rattle.era_state.proofs.Steps.{octet_push, end_push, top_push}
+use Rattle.era_state.specs.Quantities.{base_of, acked, first, end_of}
+use Rattle.era_state.proofs.Steps.{octet_push, end_push}
 use Rattle.era_state.proofs.Remaining.{acked_same}
 use Rattle.run_audit.specs.declared.answer.Reason.TheVariants as reasons
 use Rattle.run_audit.specs.declared.ledger.Inward.{Inward}
@@ -20,8 +21,10 @@ use Rattle.run_audit.specs.declared.offset.Offset.{Offset}
 use Rattle.run_audit.specs.Faults.{is_other, is_past, some_strays, fin_strays, has_other_octet, has_other_fin}
 use Rattle.run_audit.specs.Kept.{AreKeptWith, kept_at, is_at_end, some_stray, brought}
 use Rattle.run_audit.specs.Offsets.{offset_in, some_offset}
-use Rattle.run_audit.specs.Ledgers.{IsInward, ReadBy, octets_reason, top_with, fin_fits, may_end, end_with}
-use Rattle.run_audit.proofs.Raised.{int_le-raised, int_lt-raised, int_eq-raised, nat_of-raised, raised_on}
+use Rattle.run_audit.specs.Ledgers.{IsInward, Tells, octets_reason, raised_to, top_with, fin_fits, may_end, end_with}
+use Rattle.run_audit.specs.Tops.{greater, last_end, place_in, top}
+use Rattle.run_audit.proofs.Raised.{int_le-raised, int_lt-raised, int_eq-raised, raised_on}
+use Rattle.run_audit.proofs.Tops.{last_push}
 
 past : (end : Option Offset) (place : ℕ) → is_past (some_offset end) (receiver.offset_in place) ≡ is_at_end end place
 past None place = refl
@@ -42,21 +45,21 @@ pub record Came (base : ℕ) (l : Ledger) (s : Inward) (w : Written) (place behi
   pub placed : receiver.offset_in place.raised ≡ off base l.acked s.seq
   pub behind_is : behind.raised ≡ place.raised + length s.octets.now
 
-place_is : (base : ℕ) (l : Ledger) (s : Inward) (ws : List Written) (w : Written) (place behind : Offset) → Came base l s w place behind → ReadBy base l ws → off base (acked base ws) w.seq ≡ offset_in place
+place_is : (base : ℕ) (l : Ledger) (s : Inward) (ws : List Written) (w : Written) (place behind : Offset) → Came base l s w place behind → Tells base l ws → off base (acked base ws) w.seq ≡ offset_in place
 place_is base l s ws w place behind came read = ap₂ (λ (a n : ℕ). off base a n) (sym read.acked_is) came.is.seq_is ∙ sym came.placed
 
-behind_place : (base : ℕ) (l : Ledger) (s : Inward) (ws : List Written) (w : Written) (place behind : Offset) → Came base l s w place behind → ReadBy base l ws → (off base (acked base ws) w.seq +ℤ pos (length w.octets)) ≡ offset_in behind
+behind_place : (base : ℕ) (l : Ledger) (s : Inward) (ws : List Written) (w : Written) (place behind : Offset) → Came base l s w place behind → Tells base l ws → (off base (acked base ws) w.seq +ℤ pos (length w.octets)) ≡ offset_in behind
 behind_place base l s ws w place behind came read =
     ap₂ (λ z n. z +ℤ pos n) (place_is base l s ws w place behind came read) (ap length came.is.octets_are)
     ∙ sym (ap receiver.offset_in came.behind_is ∙ raised_on place.raised (length s.octets.now))
 
 -- an octet strays where one of the code's does
-pub octets_judged : (base : ℕ) (l : Ledger) (s : Inward) (ws : List Written) (w : Written) (place behind : Offset) → Came base l s w place behind → ReadBy base l ws → base_of (ws ++ w ∷ []) ≡ Some base → has_other_octet ws w ≡ some_stray (kept_at l.octets) l.end place.raised s.octets.now
+pub octets_judged : (base : ℕ) (l : Ledger) (s : Inward) (ws : List Written) (w : Written) (place behind : Offset) → Came base l s w place behind → Tells base l ws → base_of (ws ++ w ∷ []) ≡ Some base → has_other_octet ws w ≡ some_stray (kept_at l.octets) l.end place.raised s.octets.now
 octets_judged base l s ws w place behind came read based =
     ap (λ b. some_strays (first b ws) (end_of b ws) (off b (acked b ws) w.seq) w.octets) (ap number_in based)
-    ∙ ap (λ e. some_strays (first base ws) e (off base (acked base ws) w.seq) w.octets) (sym read.tells.end_is)
+    ∙ ap (λ e. some_strays (first base ws) e (off base (acked base ws) w.seq) w.octets) (sym read.end_is)
     ∙ ap (some_strays (first base ws) (some_offset l.end) (off base (acked base ws) w.seq)) came.is.octets_are
-    ∙ strays (kept_at l.octets) (first base ws) l.end place.raised (off base (acked base ws) w.seq) s.octets.now read.tells.octets_are (place_is base l s ws w place behind came read)
+    ∙ strays (kept_at l.octets) (first base ws) l.end place.raised (off base (acked base ws) w.seq) s.octets.now read.octets_are (place_is base l s ws w place behind came read)
 
 -- the octets that are kept with the segment's are the first ones
 natural-raised : (a b : ℕ) → natural (receiver.offset_in b -ℤ receiver.offset_in a) ≡ (if nat_le a b then Some (b - a) else None)
@@ -74,7 +77,7 @@ get_brought : (octets : List ℕ) (a b : ℕ) (t : Bool) → get_at octets (if t
 get_brought octets a b true = refl
 get_brought octets a b false = refl
 
-octet_brought : (base : ℕ) (l : Ledger) (s : Inward) (ws : List Written) (w : Written) (place behind : Offset) → Came base l s w place behind → ReadBy base l ws → (raised : ℕ) → octet_at base (acked base ws) (receiver.offset_in raised) w ≡ brought place.raised s.octets.now raised
+octet_brought : (base : ℕ) (l : Ledger) (s : Inward) (ws : List Written) (w : Written) (place behind : Offset) → Came base l s w place behind → Tells base l ws → (raised : ℕ) → octet_at base (acked base ws) (receiver.offset_in raised) w ≡ brought place.raised s.octets.now raised
 octet_brought base l s ws w place behind came read raised =
     ap (λ (i : Bool). if i then get_at w.octets (natural (receiver.offset_in raised -ℤ off base (acked base ws) w.seq)) else None) came.is.inward_is
     ∙ ap (λ z. get_at w.octets (natural (receiver.offset_in raised -ℤ z))) (place_is base l s ws w place behind came read)
@@ -82,46 +85,47 @@ octet_brought base l s ws w place behind came read raised =
     ∙ get_brought w.octets place.raised raised (nat_le place.raised raised)
     ∙ ap (λ os. brought place.raised os raised) came.is.octets_are
 
-pub octets_kept : (base : ℕ) (l : Ledger) (new : Octets) (s : Inward) (ws : List Written) (w : Written) (place behind : Offset) → Came base l s w place behind → ReadBy base l ws → AreKeptWith l.octets new place.raised s.octets.now → (raised : ℕ) → kept_at new raised ≡ first base (ws ++ w ∷ []) (receiver.offset_in raised)
+pub octets_kept : (base : ℕ) (l : Ledger) (new : Octets) (s : Inward) (ws : List Written) (w : Written) (place behind : Offset) → Came base l s w place behind → Tells base l ws → AreKeptWith l.octets new place.raised s.octets.now → (raised : ℕ) → kept_at new raised ≡ first base (ws ++ w ∷ []) (receiver.offset_in raised)
 octets_kept base l new s ws w place behind came read kept raised =
     kept raised
-    ∙ ap₂ option_or (read.tells.octets_are raised) (sym (octet_brought base l s ws w place behind came read raised))
+    ∙ ap₂ option_or (read.octets_are raised) (sym (octet_brought base l s ws w place behind came read raised))
     ∙ sym (octet_push base ws w (receiver.offset_in raised))
 
--- Top
-top_moved : (t : Offset) (top0 n : ℕ) (behind : Offset) (z : ℤ) → offset_in t ≡ pos top0 → z ≡ offset_in behind → offset_in (top_with t n behind) ≡ pos (max top0 (if nat_lt 0 n then nat_of z else 0))
-top_moved t top0 n behind z is at = by (nat_lt 0 n)
+-- the place behind the last octet
+top_moved : (t : Option Offset) (n : ℕ) (behind : Offset) (z : ℤ) → z ≡ offset_in behind → some_offset (top_with t n behind) ≡ greater (some_offset t) (if nat_lt 0 n then Some z else None)
+top_moved t n behind z at = by (nat_lt 0 n) t
   where
-    nat : nat_of z ≡ behind.raised - 2 ^ 31
-    nat = ap nat_of at ∙ nat_of-raised behind.raised
+    by : (b : Bool) (t : Option Offset) → some_offset (if b then Some (raised_to t behind) else t) ≡ greater (some_offset t) (if b then Some z else None)
+    by true None = ap (λ y. Some y) (sym at)
+    by true (Some top) = let e : offset_in (raised_to (Some top) behind) ≡ int_max (offset_in top) z = omega (arith, ints, at, int_max_is (offset_in top) z) in ap (λ y. Some y) e
+    by false None = refl
+    by false (Some top) = refl
 
-    by : (b : Bool) → offset_in (if b then record { raised = max t.raised behind.raised } else t) ≡ pos (max top0 (if b then nat_of z else 0))
-    by true = omega (arith, ints, is, nat)
-    by false = omega (arith, ints, is)
-
-pub top_kept : (base : ℕ) (l : Ledger) (s : Inward) (ws : List Written) (w : Written) (place behind : Offset) → Came base l s w place behind → ReadBy base l ws → offset_in (top_with l.top (length s.octets.now) behind) ≡ pos (top base (ws ++ w ∷ []))
+pub top_kept : (base : ℕ) (l : Ledger) (s : Inward) (ws : List Written) (w : Written) (place behind : Offset) → Came base l s w place behind → Tells base l ws → some_offset (top_with l.top (length s.octets.now) behind) ≡ last_end base (ws ++ w ∷ [])
 top_kept base l s ws w place behind came read =
-    top_moved l.top (top base ws) (length s.octets.now) behind (off base (acked base ws) w.seq +ℤ pos (length w.octets)) read.tells.top_is (behind_place base l s ws w place behind came read)
-    ∙ ap (λ n. pos (max (top base ws) n))
-    (ap (λ (os : List ℕ). if nat_lt 0 (length os) then nat_of (off base (acked base ws) w.seq +ℤ pos (length w.octets)) else 0) (sym came.is.octets_are)
-    ∙ ap (λ (i : Bool). if i && has_octets w then nat_of (off base (acked base ws) w.seq +ℤ pos (length w.octets)) else 0) (sym came.is.inward_is))
-    ∙ ap pos (sym (top_push base ws w))
+    top_moved l.top (length s.octets.now) behind (off base (acked base ws) w.seq +ℤ pos (length w.octets)) (behind_place base l s ws w place behind came read)
+    ∙ ap₂ greater read.top_is
+    (ap (λ (os : List ℕ). if nat_lt 0 (length os) then Some (off base (acked base ws) w.seq +ℤ pos (length w.octets)) else None) (sym came.is.octets_are)
+    ∙ ap (λ (i : Bool). if i && has_octets w then Some (off base (acked base ws) w.seq +ℤ pos (length w.octets)) else None) (sym came.is.inward_is))
+    ∙ sym (last_push base ws w)
 
 -- the FIN
-fits : (end : Option Offset) (t behind : Offset) (top0 : ℕ) → offset_in t ≡ pos top0 → fin_strays (some_offset end) top0 (offset_in behind) ≡ not (fin_fits end t behind)
-fits None t behind top0 is = int_lt-raised behind.raised top0 ∙ ap (λ n. not (nat_le n behind.raised)) (let e : top0 + 2 ^ 31 ≡ t.raised = omega (arith, ints, is) in e)
-fits (Some end) t behind top0 is = ap not (int_eq-raised behind.raised end.raised)
+fits : (end t : Option Offset) (behind : Offset) → fin_strays (some_offset end) (place_in (some_offset t)) (offset_in behind) ≡ not (fin_fits end t behind)
+fits None None behind = int_lt-raised behind.raised (2 ^ 31)
+fits None (Some top) behind = int_lt-raised behind.raised top.raised
+fits (Some end) t behind = ap not (int_eq-raised behind.raised end.raised)
 
 both : (f x : Bool) → (f && not x) ≡ not (not f || x)
 both true x = refl
 both false x = refl
 
-pub fin_judged : (base : ℕ) (l : Ledger) (s : Inward) (ws : List Written) (w : Written) (place behind : Offset) → Came base l s w place behind → ReadBy base l ws → base_of (ws ++ w ∷ []) ≡ Some base → has_other_fin ws w ≡ not (may_end (tcp.has_fin s.flags.0) l.end (top_with l.top (length s.octets.now) behind) behind)
+pub fin_judged : (base : ℕ) (l : Ledger) (s : Inward) (ws : List Written) (w : Written) (place behind : Offset) → Came base l s w place behind → Tells base l ws → base_of (ws ++ w ∷ []) ≡ Some base → has_other_fin ws w ≡ not (may_end (tcp.has_fin s.flags.0) l.end (top_with l.top (length s.octets.now) behind) behind)
 fin_judged base l s ws w place behind came read based =
     ap (λ b. tcp.has_fin w.flags && fin_strays (end_of b ws) (top b (ws ++ w ∷ [])) (off b (acked b ws) w.seq +ℤ pos (length w.octets))) (ap number_in based)
     ∙ ap (λ f. tcp.has_fin f && fin_strays (end_of base ws) (top base (ws ++ w ∷ [])) (off base (acked base ws) w.seq +ℤ pos (length w.octets))) came.is.flags_are
-    ∙ ap₂ (λ e z. tcp.has_fin s.flags.0 && fin_strays e (top base (ws ++ w ∷ [])) z) (sym read.tells.end_is) (behind_place base l s ws w place behind came read)
-    ∙ ap (λ b. tcp.has_fin s.flags.0 && b) (fits l.end (top_with l.top (length s.octets.now) behind) behind (top base (ws ++ w ∷ [])) (top_kept base l s ws w place behind came read))
+    ∙ ap₂ (λ e z. tcp.has_fin s.flags.0 && fin_strays e (top base (ws ++ w ∷ [])) z) (sym read.end_is) (behind_place base l s ws w place behind came read)
+    ∙ ap (λ t. tcp.has_fin s.flags.0 && fin_strays (some_offset l.end) (place_in t) (offset_in behind)) (sym (top_kept base l s ws w place behind came read))
+    ∙ ap (λ b. tcp.has_fin s.flags.0 && b) (fits l.end (top_with l.top (length s.octets.now) behind) behind)
     ∙ both (tcp.has_fin s.flags.0) (fin_fits l.end (top_with l.top (length s.octets.now) behind) behind)
 
 ended : (f : Bool) (end : Option Offset) (behind : Offset) → some_offset (end_with f end behind) ≡ option_or (some_offset end) (if f then Some (offset_in behind) else None)
@@ -129,10 +133,10 @@ ended f (Some end) behind = refl
 ended true None behind = refl
 ended false None behind = refl
 
-pub end_kept : (base : ℕ) (l : Ledger) (s : Inward) (ws : List Written) (w : Written) (place behind : Offset) → Came base l s w place behind → ReadBy base l ws → some_offset (end_with (tcp.has_fin s.flags.0) l.end behind) ≡ end_of base (ws ++ w ∷ [])
+pub end_kept : (base : ℕ) (l : Ledger) (s : Inward) (ws : List Written) (w : Written) (place behind : Offset) → Came base l s w place behind → Tells base l ws → some_offset (end_with (tcp.has_fin s.flags.0) l.end behind) ≡ end_of base (ws ++ w ∷ [])
 end_kept base l s ws w place behind came read =
     ended (tcp.has_fin s.flags.0) l.end behind
-    ∙ ap₂ (λ e z. option_or e (if tcp.has_fin s.flags.0 then Some z else None)) read.tells.end_is (sym (behind_place base l s ws w place behind came read))
+    ∙ ap₂ (λ e z. option_or e (if tcp.has_fin s.flags.0 then Some z else None)) read.end_is (sym (behind_place base l s ws w place behind came read))
     ∙ ap (λ f. option_or (end_of base ws) (if tcp.has_fin f then Some (off base (acked base ws) w.seq +ℤ pos (length w.octets)) else None)) (sym came.is.flags_are)
     ∙ ap (λ (i : Bool). option_or (end_of base ws) (if i && tcp.has_fin w.flags then Some (off base (acked base ws) w.seq +ℤ pos (length w.octets)) else None)) (sym came.is.inward_is)
     ∙ sym (end_push base ws w)
@@ -148,12 +152,10 @@ pub nothing_strays : (ws : List Written) (w : Written) → has_other_octet ws w 
 nothing_strays ws w e f = ap₂ (λ (a b : Bool). if a then Some reasons.Octet else if b then Some reasons.Fin else None) e f
 
 -- the fields with the segment
-pub read_on : (base : ℕ) (l new : Ledger) (s : Inward) (ws : List Written) (w : Written) (place behind : Offset) → Came base l s w place behind → ReadBy base l ws → AreKeptWith l.octets new.octets place.raised s.octets.now → new.acked ≡ l.acked → new.top ≡ top_with l.top (length s.octets.now) behind → new.end ≡ end_with (tcp.has_fin s.flags.0) l.end behind → ReadBy base new (ws ++ w ∷ [])
+pub read_on : (base : ℕ) (l new : Ledger) (s : Inward) (ws : List Written) (w : Written) (place behind : Offset) → Came base l s w place behind → Tells base l ws → AreKeptWith l.octets new.octets place.raised s.octets.now → new.acked ≡ l.acked → new.top ≡ top_with l.top (length s.octets.now) behind → new.end ≡ end_with (tcp.has_fin s.flags.0) l.end behind → Tells base new (ws ++ w ∷ [])
 read_on base l new s ws w place behind came read kept acked_is top_is end_is = record {
   acked_is = acked_is ∙ read.acked_is ∙ sym (acked_same base ws w came.is.inward_is);
-  tells = record {
-    top_is = ap offset_in top_is ∙ top_kept base l s ws w place behind came read;
-    end_is = ap some_offset end_is ∙ end_kept base l s ws w place behind came read;
-    octets_are = octets_kept base l new.octets s ws w place behind came read kept;
-  };
+  top_is = ap some_offset top_is ∙ top_kept base l s ws w place behind came read;
+  end_is = ap some_offset end_is ∙ end_kept base l s ws w place behind came read;
+  octets_are = octets_kept base l new.octets s ws w place behind came read kept;
 }

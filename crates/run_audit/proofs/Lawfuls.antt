@@ -34,11 +34,12 @@ use Rattle.norm_engine.specs.Agreement.{sent_in}
 use Rattle.norm_engine.specs.Laws.{IsSound, ItemsAreCounted}
 use Rattle.norm_engine.specs.Certain as engine
 use Rattle.norm_engine.specs.Certain.{IsWholeSegment, ItemsAreCertain, LawfulIsEmitted}
-use Rattle.run_audit.specs.Emitted.{Marked, IsCertain, EmittedHasNoFault, frames_in, sent_as}
+use Rattle.run_audit.specs.Emitted.{Marked, IsCertain, NoneAcksUnbased, EmittedHasNoFault, frames_in, sent_as}
 use Rattle.run_audit.specs.Faults.{is_segment, IsWellReadAs}
 use Rattle.run_audit.specs.FirstFault.{AreFaultless, NoFault}
 use Rattle.run_audit.specs.Frames.{Frame, frame_of, is_inward, owned, owners, with_frame}
-use Rattle.run_audit.specs.Lawful.{frames_written, entries_written, LawfulHasNoFault, LawfulIsYes}
+use Rattle.run_audit.specs.Lawful.{ResetsAreLast, frames_written, entries_written, LawfulHasNoFault, LawfulIsYes}
+use Rattle.run_audit.proofs.Resets.{unbased_acks}
 
 -- the frames of one entry behind others, each marked as its item's verdict says
 
@@ -281,6 +282,7 @@ pub record Laws : Type 0 where
   pub certain : ItemsAreCertain
   pub emitted : LawfulIsEmitted
   pub faultless : EmittedHasNoFault
+  pub resets : ResetsAreLast
 
 pub before : (settings : PlainSettings) (link : Link) (item : Item) (older : List Item) → IsSound settings link (item ∷ older) → IsSound settings link older
 before settings link item older sound = record { hops = sound.hops; octets = sound.octets.0; lawful = sound.lawful.0 }
@@ -312,6 +314,7 @@ no_fault laws settings link trace sound =
           (laws.faultless settings.hops (marked link trace) (record {
             certain = all_marked laws settings link trace sound;
             emitted = λ era. subst (AreEmitted []) (sym (written_same link era trace)) (laws.emitted settings link trace sound era).emitted;
+            acks = λ era. subst NoneAcksUnbased (sym (written_same link era trace)) (unbased_acks (written_in era (sent_in link trace)) (laws.resets settings link trace sound era));
           }));
     }
 

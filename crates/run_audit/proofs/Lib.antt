@@ -1,5 +1,6 @@
 pub mod Keeps
 pub mod Raised
+pub mod Tops
 pub mod Judging
 pub mod Advancing
 pub mod Coming
@@ -8,6 +9,7 @@ pub mod Judged
 pub mod Rooms
 pub mod Telling
 pub mod Agreeing
+pub mod Bases
 pub mod Naming
 pub mod Framing
 pub mod Saying
@@ -16,6 +18,7 @@ pub mod OneCapture
 pub mod OneAnswer
 pub mod Emitting
 pub mod Faultless
+pub mod Resets
 pub mod Lawfuls
 pub mod Fitting
 pub mod Writing

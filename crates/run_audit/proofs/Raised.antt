@@ -1,23 +1,19 @@
 -- Offsets that are counted from half a turn below 0 are compared as whole numbers are.
-use Rattle.std.proofs.Common.{◌≡◌, ℕ, ◌+◌, ◌-◌, ◌==◌, ◌^◌, nat_le, not, arith}
+use Rattle.std.proofs.Common.{◌≡◌, ℕ, ◌+◌, ◌==◌, nat_le, not, arith}
 use Rattle.std.specs.Prelude.{pos, ◌+ℤ◌, int_le, int_lt}
 use Rattle.std.specs.Ordering.{int_eq}
 use Rattle.std.proofs.lemmas.Int.{ints}
 use Rattle.std.proofs.lemmas.Bool.Decides.{nat_tests}
-use Rattle.era_state.specs.Offsets.{nat_of}
 use Rattle.receiver_model.specs.Offsets.{offset_in}
 
 pub int_le-raised : (a b : ℕ) → int_le (offset_in a) (offset_in b) ≡ nat_le a b
 int_le-raised a b = grind (arith, nat_tests, ints)
 
-pub int_lt-raised : (a b : ℕ) → int_lt (offset_in a) (pos b) ≡ not (nat_le (b + 2 ^ 31) a)
+pub int_lt-raised : (a b : ℕ) → int_lt (offset_in a) (offset_in b) ≡ not (nat_le b a)
 int_lt-raised a b = grind (arith, nat_tests, ints)
 
 pub int_eq-raised : (a b : ℕ) → int_eq (offset_in a) (offset_in b) ≡ (a == b)
 int_eq-raised a b = grind (arith, nat_tests, ints)
-
-pub nat_of-raised : (a : ℕ) → nat_of (offset_in a) ≡ a - 2 ^ 31
-nat_of-raised a = grind (arith, nat_tests, ints)
 
 pub raised_on : (a n : ℕ) → offset_in (a + n) ≡ offset_in a +ℤ pos n
 raised_on a n = omega (arith, ints)

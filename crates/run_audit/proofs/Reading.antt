@@ -30,7 +30,7 @@ head_read m head e = by (segment.fault_of Skip 0 m) e
     by None e = cc e
     by (Some f) e = absurd (cc e)
 
-pub segment_read : (p m : List ℕ) (h : Ipv4) (head : Tcp) → header.parsed p ≡ Ok h → h.protocol.0 ≡ 6 → m ≡ ip.payload p → segment.parsed Skip 0 m ≡ Ok head → IsSegment p head
+pub segment_read : (p m : List ℕ) (h : Ipv4) (head : Tcp) → header.parsed p ≡ Ok h → h.protocol ≡ 6 → m ≡ ip.payload p → segment.parsed Skip 0 m ≡ Ok head → IsSegment p head
 segment_read p m h head read six whole told = record {
   is = ap₂ (λ (a b : Bool). a && b && is_ok (segment.parsed Skip 0 (ip.payload p))) (ap is_ok read) tcp_is ∙ ap is_ok (ap (segment.parsed Skip 0) (sym whole) ∙ told);
   protocol = protocol_is;
@@ -39,7 +39,7 @@ segment_read p m h head read six whole told = record {
 }
   where
     protocol_is : ip.protocol p ≡ 6
-    protocol_is = sym (ap (λ (i : Ipv4). i.protocol.0) (fields_read p h read)) ∙ six
+    protocol_is = sym (ap (λ (i : Ipv4). i.protocol) (fields_read p h read)) ∙ six
 
     tcp_is : (ip.protocol p == 6) ≡ true
     tcp_is = ap (λ n. n == 6) protocol_is

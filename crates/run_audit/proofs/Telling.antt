@@ -9,15 +9,16 @@ use Rattle.wire_base.specs.Tcp as tcp
 use Rattle.wire_base.specs.Segments.{Segment, Written, written_of}
 use Rattle.era_state.specs.Offsets.{off, natural, number_in}
 use Rattle.era_state.specs.Marks.{has_octets, get_at, octet_at, fin_place, fixes}
-use Rattle.era_state.specs.Quantities.{base_of, acked, top, first, end_of}
+use Rattle.era_state.specs.Quantities.{base_of, acked, first, end_of}
 use Rattle.era_state.specs.Rules.{precedes}
-use Rattle.era_state.specs.Laws.{OctetsAreBelowTop}
 use Rattle.era_state.specs.Emitted.{HasNoOtherBase}
 use Rattle.era_state.specs.Silence.{IsSilent, SilenceChangesNothing}
 use Rattle.era_state.proofs.Steps.{base_push, octet_push, end_push}
 use Rattle.era_agreement.proofs.Facts.{EraLaws, IsTold, silent_is_told}
 use Rattle.receiver_model.specs.Offsets.{IsPlace}
 use Rattle.run_audit.specs.Faults.{is_other, is_past, some_strays, fin_strays, lacks_base, has_other_syn, has_other_octet, has_other_fin}
+use Rattle.run_audit.specs.Tops.{top}
+use Rattle.run_audit.proofs.Tops.{below_top}
 
 -- none of the segment's reasons holds
 pub record IsRight (ws : List Written) (w : Written) : Type 0 where
@@ -56,7 +57,7 @@ octet_there base a w i x inward e =
 fin_there : (base a : ℕ) (w : Written) → w.inward ≡ true → tcp.has_fin w.flags ≡ true → fin_place base a w ≡ Some (off base a w.seq +ℤ pos (length w.octets))
 fin_there base a w inward fin = ap₂ (λ (i f : Bool). if i && f then Some (off base a w.seq +ℤ pos (length w.octets)) else None) inward fin
 
-same_end : (o : Option ℤ) (t : ℕ) (z : ℤ) → fin_strays o t z ≡ false → option_or o (Some z) ≡ Some z
+same_end : (o : Option ℤ) (t z : ℤ) → fin_strays o t z ≡ false → option_or o (Some z) ≡ Some z
 same_end None t z h = refl
 same_end (Some e) t z h = let is = not-false (int_eq z e) h in ap (λ n. Some n) (let same : e ≡ z = grind (arith, ints, is) in same)
 
@@ -131,14 +132,6 @@ told laws base ws s only right = by (base_of (ws ++ written_of true s ∷ [])) r
 abbrev pub EndsBehind : (base : ℕ) → List Written → Type 0
 EndsBehind base ws = (o : ℤ) (x : ℕ) (end : ℤ) → first base ws o ≡ Some x → end_of base ws ≡ Some end → o <ℤ end
 
-below_top : OctetsAreBelowTop → (base : ℕ) (ws : List Written) (o : ℤ) (x : ℕ) → first base ws o ≡ Some x → o <ℤ pos (top base ws)
-below_top below base ws (pos n) x e = by (nat_lt n (top base ws)) refl
-  where
-    by : (b : Bool) → nat_lt n (top base ws) ≡ b → pos n <ℤ pos (top base ws)
-    by true is = grind (arith, ints, is)
-    by false is = let h = ltb-false n (top base ws) is in let none = (below base ws).none_past n h in absurd (cc (none, e))
-below_top below base ws (negsuc n) x e = omega (arith, ints)
-
 -- an octet of the segment has an index
 indexed : (octets : List ℕ) (z o : ℤ) (x : ℕ) → get_at octets (natural (o -ℤ z)) ≡ Some x → (i : ℕ) × (slice_get octets i ≡ Some x) × (o ≡ (z +ℤ pos i))
 indexed octets z o x e = by (o -ℤ z) refl e
@@ -148,8 +141,8 @@ indexed octets z o x e = by (o -ℤ z) refl e
     by (negsuc i) is there = absurd (cc there)
 
 -- an inward segment that is right leaves the end behind all octets
-pub ends_on : OctetsAreBelowTop → (base : ℕ) (ws : List Written) (s : Segment) → base_of (ws ++ written_of true s ∷ []) ≡ Some base → IsRight ws (written_of true s) → EndsBehind base ws → EndsBehind base (ws ++ written_of true s ∷ [])
-ends_on below base ws s based right before o x end ex ee = by (end_of base ws) refl (sym (end_push base ws w) ∙ ee)
+pub ends_on : (base : ℕ) (ws : List Written) (s : Segment) → base_of (ws ++ written_of true s ∷ []) ≡ Some base → IsRight ws (written_of true s) → EndsBehind base ws → EndsBehind base (ws ++ written_of true s ∷ [])
+ends_on base ws s based right before o x end ex ee = by (end_of base ws) refl (sym (end_push base ws w) ∙ ee)
   where
     w : Written
     w = written_of true s
@@ -178,8 +171,8 @@ ends_on below base ws s based right before o x end ex ee = by (end_of base ws) r
     opened false is none h = absurd (cc h)
     opened true is none h =
         let at : (place +ℤ pos (length s.octets)) ≡ end = cc h in
-        let high = below_top below base (ws ++ w ∷ []) o x ex in
-        let low : int_lt (place +ℤ pos (length s.octets)) (pos (top base (ws ++ w ∷ []))) ≡ false =
+        let high = below_top base (ws ++ w ∷ []) o x ex in
+        let low : int_lt (place +ℤ pos (length s.octets)) (top base (ws ++ w ∷ [])) ≡ false =
         ap₂ (λ (g : Bool) q. g && fin_strays q (top base (ws ++ w ∷ [])) (place +ℤ pos (length s.octets))) (sym is) (sym none) ∙ fin in
         grind (arith, ints, at, high, low)
 

@@ -1,8 +1,11 @@
 -- That frames whose segments are emitted have no fault (this project's profile). Frames are a list with the last one at the head.
-use Rattle.std.specs.Prelude.{◌≡◌, ℕ, Bool, false, List, [], ◌∷◌, map, Some, IsSome}
-use Rattle.std.specs.List.{AllByRecursion}
+use Rattle.std.specs.Prelude.{◌≡◌, ℕ, Bool, false, List, [], ◌∷◌, ◌++◌, map, Some, None, IsSome}
+use Rattle.std.specs.List.{AllByRecursion, list_any}
 use Rattle.wire_base.specs.declared.address.Side.TheVariants.{Inward, Outward}
+use Rattle.wire_base.specs.Segments.{Written}
 use Rattle.era_state.specs.Emission.{AreEmitted}
+use Rattle.era_state.specs.Marks.{acknowledges}
+use Rattle.era_state.specs.Quantities.{base_of}
 use Rattle.era_agreement.specs.Sent.{Sent, written_in}
 use Rattle.era_agreement.specs.Agreement.{IsSilentPacket}
 use Rattle.run_audit.specs.Faults.{IsWellRead}
@@ -28,10 +31,17 @@ pub record IsCertain (hops : ℕ) (m : Marked) : Type 0 where
   pub silent : m.written ≡ false → m.frame.side ≡ Some Inward → IsSome m.frame.era → IsSilentPacket m.frame.packet
   pub outward : m.written ≡ false → m.frame.side ≡ Some Outward → IsSome m.frame.era → ⊥
 
--- the frames are such ones, and in each era the segments that were written are emitted, each after those before it
+-- where a segment stands behind others that fix no base, none of these acknowledges: a reset that does so is the last of its era
+abbrev pub NoneAcksUnbased : List Written → Type 0
+NoneAcksUnbased ws =
+    (before : List Written) (w : Written) (later : List Written) → ws ≡ before ++ (w ∷ later) → base_of before ≡ None → list_any acknowledges before ≡ false
+
+-- The frames are such ones, and in each era the segments that were written are emitted, each after those before it, and none acknowledges before the base is
+-- fixed, unless it is the last.
 pub record AreWritten (hops : ℕ) (marked : List Marked) : Type 0 where
   pub certain : AllByRecursion (IsCertain hops) marked
   pub emitted : (era : ℕ) → AreEmitted [] (written_in era (map sent_as marked))
+  pub acks : (era : ℕ) → NoneAcksUnbased (written_in era (map sent_as marked))
 
 -- no such frame has a fault
 abbrev pub EmittedHasNoFault : Type 0

@@ -9,7 +9,7 @@ use Rattle.run_audit.specs.declared.answer.Reason.{Reason}
 use Rattle.run_audit.specs.declared.ledger.Ledger.{Ledger}
 use Rattle.run_audit.specs.Frames.{Frame, sent}
 use Rattle.run_audit.specs.Faults.{IsFaultless, IsFirstReason}
-use Rattle.run_audit.specs.Ledgers.{HasRoom, StandsFor, stream_reason}
+use Rattle.run_audit.specs.Ledgers.{StandsFor, stream_reason}
 
 -- by the number of an era, what is known of it
 abbrev pub Eras : Type 0
@@ -24,19 +24,20 @@ EraStands (Some l) ws = StandsFor l ws
 abbrev pub AllStandFor : Eras → List Sent → Type 0
 AllStandFor eras sent = (era : ℕ) → EraStands (get nat_eq eras era) (written_in era sent)
 
--- there is room in what is known of an era, if it is there
+-- what is acknowledged in an era, if it is there, leaves room for one segment more
 abbrev pub EraHasRoom : Option Ledger → Type 0
 EraHasRoom None = Unit {0}
-EraHasRoom (Some l) = HasRoom l
+EraHasRoom (Some l) = l.acked < 2 ^ 63
 
--- a segment was taken in one era, whatever segments stood in it; what is known of the others stays
-pub record Takes (old new : Eras) (era : ℕ) (ws : List Written) (w : Written) : Type 0 where
-  pub stands : EraStands (get nat_eq new era) (ws ++ w ∷ [])
+-- one era, which is there, stands for these segments; what is known of the others stays
+pub record Takes (old new : Eras) (era : ℕ) (ws : List Written) : Type 0 where
+  pub stands : EraStands (get nat_eq new era) ws
+  pub there : IsSome (get nat_eq new era)
   pub others : (other : ℕ) → other ≢ era → get nat_eq new other ≡ get nat_eq old other
 
 -- what is wrong with the segment, and where nothing is, that it was taken
 abbrev pub IsTaken : (old new : Eras) → (era : ℕ) → List Written → Written → Option Reason → Type 0
-IsTaken old new era ws w None = (stream_reason ws w ≡ None) × Takes old new era ws w
+IsTaken old new era ws w None = (stream_reason ws w ≡ None) × Takes old new era (ws ++ w ∷ [])
 IsTaken old new era ws w (Some reason) = stream_reason ws w ≡ Some reason
 
 -- what was there is there still

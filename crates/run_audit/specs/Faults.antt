@@ -1,4 +1,4 @@
--- What may be wrong with a frame, after those before it (this project's profile). Base, Acked, First, Top, End and the place of a number are the words of
+-- What may be wrong with a frame, after those before it (this project's profile). Base, Acked, First, End and the place of a number are the words of
 -- `era_state`: `ws` are the segments written in the frame's era before it, and `w` is its own.
 use Rattle.std.specs.Prelude.{◌≡◌, ℕ, ◌==◌, ◌&&◌, ◌||◌, not, Bool, true, false, List, [], ◌∷◌, ◌++◌, length, ℤ, pos, ◌+ℤ◌, int_le, int_lt, Option, Some, None, IsSome, is_none, is_ok}
 use Rattle.std.specs.Ordering.{int_eq}
@@ -14,12 +14,13 @@ use Rattle.tcp_codec.specs.Header as segment
 use Rattle.tcp_codec.specs.declared.header.SumRule.TheVariants.{Skip}
 use Rattle.era_state.specs.Offsets.{off}
 use Rattle.era_state.specs.Marks.{has_octets}
-use Rattle.era_state.specs.Quantities.{base_of, base_at, acked, top, first, end_of}
+use Rattle.era_state.specs.Quantities.{base_of, base_at, acked, first, end_of}
 use Rattle.era_state.specs.Rules.{precedes}
 use Rattle.era_agreement.specs.Sent.{Sent, written_in}
 use Rattle.run_audit.specs.declared.answer.Reason.{Reason}
 use Rattle.run_audit.specs.declared.answer.Reason.TheVariants.{Count, Plain as Misread, Base, Syn, Octet, Fin}
 use Rattle.run_audit.specs.Frames.{Frame}
+use Rattle.run_audit.specs.Tops.{top}
 
 -- the packet is a TCP segment whose headers have no fault, its TCP checksum not being judged
 abbrev pub is_segment : List ℕ → Bool
@@ -65,9 +66,9 @@ has_other_octet ws w =
     let base = base_at (ws ++ w ∷ []) in
     some_strays (first base ws) (end_of base ws) (off base (acked base ws) w.seq) w.octets
 
--- a FIN's place is another than the end; where none is pinned, it is below the place behind all octets
-abbrev pub fin_strays : (end : Option ℤ) → (top : ℕ) → (place : ℤ) → Bool
-fin_strays None top place = int_lt place (pos top)
+-- a FIN's place is another than the end; where none is pinned, it is below Top
+abbrev pub fin_strays : (end : Option ℤ) → (top place : ℤ) → Bool
+fin_strays None top place = int_lt place top
 fin_strays (Some end) top place = not (int_eq place end)
 
 -- fin: one at another place than the end that was pinned before, or, where none was, below Top up to and with the segment

@@ -1,7 +1,9 @@
 -- That the frames and the entries of a lawful trace have no fault (this project's profile). A trace is a list with the newest item at the head.
-use Rattle.std.specs.Prelude.{◌≡◌, ℕ, ◌+◌, ◌^◌, ◌<◌, ◌≤◌, List, [], ◌∷◌, ◌++◌, length, map, reverse, Some, None}
-use Rattle.std.specs.List.{AllByRecursion, flat_map}
+use Rattle.std.specs.Prelude.{◌≡◌, ℕ, ◌+◌, ◌^◌, ◌<◌, ◌≤◌, ◌&&◌, not, Bool, false, List, [], ◌∷◌, ◌++◌, length, map, reverse, Some, None}
+use Rattle.std.specs.List.{AllByRecursion, flat_map, list_any}
 use Rattle.wire_base.specs.declared.address.Link.{Link}
+use Rattle.wire_base.specs.Tcp as tcp
+use Rattle.wire_base.specs.Segments.{Written}
 use Rattle.pcap_file.specs.declared.head.Head.{Head}
 use Rattle.pcap_file.specs.declared.order.Order.{Order}
 use Rattle.pcap_file.specs.Heads.{head_octets}
@@ -14,6 +16,8 @@ use Rattle.rule_book.specs.Reports.{EntryFits}
 use Rattle.rule_book.specs.Text.{report_text}
 use Rattle.norm_settings.specs.Settings.{PlainSettings}
 use Rattle.ip_rules.specs.Datagrams.{AreOctets}
+use Rattle.era_agreement.specs.Sent.{written_in}
+use Rattle.norm_engine.specs.Agreement.{sent_in}
 use Rattle.norm_engine.specs.Items.{Item, entries, packets}
 use Rattle.norm_engine.specs.Laws.{IsSound}
 use Rattle.norm_engine.specs.Trace.{Lawful}
@@ -33,6 +37,19 @@ frames_written (item ∷ older) = reverse item.frames ++ frames_written older
 -- its entries in the order of their lines
 abbrev pub entries_written : List Item → List PlainEntry
 entries_written trace = reverse (entries trace)
+
+-- the segment is an outbound reset
+abbrev pub is_outbound_reset : Written → Bool
+is_outbound_reset w = not w.inward && tcp.has_rst w.flags
+
+-- where a segment stands behind others, none of these is an outbound reset
+abbrev pub NoneBehindReset : List Written → Type 0
+NoneBehindReset ws = (before : List Written) (w : Written) (later : List Written) → ws ≡ before ++ (w ∷ later) → list_any is_outbound_reset before ≡ false
+
+-- In each era of a lawful trace nothing is written behind an outbound reset.
+abbrev pub ResetsAreLast : Type 0
+ResetsAreLast =
+    (settings : PlainSettings) (link : Link) (trace : List Item) → IsSound settings link trace → (era : ℕ) → NoneBehindReset (written_in era (sent_in link trace))
 
 -- The frames of a lawful trace are those of its entries, and none of them has a fault.
 abbrev pub LawfulHasNoFault : Type 0

@@ -1,9 +1,9 @@
 -- What is known of an era, as the words of `era_state` have it of the segments that were written in it.
-use Rattle.std.specs.Prelude.{◌≡◌, ℕ, ◌^◌, ◌<◌, ◌≤◌, ◌==◌, ◌&&◌, ◌||◌, not, max, Bool, false, true, List, [], ◌∷◌, ◌++◌, length, fold, pos, Option, Some, None, vec_len, is_none, IsSome, nat_le, nat_lt, if◌then◌else◌}
+use Rattle.std.specs.Prelude.{◌≡◌, ℕ, ◌^◌, ◌==◌, ◌&&◌, ◌||◌, not, max, Bool, false, true, List, [], ◌∷◌, ◌++◌, Option, Some, None, is_none, is_some, nat_le, nat_lt, if◌then◌else◌}
 use Rattle.wire_base.specs.Segments.{Written}
 use Rattle.receiver_model.specs.Offsets as receiver
 use Rattle.era_state.specs.Offsets.{off, natural, number_in}
-use Rattle.era_state.specs.Quantities.{base_of, acked, top, first, end_of}
+use Rattle.era_state.specs.Quantities.{base_of, acked, first, end_of}
 use Rattle.era_state.specs.Emitted.{HasNoOtherBase}
 use Rattle.run_audit.specs.declared.answer.Reason.{Reason}
 use Rattle.run_audit.specs.declared.answer.Reason.TheVariants as reasons
@@ -12,39 +12,24 @@ use Rattle.run_audit.specs.declared.ledger.Ledger.{Ledger}
 use Rattle.run_audit.specs.declared.offset.Offset.{Offset}
 use Rattle.run_audit.specs.Faults.{lacks_base, has_other_syn, has_other_octet, has_other_fin}
 use Rattle.run_audit.specs.Kept.{kept_at}
-use Rattle.run_audit.specs.Offsets.{offset_in, some_offset}
+use Rattle.run_audit.specs.Offsets.{some_offset}
+use Rattle.run_audit.specs.Tops.{last_end}
 
 -- what is acknowledged, with one more number, read by this base
 abbrev pub acked_with : (base acked number : ℕ) → ℕ
 acked_with base acked number = max acked (number_in (natural (off base acked number)))
 
--- what numbers acknowledge one after the other
-abbrev pub acked_by : (base : ℕ) → List ℕ → ℕ
-acked_by base numbers = fold (λ acked number. acked_with base acked number) 0 numbers
-
--- read by this base, the octets, Top and End are those of these segments
+-- read by this base, what is acknowledged, the octets, the place behind the last one, and End are those of these segments
 pub record Tells (base : ℕ) (l : Ledger) (ws : List Written) : Type 0 where
-  pub top_is : offset_in l.top ≡ pos (top base ws)
+  pub acked_is : l.acked ≡ acked base ws
+  pub top_is : some_offset l.top ≡ last_end base ws
   pub end_is : some_offset l.end ≡ end_of base ws
   pub octets_are : (raised : ℕ) → kept_at l.octets raised ≡ first base ws (receiver.offset_in raised)
 
--- Every field is the quantity of the segments. As long as no base is fixed, the octets, Top and End are theirs by whatever base.
+-- Every field is the quantity of the segments; as long as no base is fixed, by whatever base.
 pub record StandsFor (l : Ledger) (ws : List Written) : Type 0 where
   pub base_is : l.base ≡ base_of ws
   pub tells : (base : ℕ) → HasNoOtherBase base ws → Tells base l ws
-  pub acked_is : (base : ℕ) → base_of ws ≡ Some base → l.acked ≡ acked base ws
-  pub resets_are : base_of ws ≡ None → (base : ℕ) → acked base ws ≡ acked_by base l.resets.items
-  pub few : vec_len l.resets ≤ length ws
-
--- the numbers of the fields stay in their types whatever segment comes next
-pub record HasRoom (l : Ledger) : Type 0 where
-  pub resets : vec_len l.resets < 2 ^ 32
-  pub acked : IsSome l.base → l.acked < 2 ^ 63
-
--- read by this base, what is acknowledged, the octets, Top and End are those of these segments
-pub record ReadBy (base : ℕ) (l : Ledger) (ws : List Written) : Type 0 where
-  pub acked_is : l.acked ≡ acked base ws
-  pub tells : Tells base l ws
 
 -- a segment that went inwards, with these fields and octets
 pub record IsInward (s : Inward) (w : Written) : Type 0 where
@@ -59,25 +44,31 @@ pub record IsOutward (flags number : ℕ) (w : Written) : Type 0 where
   pub flags_are : w.flags ≡ flags
   pub number_is : w.ack ≡ number
 
--- the base is fixed: what resets acknowledged before is read by it
-abbrev pub fixed : Ledger → (base : ℕ) → Ledger
-fixed l base = record l { base = Some base; acked = acked_by base l.resets.items }
+-- the segments with an outward one, which counts from the one on that fixes the base
+abbrev pub counted : List Written → Written → List Written
+counted ws w = if is_some (base_of (ws ++ w ∷ [])) then ws ++ w ∷ [] else ws
 
 -- a SYN fixes the base by the number behind it, where none is fixed
 abbrev pub settled : Ledger → (syn : Bool) → (behind : ℕ) → Ledger
-settled l syn behind = if syn && is_none l.base then fixed l behind else l
+settled l syn behind = if syn && is_none l.base then record l { base = Some behind } else l
 
--- the place behind all octets, with so many before this offset
-abbrev pub top_with : (top : Offset) → (octets : ℕ) → (behind : Offset) → Offset
-top_with top octets behind = if nat_lt 0 octets then record { raised = max top.raised behind.raised } else top
+-- the place behind all octets, with some before this offset
+abbrev pub raised_to : (top : Option Offset) → (behind : Offset) → Offset
+raised_to None behind = behind
+raised_to (Some top) behind = record { raised = max top.raised behind.raised }
 
--- a FIN may stand at this offset: at the end, where one is pinned, and else behind all octets
-abbrev pub fin_fits : (end : Option Offset) → (top place : Offset) → Bool
-fin_fits None top place = nat_le top.raised place.raised
+-- the same with so many
+abbrev pub top_with : (top : Option Offset) → (octets : ℕ) → (behind : Offset) → Option Offset
+top_with top octets behind = if nat_lt 0 octets then Some (raised_to top behind) else top
+
+-- a FIN may stand at this offset: at the end, where one is pinned, and else behind all octets, or not below the begin where there are none
+abbrev pub fin_fits : (end top : Option Offset) → (place : Offset) → Bool
+fin_fits None None place = nat_le (2 ^ 31) place.raised
+fin_fits None (Some top) place = nat_le top.raised place.raised
 fin_fits (Some end) top place = place.raised == end.raised
 
 -- there is no FIN, or it may stand there
-abbrev pub may_end : (fin : Bool) → (end : Option Offset) → (top place : Offset) → Bool
+abbrev pub may_end : (fin : Bool) → (end top : Option Offset) → (place : Offset) → Bool
 may_end fin end top place = not fin || fin_fits end top place
 
 -- the end, with a FIN at this offset, if there is one: the one that is pinned stays
@@ -103,8 +94,8 @@ IsVerdict new ws w (Some reason) = stream_reason ws w ≡ Some reason
 
 -- the same of the octets and the FIN alone, where this base is fixed with the segment
 abbrev pub IsRightAt : (base : ℕ) → (new : Ledger) → List Written → Written → Option Reason → Type 0
-IsRightAt base new ws w None = (octets_reason ws w ≡ None) × ReadBy base new (ws ++ w ∷ [])
+IsRightAt base new ws w None = (octets_reason ws w ≡ None) × Tells base new (ws ++ w ∷ [])
 IsRightAt base new ws w (Some reason) = octets_reason ws w ≡ Some reason
 
 abbrev pub IsVerdictAt : (base : ℕ) → (old new : Ledger) → List Written → Written → Option Reason → Type 0
-IsVerdictAt base old new ws w verdict = ReadBy base old ws → base_of (ws ++ w ∷ []) ≡ Some base → IsRightAt base new ws w verdict
+IsVerdictAt base old new ws w verdict = Tells base old ws → base_of (ws ++ w ∷ []) ≡ Some base → IsRightAt base new ws w verdict

@@ -1,5 +1,6 @@
 pub mod Words
 pub mod Frames
+pub mod Tops
 pub mod Faults
 pub mod FirstFault
 pub mod Named

@@ -8,7 +8,7 @@ ghost use Rattle.wire_base.specs.declared.address.Side.{Side};
 ghost use Rattle.run_audit.specs.Faults.{is_segment};
 ghost use Rattle.run_audit.specs.Frames.{Frame, sent};
 ghost use Rattle.run_audit.specs.Frames as frames;
-ghost use Rattle.run_audit.specs.Ledgers.{IsInward, IsOutward};
+ghost use Rattle.run_audit.specs.Ledgers.{IsInward, IsOutward, counted};
 ghost use Rattle.run_audit.specs.Eras.{AllStandFor, EraHasRoom, EraStands, IsJudged, IsTaken, StandsForFew, Takes};
 ghost use Rattle.run_audit.specs.Read.{IsSegment};
 
@@ -20,7 +20,7 @@ use era_state::laws::acked_grows_near;
 use receiver_model::{plain, read_plain};
 use rule_book::Entry;
 use tcp_codec::{SumRule, Tcp};
-use wire_base::{Flags, Protocol, SeqNumber, Side};
+use wire_base::{Flags, Side, protocol};
 
 /// What is wrong with a packet that belongs to this entry; where nothing is, it is noted in its era.
 pub(crate) fn judge(
@@ -77,12 +77,12 @@ fn judge_in_stream(
         IsJudged hops before (record { packet = packet.now; side = Some Side.Inward; era = Some era }) eras.old eras.new verdict) }
 {
     acked_grows_near();
-    if Protocol(packet[9]) != Protocol::TCP {
+    if packet[9] != protocol::TCP {
         return Ok(Some(Reason::Plain));
     }
     let fields = read_plain(packet);
     let segment = Inward {
-        seq: fields.seq.value(),
+        seq: fields.seq,
         flags: fields.flags,
         octets: &packet[fields.start..],
     };
@@ -100,7 +100,7 @@ fn judge_outward(eras: &mut Eras, era: u32, packet: &[u8]) -> Result<Option<Reas
     let Some(head) = segment_in(packet) else {
         return Ok(Some(Reason::Plain));
     };
-    take_outward(eras, era, head.flags, head.ack)?;
+    take_outward(eras, era, head.flags, head.ack);
     Ok(None)
 }
 
@@ -112,7 +112,7 @@ fn segment_in(packet: &[u8]) -> Option<Tcp>
     let Ok(head) = ipv4_codec::parse(packet) else {
         return None;
     };
-    if head.protocol != Protocol::TCP {
+    if head.protocol != protocol::TCP {
         return None;
     }
     let segment = &packet[head.header..usize::from(head.total)];
@@ -137,11 +137,11 @@ fn take_inward(eras: &mut Eras, era: u32, segment: Inward<'_>) -> Result<Option<
 }
 
 // A segment that went outwards is taken in its era.
-fn take_outward(eras: &mut Eras, era: u32, flags: Flags, number: SeqNumber) -> Result<(), NoMemory>
+fn take_outward(eras: &mut Eras, era: u32, flags: Flags, number: u32)
     requires there { IsSome (get nat_eq eras.old era) }
     requires room { EraHasRoom (get nat_eq eras.old era) }
-    ensures { IfOk result (λ _. (ws : List Written) (w : Written) → EraStands (get nat_eq eras.old era) ws →
-        IsOutward flags.0 number w → Takes eras.old eras.new era ws w) }
+    ensures { (ws : List Written) (w : Written) → EraStands (get nat_eq eras.old era) ws →
+        IsOutward flags.0 number w → Takes eras.old eras.new era (counted ws w) }
 {
     match eras.get_mut(&era) {
         Some(ledger) => ledger.acknowledge(flags, number),

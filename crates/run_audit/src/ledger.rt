@@ -1,15 +1,16 @@
 //! What is known of an era from the segments that were written in it.
-ghost use Rattle.std.specs.Prelude.{◌≡◌, ℕ, ◌+◌, ◌^◌, ◌<◌, ◌≤◌, ◌++◌, ◌∷◌, ◌==◌, ◌&&◌, ◌||◌, not, nat_lt, max, [], List, length, Some, None, IfOk, IsSome, vec_len};
+ghost use Rattle.std.specs.Prelude.{◌≡◌, ℕ, ◌+◌, ◌^◌, ◌<◌, ◌==◌, ◌&&◌, ◌||◌, not, nat_lt, max, [], List, length, Some, IfOk};
 ghost use Rattle.wire_base.specs.Segments.{Written};
 ghost use Rattle.wire_base.specs.Tcp.{has_fin};
 ghost use Rattle.era_state.specs.Offsets.{natural, number_in, off};
+ghost use Rattle.run_audit.specs.Ledgers.{raised_to};
 
 use crate::Reason;
 use crate::octets::Octets;
 use crate::offset::{Offset, begin};
 use edge_io::NoMemory;
 use std::alloc::Global;
-use wire_base::{Flags, SeqNumber};
+use wire_base::{Flags, sequence_plus};
 
 /// A segment that went inwards, as far as its era is told by it: its sequence number, its flags and its octets.
 #[derive(Clone, Copy)]
@@ -20,13 +21,6 @@ pub(crate) struct Inward<'a> {
 }
 
 impl Inward<'_> {
-    // Its sequence number.
-    fn number(&self) -> SeqNumber
-        ensures { result ≡ self.now.seq }
-    {
-        SeqNumber::new(self.seq)
-    }
-
     // Octets or a FIN.
     fn brings_something(&self) -> bool
         ensures { result ≡ (nat_lt 0 (length self.now.octets.now) || has_fin self.now.flags.0) }
@@ -35,20 +29,19 @@ impl Inward<'_> {
     }
 }
 
-/// What is known of an era: its base, once it is fixed; what resets acknowledged before; what is acknowledged; the place behind all
-/// octets; the end, once it is pinned; and the first octets at their offsets.
+/// What is known of an era: its base, once it is fixed; what is acknowledged; the offset behind all octets, if there are some; the end, once it
+/// is pinned; and the first octets at their offsets.
 #[derive(Drop)]
 pub(crate) struct Ledger {
-    base: Option<SeqNumber>,
-    resets: Vec<SeqNumber>,
+    base: Option<u32>,
     acked: u64,
-    top: Offset,
+    top: Option<Offset>,
     end: Option<Offset>,
     octets: Octets,
 }
 
 impl Ledger {
-    ghost use Rattle.run_audit.specs.Ledgers.{HasRoom, IsInward, IsOutward, IsVerdict, IsVerdictAt, StandsFor, acked_with as acked_with_number, end_with, fixed, may_end, settled, top_with};
+    ghost use Rattle.run_audit.specs.Ledgers.{IsInward, IsOutward, IsVerdict, IsVerdictAt, StandsFor, acked_with as acked_with_number, counted, end_with, may_end, settled, top_with};
 
     /// That of an era without segments.
     pub(crate) fn new(alloc: Global) -> Ledger
@@ -56,42 +49,39 @@ impl Ledger {
     {
         Ledger {
             base: None,
-            resets: Vec::new(alloc),
             acked: 0,
-            top: begin(),
+            top: None,
             end: None,
             octets: Octets::new(alloc),
         }
     }
 
-    /// Takes a segment that went outwards, with these flags and this acknowledgment.
-    pub(crate) fn acknowledge(&mut self, flags: Flags, number: SeqNumber) -> Result<(), NoMemory>
-        requires { HasRoom self.old }
-        ensures { IfOk result (λ _. (ws : List Written) (w : Written) → StandsFor self.old ws → IsOutward flags.0 number w → StandsFor self.new (ws ++ w ∷ [])) }
+    /// Takes a segment that went outwards, with these flags and this acknowledgment. Before a base is fixed a reset acknowledges nothing.
+    pub(crate) fn acknowledge(&mut self, flags: Flags, number: u32)
+        requires { self.old.acked < 2 ^ 63 }
+        ensures { (ws : List Written) (w : Written) → StandsFor self.old ws → IsOutward flags.0 number w → StandsFor self.new (counted ws w) }
     {
         if !flags.ack() {
-            return Ok(());
+            return;
         }
         if let Some(base) = self.base {
             self.reach(base, number);
-            return Ok(());
+            return;
         }
         if flags.rst() {
-            self.resets.push(number)?;
-            return Ok(());
+            return;
         }
-        self.fix(number);
+        self.base = Some(number);
         self.reach(number, number);
-        Ok(())
     }
 
     /// Takes a segment that went inwards, and answers what is wrong with it.
     pub(crate) fn judge(&mut self, segment: Inward<'_>) -> Result<Option<Reason>, NoMemory>
-        requires room { HasRoom self.old }
+        requires room { self.old.acked < 2 ^ 63 }
         requires short { length segment.octets.now < 2 ^ 16 }
         ensures { IfOk result (λ verdict. (ws : List Written) (w : Written) → StandsFor self.old ws → IsInward segment.entry w → IsVerdict self.new ws w verdict) }
     {
-        let behind = segment.number().plus(1);
+        let behind = sequence_plus(segment.seq, 1);
         let syn = segment.flags.syn();
         let Some(base) = self.base_with(syn, behind) else {
             if segment.brings_something() {
@@ -106,31 +96,25 @@ impl Ledger {
     }
 
     // The base, which a SYN fixes by the number behind it, where none is fixed.
-    fn base_with(&mut self, syn: bool, behind: SeqNumber) -> Option<SeqNumber>
-        requires { HasRoom self.old }
+    fn base_with(&mut self, syn: bool, behind: u32) -> Option<u32>
         ensures changes { self.new ≡ settled self.old syn behind }
         ensures base { result ≡ self.new.base }
-        ensures near { IsSome result → self.new.acked < 2 ^ 63 }
+        ensures same { self.new.acked ≡ self.old.acked }
     {
         if syn && self.base.is_none() {
-            self.fix(behind);
+            self.base = Some(behind);
         }
         self.base
     }
 
     // Takes the octets and the FIN of a segment that went inwards, where this base is fixed.
-    fn judge_octets(
-        &mut self,
-        base: SeqNumber,
-        segment: Inward<'_>,
-    ) -> Result<Option<Reason>, NoMemory>
+    fn judge_octets(&mut self, base: u32, segment: Inward<'_>) -> Result<Option<Reason>, NoMemory>
         requires room { self.old.acked < 2 ^ 63 }
         requires short { length segment.octets.now < 2 ^ 16 }
         ensures same_base { IfOk result (λ _. self.new.base ≡ self.old.base) }
-        ensures same_resets { IfOk result (λ _. self.new.resets ≡ self.old.resets) }
         ensures verdict { IfOk result (λ verdict. (ws : List Written) (w : Written) → IsInward segment.entry w → IsVerdictAt base self.old self.new ws w verdict) }
     {
-        let place = Offset::of(base, self.acked, segment.number());
+        let place = Offset::of(base, self.acked, segment.seq);
         let behind = place.after(segment.octets.len());
         if !self.octets.add(place, segment.octets, self.end)? {
             return Ok(Some(Reason::Octet));
@@ -147,9 +131,7 @@ impl Ledger {
         ensures { self.new ≡ record self.old { top = top_with self.old.top octets behind } }
     {
         if octets > 0 {
-            self.top = Offset {
-                raised: self.top.raised.max(behind.raised),
-            };
+            self.top = Some(raise(self.top, behind));
         }
     }
 
@@ -165,27 +147,14 @@ impl Ledger {
             Some(end) => place == end,
             None => {
                 self.end = Some(place);
-                self.top.raised <= place.raised
+                let top = self.top.unwrap_or(begin());
+                top.raised <= place.raised
             }
         }
     }
 
-    // The base is fixed: what resets acknowledged before is read by it.
-    fn fix(&mut self, base: SeqNumber)
-        requires { vec_len self.old.resets < 2 ^ 32 }
-        ensures changes { self.new ≡ fixed self.old base }
-        ensures near { self.new.acked < 2 ^ 63 }
-    {
-        let mut acked = 0;
-        for number in self.resets.as_slice() {
-            acked = acked_with(base, acked, *number);
-        }
-        self.acked = acked;
-        self.base = Some(base);
-    }
-
     // A number is acknowledged.
-    fn reach(&mut self, base: SeqNumber, number: SeqNumber)
+    fn reach(&mut self, base: u32, number: u32)
         requires { self.old.acked < 2 ^ 63 }
         ensures { self.new ≡ record self.old { acked = acked_with_number base self.old.acked number } }
     {
@@ -193,15 +162,27 @@ impl Ledger {
     }
 }
 
+// The offset behind all octets, with some before this one.
+fn raise(top: Option<Offset>, behind: Offset) -> Offset
+    ensures { result ≡ raised_to top behind }
+{
+    match top {
+        Some(top) => Offset {
+            raised: top.raised.max(behind.raised),
+        },
+        None => behind,
+    }
+}
+
 // A SYN, where there is one, has another number than the one before the base.
-fn is_another(syn: bool, behind: SeqNumber, base: SeqNumber) -> bool
+fn is_another(syn: bool, behind: u32, base: u32) -> bool
     ensures { result ≡ (syn && not (behind == base)) }
 {
     syn && behind != base
 }
 
 // What is acknowledged, with one more number that is acknowledged.
-fn acked_with(base: SeqNumber, acked: u64, number: SeqNumber) -> u64
+fn acked_with(base: u32, acked: u64, number: u32) -> u64
     requires { acked < 2 ^ 63 }
     ensures value { result ≡ max acked (number_in (natural (off base acked number))) }
     ensures near { result < acked + 2 ^ 31 }

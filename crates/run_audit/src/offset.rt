@@ -3,7 +3,7 @@ ghost use Rattle.std.specs.Prelude.{◌≡◌, ◌+◌, ◌%◌, ◌^◌, ◌<�
 ghost use Rattle.receiver_model.specs.Offsets as receiver;
 ghost use Rattle.era_state.specs.Offsets.{off, nat_of};
 
-use wire_base::SeqNumber;
+use wire_base::{sequence_distance, sequence_plus};
 
 // Half a turn of sequence numbers.
 const HALF: u64 = 2147483648;
@@ -23,12 +23,12 @@ pub(crate) fn begin() -> Offset
 
 impl Offset {
     /// The offset of a sequence number, where so much is acknowledged.
-    pub(crate) fn of(base: SeqNumber, acked: u64, number: SeqNumber) -> Offset
+    pub(crate) fn of(base: u32, acked: u64, number: u32) -> Offset
         requires { acked < 2 ^ 63 }
         ensures value { receiver.offset_in result.raised ≡ off base acked number }
         ensures near { result.raised < acked + 2 ^ 32 }
     {
-        let past = number.places_behind(base.plus(acked));
+        let past = sequence_distance(sequence_plus(base, acked), number);
         if past < HALF {
             Offset {
                 raised: acked + past + HALF,

@@ -8,7 +8,7 @@ use ipv4_codec::{Ipv4, write_plain};
 use std::alloc::{AllocError, Global};
 use std::test::Fail;
 use tcp_codec::{SegmentParts, write_segment};
-use wire_base::{Addr, Flags, Protocol, SeqNumber};
+use wire_base::{Addr, Flags, protocol};
 
 /// Little-endian, microseconds, raw IP.
 const HEAD: [u8; 24] = [
@@ -45,6 +45,16 @@ const ABCD: Packet = (true, 1000, 5001, PSH | ACK, b"abcd");
 
 const ABXD: Packet = (true, 1000, 5001, PSH | ACK, b"abXd");
 
+/// An acknowledgment by which the stream begins at 1000; octets that end 5 before it; and octets of which the first two stand before it.
+const FIRST_ACK: Packet = (false, 5001, 1000, ACK, b"");
+
+const BELOW: Packet = (true, 990, 5001, PSH | ACK, b"abcde");
+
+const WXYZ: Packet = (true, 998, 5001, PSH | ACK, b"wxyz");
+
+/// A reset that acknowledges 2^31 - 1 octets from 1000 on.
+const EARLY_RESET: Packet = (false, 0, 2147484647, RST | ACK, b"");
+
 /// The report of a connection with two segments behind its opening.
 const REPORT: &str =
     "norm 2\n1 in pass 1 @1 +1\n2 out pass 1 @1\n3 in pass 1 @1\n4 in pass 1 @1\n5 in fix 1 T_CLASH @1\nend 5 5\n";
@@ -65,8 +75,8 @@ fn packet_octets(alloc: Global, packet: Packet) -> Result<Vec<u8>, AllocError> {
         dst,
         sport,
         dport,
-        seq: SeqNumber::new(seq),
-        ack: SeqNumber::new(ack),
+        seq,
+        ack,
         flags: Flags(flags & 31),
         window: 8192,
         options: ArrayVec::new(),
@@ -82,7 +92,7 @@ fn packet_octets(alloc: Global, packet: Packet) -> Result<Vec<u8>, AllocError> {
         more: false,
         offset: 0,
         ttl: 64,
-        protocol: Protocol::TCP,
+        protocol: protocol::TCP,
         sum: 0,
         src,
         dst,
@@ -140,7 +150,7 @@ fn audited(
 /// The packets of a capture, its report, and the line and the status of their audit for 30 routers.
 type Row = (&'static [Packet], &'static str, &'static str, u8);
 
-const ROWS: [Row; 15] = [
+const ROWS: [Row; 21] = [
     (&[CALL, ANSWER, OPENED, ABCD, ABCD], REPORT, "yes 1 5\n", 0),
     (
         &[CALL, ANSWER, OPENED, ABCD, ABXD],
@@ -195,6 +205,45 @@ const ROWS: [Row; 15] = [
         "norm 2\n1 in pass 1 @1 +1\n2 out pass 1 @1\n3 in pass 1 @1\n4 in pass 1 @1\nend 4 4\n",
         "no 4 octet\n",
         1,
+    ),
+    // Octets below the begin of the stream alone, so that a FIN may stand there too, behind them.
+    (
+        &[FIRST_ACK, BELOW, (true, 995, 5001, FIN | ACK, b"")],
+        "norm 2\n1 out pass 1 @1\n2 in pass 1 @1\n3 in pass 1 @1\nend 3 3\n",
+        "yes 1 3\n",
+        0,
+    ),
+    (
+        &[FIRST_ACK, BELOW, (true, 994, 5001, FIN | ACK, b"")],
+        "norm 2\n1 out pass 1 @1\n2 in pass 1 @1\n3 in pass 1 @1\nend 3 3\n",
+        "no 3 fin\n",
+        1,
+    ),
+    (
+        &[FIRST_ACK, (true, 999, 5001, FIN | ACK, b"")],
+        "norm 2\n1 out pass 1 @1\n2 in pass 1 @1\nend 2 2\n",
+        "no 2 fin\n",
+        1,
+    ),
+    // A reset before the base acknowledges nothing: 998 is then two before the begin, and not some 2^32 behind it.
+    (
+        &[EARLY_RESET, FIRST_ACK, WXYZ, ABCD],
+        "norm 2\n1 out pass 1 @1\n2 out pass 1 @1\n3 in pass 1 @1\n4 in pass 1 @1\nend 4 4\n",
+        "no 4 octet\n",
+        1,
+    ),
+    (
+        &[EARLY_RESET, CALL, WXYZ, (true, 1002, 5001, FIN | ACK, b"")],
+        "norm 2\n1 out pass 1 @1\n2 in pass 1 @1\n3 in pass 1 @1\n4 in pass 1 @1\nend 4 4\n",
+        "yes 1 4\n",
+        0,
+    ),
+    // One behind the base acknowledges as each segment does.
+    (
+        &[FIRST_ACK, EARLY_RESET, WXYZ, ABCD],
+        "norm 2\n1 out pass 1 @1\n2 out pass 1 @1\n3 in pass 1 @1\n4 in pass 1 @1\nend 4 4\n",
+        "yes 1 4\n",
+        0,
     ),
     (
         &[CALL],

@@ -8,4 +8,4 @@ take_inward-requires-clause-room c = era_has_room c.acked_grows_near.ensures c.a
 
 pub returns : goal.returns
 returns c =
-    judged_inward c.take_inward.result c.args.hops c.args.eras.now c.take_inward.new.eras c.args.era c.args.packet.now c.read_plain-fields.result _ c.requires.plain (search rules) c.read_plain-fields.ensures.fields refl refl (behind_place c.args.packet.now c.read_plain-fields.result.start) (rw c.value.ensures at c.take_inward.ensures)
+    judged_inward c.take_inward.result c.args.hops c.args.eras.now c.take_inward.new.eras c.args.era c.args.packet.now c.read_plain-fields.result _ c.requires.plain (search rules) c.read_plain-fields.ensures.fields refl refl (behind_place c.args.packet.now c.read_plain-fields.result.start) c.take_inward.ensures

@@ -6,7 +6,6 @@ returns c =
     faultless_agrees
     (record {
       eras = record { read = c.offsets_are_read.ensures; same = c.inwards_acknowledge_nothing.ensures; remains = c.written_remains.ensures; joins = c.emitted_joins.ensures; told = c.emitted_is_told.ensures };
-      below = c.octets_are_below_top.ensures;
       silence = c.silence_changes_nothing.ensures;
     })
     c.members_agree.ensures

@@ -8,4 +8,5 @@ returns c =
       certain = c.items_are_certain.ensures;
       emitted = c.lawful_is_emitted.ensures;
       faultless = c.emitted_has_no_fault.ensures;
+      resets = c.resets_are_last.ensures;
     })

@@ -10,14 +10,14 @@ use Rattle.run_audit.proofs.ledger.Ledger.judge_octets.Goals as goal
 
 pub returns-then-not-branch-clause-verdict : goal.returns-then-not-branch-clause-verdict
 returns-then-not-branch-clause-verdict c ws w is read based =
-    let came : Came c.args.base c.args.self.now c.args.segment w c.of-place.result c.after-behind.result = record { is = is; placed = c.of-place.ensures.value ∙ ap (off c.args.base c.args.self.now.acked) c.number.ensures; behind_is = c.after-behind.ensures } in
+    let came : Came c.args.base c.args.self.now c.args.segment w c.of-place.result c.after-behind.result = record { is = is; placed = c.of-place.ensures.value; behind_is = c.after-behind.ensures } in
     octet_strays ws w
     (octets_judged c.args.base c.args.self.now c.args.segment ws w c.of-place.result c.after-behind.result came read based
     ∙ not-false _ (sym c.in_ok-add.ensures.stray ∙ c.if-not-branch.true))
 
 pub returns-then-not-ends_at-clause-verdict : goal.returns-then-not-ends_at-clause-verdict
 returns-then-not-ends_at-clause-verdict c ws w is read based =
-    let came : Came c.args.base c.args.self.now c.args.segment w c.of-place.result c.after-behind.result = record { is = is; placed = c.of-place.ensures.value ∙ ap (off c.args.base c.args.self.now.acked) c.number.ensures; behind_is = c.after-behind.ensures } in
+    let came : Came c.args.base c.args.self.now c.args.segment w c.of-place.result c.after-behind.result = record { is = is; placed = c.of-place.ensures.value; behind_is = c.after-behind.ensures } in
     let told : c.ends_at.result ≡ may_end (tcp.has_fin c.args.segment.flags.0) c.args.self.now.end (top_with c.args.self.now.top (length c.args.segment.octets.now) c.after-behind.result) c.after-behind.result =
     c.ends_at.ensures.right ∙ ap₂ (λ f (l : Ledger). may_end f l.end l.top c.after-behind.result) c.fin.ensures c.rise.ensures in
     fin_is_other ws w
@@ -28,7 +28,7 @@ returns-then-not-ends_at-clause-verdict c ws w is read based =
 
 pub returns-clause-verdict : goal.returns-clause-verdict
 returns-clause-verdict c ws w is read based =
-    let came : Came c.args.base c.args.self.now c.args.segment w c.of-place.result c.after-behind.result = record { is = is; placed = c.of-place.ensures.value ∙ ap (off c.args.base c.args.self.now.acked) c.number.ensures; behind_is = c.after-behind.ensures } in
+    let came : Came c.args.base c.args.self.now c.args.segment w c.of-place.result c.after-behind.result = record { is = is; placed = c.of-place.ensures.value; behind_is = c.after-behind.ensures } in
     let told : c.ends_at.result ≡ may_end (tcp.has_fin c.args.segment.flags.0) c.args.self.now.end (top_with c.args.self.now.top (length c.args.segment.octets.now) c.after-behind.result) c.after-behind.result =
     c.ends_at.ensures.right ∙ ap₂ (λ f (l : Ledger). may_end f l.end l.top c.after-behind.result) c.fin.ensures c.rise.ensures in (
       nothing_strays ws w
