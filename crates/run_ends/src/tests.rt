@@ -1,23 +1,26 @@
-//! Whole runs, with expected octets from the formats' standards and the worked captures.
+//! Whole runs, with expected octets from the formats' standards and worked captures.
 ghost use Rattle.std.specs.Prelude.{◌<◌};
 
 use bridge_run::run;
 use edge_io::{Failed, MemSink, MemSource, Sink};
+use run_rows::rows::{SEEDS, words_of};
 use run_rows::runs::{
-    Changes, DATAGRAM, FRONT, HEAD, NONE, capture_file, change, ended_run, line, only,
+    Changes, HEAD, NONE, RECORD_HEADER, UDP_MESSAGE, capture_file, change, ended_run, line, only,
+    words_in,
 };
 use std::alloc::{AllocError, Global};
 use std::process::Abort;
 use std::test::Fail;
 
+mod expected;
 mod forms;
 mod loads;
 mod sections;
 mod stopped;
 
-/// A file, as changes of the head, a number of records, changes of the last one's head and a size; which calls fail; and the status, the
-/// report and how many octets of the file the capture is.
-struct Whole {
+/// A capture of UDP messages: changes of its file header, its records, changes of the last record header, and its size. The calls that fail; the
+/// status, the report, and how many octets of the capture are written.
+struct Ending {
     head: Changes,
     records: u8,
     last: Changes,
@@ -29,34 +32,35 @@ struct Whole {
 }
 
 #[rattlefmt::skip]
-const WHOLES: &[Whole] = &[
-    Whole { head: "", records: 1, last: "", size: 70, failing: NONE, status: 0, report: "norm 2\n1 in pass 1\nend 1 1\n", written: 70 },
-    Whole { head: "", records: 0, last: "", size: 24, failing: NONE, status: 0, report: "norm 2\nend 0 0\n", written: 24 },
-    Whole { head: "", records: 0, last: "", size: 0, failing: NONE, status: 4, report: "norm 2\nstop cut 0\n", written: 0 },
-    Whole { head: "", records: 0, last: "", size: 23, failing: NONE, status: 4, report: "norm 2\nstop cut 0\n", written: 0 },
-    Whole { head: "", records: 2, last: "", size: 115, failing: NONE, status: 4, report: "norm 2\n1 in pass 1\nstop cut 70\n", written: 70 },
-    Whole { head: "", records: 1, last: "", size: 39, failing: NONE, status: 4, report: "norm 2\nstop cut 24\n", written: 24 },
-    Whole { head: "0:0x00000000", records: 1, last: "", size: 70, failing: NONE, status: 3, report: "norm 2\nstop magic 0\n", written: 0 },
-    Whole { head: "6:0x03", records: 1, last: "", size: 70, failing: NONE, status: 3, report: "norm 2\nstop version 0\n", written: 0 },
-    Whole { head: "20:0x71", records: 1, last: "", size: 70, failing: NONE, status: 3, report: "norm 2\nstop link 0\n", written: 0 },
-    Whole { head: "", records: 1, last: "8:0x01 10:0x04", size: 70, failing: NONE, status: 3, report: "norm 2\nstop long 24\n", written: 24 },
-    Whole { head: "", records: 2, last: "8:0x01 10:0x04", size: 116, failing: NONE, status: 3, report: "norm 2\n1 in pass 1\nstop long 70\n", written: 70 },
-    Whole { head: "", records: 1, last: "", size: 70, failing: (1, 0, 0), status: 5, report: "norm 2\nstop read 0\n", written: 0 },
-    Whole { head: "", records: 1, last: "", size: 70, failing: (0, 1, 0), status: 6, report: "norm 2\nstop capture 0\n", written: 0 },
-    Whole { head: "", records: 1, last: "", size: 70, failing: (0, 2, 0), status: 6, report: "norm 2\nstop capture 24\n", written: 24 },
-    Whole { head: "", records: 1, last: "", size: 70, failing: (0, 0, 1), status: 7, report: "", written: 0 },
+const ENDINGS: &[Ending] = &[
+    Ending { head: "", records: 1, last: "", size: 70, failing: NONE, status: 0, report: "norm 2\n1 in pass 1\nend 1 1\n", written: 70 },
+    Ending { head: "", records: 0, last: "", size: 24, failing: NONE, status: 0, report: "norm 2\nend 0 0\n", written: 24 },
+    Ending { head: "", records: 0, last: "", size: 0, failing: NONE, status: 4, report: "norm 2\nstop cut 0\n", written: 0 },
+    Ending { head: "", records: 0, last: "", size: 23, failing: NONE, status: 4, report: "norm 2\nstop cut 0\n", written: 0 },
+    Ending { head: "", records: 2, last: "", size: 115, failing: NONE, status: 4, report: "norm 2\n1 in pass 1\nstop cut 70\n", written: 70 },
+    Ending { head: "", records: 1, last: "", size: 39, failing: NONE, status: 4, report: "norm 2\nstop cut 24\n", written: 24 },
+    Ending { head: "0:0x00000000", records: 1, last: "", size: 70, failing: NONE, status: 3, report: "norm 2\nstop magic 0\n", written: 0 },
+    Ending { head: "6:0x03", records: 1, last: "", size: 70, failing: NONE, status: 3, report: "norm 2\nstop version 0\n", written: 0 },
+    Ending { head: "20:0x71", records: 1, last: "", size: 70, failing: NONE, status: 3, report: "norm 2\nstop link 0\n", written: 0 },
+    Ending { head: "", records: 1, last: "8:0x01 10:0x04", size: 70, failing: NONE, status: 3, report: "norm 2\nstop long 24\n", written: 24 },
+    Ending { head: "", records: 2, last: "8:0x01 10:0x04", size: 116, failing: NONE, status: 3, report: "norm 2\n1 in pass 1\nstop long 70\n", written: 70 },
+    Ending { head: "", records: 1, last: "", size: 70, failing: (1, 0, 0), status: 5, report: "norm 2\nstop read 0\n", written: 0 },
+    Ending { head: "", records: 1, last: "", size: 70, failing: (0, 1, 0), status: 6, report: "norm 2\nstop capture 0\n", written: 0 },
+    Ending { head: "", records: 1, last: "", size: 70, failing: (0, 2, 0), status: 6, report: "norm 2\nstop capture 24\n", written: 24 },
+    Ending { head: "", records: 1, last: "", size: 70, failing: (0, 0, 1), status: 7, report: "", written: 0 },
 ];
 
-/// The words of a run.
+/// The words of a run without options.
 const WORDS: &[&str] = &["run", "a", "b", "10.0.0.0/8"];
 
-/// A run over a file that is given in pieces of so many octets ends as the row says.
-fn ends(rt: &impl Abort, alloc: Global, row: &Whole, piece: usize) -> Result<(), Fail>
+/// Tests a row in a run that reads its capture in pieces of so many octets.
+fn ends(rt: &impl Abort, alloc: Global, row: &Ending, seed: &str, piece: usize) -> Result<(), Fail>
     requires { 0 < piece }
 {
+    let words = words_of(alloc, "", seed)?;
     let mut file = capture_file(alloc, row.head, row.records, row.last)?;
     file.truncate(row.size);
-    let ended = ended_run(alloc, WORDS, &file, piece, row.failing)?;
+    let ended = ended_run(alloc, &words, &file, piece, row.failing)?;
     let report = row.report;
     assert_eq!(rt; ended.status, row.status, "{report}");
     assert_eq!(rt; ended.report.held(), report.as_bytes(), "{report}");
@@ -68,43 +72,64 @@ fn ends(rt: &impl Abort, alloc: Global, row: &Whole, piece: usize) -> Result<(),
     Ok(())
 }
 
-/// The same of each row.
-fn each_ends(rt: &impl Abort, alloc: Global, rows: &[Whole], piece: usize) -> Result<(), Fail>
+/// Tests each row with each seed.
+fn each_ends(rt: &impl Abort, alloc: Global, rows: &[Ending], piece: usize) -> Result<(), Fail>
     requires { 0 < piece }
 {
     for row in rows {
-        ends(rt, alloc, row, piece)?;
+        for seed in SEEDS {
+            ends(rt, alloc, row, seed, piece)?;
+        }
     }
     Ok(())
 }
 
 #[test]
-fn runs_tell_how_they_end(rt: HostRuntime) -> Result<(), Fail> {
-    each_ends(&rt, rt.alloc(), WHOLES, 1)?;
-    each_ends(&rt, rt.alloc(), WHOLES, 7)?;
-    each_ends(&rt, rt.alloc(), WHOLES, 65536)
+fn runs_say_how_they_end(rt: HostRuntime) -> Result<(), Fail> {
+    each_ends(&rt, rt.alloc(), ENDINGS, 1)?;
+    each_ends(&rt, rt.alloc(), ENDINGS, 7)?;
+    each_ends(&rt, rt.alloc(), ENDINGS, 65536)
 }
 
 #[rattlefmt::skip]
-const REFUSED: &[(&[&str], &str)] = &[
-    (&["run", "a"], "stop words 1\n"),
-    (&["run", "a", "a", "10.0.0.0/8"], "stop words 5\n"),
-    (&["run", "a", "b", "0.0.0.0/8", "1.0.0.0/8", "2.0.0.0/8", "3.0.0.0/8", "4.0.0.0/8", "5.0.0.0/8", "6.0.0.0/8", "7.0.0.0/8", "8.0.0.0/8",
-       "9.0.0.0/8", "10.0.0.0/8", "11.0.0.0/8", "12.0.0.0/8", "13.0.0.0/8", "14.0.0.0/8", "15.0.0.0/8", "16.0.0.0/8"], "stop words 3\n"),
-    (&["run", "a", "b", "10.0.0/8"], "stop words 2\n"),
-    (&["run", "--hops", "255", "a", "b", "10.0.0.0/8"], "stop words 1\n"),
-    (&["run", "--both", "--mtu", "576", "a", "b", "10.0.0.0/8"], "stop words 1\n"),
-    (&["run", "--mtu", "575", "a", "b", "10.0.0.0/8"], "stop words 1\n"),
-    (&["load", "1", "0"], "stop words 1\n"),
+const REFUSED: &[(&str, &str)] = &[
+    ("run a", "stop words 1\n"),
+    ("run a a 10.0.0.0/8", "stop words 5\n"),
+    ("run a b 0.0.0.0/8 1.0.0.0/8 2.0.0.0/8 3.0.0.0/8 4.0.0.0/8 5.0.0.0/8 6.0.0.0/8 7.0.0.0/8 8.0.0.0/8 9.0.0.0/8 10.0.0.0/8 11.0.0.0/8 \
+        12.0.0.0/8 13.0.0.0/8 14.0.0.0/8 15.0.0.0/8 16.0.0.0/8", "stop words 3\n"),
+    ("run a b 10.0.0/8", "stop words 2\n"),
+    ("run --hops 255 a b 10.0.0.0/8", "stop words 1\n"),
+    ("run --hops 5 --hops=6 a b 10.0.0.0/8", "stop words 1\n"),
+    ("run a b 10.0.0.0/8 --offload", "stop words 1\n"),
+    ("run --both --mtu 576 a b 10.0.0.0/8", "stop words 1\n"),
+    ("run --both --inside in a b 10.0.0.0/8", "stop words 1\n"),
+    ("run --mtu 575 a b 10.0.0.0/8", "stop words 1\n"),
+    ("load 1 0", "stop words 1\n"),
 ];
 
-/// Each of these words is refused, with this report.
-fn each_is_refused(rt: &impl Abort, alloc: Global, rows: &[(&[&str], &str)]) -> Result<(), Fail> {
-    for (words, report) in rows {
-        let ended = ended_run(alloc, words, &HEAD, 7, (1, 1, 0))?;
-        assert_eq!(rt; ended.status, 2, "{report}");
-        assert_eq!(rt; ended.report.held(), report.as_bytes(), "{report}");
-        assert!(rt; ended.capture.held().is_empty(), "{report}");
+/// Tests words that are refused, with a seed as their first option.
+fn is_refused(
+    rt: &impl Abort,
+    alloc: Global,
+    line: &str,
+    seed: &str,
+    report: &str,
+) -> Result<(), Fail> {
+    let (command, rest) = line.split_once(' ').unwrap_or((line, ""));
+    let words = words_in(alloc, &[command, seed, rest])?;
+    let ended = ended_run(alloc, &words, &HEAD, 7, (1, 1, 0))?;
+    assert_eq!(rt; ended.status, 2, "{line}");
+    assert_eq!(rt; ended.report.held(), report.as_bytes(), "{line}");
+    assert!(rt; ended.capture.held().is_empty(), "{line}");
+    Ok(())
+}
+
+/// Tests each row with each seed.
+fn each_is_refused(rt: &impl Abort, alloc: Global, rows: &[(&str, &str)]) -> Result<(), Fail> {
+    for (line, report) in rows {
+        for seed in SEEDS {
+            is_refused(rt, alloc, line, seed, report)?;
+        }
     }
     Ok(())
 }
@@ -114,20 +139,19 @@ fn refused_words_leave_one_line(rt: HostRuntime) -> Result<(), Fail> {
     each_is_refused(&rt, rt.alloc(), REFUSED)
 }
 
-/// What is written of the datagram.
+/// The output for one UDP message.
 #[derive(Clone, Copy)]
 enum Written {
     Nothing,
-    /// What was captured.
+    /// The octets that were captured.
     AsRead,
     /// Its 30 octets with these changes.
-    Anew(Changes),
+    Rewritten(Changes),
 }
 
-use Written::{Anew, AsRead, Nothing};
+use Written::{AsRead, Nothing, Rewritten};
 
-/// The datagram with these changes, how many of its octets were captured and how many it had; the record's line without its number, and what is
-/// written.
+/// Changes of the UDP message, its captured and its original length; the record's line without its number, and the output.
 struct Judged {
     changes: Changes,
     captured: u8,
@@ -158,68 +182,68 @@ const JUDGED: &[Judged] = &[
     Judged { changes: OUTSIDE, captured: 30, original: 30, line: "- drop 0 I_SIDE", written: Nothing },
     Judged { changes: OUTWARD, captured: 30, original: 30, line: "out pass 1", written: AsRead },
     Judged { changes: FADING, captured: 30, original: 30, line: "out pass 1", written: AsRead },
-    Judged { changes: "8:0x1e 10:0x68", captured: 30, original: 30, line: "in fix 1 I_TTL", written: Anew("8:0x1f 10:0x67") },
+    Judged { changes: "8:0x1e 10:0x68", captured: 30, original: 30, line: "in fix 1 I_TTL", written: Rewritten("8:0x1f 10:0x67") },
     Judged { changes: "8:0x1f 10:0x67", captured: 30, original: 30, line: "in pass 1", written: AsRead },
     Judged { changes: "6:0x20 10:0x26", captured: 30, original: 30, line: "in drop 0 F_ALIGN", written: Nothing },
     Judged { changes: "7:0x01 11:0x92", captured: 30, original: 30, line: "in hold 0 F_HELD", written: Nothing },
     Judged { changes: "6:0x40 10:0x06", captured: 30, original: 30, line: "in pass 1", written: AsRead },
-    Judged { changes: "6:0x80 10:0xc692", captured: 30, original: 30, line: "in fix 1 I_RES", written: Anew("") },
+    Judged { changes: "6:0x80 10:0xc692", captured: 30, original: 30, line: "in fix 1 I_RES", written: Rewritten("") },
     Judged { changes: "9:0x01 11:0xa3", captured: 30, original: 30, line: "in drop 0 M_SUM", written: Nothing },
     Judged { changes: "9:0x06 11:0x9e", captured: 30, original: 30, line: "in drop 0 T_SHORT", written: Nothing },
     Judged { changes: "9:0x02 11:0xa2", captured: 30, original: 30, line: "in drop 0 P_PROTO", written: Nothing },
     Judged { changes: "10:0x2d 12:0xdf 26:0xad", captured: 30, original: 30, line: "in pass 1", written: AsRead },
     Judged { changes: "10:0x2c 12:0xe0 26:0xac", captured: 30, original: 30, line: "- drop 0 I_SRC", written: Nothing },
-    Judged { changes: "", captured: 31, original: 31, line: "in fix 1 I_TRAIL", written: Anew("") },
+    Judged { changes: "", captured: 31, original: 31, line: "in fix 1 I_TRAIL", written: Rewritten("") },
     Judged { changes: "25:0x09", captured: 30, original: 30, line: "in drop 0 U_LEN", written: Nothing },
     Judged { changes: "26:0x0000", captured: 30, original: 30, line: "in pass 1", written: AsRead },
     Judged { changes: "29:0x6a", captured: 30, original: 30, line: "in drop 0 U_SUM", written: Nothing },
 ];
 
-/// The datagram with these changes, and the octet behind it.
-fn datagram_with(alloc: Global, changes: Changes) -> Result<[u8; 31], Fail> {
-    let mut packet = DATAGRAM;
+/// Returns the UDP message with these changes, and the octet after it.
+fn message_with(alloc: Global, changes: Changes) -> Result<[u8; 31], Fail> {
+    let mut packet = UDP_MESSAGE;
     change(alloc, &mut packet, changes)?;
     Ok(packet)
 }
 
-/// The datagram without the octet behind it.
-fn datagram_in(packet: &[u8; 31]) -> &[u8] {
+/// Returns the UDP message without the octet after it.
+fn message_in(packet: &[u8; 31]) -> &[u8] {
     &packet[..30]
 }
 
-/// A file of one record, at time 0, of these octets, of which the packet had so many.
+/// Returns a capture of one record at time 0 with these octets and this original length.
 fn one_record(alloc: Global, octets: &[u8], original: u8) -> Result<Vec<u8>, AllocError> {
-    let mut front = FRONT;
-    front[8] = octets.len().min(255) as u8;
-    front[12] = original;
+    let mut header = RECORD_HEADER;
+    header[8] = octets.len().min(255) as u8;
+    header[12] = original;
     let mut file = Vec::from_slice(alloc, &HEAD)?;
-    file.extend_from_slice(&front)?;
+    file.extend_from_slice(&header)?;
     file.extend_from_slice(octets)?;
     Ok(file)
 }
 
-/// The file that is written for a record of these octets.
+/// Returns the output capture for a record of these octets.
 fn written_file(alloc: Global, octets: &[u8], written: Written) -> Result<Vec<u8>, Fail> {
     match written {
         Nothing => Ok(Vec::from_slice(alloc, &HEAD)?),
         AsRead => Ok(one_record(alloc, octets, octets.len().min(255) as u8)?),
-        Anew(changes) => {
-            let packet = datagram_with(alloc, changes)?;
-            Ok(one_record(alloc, datagram_in(&packet), 30)?)
+        Rewritten(changes) => {
+            let packet = message_with(alloc, changes)?;
+            Ok(one_record(alloc, message_in(&packet), 30)?)
         }
     }
 }
 
-/// The report of a run over one record with this line.
+/// Returns the report of a run over one record with this line.
 fn report_of(alloc: Global, line: &str, written: Written) -> Result<String, AllocError> {
     let frames = match written {
         Nothing => 0,
-        AsRead | Anew(_) => 1,
+        AsRead | Rewritten(_) => 1,
     };
     format!(in alloc; "norm 2\n1 {line}\nend 1 {frames}\n")
 }
 
-/// Of a run with these words over a record of these octets this is the line, and this is written.
+/// Tests the line and the output of a run over one record.
 fn judges(
     rt: &impl Abort,
     alloc: Global,
@@ -239,10 +263,10 @@ fn judges(
     Ok(())
 }
 
-/// Each row's packet is judged as the row says.
+/// Tests each row.
 fn each_is_judged(rt: &impl Abort, alloc: Global, rows: &[Judged]) -> Result<(), Fail> {
     for row in rows {
-        let packet = datagram_with(alloc, row.changes)?;
+        let packet = message_with(alloc, row.changes)?;
         let Some(octets) = packet.get(..usize::from(row.captured)) else {
             return Err(Fail::new("more octets than there are"));
         };
@@ -253,61 +277,59 @@ fn each_is_judged(rt: &impl Abort, alloc: Global, rows: &[Judged]) -> Result<(),
 }
 
 #[test]
-fn each_row_judges_its_packet(rt: HostRuntime) -> Result<(), Fail> {
+fn messages_are_judged(rt: HostRuntime) -> Result<(), Fail> {
     each_is_judged(&rt, rt.alloc(), JUDGED)
 }
 
-/// Words, the changes of the datagram, and what becomes of it.
+/// The words of a run, changes of the UDP message, its line and its output.
 struct Set {
-    words: &'static [&'static str],
+    words: &'static str,
     changes: Changes,
     line: &'static str,
     written: Written,
 }
 
-/// As many prefixes as there may be; the last of them holds the datagram's address.
-#[rattlefmt::skip]
-const SIXTEEN: &[&str] = &[
-    "run", "a", "b", "192.0.2.0/32", "192.0.2.1/32", "192.0.2.2/32", "192.0.2.3/32", "192.0.2.4/32", "192.0.2.5/32", "192.0.2.6/32",
-    "192.0.2.7/32", "192.0.2.8/32", "192.0.2.9/32", "192.0.2.10/32", "192.0.2.11/32", "192.0.2.12/32", "192.0.2.13/32", "192.0.2.14/32",
-    "10.0.0.0/8",
-];
+/// Sixteen prefixes, the last of which holds the message's destination.
+const SIXTEEN: &str =
+    "run a b 192.0.2.0/32 192.0.2.1/32 192.0.2.2/32 192.0.2.3/32 192.0.2.4/32 192.0.2.5/32 192.0.2.6/32 192.0.2.7/32 \
+    192.0.2.8/32 192.0.2.9/32 192.0.2.10/32 192.0.2.11/32 192.0.2.12/32 192.0.2.13/32 192.0.2.14/32 10.0.0.0/8";
 
 #[rattlefmt::skip]
 const SETS: &[Set] = &[
-    Set { words: &["run", "--hops", "0", "a", "b", "10.0.0.0/8"], changes: "8:0x00 10:0x86", line: "in fix 1 I_TTL", written: Anew("8:0x01 10:0x85") },
-    Set { words: &["run", "--hops=0", "a", "b", "10.0.0.0/8"], changes: "8:0x01 10:0x85", line: "in pass 1", written: AsRead },
-    Set { words: &["run", "--hops", "5", "a", "b", "10.0.0.0/8"], changes: "8:0x05 10:0x81", line: "in fix 1 I_TTL", written: Anew("8:0x06 10:0x80") },
-    Set { words: &["run", "--hops", "5", "a", "b", "10.0.0.0/8"], changes: "8:0x06 10:0x80", line: "in pass 1", written: AsRead },
-    Set { words: &["run", "--hops=254", "a", "b", "10.0.0.0/8"], changes: "", line: "in fix 1 I_TTL", written: Anew("8:0xff 10:0x8792") },
-    Set { words: &["run", "--hops=254", "a", "b", "10.0.0.0/8"], changes: OUTWARD, line: "out pass 1", written: AsRead },
-    Set { words: &["run", "a", "b", "10.0.0.0/8"], changes: WRONG_OUTWARD, line: "out drop 0 U_SUM", written: Nothing },
-    Set { words: &["run", "--offload", "a", "b", "10.0.0.0/8"], changes: WRONG_OUTWARD, line: "out fix 1 U_SUM_OUT", written: Anew(OUTWARD) },
-    Set { words: &["run", "--offload", "a", "b", "10.0.0.0/8"], changes: "27:0xbe", line: "in drop 0 U_SUM", written: Nothing },
-    Set { words: &["run", "a", "b", "192.0.2.0/24", "10.0.0.0/8"], changes: "", line: "in pass 1", written: AsRead },
-    Set { words: &["run", "a", "b", "10.0.0.0/8", "192.0.2.0/24"], changes: OUTSIDE, line: "in pass 1", written: AsRead },
-    Set { words: &["run", "a", "b", "10.0.0.0/8", "198.51.100.0/24"], changes: "", line: "- drop 0 I_SIDE", written: Nothing },
+    Set { words: "run --hops 0 a b 10.0.0.0/8", changes: "8:0x00 10:0x86", line: "in fix 1 I_TTL", written: Rewritten("8:0x01 10:0x85") },
+    Set { words: "run --hops=0 a b 10.0.0.0/8", changes: "8:0x01 10:0x85", line: "in pass 1", written: AsRead },
+    Set { words: "run --hops 5 a b 10.0.0.0/8", changes: "8:0x05 10:0x81", line: "in fix 1 I_TTL", written: Rewritten("8:0x06 10:0x80") },
+    Set { words: "run --hops 5 a b 10.0.0.0/8", changes: "8:0x06 10:0x80", line: "in pass 1", written: AsRead },
+    Set { words: "run --hops=254 a b 10.0.0.0/8", changes: "", line: "in fix 1 I_TTL", written: Rewritten("8:0xff 10:0x8792") },
+    Set { words: "run --hops=254 a b 10.0.0.0/8", changes: OUTWARD, line: "out pass 1", written: AsRead },
+    Set { words: "run a b 10.0.0.0/8", changes: WRONG_OUTWARD, line: "out drop 0 U_SUM", written: Nothing },
+    Set { words: "run --offload a b 10.0.0.0/8", changes: WRONG_OUTWARD, line: "out fix 1 U_SUM_OUT", written: Rewritten(OUTWARD) },
+    Set { words: "run --offload a b 10.0.0.0/8", changes: "27:0xbe", line: "in drop 0 U_SUM", written: Nothing },
+    Set { words: "run a b 192.0.2.0/24 10.0.0.0/8", changes: "", line: "in pass 1", written: AsRead },
+    Set { words: "run a b 10.0.0.0/8 192.0.2.0/24", changes: OUTSIDE, line: "in pass 1", written: AsRead },
+    Set { words: "run a b 10.0.0.0/8 198.51.100.0/24", changes: "", line: "- drop 0 I_SIDE", written: Nothing },
     Set { words: SIXTEEN, changes: "", line: "in pass 1", written: AsRead },
 ];
 
 const WRONG_OUTWARD: Changes = "12:0x0a000001c6336407 27:0xbe";
 
-/// Each row's words count as the row says.
+/// Tests each row.
 fn each_counts(rt: &impl Abort, alloc: Global, rows: &[Set]) -> Result<(), Fail> {
     for row in rows {
-        let packet = datagram_with(alloc, row.changes)?;
-        let record = (datagram_in(&packet), 30);
-        judges(rt, alloc, row.words, record, row.line, row.written)?;
+        let words = words_in(alloc, &[row.words])?;
+        let packet = message_with(alloc, row.changes)?;
+        let record = (message_in(&packet), 30);
+        judges(rt, alloc, &words, record, row.line, row.written)?;
     }
     Ok(())
 }
 
 #[test]
-fn what_words_ask_for_counts(rt: HostRuntime) -> Result<(), Fail> {
+fn options_and_prefixes_count(rt: HostRuntime) -> Result<(), Fail> {
     each_counts(&rt, rt.alloc(), SETS)
 }
 
-/// A sink that takes each piece and keeps it back, and cannot hand it on.
+/// A sink that buffers each piece and cannot flush.
 #[derive(Drop)]
 struct Stuck {
     faults: u64,
@@ -335,7 +357,7 @@ impl Sink for Stuck {
 }
 
 #[test]
-fn nothing_is_said_of_the_end_before_the_frames_are_handed_on(rt: HostRuntime) -> Result<(), Fail> {
+fn a_capture_sink_that_cannot_flush_stops_a_run(rt: HostRuntime) -> Result<(), Fail> {
     let words = line(rt.alloc(), WORDS)?;
     let file = capture_file(rt.alloc(), "", 1, "")?;
     let mut source = MemSource::new(file, 65536, only(rt.alloc(), 0)?);

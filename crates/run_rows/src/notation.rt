@@ -1,51 +1,51 @@
-//! The notation in which rows tell packets: `> PA 1000,5001 abcd [ttl=1 id=7]`.
+//! The notation of packets in rows: `> PA 1000,5001 abcd [ttl=1 id=7]`.
 //!
-//! - `>` is inwards and `<` outwards.
-//! - The TCP flags by their first letters, or the protocol of another message: `UDP`, `ICMP` or `IGMP`.
-//! - With flags, the sequence number, and behind a comma the acknowledgment number.
-//! - The payload, where there is one: of a message all that follows the IPv4 header.
-//! - In brackets what is not as in most packets, by the names of `MARKS`.
+//! - `>` for an inbound packet and `<` for an outbound one.
+//! - The first letters of the TCP flags, or another protocol: `UDP`, `ICMP` or `IGMP`.
+//! - With TCP flags, the sequence number and, after a comma, the acknowledgment number.
+//! - The payload, if any; of another protocol all octets after the IPv4 header.
+//! - In brackets the fields that differ from those of most packets, by the names in `MARKS`.
 //!
-//! Octets are parts joined by `+`: a text, in which `_` is a space, or `0x` and digits; `*` and a number behind a part repeat it. All octets may
-//! instead be one of `NAMED`.
+//! Octets are parts joined by `+`: text, in which `_` is a space, or `0x` and hexadecimal digits. `*` and a number after a part repeat it.
+//! A name from `NAMED` may replace all octets.
 use std::test::Fail;
-use wire_base::Protocol;
+use wire_base::protocol;
 
 #[rattlefmt::skip]
 const MARKS: [&str; 18] = [
-    // Of the capture: the seconds since the first record, and the last octet of an Ethernet source.
+    // Of the capture: the record's seconds, and the last octet of the Ethernet source.
     "t", "mac",
-    // Of the IPv4 header: the time to live, the type of service, the identification, the flag that is reserved, the other, and the options.
+    // Of the IPv4 header: time to live, type of service, identification, the reserved flag, the flag DF, and the options.
     "ttl", "tos", "id", "RF", "DF", "ipopt",
-    // The octets of the whole message that a fragment has, as `8..16`; or the offset of all octets, with `+` where further ones follow.
+    // Of a fragment: its range of the IPv4 payload, as `8..16`; or its offset, with `+` for the flag MF.
     "part", "at",
-    // Octets behind the packet.
+    // Octets after the packet.
     "trail",
-    // Of the TCP header: the port outside, the window, the options, the four bits behind the length, and the urgent pointer, with its flag.
+    // Of the TCP header: the outside port, the window, the options, the reserved bits, and the urgent pointer with the flag URG.
     "port", "win", "opt", "res", "urg",
-    // In place of the right checksum: 0, and one whose last bit is another.
-    "zerosum", "wrongsum",
+    // The TCP checksum in place of the right one, and the right one with its last bit changed.
+    "sum", "wrongsum",
 ];
 
-/// Octets that several rows have.
+/// Octets of several rows.
 #[rattlefmt::skip]
 const NAMED: [(&str, &str); 6] = [
-    // UDP (RFC 768) without a checksum; with another octet at the ninth place; with a right checksum, and with a wrong one.
+    // UDP (RFC 768) without a checksum; the same with another first octet of the payload; with a right checksum; with a wrong one.
     ("$PLAIN", "0x9c40003500180000+a*16"),
     ("$OTHER", "0x9c40003500180000+b+a*15"),
     ("$SUMMED", "0x9c400035000ac6bf+hi"),
     ("$WRONG", "0x9c400035000ac6be+hi"),
-    // ICMP (RFC 792): a port unreachable that quotes a segment from 10.0.0.1 port 80 to 198.51.100.7 port 40000.
+    // ICMP (RFC 792): port unreachable, with a quoted segment from 10.0.0.1 port 80 to 198.51.100.7 port 40000.
     ("$UNREACHABLE", "0x0300606f00000000+0x4500001c00010000400646a00a000001c633640700509c4000000000"),
-    // Options of a SYN: largest segment, selective acknowledgments, timestamps, window scale (RFC 9293, RFC 2018, RFC 7323).
+    // Options of a SYN: maximum segment size, SACK permitted, timestamps, window scale (RFC 9293, RFC 2018, RFC 7323).
     ("$OFFERED", "0x020405b4+0x0402+0x080a0000000100000000+0x01+0x030307"),
 ];
 
-/// A line in its parts.
+/// The parts of a packet's line.
 #[derive(Clone, Copy)]
 pub(crate) struct Packet<'a> {
     pub(crate) inward: bool,
-    pub(crate) protocol: Protocol,
+    pub(crate) protocol: u8,
     kind: &'a str,
     numbers: &'a str,
     pub(crate) payload: &'a str,
@@ -63,14 +63,14 @@ impl<'a> Packet<'a> {
         let inward = is_inward(words.next().unwrap_or(""))?;
         let kind = words.next().unwrap_or("");
         let protocol = protocol_of(kind);
-        let numbers = if protocol == Protocol::TCP {
+        let numbers = if protocol == protocol::TCP {
             words.next().unwrap_or("")
         } else {
             ""
         };
         let payload = words.next().unwrap_or("");
         if words.next().is_some() {
-            return Err(Fail::new("a word behind the payload"));
+            return Err(Fail::new("a word after the payload"));
         }
         Ok(Packet {
             inward,
@@ -82,7 +82,7 @@ impl<'a> Packet<'a> {
         })
     }
 
-    /// What stands behind a mark, where the line has it.
+    /// Returns the value of a mark, empty where the mark has none.
     pub(crate) fn mark(&self, name: &str) -> Option<&'a str> {
         for mark in self.marks.split_whitespace() {
             let (known, value) = mark.split_once('=').unwrap_or((mark, ""));
@@ -93,7 +93,7 @@ impl<'a> Packet<'a> {
         None
     }
 
-    /// The number behind a mark, or that of most packets.
+    /// Returns the number of a mark, or the usual one.
     pub(crate) fn number(&self, name: &str, usual: u32) -> Result<u32, Fail> {
         match self.mark(name) {
             Some(value) => Ok(value.parse()?),
@@ -101,23 +101,23 @@ impl<'a> Packet<'a> {
         }
     }
 
-    /// The same of two octets.
+    /// Returns the number of a mark, or the usual one, as two octets.
     pub(crate) fn word(&self, name: &str, usual: u16) -> Result<u16, Fail> {
         Ok(u16::try_from(self.number(name, u32::from(usual))?)?)
     }
 
-    /// The same of one.
+    /// Returns the number of a mark, or the usual one, as one octet.
     pub(crate) fn octet(&self, name: &str, usual: u8) -> Result<u8, Fail> {
         Ok(u8::try_from(self.number(name, u32::from(usual))?)?)
     }
 
-    /// The sequence number and the acknowledgment number.
+    /// Returns the sequence number and the acknowledgment number.
     pub(crate) fn numbers(&self) -> Result<(u32, u32), Fail> {
         let (sequence, ack) = self.numbers.split_once(',').unwrap_or((self.numbers, "0"));
         Ok((sequence.parse()?, ack.parse()?))
     }
 
-    /// The flags of the TCP header.
+    /// Returns the flags of the TCP header.
     pub(crate) fn flags(&self) -> Result<u8, Fail> {
         let mut flags = if self.mark("urg").is_some() { 32 } else { 0 };
         for letter in self.kind.chars() {
@@ -145,12 +145,12 @@ fn is_inward(sign: &str) -> Result<bool, Fail> {
     }
 }
 
-fn protocol_of(kind: &str) -> Protocol {
+fn protocol_of(kind: &str) -> u8 {
     match kind {
-        "ICMP" => Protocol::ICMP,
-        "IGMP" => Protocol(2),
-        "UDP" => Protocol::UDP,
-        _ => Protocol::TCP,
+        "ICMP" => protocol::ICMP,
+        "IGMP" => 2,
+        "UDP" => protocol::UDP,
+        _ => protocol::TCP,
     }
 }
 

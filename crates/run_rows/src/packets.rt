@@ -1,24 +1,24 @@
-//! Packets and their fragments by the formats' standards (RFC 791, RFC 9293), and classic captures of them. Most go between 198.51.100.7 port 40000
-//! and 10.0.0.1 port 80, with a time to live of 64, the identification 1 and a window of 8192.
+//! Packets and fragments (RFC 791, RFC 9293), and classic captures of them. Where a line has no mark, the outside host is 198.51.100.7 port 40000,
+//! the inside host 10.0.0.1 port 80, the TTL 64, the identification 1 and the window 8192.
 use crate::notation::{Packet, add_octets};
 use crate::runs::HEAD;
 use std::alloc::Global;
 use std::test::Fail;
-use wire_base::{Addr, Protocol, pseudo_sum, sum_for};
+use wire_base::{Addr, protocol, pseudo_sum, sum_for};
 
-// The flags of the IPv4 header, in the upper half of the octet that they share with the offset.
+// The flags of the IPv4 header, in the octet that they share with the fragment offset.
 const RESERVED: u8 = 128;
 
 const DF: u8 = 64;
 
 const MF: u8 = 32;
 
-/// Puts a number of two octets at this place.
+/// Writes a big-endian number of two octets at an offset.
 fn put(octets: &mut [u8], at: usize, value: u16) {
     let [high, low] = value.to_be_bytes();
-    for (place, octet) in [(at, high), (at.saturating_add(1), low)] {
-        if let Some(there) = octets.get_mut(place) {
-            *there = octet;
+    for (offset, octet) in [(at, high), (at.saturating_add(1), low)] {
+        if let Some(target) = octets.get_mut(offset) {
+            *target = octet;
         }
     }
 }
@@ -27,19 +27,19 @@ fn length_of(octets: &[u8]) -> u16 {
     octets.len().min(65_535) as u16
 }
 
-/// The words of a header with these options, in the upper half of an octet.
+/// Returns the length in words of a header with these options, in the upper half of an octet.
 fn words(options: &[u8]) -> u8 {
     (5 + (options.len() / 4).min(10) as u8) * 16
 }
 
-/// The octets behind a mark.
+/// Returns the octets of a mark.
 fn marked(alloc: Global, packet: &Packet<'_>, name: &str) -> Result<Vec<u8>, Fail> {
     let mut octets = Vec::new(alloc);
     add_octets(&mut octets, packet.mark(name).unwrap_or(""))?;
     Ok(octets)
 }
 
-/// The source and the destination.
+/// Returns the source and the destination.
 fn addresses(packet: &Packet<'_>) -> (u32, u32) {
     let (outside, inside) = (0xc633_6407, 0x0a00_0001);
     if packet.inward {
@@ -49,7 +49,7 @@ fn addresses(packet: &Packet<'_>) -> (u32, u32) {
     }
 }
 
-/// The source's port and the destination's.
+/// Returns the source port and the destination port.
 fn ports(packet: &Packet<'_>) -> Result<(u16, u16), Fail> {
     let outside = packet.word("port", 40_000)?;
     Ok(if packet.inward {
@@ -59,7 +59,7 @@ fn ports(packet: &Packet<'_>) -> Result<(u16, u16), Fail> {
     })
 }
 
-/// The TCP segment without its checksum.
+/// Returns the TCP segment with the checksum 0.
 fn unsummed(alloc: Global, packet: &Packet<'_>) -> Result<Vec<u8>, Fail> {
     let (from, to) = ports(packet)?;
     let (sequence, acknowledgment) = packet.numbers()?;
@@ -81,25 +81,24 @@ fn unsummed(alloc: Global, packet: &Packet<'_>) -> Result<Vec<u8>, Fail> {
     Ok(octets)
 }
 
+/// Returns the TCP segment.
 fn segment_octets(alloc: Global, packet: &Packet<'_>) -> Result<Vec<u8>, Fail> {
     let mut octets = unsummed(alloc, packet)?;
     let (from, to) = addresses(packet);
-    let pseudo = pseudo_sum(Addr(from), Addr(to), Protocol::TCP, length_of(&octets));
+    let pseudo = pseudo_sum(Addr(from), Addr(to), protocol::TCP, length_of(&octets));
     let right = sum_for(&octets, pseudo);
-    let sum = if packet.mark("zerosum").is_some() {
-        0
-    } else if packet.mark("wrongsum").is_some() {
+    let sum = if packet.mark("wrongsum").is_some() {
         right ^ 1
     } else {
-        right
+        packet.word("sum", right)?
     };
     put(&mut octets, 16, sum);
     Ok(octets)
 }
 
-/// The whole message.
-fn message_octets(alloc: Global, packet: &Packet<'_>) -> Result<Vec<u8>, Fail> {
-    if packet.protocol == Protocol::TCP {
+/// Returns the IPv4 payload of the whole packet.
+fn payload_octets(alloc: Global, packet: &Packet<'_>) -> Result<Vec<u8>, Fail> {
+    if packet.protocol == protocol::TCP {
         return segment_octets(alloc, packet);
     }
     let mut octets = Vec::new(alloc);
@@ -107,49 +106,54 @@ fn message_octets(alloc: Global, packet: &Packet<'_>) -> Result<Vec<u8>, Fail> {
     Ok(octets)
 }
 
-/// What a packet has of its message: the octets, their offset, and whether further ones follow.
+/// A fragment of an IPv4 payload: its octets, their offset, and the flag MF. The whole payload is one without MF at offset 0.
 #[derive(Clone, Copy)]
-struct Piece<'a> {
+struct Fragment<'a> {
     octets: &'a [u8],
     offset: u16,
     more: bool,
 }
 
-fn piece_of<'a>(packet: &Packet<'_>, message: &'a [u8]) -> Result<Piece<'a>, Fail> {
+fn fragment_of<'a>(packet: &Packet<'_>, payload: &'a [u8]) -> Result<Fragment<'a>, Fail> {
     if let Some(part) = packet.mark("part") {
         let (from, to) = part.split_once("..").unwrap_or((part, ""));
         let (from, to) = (from.parse::<u16>()?, to.parse::<usize>()?);
-        let Some(octets) = message.get(usize::from(from)..to) else {
-            return Err(Fail::new("a part that the message does not have"));
+        let Some(octets) = payload.get(usize::from(from)..to) else {
+            return Err(Fail::new("a part past the payload"));
         };
-        return Ok(Piece {
+        return Ok(Fragment {
             octets,
             offset: from,
-            more: to < message.len(),
+            more: to < payload.len(),
         });
     }
-    let place = packet.mark("at").unwrap_or("0");
-    Ok(Piece {
-        octets: message,
-        offset: place.trim_end_matches('+').parse()?,
-        more: place.ends_with("+"),
+    let at = packet.mark("at").unwrap_or("0");
+    Ok(Fragment {
+        octets: payload,
+        offset: at.trim_end_matches('+').parse()?,
+        more: at.ends_with("+"),
     })
 }
 
-/// The flags and the offset, as they stand in the IPv4 header.
-fn fragmentation(packet: &Packet<'_>, piece: &Piece<'_>) -> [u8; 2] {
-    let [high, low] = (piece.offset / 8).to_be_bytes();
+/// Returns the flags and the fragment offset of the IPv4 header.
+fn fragmentation(packet: &Packet<'_>, fragment: &Fragment<'_>) -> [u8; 2] {
+    let [high, low] = (fragment.offset / 8).to_be_bytes();
     let reserved = if packet.mark("RF").is_some() {
         RESERVED
     } else {
         0
     };
     let whole = if packet.mark("DF").is_some() { DF } else { 0 };
-    let more = if piece.more { MF } else { 0 };
+    let more = if fragment.more { MF } else { 0 };
     [reserved | whole | more | high, low]
 }
 
-fn header_octets(alloc: Global, packet: &Packet<'_>, piece: &Piece<'_>) -> Result<Vec<u8>, Fail> {
+/// Returns the IPv4 header.
+fn header_octets(
+    alloc: Global,
+    packet: &Packet<'_>,
+    fragment: &Fragment<'_>,
+) -> Result<Vec<u8>, Fail> {
     let (from, to) = addresses(packet);
     let options = marked(alloc, packet, "ipopt")?;
     let service = packet.octet("tos", 0)?;
@@ -158,45 +162,45 @@ fn header_octets(alloc: Global, packet: &Packet<'_>, piece: &Piece<'_>) -> Resul
     let mut octets = Vec::new(alloc);
     octets.extend_from_slice(&[0x40 | words(&options) / 16, service, 0, 0])?;
     octets.extend_from_slice(&ident.to_be_bytes())?;
-    octets.extend_from_slice(&fragmentation(packet, piece))?;
-    octets.extend_from_slice(&[ttl, packet.protocol.0, 0, 0])?;
+    octets.extend_from_slice(&fragmentation(packet, fragment))?;
+    octets.extend_from_slice(&[ttl, packet.protocol, 0, 0])?;
     octets.extend_from_slice(&from.to_be_bytes())?;
     octets.extend_from_slice(&to.to_be_bytes())?;
     octets.extend_from_slice(&options)?;
-    let length = length_of(&octets).saturating_add(length_of(piece.octets));
+    let length = length_of(&octets).saturating_add(length_of(fragment.octets));
     put(&mut octets, 2, length);
     let sum = sum_for(&octets, 0);
     put(&mut octets, 10, sum);
     Ok(octets)
 }
 
-/// The octets of the packet, and what stands behind it.
+/// Returns the octets of a packet and those after it.
 fn octets_of(alloc: Global, packet: &Packet<'_>) -> Result<Vec<u8>, Fail> {
-    let message = message_octets(alloc, packet)?;
-    let piece = piece_of(packet, &message)?;
-    let mut octets = header_octets(alloc, packet, &piece)?;
-    octets.extend_from_slice(piece.octets)?;
+    let payload = payload_octets(alloc, packet)?;
+    let fragment = fragment_of(packet, &payload)?;
+    let mut octets = header_octets(alloc, packet, &fragment)?;
+    octets.extend_from_slice(fragment.octets)?;
     octets.extend_from_slice(&marked(alloc, packet, "trail")?)?;
     Ok(octets)
 }
 
-/// The octets of the packet of one line.
+/// Returns the octets of the packet of one line.
 pub(crate) fn packet_octets(alloc: Global, line: &str) -> Result<Vec<u8>, Fail> {
     octets_of(alloc, &Packet::read(line.trim())?)
 }
 
-/// Appends a record, with this in front of its packet.
-fn add_record(file: &mut Vec<u8>, seconds: u32, front: &[u8], octets: &[u8]) -> Result<(), Fail> {
-    let size = u32::from(length_of(front)) + u32::from(length_of(octets));
+/// Appends a record of a frame: a link header and a packet.
+fn add_record(file: &mut Vec<u8>, seconds: u32, link: &[u8], octets: &[u8]) -> Result<(), Fail> {
+    let size = u32::from(length_of(link)) + u32::from(length_of(octets));
     for value in [seconds, 0, size, size] {
         file.extend_from_slice(&value.to_le_bytes())?;
     }
-    file.extend_from_slice(front)?;
+    file.extend_from_slice(link)?;
     file.extend_from_slice(octets)?;
     Ok(())
 }
 
-/// Appends records of these packets, with `;` between their lines.
+/// Appends records of packets; `;` separates their lines.
 fn add_packets(file: &mut Vec<u8>, alloc: Global, packets: &str) -> Result<(), Fail> {
     if packets.is_empty() {
         return Ok(());
@@ -209,28 +213,28 @@ fn add_packets(file: &mut Vec<u8>, alloc: Global, packets: &str) -> Result<(), F
     Ok(())
 }
 
-/// A capture of raw IP of some packets and then others.
-pub(crate) fn capture_of(alloc: Global, first: &str, then: &str) -> Result<Vec<u8>, Fail> {
+/// Returns a raw IP capture of some packets and then others.
+pub fn capture_of(alloc: Global, first: &str, then: &str) -> Result<Vec<u8>, Fail> {
     let mut file = Vec::from_slice(alloc, &HEAD)?;
     add_packets(&mut file, alloc, first)?;
     add_packets(&mut file, alloc, then)?;
     Ok(file)
 }
 
-/// A capture of Ethernet (RFC 894) of these packets.
+/// Returns an Ethernet (RFC 894) capture of packets.
 pub fn framed_capture(alloc: Global, packets: &str) -> Result<Vec<u8>, Fail> {
     let mut file = Vec::from_slice(alloc, &HEAD)?;
     put(&mut file, 20, 0x0100);
     for line in packets.split(';') {
         let packet = Packet::read(line.trim())?;
         let source = packet.octet("mac", 0)?;
-        let front = [2, 0, 0, 0, 0, 1, 2, 0, 0, 0, 0, source, 8, 0];
-        add_record(&mut file, 0, &front, &octets_of(alloc, &packet)?)?;
+        let link = [2, 0, 0, 0, 0, 1, 2, 0, 0, 0, 0, source, 8, 0];
+        add_record(&mut file, 0, &link, &octets_of(alloc, &packet)?)?;
     }
     Ok(file)
 }
 
-/// Appends those of the packets that are segments from port 40000 inwards.
+/// Appends those of the packets that are inbound segments from port 40000.
 pub fn add_inward(list: &mut Vec<Vec<u8>>, alloc: Global, packets: &str) -> Result<(), Fail> {
     if packets.is_empty() {
         return Ok(());
@@ -238,7 +242,7 @@ pub fn add_inward(list: &mut Vec<Vec<u8>>, alloc: Global, packets: &str) -> Resu
     for line in packets.split(';') {
         let packet = Packet::read(line.trim())?;
         if packet.inward
-            && packet.protocol == Protocol::TCP
+            && packet.protocol == protocol::TCP
             && packet.number("port", 40_000)? == 40_000
         {
             list.push(octets_of(alloc, &packet)?)?;

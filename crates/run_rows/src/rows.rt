@@ -1,30 +1,30 @@
-//! Rows of whole runs: packets that come, the report, and the packets that go out.
+//! Rows of whole runs: the input packets, the report, and the output packets.
 use crate::notation::add_octets;
 use crate::packets::{capture_of, packet_octets};
-use crate::runs::{NONE, ended_run};
+use crate::runs::{NONE, ended_run, words_in};
 use std::alloc::Global;
 use std::test::Fail;
 
-/// What a row has before its own packets: these pass as they came.
+/// Packets that come before those of a row and pass unchanged.
 #[derive(Clone, Copy)]
 pub struct Before {
     pub packets: &'static str,
     pub lines: &'static str,
 }
 
-/// Nothing comes before.
+/// No packets come before.
 pub const NOTHING: Before = Before {
     packets: "",
     lines: "",
 };
 
-/// A host outside opens a connection. The first octet of its stream has the number 1000.
+/// An outside host opens a connection. The first octet of its stream has the sequence number 1000.
 pub const OPENED: Before = Before {
     packets: "> S 999; < SA 5000,1000; > A 1000,5001",
     lines: "1 in pass 1 @1 +1\n2 out pass 1 @1\n3 in pass 1 @1\n",
 };
 
-/// A connection from its first segment to its last.
+/// A connection from its first segment to its last, with options on both SYNs, a request and a response.
 #[rattlefmt::skip]
 pub const REQUEST: Before = Before {
     packets: "> S 999 [opt=$OFFERED]; < SA 5000,1000 [opt=$OFFERED]; > A 1000,5001; \
@@ -34,7 +34,7 @@ pub const REQUEST: Before = Before {
         8 out pass 1 @1\n9 in pass 1 @1\n10 out pass 1 @1\n",
 };
 
-/// Options of the command line, and packets that come; the report and the packets that go out, behind those of what is before.
+/// Options of the command line and the input packets; the report and the output packets, without those of `before`.
 #[derive(Clone, Copy)]
 pub struct Row {
     pub options: &'static str,
@@ -44,25 +44,15 @@ pub struct Row {
     pub written: &'static str,
 }
 
-/// Little memory, and enough.
-pub const FEW: &str = "--flows=8 --cells=64 --frags=4 --frag-cells=256";
+/// Options with which each row runs: for the default seed of the tables, which is 0, and for another one.
+pub const SEEDS: [&str; 2] = ["", "--seed=7"];
 
-/// The words of a run with these options, and one more.
-pub(crate) fn words_of<'a>(
-    alloc: Global,
-    options: &'a str,
-    more: &'a str,
-) -> Result<Vec<&'a str>, Fail> {
-    let mut words = Vec::new(alloc);
-    words.push("run")?;
-    for option in options.split_whitespace() {
-        words.push(option)?;
-    }
-    words.extend_from_slice(&[more, "a", "b", "10.0.0.0/8"])?;
-    Ok(words)
+/// Returns the words of a run with these options and this seed.
+pub fn words_of<'a>(alloc: Global, options: &'a str, seed: &'a str) -> Result<Vec<&'a str>, Fail> {
+    words_in(alloc, &["run", options, seed, "a b 10.0.0.0/8"])
 }
 
-/// Whether a run with this seed puts out what the row says.
+/// Returns whether a run with this seed writes what the row says.
 pub fn holds(alloc: Global, row: &Row, seed: &str) -> Result<bool, Fail> {
     let words = words_of(alloc, row.options, seed)?;
     let before = row.before;
@@ -71,12 +61,12 @@ pub fn holds(alloc: Global, row: &Row, seed: &str) -> Result<bool, Fail> {
     let written = capture_of(alloc, before.packets, row.written)?;
     let (lines, rest) = (before.lines, row.report);
     let report = format!(in alloc; "norm 2\n{lines}{rest}")?;
-    let is_told = ended.report.held() == report.as_bytes();
-    let is_written = ended.capture.held() == written.as_slice();
-    Ok(ended.status == 0 && is_told && is_written)
+    let same_report = ended.report.held() == report.as_bytes();
+    let same_capture = ended.capture.held() == written.as_slice();
+    Ok(ended.status == 0 && same_report && same_capture)
 }
 
-/// Whether the packet has these octets.
+/// Returns whether the packet has these octets.
 pub fn is_spelled(alloc: Global, packet: &str, spelled: &str) -> Result<bool, Fail> {
     let mut octets = Vec::new(alloc);
     add_octets(&mut octets, spelled)?;

@@ -1,4 +1,4 @@
-//! Runs over captures that are given in pieces, to sinks of which a call may fail.
+//! Runs over captures in memory, read in pieces. A call of the source or of a sink may fail.
 ghost use Rattle.std.specs.Prelude.{◌≡◌, ◌<◌, ◌==◌, [], ◌∷◌, map, string_bytes, if◌then◌else◌, IfOk};
 
 use crate::notation::add_octets;
@@ -7,38 +7,38 @@ use edge_io::{MemSink, MemSource};
 use std::alloc::{AllocError, Global};
 use std::test::Fail;
 
-/// Little-endian, microseconds, raw IP.
+/// The file header of a capture: little-endian, microseconds, raw IP.
 pub const HEAD: [u8; 24] = [
     0xd4, 0xc3, 0xb2, 0xa1, 2, 0, 4, 0, 0, 0, 0, 0, 0, 0, 0, 0, 0, 0, 4, 0, 101, 0, 0, 0,
 ];
 
-/// The head of a record of 30 octets at time 0.
-pub const FRONT: [u8; 16] = [0, 0, 0, 0, 0, 0, 0, 0, 30, 0, 0, 0, 30, 0, 0, 0];
+/// The record header of the UDP message at time 0.
+pub const RECORD_HEADER: [u8; 16] = [0, 0, 0, 0, 0, 0, 0, 0, 30, 0, 0, 0, 30, 0, 0, 0];
 
-/// A UDP datagram of 30 octets from 198.51.100.7 port 40000 to 10.0.0.1 port 53 with payload `hi`, and an octet behind it.
-pub const DATAGRAM: [u8; 31] = [
+/// A UDP message of 30 octets from 198.51.100.7 port 40000 to 10.0.0.1 port 53 with payload `hi`, and an octet after it.
+pub const UDP_MESSAGE: [u8; 31] = [
     0x45, 0x00, 0x00, 0x1e, 0x00, 0x01, 0x00, 0x00, 0x40, 0x11, 0x46, 0x93, 0xc6, 0x33, 0x64, 0x07,
     0x0a, 0x00, 0x00, 0x01, 0x9c, 0x40, 0x00, 0x35, 0x00, 0x0a, 0xc6, 0xbf, 0x68, 0x69, 0x00,
 ];
 
-/// Octets at some places, in the place of those that stand there: `8:0x1e` for one, and `12:0x0a000001` for four from the twelfth on.
+/// Octets that replace others, with their offset: `8:0x1e` for one octet, `12:0x0a000001` for four.
 pub type Changes = &'static str;
 
-/// Changes these octets so.
+/// Makes the changes in these octets.
 pub fn change(alloc: Global, octets: &mut [u8], changes: Changes) -> Result<(), Fail> {
     for change in changes.split_whitespace() {
-        let (place, spelled) = change.split_once(':').unwrap_or((change, ""));
-        let place = place.parse::<usize>()?;
+        let (offset, spelled) = change.split_once(':').unwrap_or((change, ""));
+        let offset = offset.parse::<usize>()?;
         let mut others = Vec::new(alloc);
         add_octets(&mut others, spelled)?;
-        for (there, octet) in octets.iter_mut().skip(place).zip(others.iter()) {
-            *there = *octet;
+        for (target, octet) in octets.iter_mut().skip(offset).zip(others.iter()) {
+            *target = *octet;
         }
     }
     Ok(())
 }
 
-/// A head with these changes, and records of the datagram, the last with these changes in its head.
+/// Returns a capture of UDP messages, with changes in the file header and in the last record header.
 pub fn capture_file(
     alloc: Global,
     head: Changes,
@@ -49,17 +49,28 @@ pub fn capture_file(
     change(alloc, &mut octets, head)?;
     let mut file = Vec::from_slice(alloc, &octets)?;
     for number in 1..=records {
-        let mut front = FRONT;
+        let mut header = RECORD_HEADER;
         if number == records {
-            change(alloc, &mut front, last)?;
+            change(alloc, &mut header, last)?;
         }
-        file.extend_from_slice(&front)?;
-        file.extend_from_slice(&DATAGRAM[..30])?;
+        file.extend_from_slice(&header)?;
+        file.extend_from_slice(&UDP_MESSAGE[..30])?;
     }
     Ok(file)
 }
 
-/// The words of a command line.
+/// Returns the words of these texts.
+pub fn words_in<'a>(alloc: Global, texts: &[&'a str]) -> Result<Vec<&'a str>, Fail> {
+    let mut words = Vec::new(alloc);
+    for text in texts {
+        for word in text.split_whitespace() {
+            words.push(word)?;
+        }
+    }
+    Ok(words)
+}
+
+/// Returns the words of a command line.
 pub fn line(alloc: Global, words: &[&str]) -> Result<Vec<String>, AllocError>
     ensures { IfOk result (λ line. map string_bytes line.items ≡ map (λ w. w.now) words.now) }
 {
@@ -70,7 +81,7 @@ pub fn line(alloc: Global, words: &[&str]) -> Result<Vec<String>, AllocError>
     Ok(line)
 }
 
-/// The list of this one call, and no call for 0.
+/// Returns the list of this one call, empty for 0.
 pub fn only(alloc: Global, call: u32) -> Result<Vec<u32>, AllocError>
     ensures { IfOk result (λ calls. calls.items ≡ (if call == 0 then [] else call ∷ [])) }
 {
@@ -81,7 +92,7 @@ pub fn only(alloc: Global, call: u32) -> Result<Vec<u32>, AllocError>
     Ok(calls)
 }
 
-/// What a run answered, and what its sinks hold.
+/// The status of a run, and its sinks.
 #[derive(Drop)]
 pub struct Outcome {
     pub status: u8,
@@ -89,7 +100,8 @@ pub struct Outcome {
     pub report: MemSink,
 }
 
-/// Runs over a file that is given in pieces. Of the source, the capture and the report the call of the given number fails; 0 is none.
+/// Runs over a file that the source gives in pieces of so many octets. `failing` has the number of the call that fails of the source, of the
+/// capture sink and of the report sink, 0 for none.
 pub fn ended_run(
     alloc: Global,
     words: &[&str],

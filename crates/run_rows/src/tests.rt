@@ -1,5 +1,5 @@
-//! Whole runs, with expected octets from the formats' standards and the worked captures.
-use crate::rows::{Row, holds};
+//! Whole runs, with expected octets from the formats' standards and worked captures.
+use crate::rows::{Row, SEEDS, holds};
 use std::alloc::Global;
 use std::process::Abort;
 use std::test::Fail;
@@ -8,11 +8,13 @@ mod both;
 mod connections;
 mod cut;
 
-/// Each row holds of a run with this seed.
-fn each_holds(rt: &impl Abort, alloc: Global, rows: &[Row], seed: &str) -> Result<(), Fail> {
+/// Tests each row with each seed.
+fn each_holds(rt: &impl Abort, alloc: Global, rows: &[Row]) -> Result<(), Fail> {
     for row in rows {
         let packets = row.packets;
-        assert!(rt; holds(alloc, row, seed)?, "{packets} {seed}");
+        for seed in SEEDS {
+            assert!(rt; holds(alloc, row, seed)?, "{packets} {seed}");
+        }
     }
     Ok(())
 }

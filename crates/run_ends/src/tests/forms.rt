@@ -1,11 +1,12 @@
-//! Captures of every order, unit and network.
+//! Captures of each byte order, time unit and link type.
 use super::WORDS;
-use run_rows::runs::{DATAGRAM, NONE, ended_run};
+use run_rows::rows::{SEEDS, words_of};
+use run_rows::runs::{NONE, UDP_MESSAGE, ended_run};
 use std::alloc::{AllocError, Global};
 use std::process::Abort;
 use std::test::Fail;
 
-/// A number of four octets in this order.
+/// Returns a number of four octets in this byte order.
 fn number(big: bool, value: u32) -> [u8; 4] {
     if big {
         value.to_be_bytes()
@@ -14,7 +15,7 @@ fn number(big: bool, value: u32) -> [u8; 4] {
     }
 }
 
-/// The head of a capture, by the classic format: its order, its unit and its network.
+/// Returns the file header of a classic capture with this byte order, time unit and link type.
 fn head_of(alloc: Global, big: bool, nano: bool, network: u32) -> Result<Vec<u8>, AllocError> {
     let magic = if nano { 0xa1b2_3c4d } else { 0xa1b2_c3d4 };
     let version = if big { 0x0002_0004 } else { 0x0004_0002 };
@@ -25,7 +26,7 @@ fn head_of(alloc: Global, big: bool, nano: bool, network: u32) -> Result<Vec<u8>
     Ok(head)
 }
 
-/// Appends a record of this time and these octets, of which the packet had so many.
+/// Appends a record with this time, these octets and this original length.
 fn add_record(
     file: &mut Vec<u8>,
     big: bool,
@@ -39,13 +40,13 @@ fn add_record(
     file.extend_from_slice(octets)
 }
 
-/// An Ethernet header (RFC 894) with this type.
+/// Returns an Ethernet header (RFC 894) with this type.
 const fn ethernet(kind: u16) -> [u8; 14] {
     let [high, low] = kind.to_be_bytes();
     [2, 0, 0, 0, 0, 1, 2, 0, 0, 0, 0, 2, high, low]
 }
 
-/// A capture of this order, unit and network, with one record of these octets.
+/// Returns a capture with this byte order, time unit and link type, and one record of these octets.
 fn capture_of(
     alloc: Global,
     big: bool,
@@ -59,7 +60,7 @@ fn capture_of(
     Ok(file)
 }
 
-/// A capture of the network with these octets is read and written alike, in either order and unit.
+/// Tests that a capture of this link type is written as read, in both byte orders and time units.
 fn each_form_is_kept(
     rt: &impl Abort,
     alloc: Global,
@@ -80,42 +81,53 @@ fn each_form_is_kept(
 }
 
 #[test]
-fn captures_of_every_form_are_read_and_written_alike(rt: HostRuntime) -> Result<(), Fail> {
+fn captures_of_every_form_are_written_as_read(rt: HostRuntime) -> Result<(), Fail> {
     let mut framed = Vec::from_slice(rt.alloc(), &ethernet(0x0800))?;
-    framed.extend_from_slice(&DATAGRAM[..30])?;
-    each_form_is_kept(&rt, rt.alloc(), 101, &DATAGRAM[..30])?;
+    framed.extend_from_slice(&UDP_MESSAGE[..30])?;
+    each_form_is_kept(&rt, rt.alloc(), 101, &UDP_MESSAGE[..30])?;
     each_form_is_kept(&rt, rt.alloc(), 1, &framed)
 }
 
-/// A SYN (RFC 9293) from 198.51.100.7 port 40000 to 10.0.0.1 port 80 with sequence 999 and window 8192, and six octets of padding.
+/// A SYN (RFC 9293) from 198.51.100.7 port 40000 to 10.0.0.1 port 80 with sequence number 999 and window 8192, and six octets of padding.
 const SYN: [u8; 46] = [
     0x45, 0x00, 0x00, 0x28, 0x00, 0x01, 0x00, 0x00, 0x40, 0x06, 0x46, 0x94, 0xc6, 0x33, 0x64, 0x07,
     0x0a, 0x00, 0x00, 0x01, 0x9c, 0x40, 0x00, 0x50, 0x00, 0x00, 0x03, 0xe7, 0x00, 0x00, 0x00, 0x00,
     0x50, 0x02, 0x20, 0x00, 0xbb, 0x2f, 0x00, 0x00, 0, 0, 0, 0, 0, 0,
 ];
 
-// ARP, a segment in a padded frame, and a record that was cut off, in a big-endian capture of Ethernet in nanoseconds.
-#[test]
-fn an_ethernet_capture_keeps_its_arp(rt: HostRuntime) -> Result<(), Fail> {
-    let mut arp = Vec::from_slice(rt.alloc(), &ethernet(0x0806))?;
+/// Returns a big-endian Ethernet capture in nanoseconds: ARP of 42 octets and the SYN with so many octets of padding.
+fn framed(alloc: Global, padding: usize) -> Result<Vec<u8>, Fail> {
+    let mut arp = Vec::from_slice(alloc, &ethernet(0x0806))?;
     arp.extend_from_slice(&[0, 1, 8, 0, 6, 4, 0, 1])?;
     arp.extend_from_slice(&[7; 20])?;
-    let mut segment = Vec::from_slice(rt.alloc(), &ethernet(0x0800))?;
-    segment.extend_from_slice(&SYN)?;
-    let mut file = head_of(rt.alloc(), true, true, 1)?;
+    let mut frame = Vec::from_slice(alloc, &ethernet(0x0800))?;
+    frame.extend_from_slice(&SYN)?;
+    frame.truncate(54 + padding.min(6));
+    let size = frame.len().min(255) as u32;
+    let mut file = head_of(alloc, true, true, 1)?;
     add_record(&mut file, true, (0, 0), &arp, 42)?;
-    let mut unpadded = Vec::from_slice(rt.alloc(), &ethernet(0x0800))?;
-    unpadded.extend_from_slice(&SYN[..40])?;
-    let mut written = Vec::from_slice(rt.alloc(), &file)?;
-    add_record(&mut written, true, (0, 0), &unpadded, 54)?;
-    add_record(&mut file, true, (0, 0), &segment, 60)?;
-    add_record(&mut file, true, (0, 0), &segment[..20], 60)?;
-    let ended = ended_run(rt.alloc(), WORDS, &file, 65536, NONE)?;
+    add_record(&mut file, true, (0, 0), &frame, size)?;
+    Ok(file)
+}
+
+/// Tests ARP, a padded frame and a snapped record.
+fn ethernet_is_unpadded(rt: &impl Abort, alloc: Global, seed: &str) -> Result<(), Fail> {
+    let mut file = framed(alloc, 6)?;
+    add_record(&mut file, true, (0, 0), &[2; 20], 60)?;
+    let words = words_of(alloc, "", seed)?;
+    let ended = ended_run(alloc, &words, &file, 65536, NONE)?;
+    let report = "norm 2\n1 - pass 1\n2 in fix 1 I_TRAIL @1 +1\n3 - drop 0 L_SNAP\nend 3 2\n";
+    let written = framed(alloc, 0)?;
     assert_eq!(rt; ended.status, 0);
-    assert_eq!(rt;
-        ended.report.held(),
-        b"norm 2\n1 - pass 1\n2 in fix 1 I_TRAIL @1 +1\n3 - drop 0 L_SNAP\nend 3 2\n".as_slice()
-    );
+    assert_eq!(rt; ended.report.held(), report.as_bytes());
     assert_eq!(rt; ended.capture.held(), written.as_slice());
+    Ok(())
+}
+
+#[test]
+fn an_ethernet_capture_keeps_its_arp(rt: HostRuntime) -> Result<(), Fail> {
+    for seed in SEEDS {
+        ethernet_is_unpadded(&rt, rt.alloc(), seed)?;
+    }
     Ok(())
 }

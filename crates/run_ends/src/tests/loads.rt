@@ -1,47 +1,50 @@
-//! Loads: records that are made from a number.
+//! Loads: records made from a seed.
 use load_make::{Load, MAX_RECORD};
-use run_rows::runs::{HEAD, ended_run};
+use run_rows::runs::{HEAD, ended_run, words_in};
 use std::alloc::Global;
 use std::process::Abort;
 use std::test::Fail;
 
-/// The words of a load of one record, and its summary.
-const LOAD: &[&str] = &["load", "01", "001"];
-
 const SUMMARY: &str = "load 1 1\nrecords 1\npackets 1\neras 1\nend\n";
 
-/// A call of the report that fails, or 0, the status, and how many octets of the summary stand.
-const CALLS: &[(u32, u8, usize)] = &[(0, 0, 40), (1, 7, 0), (3, 7, 19), (5, 7, 36)];
+/// The words of a load of one record, the call of the report that fails, 0 for none, the status, and how many octets of the summary are written.
+#[rattlefmt::skip]
+const LOADS: &[(&str, u32, u8, usize)] = &[
+    ("load 1 1", 0, 0, 40),
+    ("load 01 001", 0, 0, 40),
+    ("load 1 1", 1, 7, 0),
+    ("load 1 1", 3, 7, 19),
+    ("load 1 1", 5, 7, 36),
+];
 
-/// Where each of these calls fails, this stands.
-fn each_call_leaves(
+/// Tests each row. The source and the capture sink would fail at their first call, and are not called.
+fn each_is_summed_up(
     rt: &impl Abort,
     alloc: Global,
-    calls: &[(u32, u8, usize)],
+    rows: &[(&str, u32, u8, usize)],
 ) -> Result<(), Fail> {
-    for (call, status, size) in calls {
-        let ended = ended_run(alloc, LOAD, &HEAD, 7, (1, 1, *call))?;
-        let told = SUMMARY.as_bytes().get(..*size);
-        assert_eq!(rt; ended.status, *status, "call {call}");
-        assert_eq!(rt; Some(ended.report.held()), told, "call {call}");
-        assert!(rt; ended.capture.held().is_empty(), "call {call}");
+    for (line, call, status, size) in rows {
+        let words = words_in(alloc, &[*line])?;
+        let ended = ended_run(alloc, &words, &HEAD, 7, (1, 1, *call))?;
+        let written = SUMMARY.as_bytes().get(..*size);
+        assert_eq!(rt; ended.status, *status, "{line} {call}");
+        assert_eq!(rt; Some(ended.report.held()), written, "{line} {call}");
+        assert!(rt; ended.capture.held().is_empty(), "{line} {call}");
     }
     Ok(())
 }
 
-// A load of one record is one call, which begins an era. Where a line fails, the report ends before it; the source and the
-// capture would fail too, and are not asked.
 #[test]
-fn a_load_of_one_record_is_one_call(rt: HostRuntime) -> Result<(), Fail> {
-    each_call_leaves(&rt, rt.alloc(), CALLS)
+fn a_load_of_one_record_begins_an_era(rt: HostRuntime) -> Result<(), Fail> {
+    each_is_summed_up(&rt, rt.alloc(), LOADS)
 }
 
-/// What the records of a load are.
+/// Counts over the records of a load.
 #[derive(Clone, Copy)]
 struct Made {
-    /// Those that call: TCP flags SYN alone, at octet 33 of the packet.
+    /// Records with the flags SYN alone, at octet 33 of the packet.
     calls: u32,
-    /// Those whose octets, from octet 40 of the packet on, begin with 255: no octet that a flow sends first is above 250.
+    /// Records whose payload, from octet 40 of the packet on, begins with 255: no octet that a flow sends first is above 250.
     changed: u32,
 }
 
@@ -65,7 +68,7 @@ fn made_of(seed: u64, count: u32) -> Made {
     made
 }
 
-// A load is the same each time. All its records go out, each flow is one era, and exactly the changed octets clash.
+// A load is the same each time. All its records pass, each flow is one era, and exactly the changed octets clash.
 #[test]
 fn a_large_load_is_the_same_each_time(rt: HostRuntime) -> Result<(), Fail> {
     let made = made_of(7, 200_000);

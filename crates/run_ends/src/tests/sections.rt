@@ -1,15 +1,17 @@
-//! Captures of two interfaces, `in` and `ex`: the sides are those of the interfaces, and no addresses tell them.
-use run_rows::runs::{DATAGRAM, FRONT, NONE, capture_file, ended_run};
+//! pcapng captures with two interfaces, `in` and `ex`: `--inside` takes the side of a packet from its interface and not from its addresses.
+use run_rows::rows::{SEEDS, words_of};
+use run_rows::runs::{NONE, RECORD_HEADER, UDP_MESSAGE, capture_file, ended_run};
 use std::alloc::{AllocError, Global};
+use std::process::Abort;
 use std::test::Fail;
 
-/// A section of lowest octet first.
+/// A little-endian section header block.
 const SECTION: [u8; 28] = [
     0x0a, 0x0d, 0x0d, 0x0a, 28, 0, 0, 0, 0x4d, 0x3c, 0x2b, 0x1a, 1, 0, 0, 0, 0xff, 0xff, 0xff,
     0xff, 0xff, 0xff, 0xff, 0xff, 28, 0, 0, 0,
 ];
 
-/// An interface of raw IP with a name of these two octets.
+/// Returns an interface description block of raw IP with a name of two octets.
 fn interface(first: u8, second: u8) -> [u8; 32] {
     [
         1, 0, 0, 0, 32, 0, 0, 0, 101, 0, 0, 0, 0, 0, 0, 0, 2, 0, 2, 0, first, second, 0, 0, 0, 0,
@@ -17,7 +19,7 @@ fn interface(first: u8, second: u8) -> [u8; 32] {
     ]
 }
 
-/// The front of a packet of 30 octets at time 0, of the interface of this number.
+/// Returns the front of an enhanced packet block for 30 octets at time 0 from this interface.
 fn packet(interface: u8) -> [u8; 28] {
     [
         6, 0, 0, 0, 64, 0, 0, 0, interface, 0, 0, 0, 0, 0, 0, 0, 0, 0, 0, 0, 30, 0, 0, 0, 30, 0, 0,
@@ -25,66 +27,73 @@ fn packet(interface: u8) -> [u8; 28] {
     ]
 }
 
-/// A section with two interfaces and the datagram, which came in by the interface of this number; its block stands at octet 92.
+/// Returns a section with two interfaces and the UDP message from this interface. The packet block has the offset 92.
 fn sections(alloc: Global, number: u8) -> Result<Vec<u8>, AllocError> {
     let mut file = Vec::from_slice(alloc, &SECTION)?;
     file.extend_from_slice(&interface(b'i', b'n'))?;
     file.extend_from_slice(&interface(b'e', b'x'))?;
     file.extend_from_slice(&packet(number))?;
-    file.extend_from_slice(&DATAGRAM[..30])?;
+    file.extend_from_slice(&UDP_MESSAGE[..30])?;
     file.extend_from_slice(&[0, 0, 64, 0, 0, 0])?;
     Ok(file)
 }
 
-/// Lowest octet first, nanoseconds, raw IP.
+/// The file header of the output: little-endian, nanoseconds, raw IP.
 const WRITTEN: [u8; 24] = [
     0x4d, 0x3c, 0xb2, 0xa1, 2, 0, 4, 0, 0, 0, 0, 0, 0, 0, 0, 0, 0, 0, 4, 0, 101, 0, 0, 0,
 ];
 
-const WORDS: [&str; 6] = ["run", "--inside", "in", "a", "b", "10.0.0.0/8"];
-
-/// The written capture of the datagram.
-fn written(alloc: Global) -> Result<Vec<u8>, AllocError> {
+/// Returns the output capture with so many UDP messages.
+fn written(alloc: Global, records: u8) -> Result<Vec<u8>, AllocError> {
     let mut file = Vec::from_slice(alloc, &WRITTEN)?;
-    file.extend_from_slice(&FRONT)?;
-    file.extend_from_slice(&DATAGRAM[..30])?;
+    for _ in 0..records {
+        file.extend_from_slice(&RECORD_HEADER)?;
+        file.extend_from_slice(&UDP_MESSAGE[..30])?;
+    }
     Ok(file)
 }
 
-#[test]
-fn the_interface_tells_the_side(rt: HostRuntime) -> Result<(), Fail> {
-    let file = sections(rt.alloc(), 1)?;
-    let ended = ended_run(rt.alloc(), &WORDS, &file, 7, NONE)?;
-    assert_eq!(rt; ended.status, 0);
-    assert_eq!(rt;
-        ended.report.held(),
-        b"norm 2\n1 in pass 1\nend 1 1\n".as_slice()
-    );
-    let wanted = written(rt.alloc())?;
-    assert_eq!(rt; ended.capture.held(), wanted.as_slice());
+/// The interface of the packet, the status, the report, and the number of records written.
+#[rattlefmt::skip]
+const INTERFACES: &[(u8, u8, &str, u8)] = &[
+    (1, 0, "norm 2\n1 in pass 1\nend 1 1\n", 1),
+    (0, 0, "norm 2\n1 out pass 1\nend 1 1\n", 1),
+    // The section has no such interface.
+    (2, 3, "norm 2\nstop block 92\n", 0),
+];
+
+/// Tests each row in a run with this seed.
+fn each_has_its_side(
+    rt: &impl Abort,
+    alloc: Global,
+    rows: &[(u8, u8, &str, u8)],
+    seed: &str,
+) -> Result<(), Fail> {
+    let words = words_of(alloc, "--inside in", seed)?;
+    for (interface, status, report, records) in rows {
+        let file = sections(alloc, *interface)?;
+        let ended = ended_run(alloc, &words, &file, 7, NONE)?;
+        let written = written(alloc, *records)?;
+        assert_eq!(rt; ended.status, *status, "{report}");
+        assert_eq!(rt; ended.report.held(), report.as_bytes(), "{report}");
+        assert_eq!(rt; ended.capture.held(), written.as_slice(), "{report}");
+    }
     Ok(())
 }
 
 #[test]
-fn the_other_interface_tells_the_other_side(rt: HostRuntime) -> Result<(), Fail> {
-    let file = sections(rt.alloc(), 0)?;
-    let ended = ended_run(rt.alloc(), &WORDS, &file, 7, NONE)?;
-    assert_eq!(rt; ended.status, 0);
-    assert_eq!(rt;
-        ended.report.held(),
-        b"norm 2\n1 out pass 1\nend 1 1\n".as_slice()
-    );
+fn the_side_is_that_of_the_interface(rt: HostRuntime) -> Result<(), Fail> {
+    for seed in SEEDS {
+        each_has_its_side(&rt, rt.alloc(), INTERFACES, seed)?;
+    }
     Ok(())
 }
 
 #[test]
-fn a_faulty_block_is_told_at_its_place(rt: HostRuntime) -> Result<(), Fail> {
-    let file = sections(rt.alloc(), 2)?;
-    let ended = ended_run(rt.alloc(), &WORDS, &file, 7, NONE)?;
-    assert_eq!(rt; ended.status, 3);
-    assert_eq!(rt; ended.report.held(), b"norm 2\nstop block 92\n".as_slice());
+fn a_classic_capture_has_no_interfaces(rt: HostRuntime) -> Result<(), Fail> {
+    let words = words_of(rt.alloc(), "--inside in", "")?;
     let file = capture_file(rt.alloc(), "", 1, "")?;
-    let ended = ended_run(rt.alloc(), &WORDS, &file, 7, NONE)?;
+    let ended = ended_run(rt.alloc(), &words, &file, 7, NONE)?;
     assert_eq!(rt; ended.status, 3);
     assert_eq!(rt; ended.report.held(), b"norm 2\nstop block 0\n".as_slice());
     assert!(rt; ended.capture.held().is_empty());

@@ -1,0 +1,215 @@
+//! What a run leaves that is disturbed, as a function of the two outputs of the undisturbed run.
+use run_rows::packets::capture_of;
+use run_rows::rows::{Before, words_of};
+use run_rows::runs::{NONE, ended_run, line};
+use std::alloc::Global;
+use std::test::Fail;
+
+/// The options of a run, and the packets of its capture.
+pub(super) struct Case {
+    pub(super) options: &'static str,
+    pub(super) before: Before,
+    pub(super) packets: &'static str,
+}
+
+/// The three ends of a run.
+#[derive(Clone, Copy)]
+pub(super) enum End {
+    Source,
+    Capture,
+    Report,
+}
+
+/// Octets taken from the source, and octets that the two sinks hold.
+#[derive(Clone, Copy)]
+pub(super) struct Mark {
+    pub(super) taken: usize,
+    pub(super) written: usize,
+    pub(super) told: usize,
+}
+
+impl Mark {
+    fn at(&self, end: End) -> usize {
+        match end {
+            End::Source => self.taken,
+            End::Capture => self.written,
+            End::Report => self.told,
+        }
+    }
+}
+
+/// A run without a fault: its words, its input, its outputs, and the marks before the file header, after it, and after each record.
+#[derive(Drop)]
+pub(super) struct Undisturbed {
+    pub(super) words: Vec<String>,
+    pub(super) file: Vec<u8>,
+    pub(super) capture: Vec<u8>,
+    pub(super) report: Vec<u8>,
+    marks: Vec<Mark>,
+}
+
+/// Returns the captured length of the record at this offset, below 65,536 octets.
+fn captured_length(octets: &[u8], at: usize) -> usize {
+    let low = octets.get(at.saturating_add(8)).unwrap_or(&0);
+    let high = octets.get(at.saturating_add(9)).unwrap_or(&0);
+    usize::from(*low) + 256 * usize::from(*high)
+}
+
+/// Returns the offset after so many records.
+fn after_records(octets: &[u8], at: usize, records: u32) -> usize {
+    let mut at = at;
+    for _ in 0..records {
+        at = at
+            .saturating_add(16)
+            .saturating_add(captured_length(octets, at));
+    }
+    at
+}
+
+/// Returns the number of frames in a line of the report: `4 in pass 1 @1` has one.
+fn frames_in(line: &str) -> Result<u32, Fail> {
+    let word = line.split_whitespace().nth(3).unwrap_or("");
+    Ok(word.parse()?)
+}
+
+/// Returns the marks of a run. A line that begins with `/` is one of the second engine, whose frames are written where there is one.
+fn marks_of(alloc: Global, file: &[u8], capture: &[u8], report: &str) -> Result<Vec<Mark>, Fail> {
+    let mut lines = report.split_inclusive('\n');
+    let first = lines.next().unwrap_or("");
+    let both = first.contains("both");
+    let mut mark = Mark {
+        taken: 0,
+        written: 0,
+        told: first.len(),
+    };
+    let mut marks = Vec::new(alloc);
+    marks.push(mark)?;
+    mark.taken = 24;
+    mark.written = 24;
+    marks.push(mark)?;
+    for line in lines {
+        if line.starts_with("end") {
+            return Ok(marks);
+        }
+        let second = line.starts_with("/");
+        if second {
+            marks.pop();
+        } else {
+            mark.taken = after_records(file, mark.taken, 1);
+        }
+        if second == both {
+            mark.written = after_records(capture, mark.written, frames_in(line)?);
+        }
+        mark.told = mark.told.saturating_add(line.len());
+        marks.push(mark)?;
+    }
+    Err(Fail::new("the report has no last line"))
+}
+
+/// Returns the run of a case.
+pub(super) fn undisturbed_run(alloc: Global, case: &Case) -> Result<Undisturbed, Fail> {
+    let words = words_of(alloc, case.options, "")?;
+    let file = capture_of(alloc, case.before.packets, case.packets)?;
+    let ended = ended_run(alloc, &words, &file, 65536, NONE)?;
+    let capture = Vec::from_slice(alloc, ended.capture.held())?;
+    let report = Vec::from_slice(alloc, ended.report.held())?;
+    let Ok(text) = str::from_utf8(&report) else {
+        return Err(Fail::new("the report is not text"));
+    };
+    let marks = marks_of(alloc, &file, &capture, text)?;
+    Ok(Undisturbed {
+        words: line(alloc, &words)?,
+        file,
+        capture,
+        report,
+        marks,
+    })
+}
+
+/// What a run leaves: octets taken from the source and held by the sinks, and the kind and the offset of its `stop` line. The report
+/// holds `told` octets of the undisturbed one, and then the `stop` line.
+#[derive(Clone, Copy)]
+pub(super) struct Expected {
+    pub(super) status: u8,
+    pub(super) mark: Mark,
+    pub(super) stop: Option<(&'static str, usize)>,
+}
+
+impl Undisturbed {
+    /// Returns the last mark at which an end had at most so many octets, and the next one.
+    fn around(&self, end: End, octets: usize) -> (Mark, Mark) {
+        let mut last = Mark {
+            taken: 0,
+            written: 0,
+            told: 0,
+        };
+        for mark in &self.marks {
+            if mark.at(end) > octets {
+                return (last, *mark);
+            }
+            last = *mark;
+        }
+        (last, self.whole())
+    }
+
+    /// Returns the mark after the whole run.
+    fn whole(&self) -> Mark {
+        Mark {
+            taken: self.file.len(),
+            written: self.capture.len(),
+            told: self.report.len(),
+        }
+    }
+
+    /// Returns what a run leaves whose source fails after so many octets were taken.
+    fn at_source(&self, taken: usize) -> Expected {
+        let (last, _) = self.around(End::Source, taken);
+        Expected {
+            status: 5,
+            mark: Mark { taken, ..last },
+            stop: Some(("read", last.taken)),
+        }
+    }
+
+    /// Returns what a run leaves whose capture sink fails while it holds so many octets.
+    pub(super) fn at_capture(&self, written: usize) -> Expected {
+        let (last, next) = self.around(End::Capture, written);
+        Expected {
+            status: 6,
+            mark: Mark {
+                taken: next.taken,
+                written,
+                told: last.told,
+            },
+            stop: Some(("capture", last.taken)),
+        }
+    }
+
+    /// Returns what a run leaves whose report sink fails while it holds so many octets.
+    fn at_report(&self, told: usize) -> Expected {
+        let (_, next) = self.around(End::Report, told);
+        Expected {
+            status: 7,
+            mark: Mark { told, ..next },
+            stop: None,
+        }
+    }
+
+    /// Returns what a run leaves of which this end fails while it has so many octets.
+    pub(super) fn at(&self, end: End, octets: usize) -> Expected {
+        match end {
+            End::Source => self.at_source(octets),
+            End::Capture => self.at_capture(octets),
+            End::Report => self.at_report(octets),
+        }
+    }
+
+    /// Returns what a run leaves that nothing disturbs.
+    pub(super) fn at_end(&self) -> Expected {
+        Expected {
+            status: 0,
+            mark: self.whole(),
+            stop: None,
+        }
+    }
+}
