@@ -1,39 +1,48 @@
-//! The files of a run. Neither the file that is read is emptied, nor one that another run reads or writes.
+//! The files of a run. No file is emptied that the run reads, that another run reads or writes, or that takes the report.
 ghost use Rattle.std.specs.Prelude.{◌≡◌, None};
 
 use norm_settings::Names;
-use std::fs::{File, OpenOptions, TryLockError};
-use std::os::unix::fs::MetadataExt;
+use std::fs;
+use std::fs::{File, Metadata, OpenOptions, TryLockError};
+use std::os::unix::fs::{FileTypeExt, MetadataExt};
 
-/// The file to read, and where that was opened the file to write. One that is missing is a source or a sink whose every call fails.
-/// A regular file is held by a lock of the system as long as it is open: that to read among all who read, that to write alone.
+// Linux's name for the file behind standard output, whatever that is.
+const STANDARD_OUTPUT: &str = "/proc/self/fd/1";
+
+/// Opens the file to read and, where that succeeds, the file to write. A file that is missing is a source or a sink whose every call
+/// fails. A regular file is held by an advisory lock as long as it is open: IN shared with other readers, OUT alone.
 pub fn opened(rt: &HostRuntime, names: &Names) -> (Option<File>, Option<File>)
     ensures { result.0 ≡ None → result.1 ≡ None }
 {
+    // Must be first: if standard output is closed, the next file that is opened takes its number.
+    let report = fs::metadata(rt, STANDARD_OUTPUT).ok();
     let Some(input) = read(rt, names.input.as_str()) else {
         return (None, None);
     };
     if is_regular(&input) {
         let _ = input.try_lock_shared();
     }
-    let output = written(rt, names.output.as_str(), &input);
+    let output = written(rt, names.output.as_str(), &input, &report);
     (Some(input), output)
 }
 
-// The file to read.
+// Opens the file to read.
 fn read(rt: &HostRuntime, name: &str) -> Option<File> {
     let input = File::open(rt, name).ok()?;
     behind_standard(&input)
 }
 
-// The file to write, which is emptied once it is held alone; a device or a pipe is taken as it is.
-fn written(rt: &HostRuntime, name: &str, input: &File) -> Option<File> {
+// Opens the file to write, and empties it once it is held alone; a device or a pipe is taken as it is.
+fn written(rt: &HostRuntime, name: &str, input: &File, report: &Option<Metadata>) -> Option<File> {
     let output = OpenOptions::new()
         .write(true)
         .create(true)
         .open(rt, name)
         .ok()?;
     let output = behind_standard(&output)?;
+    if takes_report(&output, report) {
+        return None;
+    }
     if !is_regular(&output) {
         return Some(output);
     }
@@ -44,12 +53,13 @@ fn written(rt: &HostRuntime, name: &str, input: &File) -> Option<File> {
     Some(output)
 }
 
-// The same open file behind the places of the standard ones: where standard output is closed, the report is not to go into a file that took its place.
+// Duplicates the open file behind the numbers of the standard ones: if standard output is closed, the report must not go into a
+// file that took its number.
 fn behind_standard(file: &File) -> Option<File> {
     file.try_clone().ok()
 }
 
-// Holds the file alone from here on, and answers false where someone else holds it. Where the file system has no locks, nobody does.
+// Holds the file alone from here on, and returns false where someone else holds it. Where the file system has no locks, nobody does.
 fn hold(file: &File) -> bool {
     !matches!(file.try_lock(), Err(TryLockError::WouldBlock))
 }
@@ -57,9 +67,27 @@ fn hold(file: &File) -> bool {
 // Whether the two are one file by two names.
 fn are_one(one: &File, other: &File) -> bool {
     match (one.metadata(), other.metadata()) {
-        (Ok(one), Ok(other)) => one.dev() == other.dev() && one.ino() == other.ino(),
+        (Ok(one), Ok(other)) => is_same_node(&one, &other),
         _ => true,
     }
+}
+
+// Whether the file is the one that standard output writes to, where the report would overwrite the capture or be between its
+// records. A terminal and `/dev/null` are character devices, which keep nothing that could be overwritten.
+fn takes_report(file: &File, report: &Option<Metadata>) -> bool {
+    let Some(report) = report else {
+        return false;
+    };
+    match file.metadata() {
+        Ok(metadata) => {
+            !metadata.file_type().is_char_device() && is_same_node(&metadata, report)
+        }
+        Err(_) => true,
+    }
+}
+
+fn is_same_node(one: &Metadata, other: &Metadata) -> bool {
+    one.dev() == other.dev() && one.ino() == other.ino()
 }
 
 fn is_regular(file: &File) -> bool {

@@ -15,12 +15,14 @@ fn main(rt: HostRuntime) -> ExitCode {
     let words = match words_after_name(&rt) {
         Ok(words) => words,
         Err(error) if error.kind() == io::ErrorKind::OutOfMemory => return without_memory(&rt),
-        // A word that is not UTF-8 is a faulty command line, as one of no words is.
+        // A word that is not UTF-8 is refused as a command line without words is.
         Err(_) => Vec::new(rt.alloc()),
     };
     if let Some(text) = asked_text(&words) {
-        let _ = rt.print(text);
-        return ExitCode::SUCCESS;
+        return match rt.print(text) {
+            Ok(()) => ExitCode::SUCCESS,
+            Err(_) => ExitCode::from(7),
+        };
     }
     let (input, output) = match read_words(rt.alloc(), &words) {
         Ok(Command::Run { names, settings: _ }) => files::opened(&rt, &names),

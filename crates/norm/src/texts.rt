@@ -1,4 +1,4 @@
-//! What the program prints where it is asked how to use it.
+//! The texts that the program prints if its only word asks for them.
 
 /// The answer to `--version`.
 pub const VERSION: &str = "norm 0.1.0\n";
@@ -11,15 +11,17 @@ usage: norm run [OPTION..] IN OUT PREFIX..
        norm load SEED COUNT
        norm --help | -h | --version
 
-  IN      the capture to read: classic pcap or pcapng, of Ethernet or raw IP
-  OUT     the normalized capture to write, as classic pcap; a file that is there is emptied,
-          but neither IN by another name nor the file of another run
+  IN      the capture to read: classic pcap or pcapng, of Ethernet or raw IP; its
+          records are in the order in which the packets crossed the link
+  OUT     the normalized capture to write, as classic pcap; a file that is there is
+          emptied before IN is judged, but neither IN by another name, nor the file
+          of another run, nor the file or pipe that the report goes to
   PREFIX  trusted addresses, as 10.0.0.0/8: four numbers, a slash, a length;
           from 1 to 16 prefixes
   SEED    0 to 18446744073709551615: the number that a load is made from
   COUNT   1 to 1000000: how many records it has
 
-Options stand before IN, each at most once, as --name=N or --name N, where N is
+Options go before IN, each at most once, as --name=N or --name N, where N is
 1 to 20 decimal digits, and NAME 1 to 64 octets that do not begin with a dash:
 
   --hops N        0 to 254, default 30: routers behind the bridge
@@ -33,15 +35,21 @@ Options stand before IN, each at most once, as --name=N or --name N, where N is
   --quota N       1 to 262144, default none: cells that one connection may take
   --mtu N         576 to 65535, default none: octets that a written packet may have
   --inside NAME   default none: interface of IN, a pcapng file, behind which the hosts are
-  --offload       default off: mend wrong checksums of outbound packets
+  --offload       default off: rewrite wrong checksums of outbound packets
   --both          default off: protect both sides: a second engine reads what the first writes
+
+With --inside a packet that the capturing machine forwards must be in IN once:
+capture with -f inbound behind each -i of dumpcap, and order the records with
+reordercap.
 
 The report goes to standard output: a line for each record, with its side, the
 verdict, the number of frames written and the rules behind the verdict, and a
-last line that says how the run ended. O is the offset of the first octet of the
-head, record or block at which it stopped. With --both, which goes neither with
---inside nor with --mtu, a line with a slash follows for each frame of the first
-engine, and a run holds at most 2147483647 records and twice as much memory.
+last line that says how the run ended; norm-report(5) explains each word. A
+report that ends neither with an end line nor with a stop line is of a run that
+was killed: discard OUT. O is the offset of the first octet of the head, record or
+block at which the run stopped. With --both, which goes neither with --inside nor
+with --mtu, a line with a slash follows for each frame of the first engine, and a
+run holds at most 2147483647 records and twice as much memory.
 
 A load reads and writes no file: its records are made from SEED, and judged with
 the standard options and the prefix 10.0.0.0/8. Its report comes at its end and
@@ -54,13 +62,13 @@ Status and last line:
   0  end R P: IN was read to its end; R records were read, P frames written
   2  stop words N: the words are refused; nothing is read or written
   3  stop magic O, stop version O, stop link O: IN is no capture of this kind
-  3  stop block O: a block is ill formed, or IN has no blocks and --inside is given
+  3  stop block O: a block is malformed, or IN has no blocks and --inside is given
   3  stop long O, stop many O: a record of over 262144 octets, or one past 2^32 - 1
   4  stop cut O: IN ends inside its head, a record or a block
   5  stop read O: IN could not be opened or read
   6  stop capture O: OUT could not be created or written
   7  none: the report could not be written
-  8  stop memory O: the memory of the run was not to be had
+  8  stop memory O: memory could not be allocated
 
 Refused words, in the order in which they are tested, each N with an example:
 
@@ -68,6 +76,21 @@ Refused words, in the order in which they are tested, each N with an example:
   5  IN and OUT are one word: norm run a a 10.0.0.0/8
   3  over 16 prefixes: norm run a b 10.{0..16}.0.0/16
   2  the first faulty prefix stops the reading: norm run a b 10.0.0/8
+
+Usual mistakes of which N is 1, each with the word that is wrong:
+
+     --offload      an option behind IN: norm run a b 10.0.0.0/8 --offload
+     --hop          no option has this name: norm run --hop 3 a b 10.0.0.0/8
+     --hops=300     out of range: norm run --hops=300 a b 10.0.0.0/8
+     --hops         no number follows: norm run --hops a b 10.0.0.0/8
+     --idle=60      the option is given twice: norm run --idle 90 --idle=60 a b 10.0.0.0/8
+     --offload=yes  the option takes no value: norm run --offload=yes a b 10.0.0.0/8
+     --mtu          it does not go with --both: norm run --both --mtu 1500 a b 10.0.0.0/8
+     --inside       it does not go with --both: norm run --both --inside eth1 a b 10.0.0.0/8
+     -              no name begins with a dash; write /dev/stdin: norm run - b 10.0.0.0/8
+     b              no prefix follows: norm run a b
+     a              run or load is missing before it: norm a b 10.0.0.0/8
+     --help         it must be the only word: norm run --help
 
 Examples:
 
@@ -82,8 +105,8 @@ mod tests {
     use std::alloc::{AllocError, Global};
     use std::test::Fail;
 
-    // The front of an option's line in the help text, and what stands there of its range and its standard value.
-    fn told_of(alloc: Global, choice: Choice) -> Result<(String, String), AllocError> {
+    // Returns the front of an option's line in the help text, and the text of its range and default in it.
+    fn parts_of(alloc: Global, choice: Choice) -> Result<(String, String), AllocError> {
         let row = choice.row();
         match row.kind {
             Kind::Number {
@@ -109,31 +132,31 @@ mod tests {
         }
     }
 
-    // There is a line of each option, with its range and its standard value.
+    // The help text has a line for each option, with its range and its default.
     #[test]
-    fn help_tells_each_option_with_its_range(rt: HostRuntime) -> Result<(), Fail> {
+    fn help_lists_each_option_with_its_range(rt: HostRuntime) -> Result<(), Fail> {
         for choice in Choice::all() {
-            let (front, range) = told_of(rt.alloc(), choice)?;
+            let (front, range) = parts_of(rt.alloc(), choice)?;
             let row = choice.row();
-            let mut is_told = false;
+            let mut is_found = false;
             for line in HELP.lines() {
                 if line.starts_with(front.as_str()) && line.contains(range.as_str()) {
-                    is_told = true;
+                    is_found = true;
                 }
             }
-            assert!(rt; is_told, "{}", row.name);
+            assert!(rt; is_found, "{}", row.name);
         }
         Ok(())
     }
 
-    // No option is told twice, and no other is.
+    // The help text has no option twice, and no other option.
     #[test]
-    fn help_tells_no_other_option(rt: HostRuntime) {
+    fn help_lists_no_other_option(rt: HostRuntime) {
         let lines = HELP.lines().filter(|line| line.starts_with("  --")).count();
         assert_eq!(rt; lines, Choice::all().len());
     }
 
-    // The words behind `norm`; 17 words for one in which `{0..16}` stands, as a shell makes them.
+    // Returns the words after `norm`; 17 words for one with `{0..16}`, as a shell makes them.
     fn words_of(alloc: Global, text: &str) -> Result<Vec<String>, AllocError> {
         let mut words = Vec::new(alloc);
         for word in text.split_whitespace() {
@@ -149,7 +172,7 @@ mod tests {
         Ok(words)
     }
 
-    // The number of the refusal that the example tells.
+    // Returns the number by which the words of the example are refused.
     fn fault_of(alloc: Global, example: &str) -> Result<Option<u8>, AllocError> {
         let words = words_of(alloc, example)?;
         match read_words(alloc, words.as_slice()) {
@@ -163,33 +186,54 @@ mod tests {
     fn examples_are_refused_by_their_numbers(rt: HostRuntime) -> Result<(), Fail> {
         let rows = [("  1  ", 1), ("  5  ", 5), ("  3  ", 3), ("  2  ", 2)];
         for (front, number) in rows {
-            let mut is_told = false;
+            let mut is_found = false;
             for line in HELP.lines() {
                 if let Some((text, example)) = line.split_once(": norm ") {
                     if text.starts_with(front) {
                         assert_eq!(rt; fault_of(rt.alloc(), example)?, Some(number), "{line}");
-                        is_told = true;
+                        is_found = true;
                     }
                 }
             }
-            assert!(rt; is_told, "{number}");
+            assert!(rt; is_found, "{number}");
         }
+        Ok(())
+    }
+
+    // Each usual mistake is refused by 1, and its example has the word that is named as wrong.
+    #[test]
+    fn usual_mistakes_are_refused_by_1(rt: HostRuntime) -> Result<(), Fail> {
+        let mut mistakes = 0_u32;
+        for line in HELP.lines() {
+            if let Some((text, example)) = line.split_once(": norm ") {
+                if let Some(text) = text.strip_prefix("     ") {
+                    let wrong = text.split_whitespace().next();
+                    let words = example
+                        .split_whitespace()
+                        .filter(|word| Some(*word) == wrong);
+                    assert!(rt; words.count() > 0, "{line}");
+                    assert_eq!(rt; fault_of(rt.alloc(), example)?, Some(1), "{line}");
+                    mistakes = mistakes.saturating_add(1);
+                }
+            }
+        }
+        assert!(rt; mistakes >= 10);
         Ok(())
     }
 
     // The examples of a run and of a load are accepted.
     #[test]
     fn the_examples_are_accepted(rt: HostRuntime) -> Result<(), Fail> {
-        let mut is_run_told = false;
-        let mut is_load_told = false;
+        let mut has_run = false;
+        let mut has_load = false;
         for line in HELP.lines() {
             if let Some(example) = line.strip_prefix("  norm ") {
                 assert_eq!(rt; fault_of(rt.alloc(), example)?, None, "{line}");
-                is_run_told = is_run_told || example.starts_with("run ");
-                is_load_told = is_load_told || example.starts_with("load ");
+                has_run = has_run || example.starts_with("run ");
+                has_load = has_load || example.starts_with("load ");
             }
         }
-        assert!(rt; is_run_told && is_load_told);
+        assert!(rt; has_run && has_load);
         Ok(())
     }
 }

@@ -1,4 +1,4 @@
-//! What the program prints where it is asked how to use it.
+//! The texts that the program prints if its only word asks for them.
 
 /// The answer to `--version`.
 pub const VERSION: &str = "normaudit 0.1.0\n";
@@ -14,10 +14,11 @@ usage: normaudit OUT REPORT HOPS
   HOPS    0 to 254, in 1 to 3 digits: routers behind the bridge
 
 The frames of OUT belong to the lines of REPORT in order, to each as many as it
-tells. The audit looks at them alone, not at the rules of the run: each frame
-that went inwards must be one that every receiver behind at most HOPS routers
-reads alike, and those of one connection must tell one stream, whichever of
-them reach a receiver, how often and in which order. One line tells the answer.
+names. The audit reads these two files alone, not the rules of the run: each
+frame that went inwards must be one that every receiver behind at most HOPS
+routers reads alike, and those of one connection must give one stream, whichever
+of them reach a receiver, how often and in which order. One line gives the answer.
+norm-report(5) explains the words of a report; one of a run with --both is not read.
 
 Status and line:
 
@@ -28,21 +29,21 @@ Status and line:
   3  stop long O, stop many O: a record of over 262144 octets, or one past 2^32 - 1
   4  stop cut O: OUT ends inside its head or a record
   5  stop read: OUT or REPORT could not be opened or read
-  7  the line, cut off or missing: it could not be written
-  8  stop memory: memory was wanting
-  9  stop report N: REPORT is none of a finished run, by its line N; 0 where it
-     has over 67108864 octets
+  7  none: the line could not be written, or was cut off
+  8  stop memory: memory could not be allocated
+  9  stop report N: REPORT is none of a finished run, by its line N; 0 where it has over 67108864 octets
 
-Reasons, in the order in which they are asked:
+Reasons, in the order in which they are tested:
 
-  count  the frame stands in OUT alone, or REPORT tells one that is not there
-  plain  receivers may read it otherwise, or its line names a connection of
-         which it is no segment
-  base   it brings octets or a FIN before anything tells where the stream begins
+  count  OUT has a frame that REPORT does not name, or REPORT names one that is not there
+  plain  receivers may read it otherwise, or its line names a connection that it is no segment of
+  base   it brings octets or a FIN before anything fixes where the stream begins
   syn    its SYN has another number than the one before the stream
-  octet  one of its octets is another than was sent first at that place, or
-         stands at or past the end
-  fin    its FIN stands at another place than the end, or below octets
+  octet  one of its octets differs from the one first sent at that offset, or lies at or past the end
+  fin    its FIN is at another offset than the end, or below octets
+
+An audit of yes 0 N says only that no connection is in the report: where most of
+its lines name T_SUM, the capture has sums that a network card never filled in.
 
 Example:
 
