@@ -19,7 +19,7 @@ DESCRIPTIONS = os.path.join(TOP, "examples", "evasions.txt")
 
 PAGE = os.path.join(TOP, "docs", "EVASIONS.md")
 
-BASE, WIDTH = 1000, 150
+BASE, WIDTH = 1000, 100
 
 # The octets of a segment that a fragment has.
 PART = re.compile("octets ([0-9]+) to ([0-9]+)")
@@ -38,23 +38,34 @@ USUAL = {"ttl": 64, "window": 8192, "urgent": 0, "reserved": 0, "ip_options": b"
 
 HEAD = """# Evasions
 
-A monitor is evaded where it reads another stream than the host. Handley, Paxson and Kreibich (*Network Intrusion Detection: Evasion, Traffic
-Normalization, and End-to-End Protocol Semantics*, USENIX Security 2001) show how: hosts differ on certain packets, and the monitor cannot know which
-host it watches. Each section below has such packets, what receivers deliver of them, what norm writes in their place, and what receivers deliver of
-that.
+A monitor is evaded where it reads another stream than the host. Handley, Paxson and Kreibich
+(*Network Intrusion Detection: Evasion, Traffic Normalization, and End-to-End Protocol Semantics*,
+USENIX Security 2001) show how: hosts differ on certain packets, and the monitor cannot know which
+host it watches. Each section below has such packets, what norm writes instead, and what receivers
+deliver of both.
 
-Four receivers differ at an octet for which another one waits already: **First** keeps the one that waits, and **Newest** replaces it; **Left**
-replaces it where the newer segment begins before the one that brought it, and **Right** where it ends behind that one. Receivers that differ in
-another way, such as in whether they verify checksums, stand one below the other, each with all four policies. Of what norm wrote, all that start at
-one octet deliver the same.
+In a drawing time runs downwards. On the left are the packets that arrive, in the middle the verdict
+and its rules, on the right the packets that norm writes. An arrow has flags, sequence numbers
+(`1000:1004` is 1000 to 1003), acknowledgment, and the octets at their offsets in the stream. Below
+are the octets that receivers deliver.
 
-The columns are the packets that come, norm's report, and the packets that norm writes. A packet is written as `> PA 1000,5001 abcd`: inwards (`>`) or
-outwards (`<`), flags, sequence number, acknowledgment number and octets, and behind commas the fields that are not as usual; `octets 0 to 15` is a
-fragment with these octets of the segment, from its header's first on. README.md explains the lines of the report, and docs/RULES.md the rules. The
-last line of a section repeats it, at the top of the repository and with the built program `crates/norm/out/norm` as `norm`.
+Four receivers differ at an octet for which another one is already waiting: **First** keeps the one
+that waits, and **Newest** replaces it; **Left** replaces it where the newer segment begins before
+the one that brought it, and **Right** where it ends behind that one. Receivers that differ in
+another way, such as in whether they verify checksums, have a line each, with all four policies. Of
+what norm wrote, all receivers that start at one octet deliver the same.
 
-`examples/make` makes this page and the captures from `examples/evasions.txt`. `check/evasions PROGRAM` fails where a program writes another report
-or other packets than stand here.
+The text below each drawing has the packets that arrive, norm's report, and the packets that norm
+writes. A packet is written as `> PA 1000,5001 abcd`: inbound (`>`) or outbound (`<`), flags,
+sequence number, acknowledgment number and octets, and behind commas the fields that differ from the
+default; `octets 0 to 15` is a fragment with these octets of the segment, from its header's first
+on. README.md explains the lines of the report, and docs/RULES.md the rules. The commands at the end
+of a section repeat it, at the top of the repository and with the built program
+`crates/norm/out/norm` as `norm`.
+
+`examples/make` makes this page and the captures from `examples/evasions.txt`, and `check/pictures`
+the drawings. `check/evasions` fails where the program writes another report or other packets
+than the page has.
 """
 
 
@@ -66,7 +77,7 @@ def read_descriptions(text):
     for line in text.splitlines():
         if line.startswith("== "):
             name, _, title = line[3:].partition(": ")
-            cases.append(SimpleNamespace(name=name, title=title, prose={"attack": "", "answer": "", "options": ""}, hosts=[], lines=[]))
+            cases.append(SimpleNamespace(name=name, title=title, prose={"attack": "", "answer": "", "options": ""}, hosts=[], lines=[], past=[]))
         elif cases and line.strip():
             add_line(cases[-1], line)
     return cases
@@ -76,6 +87,8 @@ def add_line(case, line):
     word, _, rest = line.partition(": ")
     if line[:2] in ("> ", "< "):
         case.lines.append(line)
+    elif line.startswith("past norm > "):
+        case.past.append((len(case.lines), line[10:]))
     elif word.startswith("host "):
         name, _, start = word[5:].partition(" from ")
         case.hosts.append(SimpleNamespace(read=READERS[name], start=int(start or 0), label=rest))
@@ -182,9 +195,10 @@ def rows(case, came, written):
     found = {}
     for host in case.hosts:
         for policy, one, other in zip(POLICIES, streams(host, came), streams(host, written)):
-            found.setdefault((host.label, host.start, shown(one), shown(other)), []).append(policy)
-    return [SimpleNamespace(label=label, start=start, policies=policies, came=one, written=other)
-            for (label, start, one, other), policies in found.items()]
+            alike = found.setdefault((host.label, host.start, shown(one), shown(other)), SimpleNamespace(policies=[], of_came=one, of_written=other))
+            alike.policies.append(policy)
+    return [SimpleNamespace(label=label, start=start, came=one, written=other, **vars(alike))
+            for (label, start, one, other), alike in found.items()]
 
 
 def check_agreement(case, written):
@@ -219,7 +233,7 @@ def columns(case, report, frames):
 
 
 def receivers_table(found):
-    lines = ["| Receiver | Policy | delivers of what came | and of what norm wrote |", "|---|---|---|---|"]
+    lines = ["| Receiver | Policy | Delivers of what arrived | Delivers of what norm wrote |", "|---|---|---|---|"]
     for row in found:
         policies = "all four" if len(row.policies) == len(POLICIES) else ", ".join(row.policies)
         lines.append("| %s | %s | %s | %s |" % (row.label, policies, row.came, row.written))
@@ -234,10 +248,11 @@ def section(case, report, written):
     check_agreement(case, went)
     found = rows(case, came, went)
     files = ["examples/%s.pcap" % case.name, "/tmp/out.pcap"]
-    command = " && ".join(["norm " + " ".join(words(case, files[1]))] + ["tcpdump -nvXr " + file for file in files])
-    parts = ["## " + case.title, wrapped(case.prose["attack"]), columns(case, report, frames)]
+    commands = ["norm " + " ".join(words(case, files[1]))] + ["tcpdump -nvXr " + file for file in files]
+    drawing = "![%s](pictures/%s.svg)" % (case.title, case.name)
+    parts = ["## " + case.title, wrapped(case.prose["attack"]), drawing, columns(case, report, frames)]
     parts += [receivers_table(found)] if found else []
-    parts += [wrapped(case.prose["answer"]), "    " + command]
+    parts += [wrapped(case.prose["answer"]), "\n".join("    " + command for command in commands)]
     return "\n\n".join(parts) + "\n", top_row(case, report, found)
 
 
@@ -254,7 +269,7 @@ def top_row(case, report, found):
 
 def page(outcomes):
     """The page, from pairs of a description and its outcome, the report and the octets written."""
-    sections, table = [], ["| What comes | One receiver has | another has | All have of what norm wrote | In the report |", "|---|---|---|---|---|"]
+    sections, table = [], ["| Evasion | One receiver delivers | Another delivers | All deliver of what norm wrote | In the report |", "|---|---|---|---|---|"]
     for case, (report, written) in outcomes:
         try:
             text, row = section(case, report, written)

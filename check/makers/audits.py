@@ -1,4 +1,4 @@
-"""Makes a written capture and its report from a number: those of a run, and most of them changed in one or two places."""
+"""Makes a written capture and its report from a number: those of a run, most of them changed in one or two places, or of frames that no run wrote."""
 
 import random
 
@@ -6,9 +6,14 @@ from makers.files import make_capture
 from norm_model.built import WHOLE
 from norm_model.capture import ETHERNET, RECORD_HEAD, read_head, read_records, write_head, write_record
 from norm_model.formats import ACK, FIN, PSH, RST, SYN, TCP, read_ipv4, read_tcp, write_ipv4, write_tcp
+from norm_model.packets import INSIDE, OUTSIDE, inward, outward, tcp
 from norm_model.run import run
 from norm_model.words import read_words
 
+RAW_HEAD = bytes.fromhex("d4c3b2a1020004000000000000000000" "0000040065000000")
+OFFSETS = [0, 0, 0, 1, 2, 3, 5, -1, -2, -5, 1000, 2**31 - 2, 2**31 - 1, -2**31, 1 - 2**31, 2**32 - 2]
+INWARD_FLAGS = [PSH | ACK, PSH | ACK, PSH | ACK, PSH | ACK, FIN | ACK, FIN | ACK, RST]
+OUTWARD_FLAGS = [ACK, ACK, ACK, RST | ACK, RST | ACK, RST, SYN | ACK, SYN]
 FLAGS = [SYN, SYN | ACK, ACK, ACK, FIN | ACK, FIN | ACK, PSH | ACK, RST, RST | ACK]
 
 
@@ -115,9 +120,34 @@ def changed_report(rng, text):
     return "\n".join(lines)
 
 
+def free_frame(rng, base, is_inward):
+    """A frame of few octets whose numbers stand near a base or half a turn from it."""
+    number = (base + rng.choice(OFFSETS)) % 2**32
+    if not is_inward:
+        return outward(TCP, tcp(INSIDE, OUTSIDE, 80, 40000, 5001, number, rng.choice(OUTWARD_FLAGS)))
+    if rng.random() < 0.1:
+        return inward(TCP, tcp(OUTSIDE, INSIDE, 40000, 80, (base - 1) % 2**32, 0, SYN))
+    flags = rng.choice(INWARD_FLAGS)
+    octets = b"" if flags & RST else bytes(rng.choice(b"aaab") for _ in range(rng.randrange(5)))
+    return inward(TCP, tcp(OUTSIDE, INSIDE, 40000, 80, number, 5001, flags, octets))
+
+
+def free_audit(rng):
+    """The frames of one era or two, in any order, each with an entry that passes it."""
+    head, base = read_head(RAW_HEAD), rng.choice([0, 1000, 2**31, 2**32 - 1])
+    sides = [rng.random() < 0.6 for _ in range(rng.randrange(1, 9))]
+    sides[0] = sides[0] and rng.random() < 0.2
+    frames = [free_frame(rng, base, is_inward) for is_inward in sides]
+    lines = ["%d %s pass 1 @%d" % (i, "in" if is_inward else "out", rng.choice([1] * 9 + [2])) for i, is_inward in enumerate(sides, 1)]
+    text = "\n".join(["norm 2"] + lines + ["end %d %d" % (len(sides), len(sides))]) + "\n"
+    return write_head(head) + b"".join(write_record(head, 0, 0, frame) for frame in frames), text, 30
+
+
 def make_audit(number):
     """The octets of the written capture, the text of the report, and the number of routers."""
     rng = random.Random("audit " + number)
+    if rng.random() < 0.4:
+        return free_audit(rng)
     words, octets, _ = make_capture(number, WHOLE, both=0.02)
     status, written, text = run(words, octets, WHOLE)
     command = read_words(words, WHOLE) if status != 2 else None

@@ -32,19 +32,16 @@ def quantity(function):
 def add_segment(era, segment):
     """Adds a written segment. Its place, and that of its acknowledgment, are read before it counts.
 
-    With the one that fixes the base, what resets acknowledged before is read too, from 0 as its own numbers are.
+    As long as no base is fixed there is no place to read, so what is acknowledged before is 0.
     """
     before = acked(era)
-    was_fixed = base(era) is not None
     segment.place, segment.ack_place = None, None
     era.segments.append(segment)
     era.known = {}
     segment.shift = shift(era)
     if base(era) is not None:
-        middle = before if was_fixed else 0
-        segment.place = near(segment.seq - base(era), middle)
-        for one in [segment] if was_fixed else era.segments:
-            one.ack_place = near(one.ack - base(era), middle)
+        segment.place = near(segment.seq - base(era), before)
+        segment.ack_place = near(segment.ack - base(era), before)
         keep_octets(era, segment)
     era.known = {}
 
@@ -127,7 +124,8 @@ def edge(era):
 
 @quantity
 def top(era):
-    return max([0] + [segment.place + len(segment.octets) for segment in inward(era) if segment.octets])
+    """1 + the greatest place of an octet, which may lie below 0 in frames that norm did not write; 0 where there is none."""
+    return max((segment.place + len(segment.octets) for segment in inward(era) if segment.octets), default=0)
 
 
 @quantity

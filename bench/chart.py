@@ -1,0 +1,52 @@
+"""Draws speeds as a chart of bars: norm's beside those of other programs, for each kind of capture."""
+
+import json
+import os
+import sys
+
+sys.path.insert(0, os.path.join(os.path.dirname(os.path.dirname(os.path.abspath(__file__))), "check"))
+
+from svg import Picture  # noqa: E402
+
+WIDTH, LEFT, RIGHT = 820, 130, 50
+
+# The programs, with their labels and colours.
+PROGRAMS = (("norm", "norm", "#1d4ed8"), ("relay", "C program (bench/relay)", "#94a3b8"), ("tcpdump", "tcpdump -r -w", "#fcd34d"))
+
+BAR, GAP = 10, 9
+
+
+def figures(results, note):
+    """Returns what the chart shows: for each kind the millions of records a second of each program, to three digits."""
+    rates = lambda result: {name: float("%.3g" % (result.records / result.runs[name][0] / 1e6)) for name, *_ in PROGRAMS if result.runs.get(name)}
+    return {"note": note, "kinds": {result.kind: rates(result) for result in results}}
+
+
+def read(text):
+    return json.loads(text)
+
+
+def drawn(shown):
+    """Draws the chart."""
+    picture = Picture(WIDTH, "Speed", "Millions of records a second of norm, a C program and tcpdump for each kind of capture")
+    picture.add("metadata", "<![CDATA[%s]]>" % json.dumps(shown))
+    picture.text(16, 26, "Millions of records a second", 16, font_weight="bold")
+    picture.text(16, 44, shown["note"], 10.5, fill="#64748b")
+    x = 16
+    for _, label, colour in PROGRAMS:
+        picture.rect(x, 57, 12, 12, colour)
+        picture.text(x + 18, 67, label, 11)
+        x += 46 + 6 * len(label)
+    most = max(rate for rates in shown["kinds"].values() for rate in rates.values())
+    y = 86
+    for kind, rates in shown["kinds"].items():
+        bars = [(colour, rates[name], name) for name, _, colour in PROGRAMS if name in rates]
+        picture.text(LEFT - 10, y + BAR * len(bars) / 2 + 4, kind, 11, text_anchor="end")
+        for colour, rate, name in bars:
+            length = max(rate / most * (WIDTH - LEFT - RIGHT), 1)
+            picture.rect(LEFT, y, length, BAR - 1, colour)
+            picture.text(LEFT + length + 5, y + BAR - 2, "%.3g" % rate, 8.5, fill="#1e293b" if name == "norm" else "#64748b")
+            y += BAR
+        y += GAP
+    picture.line(LEFT, 80, LEFT, y - GAP + 4, "#94a3b8")
+    return picture.written(y + 4)

@@ -1,0 +1,386 @@
+"""Draws an evasion from its capture, the report and what norm wrote, and the map of the crates from crates.txt."""
+
+import os
+import re
+import subprocess
+import textwrap
+
+from evasion_page import BASE, TOP, capture_file, check_agreement, first_connection, frames_of, packet_of, rows
+from norm_model.capture import read_head, read_records
+from norm_model.formats import TCP, pseudo_sum, read_ipv4, read_tcp, sum_right
+from norm_model.fragment_rows import is_fragment
+from norm_model.packets import INSIDE, LETTERS
+from norm_model.receivers import POLICIES
+from norm_model.report import read_report
+from svg import Picture
+
+FOLDER = os.path.join(TOP, "docs", "pictures")
+
+WIDTH = 820
+
+# The x of each lane, and the two edges of norm's band.
+ATTACKER, LEFT, RIGHT, MONITOR, HOST = 36, 330, 466, 716, 784
+
+# The greatest width of an octet's box, and the width of an octet of the TCP header that a fragment has.
+CELL, HEADER = 13, 3
+
+# The left edges of the columns of the lower part: what receivers read without norm, and with it.
+WITHOUT, WITH = 350, 590
+
+INK, PALE, REWRITTEN, DROPPED, HELD, AGREED = "#1e293b", "#64748b", "#b45309", "#b91c1c", "#1d4ed8", "#15803d"
+
+VERDICTS = {"pass": PALE, "fix": REWRITTEN, "hold": HELD, "drop": DROPPED}
+
+# What fills the box of an octet: no difference, sent with two values, rewritten, not read alike by all receivers, read alike.
+FILLS = {"plain": "#f1f5f9", "clash": "#fee2e2", "rewritten": "#fed7aa", "differ": "#fecaca", "same": "#dcfce7"}
+
+NAMES = (("S", "SYN"), ("F", "FIN"), ("R", "RST"), ("U", "URG"), ("P", "PSH"), ("A", "ACK"))
+
+KINDS_OF_OPTION = {131: "source route", 137: "source route"}
+
+# The legend: the fill of a box or the kind of a mark, and its meaning, in the order in which they are shown.
+LEGEND = (("clash", "sent with two values"), ("rewritten", "rewritten"), ("cut", "cut off"), ("hold", "held"), ("drop", "dropped"))
+
+POLICY_NOTE = ("First: the octet that arrived first stays. Newest: the one that arrived last. "
+               "Left, Right: the segment that begins further left, or ends further right.")
+
+
+# What a packet shows
+
+class Shown:
+    """A packet as it is drawn: the words over its arrow by name, its octets by offset in the stream, and its part of the TCP header."""
+
+    def __init__(self, packet):
+        self.packet, ip = packet, read_ipv4(packet)
+        self.inward = ip.dst == INSIDE
+        self.words, self.marks, self.octets, self.header = {}, {}, {}, None
+        if is_fragment(ip):
+            self.read_fragment(ip, packet[ip.header:])
+        else:
+            self.read_segment(ip, packet[ip.header:])
+        if ip.ttl != 64:
+            self.marks["ttl"] = "TTL %d" % ip.ttl
+        if ip.header > 20:
+            self.marks["options"] = "IP options: %s" % KINDS_OF_OPTION.get(packet[20], packet[20:ip.header].hex(" "))
+
+    def read_fragment(self, ip, message):
+        end = ip.offset + len(message)
+        self.words["part"] = "fragment, octets %d:%d%s" % (ip.offset, end, ", more follow" if ip.mf else ", the last")
+        self.header = (min(ip.offset, 20), min(end, 20))
+        self.octets = {ip.offset + i - 20: octet for i, octet in enumerate(message) if ip.offset + i >= 20}
+
+    def read_segment(self, ip, message):
+        tcp = read_tcp(message)
+        for letter, name in NAMES:
+            if tcp.flags & LETTERS[letter]:
+                self.words[name] = name
+        begin = tcp.seq + (1 if "SYN" in self.words else 0)
+        self.words["seq"] = "%d:%d" % (begin, begin + len(tcp.payload)) if tcp.payload else "%d" % tcp.seq
+        if tcp.ack:
+            self.words["ack"] = "ack %d" % tcp.ack
+        self.octets = {begin - BASE + i: octet for i, octet in enumerate(tcp.payload)} if self.inward else {}
+        outside_port = tcp.sport if self.inward else tcp.dport
+        if outside_port != 40000:
+            self.words["port"] = "port %d" % outside_port
+        shown = (("window", tcp.window != 8192, "window %d" % tcp.window),
+                 ("urgent", tcp.urgent, "urgent pointer %d" % tcp.urgent), ("reserved", tcp.reserved, "reserved bits %d" % tcp.reserved),
+                 ("sum", not sum_right(message, pseudo_sum(ip.src, ip.dst, TCP, len(message))), "wrong checksum"))
+        self.marks.update((name, text) for name, holds, text in shown if holds)
+
+
+def words_of(shown, before, which):
+    """Returns the words of a packet: those that norm changed in its colour, those that it removed struck through."""
+    own = getattr(shown, which)
+    old = own if before is None else getattr(before, which)
+    pairs = []
+    for name in [*old, *(name for name in own if name not in old)]:
+        changed = {} if own.get(name) == old.get(name) else {"fill": REWRITTEN, "font_weight": "bold"}
+        text = own.get(name, old.get(name))
+        pairs += [(text, dict(changed, text_decoration="line-through") if name not in own else changed), (" " if which == "words" else ", ", {})]
+    return pairs[:-1]
+
+
+def clashing(packets):
+    """Returns the offsets at which packets have different octets."""
+    found = {}
+    for shown in packets:
+        for place, octet in shown.octets.items():
+            found.setdefault(place, set()).add(octet)
+    return {place for place, octets in found.items() if len(octets) > 1}
+
+
+# One evasion
+
+class EvasionDrawing:
+    """The drawing of one evasion: its records from the top down, and below them what receivers read without norm and with it."""
+
+    def __init__(self, case, came, report, frames):
+        self.case, self.entries = case, read_report(report).entries
+        self.came, self.frames = [Shown(packet) for packet in came], [[Shown(packet) for packet in packets] for packets in frames]
+        self.past = {place: Shown(packet_of(line)) for place, line in case.past}
+        self.clash = clashing([*self.came, *self.past.values()])
+        self.room = HEADER * 20 + 4 if any(shown.header for shown in self.came) else 0
+        most = max((place + 1 for shown in self.came for place in shown.octets), default=1)
+        self.cell = min(CELL, (LEFT - ATTACKER - 20 - self.room) // most)
+        self.seen = set()
+        self.picture = Picture(WIDTH, case.title, case.prose["attack"] + " " + case.prose["answer"])
+        self.y = 0
+
+    def drawn(self):
+        self.picture.text(16, 26, self.case.title, 16, font_weight="bold")
+        self.lanes_begin = len(self.picture.parts)
+        self.y = 78
+        for place, (shown, entry, frames) in enumerate(zip(self.came, self.entries, self.frames)):
+            if place in self.past:
+                self.draw_past(self.past[place])
+            self.draw_record(shown, entry, frames)
+        self.put_lanes()
+        self.draw_legend()
+        self.draw_readings()
+        return self.picture.written(self.y + 8)
+
+    def put_lanes(self):
+        """Puts the heads and lines of the lanes behind all that is drawn over them."""
+        lanes = Picture(WIDTH, "", "")
+        lanes.rect(LEFT, 58, RIGHT - LEFT, self.y - 58, "#eef2ff", "#c7d2fe", rx=4)
+        for x, name, anchor in ((ATTACKER, "attacker", "middle"), ((LEFT + RIGHT) / 2, "norm", "middle"), (MONITOR, "monitor", "middle"), (HOST, "host", "middle")):
+            lanes.text(x, 50, name, 12, font_weight="bold", text_anchor=anchor)
+        for x in (ATTACKER, MONITOR, HOST):
+            lanes.line(x, 58, x, self.y, "#94a3b8", stroke_width=1, stroke_dasharray="3 3")
+        self.picture.parts[self.lanes_begin:self.lanes_begin] = lanes.parts
+
+    def draw_record(self, shown, entry, frames):
+        """Draws a record, its verdict in the band, and its frames."""
+        frame = frames[0] if frames else None
+        before = shown if shown.header is None else None
+        bottoms = [self.draw_packet(shown, None, self.y, shown.inward)]
+        if frame:
+            bottoms.append(self.draw_packet(frame, before, self.y, not shown.inward))
+        arrow = max(bottoms) + 7 * (len(entry.ended) > 0)
+        self.picture.text(8, arrow + 3, "%d" % entry.number, 9.5, fill=PALE)
+        self.draw_arrows(shown, entry, frame, arrow)
+        self.y = max(arrow + 17, self.draw_verdict(entry, arrow) + 12)
+        for other in frames[1:]:
+            bottom = self.draw_packet(other, None, self.y, False)
+            self.picture.arrow(RIGHT, HOST, bottom, REWRITTEN)
+            self.picture.add("circle", cx=MONITOR, cy=bottom, r=3, fill=REWRITTEN)
+            self.y = bottom + 17
+
+    def draw_packet(self, shown, before, y, left):
+        """Draws the words and octets of a packet left or right of norm; returns the height of its arrow."""
+        x = ATTACKER + 12 if left else RIGHT + 10
+        self.picture.text(x, y, words_of(shown, before, "words"), 10.5, mono=True, xml__space="preserve")
+        marks = words_of(shown, before, "marks")
+        if marks:
+            y += 14
+            self.picture.text(x, y, marks, 10.5, mono=True, fill=DROPPED if left and shown.inward else INK, xml__space="preserve")
+        if shown.octets or shown.header or before and before.octets:
+            self.draw_octets(shown, before, x + (self.room if left else 0), y + 5, left)
+            y += 20
+        return y + 7
+
+    def draw_octets(self, shown, before, x, y, left):
+        if shown.header and shown.header[0] < shown.header[1]:
+            begin, end = (x - self.room + HEADER * place for place in shown.header)
+            self.picture.rect(begin, y, end - begin - 1, 15, "#e2e8f0", "#94a3b8")
+            if end - begin > 36:
+                self.picture.text((begin + end) / 2, y + 11, "header", 9, fill=PALE, text_anchor="middle")
+        old = shown.octets if before is None else before.octets
+        for place in sorted({*old, *shown.octets}):
+            octet = shown.octets.get(place)
+            if octet is None:
+                self.draw_cut(x + self.cell * place, y, old[place])
+                continue
+            kind = "rewritten" if octet != old.get(place) else "clash" if left and place in self.clash else "plain"
+            self.seen.add(kind)
+            self.draw_octet(x + self.cell * place, y, octet, FILLS[kind], REWRITTEN if kind == "rewritten" else "#94a3b8")
+
+    def draw_octet(self, x, y, octet, fill, stroke):
+        self.picture.rect(x, y, self.cell, 15, fill, stroke)
+        self.picture.text(x + self.cell / 2, y + 11.5, chr(octet), 11, mono=True, text_anchor="middle")
+
+    def draw_cut(self, x, y, octet):
+        """Draws an octet that norm cut off."""
+        self.seen.add("cut")
+        self.picture.rect(x, y, self.cell, 15, "none", REWRITTEN, stroke_dasharray="2 2")
+        self.picture.text(x + self.cell / 2, y + 11.5, chr(octet), 11, mono=True, fill="#94a3b8", text_anchor="middle")
+        self.picture.line(x, y + 8, x + self.cell, y + 8, REWRITTEN, stroke_width=1.5)
+
+    def draw_arrows(self, shown, entry, frame, y):
+        """Draws the arrow to norm and the one from it; a cross where the packet is dropped, two bars where it is held."""
+        goes = entry.verdict in ("pass", "fix")
+        colour = VERDICTS[entry.verdict] if entry.verdict != "pass" else INK
+        edge, start, far = (LEFT, ATTACKER, HOST) if shown.inward else (RIGHT, HOST, ATTACKER)
+        self.picture.arrow(start, edge if goes else edge - 14, y, INK if goes else colour)
+        if frame:
+            self.picture.arrow(RIGHT if shown.inward else LEFT, far, y, colour)
+        if not shown.inward or frame:
+            self.picture.add("circle", cx=MONITOR, cy=y, r=3, fill=colour if shown.inward else INK)
+        if not goes:
+            self.seen.add(entry.verdict)
+            self.draw_stop(edge - 6, y, entry.verdict)
+
+    def draw_stop(self, x, y, verdict):
+        """Draws a cross for a drop, two bars for a hold."""
+        ends = ((-6, -6, 6, 6), (-6, 6, 6, -6)) if verdict == "drop" else ((-3, -6, -3, 6), (3, -6, 3, 6))
+        for left, top, right, bottom in ends:
+            self.picture.line(x + left, y + top, x + right, y + bottom, VERDICTS[verdict], stroke_width=2.5)
+
+    def draw_verdict(self, entry, y):
+        """Draws the verdict and its rules at the height of the arrow, and the eras that end below."""
+        era = ", era %d" % entry.era if len({entry.era for entry in self.entries}) > 2 else ""
+        lines = [(" ".join([entry.verdict, *entry.rules[:1]]) + era, VERDICTS[entry.verdict])]
+        lines += [(rule, VERDICTS[entry.verdict]) for rule in entry.rules[1:]]
+        lines += [("era %d ends: %s" % (ended.era, ended.reason), REWRITTEN) for ended in entry.ended]
+        y += 4 - 7 * (len(lines) - 1)
+        for place, (text, colour) in enumerate(lines):
+            self.picture.text((LEFT + RIGHT) / 2, y + 14 * place, text, 11, fill=colour, text_anchor="middle", font_weight="bold" if colour != PALE else None)
+        return y + 14 * (len(lines) - 1)
+
+    def draw_legend(self):
+        """Draws what the colours and marks of this picture mean, behind the title."""
+        x = WIDTH - 16
+        for kind, text in reversed([pair for pair in LEGEND if pair[0] in self.seen]):
+            x -= 5.8 * len(text) + 4
+            self.picture.text(x, 26, text, 10, fill=PALE)
+            x -= 12
+            if kind in FILLS:
+                self.picture.rect(x - 5, 17, 11, 11, FILLS[kind], REWRITTEN if kind == "rewritten" else "#94a3b8")
+            elif kind == "cut":
+                self.picture.rect(x - 5, 17, 11, 11, "none", REWRITTEN, stroke_dasharray="2 2")
+                self.picture.line(x - 5, 22.5, x + 6, 22.5, REWRITTEN, stroke_width=1.5)
+            else:
+                self.draw_stop(x, 22.5, kind)
+            x -= 16
+
+    def draw_past(self, shown):
+        """Draws a packet that reaches the host past norm and the monitor, and so is in no capture."""
+        bottom = self.draw_packet(shown, None, self.y, True)
+        self.picture.line(ATTACKER, bottom, ATTACKER + 8, bottom, PALE, stroke_width=1.5, stroke_dasharray="5 4")
+        self.picture.arrow(ATTACKER, HOST, bottom, PALE, stroke_dasharray="5 4")
+        self.picture.text((LEFT + RIGHT) / 2, bottom - 5, "another way", 11, fill=PALE, text_anchor="middle", font_style="italic")
+        self.picture.text(RIGHT + 10, bottom - 5, "past norm and the monitor", 10.5, fill=PALE, font_style="italic")
+        self.y = bottom + 16
+
+    def draw_readings(self):
+        """Draws the receivers with the octets that they read of what arrived, and of what norm wrote."""
+        came = first_connection([shown.packet for shown in self.came])
+        went = first_connection([shown.packet for frames in self.frames for shown in frames])
+        found = rows(self.case, came, went)
+        self.y += 24
+        if found:
+            self.draw_heads()
+        differ = differing(found)
+        for row in found:
+            label = row.label if len(row.policies) == len(POLICIES) else "%s (%s)" % (row.label, ", ".join(row.policies))
+            lines = textwrap.wrap(label, 50)
+            for place, line in enumerate(lines):
+                self.picture.text(28, self.y + 11 + 14 * place, line, 11)
+            self.draw_stream(WITHOUT, row.of_came, row.start, lambda place: "differ" if place in differ else "plain")
+            self.draw_stream(WITH, row.of_written, row.start, lambda place: "same")
+            self.y += 10 + 14 * len(lines)
+        if any(len(row.policies) < len(POLICIES) for row in found):
+            self.picture.text(28, self.y + 6, POLICY_NOTE, 9.5, fill=PALE)
+            self.y += 16
+        for line in textwrap.wrap(self.case.prose["answer"].replace("`", ""), 116):
+            self.picture.text(16, self.y + 12, line, 12, fill=INK)
+            self.y += 17
+
+    def draw_heads(self):
+        self.picture.line(16, self.y - 12, WIDTH - 16, self.y - 12, "#cbd5e1")
+        for x, text, colour in ((16, "Octets that receivers read", INK), (WITHOUT, "without norm", DROPPED), (WITH, "with norm", AGREED)):
+            self.picture.text(x, self.y + 6, text, 12, fill=colour, font_weight="bold")
+        self.y += 20
+
+    def draw_stream(self, x, stream, start, kind):
+        places = [start + i for i in range(len(stream.octets))]
+        for place, octet in zip(places, stream.octets):
+            self.draw_octet(x + self.cell * place, self.y, octet, FILLS[kind(place)], "#94a3b8")
+        if not places:
+            self.picture.text(x + self.cell * start, self.y + 11, "nothing", 11, fill=PALE, font_style="italic")
+        if stream.ended:
+            self.picture.text(x + (self.cell * len(places) + 8 if places else 58), self.y + 11, "and the end of the stream", 11, fill=PALE)
+
+
+def differing(found):
+    """Returns the offsets at which not all receivers read the same of what arrived."""
+    reads = [{row.start + i: octet for i, octet in enumerate(row.of_came.octets)} for row in found]
+    places = {place for read in reads for place in read}
+    return {place for place in places if len({read.get(place) for read in reads}) > 1}
+
+
+def evasion_drawing(case, report, written):
+    """Draws an evasion, from the file of its capture."""
+    with open(capture_file(case), "rb") as file:
+        octets = file.read()
+    came = [record.octets for record in read_records(octets, read_head(octets))[0]]
+    frames = frames_of(case, report, written)
+    check_agreement(case, first_connection([packet for packets in frames for packet in packets]))
+    return EvasionDrawing(case, came, report, frames).drawn()
+
+
+# The map of the crates
+
+CRATES = os.path.join(TOP, "crates.txt")
+
+GRAPH = """digraph crates {
+rankdir=TB; ranksep=0.28; nodesep=0.1; bgcolor="#ffffff"; fontname="DejaVu Sans"; fontsize=9; fontcolor="%s"; labelloc=b;
+label="An arrow leads to a crate that is used. Uses that follow from others are left out.";
+node [shape=box, style="rounded,filled", color="#94a3b8", fillcolor="#eef2ff", fontname="DejaVu Sans", fontsize=10, height=0.26, width=0.4, margin="0.07,0.03"];
+edge [color="%s", arrowsize=0.5];
+""" % (PALE, PALE)
+
+
+def layers_of(text):
+    """Returns the layers of crates.txt, lowest first: the comment over each, and for each crate the crates that it uses."""
+    layers = []
+    for line in text.splitlines():
+        if line.startswith("#"):
+            layers.append((line[1:].strip().rstrip("."), {}))
+        elif line.strip():
+            name, _, used = line.partition(":")
+            layers[-1][1][name.split()[0]] = used.split()
+    layers = [(title, crates) for title, crates in layers if crates]
+    names = {name for _, crates in layers for name in crates}
+    return [(title, {name: [low for low in used if low in names] for name, used in crates.items()}) for title, crates in layers]
+
+
+def needed(uses):
+    """Returns the uses that do not follow from others."""
+    below = {}
+    for name, used in uses.items():
+        below[name] = set(used).union(*(below[low] for low in used))
+    return {name: [low for low in used if not any(low in below[other] for other in used)] for name, used in uses.items()}
+
+
+def crates_graph():
+    """Returns the map of the crates in the language of graphviz' dot."""
+    with open(CRATES, encoding="ascii") as file:
+        layers = layers_of(file.read())
+    lines = [GRAPH.rstrip()]
+    for place, (title, crates) in enumerate(layers):
+        label = "\\n".join(textwrap.wrap(title, 18))
+        names = " ".join('"%s";' % name for name in crates)
+        lines.append('{rank=same; "%d" [label="%s", shape=plaintext, style="", fontsize=9, fontcolor="%s"]; %s}' % (place, label, PALE, names))
+        if place:
+            lines.append('"%d" -> "%d" [style=invis, weight=100];' % (place, place - 1))
+    uses = {name: used for _, crates in layers for name, used in crates.items()}
+    lines += ['"%s" -> "%s";' % (name, low) for name, used in needed(uses).items() for low in used]
+    return "\n".join([*lines, "}"]) + "\n"
+
+
+def crates_drawing():
+    """Draws the map by dot, at the width of the other pictures, with the map's text in the picture."""
+    graph = crates_graph()
+    done = subprocess.run(["dot", "-Tsvg"], input=graph, stdout=subprocess.PIPE, text=True, check=True)
+    _, width, height, rest = re.split(r'<svg width="(\d+)pt" height="(\d+)pt"', done.stdout, maxsplit=1)
+    size = '<svg width="%d" height="%d"' % (WIDTH, round(int(height) * WIDTH / int(width)))
+    inside = "<title>The crates</title>\n<metadata><![CDATA[%s]]></metadata>\n" % graph
+    body = rest.replace("\n<g id=", "\n" + inside + "<g id=", 1)
+    return re.sub(r"<title>[^<]*</title>\n", lambda found: found[0] if "The crates" in found[0] else "", re.sub(r"<!--.*?-->\n", "", size + body, flags=re.S))
+
+
+def kept_in(picture):
+    """Returns the source in a picture that it is made from."""
+    found = re.search(r"<metadata><!\[CDATA\[(.*?)\]\]></metadata>", picture, flags=re.S)
+    return found[1] if found else None

@@ -1,0 +1,25 @@
+"""The programs that a check runs: one form of argument for all checks, --norm PROGRAM and --normaudit PROGRAM."""
+
+import os
+import sys
+
+TOP = os.path.dirname(os.path.dirname(os.path.abspath(__file__)))
+
+
+def standard(name):
+    """Where a built program stands."""
+    return os.path.join(TOP, "crates", name, "out", name)
+
+
+def add_program(words, name="norm"):
+    """Adds the argument that names the program."""
+    words.add_argument("--" + name, metavar="PROGRAM", default=standard(name), help="the built program; crates/%s/out/%s if it is left out" % (name, name))
+
+
+def found(program):
+    """Returns the program's absolute path; ends with 2 where it is not there."""
+    program = os.path.abspath(program)
+    if not os.access(program, os.X_OK):
+        print("%s is not there: build it as README.md says, or name one by --norm or --normaudit" % program, file=sys.stderr)
+        sys.exit(2)
+    return program
