@@ -21,9 +21,9 @@ const CONNECTION: &[Case] = &[Case {
 #[rattlefmt::skip]
 const OTHERS: &[Case] = &[
     // The same connection through two engines.
-    Case { options: "--both --flows=1 --cells=8 --frags=1 --frag-cells=256", before: REQUEST, packets: "" },
+    Case { options: "--both", before: REQUEST, packets: "" },
     // A frame that is cut into three, one that is too long, and one that passes.
-    Case { options: "--mtu=576 --flows=1 --cells=8 --frags=1 --frag-cells=256", before: OPENED, packets: "> PA 1000,5001 a*1100; < PA 5001,1000 a*537 [urg=1]; < A 5001,2100" },
+    Case { options: "--mtu=576", before: OPENED, packets: "> PA 1000,5001 a*1100; < PA 5001,1000 a*537 [urg=1]; < A 5001,2100" },
 ];
 
 /// How a run is disturbed: the octets that a call of the source gives, the calls that fail, 0 for none, and the capture sink's room.
