@@ -1,4 +1,4 @@
--- What moves through a buffer before a reader or a writer.
+-- Octets that move through the buffer of a reader or a writer.
 use Rattle.std.proofs.Common.{◌≡◌, ℕ, ◌+◌, ◌-◌, ◌≤◌, List, ◌++◌, None, Some, take, drop, slice_range, sym, ap, ◌∙◌, append_assoc, append-nil, arith}
 use Rattle.std.proofs.lemmas.List.{drop-drop}
 use Rattle.std.proofs.Math.Seq.{take-add}
@@ -17,7 +17,7 @@ Keeps-Appends (Some x) None c xs p q = absurd p
 Keeps-Appends (Some x) (Some y) None xs p q = absurd q
 Keeps-Appends (Some x) (Some y) (Some z) xs p q = q ∙ ap (λ l. l ++ xs) p
 
--- a piece that is written past an empty buffer
+-- octets that are written past an empty buffer
 pub written_past : (a b : Option (List ℕ)) (buffer piece : List ℕ) (filled : ℕ) → filled ≡ 0 → Appends a b piece → Appends (append_known a (take filled buffer)) (append_known b (take filled buffer)) piece
 written_past None b buffer piece filled e p = tt
 written_past (Some x) None buffer piece filled e p = absurd p
@@ -33,14 +33,14 @@ range_parts xs start end count fits =
     ∙ take-add count (end - (start + count)) (drop start xs)
     ∙ ap (λ l. take count (drop start xs) ++ take (end - (start + count)) l) (drop-drop count start xs)
 
--- the first octets ahead are taken
+-- the first octets in the buffer are taken
 pub taken_ahead : (a : Option (List ℕ)) (buffer front : List ℕ) (start filled count : ℕ) → start + count ≤ filled → front ≡ take count (drop start buffer) → Consumes (prepend_known (slice_range buffer start filled) a) (prepend_known (slice_range buffer (start + count) filled) a) front
 taken_ahead None buffer front start filled count fits e = tt
 taken_ahead (Some x) buffer front start filled count fits e =
     ap (λ l. l ++ x) (range_parts buffer start filled count fits ∙ ap (λ l. l ++ slice_range buffer (start + count) filled) (sym e))
     ∙ append_assoc front (slice_range buffer (start + count) filled) x
 
--- over a buffer that is used up, the end is that of the reader
+-- if the buffer has no octets left, the end is that of the reader
 pub end_ahead : (a : Option (List ℕ)) (buffer : List ℕ) (start filled : ℕ) → filled ≤ start → IsAtEnd a → IsAtEnd (prepend_known (slice_range buffer start filled) a)
 end_ahead None buffer start filled used e = tt
 end_ahead (Some x) buffer start filled used e =

@@ -1,13 +1,13 @@
--- The frames of one record that are to be written, in the order in which they were begun (this project's profile).
+-- The frames that are to be written for one record, in the order in which they were begun (this project's profile).
 use Rattle.std.specs.Prelude.{ℕ, List, [], ◌∷◌, ◌++◌}
 
--- the frame begun last, and no octet where none is begun
+-- the octets of the last frame; none if there is no frame
 abbrev pub last_frame : List (List ℕ) → List ℕ
 last_frame [] = []
 last_frame (frame ∷ []) = frame
 last_frame (frame ∷ next ∷ frames) = last_frame (next ∷ frames)
 
--- the frames with these octets behind those of the one begun last
+-- the frames with these octets appended to the last one
 abbrev pub extended : List (List ℕ) → List ℕ → List (List ℕ)
 extended [] octets = []
 extended (frame ∷ []) octets = (frame ++ octets) ∷ []

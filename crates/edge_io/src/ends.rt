@@ -6,39 +6,39 @@ ghost use Rattle.edge_io.specs.Octets.{Fetches, Puts, Flushes};
 
 use crate::Failed;
 
-/// Where octets come from.
+/// A source of octets.
 pub trait Source {
-    /// The octets left, where it tells them.
+    /// The octets left, if the source has known octets.
     ghost left: { Self → Option (List ℕ) };
 
-    /// How often it has failed.
+    /// The number of failed calls.
     ghost fault_count: { Self → ℕ };
 
-    /// Moves the first octets left to the front of the buffer, and answers how many.
-    /// An answer of 0 for a buffer that is not empty is the end.
+    /// Moves the first octets left to the front of the buffer. Returns their number.
+    /// If it returns 0 for a buffer that is not empty, the source is at its end.
     fn fetch(&mut self, buf: &mut [u8]) -> Result<usize, Failed>
         ensures octets { Fetches (left self.old) (left self.new) result buf.new }
         ensures cause { HasCause (fault_count self.old) (fault_count self.new) result };
 
-    /// How often it has failed; the count stands still at the last value of its type.
+    /// Returns the number of failed calls; the count saturates at the last value of its type.
     fn faults(&self) -> u64
         ensures { result ≡ fault_count self.now };
 }
 
-/// Where octets go to.
+/// A sink for octets.
 pub trait Sink {
-    /// The octets held, where it tells them.
+    /// The octets held, if the sink has known octets.
     ghost held: { Self → Option (List ℕ) };
 
-    /// How often it has failed.
+    /// The number of failed calls.
     ghost fault_count: { Self → ℕ };
 
-    /// Appends the piece, or at a fault a prefix of it.
+    /// Appends the octets, or a prefix of them if it fails.
     fn put(&mut self, bytes: &[u8]) -> Result<(), Failed>
         ensures octets { Puts (held self.old) (held self.new) result bytes.now }
         ensures cause { HasCause (fault_count self.old) (fault_count self.new) result };
 
-    /// Hands on what it keeps back. A sink that tells its octets keeps nothing back.
+    /// Writes the buffered octets. A sink with known octets buffers none.
     fn flush(&mut self) -> Result<(), Failed>
         ensures octets { Flushes (held self.old) (held self.new) result }
         ensures cause { HasCause (fault_count self.old) (fault_count self.new) result }
@@ -46,7 +46,7 @@ pub trait Sink {
         Ok(())
     }
 
-    /// How often it has failed; the count stands still at the last value of its type.
+    /// Returns the number of failed calls; the count saturates at the last value of its type.
     fn faults(&self) -> u64
         ensures { result ≡ fault_count self.now };
 }

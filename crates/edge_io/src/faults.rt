@@ -1,11 +1,11 @@
-//! What the outside answers where it cannot do what it was asked.
+//! The errors of reads, writes and allocations.
 use std::alloc::{AllocError, AllocFailed};
 
-/// A read or a write failed.
+/// The failure of a read or a write.
 #[derive(Clone, Copy, Debug, PartialEq, Eq)]
 pub struct Failed;
 
-/// The memory that a call asked for was not to be had.
+/// The failure of an allocation.
 #[derive(Clone, Copy, Debug, PartialEq, Eq)]
 pub struct NoMemory;
 

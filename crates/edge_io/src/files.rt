@@ -13,7 +13,7 @@ use std::fs::File;
 use std::io::{Read, Stdout, Write};
 use std::marker::Model;
 
-/// How many octets the buffer before a file or standard output has.
+/// Size of the buffer of a file or of standard output, in octets.
 pub const BUFFER_OCTETS: usize = 65_536;
 
 /// A file to read from.
@@ -25,7 +25,7 @@ pub type FileSink = BufferedSink<File>;
 /// Standard output.
 pub type LineOut = BufferedSink<Stdout>;
 
-/// A reader outside the program, read through a buffer. It tells no octets.
+/// A reader outside the program, with a read buffer. Its octets are not known.
 #[derive(Drop)]
 pub struct BufferedSource<R> {
     ahead: Option<ReadAhead<R>>,
@@ -39,7 +39,7 @@ impl<R> Model for BufferedSource<R> {
 }
 
 impl<R: Read + Drop> BufferedSource<R> {
-    /// A source over this reader. Over none, every call fails.
+    /// Returns a source over this reader. Without a reader every call fails.
     pub fn over(end: Option<R>) -> BufferedSource<R>
         ensures { result ≡ record { is_there = is_some end; faults = 0 } }
     {
@@ -55,7 +55,7 @@ impl<R: Read + Drop> Source for BufferedSource<R> {
 
     ghost fault_count = { λ s. s.faults };
 
-    /// Gives what one successful read gave, in as many calls as the buffer asks for.
+    /// Moves buffered octets to the front of `buf`; reads only if none are buffered.
     fn fetch(&mut self, buf: &mut [u8]) -> Result<usize, Failed>
         ensures within { IfOk result (λ n. n ≤ length buf.new) }
         ensures cause { HasCause self.old.faults self.new.faults result }
@@ -80,7 +80,7 @@ impl<R: Read + Drop> Source for BufferedSource<R> {
     }
 }
 
-/// A writer outside the program, written through a buffer. It tells no octets.
+/// A writer outside the program, with a write buffer. Its octets are not known.
 #[derive(Drop)]
 pub struct BufferedSink<W> {
     behind: Option<WriteBehind<W>>,
@@ -94,7 +94,7 @@ impl<W> Model for BufferedSink<W> {
 }
 
 impl<W: Write + Drop> BufferedSink<W> {
-    /// A sink over this writer. Over none, every call fails.
+    /// Returns a sink over this writer. Without a writer every call fails.
     pub fn over(end: Option<W>) -> BufferedSink<W>
         ensures { result ≡ record { is_there = is_some end; faults = 0 } }
     {
@@ -110,7 +110,7 @@ impl<W: Write + Drop> Sink for BufferedSink<W> {
 
     ghost fault_count = { λ s. s.faults };
 
-    /// Gathers the piece; the writer is called only where the buffer has no room for it.
+    /// Buffers the octets; calls the writer only if they do not fit into the buffer.
     fn put(&mut self, bytes: &[u8]) -> Result<(), Failed>
         ensures cause { HasCause self.old.faults self.new.faults result }
         ensures over_none { self.old.is_there ≡ false → IsErr result }
@@ -129,7 +129,7 @@ impl<W: Write + Drop> Sink for BufferedSink<W> {
         result
     }
 
-    /// Writes what was gathered.
+    /// Writes the buffered octets.
     fn flush(&mut self) -> Result<(), Failed>
         ensures cause { HasCause self.old.faults self.new.faults result }
         ensures over_none { self.old.is_there ≡ false → IsErr result }

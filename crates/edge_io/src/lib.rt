@@ -1,24 +1,24 @@
 //! Sources and sinks of octets with a count of faults, and the outbox for the frames of one record.
 //!
-//! Proved of every `Source` and `Sink`: a call fails only if the count of faults rose in it or is
+//! Proved of every `Source` and `Sink`: a call fails only if the count of faults rises in it or is
 //! at the last value of its `u64`; no count falls; a call that succeeds leaves its count unchanged.
-//! Of one with known octets, that is, whose `left` or `held` is a list: `fetch` moves the first
-//! octets left into the buffer, and takes none if it fails; `put` appends its argument, and a
+//! Proved of one with known octets, that is, whose `left` or `held` is a list: `fetch` moves the
+//! first octets left into the buffer, and takes none if it fails; `put` appends its argument, or a
 //! prefix of it if it fails; `flush` changes nothing and does not fail. `MemSource` and `MemSink`
-//! fail exactly at the calls that their lists name (the sink also if the octets do not fit), and do
-//! otherwise exactly what their lists say. `read_full` fills the buffer or reaches the end of the
-//! source. An `Outbox` is the list of the frames put into it: at most two, of at most 65,549 octets
-//! each.
+//! fail exactly at the calls that their lists name (the sink also if the octets do not fit); every
+//! other call moves the octets that the contract names. `read_full` fills the buffer or reaches the
+//! end of the source. An `Outbox` is the list of the frames put into it: at most two, of at most
+//! 65,549 octets each.
 //!
-//! `FileSource`, `FileSink` and `LineOut` have no known octets, so no public clause speaks of the
-//! octets of a file. Their clauses say that every call over no file fails, what happens to the
-//! count of faults, and that a fetch returns at most the length of the buffer. The private
+//! `FileSource`, `FileSink` and `LineOut` have no known octets, so no public clause describes the
+//! octets of a file. Their clauses state that every call without a file fails, how the count of
+//! faults changes, and that a fetch returns at most the length of the buffer. The private
 //! `ReadAhead` and `WriteBehind` are proved to keep buffered octets in order and to lose none
 //! unless a call fails, for readers and writers with known octets; for files this is tested.
 //!
 //! Choices: a write is repeated by std's `write_all`, which refuses a write that takes nothing; an
 //! interrupted read is tried 1,000 times. `Sink::flush` does nothing by default, since a sink with
-//! known octets buffers none. A count of faults stops at the last value of its `u64`.
+//! known octets buffers none. A count of faults saturates at the last value of its `u64`.
 #![tactic(auto)]
 
 pub mod ends;
@@ -34,6 +34,3 @@ pub use files::{BUFFER_OCTETS, BufferedSink, BufferedSource, FileSink, FileSourc
 pub use fill::read_full;
 pub use memory::{MemSink, MemSource};
 pub use outbox::{MAX_FRAME, Outbox};
-
-#[cfg(test)]
-mod tests;

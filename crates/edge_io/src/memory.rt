@@ -8,7 +8,7 @@ use crate::{Failed, NoMemory, Sink, Source};
 use std::alloc::Global;
 use std::marker::Model;
 
-// Answers whether the call that comes after so many is listed.
+// Returns whether the list names the call that follows this number of calls.
 fn is_listed(failing: &[u32], calls: u64) -> bool
     ensures { IsTrue result ↔ IsListed failing.now calls }
 {
@@ -16,7 +16,7 @@ fn is_listed(failing: &[u32], calls: u64) -> bool
     failing.iter().any(|number| u64::from(*number) == call)
 }
 
-/// Octets in memory, given in pieces of at most `piece` octets.
+/// Octets in memory, of which one call returns at most `piece`.
 #[derive(Drop)]
 pub struct MemSource {
     bytes: Vec<u8>,
@@ -42,7 +42,7 @@ impl Model for MemSource {
 }
 
 impl MemSource {
-    /// A source that gives these octets, and fails at the calls that are listed, from 1.
+    /// Returns a source of these octets. It fails at the calls whose numbers, counted from 1, are in `fails`.
     pub fn new(bytes: Vec<u8>, piece: usize, fails: Vec<u32>) -> MemSource
         requires { 0 < piece }
         ensures { result ≡ record {
@@ -73,7 +73,7 @@ impl Source for MemSource {
         ensures octets { Fetches (Some self.old.left) (Some self.new.left) result buf.new }
         ensures cause { HasCause self.old.faults self.new.faults result }
 
-        // It fails exactly at the calls that are listed; these move nothing.
+        // It fails exactly at the listed calls; these move nothing.
         ensures listed { IsErr result ↔ IsListed self.old.failing self.old.calls }
         ensures failed { OnErr result (self.new ≡ record self.old {
           calls = next_count self.old.calls;
@@ -81,7 +81,7 @@ impl Source for MemSource {
         }) }
         ensures untouched { OnErr result (buf.new ≡ buf.old) }
 
-        // Each other call gives as much as it can, at the front of the buffer.
+        // Each other call moves as many octets as it can to the front of the buffer.
         ensures given { IfOk result (λ n. n ≡ given_count self.old (length buf.old)) }
         ensures front { IfOk result (λ n. buf.new ≡ take n self.old.left ++ drop n buf.old) }
         ensures moved { IfOk result (λ n. self.new ≡ record self.old {
@@ -106,7 +106,7 @@ impl Source for MemSource {
     }
 }
 
-/// A sink in memory, of fixed room.
+/// A sink in memory, of fixed capacity.
 #[derive(Drop)]
 pub struct MemSink {
     held: Vec<u8>,
@@ -131,7 +131,7 @@ impl Model for MemSink {
 }
 
 impl MemSink {
-    /// A sink for at most `room` octets, whose puts fail at the calls that are listed, from 1.
+    /// Returns a sink for at most `room` octets. It fails at the puts whose numbers, counted from 1, are in `fails`.
     pub fn new(alloc: Global, room: usize, fails: Vec<u32>) -> Result<MemSink, NoMemory>
         ensures { IfOk result (λ sink. sink ≡ record {
           held = [];
@@ -151,7 +151,7 @@ impl MemSink {
         })
     }
 
-    /// The octets that it was given.
+    /// Returns the octets held.
     pub fn held(&self) -> &[u8]
         ensures { result.now ≡ self.now.held }
     {
@@ -168,7 +168,7 @@ impl Sink for MemSink {
         ensures octets { Puts (Some self.old.held) (Some self.new.held) result bytes.now }
         ensures cause { HasCause self.old.faults self.new.faults result }
 
-        // It fails exactly at the calls that are listed, and where the piece does not fit.
+        // It fails exactly at the listed calls and if the octets do not fit.
         ensures failed { IsErr result ↔ (IsListed self.old.failing self.old.calls
             ⊎ (self.old.room < length self.old.held + length bytes.now)) }
 
@@ -178,7 +178,7 @@ impl Sink for MemSink {
           faults = next_count self.old.faults;
         } }
 
-        // A piece that does not fit is appended as far as it fits.
+        // Of octets that do not fit, the prefix that fits is appended.
         ensures full { OnErr result (¬ IsListed self.old.failing self.old.calls → self.new ≡ record self.old {
           held = self.old.held ++ take (self.old.room - length self.old.held) bytes.now;
           calls = next_count self.old.calls;
@@ -205,7 +205,7 @@ impl Sink for MemSink {
         Err(Failed)
     }
 
-    /// Does nothing, since nothing is kept back.
+    /// Does nothing, since the sink buffers nothing.
     fn flush(&mut self) -> Result<(), Failed>
         ensures ok { IsOk result }
         ensures stays { self.new ≡ self.old }

@@ -1,13 +1,13 @@
-//! The frames of one record, gathered until they are written.
+//! The frames of one record, collected until they are written.
 use crate::NoMemory;
 use std::alloc::Global;
 use std::marker::Model;
 
-/// The octets of the longest frame: 14 of an Ethernet header, and 65,535 of the longest packet (RFC 791 section 3.1).
+/// Length of the longest frame in octets: an Ethernet header (14) and a packet of 65,535 (RFC 791 section 3.1).
 pub const MAX_FRAME: usize = 65_549;
 
-/// At most two frames of at most 65,549 octets each, seen as the list of their octets in the order in which they were begun.
-/// It takes all its memory when it is opened.
+/// At most two frames of at most 65,549 octets each. Its value is the list of their octets, in the order in which the
+/// frames were begun. It allocates all its memory when it is opened.
 #[derive(Drop)]
 pub struct Outbox {
     first: Vec<u8>,
@@ -31,7 +31,7 @@ impl Outbox {
     ghost use Rattle.std.specs.Prelude.{◌≡◌, ◌+◌, ◌<◌, ◌≤◌, All, [], ◌∷◌, ◌++◌, Some, length, slice_get, IfOk};
     ghost use Rattle.edge_io.specs.Outboxes.{last_frame, extended};
 
-    /// An outbox without frames, with the room of two.
+    /// Returns an outbox without frames, with memory for two.
     pub fn open(alloc: Global) -> Result<Outbox, NoMemory>
         ensures { IfOk result (λ outbox. outbox ≡ []) }
     {
@@ -44,14 +44,14 @@ impl Outbox {
         })
     }
 
-    /// Takes all frames out.
+    /// Removes all frames.
     pub fn clear(&mut self)
         ensures { self.new ≡ [] }
     {
         self.begun = 0;
     }
 
-    /// Begins a frame without octets behind those that are there.
+    /// Appends an empty frame.
     pub fn begin(&mut self)
         requires { length self.old < 2 }
         ensures { self.new ≡ self.old ++ [] ∷ [] }
@@ -64,7 +64,7 @@ impl Outbox {
         self.begun += 1;
     }
 
-    /// Appends octets to the frame begun last.
+    /// Appends octets to the last frame.
     pub fn append(&mut self, bytes: &[u8])
         requires begun { 0 < length self.old }
         requires room { length (last_frame self.old) + length bytes.now ≤ 65549 }
@@ -77,7 +77,7 @@ impl Outbox {
         }
     }
 
-    /// How many frames there are.
+    /// Returns the number of frames.
     pub fn frames(&self) -> usize
         ensures count { result ≡ length self.now }
         ensures few { result ≤ 2 }
@@ -85,7 +85,7 @@ impl Outbox {
         self.begun
     }
 
-    /// The octets of the frame with this number, from 0.
+    /// Returns the octets of the frame at this index, counted from 0.
     pub fn frame(&self, index: usize) -> &[u8]
         requires { index < length self.now }
         ensures octets { slice_get self.now index ≡ Some result.now }
@@ -101,7 +101,7 @@ impl Outbox {
 
 ghost use Rattle.std.specs.Prelude.{◌≡◌, ◌+◌, ◌≤◌, ◌++◌, length, vec_len, vec_capacity};
 
-// Appends octets to a frame that has the room for them.
+// Appends octets to a frame that has the capacity for them.
 fn extend_within(frame: &mut Vec<u8>, bytes: &[u8])
     requires { vec_len frame.old + length bytes.now ≤ vec_capacity frame.old }
     ensures octets { frame.new.items ≡ frame.old.items ++ bytes.now }

@@ -1,4 +1,4 @@
--- What the octets that are left begin with, where their first 24 came in one read.
+-- What the octets left begin with, if one read returns their first 24.
 use Rattle.std.proofs.Common.{◌≡◌, ℕ, Bool, ◌<◌, ◌≤◌, List, ◌++◌, length, take, drop, Some, None, Ok, Err, refl, sym, ap, ◌∙◌, arith}
 use Rattle.std.proofs.lemmas.List.{drop_at, drop_all, length-append}
 use Rattle.std.proofs.lemmas.Bool.Decides.{nat_tests}
@@ -23,7 +23,7 @@ pub head_whole : (x : List ℕ) → 24 ≤ length x → head_of x ≡ head_by (f
 unfolding head_of
 head_whole x a = grind (arith, nat_tests)
 
--- the head lies in the first 24 octets
+-- the head is in the first 24 octets
 head_by_front : (form : Option (Order × Bool)) (h y : List ℕ) → length h ≡ 24 → head_by form (h ++ y) ≡ head_by form h
 head_by_front None h y size = refl
 head_by_front (Some form) h y size =
@@ -48,7 +48,7 @@ begins (Some x) None h verdict size p is = absurd p
 begins (Some x) (Some y) h verdict size p is =
     (ap head_of p ∙ head_front h y size ∙ is, sym (ap (drop 24) p ∙ drop_at h y 24 size))
 
--- what 24 octets say is said of the octets that they came from
+-- the result of the first 24 octets is the result of all octets
 pub judged : (a b : Option (List ℕ)) (h : List ℕ) (result : Result Head HeadFault) → length h ≡ 24 → Consumes a b h → Judges h result → ReadsHead a b result
 judged a b h (Ok head) size p says = begins a b h _ size p says
 judged a b h (Err faults.Cut) size p says = begins a b h _ size p says

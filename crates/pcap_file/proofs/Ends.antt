@@ -1,4 +1,4 @@
--- Each list of octets is a capture or has a first flaw, and records take as many octets as their size says.
+-- Each list of octets is a capture or has a first flaw, and records take the number of octets that `size_of` gives.
 use Rattle.std.proofs.Common.{◌≡◌, ℕ, zero, suc, ◌+◌, ◌≤◌, ◌⊎◌, List, [], ◌∷◌, length, drop, Some, Ok, Err, refl, ap, ◌∙◌, subst, arith, inl, inr}
 use Rattle.std.proofs.lemmas.Bool.{cases_lt}
 use Rattle.std.proofs.lemmas.Bool.Decides.{eqb_tells}
@@ -14,12 +14,12 @@ use Rattle.pcap_file.specs.Laws.{EachFileEnds}
 use Rattle.pcap_file.proofs.Fronts.{front_short, front_sized, sized_long, sized_many, sized_cut, sized_record}
 use Rattle.pcap_file.proofs.Unique.{front_of_nothing}
 
--- a flaw stands at the front
+-- the octets begin with a flaw
 record HasFlawHere (order : Order) (count : ℕ) (x : List ℕ) : Type 0 where
   flaw : Flaw
   flawed : front_of order count x ≡ Err flaw
 
--- a record stands at the front, and takes as many octets as it has and 16 more
+-- the octets begin with a record, which takes its captured octets and 16 more
 record HasRecordHere (order : Order) (count : ℕ) (x : List ℕ) : Type 0 where
   packet : Packet
   rest : List ℕ
@@ -44,7 +44,7 @@ sized_cases order count x size e =
       ]
     ]
 
--- nothing is left, or a flaw or a record stands at the front
+-- nothing is left, or the octets begin with a flaw or a record
 front_cases : (order : Order) (count : ℕ) (x : List ℕ) → (x ≡ []) ⊎ (HasFlawHere order count x ⊎ HasRecordHere order count x)
 front_cases order count x =
     elim (cases_lt 0 (length x)) [
@@ -55,7 +55,7 @@ front_cases order count x =
       ]
     ]
 
--- a record takes as many octets as it has and 16 more
+-- a record takes its captured octets and 16 more
 front_size : (order : Order) (count : ℕ) (x : List ℕ) (packet : Packet) (rest : List ℕ) → front_of order count x ≡ Ok (Some (packet, rest)) → length x ≡ 16 + length packet.octets + length rest
 front_size order count x packet rest is =
     elim (front_cases order count x) [
@@ -71,13 +71,13 @@ front_size order count x packet rest is =
           omega (arith, here.size)
     ]
 
--- what was read and what is left are all octets
+-- all octets are those that were read and those that are left
 pub size_taken : (order : Order) (all : List ℕ) (packets : List Packet) (rest : List ℕ) → ReadsTo order all packets rest → length all ≡ size_of packets + length rest
 size_taken order all [] rest reads = ap length reads ∙ omega arith
 size_taken order all (packet ∷ older) rest reads =
     omega (arith, size_taken order all older reads.0 reads.1, front_size order (length older) reads.0 packet rest reads.2)
 
--- behind these records the octets end well or badly; each further record takes some of them
+-- behind these records the octets end well or badly; each further record takes some of them, so the fuel suffices
 ends_from : (fuel : ℕ) (octets : List ℕ) (head : Head) (packets : List Packet) (rest : List ℕ) → head_of octets ≡ Ok head
     → ReadsTo head.order (drop 24 octets) packets rest → length rest ≤ fuel → EndsWell octets ⊎ EndsBadly octets
 ends_from zero octets head packets rest accepted reads enough =

@@ -1,4 +1,4 @@
--- What stands at the front of octets that came in two reads: a record's head of 16 octets, and its body.
+-- What octets of two reads begin with: a record's head of 16 octets, and its captured octets.
 use Rattle.std.proofs.Common.{◌≡◌, ◌≢◌, ℕ, ◌+◌, ◌*◌, ◌<◌, ◌≤◌, List, [], ◌++◌, length, take, drop, slice_index, Some, None, Ok, Err, sym, ap, ◌∙◌, subst, arith, append_assoc, add-zero}
 use Rattle.std.proofs.lemmas.List.{take_all, take_at, drop_at, length-append, length-take-le, get_or_append_left}
 use Rattle.std.proofs.lemmas.Bool.Decides.{nat_tests}
@@ -13,7 +13,7 @@ use Rattle.pcap_file.specs.Flaws.{cut_short, too_long, too_many}
 use Rattle.pcap_file.specs.Records.{Packet, front_of, sized_at, packet_of, captured}
 use Rattle.pcap_file.specs.Reads.{Leaves, HasFlaw, TakesAtMost, TakesPart, StopsAt}
 
--- a number that lies in the front
+-- a number in the first octets
 pub u16_at_front : (order : Order) (h y : List ℕ) (k : ℕ) → k + 2 ≤ length h → u16_at order (h ++ y) k ≡ u16_at order h k
 u16_at_front Little h y k fits =
     let low : slice_index (h ++ y) k ≡ slice_index h k = get_or_append_left h y 0 k (omega arith) in
@@ -34,11 +34,11 @@ u32_at_front Big h y k fits =
     let low = u16_at_front Big h y (k + 2) (omega arith) in
     ap (λ n. 65536 * n + u16_at Big (h ++ y) (k + 2)) high ∙ ap (λ n. 65536 * u16_at Big h k + n) low
 
--- all of a buffer that is no longer than what was read
+-- all of a buffer, if at least its length was read
 pub whole : (a b : Option (List ℕ)) (h : List ℕ) (n : ℕ) → length h ≤ n → Consumes a b (take n h) → Consumes a b h
 whole a b h n enough p = subst (Consumes a b) (take_all n h enough) p
 
--- all octets left, where the end stands behind the first n
+-- all octets left, if the end is behind the first n
 pub length_to_end : (x y h : List ℕ) (n : ℕ) → n ≤ length h → x ≡ take n h ++ y → y ≡ [] → length x ≡ n
 length_to_end x y h n fits split end =
     ap length split ∙ length-append (take n h) y ∙ ap (λ k. k + length y) (length-take-le n h fits) ∙ ap (λ l. n + length l) end ∙ add-zero n
@@ -73,7 +73,7 @@ short_stop order count a b h n some few fits p end =
       flawed (Some x) None p end = absurd p
       flawed (Some x) (Some y) p end = let size = length_to_end x y h n fits p end in front_short order count x (omega arith) (omega arith)
 
--- what a head of 16 octets says of the octets that it stands before
+-- what follows from a head of 16 octets for the octets that begin with it
 module _ (order : Order) (h : List ℕ) (size : ℕ) (sixteen : length h ≡ 16) (says : size ≡ u32_at order h 8) where
   at_head : (count : ℕ) (y : List ℕ) → front_of order count (h ++ y) ≡ sized_at order count (h ++ y) size
   at_head count y =
@@ -96,7 +96,7 @@ module _ (order : Order) (h : List ℕ) (size : ℕ) (sixteen : length h ≡ 16)
     flawed (Some x) None p = absurd p
     flawed (Some x) (Some y) p = ap (front_of order count) p ∙ at_head count y ∙ sized_many order count (h ++ y) size small all
 
-  -- the head and fewer octets than it says are left
+  -- the head and fewer octets than its captured length are left
   pub cut_stop : (count : ℕ) (a b d : Option (List ℕ)) (body : List ℕ) (got : ℕ) → Consumes a b h → size ≤ 262144 → count ≢ 4294967295
       → Consumes b d (take got body) → got ≤ length body → got < size → IsAtEnd d → StopsAt order count a d cut_short
   cut_stop count a b d body got p small room q fits short end =
@@ -116,7 +116,7 @@ module _ (order : Order) (h : List ℕ) (size : ℕ) (sixteen : length h ≡ 16)
             let left = length_to_end y z body got fits q end in
             ap (front_of order count) p ∙ at_head count y ∙ sized_cut order count (h ++ y) size small room (omega (arith, length-append h y))
 
-  -- the head and the octets that it says are left
+  -- the head and octets of its captured length are left
   pub leaves_record : (count : ℕ) (a b d : Option (List ℕ)) (body : List ℕ) (packet : Packet) → Consumes a b h → size ≤ 262144 → count ≢ 4294967295
       → Consumes b d body → length body ≡ size
       → packet ≡ record { seconds = u32_at order h 0; fraction = u32_at order h 4; original = u32_at order h 12; side = None; octets = body } → Leaves order count a d packet

@@ -1,4 +1,4 @@
--- A capture has one head, one list of records and one way to end.
+-- Octets have at most one head, one list of records and one end, which is that of a capture or a first flaw.
 use Rattle.std.proofs.Common.{◌≡◌, ℕ, ◌<◌, List, [], ◌∷◌, length, drop, Some, None, Ok, Err, refl, sym, ap, ◌∙◌, subst, arith, inl, inr}
 use Rattle.std.proofs.lemmas.Bool.{cases_lt}
 use Rattle.pcap_file.specs.declared.order.Order.{Order}
@@ -9,7 +9,7 @@ use Rattle.pcap_file.specs.Records.{Packet, front_of}
 use Rattle.pcap_file.specs.Capture.{ReadsTo, FailsBehindHead, offset_of}
 use Rattle.pcap_file.specs.Laws.{CaptureIsOne, FlawIsOne, FlawExcludesEnd}
 
--- equally many records are the same ones, and leave the same
+-- two lists of equally many records are the same, and leave the same octets
 pub same_records : (order : Order) (all : List ℕ) (ps qs : List Packet) (r s : List ℕ) → ReadsTo order all ps r → ReadsTo order all qs s → length ps ≡ length qs → (ps ≡ qs) × (r ≡ s)
 same_records order all [] [] r s p q e = (refl, sym p ∙ q)
 same_records order all [] (y ∷ qs) r s p q e = absurd (omega arith)
@@ -27,11 +27,11 @@ same_records order all (x ∷ ps) (y ∷ qs) r s p q e =
     let older : ps ≡ qs = before.0 in
     (cc, ap (λ (p : Packet × List ℕ). p.1) pairs)
 
--- no record stands at the front
+-- the octets do not begin with a record
 abbrev pub HasNoRecord : Order → ℕ → List ℕ → Type 0
 HasNoRecord order count rest = (packet : Packet) (left : List ℕ) → front_of order count rest ≡ Ok (Some (packet, left)) → ⊥
 
--- behind fewer records another one stands
+-- another record follows the shorter list of records
 goes_on : (order : Order) (all : List ℕ) (ps qs : List Packet) (r s : List ℕ) → ReadsTo order all ps r → ReadsTo order all qs s → length ps < length qs → HasNoRecord order (length ps) r → ⊥
 goes_on order all ps [] r s p q h last = absurd (omega arith)
 goes_on order all ps (y ∷ qs) r s p q h last =
@@ -44,7 +44,7 @@ goes_on order all ps (y ∷ qs) r s p q h last =
           last y s cc
     ]
 
--- where no record follows, the records are the same ones, and so is what is left
+-- if no record follows either list, the lists are the same, and so are the octets left
 pub one_end : (order : Order) (all : List ℕ) (ps qs : List Packet) (r s : List ℕ) → ReadsTo order all ps r → ReadsTo order all qs s
     → HasNoRecord order (length ps) r → HasNoRecord order (length qs) s → (ps ≡ qs) × (r ≡ s)
 one_end order all ps qs r s p q last final =

@@ -1,4 +1,4 @@
--- What is written is read as that.
+-- What is written is read back.
 use Rattle.std.proofs.Common.{◌≡◌, ℕ, ◌<◌, ◌^◌, Bool, true, false, List, ◌++◌, length, Some, Ok, refl, ap, ◌∙◌, arith, append_assoc}
 use Rattle.std.proofs.lemmas.List.{length-append}
 use Rattle.std.proofs.lemmas.Nat.{from_le_bytes-to_le_bytes_4, from_be_bytes-to_be_bytes_4}
@@ -18,7 +18,7 @@ unfolding head_octets
 head_size Little nano link = refl
 head_size Big nano link = refl
 
--- a head of each form
+-- a head of each order, unit and link
 head_says : (order : Order) (nano : Bool) (link : Link) (rest : List ℕ)
     → (let x = head_octets (record { order = order; nano = nano; link = link }) ++ rest in head_by (form_of x) x) ≡ Ok (record { order = order; nano = nano; link = link })
 unfolding head_octets
@@ -36,7 +36,7 @@ head_read_back head rest =
     head_whole (head_octets head ++ rest) (omega (arith, length-append (head_octets head) rest, head_size head.order head.nano head.link))
     ∙ head_says head.order head.nano head.link rest
 
--- the numbers of a record's head stand in their places
+-- the numbers of a record's head, each at its offset
 seconds_at : (order : Order) (seconds fraction size : ℕ) → seconds < 2 ^ 32 → seconds ≡ u32_at order (record_head order seconds fraction size) 0
 unfolding record_head
 seconds_at Little seconds fraction size fits = omega (arith, from_le_bytes-to_le_bytes_4 seconds fits)

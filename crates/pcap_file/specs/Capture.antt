@@ -6,18 +6,18 @@ use Rattle.pcap_file.specs.Flaws.{Flaw}
 use Rattle.pcap_file.specs.Heads.{head_of}
 use Rattle.pcap_file.specs.Records.{Packet, front_of}
 
--- Behind these records, the newest first, this is left of all the octets after the head.
+-- All the octets after the head are these records, the newest first, and then `rest`.
 abbrev pub ReadsTo : Order → (all : List ℕ) → List Packet → (rest : List ℕ) → Type 0
 ReadsTo order all [] rest = all ≡ rest
 ReadsTo order all (packet ∷ older) rest =
     (left : List ℕ) × ReadsTo order all older left × (front_of order (length older) left ≡ Ok (Some (packet, rest)))
 
--- how many octets records take: 16 each and the captured ones
+-- the number of octets of records: 16 for each, and the captured ones
 abbrev pub size_of : List Packet → ℕ
 size_of [] = 0
 size_of (packet ∷ older) = size_of older + 16 + length packet.octets
 
--- the offset behind these records, counted from the first octet of the file
+-- the offset behind these records, in octets from the start of the file
 abbrev pub offset_of : List Packet → ℕ
 offset_of packets = 24 + size_of packets
 
@@ -26,7 +26,7 @@ pub record IsCapture (octets : List ℕ) (head : Head) (packets : List Packet) :
   pub accepted : head_of octets ≡ Ok head
   pub whole : ReadsTo head.order (drop 24 octets) packets []
 
--- The octets have a head that is accepted and some records, and behind them the first flaw, at this offset.
+-- The octets are an accepted head, some records and then, at this offset, octets whose first flaw is this one.
 pub record FailsBehindHead (octets : List ℕ) (flaw : Flaw) (offset : ℕ) : Type 0 where
   pub head : Head
   pub packets : List Packet
@@ -36,7 +36,7 @@ pub record FailsBehindHead (octets : List ℕ) (flaw : Flaw) (offset : ℕ) : Ty
   pub flawed : front_of head.order (length packets) rest ≡ Err flaw
   pub place : offset ≡ offset_of packets
 
--- This is the octets' first flaw, and its offset: 0 in the head, and otherwise that of the record that has it.
+-- The octets have this first flaw, at this offset: 0 for a flaw of the head, else the offset of the record.
 abbrev pub FailsAt : List ℕ → Flaw → (offset : ℕ) → Type 0
 FailsAt octets flaw offset = ((head_of octets ≡ Err flaw) × (offset ≡ 0)) ⊎ FailsBehindHead octets flaw offset
 
@@ -52,18 +52,18 @@ pub record EndsBadly (octets : List ℕ) : Type 0 where
   pub offset : ℕ
   pub is : FailsAt octets flaw offset
 
--- Where a source tells its octets, these records, the newest first, were taken from what it had left after the head.
+-- If a source has known octets, these records, the newest first, were taken from those after the head.
 abbrev pub Took : Order → (old new : Option (List ℕ)) → List Packet → Type 0
 Took order None new packets = Unit {0}
 Took order (Some all) None packets = ⊥
 Took order (Some all) (Some rest) packets = ReadsTo order all packets rest
 
--- Where a source tells its octets, these records are all that it had left after the head.
+-- If a source has known octets, those after the head were exactly these records.
 abbrev pub TookAll : Order → (old : Option (List ℕ)) → List Packet → Type 0
 TookAll order None packets = Unit {0}
 TookAll order (Some all) packets = ReadsTo order all packets []
 
--- Where a source tells its octets, this flaw stands behind these records.
+-- If a source has known octets, this flaw follows these records.
 abbrev pub HasFlawAfter : Order → (old : Option (List ℕ)) → List Packet → Flaw → Type 0
 HasFlawAfter order None packets flaw = Unit {0}
 HasFlawAfter order (Some all) packets flaw = (rest : List ℕ) × ReadsTo order all packets rest × (front_of order (length packets) rest ≡ Err flaw)

@@ -1,6 +1,6 @@
--- Why octets are no whole capture file (classic pcap; the bounds on length and number are this project's profile).
+-- Why octets are no capture file (classic pcap; the bounds on length and number are this project's profile).
 
--- What is found first: octets that end inside the head or a record, a magic, a version or a network that is not read,
+-- The first flaw: octets that end inside the head or a record, a magic, version or network that is not read,
 -- a captured length above 262,144, or a record after 2^32 - 1 others.
 pub data Flaw : Type 0 where
   cut_short : Flaw

@@ -7,11 +7,11 @@ use Rattle.pcap_file.specs.Heads.{head_of, head_octets}
 use Rattle.pcap_file.specs.Records.{Packet, front_of, record_octets}
 use Rattle.pcap_file.specs.Capture.{IsCapture, FailsAt, EndsWell, EndsBadly}
 
--- A written head is read as that head, in both orders and units and for both links, whatever follows.
+-- A written head is read as that head, in both orders and units and for both links, whatever octets follow.
 abbrev pub HeadIsReadBack : Type 0
 HeadIsReadBack = (head : Head) (rest : List ℕ) → head_of (head_octets head ++ rest) ≡ Ok head
 
--- A written record is read as that record, with its own length as the original one and no side, whatever follows.
+-- A written record is read as that record, with its own length as the original one and no side, whatever octets follow.
 abbrev pub RecordIsReadBack : Type 0
 RecordIsReadBack =
     (order : Order) (count seconds fraction : ℕ) (octets rest : List ℕ) → count < 4294967295 → seconds < 2 ^ 32 → fraction < 2 ^ 32 → length octets ≤ 262144
@@ -24,7 +24,7 @@ CaptureIsOne =
     (octets : List ℕ) (head other : Head) (packets others : List Packet)
     → IsCapture octets head packets → IsCapture octets other others → (head ≡ other) × (packets ≡ others)
 
--- Octets have one first flaw, at one offset.
+-- Octets have at most one first flaw, at one offset.
 abbrev pub FlawIsOne : Type 0
 FlawIsOne =
     (octets : List ℕ) (flaw other : Flaw) (offset place : ℕ)
@@ -36,6 +36,6 @@ FlawExcludesEnd =
     (octets : List ℕ) (head : Head) (packets : List Packet) (flaw : Flaw) (offset : ℕ)
     → IsCapture octets head packets → FailsAt octets flaw offset → ⊥
 
--- All octets are a capture or have a first flaw.
+-- Any octets are a capture or have a first flaw.
 abbrev pub EachFileEnds : Type 0
 EachFileEnds = (octets : List ℕ) → EndsWell octets ⊎ EndsBadly octets

@@ -1,8 +1,8 @@
--- Where a reader stands in a capture file (this project's profile).
+-- The position of a reader in a capture file (this project's profile).
 use Rattle.std.specs.Prelude.{ℕ, Bool}
 use Rattle.pcap_file.specs.declared.head.Head.{Head}
 
--- The head, the offset of the next record and of the one asked for last, how many records were given, and whether the reader may be asked for more.
+-- The head, the offsets of the next record and of the one asked for last, the number of records returned, and whether `next` may be called.
 pub record Reading : Type 0 where
   pub head : Head
   pub place : ℕ

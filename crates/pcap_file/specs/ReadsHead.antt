@@ -1,4 +1,4 @@
--- What reading the head does to the octets that a source tells. None says that it tells nothing; then nothing is claimed of them.
+-- What reading the head does to the known octets of a source. None means that it has no known octets; then nothing is claimed of them.
 use Rattle.std.specs.Prelude.{◌≡◌, ℕ, List, drop, Option, Some, None, Result, Ok, Err}
 use Rattle.edge_io.specs.Octets.{TakesFewer}
 use Rattle.pcap_file.specs.declared.head.Head.{Head}
@@ -7,13 +7,13 @@ use Rattle.pcap_file.specs.declared.head.HeadFault.TheVariants as faults
 use Rattle.pcap_file.specs.Flaws.{Flaw, cut_short, bad_magic, bad_version, bad_link}
 use Rattle.pcap_file.specs.Heads.{head_of}
 
--- the octets left begin with this head, or with this flaw, and the first 24 of them were taken, or all where they are fewer
+-- the octets left begin with this head or have this flaw, and the first 24 of them were taken, or all if they are fewer
 abbrev pub Begins : Option (List ℕ) → Option (List ℕ) → Result Head Flaw → Type 0
 Begins None new verdict = Unit {0}
 Begins (Some xs) None verdict = ⊥
 Begins (Some xs) (Some ys) verdict = (head_of xs ≡ verdict) × (ys ≡ drop 24 xs)
 
--- The head was read, or this is its flaw; a fault of reading takes fewer than 24 octets.
+-- The head was read, or this is its flaw; if the source fails, fewer than 24 octets were taken.
 abbrev pub ReadsHead : Option (List ℕ) → Option (List ℕ) → Result Head HeadFault → Type 0
 ReadsHead old new (Ok head) = Begins old new (Ok head)
 ReadsHead old new (Err faults.Cut) = Begins old new (Err cut_short)
@@ -22,7 +22,7 @@ ReadsHead old new (Err faults.Version) = Begins old new (Err bad_version)
 ReadsHead old new (Err faults.Link) = Begins old new (Err bad_link)
 ReadsHead old new (Err faults.ReadFault) = TakesFewer old new 24
 
--- Unless the source itself failed, its count of faults is as it was.
+-- The count of faults is unchanged unless the source fails.
 abbrev pub KeepsCount : Result Head HeadFault → (before now : ℕ) → Type 0
 KeepsCount (Ok head) before now = now ≡ before
 KeepsCount (Err faults.Cut) before now = now ≡ before
@@ -31,7 +31,7 @@ KeepsCount (Err faults.Version) before now = now ≡ before
 KeepsCount (Err faults.Link) before now = now ≡ before
 KeepsCount (Err faults.ReadFault) before now = Unit {0}
 
--- what the 24 octets of a head say by themselves; a fault of reading comes before this
+-- the result of parsing the 24 octets of a head; a failure of the source is no such result
 abbrev pub Judges : List ℕ → Result Head HeadFault → Type 0
 Judges octets (Ok head) = head_of octets ≡ Ok head
 Judges octets (Err faults.Cut) = head_of octets ≡ Err cut_short

@@ -9,16 +9,16 @@ use edge_io::{Failed, Source, read_full};
 use thiserror::Error;
 use wire_base::Link;
 
-/// How a capture file is written: the byte order, the unit of the fraction of a second, and what a frame begins with.
+/// The format of a capture file: its byte order, the unit of the fraction of a second, and the link of its frames.
 #[derive(Clone, Copy, Debug, PartialEq, Eq)]
 pub struct Head {
     pub order: Order,
-    /// Whether a fraction counts nanoseconds; otherwise it counts microseconds.
+    /// Whether fractions count nanoseconds; otherwise they count microseconds.
     pub nano: bool,
     pub link: Link,
 }
 
-/// Why no head was read, in the order of testing.
+/// The reason why no head was read. The variants are in the order of testing.
 #[derive(Clone, Copy, Debug, PartialEq, Eq, Error)]
 pub enum HeadFault {
     #[error("fewer than 24 octets")]
@@ -52,7 +52,7 @@ pub(crate) const ETHERNET: u32 = 1;
 
 pub(crate) const RAW: u32 = 101;
 
-// Whether a magic means nanoseconds, or that it means nothing.
+// Returns whether a magic means nanoseconds; None if it is no magic.
 fn unit_of(magic: u32) -> Option<bool>
     ensures { result ≡ heads.unit_of magic }
 {
@@ -63,7 +63,7 @@ fn unit_of(magic: u32) -> Option<bool>
     }
 }
 
-// The link of a network number.
+// Returns the link of a network number.
 fn link_of(network: u32) -> Option<Link>
     ensures { result ≡ heads.link_of network }
 {
@@ -74,7 +74,7 @@ fn link_of(network: u32) -> Option<Link>
     }
 }
 
-// The order and the unit that a stored magic tells.
+// Returns the byte order and the unit of the stored magic. The unit is true for nanoseconds.
 fn form_of(octets: &[u8]) -> Option<(Order, bool)>
     requires { length octets.now ≡ 24 }
     ensures { result ≡ heads.form_of octets.now }
@@ -86,7 +86,7 @@ fn form_of(octets: &[u8]) -> Option<(Order, bool)>
     Some((Order::Big, nano))
 }
 
-// The head that these 24 octets are.
+// Parses the 24 octets of a head.
 #[tactic(auto, unfolding(crate::specs::Heads::head_of))]
 fn judge(octets: &[u8]) -> Result<Head, HeadFault>
     requires { length octets.now ≡ 24 }
@@ -104,7 +104,7 @@ fn judge(octets: &[u8]) -> Result<Head, HeadFault>
     Ok(Head { order, nano, link })
 }
 
-/// Reads the head. Zone, accuracy and snap length are not looked at.
+/// Reads the head. Zone, accuracy and snap length are ignored.
 pub fn read_head<S: Source>(source: &mut S) -> Result<Head, HeadFault>
     ensures octets { ReadsHead (S.left source.old) (S.left source.new) result }
     ensures later { S.fault_count source.old ≤ S.fault_count source.new }

@@ -1,10 +1,10 @@
-//! The byte order of a capture file, and its numbers.
+//! The byte order of a capture file, and numbers in that order.
 ghost use Rattle.std.specs.Prelude.{◌≡◌, ◌+◌, ◌≤◌, length};
 ghost use Rattle.pcap_file.specs.Numbers as numbers;
 
 use byteorder::{BigEndian, ByteOrder, LittleEndian};
 
-/// The order of the octets of each number in a file: the lowest first, or the highest.
+/// The byte order of each number in a file: least significant octet first, or most significant.
 #[derive(Clone, Copy, Debug, PartialEq, Eq)]
 pub enum Order {
     Little,
@@ -12,7 +12,7 @@ pub enum Order {
 }
 
 impl Order {
-    /// The number of two octets that begins at this place.
+    /// Returns the 16-bit number at offset `at`.
     pub(crate) fn u16_at(self, bytes: &[u8], at: usize) -> u16
         requires { at + 2 ≤ length bytes.now }
         ensures { result ≡ numbers.u16_at self bytes.now at }
@@ -23,7 +23,7 @@ impl Order {
         }
     }
 
-    /// The number of four octets that begins at this place.
+    /// Returns the 32-bit number at offset `at`.
     pub(crate) fn u32_at(self, bytes: &[u8], at: usize) -> u32
         requires { at + 4 ≤ length bytes.now }
         ensures { result ≡ numbers.u32_at self bytes.now at }
@@ -34,7 +34,7 @@ impl Order {
         }
     }
 
-    /// The two octets of a number.
+    /// Returns the two octets of a number.
     pub(crate) fn u16_octets(self, number: u16) -> [u8; 2]
         ensures { result ≡ numbers.u16_octets self number }
     {
@@ -44,11 +44,11 @@ impl Order {
         }
     }
 
-    /// The four octets of a number.
+    /// Returns the four octets of a number.
     pub(crate) fn u32_octets(self, number: u32) -> [u8; 4]
         ensures { result ≡ numbers.u32_octets self number }
     {
-        // A choice between numbers and not between arrays, so that the octets are one store.
+        // The match chooses between numbers and not between arrays, so that the octets are one store.
         let stored = match self {
             Order::Little => number,
             Order::Big => number.swap_bytes(),

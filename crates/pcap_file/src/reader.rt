@@ -11,7 +11,7 @@ use thiserror::Error;
 /// The largest captured length that is read, in octets.
 pub const MAX_CAPTURED: u32 = 262144;
 
-/// Why no record was read, in the order of testing.
+/// The reason why no record was read. The variants are in the order of testing.
 #[derive(Clone, Copy, Debug, PartialEq, Eq, Error)]
 pub enum RecordFault {
     #[error("the octets end inside the record")]
@@ -35,7 +35,7 @@ impl From<Failed> for RecordFault {
     }
 }
 
-/// Where reading stands in a capture file.
+/// The position of a reader in a capture file.
 #[derive(Debug, Drop)]
 pub struct Reader {
     head: Head,
@@ -57,7 +57,7 @@ impl Model for Reader {
 }
 
 impl Reader {
-    /// A reader behind the head.
+    /// Returns a reader that has read the head.
     pub fn new(head: Head) -> Reader
         ensures { result ≡ record { head = head; place = 24; asked = 24; given = 0; is_open = true } }
     {
@@ -70,21 +70,21 @@ impl Reader {
         }
     }
 
-    /// Whether the next record may be asked for.
+    /// Returns whether `next` may be called.
     pub fn is_open(&self) -> bool
         ensures { result ≡ self.now.is_open }
     {
         self.going
     }
 
-    /// The place of the record that was asked for last, in octets from the first of the file.
+    /// Returns the offset of the record that the last call of `next` asked for, in octets from the start of the file.
     pub fn offset(&self) -> u64
         ensures { result ≡ self.now.asked }
     {
         self.asked
     }
 
-    /// The next record, its octets in the buffer.
+    /// Reads the next record, with its octets in the buffer. Returns None at the end of the file.
     pub fn next<'a, S: Source>(
         &mut self,
         source: &mut S,

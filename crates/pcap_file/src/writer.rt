@@ -11,7 +11,7 @@ use edge_io::{Failed, Sink};
 use thiserror::Error;
 use wire_base::Link;
 
-/// The sink failed.
+/// A failure of the sink.
 #[derive(Clone, Copy, Debug, PartialEq, Eq, Error)]
 #[error("the sink failed")]
 pub struct WriteFault;
@@ -22,7 +22,7 @@ impl From<Failed> for WriteFault {
     }
 }
 
-// The 24 octets of a head.
+// Returns the 24 octets of a head.
 #[tactic(auto, unfolding(crate::specs::Heads::head_octets))]
 fn head_octets(head: &Head) -> [u8; 24]
     ensures { result ≡ heads.head_octets head.now }
@@ -42,7 +42,7 @@ fn head_octets(head: &Head) -> [u8; 24]
     ]
 }
 
-// The 16 octets of a record's head.
+// Returns the 16 octets of a record's head.
 #[tactic(auto, unfolding(crate::specs::Records::record_head))]
 fn record_head(order: Order, seconds: u32, fraction: u32, size: u32) -> [u8; 16]
     ensures { result ≡ records.record_head order seconds fraction size }
@@ -50,7 +50,7 @@ fn record_head(order: Order, seconds: u32, fraction: u32, size: u32) -> [u8; 16]
     let s = order.u32_octets(seconds);
     let f = order.u32_octets(fraction);
     let n = order.u32_octets(size);
-    // Four octets at a time: each is one store.
+    // It copies four octets at a time: each copy is one store.
     let mut head = [0; 16];
     head[..4].copy_from_slice(&s);
     head[4..8].copy_from_slice(&f);
@@ -68,7 +68,7 @@ pub fn write_head<K: Sink>(sink: &mut K, head: &Head) -> Result<(), WriteFault>
     Ok(())
 }
 
-/// Writes a record of these octets; both its lengths are theirs.
+/// Writes a record of these octets. Its captured and its original length are their number.
 pub fn write_record<K: Sink>(
     sink: &mut K,
     head: &Head,

@@ -5,7 +5,7 @@ use Rattle.std.proofs.lemmas.Bool.Decides.{nat_tests}
 use Rattle.std.proofs.lemmas.List.{drop_all}
 use Rattle.std.specs.List.{after_first, before_first, position_or_len}
 
--- none of the octets is this one
+-- whether none of the octets is this one
 abbrev pub has_no : ℕ → List ℕ → Bool
 has_no octet [] = true
 has_no octet (x ∷ xs) = not (nat_eq x octet) && has_no octet xs
@@ -25,7 +25,7 @@ place_past octet (x ∷ text) none = grind (arith, nat_tests, place_past octet t
 drop_past : (text : List ℕ) → drop (length text + 1) text ≡ []
 drop_past text = drop_all (length text + 1) text (omega arith)
 
--- where the octet stands behind the front
+-- the front, if the octet follows it and is not in it
 pub before_in : (octet : ℕ) (text front behind : List ℕ) → has_no octet front ≡ true → text ≡ front ++ octet ∷ behind → before_first (λ x. nat_eq x octet) text ≡ front
 before_in octet text front behind none is =
     ap (before_first (λ x. nat_eq x octet)) is ∙ ap (λ k. take k (front ++ octet ∷ behind)) (place_in octet front behind none) ∙ take-append_seam front (octet ∷ behind)
@@ -34,7 +34,7 @@ pub after_in : (octet : ℕ) (text front behind : List ℕ) → has_no octet fro
 after_in octet text front behind none is =
     ap (after_first (λ x. nat_eq x octet)) is ∙ ap (λ k. drop (k + 1) (front ++ octet ∷ behind)) (place_in octet front behind none) ∙ drop-append-add front (octet ∷ behind) 1
 
--- where it does not stand
+-- all of the text, if the octet is not in it
 pub before_past : (octet : ℕ) (text : List ℕ) → has_no octet text ≡ true → before_first (λ x. nat_eq x octet) text ≡ text
 before_past octet text none = ap (λ k. take k text) (place_past octet text none) ∙ take-length text
 

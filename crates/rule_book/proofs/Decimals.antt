@@ -5,7 +5,7 @@ use Rattle.std.proofs.lemmas.Fmt.{decimal_digit, decimal_step}
 use Rattle.rule_book.specs.Lines.{two_digits, four_digits, eight_digits}
 use Rattle.rule_book.specs.declared.digits.TheConstants.{PAIRS}
 
--- the table of the first so many numbers
+-- whether the table has the digits of all numbers below `n`
 abbrev are_pairs : ℕ → Bool
 are_pairs zero = true
 are_pairs (suc n) = (eqb (get_or PAIRS (n * 2) 0) (48 + n / 10) && eqb (get_or PAIRS (n * 2 + 1) 0) (48 + n % 10)) && are_pairs n
@@ -33,7 +33,7 @@ PAIRS_at n less = below 100 n tt less
 pub decimal_two : (n : ℕ) → 10 ≤ n → n < 100 → decimal n ≡ two_digits n
 decimal_two n lo hi = rw (decimal_step n lo (omega arith), decimal_digit (n / 10) (omega arith)) refl
 
--- the digits of a number are those of a hundredth of it, and two more
+-- the digits of a number are those of its quotient by 100, and two more
 pub decimal_by_two : (n : ℕ) → 100 ≤ n → n < 2 ^ 64 → decimal n ≡ decimal (n / 100) ++ two_digits (n % 100)
 decimal_by_two n lo hi =
     let a : n / 10 / 10 ≡ n / 100 = omega arith in
@@ -41,7 +41,7 @@ decimal_by_two n lo hi =
     let c : n % 10 ≡ n % 100 % 10 = omega arith in
     rw (decimal_step n (omega arith) hi, decimal_step (n / 10) (omega arith) (omega arith), append_assoc, a, b, ← c) refl
 
--- of a ten-thousandth, and four more
+-- the digits of a number are those of its quotient by 10,000, and four more
 pub decimal_by_four : (n : ℕ) → 10000 ≤ n → n < 2 ^ 64 → decimal n ≡ decimal (n / 10000) ++ four_digits (n % 10000)
 decimal_by_four n lo hi =
     let a : n / 100 / 100 ≡ n / 10000 = omega arith in
@@ -49,7 +49,7 @@ decimal_by_four n lo hi =
     let c : n % 10000 % 100 ≡ n % 100 = omega arith in
     rw (decimal_by_two n (omega arith) hi, decimal_by_two (n / 100) (omega arith) (omega arith), append_assoc, a, b, c) refl
 
--- of a hundred-millionth, and eight more
+-- the digits of a number are those of its quotient by 100,000,000, and eight more
 pub decimal_by_eight : (n : ℕ) → 100000000 ≤ n → n < 2 ^ 64 → decimal n ≡ decimal (n / 100000000) ++ eight_digits (n % 100000000)
 decimal_by_eight n lo hi =
     let a : n / 10000 / 10000 ≡ n / 100000000 = omega arith in

@@ -1,4 +1,4 @@
--- The word of an era that ended, cut at its colons.
+-- The word of an ended era, cut at its colons.
 use Rattle.std.proofs.Common.{◌≡◌, ℕ, ◌^◌, ◌<◌, nat_eq, List, [], ◌++◌, Option, Some, None, IfSome, decimal, ap, ◌∙◌, arith, append-nil}
 use Rattle.std.specs.List.{after_first, before_first}
 use Rattle.rule_book.proofs.Cuts.{after_in, after_past, before_in, before_past}
@@ -20,7 +20,7 @@ octets_behind text reason None is =
     ap (after_first (λ x. nat_eq x 58)) (is ∙ append-nil (reason_word reason)) ∙ after_past 58 (reason_word reason) (reason-no_colon reason)
 octets_behind text reason (Some octets) is = after_in 58 text (reason_word reason) (decimal octets) (reason-no_colon reason) is
 
--- its three parts
+-- the three parts of the word
 pub parts_at : (ended : Ended) → EndedFits ended → (word era behind reason octets : List ℕ) → word ≡ ended_word ended
     → era ≡ before_first (λ x. nat_eq x 58) word → behind ≡ after_first (λ x. nat_eq x 58) word
     → reason ≡ before_first (λ x. nat_eq x 58) behind → octets ≡ after_first (λ x. nat_eq x 58) behind
@@ -35,7 +35,7 @@ parts_at ended fits word era behind reason octets is e0 e1 r0 r1 =
       octets_is = r1 ∙ octets_behind behind ended.reason ended.octets behind_is;
     }
 
--- the octets that are read of the third part
+-- the octets that are parsed from the third part
 pub octets_found : (word : List ℕ) (result : Option (Option ℕ)) (octets : Option ℕ) → IfSome octets (λ n. n < 2 ^ 64) → word ≡ octets_word octets
     → (word ≡ [] → result ≡ Some None) → ((n : ℕ) → n < 2 ^ 64 → word ≡ decimal n → result ≡ Some (Some n)) → result ≡ Some octets
 octets_found word result None fits is none some = none is

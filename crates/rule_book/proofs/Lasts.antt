@@ -19,7 +19,7 @@ regroup a b c t = simp (append_assoc, append-nil)
 three : (a b c : List ℕ) → ((a ++ part b) ++ part c) ++ 10 ∷ [] ≡ joined (a ∷ b ∷ c ∷ []) ++ 10 ∷ []
 three a b c = regroup a (part b) (part c) (10 ∷ [])
 
--- cut at spaces they come apart
+-- cut at spaces the line gives these three words
 pub record AreThree (a b c word first second : List ℕ) : Type 0 where
   pub word_is : word ≡ a
   pub first_is : first ≡ b

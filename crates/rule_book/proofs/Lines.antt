@@ -1,4 +1,4 @@
--- Octets as lines.
+-- The lines of octets.
 use Rattle.std.proofs.Common.{◌≡◌, ℕ, suc, ◌+◌, ◌<◌, Bool, true, false, cond, not, nat_eq, min, List, [], ◌∷◌, ◌++◌, length, take, drop, refl, sym, ap, ◌∙◌, arith}
 use Rattle.std.proofs.lemmas.Bool.Decides.{nat_tests}
 use Rattle.std.proofs.lemmas.List.{drop_min, take_min}
@@ -6,7 +6,7 @@ use Rattle.std.specs.List.{AllByRecursion, concat, onto_first, position_or_len}
 use Rattle.rule_book.proofs.Cuts.{has_no}
 use Rattle.rule_book.specs.Reports.{lines}
 
--- the line feed, or the octet before the lines of what follows
+-- the lines of an octet and what follows: the octet ends a line if it is a line feed, else it begins the first line
 abbrev pub after_octet : Bool → ℕ → List ℕ → List (List ℕ)
 after_octet feed octet octets = cond feed ((octet ∷ []) ∷ lines octets) (onto_first octet (lines octets))
 
@@ -18,12 +18,12 @@ concat-after_octet : (feed : Bool) (octet : ℕ) (octets : List ℕ) → concat 
 concat-after_octet true octet octets rest = ap (λ l. octet ∷ l) rest
 concat-after_octet false octet octets rest = concat-onto_first octet (lines octets) ∙ ap (λ l. octet ∷ l) rest
 
--- the lines give the octets back
+-- the concatenation of the lines is the octets
 pub concat-lines : (octets : List ℕ) → concat (lines octets) ≡ octets
 concat-lines [] = refl
 concat-lines (octet ∷ octets) = concat-after_octet (nat_eq octet 10) octet octets (concat-lines octets)
 
--- octets up to a line feed, and what follows it
+-- octets that end with their only line feed
 pub record IsLine (line : List ℕ) : Type 0 where
   pub body : List ℕ
   pub no_feed : has_no 10 body ≡ true
@@ -51,7 +51,7 @@ cut_at false x xs place later =
     let next : suc (place + 1) ≡ (1 + place) + 1 = omega arith in
     later ∙ ap (λ k. take k (x ∷ xs) ∷ lines (drop k (x ∷ xs))) next
 
--- where the first line feed stands, or the length
+-- the index of the first line feed, or the length
 abbrev pub feed_place : List ℕ → ℕ
 feed_place octets = position_or_len (λ octet. nat_eq octet 10) octets
 
@@ -65,7 +65,7 @@ lines_front (x ∷ xs) front back some f b =
     let text = x ∷ xs in
     lines_cut x xs ∙ (λ i. sym (f ∙ take_min (feed_place text + 1) text) i ∷ lines (sym (b ∙ drop_min (feed_place text + 1) text) i))
 
--- where octets are left, there is a line
+-- the first line of octets, and the lines behind it
 pub record HasLine (octets : List ℕ) : Type 0 where
   pub text : List ℕ
   pub others : List (List ℕ)

@@ -19,7 +19,7 @@ joined_before text word [] solid is =
     ap (before_first (λ x. nat_eq x 32)) whole ∙ before_past 32 word (solid-has_no 32 word refl solid)
 joined_before text word (next ∷ words) solid is = before_in 32 text word (joined (next ∷ words)) (solid-has_no 32 word refl solid) is
 
--- and those behind it
+-- the joined words behind the first
 pub joined_after : (text word : List ℕ) (words : List (List ℕ)) → is_solid word ≡ true → text ≡ joined (word ∷ words) → after_first (λ x. nat_eq x 32) text ≡ joined words
 joined_after text word [] solid is =
     let whole : text ≡ word = is ∙ append-nil word in
@@ -35,7 +35,7 @@ mark_some (belongs era) = omega arith
 mark_some (began era) = omega arith
 mark_some (over ended) = omega arith
 
--- rules and ended eras only grow
+-- marks never remove rules or ended eras
 rules_grow : (entry : PlainEntry) (marks : List Mark) → length entry.rules ≤ length (with_marks entry marks).rules
 rules_grow entry [] = omega arith
 rules_grow entry (named rule ∷ marks) = omega (arith, rules_grow (with_mark entry (named rule)) marks, length-append entry.rules (rule ∷ []))
@@ -56,7 +56,7 @@ has_room entry (belongs era) marks rules_fit ended_fit = tt
 has_room entry (began era) marks rules_fit ended_fit = tt
 has_room entry (over ended) marks rules_fit ended_fit = omega (arith, ended_grow (with_mark entry (over ended)) marks, length-append entry.ended (ended ∷ []))
 
--- the next word is a mark's, and the others are still to come
+-- the next word is that of a mark, and the words behind it are the other marks
 pub record IsNext (entry : PlainEntry) (rest : List ℕ) (whole : PlainEntry) : Type 0 where
   pub mark : Mark
   pub fits : MarkFits mark
@@ -88,7 +88,7 @@ awaits_done entry rest whole a none = done_of entry rest whole a.marks a.text a.
 pub awaits_at : {entry other : PlainEntry} {rest text : List ℕ} {whole : PlainEntry} → other ≡ entry → text ≡ rest → Awaits entry rest whole → Awaits other text whole
 awaits_at same_entry same_text a = record { marks = a.marks; fit = a.fit; text = same_text ∙ a.text; gives = ap (λ e. with_marks e a.marks) same_entry ∙ a.gives }
 
--- what `is_empty` tells
+-- a length is above 0 if `is_empty` is false
 pub is_full : (n : ℕ) (empty : Bool) → empty ≡ nat_eq n 0 → empty ≡ false → 0 < n
 is_full n empty is test = grind (arith, nat_tests)
 

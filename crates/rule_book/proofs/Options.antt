@@ -1,4 +1,4 @@
--- What an option is.
+-- Facts about the values of options.
 use Rattle.std.proofs.lemmas.Bool.{false≢true}
 use Rattle.std.proofs.Common.{◌≡◌, Option, Some, None, IsSome, subst}
 

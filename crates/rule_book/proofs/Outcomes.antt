@@ -1,4 +1,4 @@
--- Lines are those of one report, or have one first fault.
+-- Lines are those of one report, or have exactly one first fault.
 use Rattle.std.proofs.Common.{◌≡◌, ◌≢◌, ℕ, suc, ◌+◌, ◌⊎◌, inl, inr, List, [], ◌∷◌, ◌++◌, length, get_or, drop, map, Result, Ok, Err, IfOk, MatchResult, refl, sym, ap, ◌∙◌, subst, arith}
 use Rattle.std.specs.List.{AllByRecursion, range_with_len}
 use Rattle.rule_book.proofs.Unique.{entry_no_last, entry_one, last_one}
@@ -12,14 +12,14 @@ use Rattle.rule_book.specs.declared.fault.LineFault.{LineFault}
 use Rattle.rule_book.specs.declared.fault.LineFault.TheVariants.{First, Shape, Number, NoMemory}
 use Rattle.rule_book.specs.declared.last.Last.{Last}
 
--- two lists begin alike
+-- equal lists have the same first line
 heads : {x y : List ℕ} {xs ys : List (List ℕ)} → x ∷ xs ≡ y ∷ ys → x ≡ y
 heads same = ap (λ (l : List (List ℕ)). get_or l 0 []) same
 
 tails : {x y : List ℕ} {xs ys : List (List ℕ)} → x ∷ xs ≡ y ∷ ys → xs ≡ ys
 tails same = ap (λ (l : List (List ℕ)). drop 1 l) same
 
--- the lines do not go on with the entry of this number
+-- the next line is not that of the entry of this number
 abbrev Stops : (version number : ℕ) → List (List ℕ) → Type 0
 Stops version number others = (entry : PlainEntry) → IsEntryOf version entry → entry.number ≡ number → (rest : List (List ℕ)) → others ≢ entry_text entry ∷ rest
 
@@ -35,7 +35,7 @@ later_numbers from e entries numbered = ap (λ (l : List ℕ). drop 1 l) numbere
 stops_later : (version from : ℕ) (e : PlainEntry) (entries : List PlainEntry) (others : List (List ℕ)) → Stops version (from + length (e ∷ entries)) others → Stops version ((from + 1) + length entries) others
 stops_later version from e entries others stops = let same : from + suc (length entries) ≡ (from + 1) + length entries = omega arith in subst (λ n. Stops version n others) same stops
 
--- as far as lines are those of numbered entries, these are the same
+-- two lists of numbered entries that the same lines begin with are the same, if no further entry follows either
 same_entries : (version from : ℕ) (es fs : List PlainEntry) (others more : List (List ℕ)) → AllByRecursion (IsEntryOf version) es → AllByRecursion (IsEntryOf version) fs → NumberedFrom from es → NumberedFrom from fs
     → Stops version (from + length es) others → Stops version (from + length fs) more → map entry_text es ++ others ≡ map entry_text fs ++ more → (es ≡ fs) × (others ≡ more)
 same_entries version from [] [] others more ef ff en fn eo fo same = (refl, same)
@@ -46,12 +46,12 @@ same_entries version from (e ∷ es) (f ∷ fs) others more ef ff en fn eo fo sa
     let later = same_entries version (from + 1) es fs others more ef.1 ff.1 (later_numbers from e es en) (later_numbers from f fs fn) (stops_later version from e es others eo) (stops_later version from f fs more fo) (tails same) in
     ((λ i. head i ∷ later.0 i), later.1)
 
--- what a last line gives, by what stands behind it
+-- the result after a last line: the report, or a fault if a line follows
 abbrev after_last : (version : ℕ) → List PlainEntry → Last → List (List ℕ) → Result PlainReport LineFault
 after_last version entries last [] = Ok (record { version = version; entries = entries; last = last })
 after_last version entries last (text ∷ others) = Err (Shape (length entries + 3))
 
--- what stands behind the entries, and what it gives
+-- a missing or malformed line behind the entries, and its fault
 record Amiss (version : ℕ) (entries : List PlainEntry) (others : List (List ℕ)) (outcome : Result PlainReport LineFault) : Type 0 where
   amiss : BeginsAmiss version others
   gives : outcome ≡ Err (Shape (length entries + 2))
@@ -74,7 +74,7 @@ record Ended (version : ℕ) (entries : List PlainEntry) (others : List (List �
 abbrev Ends : (version : ℕ) → List PlainEntry → List (List ℕ) → Result PlainReport LineFault → Type 0
 Ends version entries others outcome = Amiss version entries others outcome ⊎ (Misnumbered version entries others outcome ⊎ Ended version entries others outcome)
 
--- where something is amiss, neither an entry nor a last line stands
+-- a missing or malformed line is neither an entry's nor a last line
 amiss_no_entry : (version : ℕ) (others rest : List (List ℕ)) (entry : PlainEntry) → BeginsAmiss version others → IsEntryOf version entry → others ≡ entry_text entry ∷ rest → ⊥
 amiss_no_entry version [] rest entry amiss fits is = omega (arith, ap length is)
 amiss_no_entry version (text ∷ others) rest entry amiss fits is = amiss.entry entry fits (heads is)
@@ -103,7 +103,7 @@ ends_one version entries others one other (inr (inr l)) (inr (inr k)) =
     let same = sym l.is ∙ k.is in
     l.gives ∙ (λ i. after_last version entries (last_one l.last k.last l.fits k.fits (heads same) i) (tails same i)) ∙ sym k.gives
 
--- what lines behind the first of a version give: a report, or the first fault
+-- the result of lines whose first is that of this version: a report, or the first fault
 pub record GivesIn (version : ℕ) (all : List (List ℕ)) (outcome : Result PlainReport LineFault) : Type 0 where
   entries : List PlainEntry
   others : List (List ℕ)
@@ -135,7 +135,7 @@ gives_report all report is lines = (
   },
 )
 
--- the first line is right at every other fault
+-- lines with a right first line and a fault give this fault
 pub gives_fault : (all : List (List ℕ)) (version : ℕ) (others : List (List ℕ)) (fault : LineFault) → IsVersion version → all ≡ first_line version ∷ others → HasFault all fault → Gives all (Err fault)
 gives_fault all version others First known first fault = absurd (fault version known others first)
 gives_fault all version others (Shape line) known first (inl h) = (
@@ -182,7 +182,7 @@ text_one one other is same_is same =
     let all = lines octets in
     ok_one (gives_one (gives_report all one is (lines-text octets one is refl)) (gives_report all other same_is (lines-text octets other same_is same)))
 
--- of octets: what is read is what they give, unless memory was wanting
+-- the result of reading: a report if the lines are its own, the first fault, or not enough memory
 abbrev pub Tells : List (List ℕ) → Result Report LineFault → Type 0
 Tells all result = MatchResult result (λ report. IsReport (plain_report report) × (all ≡ lines_of (plain_report report))) (λ fault. (fault ≡ NoMemory) ⊎ HasFault all fault)
 

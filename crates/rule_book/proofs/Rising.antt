@@ -1,9 +1,9 @@
--- Numbers that rise along a list, by a test that computes.
+-- Numbers that rise along a list, shown by a test that computes.
 use Rattle.std.proofs.Common.{◌≡◌, ℕ, zero, suc, ◌<◌, Bool, true, ◌&&◌, nat_lt, List, [], ◌∷◌, length, slice_index, arith, add-one}
 use Rattle.std.proofs.lemmas.Bool.Decides.{nat_tests}
 use Rattle.std.specs.List.Sorted.{IsStrictlyIncreasing}
 
--- each number is above the one before it, and the first above this one
+-- each number is above the one before it, and the first is above `low`
 abbrev pub rises_from : ℕ → List ℕ → Bool
 rises_from low [] = true
 rises_from low (x ∷ xs) = nat_lt low x && rises_from x xs

@@ -1,4 +1,4 @@
--- Words have no space, and no line feed.
+-- Words have no space and no line feed.
 use Rattle.std.proofs.Common.{◌≡◌, ℕ, ◌^◌, ◌<◌, Bool, true, false, ◌&&◌, nat_lt, List, [], ◌∷◌, ◌++◌, decimal, refl, arith, rules}
 use Rattle.std.proofs.lemmas.Bool.Decides.{nat_tests}
 use Rattle.std.proofs.lemmas.Fmt.{digits_decimal}
@@ -16,7 +16,7 @@ use Rattle.rule_book.specs.declared.last.StopKind.{StopKind}
 use Rattle.rule_book.specs.declared.rule.Rule.{Rule}
 use Rattle.std.proofs.Common.{Option, Some, None, IfSome}
 
--- each octet is above the space
+-- whether each octet is above the space (32)
 abbrev pub is_solid : List ℕ → Bool
 is_solid [] = true
 is_solid (x ∷ xs) = nat_lt 32 x && is_solid xs
@@ -29,7 +29,7 @@ pub solid-append : (xs ys : List ℕ) → is_solid xs ≡ true → is_solid ys �
 solid-append [] ys front back = back
 solid-append (x ∷ xs) ys front back = grind (arith, nat_tests, solid-append xs ys)
 
--- digits
+-- digits have no space and no line feed
 digits-solid : (xs : List ℕ) → all_ascii_digits xs ≡ true → is_solid xs ≡ true
 digits-solid [] digits = refl
 digits-solid (x ∷ xs) digits = grind (arith, nat_tests, digits-solid xs)
@@ -47,7 +47,7 @@ decimal-solid n small = digits-solid (decimal n) (decimal_digits n small)
 pub decimal-no_colon : (n : ℕ) → n < 2 ^ 64 → has_no 58 (decimal n) ≡ true
 decimal-no_colon n small = digits-no_colon (decimal n) (decimal_digits n small)
 
--- names and words
+-- names and words have no space and no line feed
 pub side-solid : (side : Option Side) → is_solid (side_word side) ≡ true
 side-solid side = search rules
 

@@ -15,16 +15,16 @@ use Rattle.rule_book.specs.Words.Mark.{named, belongs, began, over}
 use Rattle.rule_book.specs.declared.entry.Ended.{Ended}
 use Rattle.rule_book.specs.declared.rule.Rule.{Rule}
 
--- what is marked of an era, where there is one
+-- the mark of an era, if there is an era
 abbrev pub era_marks : (ℕ → Mark) → Option ℕ → List Mark
 era_marks mark None = []
 era_marks mark (Some era) = mark era ∷ []
 
--- all that an entry's words behind the first four tell
+-- all marks of an entry
 abbrev pub marks_of : PlainEntry → List Mark
 marks_of entry = map named entry.rules ++ (era_marks belongs entry.era ++ (era_marks began entry.begun ++ map over entry.ended))
 
--- a word behind a space
+-- the word of a mark behind a space
 abbrev pub mark_part : Mark → List ℕ
 mark_part mark = part (mark_word mark)
 
@@ -61,7 +61,7 @@ words_of entry = decimal entry.number ∷ side_word entry.side ∷ verdict_word 
 regroup : (a b c d e f g h t : List ℕ) → (((((((a ++ b) ++ c) ++ d) ++ e) ++ f) ++ g) ++ h) ++ t ≡ (a ++ (b ++ (c ++ (d ++ (e ++ (f ++ (g ++ h))))))) ++ t
 regroup a b c d e f g h t = simp append_assoc
 
--- a line is the words of its entry, with a line feed behind them
+-- a line is the joined words of its entry and a line feed
 pub entry_text-joined : (entry : PlainEntry) → entry_text entry ≡ joined (words_of entry) ++ 10 ∷ []
 entry_text-joined entry =
     let tail = rule_parts entry.rules ++ (era_part 64 entry.era ++ (era_part 43 entry.begun ++ flat_map ended_part entry.ended)) in
@@ -69,7 +69,7 @@ entry_text-joined entry =
     regroup (decimal entry.number) (part (side_word entry.side)) (part (verdict_word entry.verdict)) (part (decimal entry.packets)) (rule_parts entry.rules) (era_part 64 entry.era) (era_part 43 entry.begun) (flat_map ended_part entry.ended) (10 ∷ [])
     ∙ ap (λ l. (decimal entry.number ++ (part (side_word entry.side) ++ (part (verdict_word entry.verdict) ++ (part (decimal entry.packets) ++ l)))) ++ 10 ∷ []) (sym parts)
 
--- solid words and spaces have no line feed
+-- joined solid words have no line feed
 pub joined-no_feed : (words : List (List ℕ)) → AllByRecursion (λ word. is_solid word ≡ true) words → has_no 10 (joined words) ≡ true
 joined-no_feed [] solid = refl
 joined-no_feed (word ∷ []) solid = has_no-append 10 word [] (solid-has_no 10 word refl solid.0) refl
@@ -112,7 +112,7 @@ pub words-solid : (entry : PlainEntry) → EntryFits entry → AllByRecursion (�
 words-solid entry fits =
     (decimal-solid entry.number (let h = fits.number in omega arith), (side-solid entry.side, (verdict-solid entry.verdict, (decimal-solid entry.packets (let h = fits.packets in omega arith), marks-solid (marks_of entry) (marks-fit entry fits)))))
 
--- the entry without marks gets them all
+-- rules are added to an entry one after another
 with_named : (entry : PlainEntry) (rules : List Rule) (marks : List Mark) → with_marks entry (map named rules ++ marks) ≡ with_marks (record entry { rules = entry.rules ++ rules }) marks
 with_named entry [] marks = ap (λ (l : List Rule). with_marks (record entry { rules = l }) marks) (sym (append-nil entry.rules))
 with_named entry (rule ∷ rules) marks =
@@ -141,7 +141,7 @@ bare-with_marks entry =
     with_named (bare entry) entry.rules (era_marks belongs entry.era ++ (era_marks began entry.begun ++ map over entry.ended))
     ∙ with_eras (record (bare entry) { rules = entry.rules }) entry.era entry.begun entry.ended refl refl refl
 
--- a line that is cut has the words of its entry
+-- the line of an entry, cut at its spaces, gives the words of the entry
 pub words_at : (entry : PlainEntry) → EntryFits entry → (line body number behind_number side behind_side verdict behind_verdict packets marks : List ℕ)
     → line ≡ entry_text entry → body ≡ before_first (λ x. nat_eq x 10) line
     → number ≡ before_first (λ x. nat_eq x 32) body → behind_number ≡ after_first (λ x. nat_eq x 32) body

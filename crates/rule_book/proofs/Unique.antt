@@ -1,4 +1,4 @@
--- A text is of one entry, of one last line, and of one report.
+-- A text is that of at most one entry, one last line and one report.
 use Rattle.std.proofs.Common.{◌≡◌, ℕ, ◌^◌, ◌<◌, true, false, nat_eq, nat_lt, List, [], ◌∷◌, length, get_or, drop, map, codes, Option, Some, None, IfSome, decimal, refl, sym, ap, ◌∙◌, arith, rules, length-append}
 use Rattle.std.proofs.lemmas.Bool.{false≢true}
 use Rattle.std.proofs.lemmas.Fmt.{decimal_injective, decimal_nonempty}
@@ -26,7 +26,7 @@ use Rattle.rule_book.specs.declared.last.StopKind.{StopKind}
 use Rattle.rule_book.specs.declared.rule.Rule.{Rule}
 use Rattle.wire_base.specs.declared.address.Side.{Side}
 
--- words differ
+-- different values have different words
 side_one : (a b : Option Side) → side_word a ≡ side_word b → a ≡ b
 side_one a b same = search rules
 
@@ -103,7 +103,7 @@ marks_one (m ∷ ms) (n ∷ ns) mf nf same =
     let words : joined (map mark_word ms) ≡ joined (map mark_word ns) = sym (joined_after text (mark_word m) (map mark_word ms) (mark-solid m mf.0) refl) ∙ joined_after text (mark_word n) (map mark_word ns) (mark-solid n nf.0) same in
     λ i. mark_one m n mf.0 nf.0 word i ∷ marks_one ms ns mf.1 nf.1 words i
 
--- the first word of a line, and what stands behind it
+-- the first word of a line
 abbrev first_word : List ℕ → List ℕ
 first_word text = before_first (λ x. nat_eq x 32) text
 
@@ -113,7 +113,7 @@ behind_word text = after_first (λ x. nat_eq x 32) text
 abbrev body_of : List ℕ → List ℕ
 body_of line = before_first (λ x. nat_eq x 10) line
 
--- the words of a line are those of its entry
+-- cut at its spaces, the body of the line gives the words of the entry
 abbrev LineHas : PlainEntry → List ℕ → Type 0
 LineHas entry body = HasWords entry (first_word body) (first_word (behind_word body)) (first_word (behind_word (behind_word body))) (first_word (behind_word (behind_word (behind_word body)))) (behind_word (behind_word (behind_word (behind_word body))))
 
@@ -143,7 +143,7 @@ entry_one e f ef ff same =
     let b3 = behind_word b2 in
     same_entry e f ef ff (first_word body) (first_word b1) (first_word b2) (first_word b3) (behind_word b3) (line_has e ef (entry_text e) refl) (line_has f ff (entry_text e) same)
 
--- the words of a line are those of a last one
+-- cut at its spaces, a last line gives its three words
 last_has : (last : Last) → LastFits last → (line : List ℕ) → line ≡ last_text last → HasLastWords last (first_word (body_of line)) (first_word (behind_word (body_of line))) (behind_word (behind_word (body_of line)))
 last_has last fits line is =
     let body = body_of line in
@@ -165,7 +165,7 @@ last_one a b af bf same =
     let body = body_of (last_text a) in
     same_last a b af bf (first_word body) (first_word (behind_word body)) (behind_word (behind_word body)) (last_has a af (last_text a) refl) (last_has b bf (last_text a) same)
 
--- a number is no word of letters
+-- a number is not a word with another octet than digits
 number_no_word : (n : ℕ) (word : List ℕ) → n < 2 ^ 32 → all_ascii_digits word ≡ false → decimal n ≡ word → ⊥
 number_no_word n word fits letters same = false≢true (sym letters ∙ ap all_ascii_digits (sym same) ∙ decimal_digits n (omega arith))
 

@@ -12,7 +12,7 @@ use Rattle.rule_book.specs.Reports.{PlainReport, EntryFits, IsEntryOf, TextsAreI
 use Rattle.rule_book.specs.Text.{entry_text, first_line, last_text, lines_text}
 use Rattle.rule_book.specs.Words.{joined}
 
--- lines of entries, the newest first
+-- the lines of two lists of entries, the newest entry first
 lines_text-append : (xs ys : List PlainEntry) → lines_text (xs ++ ys) ≡ lines_text ys ++ lines_text xs
 lines_text-append [] ys = sym (append-nil (lines_text ys))
 lines_text-append (x ∷ xs) ys = ap (λ l. l ++ entry_text x) (lines_text-append xs ys) ∙ append_assoc (lines_text ys) (lines_text xs) (entry_text x)
@@ -22,7 +22,7 @@ lines_text-reverse [] = refl
 lines_text-reverse (e ∷ entries) =
     ap lines_text (reverse-append (e ∷ []) entries) ∙ lines_text-append (reverse entries) (e ∷ []) ∙ ap (λ l. entry_text e ++ l) (lines_text-reverse entries)
 
--- a report's text is its lines, one behind the other
+-- a report's text is the concatenation of its lines
 text-concat : (report : PlainReport) → text_of report ≡ concat (lines_of report)
 text-concat report =
     let entries = map entry_text report.entries in
@@ -43,11 +43,11 @@ report-lines : (report : PlainReport) → IsReport report → AllByRecursion IsL
 report-lines report is =
     (first-line report.version is.version, all-append IsLine (map entry_text report.entries) (last_text report.last ∷ []) (entries-lines report.version report.entries is.fit) (last-line report.last is.last, tt))
 
--- what has a report's text has its lines
+-- octets that are a report's text have its lines
 pub lines-text : (octets : List ℕ) (report : PlainReport) → IsReport report → octets ≡ text_of report → lines octets ≡ lines_of report
 lines-text octets report is text = ap lines (text ∙ text-concat report) ∙ lines-concat (lines_of report) (report-lines report is)
 
--- what has a report's lines has its text
+-- octets that have a report's lines are its text
 pub text-lines : (octets : List ℕ) (report : PlainReport) → lines octets ≡ lines_of report → octets ≡ text_of report
 text-lines octets report is = sym (concat-lines octets) ∙ ap concat is ∙ sym (text-concat report)
 
@@ -55,6 +55,6 @@ concat-map : (entries : List PlainEntry) → concat (map entry_text entries) ≡
 concat-map [] = refl
 concat-map (entry ∷ entries) = ap (λ l. entry_text entry ++ l) (concat-map entries)
 
--- the lines of entries stand in their order
+-- the lines of entries are in their order
 pub text-in_order : TextsAreInOrder
 text-in_order report = λ i. (first_line report.version ++ (lines_text-reverse report.entries ∙ concat-map report.entries) i) ++ last_text report.last

@@ -1,4 +1,4 @@
--- Entries of the report as plain records of lists.
+-- Entries of the report whose collections are lists.
 use Rattle.std.specs.Prelude.{◌≡◌, ℕ, ◌==◌, List, Option}
 use Rattle.std.specs.List.{AllByRecursion}
 use Rattle.std.specs.Option.{is_some}
@@ -8,7 +8,7 @@ use Rattle.rule_book.specs.declared.entry.Verdict.{Verdict}
 use Rattle.rule_book.specs.declared.rule.Rule.{Rule}
 use Rattle.wire_base.specs.declared.address.Side.{Side}
 
--- an entry in which each collection is a list
+-- an entry whose collections are lists
 pub record PlainEntry : Type 0 where
   pub number : ℕ
   pub side : Option Side
@@ -19,6 +19,7 @@ pub record PlainEntry : Type 0 where
   pub begun : Option ℕ
   pub ended : List Ended
 
+-- the value of an entry in memory
 abbrev pub plain : Entry → PlainEntry
 plain entry =
     record {
@@ -32,10 +33,10 @@ plain entry =
       ended = entry.ended.items;
     }
 
--- an era that ended has its octets in version 2 of the report, and has none in version 1 (this project's profile)
+-- an ended era has its octets in version 2 of the report, and has none in another version (this project's profile)
 abbrev pub HasOctets : (version : ℕ) → Ended → Type 0
 HasOctets version ended = is_some ended.octets ≡ (version == 2)
 
--- each era that ended with an entry is told as the version tells it
+-- each ended era of an entry has its octets in version 2, and none has in another version
 abbrev pub IsOfVersion : (version : ℕ) → PlainEntry → Type 0
 IsOfVersion version entry = AllByRecursion (HasOctets version) entry.ended

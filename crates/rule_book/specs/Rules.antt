@@ -133,33 +133,33 @@ rule_name TQuota = codes "T_QUOTA"
 rule_name ECut = codes "E_CUT"
 rule_name EMtu = codes "E_MTU"
 
--- The rules that drop a packet stand in one list a layer, each in the order of testing.
+-- The rules that drop a packet are in one list a layer, each in the order of testing.
 
--- those on the link
+-- the drop rules on the link
 abbrev pub link_rows : List Rule
 link_rows = LSnap ∷ LShort ∷ LType ∷ []
 
--- those on the IPv4 header
+-- the drop rules on the IPv4 header
 abbrev pub header_rows : List Rule
 header_rows = IShort ∷ IVersion ∷ IHlen ∷ ILen ∷ ISum ∷ ISrc ∷ IDst ∷ ISide ∷ IOptBad ∷ IRoute ∷ []
 
--- the one on the protocol
+-- the drop rule on the protocol
 abbrev pub protocol_rows : List Rule
 protocol_rows = PProto ∷ []
 
--- those on fragments
+-- the drop rules on fragments
 abbrev pub fragment_rows : List Rule
 fragment_rows = FDf ∷ FEmpty ∷ FAlign ∷ FBig ∷ FEnd ∷ FClash ∷ FMany ∷ FRoom ∷ []
 
--- those on UDP and ICMP
+-- the drop rules on UDP and ICMP
 abbrev pub datagram_rows : List Rule
 datagram_rows = UShort ∷ ULen ∷ USum ∷ MShort ∷ MSum ∷ MType ∷ MQuote ∷ []
 
--- those on the header of a TCP segment
+-- the drop rules on the header of a TCP segment
 abbrev pub segment_rows : List Rule
 segment_rows = TShort ∷ THlen ∷ TSum ∷ TFlags ∷ TOptBad ∷ []
 
--- those on eras; on an outbound packet T_FULL is a note, and drops nothing
+-- the drop rules on eras; on an outbound packet T_FULL is a note, and drops nothing
 abbrev pub era_rows : List Rule
 era_rows = TCold ∷ TState ∷ TSyn ∷ TRst ∷ TFull ∷ TQuota ∷ TRoom ∷ []
 
@@ -167,7 +167,7 @@ era_rows = TCold ∷ TState ∷ TSyn ∷ TRst ∷ TFull ∷ TQuota ∷ TRoom ∷
 abbrev pub drop_rows : List Rule
 drop_rows = link_rows ++ header_rows ++ protocol_rows ++ fragment_rows ++ datagram_rows ++ segment_rows ++ era_rows
 
--- the rules that mend the IPv4 header of a packet, whole or a fragment
+-- the rules that rewrite the IPv4 header of a packet, a fragment or not
 abbrev pub header_fix_rows : List Rule
 header_fix_rows = ITrail ∷ IOpt ∷ IRes ∷ []
 
@@ -188,27 +188,27 @@ cut_rows = ECut ∷ EMtu ∷ []
 abbrev pub all_rules : List Rule
 all_rules = drop_rows ++ fix_rows ++ step_rows ++ cut_rows
 
--- the rule of this number, where there is one
+-- the rule of this number; None if no rule has it
 abbrev pub rule_numbered : ℕ → Option Rule
 rule_numbered number = find (λ rule. rule_number rule == number) all_rules
 
--- the rule of this name, where there is one
+-- the rule of this name; None if no rule has it
 abbrev pub rule_named : List ℕ → Option Rule
 rule_named name = find (λ rule. bytes_eq (rule_name rule) name) all_rules
 
--- each rule stands in the lists, and is found by its number
+-- each rule is in the lists, and is found by its number
 abbrev pub FoundByNumber : Type 0
 FoundByNumber = (rule : Rule) → rule_numbered (rule_number rule) ≡ Some rule
 
--- each rule stands in the lists, and is found by its name
+-- each rule is in the lists, and is found by its name
 abbrev pub FoundByName : Type 0
 FoundByName = (rule : Rule) → rule_named (rule_name rule) ≡ Some rule
 
--- no two rules have one number
+-- no two rules have the same number
 abbrev pub NumbersDiffer : Type 0
 NumbersDiffer = (one other : Rule) → rule_number one ≡ rule_number other → one ≡ other
 
--- no two rules have one name
+-- no two rules have the same name
 abbrev pub NamesDiffer : Type 0
 NamesDiffer = (one other : Rule) → rule_name one ≡ rule_name other → one ≡ other
 
@@ -216,7 +216,7 @@ NamesDiffer = (one other : Rule) → rule_name one ≡ rule_name other → one �
 abbrev pub Rises : List Rule → Type 0
 Rises rules = IsStrictlyIncreasing (map rule_number rules)
 
--- the numbers rise along the drop rows, but for T_QUOTA, which is tested between T_FULL and T_ROOM
+-- the numbers rise along the drop rules except at T_QUOTA, which is tested between T_FULL and T_ROOM
 pub record RisesButForQuota (rows : List Rule) : Type 0 where
   pub before : List Rule
   pub behind : List Rule

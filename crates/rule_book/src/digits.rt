@@ -1,16 +1,17 @@
-//! Decimal digits, written in place and two at a time. Each function answers the place behind what it wrote.
+//! Functions that write decimal digits into a buffer, two at a time. Each returns the offset behind the digits that it
+//! wrote.
 ghost use Rattle.std.specs.Prelude.{◌≡◌, ◌+◌, ◌<◌, ◌≤◌, length, decimal};
 ghost use Rattle.rule_book.specs.Lines.{Puts, two_digits, four_digits, eight_digits};
 
 use crate::puts::put_octet;
 
-// The two digits of each number below 100.
+// The two digits of each number below 100, in the order of the numbers.
 static PAIRS: [u8; 200] = *b"\
     00010203040506070809101112131415161718192021222324252627282930313233343536373839\
     40414243444546474849505152535455565758596061626364656667686970717273747576777879\
     8081828384858687888990919293949596979899";
 
-/// Writes the digits of a small number, at most 3. Most have one.
+/// Writes the digits of a number, at most 3. Most numbers of frames have one digit.
 #[inline]
 pub fn put_small_number(buf: &mut [u8], at: usize, number: u8) -> usize
     requires { at + 4 ≤ length buf.old }
@@ -40,7 +41,7 @@ pub fn put_number(buf: &mut [u8], at: usize, number: u32) -> usize
     put_eight(buf, next, number % 100_000_000)
 }
 
-/// Writes the digits of a long number, at most 20.
+/// Writes the digits of a number, at most 20.
 pub fn put_long_number(buf: &mut [u8], at: usize, number: u64) -> usize
     requires { at + 20 ≤ length buf.old }
     ensures puts { Puts buf.old buf.new at result (decimal number) }
@@ -94,20 +95,20 @@ fn put_first(buf: &mut [u8], at: usize, number: u32) -> usize
     put_two(buf, at, number)
 }
 
-// Writes two digits.
+// Writes the two digits of a number below 100.
 fn put_two(buf: &mut [u8], at: usize, number: u32) -> usize
     requires small { number < 100 }
     requires room { at + 2 ≤ length buf.old }
     ensures { Puts buf.old buf.new at result (two_digits number) }
 {
     let from = number as usize * 2;
-    // Both are read before the first is written, so that they are one load and one store.
+    // Both digits are read before the first is written, so that they are one load and one store.
     let (tens, ones) = (PAIRS[from], PAIRS[from + 1]);
     let next = put_octet(buf, at, tens);
     put_octet(buf, next, ones)
 }
 
-// Writes four digits.
+// Writes the four digits of a number below 10,000.
 fn put_four(buf: &mut [u8], at: usize, number: u32) -> usize
     requires small { number < 10000 }
     requires room { at + 4 ≤ length buf.old }
@@ -117,7 +118,7 @@ fn put_four(buf: &mut [u8], at: usize, number: u32) -> usize
     put_two(buf, next, number % 100)
 }
 
-// Writes eight digits.
+// Writes the eight digits of a number below 100,000,000.
 fn put_eight(buf: &mut [u8], at: usize, number: u32) -> usize
     requires small { number < 100000000 }
     requires room { at + 8 ≤ length buf.old }

@@ -1,4 +1,4 @@
-//! What the report says of one record, and its line.
+//! The entry of a record, and its line.
 ghost use Rattle.std.specs.Prelude.{◌≡◌, ◌+◌, ◌*◌, ◌≤◌, [], ◌∷◌, ◌++◌, length, take};
 ghost use Rattle.std.specs.List.{flat_map};
 ghost use Rattle.rule_book.specs.Entries.{IsOfVersion, plain};
@@ -12,64 +12,64 @@ use crate::line::Line;
 use arrayvec::ArrayVec;
 use wire_base::Side;
 
-/// What became of a record's packet.
+/// The verdict on a record.
 #[derive(Clone, Copy, Debug, PartialEq, Eq)]
 pub enum Verdict {
-    /// It went on as it came.
+    /// Its frame is written unchanged.
     Pass,
-    /// It went on with changes.
+    /// A rule changes what is written.
     Fix,
-    /// It is kept until the rest of its datagram comes.
+    /// It is held as a fragment until its datagram is complete.
     Hold,
-    /// It did not go on.
+    /// It is not written.
     Drop,
 }
 
-/// Why an era ended.
+/// The reason why an era ended.
 #[derive(Clone, Copy, Debug, Default, PartialEq, Eq)]
 pub enum Reason {
-    /// A reset went outwards.
+    /// A RST went outwards.
     #[default]
     Reset,
-    /// Its place was needed.
+    /// The table was full, and none of its octets waited for an acknowledgment.
     Evicted,
-    /// No packet of it was written for too long.
+    /// Nothing was written in it for longer than the idle time of the settings.
     Idle,
-    /// The same record began another era of its connection.
+    /// A new SYN began another era of its connection.
     Reopened,
 }
 
-/// An era that ended, by its number from 1.
+/// An era that ended; its number counts from 1.
 #[derive(Clone, Copy, Debug, Default, PartialEq, Eq)]
 pub struct Ended {
     pub era: u32,
     pub reason: Reason,
-    /// At how many places of its stream an octet went inwards. A report of version 1 does not tell it.
+    /// The number of offsets of its stream at which an octet was sent inwards. None in a report of version 1.
     pub octets: Option<u64>,
 }
 
-/// What the report says of one record.
+/// The entry of one record.
 #[derive(Debug, Drop)]
 pub struct Entry {
     /// The record's number, from 1.
     pub number: u32,
-    /// Which way its packet goes, where the rules came as far as to tell.
+    /// The direction of its packet. None if a rule drops the record before the direction is known.
     pub side: Option<Side>,
     pub verdict: Verdict,
-    /// How many frames were written for it.
+    /// The number of frames written for it.
     pub packets: u8,
-    /// The rules that it names, in the order of the line.
+    /// Its rules, in the order of the line.
     pub rules: ArrayVec<Rule, 16>,
-    /// The era that its packet belongs to.
+    /// The era that its packet belongs to, if it belongs to one.
     pub era: Option<u32>,
-    /// The era that it began.
+    /// The era that it began, if it began one.
     pub begun: Option<u32>,
-    /// The eras that ended with it, in the order in which they did.
+    /// The eras that ended before or with it, in the order of their ends.
     pub ended: ArrayVec<Ended, 4>,
 }
 
 impl Verdict {
-    /// The verdict of this word.
+    /// Returns the verdict of a word; None if the word is no verdict's.
     pub(crate) fn of_word(word: &[u8]) -> Option<Verdict>
         ensures { (verdict : Verdict) → word.now ≡ text.verdict_word verdict → result ≡ Some verdict }
     {
@@ -84,7 +84,7 @@ impl Verdict {
 }
 
 impl Reason {
-    /// The reason of this word.
+    /// Returns the reason of a word; None if the word is no reason's.
     pub(crate) fn of_word(word: &[u8]) -> Option<Reason>
         ensures { (reason : Reason) → word.now ≡ text.reason_word reason → result ≡ Some reason }
     {
@@ -98,8 +98,8 @@ impl Reason {
     }
 }
 
-/// Writes the line of an entry, and answers how many octets it has. It is one of version 2: each era that ended has its
-/// octets.
+/// Writes the line of an entry, with its line feed, in version 2 of the report: each ended era has its octets. Returns
+/// the length of the line in octets.
 pub fn entry_line(entry: &Entry, buf: &mut [u8]) -> usize
     requires octets { IsOfVersion 2 (plain entry.now) }
     requires room { 400 ≤ length buf.old }
@@ -109,7 +109,7 @@ pub fn entry_line(entry: &Entry, buf: &mut [u8]) -> usize
     line_of(entry, buf)
 }
 
-/// Writes the line of an entry of either version, and answers how many octets it has.
+/// Writes the line of an entry of either version, with its line feed. Returns its length in octets.
 pub(crate) fn line_of(entry: &Entry, buf: &mut [u8]) -> usize
     requires { 400 ≤ length buf.old }
     ensures text { take result buf.new ≡ text.entry_text (plain entry.now) }
@@ -125,7 +125,7 @@ pub(crate) fn line_of(entry: &Entry, buf: &mut [u8]) -> usize
     line.len()
 }
 
-/// Writes the four words that each line has.
+/// Writes the four words that every line begins with.
 fn put_front(line: &mut Line<'_>, entry: &Entry)
     requires { line.old.len + 24 ≤ length line.old.buf.now }
     ensures same_buffer { line.new.buf.ghost_name ≡ line.old.buf.ghost_name }
@@ -138,7 +138,7 @@ fn put_front(line: &mut Line<'_>, entry: &Entry)
     line.small_number(entry.packets);
 }
 
-/// Writes the word for a side between two spaces. A piece of constant size, of 1, 4 or 8 octets, is one store.
+/// Writes the word for a side between two spaces. A text of constant length, of 1, 4 or 8 octets, is one store.
 fn put_side(line: &mut Line<'_>, side: Option<Side>)
     requires { line.old.len + 5 ≤ length line.old.buf.now }
     ensures same_buffer { line.new.buf.ghost_name ≡ line.old.buf.ghost_name }
@@ -155,7 +155,7 @@ fn put_side(line: &mut Line<'_>, side: Option<Side>)
     }
 }
 
-/// Writes the word for a verdict before a space.
+/// Writes the word for a verdict and a space.
 fn put_verdict(line: &mut Line<'_>, verdict: Verdict)
     requires { line.old.len + 5 ≤ length line.old.buf.now }
     ensures same_buffer { line.new.buf.ghost_name ≡ line.old.buf.ghost_name }
@@ -171,7 +171,7 @@ fn put_verdict(line: &mut Line<'_>, verdict: Verdict)
     line.octet(b' ');
 }
 
-/// Writes the word for the reason why an era ended behind `:`.
+/// Writes `:` and the word for the reason why an era ended.
 fn put_reason(line: &mut Line<'_>, reason: Reason)
     requires { line.old.len + 9 ≤ length line.old.buf.now }
     ensures same_buffer { line.new.buf.ghost_name ≡ line.old.buf.ghost_name }
@@ -198,7 +198,7 @@ fn put_rules(line: &mut Line<'_>, rules: &[Rule])
     }
 }
 
-/// Writes the number of an era behind a mark, where there is one.
+/// Writes a mark and the number of an era, if there is an era.
 fn put_era(line: &mut Line<'_>, mark: u8, era: Option<u32>)
     requires { line.old.len + 12 ≤ length line.old.buf.now }
     ensures same_buffer { line.new.buf.ghost_name ≡ line.old.buf.ghost_name }
@@ -212,7 +212,7 @@ fn put_era(line: &mut Line<'_>, mark: u8, era: Option<u32>)
     }
 }
 
-/// Writes each era that ended.
+/// Writes the ended eras.
 fn put_ended(line: &mut Line<'_>, eras: &[Ended])
     requires { line.old.len + 42 * length eras.now ≤ length line.old.buf.now }
     ensures same_buffer { line.new.buf.ghost_name ≡ line.old.buf.ghost_name }
@@ -224,7 +224,7 @@ fn put_ended(line: &mut Line<'_>, eras: &[Ended])
     }
 }
 
-/// Writes an era that ended, with the reason and, where they are told, its octets.
+/// Writes an ended era: its number, the reason and, if it has them, its octets.
 fn put_end(line: &mut Line<'_>, ended: Ended)
     requires { line.old.len + 42 ≤ length line.old.buf.now }
     ensures same_buffer { line.new.buf.ghost_name ≡ line.old.buf.ghost_name }
@@ -238,7 +238,7 @@ fn put_end(line: &mut Line<'_>, ended: Ended)
     put_octets(line, ended.octets);
 }
 
-/// Writes the octets of an era that ended, where they are told.
+/// Writes `:` and the octets of an ended era, if it has them.
 fn put_octets(line: &mut Line<'_>, octets: Option<u64>)
     requires { line.old.len + 21 ≤ length line.old.buf.now }
     ensures same_buffer { line.new.buf.ghost_name ≡ line.old.buf.ghost_name }

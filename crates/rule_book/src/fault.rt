@@ -1,19 +1,19 @@
-//! Why octets are not the text of a report.
+//! Errors in the text of a report.
 ghost use Rattle.std.specs.Prelude.{◌≡◌};
 ghost use Rattle.rule_book.specs.declared.fault.LineFault.TheVariants.{NoMemory};
 
 use std::alloc::{AllocError, AllocFailed};
 use thiserror::Error;
 
-/// The first fault of a report that is read. Lines are counted from 1.
+/// The first error in the text of a report, or a failed allocation. Lines are counted from 1.
 #[derive(Clone, Copy, Debug, PartialEq, Eq, Error)]
 pub enum LineFault {
     #[error("the first line is neither `norm 1` nor `norm 2`")]
     First,
-    /// This line is missing, is none of the text, or stands behind the last one.
+    /// This line is missing, is malformed, or follows the `end` or `stop` line.
     #[error("line {0} is no line of a report")]
     Shape(u64),
-    /// The record number in this line is not the next.
+    /// The record number in this line is not the next one.
     #[error("line {0} has another record number than the next")]
     Number(u64),
     #[error("no memory for the report")]

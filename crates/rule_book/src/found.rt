@@ -1,5 +1,5 @@
-//! What a line tells. An entry and a last line have one text each, so a line is read leniently, and is taken only where
-//! what was found in it is written as this very line.
+//! Parsers of the lines of a report. An entry and a last line have one text each. So a line is parsed leniently, and
+//! the result is returned only if its text is exactly this line.
 ghost use Rattle.std.specs.Prelude.{◌≡◌, ◌≢◌, ◌↔◌, ℕ, ◌^◌, ◌<◌, [], decimal, Option, Some, None, IfSome, IsSome, IsSomeAnd, IsTrue, MatchOption};
 ghost use Rattle.rule_book.specs.Entries.{IsOfVersion, PlainEntry, plain};
 ghost use Rattle.rule_book.specs.Reports.{EndedFits, EntryFits, IsEntryOf, LastFits};
@@ -15,7 +15,8 @@ use crate::{Ended, Entry, Last, Reason, Rule, StopKind, Verdict, last_line};
 use arrayvec::ArrayVec;
 use wire_base::Side;
 
-/// The entry of a version whose line this is.
+/// Parses the line of an entry, with its line feed, of a report of this version. In version 2 each ended era has its
+/// octets, in any other version none has. Returns None exactly if the line is the text of no such entry.
 pub fn read_entry(line: &[u8], version: u8) -> Option<Entry>
     ensures { MatchOption result ((entry : PlainEntry) → IsEntryOf version entry → line.now ≢ entry_text entry) (λ entry. IsEntryOf version (plain entry) × (line.now ≡ entry_text (plain entry))) }
 {
@@ -29,7 +30,7 @@ pub fn read_entry(line: &[u8], version: u8) -> Option<Entry>
     }
 }
 
-/// Whether each era that ended has its octets, where the version is 2, or none has, where it is another.
+/// Returns whether each ended era has its octets (version 2) or none has (any other version).
 fn is_of_version(entry: &Entry, version: u8) -> bool
     ensures { IsTrue result ↔ IsOfVersion version (plain entry.now) }
 {
@@ -39,7 +40,8 @@ fn is_of_version(entry: &Entry, version: u8) -> bool
         .all(|ended| ended.octets.is_some() == (version == 2))
 }
 
-/// The last line of a report that this is.
+/// Parses the last line of a report, `end` or `stop`, with its line feed; it is the same in each version. Returns None
+/// exactly if the line is the text of neither.
 pub fn read_last(line: &[u8]) -> Option<Last>
     ensures { MatchOption result ((last : Last) → LastFits last → line.now ≢ last_text last) (λ last. LastFits last × (line.now ≡ last_text last)) }
 {
@@ -53,7 +55,7 @@ pub fn read_last(line: &[u8]) -> Option<Last>
     }
 }
 
-/// The entry of a line that is one's.
+/// Parses the line of an entry leniently: of a line that is no entry's it may return an entry too.
 fn found_entry(line: &[u8]) -> Option<Entry>
     ensures found { (entry : PlainEntry) → EntryFits entry → line.now ≡ entry_text entry → IsSomeAnd result (λ found. plain found ≡ entry) }
     ensures fits { IfSome result (λ found. EntryFits (plain found)) }
@@ -73,7 +75,7 @@ fn found_entry(line: &[u8]) -> Option<Entry>
     Some(entry)
 }
 
-/// The words of an entry's line: the first four, and the others as they stand.
+/// The words of an entry's line: the first four, and the others uncut.
 #[derive(Clone, Copy)]
 struct Words<'a> {
     number: &'a [u8],
@@ -83,7 +85,7 @@ struct Words<'a> {
     marks: &'a [u8],
 }
 
-/// Cuts a line into its words.
+/// Cuts the line of an entry into its words.
 fn words_of(line: &[u8]) -> Words<'_>
     ensures { (entry : PlainEntry) → EntryFits entry → line.now ≡ entry_text entry → HasWords entry result.number.now result.side.now result.verdict.now result.packets.now result.marks.now }
 {
@@ -101,7 +103,7 @@ fn words_of(line: &[u8]) -> Words<'_>
     }
 }
 
-/// The side of a word, which may be none.
+/// Returns the side of a word; the word `-` is that of no side. Returns None if the word is neither.
 fn side_of(word: &[u8]) -> Option<Option<Side>>
     ensures { (side : Option Side) → word.now ≡ side_word side → result ≡ Some side }
 {
@@ -113,7 +115,7 @@ fn side_of(word: &[u8]) -> Option<Option<Side>>
     }
 }
 
-/// Adds to an entry what further words tell.
+/// Adds to an entry what the words behind the fourth describe. Returns None if a word is malformed or does not fit.
 fn add_marks(entry: &mut Entry, words: &[u8]) -> Option<()>
     ensures adds { (whole : PlainEntry) → EntryFits whole → Awaits (plain entry.old) words.now whole → IsSome result × (plain entry.new ≡ whole) }
     ensures fits { EntryFits (plain entry.old) → EntryFits (plain entry.new) }
@@ -127,7 +129,7 @@ fn add_marks(entry: &mut Entry, words: &[u8]) -> Option<()>
     Some(())
 }
 
-/// Adds to an entry what a word tells: a rule, the entry's era, the era that it began, or one that ended.
+/// Adds to an entry what a word describes: a rule, the entry's era, the era that it began, or one that ended.
 fn add_mark(entry: &mut Entry, word: &[u8]) -> Option<()>
     ensures adds { (mark : Mark) → MarkFits mark → HasRoom (plain entry.old) mark → word.now ≡ mark_word mark → IsSome result × (plain entry.new ≡ with_mark (plain entry.old) mark) }
     ensures fits { EntryFits (plain entry.old) → EntryFits (plain entry.new) }
@@ -141,7 +143,7 @@ fn add_mark(entry: &mut Entry, word: &[u8]) -> Option<()>
     Some(())
 }
 
-/// The era that ended, why, and its octets, where a third part tells them.
+/// Parses the word of an ended era behind its mark: its number, the reason and, if there is a third part, its octets.
 fn ended_of(word: &[u8]) -> Option<Ended>
     ensures value { (ended : Ended) → EndedFits ended → word.now ≡ ended_word ended → result ≡ Some ended }
     ensures fits { IfSome result EndedFits }
@@ -154,7 +156,7 @@ fn ended_of(word: &[u8]) -> Option<Ended>
     })
 }
 
-/// Cuts the word of an era that ended into its three parts; the last is empty where it is not there.
+/// Cuts the word of an ended era into its three parts; the third is empty if it is not there.
 fn parts_of(word: &[u8]) -> (&[u8], &[u8], &[u8])
     ensures { (ended : Ended) → EndedFits ended → word.now ≡ ended_word ended → HasParts ended result.0.now result.1.now result.2.now }
 {
@@ -163,7 +165,7 @@ fn parts_of(word: &[u8]) -> (&[u8], &[u8], &[u8])
     (era, reason, octets)
 }
 
-/// The octets of a third part, which may be none.
+/// Parses the octets of an ended era; an empty part is that of an era without octets.
 fn octets_of(word: &[u8]) -> Option<Option<u64>>
     ensures none { word.now ≡ [] → result ≡ Some None }
     ensures value { (octets : ℕ) → octets < 2 ^ 64 → word.now ≡ decimal octets → result ≡ Some (Some octets) }
@@ -176,7 +178,7 @@ fn octets_of(word: &[u8]) -> Option<Option<u64>>
     }
 }
 
-/// The last line of a line that is one.
+/// Parses a last line leniently: of a line that is no last line it may return one too.
 fn found_last(line: &[u8]) -> Option<Last>
     ensures found { (last : Last) → LastFits last → line.now ≡ last_text last → result ≡ Some last }
     ensures fits { IfSome result LastFits }

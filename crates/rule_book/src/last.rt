@@ -5,18 +5,18 @@ ghost use Rattle.rule_book.specs.declared.last.StopKind.{StopKind};
 
 use crate::line::Line;
 
-/// Why a run stopped before the end of its capture.
+/// The reason why a run stopped before the end of its capture.
 #[derive(Clone, Copy, Debug, PartialEq, Eq)]
 pub enum StopKind {
-    /// The capture's magic number is another.
+    /// The magic number of the capture is not read.
     Magic,
-    /// The capture's version is another.
+    /// The version of the capture is not read.
     Version,
-    /// The capture's link type is another.
+    /// The link type of the capture is not read.
     Link,
-    /// A record's captured length is above the bound.
+    /// The captured length of a record is above 262,144 octets.
     Long,
-    /// There are more records than can be numbered.
+    /// There are more than 4,294,967,295 records, or blocks of a pcapng file.
     Many,
     /// The capture ends inside its head or a record.
     Cut,
@@ -24,14 +24,14 @@ pub enum StopKind {
     ReadFault,
     /// Writing the capture failed.
     Capture,
-    /// No memory was left.
+    /// Memory could not be allocated.
     Memory,
     /// A block of the capture is malformed.
     Block,
 }
 
-/// What the last line says: the numbers of records and of frames written, or why the run stopped and the offset in
-/// octets of the head or record at which it did.
+/// The last line of a report: the numbers of records and of frames written, or the reason why the run stopped and the
+/// offset in octets of the head or record at which it stopped.
 #[derive(Clone, Copy, Debug, PartialEq, Eq)]
 pub enum Last {
     End { records: u32, packets: u64 },
@@ -39,7 +39,7 @@ pub enum Last {
 }
 
 impl StopKind {
-    /// The word of the report.
+    /// Returns the word of the report for this reason.
     fn word(self) -> &'static str
         ensures text { result.now ≡ stop_word self }
         ensures bound { length result.now ≤ 7 }
@@ -58,7 +58,7 @@ impl StopKind {
         }
     }
 
-    /// The cause of this word.
+    /// Returns the reason of a word; None if the word is no reason's.
     pub(crate) fn of_word(word: &[u8]) -> Option<StopKind>
         ensures { (kind : StopKind) → word.now ≡ stop_word kind → result ≡ Some kind }
     {
@@ -78,7 +78,7 @@ impl StopKind {
     }
 }
 
-/// Writes the last line, and answers how many octets it has.
+/// Writes the last line, with its line feed. Returns its length in octets.
 pub fn last_line(last: &Last, buf: &mut [u8]) -> usize
     requires { 64 ≤ length buf.old }
     ensures text { take result buf.new ≡ last_text last.now }

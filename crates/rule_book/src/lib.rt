@@ -1,14 +1,15 @@
-//! The report: the rules that it names, the entry of each record, and the text of its lines.
+//! The report: its rules, the entry of each record, and the text of its lines.
 //!
 //! Proved: `Rule::number`, `Rule::name` and `Rule::of_name` are the table of rules, in both
 //! directions. The drop rules form one list a layer, in the order of testing; along these lists
 //! their numbers rise except at T_QUOTA (`laws`). `entry_line`, `last_line` and `load_line` write
-//! exactly the text of their argument, in at most 376, 64 and 64 octets. `read_report` returns a
-//! report of version 1 or 2 exactly if the octets are its text, where ended eras have their octets
-//! in version 2 alone; otherwise it returns the first fault at its line, or that memory could not
-//! be allocated. No text is the text of two reports, of whatever versions (`laws`).
+//! exactly the text of their argument, in at most 376, 64 and 64 octets. `read_entry` and `read_last`
+//! return an entry and a last line exactly if the octets are its text, with its line feed; ended
+//! eras have their octets in version 2 alone. `read_report` returns a report of version 1 or 2
+//! exactly if the octets are its text; otherwise it returns the first fault and its line, or that
+//! memory could not be allocated. No text is the text of two reports, of whatever versions (`laws`).
 //!
-//! Choices: `entry_line` asks for a buffer of 400 octets; the longest line has exactly 376: 16
+//! Choices: `entry_line` requires a buffer of 400 octets; the longest line has exactly 376: 16
 //! rules of 10 octets with their space, 4 ended eras of 42, two eras of 12, and 24 for number,
 //! side, verdict, frames and line feed. The variants of `Rule` are in the order of the numbers, not
 //! of testing; no rule has the number 59.
@@ -25,12 +26,11 @@ pub mod load;
 mod puts;
 pub mod report;
 pub mod rule;
-#[cfg(test)]
-mod tests;
 mod words;
 
 pub use entry::{Ended, Entry, Reason, Verdict, entry_line};
 pub use fault::LineFault;
+pub use found::{read_entry, read_last};
 pub use last::{Last, StopKind, last_line};
 pub use load::{LoadLine, load_line};
 pub use report::{Report, read_report};

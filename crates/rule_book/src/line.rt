@@ -1,4 +1,4 @@
-//! A line that is being written.
+//! A line of text in a buffer, written from its front.
 ghost use Rattle.std.specs.Prelude.{◌≡◌, ◌+◌, ◌<◌, ◌≤◌, [], ◌∷◌, length, decimal};
 ghost use Rattle.rule_book.specs.Lines.{Adds};
 ghost use Rattle.rule_book.specs.Text.{part};
@@ -6,7 +6,7 @@ ghost use Rattle.rule_book.specs.Text.{part};
 use crate::digits::{put_long_number, put_number, put_small_number};
 use crate::puts::{put, put_octet, put_word};
 
-/// The front of a buffer, as far as it is written.
+/// A line of text: the first `len` octets of a buffer.
 #[derive(Drop)]
 pub struct Line<'a> {
     buf: &'a mut [u8],
@@ -14,7 +14,7 @@ pub struct Line<'a> {
 }
 
 impl<'a> Line<'a> {
-    /// Nothing is written yet.
+    /// Returns an empty line in this buffer.
     pub fn new(buf: &'a mut [u8]) -> Line<'a>
         ensures same_buffer { result.buf.ghost_name ≡ buf.entry.ghost_name }
         ensures room { length result.buf.now ≡ length buf.old }
@@ -23,14 +23,14 @@ impl<'a> Line<'a> {
         Line { buf, len: 0 }
     }
 
-    /// How many octets are written.
+    /// Returns the length of the line in octets.
     pub fn len(&self) -> usize
         ensures { result ≡ self.now.len }
     {
         self.len
     }
 
-    /// Writes octets.
+    /// Appends octets.
     pub fn octets(&mut self, piece: &[u8])
         requires { self.old.len + length piece.now ≤ length self.old.buf.now }
         ensures same_buffer { self.new.buf.ghost_name ≡ self.old.buf.ghost_name }
@@ -39,7 +39,7 @@ impl<'a> Line<'a> {
         self.len = put(self.buf, self.len, piece);
     }
 
-    /// Writes a text.
+    /// Appends a text.
     pub fn text(&mut self, piece: &str)
         requires { self.old.len + length piece.now ≤ length self.old.buf.now }
         ensures same_buffer { self.new.buf.ghost_name ≡ self.old.buf.ghost_name }
@@ -48,7 +48,7 @@ impl<'a> Line<'a> {
         self.octets(piece.as_bytes());
     }
 
-    /// Writes one octet.
+    /// Appends one octet.
     pub fn octet(&mut self, octet: u8)
         requires { self.old.len < length self.old.buf.now }
         ensures same_buffer { self.new.buf.ghost_name ≡ self.old.buf.ghost_name }
@@ -57,7 +57,7 @@ impl<'a> Line<'a> {
         self.len = put_octet(self.buf, self.len, octet);
     }
 
-    /// Writes a small number.
+    /// Appends a decimal number of at most 3 digits.
     pub fn small_number(&mut self, number: u8)
         requires { self.old.len + 4 ≤ length self.old.buf.now }
         ensures same_buffer { self.new.buf.ghost_name ≡ self.old.buf.ghost_name }
@@ -67,7 +67,7 @@ impl<'a> Line<'a> {
         self.len = put_small_number(self.buf, self.len, number);
     }
 
-    /// Writes a number.
+    /// Appends a decimal number of at most 10 digits.
     pub fn number(&mut self, number: u32)
         requires { self.old.len + 10 ≤ length self.old.buf.now }
         ensures same_buffer { self.new.buf.ghost_name ≡ self.old.buf.ghost_name }
@@ -77,7 +77,7 @@ impl<'a> Line<'a> {
         self.len = put_number(self.buf, self.len, number);
     }
 
-    /// Writes a long number.
+    /// Appends a decimal number of at most 20 digits.
     pub fn long_number(&mut self, number: u64)
         requires { self.old.len + 20 ≤ length self.old.buf.now }
         ensures same_buffer { self.new.buf.ghost_name ≡ self.old.buf.ghost_name }
@@ -87,7 +87,7 @@ impl<'a> Line<'a> {
         self.len = put_long_number(self.buf, self.len, number);
     }
 
-    /// Writes a space and a text.
+    /// Appends a space and a text.
     pub fn part(&mut self, piece: &str)
         requires { self.old.len + 1 + length piece.now ≤ length self.old.buf.now }
         ensures same_buffer { self.new.buf.ghost_name ≡ self.old.buf.ghost_name }
@@ -97,7 +97,7 @@ impl<'a> Line<'a> {
         self.len = put_word(self.buf, self.len, piece.as_bytes());
     }
 
-    /// Writes a space and a number.
+    /// Appends a space and a decimal number of at most 10 digits.
     pub fn part_number(&mut self, number: u32)
         requires { self.old.len + 11 ≤ length self.old.buf.now }
         ensures same_buffer { self.new.buf.ghost_name ≡ self.old.buf.ghost_name }
@@ -108,7 +108,7 @@ impl<'a> Line<'a> {
         self.number(number);
     }
 
-    /// Writes a space and a long number.
+    /// Appends a space and a decimal number of at most 20 digits.
     pub fn part_long_number(&mut self, number: u64)
         requires { self.old.len + 21 ≤ length self.old.buf.now }
         ensures same_buffer { self.new.buf.ghost_name ≡ self.old.buf.ghost_name }

@@ -1,28 +1,28 @@
-//! The lines of the report of a load.
+//! The lines of the summary of a load.
 ghost use Rattle.std.specs.Prelude.{◌≡◌, ◌≤◌, length, take};
 ghost use Rattle.rule_book.specs.Loads.{load_text};
 
 use crate::Rule;
 use crate::line::Line;
 
-/// A line of the report of a load.
+/// A line of the summary of a load.
 #[derive(Clone, Copy, Default)]
 pub enum LoadLine {
-    /// What the load is made from: its seed, and how many records it has.
+    /// The seed of the load, and its number of records.
     Load { seed: u64, count: u32 },
-    /// How many records were taken.
+    /// The number of records made.
     Records(u32),
-    /// How many frames went out.
+    /// The number of frames that would be written.
     Packets(u64),
-    /// How many eras began.
+    /// The number of eras that began.
     Eras(u64),
-    /// How often a rule was named.
+    /// A rule, and the number of times that entries name it.
     Rule { rule: Rule, count: u64 },
     #[default]
     End,
 }
 
-/// Writes a line of the report of a load, and answers how many octets it has.
+/// Writes a line of the summary of a load, with its line feed. Returns its length in octets.
 pub fn load_line(line: LoadLine, buf: &mut [u8]) -> usize
     requires { 64 ≤ length buf.old }
     ensures text { take result buf.new ≡ load_text line }

@@ -1,8 +1,8 @@
-//! Octets that are written into a buffer. Each function answers the place behind what it wrote.
+//! Functions that write octets into a buffer. Each returns the offset behind the octets that it wrote.
 ghost use Rattle.std.specs.Prelude.{◌≡◌, ◌+◌, ◌<◌, ◌≤◌, [], ◌∷◌, length};
 ghost use Rattle.rule_book.specs.Lines.{Puts};
 
-/// Writes octets from a place on.
+/// Writes octets from offset `at` on.
 #[inline]
 pub fn put(buf: &mut [u8], at: usize, piece: &[u8]) -> usize
     requires { at + length piece.now ≤ length buf.old }
@@ -13,7 +13,7 @@ pub fn put(buf: &mut [u8], at: usize, piece: &[u8]) -> usize
     end
 }
 
-/// Writes one octet.
+/// Writes one octet at offset `at`.
 #[inline]
 pub fn put_octet(buf: &mut [u8], at: usize, octet: u8) -> usize
     requires { at < length buf.old }
@@ -23,7 +23,7 @@ pub fn put_octet(buf: &mut [u8], at: usize, octet: u8) -> usize
     at + 1
 }
 
-/// Writes a short word from a place on. One of 4 to 16 octets takes two copies of constant size and no call.
+/// Writes a word from offset `at` on. A word of 4 to 16 octets takes two copies of constant size and no call.
 #[inline]
 pub fn put_word(buf: &mut [u8], at: usize, word: &[u8]) -> usize
     requires { at + length word.now ≤ length buf.old }
@@ -36,7 +36,7 @@ pub fn put_word(buf: &mut [u8], at: usize, word: &[u8]) -> usize
     }
 }
 
-// Writes a word by as many of its first and of its last octets, which may overlap.
+// Writes the first `part` and the last `part` octets of a word, which may overlap.
 #[inline(always)]
 fn put_by_ends(buf: &mut [u8], at: usize, word: &[u8], part: usize) -> usize
     requires part { part ≤ length word.now }

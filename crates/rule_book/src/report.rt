@@ -1,4 +1,4 @@
-//! A whole report, read from its text.
+//! A report, parsed from its text.
 ghost use Rattle.std.specs.Prelude.{◌≡◌, ◌≢◌, ◌⊎◌, ◌↔◌, ◌<◌, [], ◌∷◌, length, IfErr, IfOk, List, ℕ, MatchOption, MatchResult};
 ghost use Rattle.rule_book.specs.Reports.{PlainReport, HasFault, IsReport, IsVersion, lines, lines_of, plain_report, text_of};
 ghost use Rattle.rule_book.specs.Text.{first_line};
@@ -9,22 +9,21 @@ use crate::words::place_of;
 use crate::{Entry, Last, LineFault};
 use std::alloc::Global;
 
-/// What a run reports: an entry for each record, and how the run ended.
+/// A report: an entry for each record, and the last line.
 #[derive(Debug, Drop)]
 pub struct Report {
     pub entries: Vec<Entry>,
     pub last: Last,
-    /// 1 or 2: a report of version 2 has the number of octets of each era that ended.
+    /// 1 or 2. In version 2 each ended era has its octets, in version 1 none has.
     pub version: u8,
 }
 
-/// The report, of either version, whose text these octets are. The numbers in the last line are not compared with the
-/// entries.
+/// Parses a report of version 1 or 2. Does not compare the numbers in the last line with the entries.
 pub fn read_report(alloc: Global, bytes: &[u8]) -> Result<Report, LineFault>
     ensures ok { IfOk result (λ report. IsReport (plain_report report) × (bytes.now ≡ text_of (plain_report report))) }
     ensures read { (report : PlainReport) → IsReport report → bytes.now ≡ text_of report → MatchResult result (λ found. plain_report found ≡ report) (λ fault. fault ≡ LineFault.NoMemory) }
 
-    // Which fault it is; want of memory is found behind the first line alone.
+    // The first fault is returned, or that memory could not be allocated; the latter only if the first line is right.
     ensures first { (result ≡ Err LineFault.First) ↔ HasFault (lines bytes.now) LineFault.First }
     ensures err { IfErr result (λ fault. (fault ≡ LineFault.NoMemory) ⊎ HasFault (lines bytes.now) fault) }
     ensures fault { (fault : LineFault) → HasFault (lines bytes.now) fault → MatchResult result (λ _. ⊥) (λ found. (found ≡ LineFault.NoMemory) ⊎ (found ≡ fault)) }
@@ -33,7 +32,7 @@ pub fn read_report(alloc: Global, bytes: &[u8]) -> Result<Report, LineFault>
     read_lines(alloc, version, rest)
 }
 
-/// The version that the first line tells, where that is right, and what stands behind it.
+/// Parses the first line. Returns its version and the octets behind it, or None if it is malformed.
 fn behind_first(bytes: &[u8]) -> Option<(u8, &[u8])>
     ensures { MatchOption result (HasFault (lines bytes.now) LineFault.First) (λ found. IsVersion found.0 × (lines bytes.now ≡ first_line found.0 ∷ lines found.1.now)) }
 {
@@ -47,7 +46,7 @@ fn behind_first(bytes: &[u8]) -> Option<(u8, &[u8])>
     }
 }
 
-/// The report of a version, of the lines behind the first.
+/// Parses the lines behind the first one, of a report of this version.
 fn read_lines(alloc: Global, version: u8, text: &[u8]) -> Result<Report, LineFault>
     requires { IsVersion version }
     ensures ok { IfOk result (λ report. IsReport (plain_report report) × (first_line version ∷ lines text.now ≡ lines_of (plain_report report))) }
@@ -79,7 +78,8 @@ fn read_lines(alloc: Global, version: u8, text: &[u8]) -> Result<Report, LineFau
     }
 }
 
-/// The next line with its line feed, or what is left where there is none, and what stands behind it.
+/// Splits off the next line with its line feed; without a line feed the line is all of the text. Returns the line and
+/// the octets behind it, or None if the text is empty.
 fn next_line(text: &[u8]) -> Option<(&[u8], &[u8])>
     ensures { MatchOption result (text.now ≡ []) (λ parts. (lines text.now ≡ parts.0.now ∷ lines parts.1.now) × (length parts.1.now < length text.now)) }
 {

@@ -3,133 +3,134 @@ ghost use Rattle.std.specs.Prelude.{◌≡◌, ◌≤◌, ◌↔◌, length};
 ghost use Rattle.rule_book.specs.Rules.{rule_name, rule_number};
 ghost use Rattle.rule_book.specs.declared.rule.Rule.{Rule};
 
-/// A rule: why a packet is dropped (those up to `TRoom`, and `TQuota`, `EMtu`), or what happens to one that is not.
-/// The first letter says what it is about: the link, the IPv4 header, the protocol, fragments, UDP, ICMP, TCP,
-/// the connection, frames that are too long for the link. 59 is the number of none.
+/// A rule: the reason why a packet is dropped (those up to `TRoom`, and `TQuota`, `EMtu`), or what becomes of one that
+/// is not. The first letter names its subject: L the link, I the IPv4 header, P the protocol, F fragments, U UDP,
+/// M ICMP, T TCP, C the connection, E frames that are too long for the link. No rule has the number 59.
 #[derive(Clone, Copy, Debug, Default, PartialEq, Eq)]
 pub enum Rule {
-    /// The capture holds only a part of the frame.
+    /// The capture has only a part of the frame.
     #[default]
     LSnap = 1,
     /// An Ethernet frame of fewer than 14 octets.
     LShort,
-    /// Another EtherType than those of IPv4 and ARP, or an ARP frame that is too long.
+    /// An EtherType that is neither IPv4 nor ARP, or an ARP frame of more than 65,549 octets.
     LType,
-    /// Fewer octets than an IPv4 header.
+    /// Fewer than 20 octets for the IPv4 header.
     IShort,
-    /// Another IP version than 4.
+    /// An IP version that is not 4.
     IVersion,
-    /// An IPv4 header length below 5 words or above the octets that stand.
+    /// An IPv4 header length below 5 words or above the octets of the packet.
     IHlen,
-    /// A total length below the header's or above the octets that stand.
+    /// A total length below the header length or above the octets of the packet.
     ILen,
     /// A wrong IPv4 header checksum.
     ISum,
-    /// A source address that no host has, or that is the destination.
+    /// A source address that no host has, or that equals the destination.
     ISrc,
-    /// A destination address of no host and no group.
+    /// A destination address that neither a host nor a group has.
     IDst,
-    /// Both addresses are trusted, or neither is.
+    /// The capture gives no side, and both addresses are trusted or neither is.
     ISide,
-    /// An IPv4 option that does not fit into the header.
+    /// A malformed IPv4 option.
     IOptBad,
     /// A source route.
     IRoute,
-    /// Another protocol than ICMP, TCP and UDP.
+    /// A protocol that is not ICMP, TCP or UDP.
     PProto,
-    /// A later fragment of a datagram that must not be fragmented.
+    /// A fragment with an offset above 0 and the flag DF.
     FDf,
     /// A fragment without payload.
     FEmpty,
-    /// A fragment, not the last, whose payload is no multiple of 8 octets.
+    /// A fragment with MF whose payload is no multiple of 8 octets.
     FAlign,
-    /// A fragment that reaches past the longest datagram.
+    /// A fragment that ends after octet 65,515 of its datagram.
     FBig,
-    /// A fragment at odds with the end of its datagram.
+    /// A fragment that disagrees with those held on the end of its datagram.
     FEnd,
-    /// A fragment at odds with an octet that is held.
+    /// A fragment with an octet that differs from the one held at its offset.
     FClash,
-    /// A fragment of a further datagram, where as many are held as may be.
+    /// A fragment that would begin a datagram while fragments of the maximum number of others are held.
     FMany,
-    /// A fragment that the free cells cannot hold.
+    /// A fragment that needs more cells than are free.
     FRoom,
-    /// Fewer octets than a UDP header.
+    /// Fewer than 8 octets for the UDP header.
     UShort,
-    /// A UDP length that is not the payload's.
+    /// A UDP length that is not the length of the message.
     ULen,
     /// A wrong UDP checksum.
     USum,
-    /// Fewer octets than an ICMP header.
+    /// Fewer than 8 octets for the ICMP header.
     MShort,
     /// A wrong ICMP checksum.
     MSum,
-    /// An ICMP type that is not let through.
+    /// An ICMP type that is not 0, 3, 8, 11, 12, 13 or 14.
     MType,
-    /// An inbound ICMP error about no packet of the inside.
+    /// An inbound ICMP error that quotes no packet of a trusted host.
     MQuote,
-    /// Fewer octets than a TCP header.
+    /// Fewer than 20 octets for the TCP header.
     TShort,
-    /// A data offset below 5 words or past the segment.
+    /// A data offset below 5 words or above the length of the segment.
     THlen,
     /// A wrong TCP checksum.
     TSum,
-    /// TCP flags that do not go together.
+    /// A combination of SYN, FIN, RST and ACK that no segment has.
     TFlags,
-    /// A TCP option that does not fit into the header.
+    /// A malformed TCP option.
     TOptBad,
-    /// An inbound RST or SYN ACK of no live connection.
+    /// An inbound RST, or SYN with ACK, while no era of its connection is live.
     TCold,
-    /// An inbound segment that does not fit the state of its connection.
+    /// An inbound segment that does not fit an era that is not open yet.
     TState,
-    /// An inbound SYN in a connection that has begun.
+    /// An inbound SYN with another sequence number in an open era.
     TSyn,
-    /// An inbound RST that the inside has no reason to expect.
+    /// An inbound RST outside of what its era accepts.
     TRst,
-    /// A connection would begin, and none that is live can be let go. On an outbound packet it is a note, and drops nothing.
+    /// An era would begin while the table is full and no era can be evicted. On an outbound packet it is a note, and
+    /// drops nothing.
     TFull,
-    /// Inbound octets that the free cells cannot hold.
+    /// Inbound octets that need more cells than are free.
     TRoom,
     /// Octets behind the total length are cut off.
     ITrail,
-    /// IPv4 options are taken out.
+    /// IPv4 options are removed.
     IOpt,
     /// The reserved flag of the IPv4 header is cleared.
     IRes,
-    /// A time to live that may end before the hosts is raised.
+    /// An inbound TTL that is too low to reach every trusted host is raised.
     ITtl,
-    /// A fragment is held until its datagram is whole.
+    /// A fragment is held until its datagram is complete.
     FHeld,
-    /// A fragment makes its datagram whole.
+    /// A fragment completes its datagram.
     FDone,
-    /// An outbound UDP checksum is made right.
+    /// An outbound UDP checksum is computed again.
     USumOut,
-    /// An outbound TCP checksum is made right.
+    /// An outbound TCP checksum is computed again.
     TSumOut,
     /// Reserved bits of the TCP header are cleared.
     TRes,
     /// The urgent flag and pointer are cleared.
     TUrg,
-    /// TCP options that are not kept, and octets behind their end, are blanked.
+    /// TCP options that are not kept are replaced by no-operations, and octets behind the end option are cleared.
     TOpt,
     /// The payload of an inbound SYN or RST is cut off.
     TStrip,
-    /// A probe goes inwards.
+    /// A probe is sent inwards.
     CProbe,
-    /// Octets that the inside has acknowledged are cut off.
+    /// Octets that the trusted host has acknowledged are cut off.
     TOld,
-    /// Octets past the window of the inside are cut off.
+    /// Octets past the window of the trusted host are cut off.
     TWindow,
-    /// Octets too far ahead to be told from older ones are cut off. It holds nowhere, and is read in older reports.
+    /// Never holds: streams may pass 2^31 octets. Older reports have its name.
     TTurn,
     /// Octets past the end of the stream are cut off, or a FIN is cleared.
     TEnd,
-    /// Octets are replaced by those that went inwards first.
+    /// Octets that differ from those first sent at their offsets are replaced by them.
     TClash,
-    /// Inbound octets that would take their connection above its quota of cells. It is tested before `TRoom`.
+    /// Inbound octets with which the connection would have more cells than its quota. Tested before `TRoom`.
     TQuota = 60,
-    /// A TCP frame that is too long goes out as several.
+    /// A TCP frame that is too long for the link is cut into segments.
     ECut,
-    /// Another frame that is too long does not go out.
+    /// Another frame that is too long for the link is not written.
     EMtu,
 }
 
@@ -199,14 +200,14 @@ const ALL: [Rule; 61] = [
 ];
 
 impl Rule {
-    /// The number of the rule, from 1 to 62, but not 59.
+    /// Returns the number of the rule, from 1 to 62 without 59.
     pub fn number(self) -> u8
         ensures { result ≡ rule_number self }
     {
         self as u8
     }
 
-    /// The name of the rule in the report, of at most 9 octets.
+    /// Returns the name of the rule in the report, of at most 9 octets.
     pub fn name(self) -> &'static str
         ensures text { result.now ≡ rule_name self }
         ensures bound { length result.now ≤ 9 }
@@ -275,7 +276,7 @@ impl Rule {
             Rule::EMtu => "E_MTU",
         }
     }
-    /// The rule of this name, where there is one.
+    /// Returns the rule of this name, or None if no rule has it.
     pub fn of_name(text: &[u8]) -> Option<Rule>
         ensures { (rule : Rule) → (result ≡ Some rule) ↔ (rule_name rule ≡ text.now) }
     {

@@ -1,8 +1,9 @@
-//! The words of a line that is read.
+//! Parsers of the words of a line.
 ghost use Rattle.std.specs.Prelude.{◌≡◌, ℕ, ◌^◌, ◌<◌, ◌≤◌, ◌+◌, ◌==◌, length, decimal, IfSome};
 ghost use Rattle.std.specs.List.{after_first, before_first, position_or_len};
 
-/// What stands before the first of these octets, and what stands behind it; all of the text where there is none.
+/// Cuts a text at the first such octet. Returns what precedes and what follows it, or all of the text and nothing if
+/// there is none.
 pub fn cut(text: &[u8], octet: u8) -> (&[u8], &[u8])
     ensures front { result.0.now ≡ before_first (λ other. other == octet) text.now }
     ensures behind { result.1.now ≡ after_first (λ other. other == octet) text.now }
@@ -12,7 +13,7 @@ pub fn cut(text: &[u8], octet: u8) -> (&[u8], &[u8])
     (&text[..at], &text[end..])
 }
 
-/// Where the first of these octets stands, or the length of the text where there is none.
+/// Returns the index of the first such octet, or the length of the text if there is none.
 pub fn place_of(text: &[u8], octet: u8) -> usize
     ensures place { result ≡ position_or_len (λ other. other == octet) text.now }
     ensures within { result ≤ length text.now }
@@ -22,7 +23,7 @@ pub fn place_of(text: &[u8], octet: u8) -> usize
         .unwrap_or(text.len())
 }
 
-/// The number that is written so.
+/// Parses a decimal number of 64 bits.
 pub fn long_number_of(word: &[u8]) -> Option<u64>
     ensures value { (number : ℕ) → number < 2 ^ 64 → word.now ≡ decimal number → result ≡ Some number }
     ensures bound { IfSome result (λ number. number < 2 ^ 64) }
@@ -30,7 +31,7 @@ pub fn long_number_of(word: &[u8]) -> Option<u64>
     std::str::from_utf8(word).ok()?.parse().ok()
 }
 
-/// The number of 32 bits that is written so.
+/// Parses a decimal number of 32 bits.
 pub fn number_of(word: &[u8]) -> Option<u32>
     ensures value { (number : ℕ) → number < 2 ^ 32 → word.now ≡ decimal number → result ≡ Some number }
     ensures bound { IfSome result (λ number. number < 2 ^ 32) }
@@ -38,7 +39,7 @@ pub fn number_of(word: &[u8]) -> Option<u32>
     u32::try_from(long_number_of(word)?).ok()
 }
 
-/// The number of 8 bits that is written so.
+/// Parses a decimal number of 8 bits.
 pub fn short_number_of(word: &[u8]) -> Option<u8>
     ensures value { (number : ℕ) → number < 2 ^ 8 → word.now ≡ decimal number → result ≡ Some number }
     ensures bound { IfSome result (λ number. number < 2 ^ 8) }

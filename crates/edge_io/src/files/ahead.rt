@@ -9,10 +9,10 @@ use super::BUFFER_OCTETS;
 use crate::Failed;
 use std::io::{ErrorKind, Read};
 
-// How often a read is tried that a signal interrupts.
+// Number of tries of a read that signals interrupt.
 const TRIES: u32 = 1_000;
 
-/// A reader with a buffer before it.
+/// A reader with a read buffer.
 #[derive(Drop)]
 pub(super) struct ReadAhead<R> {
     reader: R,
@@ -26,6 +26,7 @@ pub(super) struct ReadAhead<R> {
 impl<R: Read> ReadAhead<R> {
     ghost use Rattle.edge_io.specs.ReadAhead.{octets_left};
 
+    /// Returns a reader whose buffer is empty.
     pub(super) fn new(reader: R) -> ReadAhead<R>
         ensures { Keeps (R.remaining reader) (octets_left R.remaining result) }
     {
@@ -37,7 +38,7 @@ impl<R: Read> ReadAhead<R> {
         }
     }
 
-    /// Moves octets that are ahead in the buffer to the front of `buf`.
+    /// Moves octets from the read buffer to the front of `buf`. Returns their number.
     #[inline]
     pub(super) fn fetch(&mut self, buf: &mut [u8]) -> Result<usize, Failed>
         ensures { Fetches (octets_left R.remaining self.old)
@@ -53,7 +54,7 @@ impl<R: Read> ReadAhead<R> {
         Ok(count)
     }
 
-    // Does what `fetch` does where the buffer may hold fewer octets than are asked for.
+    // Does what `fetch` does where the read buffer may have fewer octets than `buf`.
     #[cold]
     fn fetch_some(&mut self, buf: &mut [u8]) -> Result<usize, Failed>
         ensures { Fetches (octets_left R.remaining self.old)
@@ -66,7 +67,7 @@ impl<R: Read> ReadAhead<R> {
         Ok(count)
     }
 
-    // Fills the buffer by one read where it is used up.
+    // Fills the buffer by one read if it has no octets left.
     fn refill(&mut self) -> Result<(), Failed>
         ensures kept { Keeps (octets_left R.remaining self.old) (octets_left R.remaining self.new) }
         ensures end { OnOk result (self.new.start ≡ self.new.filled →
@@ -81,7 +82,7 @@ impl<R: Read> ReadAhead<R> {
     }
 }
 
-// Reads once, and again only where a signal interrupted the read.
+// Reads once, and again only if a signal interrupts the read.
 fn read_some<R: Read>(reader: &mut R, buf: &mut [u8]) -> Result<usize, Failed>
     ensures within { ReadsAtMost result buf.new }
     ensures octets { ReadConsumes (R.remaining reader.old) (R.remaining reader.new) result buf.new }

@@ -7,7 +7,7 @@ use super::BUFFER_OCTETS;
 use crate::Failed;
 use std::io::Write;
 
-/// A writer with a buffer before it.
+/// A writer with a write buffer.
 #[derive(Drop)]
 pub(super) struct WriteBehind<W> {
     writer: W,
@@ -19,6 +19,7 @@ pub(super) struct WriteBehind<W> {
 impl<W: Write> WriteBehind<W> {
     ghost use Rattle.edge_io.specs.WriteBehind.{octets_held};
 
+    /// Returns a writer whose buffer is empty.
     pub(super) fn new(writer: W) -> WriteBehind<W>
         ensures { Keeps (W.contents writer) (octets_held W.contents result) }
     {
@@ -29,7 +30,7 @@ impl<W: Write> WriteBehind<W> {
         }
     }
 
-    /// Gathers the piece; one that is larger than the buffer is written at once.
+    /// Buffers the octets; more than `BUFFER_OCTETS` octets are written at once.
     pub(super) fn put(&mut self, piece: &[u8]) -> Result<(), Failed>
         ensures { OnOk result (Appends (octets_held W.contents self.old)
             (octets_held W.contents self.new) piece.now) }
@@ -44,7 +45,7 @@ impl<W: Write> WriteBehind<W> {
         Ok(())
     }
 
-    /// Writes what was gathered, and flushes the writer.
+    /// Writes the buffered octets, and flushes the writer.
     pub(super) fn flush(&mut self) -> Result<(), Failed>
         ensures written { OnOk result (Keeps (octets_held W.contents self.old)
             (W.contents self.new.writer)) }
@@ -57,7 +58,7 @@ impl<W: Write> WriteBehind<W> {
         }
     }
 
-    // Empties the buffer where it has no room for so many octets.
+    // Writes out the buffer if `count` more octets do not fit into it.
     fn make_room(&mut self, count: usize) -> Result<(), Failed>
         ensures kept { OnOk result (Keeps (octets_held W.contents self.old)
             (octets_held W.contents self.new)) }
@@ -69,7 +70,7 @@ impl<W: Write> WriteBehind<W> {
         Ok(())
     }
 
-    // Writes what was gathered; after a fault it is given up.
+    // Writes the buffered octets. If that fails, they are discarded.
     fn write_out(&mut self) -> Result<(), Failed>
         ensures written { OnOk result (Keeps (octets_held W.contents self.old)
             (W.contents self.new.writer)) }
@@ -81,8 +82,8 @@ impl<W: Write> WriteBehind<W> {
     }
 }
 
-// Writes the whole piece. `write_all` repeats an interrupted write, and refuses one that takes
-// nothing.
+// Writes all the octets. `write_all` repeats an interrupted write, and fails if a write takes no
+// octet.
 fn write_whole<W: Write>(writer: &mut W, piece: &[u8]) -> Result<(), Failed>
     ensures { OnOk result (Appends (W.contents writer.old) (W.contents writer.new) piece.now) }
 {

@@ -4,7 +4,7 @@ use Rattle.rule_book.specs.Reports.{IsReadTo, lines}
 use Rattle.rule_book.specs.Text.{first_line}
 use Rattle.rule_book.proofs.report.read_lines.Given as goal
 
--- the entries so far are those of the lines before this one
+-- the entries so far are those of the lines before the rest
 abbrev pub invariant-loop-entries : goal.invariant-loop-entries
 invariant-loop-entries l = record {
   read : IsReadTo l.version (first_line l.version ∷ lines l.text) (map plain l.entries.items) (lines l.rest);

@@ -6,7 +6,7 @@ use Rattle.std.proofs.lemmas.List.Sums.{prefix_len-le-length}
 use Rattle.std.specs.List.{position_or_len}
 use Rattle.rule_book.proofs.words.place_of.Goals as goal
 
--- the place where there is one, and else the length
+-- the index if there is one, and else the length
 place_or : (place len : ℕ) (b : Bool) → ltb place len ≡ b → place ≤ len → unwrap_or (cond b (Some place) None) len ≡ place
 place_or place len true is within = refl
 place_or place len false is within = omega (arith, ltb-false place len is)
