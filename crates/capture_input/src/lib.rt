@@ -20,6 +20,3 @@ mod opening;
 
 pub use fault::{InputFault, OpenFault};
 pub use input::Input;
-
-#[cfg(test)]
-mod tests;

@@ -7,8 +7,6 @@
 
 pub mod inbound;
 pub mod outbound;
-#[cfg(test)]
-mod tests;
 
 pub use inbound::{ColdAnswer, cold, cold_probe};
 pub use outbound::warm_from;

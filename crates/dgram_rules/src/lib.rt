@@ -11,6 +11,3 @@ pub mod rows;
 
 pub use judged::DgramJudged;
 pub use rows::{judge_icmp, judge_udp};
-
-#[cfg(test)]
-mod tests;

@@ -22,8 +22,6 @@ pub mod offset;
 pub mod probe;
 pub mod segment;
 pub mod syns;
-#[cfg(test)]
-mod tests;
 pub mod warm;
 
 pub use called::Called;

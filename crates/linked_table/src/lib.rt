@@ -25,6 +25,3 @@ pub use hash::hash_words;
 pub use key::Key;
 pub use list::SlotList;
 pub use table::{LinkedTable, Slot};
-
-#[cfg(test)]
-mod tests;

@@ -8,7 +8,5 @@ pub mod flow;
 pub mod load;
 mod packet;
 mod sequence;
-#[cfg(test)]
-mod tests;
 
 pub use load::{Load, MAX_RECORD};

@@ -22,6 +22,3 @@ mod take;
 pub use ahead::{Ahead, read_behind};
 pub use fault::{NgFault, OpenFault};
 pub use reader::NgReader;
-
-#[cfg(test)]
-mod tests;

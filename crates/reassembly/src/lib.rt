@@ -30,6 +30,3 @@ mod take;
 pub use assembly::Assembly;
 pub use id::DatagramId;
 pub use piece::{Offered, Piece, Whole};
-
-#[cfg(test)]
-mod tests;

@@ -34,6 +34,3 @@ pub use plain_packet::plain;
 pub use policy::Policy;
 pub use segment::{Segment, read_plain};
 pub use stream::Stream;
-
-#[cfg(test)]
-mod tests;

@@ -8,8 +8,6 @@
 
 pub mod laws;
 pub mod reset;
-#[cfg(test)]
-mod tests;
 pub mod write;
 
 pub use reset::{ResetAnswer, judge_reset, probe_of};

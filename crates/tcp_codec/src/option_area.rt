@@ -80,31 +80,3 @@ fn is_window_scale(kind: u8, size: usize) -> bool
 {
     kind == WINDOW_SCALE && size == WINDOW_SCALE_SIZE
 }
-
-#[cfg(test)]
-mod tests {
-    use super::*;
-
-    // The first of two; one of another length, and one of another kind; after the end option; above
-    // 14, which is limited to 14 (RFC 7323).
-    #[test]
-    fn the_first_window_scale_counts(rt: HostRuntime) {
-        let rows: [(&[u8], Option<u8>); 10] = [
-            (&[], None),
-            (&[3, 3, 7, 0], Some(7)),
-            (&[1, 3, 3, 14], Some(14)),
-            (&[1, 3, 3, 15], Some(14)),
-            (&[3, 3, 255, 3, 3, 1, 0, 0], Some(14)),
-            (&[3, 3, 1, 3, 3, 2, 0, 0], Some(1)),
-            (&[3, 4, 5, 6, 3, 3, 2, 0], Some(2)),
-            (&[254, 3, 3, 254, 3, 3, 1, 1], None),
-            (&[2, 4, 3, 3, 4, 2, 1, 1], None),
-            (&[0, 3, 3, 7], None),
-        ];
-        for (area, expected) in rows {
-            let formed = are_well_formed(area);
-            assert!(rt; formed, "{area:?}");
-            assert_eq!(rt; scale_of(area), expected, "{area:?}");
-        }
-    }
-}

@@ -24,31 +24,3 @@ pub fn sequence_distance(first: u32, last: u32) -> u64
 {
     (u64::from(last) + TURN - u64::from(first)) % TURN
 }
-
-#[cfg(test)]
-mod tests {
-    use super::*;
-
-    // Sequence numbers wrap at 2^32 (RFC 9293 section 3.4).
-    #[test]
-    fn numbers_go_round(rt: HostRuntime) {
-        let rows = [
-            (0, 0, 0),
-            (0, 1, 1),
-            (u32::MAX, 1, 0),
-            (u32::MAX, 1 << 32, u32::MAX),
-            (7, (1 << 33) + 5, 12),
-            (1 << 31, 1 << 31, 0),
-        ];
-        for (first, octets, last) in rows {
-            assert_eq!(rt; sequence_plus(first, octets), last, "{first} {octets}");
-            assert_eq!(rt;
-                sequence_distance(first, last),
-                octets % TURN,
-                "{first} {octets}"
-            );
-        }
-        assert_eq!(rt; sequence_before(0), u32::MAX);
-        assert_eq!(rt; sequence_before(8), 7);
-    }
-}

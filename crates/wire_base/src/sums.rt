@@ -106,38 +106,3 @@ fn sum_of_rest(rest: &[u8]) -> u64
         [a, b, c, ..] => 256 * u64::from(a) + u64::from(b) + 256 * u64::from(c),
     }
 }
-
-#[cfg(test)]
-mod tests {
-    use super::*;
-
-    // The example of RFC 1071 section 3, alone and with its checksum; a sum of 0; an odd last
-    // octet; a word of ones; a sum `extra` before the octets.
-    #[test]
-    fn words_sum_as_the_standards_say(rt: HostRuntime) {
-        let rows: [(&[u8], u32, bool, u16); 8] = [
-            (
-                &[0x00, 0x01, 0xf2, 0x03, 0xf4, 0xf5, 0xf6, 0xf7],
-                0,
-                false,
-                0x220d,
-            ),
-            (
-                &[0x00, 0x01, 0xf2, 0x03, 0xf4, 0xf5, 0xf6, 0xf7, 0x22, 0x0d],
-                0,
-                true,
-                0,
-            ),
-            (&[], 0, false, 0xffff),
-            (&[0, 0, 0, 0, 0, 0, 0, 0], 0, false, 0xffff),
-            (&[1], 0, false, 0xfeff),
-            (&[0xff, 0xff, 0, 0, 0], 0, true, 0),
-            (&[0, 1], 0x1_fffd, true, 0),
-            (&[0, 1], 0x1_fffe, false, 0xfffe),
-        ];
-        for (bytes, extra, right, checksum) in rows {
-            assert_eq!(rt; sum_right(bytes, extra), right, "{bytes:?} after {extra}");
-            assert_eq!(rt; sum_for(bytes, extra), checksum, "{bytes:?} after {extra}");
-        }
-    }
-}

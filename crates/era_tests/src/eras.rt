@@ -2,7 +2,7 @@
 ghost use Rattle.std.specs.Prelude.{◌≡◌, true, false};
 ghost use Rattle.wire_base.specs.Tcp as tcp;
 
-use crate::{Called, Era, Interval, Moved, Offered, Seg, Warm};
+use era_state::{Called, Era, Interval, Moved, Offered, Seg, Warm};
 use std::process::Abort;
 use wire_base::Flags;
 

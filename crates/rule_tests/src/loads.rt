@@ -1,5 +1,5 @@
 //! Records that another program computed from the definition of a load.
-use crate::{Load, MAX_RECORD};
+use load_make::{Load, MAX_RECORD};
 use std::test::Fail;
 use wire_base::u32_at;
 

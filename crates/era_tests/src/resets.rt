@@ -2,9 +2,9 @@
 ghost use Rattle.std.specs.Prelude.{◌≡◌, true, false};
 ghost use Rattle.wire_base.specs.Tcp as tcp;
 
-use crate::{ResetAnswer, judge_reset, probe_of, write_probe};
 use era_state::{Called, Era, Moved, Offered, Probe, Seg, Warm};
 use ipv4_codec::Ipv4;
+use reset_probe::{ResetAnswer, judge_reset, probe_of, write_probe};
 use std::alloc::{AllocError, Global};
 use std::process::Abort;
 use std::test::Fail;

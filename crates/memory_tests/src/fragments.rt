@@ -3,9 +3,9 @@
 ghost use Rattle.std.specs.Prelude.{◌≡◌, ◌<◌, ◌≤◌, length, false};
 ghost use Rattle.reassembly.specs.Pieces.{fragment_of, IsPiece};
 
-use crate::{Assembly, Offered, Piece, Whole};
 use arrayvec::ArrayVec;
 use norm_settings::Settings;
+use reassembly::{Assembly, Offered, Piece, Whole};
 use rule_book::Rule;
 use std::test::Fail;
 use wire_base::{Addr, protocol};

@@ -1,6 +1,6 @@
 //! Packets that are plain or nearly so, and what each policy delivers of small overlaps.
-use crate::{Family, Policy, Segment, Stream, plain, read_plain};
 use edge_io::NoMemory;
+use receiver_model::{Family, Policy, Segment, Stream, plain, read_plain};
 use std::alloc::Global;
 use std::process::Abort;
 use std::test::Fail;

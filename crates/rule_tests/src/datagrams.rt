@@ -1,8 +1,8 @@
 //! Each rule on a datagram for which it holds, and on datagrams for which it almost holds.
 ghost use Rattle.std.specs.Prelude.{◌≤◌, All};
 
-use super::*;
 use arrayvec::ArrayVec;
+use dgram_rules::{DgramJudged, judge_icmp, judge_udp};
 use ip_rules::{Fixes, IpPacket};
 use ipv4_codec::Ipv4;
 use norm_settings::Settings;

@@ -1,7 +1,8 @@
 //! Captures of both kinds, read in parts.
 ghost use Rattle.std.specs.Prelude.{◌<◌};
 
-use crate::{Input, InputFault};
+use crate::pcapng::joined;
+use capture_input::{Input, InputFault};
 use edge_io::{MemSource, Source};
 use pcap_file::Order;
 use std::test::Fail;
@@ -56,14 +57,6 @@ struct Outcome {
     packets: [Option<Found>; 4],
     fault: Option<InputFault>,
     offset: u64,
-}
-
-fn joined(rt: HostRuntime, parts: &[&[u8]]) -> Result<Vec<u8>, Fail> {
-    let mut octets = Vec::new(rt.alloc());
-    for part in parts {
-        octets.extend_from_slice(part)?;
-    }
-    Ok(octets)
 }
 
 // Reads a capture to its end, in parts of `piece` octets.

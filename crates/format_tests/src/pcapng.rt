@@ -1,19 +1,11 @@
 //! Worked example files, read in parts, and a file for each fault.
 ghost use Rattle.std.specs.Prelude.{◌≡◌, ◌<◌, ◌≤◌, IfSome, true, length};
 
-use crate::{Ahead, NgFault, NgReader};
 use edge_io::{MemSource, Source};
-use pcap_file::{Head, Order, Reader, Record, read_head};
+use pcap_file::{Order, Record};
+use pcapng_file::{NgFault, NgReader};
 use std::test::Fail;
 use wire_base::{Link, Side};
-
-// The head of a classic file: least significant octet first, microseconds, raw IP.
-const CLASSIC: [u8; 24] = [
-    0xd4, 0xc3, 0xb2, 0xa1, 2, 0, 4, 0, 0, 0, 0, 0, 0, 0, 0, 0, 0, 0, 4, 0, 101, 0, 0, 0,
-];
-
-// The head of its record: 3 seconds and 4 microseconds, 30 octets of 30.
-const RECORD: [u8; 16] = [3, 0, 0, 0, 4, 0, 0, 0, 30, 0, 0, 0, 30, 0, 0, 0];
 
 // A section, least significant octet first.
 const SECTION: [u8; 28] = [
@@ -54,7 +46,7 @@ const PLAIN: [u8; 20] = [
 const BIG_ETHERNET: [u8; 20] = [0, 0, 0, 1, 0, 0, 0, 20, 0, 1, 0, 0, 0, 0, 0, 0, 0, 0, 0, 20];
 
 // A datagram of 30 octets.
-const DATAGRAM: [u8; 30] = [
+pub const DATAGRAM: [u8; 30] = [
     0x45, 0, 0, 0x1e, 0, 1, 0, 0, 0x40, 0x11, 0x46, 0x93, 0xc6, 0x33, 0x64, 0x07, 10, 0, 0, 1,
     0x9c, 0x40, 0, 0x35, 0, 0x0a, 0xc6, 0xbf, 0x68, 0x69,
 ];
@@ -100,7 +92,7 @@ const OTHER: [u8; 16] = [0xad, 0x0b, 0, 0, 16, 0, 0, 0, 1, 2, 3, 4, 16, 0, 0, 0]
 const LEAST: [u8; 12] = [0xad, 0x0b, 0, 0, 12, 0, 0, 0, 12, 0, 0, 0];
 
 // The seconds, the fraction, the original length, the offset, the side and the octets of a record.
-type Packet<'a> = (u32, u32, u32, u64, Option<Side>, &'a [u8]);
+pub type Packet<'a> = (u32, u32, u32, u64, Option<Side>, &'a [u8]);
 
 // The number of records, at most two, the fault after them, and its offset; the end is no fault.
 type Outcome = (u32, Option<NgFault>, u64);
@@ -109,7 +101,7 @@ type Outcome = (u32, Option<NgFault>, u64);
 // records between them are the expected ones.
 type Reading = ((Order, bool, Link), (u64, u64), bool);
 
-fn joined(rt: HostRuntime, parts: &[&[u8]]) -> Result<Vec<u8>, Fail> {
+pub fn joined(rt: HostRuntime, parts: &[&[u8]]) -> Result<Vec<u8>, Fail> {
     let mut octets = Vec::new(rt.alloc());
     for part in parts {
         octets.extend_from_slice(part)?;
@@ -155,7 +147,7 @@ fn changed(rt: HostRuntime, blocks: &[&[u8]], place: usize, octet: u8) -> Result
     outcome(rt, octets)
 }
 
-fn is_packet(record: &Record<'_>, packet: &Packet<'_>) -> bool {
+pub fn is_packet(record: &Record<'_>, packet: &Packet<'_>) -> bool {
     let (seconds, fraction, original, offset, side, bytes) = *packet;
     record.seconds == seconds
         && record.fraction == fraction
@@ -468,58 +460,5 @@ fn failing(rt: HostRuntime) -> Result<(Result<bool, NgFault>, u64), Fail> {
 #[test]
 fn a_source_that_fails_is_told(rt: HostRuntime) -> Result<(), Fail> {
     assert_eq!(rt; failing(rt)?, (Ok(true), 1));
-    Ok(())
-}
-
-// Returns whether the next record is the datagram at 3 seconds and 4 microseconds, and the end
-// follows.
-fn is_datagram_alone(reader: &mut Reader, source: &mut Ahead<'_, MemSource>, buf: &mut [u8]) -> bool
-    requires open { reader.old.is_open ≡ true }
-    requires room { 262144 ≤ length buf.old }
-{
-    match reader.next(source, buf) {
-        Ok(Some(record)) => {
-            if !is_packet(&record, &(3, 4, 30, 24, None, &DATAGRAM)) {
-                return false;
-            }
-        }
-        _ => return false,
-    }
-    matches!(reader.next(source, buf), Ok(None))
-}
-
-// Returns the head of a classic file, and whether the datagram is the only record after it.
-fn classic_behind(source: &mut Ahead<'_, MemSource>, buf: &mut [u8]) -> Option<(Head, bool)>
-    requires { 262144 ≤ length buf.old }
-{
-    let head = read_head(source).ok()?;
-    let mut reader = Reader::new(head);
-    Some((head, is_datagram_alone(&mut reader, source, buf)))
-}
-
-// Returns the result of reading a classic file whose first `known` octets were read before.
-fn classic_reading(rt: HostRuntime, known: usize) -> Result<Option<(Head, bool)>, Fail> {
-    let file = joined(rt, &[&CLASSIC, &RECORD, &DATAGRAM])?;
-    let first = file.get(..known).ok_or("too many octets")?;
-    let mut rest = Vec::new(rt.alloc());
-    rest.extend_from_slice(file.get(known..).ok_or("too many octets")?)?;
-    let mut buf = vec![in rt.alloc(); 0u8; 262144]?;
-    let mut source = MemSource::new(rest, 7, Vec::new(rt.alloc()));
-    Ok(classic_behind(&mut Ahead::new(first, &mut source), &mut buf))
-}
-
-// The octets that were read to find out the kind of a file are returned again: its head and its
-// record are read as if no octet had been read before.
-#[test]
-fn a_classic_file_is_read_behind_its_first_octets(rt: HostRuntime) -> Result<(), Fail> {
-    let head = Head {
-        order: Order::Little,
-        nano: false,
-        link: Link::Raw,
-    };
-    for known in [0, 4, 24, 50] {
-        let read = classic_reading(rt, known)?;
-        assert_eq!(rt; read, Some((head, true)), "{known}");
-    }
     Ok(())
 }

@@ -2,7 +2,7 @@
 ghost use Rattle.std.specs.Prelude.{◌+◌, ◌*◌, ◌<◌, ◌^◌, ◌%◌, length, IfSome};
 ghost use Rattle.std.proofs.Common.{rules};
 
-use crate::{Key, LinkedTable, Slot, SlotList, hash_words};
+use linked_table::{Key, LinkedTable, Slot, SlotList, hash_words};
 use std::process::Abort;
 use std::test::Fail;
 

@@ -2,7 +2,7 @@
 ghost use Rattle.std.specs.Prelude.{◌≡◌, true};
 ghost use Rattle.wire_base.specs.Tcp as tcp;
 
-use crate::{ColdAnswer, cold, warm_from};
+use cold_start::{ColdAnswer, cold, warm_from};
 use era_state::{Seg, Warm};
 use std::alloc::{AllocError, Global};
 use std::test::Fail;
