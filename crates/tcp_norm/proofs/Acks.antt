@@ -1,5 +1,7 @@
 -- What is kept of an era after a segment that brings no octet inwards: what was kept before, from what is acknowledged on.
-use Rattle.std.proofs.Common.{◌≡◌, ℕ, ◌≤◌, ◌⊎◌, inl, inr, Bool, true, false, cond, List, [], ◌∷◌, ◌++◌, Option, Some, None, is_some, pos, refl, sym, ap, subst, ◌∙◌, arith}
+use Rattle.std.proofs.Common.{◌≡◌, ℕ, ◌≤◌, ◌⊎◌, inl, inr, Bool, true, false, cond, List, [], ◌∷◌, ◌++◌, Option, Some, None, is_some, pos, refl, sym, ap, subst, ◌∙◌, arith, append_assoc, ◌-ℤ◌}
+use Rattle.std.proofs.lemmas.List.{append-nil}
+use Rattle.std.specs.List.{AllByRecursion}
 use Rattle.std.specs.Prelude.{nat_lt}
 use Rattle.std.specs.Option.{option_or}
 use Rattle.std.proofs.lemmas.Bool.Decides.{nat_tests}
@@ -7,10 +9,11 @@ use Rattle.wire_base.specs.Segments.{Written}
 use Rattle.era_state.specs.declared.era.Era.{Era}
 use Rattle.era_state.specs.declared.era.Era.TheVariants.{Called, Offered, Warm, Closed}
 use Rattle.era_state.specs.Words.{first_of}
-use Rattle.era_state.specs.Offsets.{number_in}
-use Rattle.era_state.specs.Marks.{fixes}
+use Rattle.era_state.specs.Offsets.{number_in, off, natural}
+use Rattle.era_state.specs.Marks.{fixes, get_at}
+use Rattle.era_state.specs.Silence.{IsSilent}
 use Rattle.era_state.specs.Quantities.{base_of, base_at, acked, first}
-use Rattle.era_state.specs.Eras.{acked_in}
+use Rattle.era_state.specs.Eras.{acked_in, SilenceStands}
 use Rattle.era_state.specs.Eras as era
 use Rattle.era_state.specs.Laws.{FirstStays, AckedNeverFalls}
 use Rattle.retain_store.specs.Maps.{Block, ForgetsBelow}
@@ -44,22 +47,34 @@ or_some : (f : Option ℕ) (rest more : Option ℕ) (base : ℕ) → option_or f
 or_some None rest more base is goes = goes is
 or_some (Some b) rest more base is goes = is
 
-pub first_stays_of : (xs : List Written) (w : Written) (base : ℕ) → first_of fixes xs ≡ Some base → first_of fixes (xs ++ w ∷ []) ≡ Some base
-first_stays_of [] w base is = cc
-first_stays_of (x ∷ xs) w base is = or_some (fixes x) (first_of fixes xs) (first_of fixes (xs ++ w ∷ [])) base is (first_stays_of xs w base)
+pub first_stays_of : (xs more : List Written) (base : ℕ) → first_of fixes xs ≡ Some base → first_of fixes (xs ++ more) ≡ Some base
+first_stays_of [] more base is = cc
+first_stays_of (x ∷ xs) more base is = or_some (fixes x) (first_of fixes xs) (first_of fixes (xs ++ more)) base is (first_stays_of xs more base)
 
 or_nothing : (x : Option ℕ) → option_or x None ≡ x
 or_nothing None = refl
 or_nothing (Some x) = refl
 
-pub kept_behind : FirstStays → AckedNeverFalls → (old new : Era) (ws : List Written) (w : Written) → era.StandsFor old ws → era.StandsFor new (ws ++ w ∷ []) → BringsNone w
-    → (o : ℕ) → kept_at (ws ++ w ∷ []) o ≡ cond (nat_lt o (acked_in new)) None (kept_at ws o)
-kept_behind stays grows old new ws w was is none o =
-    ap (λ a. cond (nat_lt o a) None (first (base_at (ws ++ w ∷ [])) (ws ++ w ∷ []) (pos o))) (sym (acked_is new (ws ++ w ∷ []) is)) ∙ by_base (based old ws was)
-  where
-    no_more : (base : ℕ) → first base (ws ++ w ∷ []) (pos o) ≡ first base ws (pos o)
-    no_more base = stays base ws w (pos o) ∙ (ap (option_or (first base ws (pos o))) (none base (acked base ws) o) ∙ or_nothing (first base ws (pos o)))
+-- behind segments that bring no octet no first octet is another, and no less is acknowledged
+none_more : FirstStays → (base : ℕ) (ws more : List Written) (o : ℕ) → AllByRecursion BringsNone more → first base (ws ++ more) (pos o) ≡ first base ws (pos o)
+none_more stays base ws [] o none = ap (λ l. first base l (pos o)) (append-nil ws)
+none_more stays base ws (w ∷ more) o none =
+    ap (λ l. first base l (pos o)) (sym (append_assoc ws (w ∷ []) more))
+    ∙ (none_more stays base (ws ++ w ∷ []) more o none.1
+    ∙ (stays base ws w (pos o) ∙ (ap (option_or (first base ws (pos o))) (none.0 base (acked base ws) o) ∙ or_nothing (first base ws (pos o)))))
 
+acked_grows : AckedNeverFalls → (base : ℕ) (ws more : List Written) → acked base ws ≤ acked base (ws ++ more)
+acked_grows grows base ws [] = subst (λ l. acked base ws ≤ acked base l) (sym (append-nil ws)) (omega arith)
+acked_grows grows base ws (w ∷ more) =
+    let one = grows base ws w in
+    let rest = acked_grows grows base (ws ++ w ∷ []) more in
+    subst (λ l. acked base ws ≤ acked base l) (append_assoc ws (w ∷ []) more) (omega (arith, one, rest))
+
+kept_behind : FirstStays → AckedNeverFalls → (old new : Era) (ws more : List Written) → era.StandsFor old ws → era.StandsFor new (ws ++ more) → AllByRecursion BringsNone more
+    → (o : ℕ) → kept_at (ws ++ more) o ≡ cond (nat_lt o (acked_in new)) None (kept_at ws o)
+kept_behind stays grows old new ws more was is none o =
+    ap (λ a. cond (nat_lt o a) None (first (base_at (ws ++ more)) (ws ++ more) (pos o))) (sym (acked_is new (ws ++ more) is)) ∙ by_base (based old ws was)
+  where
     both : (b c : Bool) (x y : Option ℕ) → x ≡ None → y ≡ None → cond b None x ≡ cond b None (cond c None y)
     both true c x y e f = refl
     both false true x y e f = e
@@ -72,24 +87,38 @@ kept_behind stays grows old new ws w was is none o =
         cases true e = refl
         cases false e = let f : nat_lt o a ≡ false = grind (arith, nat_tests, e, le) in sym (ap (λ t. cond t None x) f)
 
-    by_base : Based ws → cond (nat_lt o (acked_in new)) None (first (base_at (ws ++ w ∷ [])) (ws ++ w ∷ []) (pos o)) ≡ cond (nat_lt o (acked_in new)) None (kept_at ws o)
+    by_base : Based ws → cond (nat_lt o (acked_in new)) None (first (base_at (ws ++ more)) (ws ++ more) (pos o)) ≡ cond (nat_lt o (acked_in new)) None (kept_at ws o)
     by_base (inl (unbased, empty)) =
-        both (nat_lt o (acked_in new)) (nat_lt o (acked (base_at ws) ws)) _ _ (no_more (base_at (ws ++ w ∷ [])) ∙ empty (base_at (ws ++ w ∷ [])) o) (empty (base_at ws) o)
+        both (nat_lt o (acked_in new)) (nat_lt o (acked (base_at ws) ws)) _ _ (none_more stays (base_at (ws ++ more)) ws more o none ∙ empty (base_at (ws ++ more)) o) (empty (base_at ws) o)
     by_base (inr (base, fixed)) =
         let here : base_at ws ≡ base = ap number_in fixed in
-        let then' : base_at (ws ++ w ∷ []) ≡ base = ap number_in (first_stays_of ws w base fixed) in
+        let then' : base_at (ws ++ more) ≡ base = ap number_in (first_stays_of ws more base fixed) in
         let le : acked (base_at ws) ws ≤ acked_in new =
-        subst (λ b. acked b ws ≤ acked_in new) (sym here) (subst (λ a. acked base ws ≤ a) (ap (λ b. acked b (ws ++ w ∷ [])) (sym then') ∙ sym (acked_is new (ws ++ w ∷ []) is)) (grows base ws w)) in
-        ap (λ b. cond (nat_lt o (acked_in new)) None (first b (ws ++ w ∷ []) (pos o))) (then' ∙ sym here)
-        ∙ (ap (λ x. cond (nat_lt o (acked_in new)) None x) (no_more (base_at ws))
+        subst (λ b. acked b ws ≤ acked_in new) (sym here) (subst (λ a. acked base ws ≤ a) (ap (λ b. acked b (ws ++ more)) (sym then') ∙ sym (acked_is new (ws ++ more) is)) (acked_grows grows base ws more)) in
+        ap (λ b. cond (nat_lt o (acked_in new)) None (first b (ws ++ more) (pos o))) (then' ∙ sym here)
+        ∙ (ap (λ x. cond (nat_lt o (acked_in new)) None x) (none_more stays (base_at ws) ws more o none)
         ∙ inner (acked (base_at ws) ws) (acked_in new) (first (base_at ws) ws (pos o)) le)
 
 -- a chain of which the octets below are forgotten
-pub keeps_behind : FirstStays → AckedNeverFalls → (old new : Era) (ws : List Written) (w : Written) (blocks left : List Block) → era.StandsFor old ws → era.StandsFor new (ws ++ w ∷ [])
-    → BringsNone w → Keeps blocks ws → ForgetsBelow blocks left (acked_in new) → Keeps left (ws ++ w ∷ [])
-keeps_behind stays grows old new ws w blocks left was is none keeps forgets o =
-    forgets o ∙ (ap (λ x. cond (nat_lt o (acked_in new)) None x) (keeps o) ∙ sym (kept_behind stays grows old new ws w was is none o))
+pub keeps_behind : FirstStays → AckedNeverFalls → (old new : Era) (ws more : List Written) (blocks left : List Block) → era.StandsFor old ws → era.StandsFor new (ws ++ more)
+    → AllByRecursion BringsNone more → Keeps blocks ws → ForgetsBelow blocks left (acked_in new) → Keeps left (ws ++ more)
+keeps_behind stays grows old new ws more blocks left was is none keeps forgets o =
+    forgets o ∙ (ap (λ x. cond (nat_lt o (acked_in new)) None x) (keeps o) ∙ sym (kept_behind stays grows old new ws more was is none o))
 
 -- an outbound segment, and one without octets, brings none
 pub outbound_brings_none : (w : Written) → w.inward ≡ false → BringsNone w
 outbound_brings_none w out base at o = rw out refl
+
+-- silent segments bring none, and an era represents them behind its own
+pub silent_brings_none : (w : Written) → IsSilent w → BringsNone w
+silent_brings_none w silent base at o = rw silent.no_octets (none_in w.inward (natural (pos o -ℤ off base at w.seq)))
+  where
+    none_in : (b : Bool) (x : Option ℕ) → cond b (get_at [] x) None ≡ None
+    none_in true None = refl
+    none_in true (Some i) = refl
+    none_in false x = refl
+
+pub silent_stands : SilenceStands → (e : Era) (ws more : List Written) → AllByRecursion IsSilent more → era.StandsFor e ws → era.StandsFor e (ws ++ more)
+silent_stands stays e ws [] all stands = subst (era.StandsFor e) (sym (append-nil ws)) stands
+silent_stands stays e ws (w ∷ more) all stands =
+    subst (era.StandsFor e) (append_assoc ws (w ∷ []) more) (silent_stands stays e (ws ++ w ∷ []) more all.1 (stays e ws w all.0 stands))

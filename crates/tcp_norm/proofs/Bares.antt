@@ -26,7 +26,7 @@ use Rattle.tcp_norm.proofs.Rewritten.{syn_without_32, fin_without_32, is_one}
 use Rattle.tcp_norm.proofs.Verbatim.{or_false}
 use Rattle.tcp_norm.proofs.Written.{empty_left, holds_not}
 
--- without the urgent flag the others stand
+-- without the urgent flag the others are set
 bits_rst_32 : (x : ℕ) → x / 32 % 2 ≡ 1 → (x - 32) / 4 % 2 ≡ x / 4 % 2
 bits_rst_32 x h = omega arith
 
@@ -50,7 +50,7 @@ ack_without_32 x = cases (tcp.has_flag 32 x) refl
 pub legal_without_32 : (x : ℕ) → tcp.are_legal (without_flag 32 x) ≡ tcp.are_legal x
 legal_without_32 x = λ k. tcp.go_together (syn_without_32 x k) (fin_without_32 x k) (rst_without_32 x k) (ack_without_32 x k)
 
--- the datagram is what comes
+-- the datagram is what arrived
 pub comes_bare : (d : Datagram) (key : FlowKey) (s : Seg) → goes_in d.side ≡ true → key_of d ≡ key → came s ≡ bare_read d.octets → Comes d key s
 comes_bare d key s side keyed is =
     let flags : s.flags.0 ≡ without_flag 32 (tcp.flags d.octets) = ap (λ (w : Written). w.flags) is in
@@ -65,7 +65,7 @@ comes_bare d key s side keyed is =
       ack_flag = ap tcp.has_ack flags ∙ ack_without_32 (tcp.flags d.octets);
     }
 
--- where none of the rows is named, none holds
+-- where none of the rules is named, none holds
 record None_holds (b c e : Bool) : Type 0 where
   urgent : b ≡ false
   options : c ≡ false
@@ -87,7 +87,7 @@ pub behind : (a b : Bool) → a ≡ true → (a && b) ≡ false → b ≡ false
 behind true b is e = e
 behind false b is e = cc
 
--- what is read of the packet, where the segment anew is a bare one
+-- what is read of the packet, where the rewritten segment is a bare one
 pub bare_is_read : AreReadBack → (settings : PlainSettings) (ws : List Written) (d : Datagram) (probe : Bool) (named : List Rule) → goes_in d.side ≡ true → Fits (bare_segment d)
     → segment_anew ws d ≡ bare_segment d → (tcp.has_syn (segment_in d).flags || tcp.has_rst (segment_in d).flags) ≡ true
     → bare_rows (t_res d) (t_urg d) (t_opt d) (t_strip (segment_in d)) probe ≡ named → read true (packet_by settings ws d d.fixes named).octets ≡ bare_read d.octets

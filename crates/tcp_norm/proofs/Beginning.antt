@@ -1,4 +1,4 @@
--- After an era began the table and the store stand for the calls with its own.
+-- After an era began the table and the store represent the calls with its own.
 use Rattle.std.proofs.Common.{◌≡◌, ◌≢◌, ℕ, ◌+◌, ◌*◌, ◌/◌, ◌<◌, ◌≤◌, Bool, false, cond, List, [], ◌∷◌, ◌++◌, length, None, is_some, refl, sym, ap, ap₂, subst, ◌∙◌, arith}
 use Rattle.std.specs.List.{AllByRecursion, list_any, count_by, range_with_len}
 use Rattle.std.proofs.lemmas.List.Elements.{recursion_from_All}

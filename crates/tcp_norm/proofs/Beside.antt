@@ -1,4 +1,4 @@
--- The rows that mend an inbound datagram that brings no octet of the stream.
+-- The rules that rewrite an inbound datagram that brings no octet of the stream.
 use Rattle.std.proofs.Common.{◌≡◌, ℕ, ◌-◌, ◌==◌, ◌&&◌, ◌||◌, not, length, drop, arith, Bool, true, false, List, [], ◌∷◌, ◌++◌, refl, sym, ap, ap₂, ◌∙◌, append_assoc}
 use Rattle.std.specs.Prelude.{nat_lt}
 use Rattle.std.proofs.lemmas.List.{append-nil}
@@ -52,7 +52,7 @@ bare_mended settings v d probe side none asks =
 dropped_long : (n : ℕ) (m : List ℕ) → length (drop n m) ≡ length m - n
 dropped_long n m = grind (arith, common_steps)
 
--- the rows by the fields of the header are those of the datagram
+-- the rules by the fields of the header are those of the datagram
 pub beside_are : (settings : PlainSettings) (v : View) (d : Datagram) (m : List ℕ) (head : Tcp) (changed probe : Bool) (rows : List Rule)
     → head ≡ seen m head → d.octets ≡ m → goes_in d.side ≡ true → (is_live v && era.is_of_stream v.segments (segment_in d)) ≡ false → c_probe v (segment_in d) ≡ probe
     → changed ≡ differ (cleaned (tcp.has_syn head.flags.0) (tcp.options m)) (tcp.options m)

@@ -38,7 +38,7 @@ sum_most f most (x ∷ xs) all =
     let rest = sum_most f most xs all.1 in
     omega (arith, rest, all.0, sum_by-cons f x xs, suc-mul (length xs) most)
 
--- all but the one that is found have at most so many
+-- all but the one that is found have at most this number
 sum_at : (f : Alive → ℕ) (p : Alive → Bool) (most : ℕ) (xs : List Alive) (a : Alive) → find p xs ≡ Some a → AllByRecursion (λ (b : Alive). f b ≤ most) xs
     → sum_by f xs + most ≤ length xs * most + f a
 sum_at f p most [] a found all = cc
@@ -55,7 +55,7 @@ sum_at f p most (x ∷ xs) a found all = cases (p x) refl (λ later. sum_at f p 
         let below = rest (ap (λ b. cond b (Some x) (find p xs)) (sym e) ∙ found) in
         omega (arith, below, all.0, sum_by-cons f x xs, suc-mul (length xs) most)
 
--- of the rows that drop, T_ROOM is tested last
+-- of the rules that drop, T_ROOM is tested last
 room_last : (s a b c e f g h : Bool) → cond s (cond a (Some rules.TCold) (cond b (Some rules.TState) (cond c (Some rules.TSyn) (cond e (Some rules.TRst) (cond f (Some rules.TFull) (cond g (Some rules.TQuota) (cond h (Some rules.TRoom) None))))))) None ≡ Some rules.TRoom
     → (g ≡ false) × (h ≡ true)
 room_last true false false false false false false true is = (refl, refl)

@@ -1,4 +1,4 @@
--- The rows of an inbound SYN of a connection that has a live era.
+-- The rules of an inbound SYN of a connection that has a live era.
 use Rattle.std.proofs.Common.{◌≡◌, ℕ, ◌&&◌, ◌||◌, not, Bool, true, false, cond, List, Some, None, is_some, pos, ◌-ℤ◌, refl, sym, ap, ap₂, ◌∙◌}
 use Rattle.wire_base.specs.Tcp as tcp
 use Rattle.wire_base.specs.Segments.{Written}

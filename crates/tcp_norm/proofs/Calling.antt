@@ -1,25 +1,27 @@
 -- Segments are written in one era, and none begins and none ends.
-use Rattle.std.proofs.Common.{◌≡◌, ◌≢◌, ℕ, ◌≤◌, List, [], ◌∷◌, ◌++◌, length, refl, sym, ap, subst, ◌∙◌, arith, not, true, map, ap₂}
+use Rattle.std.proofs.Common.{◌≡◌, ◌≢◌, ℕ, ◌≤◌, List, [], ◌∷◌, ◌++◌, length, sym, ap, subst, ◌∙◌, arith, map, ap₂}
 use Rattle.std.specs.List.{AllByRecursion}
 use Rattle.wire_base.specs.Segments.{Written}
 use Rattle.linked_table.specs.declared.table.Slot.{Slot}
-use Rattle.linked_table.specs.Table.{Entry, with_value}
+use Rattle.linked_table.specs.Table.{Entry, SplitAt}
 use Rattle.linked_table.specs.Table as table
 use Rattle.retain_store.specs.Maps.{Store, chain_of}
 use Rattle.era_state.specs.Eras as era
 use Rattle.tcp_norm.specs.declared.flow.Flow.{Flow}
 use Rattle.tcp_norm.specs.declared.key.EraKey.{EraKey}
-use Rattle.tcp_norm.specs.Calls.{Alive, Call, segments, eras, without, numbers_of, ended_by, touched_by, is_among}
+use Rattle.tcp_norm.specs.Calls.{Alive, segments, without}
 use Rattle.tcp_norm.specs.Held.{held_of}
+use Rattle.tcp_norm.specs.Spare.{written_back}
+use Rattle.tcp_norm.specs.Rulings.{IsHeld}
+use Rattle.tcp_norm.specs.declared.flow.Live.{Live}
+use Rattle.linked_table.proofs.Parts.{split_at, wherever}
 use Rattle.tcp_norm.specs.Standing.{HoldsFor, alive_in}
 use Rattle.tcp_norm.specs.Chains.{Keeps}
 use Rattle.linked_table.proofs.Splits.{all_weaker, all_after, map_join}
-use Rattle.linked_table.proofs.Filters.{filter_all}
 use Rattle.tcp_norm.proofs.Steps.{take, change, add, put_touch, none_left, Other}
-use Rattle.linked_table.specs.Table.{SplitAt}
 
 -- the entry's segments have the new ones behind, all others stay
-pub writes_in : (lives : List Alive) (segments later : ℕ → List Written) (begun : ℕ) (entries : List (Entry EraKey Flow)) (store new : Store) (slot : Slot) (a : SplitAt entries slot) (value : Flow) (more : List Written) (now : ℕ)
+writes_in : (lives : List Alive) (segments later : ℕ → List Written) (begun : ℕ) (entries : List (Entry EraKey Flow)) (store new : Store) (slot : Slot) (a : SplitAt entries slot) (value : Flow) (more : List Written) (now : ℕ)
     → HoldsFor lives segments begun entries store
     → later a.here.value.number ≡ segments a.here.value.number ++ more → ((m : ℕ) → m ≢ a.here.value.number → later m ≡ segments m)
     → value.number ≡ a.here.value.number → value.touched ≡ now
@@ -28,7 +30,7 @@ pub writes_in : (lives : List Alive) (segments later : ℕ → List Written) (be
     → Keeps (chain_of new slot.0) (segments a.here.value.number ++ more)
     → length (chain_of new slot.0) ≡ held_of (segments a.here.value.number ++ more)
     → HoldsFor (without (a.here.value.number ∷ []) lives ++ record { number = a.here.value.number; key = a.here.key.0; touched = now } ∷ []) later begun
-    (table.without (with_value entries slot value) slot ++ table.only (with_value entries slot value) slot) new
+    (written_back entries slot value) new
 writes_in lives segments later begun entries store new slot a value more now h is other numbered touched chains stands keeps count =
     let n = a.here.value.number in
     let named : a.here.slot.0 ≡ slot.0 = ap (λ (s : Slot). s.0) a.named in
@@ -53,3 +55,24 @@ writes_in lives segments later begun entries store new slot a value more now h i
     number_given =
         let below = subst (AllByRecursion (λ (b : Alive). b.number ≤ begun)) (sym h.eras_are ∙ (ap (map alive_in) a.splits ∙ map_join alive_in a.before (a.here ∷ a.after))) h.given.below in
         (all_after (λ (b : Alive). b.number ≤ begun) (map alive_in a.before) (alive_in a.here ∷ map alive_in a.after) below).0
+
+-- the same by the names that are known of the era
+pub written_holds : (lives : List Alive) (segments later : ℕ → List Written) (begun : ℕ) (t : table.Table EraKey Flow) (store new : Store) (live : Live) (value : Flow) (more : List Written) (now : ℕ)
+    → HoldsFor lives segments begun t.entries store → IsHeld t live
+    → later live.flow.number ≡ segments live.flow.number ++ more → ((m : ℕ) → m ≢ live.flow.number → later m ≡ segments m)
+    → value.number ≡ live.flow.number → value.touched ≡ now
+    → ((chain : ℕ) → chain ≢ live.slot.0 → chain_of new chain ≡ chain_of store chain)
+    → era.StandsFor value.era (segments live.flow.number ++ more) → Keeps (chain_of new live.slot.0) (segments live.flow.number ++ more)
+    → length (chain_of new live.slot.0) ≡ held_of (segments live.flow.number ++ more)
+    → HoldsFor (without (live.flow.number ∷ []) lives ++ record { number = live.flow.number; key = live.key; touched = now } ∷ []) later begun (written_back t.entries live.slot value) new
+written_holds lives segments later begun t store new live value more now h held own others numbered touched chains stands keeps count =
+    let entries = t.entries in
+    let a = split_at entries live.slot held.inside held.slots_apart held.keys_apart in
+    let key_is : a.here.key.0 ≡ live.key = wherever (λ (e : Entry EraKey Flow). e.key.0 ≡ live.key) entries live.slot a held.keyed in
+    let n_is : a.here.value.number ≡ live.flow.number = ap (λ (v : Flow). v.number) (wherever (λ (e : Entry EraKey Flow). e.value ≡ live.flow) entries live.slot a held.entry) in
+    let back = sym n_is in
+    subst (λ k. HoldsFor (without (live.flow.number ∷ []) lives ++ record { number = live.flow.number; key = k; touched = now } ∷ []) later begun (written_back entries live.slot value) new) key_is
+    (subst (λ n. HoldsFor (without (n ∷ []) lives ++ record { number = n; key = a.here.key.0; touched = now } ∷ []) later begun (written_back entries live.slot value) new) n_is
+    (writes_in lives segments later begun entries store new live.slot a value more now h (subst (λ n. later n ≡ segments n ++ more) back own) (λ m ne. others m (λ same. ne (same ∙ back)))
+    (numbered ∙ back) touched chains (subst (λ n. era.StandsFor value.era (segments n ++ more)) back stands) (subst (λ n. Keeps (chain_of new live.slot.0) (segments n ++ more)) back keeps)
+    (count ∙ ap (λ n. held_of (segments n ++ more)) back)))

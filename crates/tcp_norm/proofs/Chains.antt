@@ -1,12 +1,11 @@
 -- A chain that has the octets kept of an era has its blocks.
-use Rattle.std.proofs.Common.{◌≡◌, ℕ, zero, suc, ◌+◌, ◌*◌, ◌/◌, ◌%◌, ◌==◌, ◌<◌, ◌≤◌, Bool, true, false, cond, not, List, [], ◌∷◌, length, get_or, Option, None, is_some, refl, sym, ap, ap₂, ◌∙◌, arith, add-one, pos}
+use Rattle.std.proofs.Common.{◌≡◌, ℕ, ◌+◌, ◌*◌, ◌/◌, ◌%◌, ◌==◌, ◌<◌, ◌≤◌, Bool, true, false, cond, List, ◌∷◌, length, None, is_some, ◌∙◌, arith, pos}
 use Rattle.std.specs.Prelude.{◌||◌, nat_lt}
-use Rattle.std.specs.List.{AllByRecursion, list_any, count_by, range_with_len}
-use Rattle.std.proofs.lemmas.List.Elements.{recursion_from_All}
+use Rattle.std.specs.List.{count_by, range_with_len}
 use Rattle.wire_base.specs.Segments.{Written}
 use Rattle.era_state.specs.Quantities.{base_at, acked, first, top}
-use Rattle.retain_store.specs.Maps.{Block, IsMap, IsFull, IsWithin, block_at, octet_at, has_octet, holds, missing, touched}
-use Rattle.tcp_norm.specs.Held.{kept_at, has_block, held_of, missing_of}
+use Rattle.retain_store.specs.Maps.{Block, IsMap, IsWithin, holds, missing}
+use Rattle.tcp_norm.specs.Held.{kept_at, held_of, missing_of}
 use Rattle.tcp_norm.specs.Chains.{Keeps}
 use Rattle.retain_store.proofs.Kept as kept
 use Rattle.tcp_norm.proofs.Tops.{first_is_below}
@@ -15,9 +14,9 @@ pub missing_are : (blocks : List Block) (ws : List Written) (from len : ℕ) →
 missing_are blocks ws from len map keeps = kept.missing_are blocks (kept_at ws) from len map keeps
 
 -- as many as the store counts
-pub count_is : (blocks : List Block) (ws : List Written) (count : ℕ) → IsMap blocks → Keeps blocks ws → count ≡ length blocks
-    → ((n : ℕ) → IsWithin blocks (256 * n) → count ≡ count_by (holds blocks) (range_with_len 0 n)) → length blocks ≡ held_of ws
-count_is blocks ws count map keeps is counted = kept.count_is blocks (kept_at ws) (top (base_at ws) ws / 256 + 1) map keeps below (λ n within. sym is ∙ counted n within)
+pub count_is : (blocks : List Block) (ws : List Written) → IsMap blocks → Keeps blocks ws
+    → ((n : ℕ) → IsWithin blocks (256 * n) → length blocks ≡ count_by (holds blocks) (range_with_len 0 n)) → length blocks ≡ held_of ws
+count_is blocks ws map keeps counted = kept.count_is blocks (kept_at ws) (top (base_at ws) ws / 256 + 1) map keeps below counted
   where
     below : (o : ℕ) → is_some (kept_at ws o) ≡ true → o < 256 * (top (base_at ws) ws / 256 + 1)
     below o some = cases (nat_lt o (acked (base_at ws) ws)) some

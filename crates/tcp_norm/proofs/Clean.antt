@@ -1,4 +1,4 @@
--- A datagram on which no row holds that touches a payload: one packet goes out, which carries what its segment does.
+-- A datagram on which no rule holds that touches a payload: one packet is sent, which carries what its segment does.
 use Rattle.std.proofs.Common.{◌≡◌, ℕ, ◌&&◌, ◌||◌, not, Bool, true, false, cond, List, [], ◌∷◌, length, filter, find, Option, Some, None, is_some, refl, sym, ap, ap₂, ◌∙◌, arith}
 use Rattle.std.specs.Prelude.{nat_lt}
 use Rattle.std.specs.List.{AllByRecursion, list_any}
@@ -33,7 +33,7 @@ use Rattle.tcp_norm.proofs.EmittingBare.{packet_sent}
 use Rattle.tcp_norm.proofs.Bares.{empty, behind}
 use Rattle.tcp_norm.proofs.LivesLists.{found_none}
 
--- a row that is not named does not hold
+-- a rule that is not named does not hold
 unnamed : (t p : Rule → Bool) (xs : List Rule) → list_any t (filter p xs) ≡ false → AllByRecursion (λ x. t x ≡ true → p x ≡ false) xs
 unnamed t p [] none = tt
 unnamed t p (x ∷ xs) none = cases (p x) none (unnamed t p xs)
@@ -67,7 +67,7 @@ clean p none =
       clash = each.1.1.1.1.1.1.1.1.1.0 refl;
     }
 
--- the packets of a datagram that no row drops, by whether a host is asked about it, and whether it is a RST to a live era
+-- the packets of a datagram that no rule drops, by whether a host is asked about it, and whether it is a RST to a live era
 abbrev pub packets_if : PlainSettings → View → Datagram → (mended : List Rule) → (asked reset : Bool) → List Packet
 packets_if settings v d mended asked reset =
     let w = segment_in d in
@@ -90,7 +90,7 @@ alone settings v d mended none =
     none_behind true number None w e = refl
     none_behind true number (Some x) w e = cc
 
--- an inbound segment with neither SYN nor RST that no row drops and no probe replaces is of the stream of a live era
+-- an inbound segment with neither SYN nor RST that no rule drops and no probe replaces is of the stream of a live era
 pub record Streams (v : View) (w : Written) : Type 0 where
   pub live : is_live v ≡ true
   pub stream : era.is_of_stream v.segments w ≡ true
@@ -116,7 +116,7 @@ streams v w inward syn rst unasked early =
     sym (λ k. live k && (inward k && not (rst k) && ((is_called state && (not (syn k) || other)) || (is_offered state && not (syn k))))) ∙ early in
     record { live = live; stream = (λ k. inward k && not (syn k) && not (rst k) && is_acknowledged state) ∙ reached state other none }
 
--- such a segment on which none of the rows on the stream holds has the kept interval's octets
+-- such a segment on which none of the rules on the stream holds has the kept interval's octets
 pub owned : (v : View) (w : Written) → Streams v w → (is_live v && era.t_old v.segments w) ≡ false
     → (is_live v && era.t_window v.segments w) ≡ false → (is_live v && era.t_end v.segments w) ≡ false
     → Own (bounds_of v.segments) (offset_of v.segments w.seq) (length w.octets) (tcp.has_fin w.flags)

@@ -1,4 +1,4 @@
--- The rows of an inbound datagram of a connection that has no live era.
+-- The rules of an inbound datagram of a connection that has no live era.
 use Rattle.std.proofs.Common.{◌≡◌, ℕ, ◌&&◌, ◌||◌, not, Bool, true, false, cond, [], ◌∷◌, Option, Some, None, is_some, pos, ◌-ℤ◌, refl, sym, ap, ap₂, subst, ◌∙◌}
 use Rattle.std.specs.Prelude.{is_none, nat_lt}
 use Rattle.std.specs.Option.{option_or}
@@ -66,7 +66,7 @@ full_is v w none call found = cases v.is_full v.evictable refl refl (sym found)
     cases true None f e is = rw (none, call, f, e) refl
     cases true (Some k) f e is = cc (is ∙ placed v true (Some k) f e)
 
--- a call begins an era where that finds a place
+-- a call begins an era where there is a slot for it
 pub step_called : (v : View) (w : Written) (p : Place) → w.inward ≡ true → v.era ≡ None → is_call w ≡ true → place_in v ≡ Some p → IsStep v w (began p)
 step_called v w p inward none call found = cases v.is_full v.evictable refl refl (sym found)
   where
@@ -89,7 +89,7 @@ no_call_no_begin v w inward call = first (not (is_some v.era)) (is_call w || (no
     first true x a b e = rw e refl
     first false x a b e = refl
 
--- the row that drops it, or none
+-- the rule that drops it, or none
 pub cold_refused : (settings : PlainSettings) (v : View) (d : Datagram) → goes_in d.side ≡ true → v.era ≡ None → t_cold (segment_in d) ≡ true → dropped_by settings v d ≡ Some rules.TCold
 cold_refused settings v d side none is = cold_dropped settings v d side none ∙ ap (λ b. cond b (Some rules.TCold) (cond (t_full v (segment_in d)) (Some rules.TFull) None)) is
 

@@ -7,40 +7,33 @@ use Rattle.wire_base.specs.Segments.{Written}
 use Rattle.wire_base.specs.declared.address.FlowKey.{FlowKey}
 use Rattle.norm_settings.specs.Settings.{PlainSettings}
 use Rattle.linked_table.specs.Table.{Entry}
-use Rattle.retain_store.specs.Maps.{Store, chain_of}
+use Rattle.retain_store.specs.Maps.{Store}
 use Rattle.tcp_norm.specs.declared.flow.Flow.{Flow}
 use Rattle.tcp_norm.specs.declared.key.EraKey.{EraKey}
 use Rattle.tcp_norm.specs.declared.state.TcpNorm.{TcpNorm}
 use Rattle.tcp_norm.specs.declared.step.Step.{Step}
 use Rattle.ip_rules.specs.Datagrams.{Datagram, Packet, goes_in}
 use Rattle.tcp_norm.specs.Calls.{Call, expiry, datagram, Outcome, Alive, read, is_era, is_written, segments, eras, written_by, touched_by, ended_by, begins_by, asks_by, time_of, alive_at, key_of, without, numbers_of, is_among}
-use Rattle.era_state.specs.Eras as era
-use Rattle.tcp_norm.specs.Held.{held_of}
-use Rattle.linked_table.specs.Table.{Pairwise}
 use Rattle.tcp_norm.specs.Standing.{HoldsFor, IsFor, IsTimely, StandsFor, EntryStands, alive_in}
-use Rattle.tcp_norm.specs.Chains.{Keeps}
 use Rattle.tcp_norm.specs.Steps.{listed, one, Does}
 use Rattle.linked_table.proofs.Splits.{all_weaker, all_join}
 use Rattle.tcp_norm.proofs.Splits.{all_unmap, pairs_push}
 use Rattle.linked_table.proofs.Filters.{filter_all}
 use Rattle.tcp_norm.proofs.Nears.{all_filter}
-use Rattle.tcp_norm.proofs.Steps.{number_other, number_same}
+use Rattle.tcp_norm.proofs.LivesLists.{pairs_passed}
+use Rattle.tcp_norm.proofs.Steps.{number_other, number_same, still}
 use Rattle.tcp_norm.proofs.Beginning.{others_before}
 
 -- what is written in the era that it names, and in no other
-pub own_of : (now n : ℕ) (d : Datagram) (w : Written) (s : Step) (o : Outcome) → Does d w s o → s.era ≡ Some n → written_by n (datagram now d o) ≡ w ∷ []
-own_of now n d w s o does era =
-    ap₂ (λ a b. cond (is_era n a && b) (map (λ (p : Packet). read (goes_in d.side) p.octets) o.packets) []) (does.era_is ∙ era) does.written
-    ∙ (ap (λ b. cond (b && true) (map (λ (p : Packet). read (goes_in d.side) p.octets) o.packets) []) (number_same n) ∙ does.packets_are)
+pub own_by : (now n : ℕ) (d : Datagram) (o : Outcome) → o.era ≡ Some n → is_written o.verdict ≡ true → written_by n (datagram now d o) ≡ map (λ (p : Packet). read (goes_in d.side) p.octets) o.packets
+own_by now n d o era written =
+    ap₂ (λ a b. cond (is_era n a && b) (map (λ (p : Packet). read (goes_in d.side) p.octets) o.packets) []) era written
+    ∙ ap (λ b. cond (b && true) (map (λ (p : Packet). read (goes_in d.side) p.octets) o.packets) []) (number_same n)
 
-pub others_of : (now n m : ℕ) (d : Datagram) (w : Written) (s : Step) (o : Outcome) → Does d w s o → s.era ≡ Some n → m ≢ n → written_by m (datagram now d o) ≡ []
-others_of now n m d w s o does era ne =
-    ap (λ a. cond (is_era m a && is_written o.verdict) (map (λ (p : Packet). read (goes_in d.side) p.octets) o.packets) []) (does.era_is ∙ era)
+pub others_by : (now n m : ℕ) (d : Datagram) (o : Outcome) → o.era ≡ Some n → m ≢ n → written_by m (datagram now d o) ≡ []
+others_by now n m d o era ne =
+    ap (λ a. cond (is_era m a && is_written o.verdict) (map (λ (p : Packet). read (goes_in d.side) p.octets) o.packets) []) era
     ∙ ap (λ b. cond (b && is_written o.verdict) (map (λ (p : Packet). read (goes_in d.side) p.octets) o.packets) []) (number_other n m (λ same. ne (sym same)))
-
-pub nothing_of : (now m : ℕ) (d : Datagram) (w : Written) (s : Step) (o : Outcome) → Does d w s o → s.era ≡ None → written_by m (datagram now d o) ≡ []
-nothing_of now m d w s o does era =
-    ap (λ a. cond (is_era m a && is_written o.verdict) (map (λ (p : Packet). read (goes_in d.side) p.octets) o.packets) []) (does.era_is ∙ era)
 
 pub touched_of : (now : ℕ) (d : Datagram) (w : Written) (s : Step) (o : Outcome) (era : Option ℕ) → Does d w s o → s.era ≡ era → touched_by (datagram now d o) ≡ alive_at now (key_of d) era
 touched_of now d w s o era does is = ap₂ (λ a b. cond b (alive_at now (key_of d) a) []) (does.era_is ∙ is) does.written
@@ -113,18 +106,11 @@ lives_begin c cs a begun out below above others e t =
     stays (Some k) ne = one_in k a (λ same. ne k refl (sym same))
 
 -- times rise
-pairs_filter : {X : Type 0} (R : X → X → Type 0) (p : X → Bool) (xs : List X) → Pairwise R xs → Pairwise R (filter p xs)
-pairs_filter R p [] pairs = tt
-pairs_filter R p (x ∷ xs) pairs =
-    let rest = pairs_filter R p xs pairs.1 in
-    let here = all_filter (R x) p xs pairs.0 in
-    elim (p x) as (λ b. Pairwise R (cond b (x ∷ filter p xs) (filter p xs))) [ true ↦ (here, rest) | false ↦ rest ]
-
 timely_left : (now : ℕ) (numbers : List ℕ) (xs : List Alive) → IsTimely now xs → IsTimely now (without numbers xs)
 timely_left now numbers xs t =
     record {
       most = all_filter (λ (a : Alive). a.touched ≤ now) (λ (a : Alive). not (is_among numbers a.number)) xs t.most;
-      rises = pairs_filter (λ (a b : Alive). a.touched ≤ b.touched) (λ (a : Alive). not (is_among numbers a.number)) xs t.rises;
+      rises = pairs_passed (λ (a b : Alive). a.touched ≤ b.touched) (λ (a : Alive). not (is_among numbers a.number)) xs t.rises;
     }
 
 timely_later : (t now : ℕ) (xs : List Alive) → t ≤ now → IsTimely t xs → IsTimely now xs
@@ -150,7 +136,7 @@ timely_next t (datagram now d o) cs le is =
     timely_left now (ended_by (datagram now d o)) (without (numbers_of (touched_by (datagram now d o))) (eras cs) ++ touched_by (datagram now d o))
     (timely_with t now (without (numbers_of (touched_by (datagram now d o))) (eras cs)) (key_of d) o.era (is_written o.verdict) le (timely_left t (numbers_of (touched_by (datagram now d o))) (eras cs) is))
 
--- what was kept of the calls stands for them with one more
+-- what was kept of the calls represents them with one more
 pub stands_next : (settings : PlainSettings) (old new : TcpNorm) (cs : List Call) (c : Call) (lives : List Alive) → StandsFor settings old cs
     → IsFor settings new → HoldsFor lives (λ n. segments n (c ∷ cs)) new.begun new.table.entries new.store → eras (c ∷ cs) ≡ lives
     → new.begun ≡ old.begun + begins_by c → new.latest ≡ time_of c → old.latest ≤ time_of c → new.calls ≡ old.calls + asks_by c
@@ -179,11 +165,4 @@ relabel lives segments later begun entries store same fresh h = record {
     each_still : (es : List (Entry EraKey Flow)) → AllByRecursion (λ (e : Entry EraKey Flow). later e.value.number ≡ segments e.value.number) es
         → AllByRecursion (EntryStands segments store) es → AllByRecursion (EntryStands later store) es
     each_still [] same each = tt
-    each_still (e ∷ es) same each = (
-      record {
-        era = subst (era.StandsFor e.value.era) (sym same.0) each.0.era;
-        octets = subst (Keeps (chain_of store e.slot.0)) (sym same.0) each.0.octets;
-        count = each.0.count ∙ ap held_of (sym same.0);
-      },
-      each_still es same.1 each.1,
-    )
+    each_still (e ∷ es) same each = (still segments later store store e refl each.0 same.0, each_still es same.1 each.1)

@@ -54,7 +54,7 @@ outward_emitted cleans same settings ws d named h out =
     small [] = own
     small (rule ∷ more) = subst (λ n. n < 2 ^ 16) (sym (ap (λ b. tcp.window (cond b (segment_octets (segment_anew ws d)) (sum_mended d))) out ∙ mends)) own
 
--- where SYN or RST stands, FIN does not
+-- where SYN or RST is set, FIN is not
 no_fin : (syn fin rst ack : Bool) → tcp.go_together syn fin rst ack ≡ true → (syn || rst) ≡ true → fin ≡ false
 no_fin true true rst ack e marked = cc
 no_fin true false rst ack e marked = refl
@@ -71,7 +71,7 @@ bare_read_is cleans back settings v d h side marked stream =
     ∙ bare_is_read back settings v.segments d (c_probe v (segment_in d)) (mended_by settings v d) side (bare_fits_here cleans settings d h) (bare_anew v.segments d marked) marked
     (sym (bare_mended settings v d (c_probe v (segment_in d)) side stream refl))
 
--- it is bare, where its SYN has the number before the base, or fixes it
+-- it is bare, where its SYN has the number before the base, or sets it
 pub is_bare : (settings : PlainSettings) (ws : List Written) (d : Datagram) → IsSegment settings d → (tcp.has_syn (segment_in d).flags || tcp.has_rst (segment_in d).flags) ≡ true
     → (tcp.has_syn (segment_in d).flags ≡ true → base_of (ws ++ bare_read d.octets ∷ []) ≡ Some (((segment_in d).seq + 1) % 2 ^ 32)) → IsBare ws (bare_read d.octets)
 is_bare settings ws d h marked based =

@@ -30,7 +30,7 @@ use Rattle.tcp_norm.specs.Outcomes.{begun_with, outcome_by, call_of}
 use Rattle.tcp_norm.specs.Lives.{AreMade, last_begun, writes_in, made_of}
 use Rattle.tcp_norm.specs.Segments.{IsSegment, AsksSegment, CallsAreEmitted}
 use Rattle.linked_table.proofs.Splits.{all_weaker}
-use Rattle.tcp_norm.proofs.Splits.{all_map}
+use Rattle.tcp_norm.proofs.Splits.{all_map, some_same}
 use Rattle.tcp_norm.proofs.Judging.{of_stream, stream_begins_none}
 use Rattle.tcp_norm.proofs.Entering.{asks, step_asked, packets_begun, packets_live, packets_reset, early_now}
 use Rattle.tcp_norm.proofs.Marked.{called_marked, cold_stream, call_stream, reset_stream, syn_marked, rst_marked, stream_is, probes_silent}
@@ -50,7 +50,7 @@ pub record Below : Type 0 where
   pub same : MendedSayTheSame
   pub cleans : CleansOctets
 
--- The era in which a segment that no row drops is written: one that it begins, of which nothing was written, or the live one.
+-- The era in which a segment that no rule drops is written: one that it begins, of which nothing was written, or the live one.
 data Enters (v : View) (w : Written) (ws : List Written) : Type 0 where
   begun : (n : ℕ) → begun_with v w ≡ Some n → ws ≡ [] → Enters v w ws
   within : (n : ℕ) → v.era ≡ Some n → begun_with v w ≡ None → v.segments ≡ ws → Enters v w ws
@@ -81,7 +81,7 @@ marked_in b settings v d ws behind h side marked stream based silent =
     subst (λ w. AreEmitted ws (w ∷ written d behind)) (sym (bare_read_is b.cleans b.back settings v d h side marked stream))
     (inr (inl (is_bare settings ws d h marked based)), silent_emitted (ws ++ bare_read d.octets ∷ []) (written d behind) silent)
 
--- one that comes inwards, where no era is live
+-- an inbound one, where no era is live
 passes_cold : Below → (settings : PlainSettings) (v : View) (d : Datagram) (ws : List Written) → IsSegment settings d → goes_in d.side ≡ true → v.era ≡ None → Enters v (segment_in d) ws
     → AreEmitted ws (written d (packets_passed settings v d (mended_by settings v d)))
 passes_cold b settings v d ws h side none (within n live begins same) = absurd (some_none (sym none ∙ live))
@@ -91,7 +91,7 @@ passes_cold b settings v d ws h side none (begun n begins empty) =
     subst (λ ps. AreEmitted ws (written d ps)) (sym (packets_begun settings v d (mended_by settings v d) none asked))
     (marked_in b settings v d ws [] h side (called_marked v w side asked) (cold_stream v w none) (fixes_base ws d.octets (ap base_of empty)) tt)
 
--- the rows on its era hold of none that passes
+-- the rules on its era hold of none that passes
 passed_rows : (settings : PlainSettings) (v : View) (d : Datagram) → goes_in d.side ≡ true → dropped_by settings v d ≡ None → AllByRecursion (λ r. holds_era settings v d r ≡ false) era_rows
 passed_rows settings v d side none = found_none (holds_era settings v d) era_rows (ap (λ b. cond b (find (holds_era settings v d) era_rows) None) (sym side) ∙ none)
 
@@ -164,7 +164,7 @@ passes_stream b settings v d ws n h side live none syn rst enters emitted =
         subst (λ us. AreEmitted us (written d (packet_by settings v.segments d d.fixes (mended_by settings v d) ∷ []))) same
         (inr (inr (stream_emitted b.cleans b.reads b.back settings v d h (subst (AreEmitted []) (sym same) emitted) (ap is_some live) stream)), tt)
 
--- what goes out for a segment that no row drops is emitted in its era
+-- what is sent for a segment that no rule drops is emitted in its era
 passes_emitted : Below → (settings : PlainSettings) (v : View) (d : Datagram) (ws : List Written) → IsSegment settings d → dropped_by settings v d ≡ None → Enters v (segment_in d) ws → AreEmitted [] ws
     → AreEmitted ws (written d (packets_passed settings v d (mended_by settings v d)))
 passes_emitted b settings v d ws h none enters emitted = by (goes_in d.side) v.era (tcp.has_syn (segment_in d).flags) (tcp.has_rst (segment_in d).flags) refl refl refl refl
@@ -177,7 +177,7 @@ passes_emitted b settings v d ws h none enters emitted = by (goes_in d.side) v.e
     by true (Some n) false true side l s r = passes_reset b settings v d ws n h side l s r
     by true (Some n) false false side l s r = passes_stream b settings v d ws n h side l none s r enters emitted
 
--- nothing is written in an era to come
+-- nothing is written in a later era
 pub unwritten : (era : ℕ) (c : Call) → writes_in era c ≡ false → written_by era c ≡ []
 unwritten era (expiry now ended) e = refl
 unwritten era (datagram now d o) e = ap (λ b. cond b (written d o.packets) []) e
@@ -197,7 +197,7 @@ none_to_come settings (c ∷ cs) made era above =
     omega (arith, le)) in
     ap₂ (λ a b. a ++ b) (none_to_come settings cs made.1 era (omega arith)) (unwritten era c none)
 
--- the era of a segment that no row drops
+-- the era of a segment that no rule drops
 enters_of : (settings : PlainSettings) (cs : List Call) (d : Datagram) (era : ℕ) → AreMade settings cs → option_or (begun_with (view_of settings cs d) (segment_in d)) (view_of settings cs d).era ≡ Some era
     → Enters (view_of settings cs d) (segment_in d) (segments era cs)
 enters_of settings cs d era made is = by (begun_with v (segment_in d)) refl is
@@ -208,9 +208,6 @@ enters_of settings cs d era made is = by (begun_with v (segment_in d)) refl is
     next : (t : Bool) (n : ℕ) → cond t (Some v.next) None ≡ Some n → v.next ≡ n
     next true n e = cc
     next false n e = cc
-
-    some_same : {m n : ℕ} → Some m ≡ Some n → m ≡ n
-    some_same e = cc
 
     same : (l : Option Alive) → number_of l ≡ Some era → segments_of (λ n. segments n cs) l ≡ segments era cs
     same None e = cc

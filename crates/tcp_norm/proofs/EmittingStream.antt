@@ -45,7 +45,7 @@ interval_of ws w =
 kept_of : (ws : List Written) (w : Written) → KeptOf ws w (interval_of ws w)
 kept_of ws w = record { spans = record { lo_is = refl; hi_is = refl; fin_is = refl }; below_is = refl; window_is = refl; end_is = refl }
 
--- an era of which a place is acknowledged has a base
+-- an era of which an offset is acknowledged has a base
 pub acknowledged_based : (ws : List Written) → is_acknowledged (state_of ws) ≡ true → base_of ws ≡ Some (base_at ws)
 acknowledged_based ws = by (base_of ws)
   where
@@ -53,7 +53,7 @@ acknowledged_based ws = by (base_of ws)
     by None e = cc
     by (Some base) e = refl
 
--- the end of emitted segments is a place
+-- the end of emitted segments is an offset
 end_is_place : (ws : List Written) → base_of ws ≡ Some (base_at ws) → AreEmitted [] ws → (end : Option ℕ) × (whole end ≡ end_of (base_at ws) ws)
 end_is_place ws based emitted = by (end_of (base_at ws) ws) (bounded (base_at ws) ws (λ number e. cc (based, e)) emitted).end_lies
   where

@@ -1,4 +1,4 @@
--- What becomes of an inbound datagram, by the row that drops it, or by what it does to the eras.
+-- What becomes of an inbound datagram, by the rule that drops it, or by what it does to the eras.
 use Rattle.std.proofs.Common.{◌≡◌, ◌==◌, length, ℕ, ◌&&◌, not, Bool, true, false, cond, List, [], ◌∷◌, ◌++◌, map, Option, Some, None, is_some, refl, sym, ap, ap₂, subst, ◌∙◌}
 use Rattle.wire_base.specs.Tcp as tcp
 use Rattle.wire_base.specs.Segments.{Written}
@@ -22,12 +22,13 @@ use Rattle.tcp_norm.specs.Rows.{is_live, holds_era, dropped_by, mended_by}
 use Rattle.tcp_norm.specs.Emits.{packet_by, packets_passed, probe_packet, probe_packets, probe_dropped}
 use Rattle.tcp_norm.specs.Outcomes.{outcome_at, outcome_by, outcome_dropped, verdict_of}
 use Rattle.tcp_norm.specs.Inwards.{passed}
+use Rattle.ip_rules.specs.Judged.{where_holds}
 use Rattle.tcp_norm.specs.Colds.{IsUnheard}
 use Rattle.tcp_norm.specs.Steps.{IsStep, Does}
 use Rattle.tcp_norm.proofs.Judging.{both_true, not_true, dropped_is}
 use Rattle.tcp_norm.proofs.Passing.{fixed_or_passed, no_note}
 
--- one that a row drops
+-- one that a rule drops
 pub in_dropped : (settings : PlainSettings) (v : View) (d : Datagram) (rule : Rule) (era : Option ℕ) (packets : List Packet) → dropped_by settings v d ≡ Some rule → v.era ≡ era
     → probe_packets settings d (probe_dropped v d rule) ≡ packets
     → outcome_at settings v d ≡ record { verdict = verdicts.Drop; rules = rule ∷ []; era = era; begun = None; ended = []; packets = packets }
@@ -40,15 +41,15 @@ in_unheard settings v d rule drops =
     let is : outcome_at settings v d ≡ outcome_dropped settings v d rule = ap (λ r. outcome_by settings v d r (mended_by settings v d)) drops in
     subst IsUnheard (sym is) (record { era = λ written. cc; begun = refl; ended = refl })
 
--- one that no row drops
+-- one that no rule drops
 pub in_outcome : (settings : PlainSettings) (v : View) (d : Datagram) (s : Step) (fixes named : List Rule) (packets : List Packet) → goes_in d.side ≡ true → d.fixes ≡ fixes → dropped_by settings v d ≡ None
-    → mended_by settings v d ≡ named → IsStep v (segment_in d) s → packets_passed settings v d named ≡ packets
+    → mended_by settings v d ≡ named → IsStep v (segment_in d) s → s.full ≡ false → packets_passed settings v d named ≡ packets
     → outcome_at settings v d ≡ passed s fixes named packets
-in_outcome settings v d s fixes named packets side fixed none mends is sends =
+in_outcome settings v d s fixes named packets side fixed none mends is full sends =
     ap₂ (outcome_by settings v d) none mends
     ∙ (λ k. record {
       verdict = verdict_of (fixed k ++ named);
-      rules = no_note v d side k ++ fixed k ++ named;
+      rules = (no_note v d side ∙ ap (λ b. where_holds b rules.TFull) (sym full)) k ++ fixed k ++ named;
       era = (sym is.era_is) k;
       begun = (sym is.begun_is) k;
       ended = (sym is.ended_is) k;
@@ -114,7 +115,7 @@ packets_reset settings v d named n live side rst = rw (live, side, rst) refl
 pub keyed : (packet : IpPacket) (link : List ℕ) (d : Datagram) (key : FlowKey) → packet.side ≡ Inward → IsDatagram packet link d → key ≡ key_at Inward packet.head packet.payload.now → key_of d ≡ key
 keyed packet link d key side is same = (λ k. key_at ((is.side ∙ side) k) (is.head k) (is.octets k)) ∙ sym same
 
--- T_STATE holds of a segment with neither SYN nor RST of an era of which no place is acknowledged
+-- T_STATE holds of a segment with neither SYN nor RST of an era of which no offset is acknowledged
 pub early_now : (ws : List Written) (w : Written) (s : State) → s ≡ state_of ws → is_acknowledged s ≡ false → w.inward ≡ true → tcp.has_syn w.flags ≡ false → tcp.has_rst w.flags ≡ false
     → t_state ws w ≡ true
 early_now ws w called is early inward syn rst = ap (λ s. is_early_at s (iss ws) w) (sym is) ∙ rw (inward, syn, rst) refl
@@ -129,7 +130,7 @@ early_dropped settings v d n side live early =
     let state : holds_era settings v d rules.TState ≡ true = ap₂ (λ a b. a && b) (ap is_some live) early in
     dropped_is settings v d false true _ _ _ _ _ side cold state refl refl refl refl refl
 
--- rows on the header mend it
+-- rules on the header rewrite it
 pub fix_is : (fixes rows : List Rule) → (length fixes == 0) ≡ false → verdicts.Fix ≡ verdict_of (fixes ++ rows)
 fix_is [] rows never = cc
 fix_is (x ∷ xs) rows never = refl

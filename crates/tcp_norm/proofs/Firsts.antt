@@ -1,15 +1,13 @@
 -- The least recently touched era that holds nothing, as the table finds it.
 use Rattle.std.proofs.Common.{◌≡◌, ◌≢◌, ℕ, ◌==◌, Bool, true, false, cond, List, [], ◌∷◌, ◌++◌, length, map, filter, Option, Some, None, refl, sym, ap, subst, ◌∙◌, suc, arith}
-use Rattle.std.specs.Prelude.{IfSome, IfNone}
-use Rattle.std.specs.List.{AllByRecursion, AllPairs}
-use Rattle.std.proofs.lemmas.List.Elements.{All-from_recursion}
+use Rattle.std.specs.List.{AllByRecursion}
 use Rattle.linked_table.specs.declared.table.Slot.{Slot}
 use Rattle.wire_base.specs.Segments.{Written}
 use Rattle.rule_book.specs.declared.entry.Ended.{Ended}
 use Rattle.rule_book.specs.declared.entry.Reason.TheVariants as reasons
 use Rattle.era_state.specs.Quantities.{octets_of}
 use Rattle.linked_table.specs.Listing.{first_of}
-use Rattle.linked_table.specs.Table.{Entry, IsIn, Wherever}
+use Rattle.linked_table.specs.Table.{Entry, IsIn}
 use Rattle.retain_store.specs.Maps.{Store, chain_of}
 use Rattle.tcp_norm.specs.declared.flow.Flow.{Flow}
 use Rattle.tcp_norm.specs.declared.key.EraKey.{EraKey}
@@ -18,11 +16,9 @@ use Rattle.tcp_norm.specs.Held.{held_of}
 use Rattle.tcp_norm.specs.Views.{head_of}
 use Rattle.tcp_norm.specs.Steps.{evicted_of, first_empty}
 use Rattle.tcp_norm.specs.Spare.{spares}
-use Rattle.linked_table.specs.Table.{Pairwise}
 use Rattle.tcp_norm.specs.Standing.{HoldsFor, EntryStands, alive_in}
-use Rattle.linked_table.proofs.Splits.{all_weaker, all_join, pairwise, pairs_before, pairs_after}
 
--- an era that ends since its place is needed
+-- an era that ends since its slot is needed
 abbrev pub ended_at : (ℕ → List Written) → ℕ → Ended
 ended_at segments number = record { era = number; reason = reasons.Evicted; octets = Some (octets_of (segments number)) }
 
@@ -114,35 +110,3 @@ spare_finds store (e ∷ es) = finds_by store e es (IsEmpty store e) refl (spare
 -- the first of slots that are those
 pub found : (store : Store) (entries : List (Entry EraKey Flow)) (slots : List Slot) → slots ≡ spares store entries → (r : Option Slot) → r ≡ first_of slots → Finds store entries r
 found store entries slots listed r first = subst (Finds store entries) (sym (first ∙ ap first_of listed)) (spare_finds store entries)
-
-pub spare_inside : (store : Store) (entries : List (Entry EraKey Flow)) (r : Option Slot) → Finds store entries r → IfSome r (IsIn entries)
-spare_inside store entries None first = tt
-spare_inside store entries (Some slot) first = first.inside
-
-pub empty_some : (store : Store) (entries : List (Entry EraKey Flow)) (r : Option Slot)
-    → AllPairs (λ e f. e.slot ≢ f.slot) entries → Finds store entries r
-    → IfSome r (λ slot. (lives : List Alive) (segments : ℕ → List Written) (begun : ℕ) → HoldsFor lives segments begun entries store
-    → Wherever entries slot (λ e. first_empty lives segments ≡ Some (ended_at segments e.value.number)))
-empty_some store entries None slots first = tt
-empty_some store entries (Some slot) slots first = λ lives segments begun h.
-    let P : Entry EraKey Flow → Type 0 = λ e. e.slot ≡ slot → first_empty lives segments ≡ Some (ended_at segments e.value.number) in
-    let is = first_is lives segments begun entries store first.before first.entry first.after h first.splits first.earlier first.passes in
-    let apart = subst (λ l. Pairwise (λ (e f : Entry EraKey Flow). e.slot ≢ f.slot) l) first.splits (pairwise (λ (e f : Entry EraKey Flow). e.slot ≢ f.slot) entries slots) in
-    All-from_recursion P entries (subst (AllByRecursion P) (sym first.splits)
-    (all_join P first.before (first.entry ∷ first.after)
-    (all_weaker (λ (e : Entry EraKey Flow). e.slot ≢ first.entry.slot) P (λ e ne same. absurd (ne (same ∙ sym first.named))) first.before
-    (pairs_before (λ (e f : Entry EraKey Flow). e.slot ≢ f.slot) first.before first.entry first.after apart)) (
-      (λ same. is),
-      all_weaker (λ (e : Entry EraKey Flow). first.entry.slot ≢ e.slot) P (λ e ne same. absurd (ne (first.named ∙ sym same))) first.after
-          (pairs_after (λ (e f : Entry EraKey Flow). e.slot ≢ f.slot) first.before first.entry first.after apart),
-    )))
-
-pub empty_none : (store : Store) (entries : List (Entry EraKey Flow)) (r : Option Slot) → Finds store entries r
-    → IfNone r ((lives : List Alive) (segments : ℕ → List Written) (begun : ℕ) → HoldsFor lives segments begun entries store → first_empty lives segments ≡ None)
-empty_none store entries (Some slot) first = tt
-empty_none store entries None first = λ lives segments begun h. first_none lives segments begun entries store h first
-
--- a fact where nothing is
-pub if_none : {X : Type 0} (r : Option X) (P : Type 0) → P → IfNone r P
-if_none None P p = p
-if_none (Some x) P p = tt

@@ -1,4 +1,4 @@
--- A segment written anew fits its places.
+-- The fields of a rewritten segment fit their widths.
 use Rattle.std.proofs.Common.{◌≡◌, ℕ, ◌+◌, ◌-◌, ◌%◌, ◌^◌, ◌<◌, ◌≤◌, Bool, true, false, cond, List, [], length, pos, ◌+ℤ◌, arith}
 use Rattle.std.specs.Prelude.{slice_index, nat_lt}
 use Rattle.wire_base.specs.Tcp as tcp

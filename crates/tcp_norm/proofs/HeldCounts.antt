@@ -29,7 +29,7 @@ count_none : (xs : List ℕ) → count_by (λ n. false) xs ≡ 0
 count_none [] = refl
 count_none (x ∷ xs) = omega (arith, more (λ n. false) x xs, count_none xs)
 
--- a number stands once in a range
+-- a number is once in a range
 one_above : (y : ℕ) (r : ℕ → Bool) (s n : ℕ) → y < s → count_by (λ m. (m == y) && r m) (range_with_len s n) ≡ 0
 one_above y r s zero above = refl
 one_above y r s (suc n) above =

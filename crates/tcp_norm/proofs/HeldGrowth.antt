@@ -77,7 +77,7 @@ touches from len o above below =
     ap (λ b. among (cond b [] (range_with_len (from / 256) ((from + len - 1) / 256 + 1 - from / 256))) (o / 256)) some
     ∙ among_range (from / 256) ((from + len - 1) / 256 + 1 - from / 256) (o / 256) (omega arith) (omega arith)
 
--- What is kept of a list was kept of another, or stands in so many places from one on.
+-- What is kept of a list was kept of another, or is at this number of offsets from one on.
 abbrev pub GrowsIn : (old new : List Written) (from len : ℕ) → Type 0
 GrowsIn old new from len = (o : ℕ) → is_some (kept_at new o) ≡ true → (is_some (kept_at old o) ≡ true) ⊎ ((from ≤ o) × (o < from + len))
 
@@ -123,7 +123,7 @@ one_more l ws w same o some =
 
 -- a base that is fixed stays
 pub base_stays : (ws : List Written) (w : Written) (base : ℕ) → base_of ws ≡ Some base → base_at (ws ++ w ∷ []) ≡ base_at ws
-base_stays ws w base is = ap number_in (first_stays_of ws w base is) ∙ sym (ap number_in is)
+base_stays ws w base is = ap number_in (first_stays_of ws (w ∷ []) base is) ∙ sym (ap number_in is)
 
 -- a segment that brings no octet
 silent_one : Laws → (ws : List Written) (w : Written) → AreEmitted [] ws → BringsNone w → held_of (ws ++ w ∷ []) ≤ held_of ws
@@ -150,7 +150,7 @@ silent_all l ws (w ∷ more) emitted all =
     let same = ap held_of shift in
     omega (arith, rest, here, same)
 
--- a segment whose octets stand in the kept interval
+-- a segment whose octets are in the kept interval
 abbrev pub Stands : List Written → (w frame : Written) → Type 0
 Stands ws w frame = (o : ℕ) → is_some (octet_at (base_at ws) (acked (base_at ws) ws) (pos o) frame) ≡ true → (low_of ws w ≤ o) × (o < high_of ws w)
 
@@ -191,7 +191,7 @@ sequence_low : (base : ℕ) (b : Bounds) (at : ℤ) (sequence len : ℕ) (fin : 
     → frame_sequence base b at sequence len fin ≡ (base + low b at) % 2 ^ 32
 sequence_low base b at sequence len fin some = rw some refl
 
--- one written anew, with the number and the length of its interval
+-- a rewritten one, with the number and the length of its interval
 pub anew_stands : Laws → (ws : List Written) (w frame : Written) → frame.seq ≡ frame_sequence_of ws w → length frame.octets ≡ high_of ws w - low_of ws w
     → Stands ws w frame
 anew_stands l ws w frame number long o got =

@@ -28,6 +28,7 @@ use Rattle.tcp_norm.proofs.Steps.{number_same}
 use Rattle.tcp_norm.proofs.Quotas.{at_most}
 use Rattle.tcp_norm.proofs.Bounds.{never_for_room}
 use Rattle.tcp_norm.proofs.LivesLists.{all_passed, found_is}
+use Rattle.tcp_norm.proofs.Splits.{everywhere}
 use Rattle.tcp_norm.proofs.LivesKinds.{Moves, Kind, stays, goes_on, ends_own, begins_beside, evicts, reopens_one, kind}
 use Rattle.tcp_norm.proofs.LivesCount.{flows_are_bounded}
 use Rattle.tcp_norm.proofs.HeldGrowth.{Laws, silent_all, frame_grows}
@@ -145,10 +146,6 @@ sum_found f q (x ∷ xs) a found = cases (q x) found (sum_found f q xs a)
         let out : stays x ≡ false = rw same (rw (number_same a.number) refl) in
         rw out (omega (arith, sum_left f stays xs, sum_by-cons f x xs, ap f same))
     cases false is rest = kept (stays x) (rest is)
-
-everywhere : {X : Type 0} (P : X → Type 0) (xs : List X) → ((x : X) → P x) → AllByRecursion P xs
-everywhere P [] each = tt
-everywhere P (x ∷ xs) each = (each x, everywhere P xs each)
 
 -- what is held after a call that writes in these eras alone
 module _ (cs : List Call) (c : Call) (ts : List Alive) (touched : touched_by c ≡ ts) (writes : (n : ℕ) → writes_in n c ≡ is_among (numbers_of ts) n) where

@@ -1,4 +1,4 @@
--- What a call of a datagram writes: segments that bring no octet, or one whose octets stand in the kept interval.
+-- What a call of a datagram writes: segments that bring no octet, or one whose octets are in the kept interval.
 use Rattle.std.proofs.Common.{◌≡◌, ℕ, ◌&&◌, ◌||◌, not, Bool, true, false, cond, List, [], ◌∷◌, length, map, find, Option, Some, None, inl, inr, pos, ◌-ℤ◌, refl, sym, ap, ap₂, subst, ◌∙◌}
 use Rattle.std.specs.Prelude.{nat_lt}
 use Rattle.std.specs.List.{AllByRecursion, list_any}
@@ -110,7 +110,7 @@ stream_stands l settings v d is side unmarked s (rule ∷ more) named =
 abbrev as_written : Datagram → List Packet → List Written
 as_written d packets = map (λ p. read (goes_in d.side) p.octets) packets
 
--- what goes out of a datagram that no row drops
+-- what is sent of a datagram that no rule drops
 passed_writes : Laws → (settings : PlainSettings) (v : View) (d : Datagram) → IsSegment settings d → dropped_by settings v d ≡ None
     → (mended : List Rule) → mended_by settings v d ≡ mended → Writes settings v d (as_written d (packets_passed settings v d mended))
 passed_writes l settings v d is passes mended named = by_side (goes_in d.side) refl

@@ -8,7 +8,7 @@ use Rattle.std.proofs.lemmas.List.Elements.{recursion_from_All}
 use Rattle.wire_base.specs.Segments.{Written}
 use Rattle.norm_settings.specs.Settings.{PlainSettings}
 use Rattle.linked_table.specs.declared.table.Slot.{Slot}
-use Rattle.linked_table.specs.Table.{Entry, Wherever, first_slot}
+use Rattle.linked_table.specs.Table.{Entry, Wherever, first_slot, Pairwise}
 use Rattle.retain_store.specs.Maps.{Store}
 use Rattle.tcp_norm.specs.declared.flow.Flow.{Flow}
 use Rattle.tcp_norm.specs.declared.key.EraKey.{EraKey}
@@ -16,10 +16,10 @@ use Rattle.tcp_norm.specs.declared.state.TcpNorm.{TcpNorm}
 use Rattle.tcp_norm.specs.Calls.{Alive, Call, expiry, eras, segments, without, numbers_of, is_among}
 use Rattle.tcp_norm.specs.Views.{idle_at}
 use Rattle.tcp_norm.specs.Steps.{first_old}
-use Rattle.linked_table.specs.Table.{Pairwise}
-use Rattle.tcp_norm.specs.Standing.{HoldsFor, IsFor, IsTimely, StandsFor}
+use Rattle.tcp_norm.specs.Standing.{HoldsFor, IsFor, IsTimely, StandsFor, Holds, ChangesTables}
 use Rattle.linked_table.proofs.Splits.{all_weaker}
 use Rattle.linked_table.proofs.Filters.{filter_all, filter_none}
+use Rattle.tcp_norm.proofs.Splits.{everywhere, some_same}
 use Rattle.tcp_norm.proofs.Steps.{number_other, number_same}
 use Rattle.tcp_norm.proofs.Effects.{without_none, stands_next, relabel}
 
@@ -68,9 +68,6 @@ pub record IdleFront (idle now n : ℕ) (xs : List Alive) : Type 0 where
   pub left : without (n ∷ []) xs ≡ rest
   pub rises : Pairwise (λ (a b : Alive). a.touched ≤ b.touched) rest
 
-some_is : {m n : ℕ} → Some m ≡ Some n → m ≡ n
-some_is e = cc
-
 pub idle_front : (idle now n : ℕ) (xs : List Alive) → Pairwise (λ (a b : Alive). a.touched ≤ b.touched) xs → Pairwise (λ (a b : Alive). a.number ≢ b.number) xs
     → first_old idle now xs ≡ Some n → IdleFront idle now n xs
 idle_front idle now n [] rises apart some = cc
@@ -79,7 +76,7 @@ idle_front idle now n (x ∷ xs) rises apart some = cases (old idle now x) refl
     cases : (b : Bool) → old idle now x ≡ b → IdleFront idle now n (x ∷ xs)
     cases false e = cc (ap (λ b. cond b (Some x.number) None) (sym e) ∙ some)
     cases true e =
-        let number : x.number ≡ n = some_is (ap (λ b. cond b (Some x.number) None) (sym e) ∙ some) in
+        let number : x.number ≡ n = some_same (ap (λ b. cond b (Some x.number) None) (sym e) ∙ some) in
         let others : without (n ∷ []) xs ≡ xs =
         filter_all (λ (a : Alive). not (is_among (n ∷ []) a.number)) xs (all_weaker (λ (a : Alive). x.number ≢ a.number) (λ (a : Alive). not (is_among (n ∷ []) a.number) ≡ true)
         (λ a ne. rw (number_other n a.number (λ same. ne (number ∙ same))) refl) xs apart.0) in
@@ -117,21 +114,16 @@ without_two n m (x ∷ xs) =
     without_step x xs [] p q r (p x) (q x) refl refl (among_two n m x.number) (without_two n m xs)
     ∙ ap (λ b. cond b (x ∷ filter r xs) (filter r xs)) (sym (among_two n m x.number))
 
--- what was kept stands for the calls with an expiry that ended these
-pub expired : (settings : PlainSettings) (was new : TcpNorm) (cs : List Call) (now : ℕ) (numbers : List ℕ) (lives : List Alive) → StandsFor settings was cs → IsFor settings new
-    → new.begun ≡ was.begun → new.calls ≡ was.calls → new.latest ≡ now → was.latest ≤ now → without numbers (eras cs) ≡ lives
-    → HoldsFor lives (λ m. segments m cs) new.begun new.table.entries new.store → StandsFor settings new (expiry now numbers ∷ cs)
-expired settings was new cs now numbers lives st opened begun calls latest later left holds =
+-- what was kept represents the calls with an expiry that ended these
+pub expired : (settings : PlainSettings) (was counted new : TcpNorm) (cs : List Call) (now begun : ℕ) (numbers : List ℕ) (lives : List Alive) → StandsFor settings was cs → ChangesTables counted new begun → begun ≡ was.begun → IsFor settings counted
+    → counted.calls ≡ was.calls → counted.latest ≡ now → was.latest ≤ now → without numbers (eras cs) ≡ lives → Holds new lives (λ m. segments m cs) → StandsFor settings new (expiry now numbers ∷ cs)
+expired settings was counted new cs now begun numbers lives st changes same_begun opened calls latest later left holds =
     let c : Call = expiry now numbers in
     let same : (m : ℕ) → segments m (c ∷ cs) ≡ segments m cs = λ m. append-nil (segments m cs) in
-    stands_next settings was new cs c lives st opened
-    (relabel lives (λ m. segments m cs) (λ m. segments m (c ∷ cs)) new.begun new.table.entries new.store (each lives same) (λ m above. same m ∙ holds.given.fresh m above) holds)
+    stands_next settings was new cs c lives st (changes.opened settings opened)
+    (relabel lives (λ m. segments m cs) (λ m. segments m (c ∷ cs)) new.begun new.table.entries new.store (everywhere (λ (a : Alive). segments a.number (c ∷ cs) ≡ segments a.number cs) lives (λ a. same a.number)) (λ m above. same m ∙ holds.given.fresh m above) holds)
     (ap (without numbers) (append-nil (without [] (eras cs)) ∙ without_none (eras cs)) ∙ left)
-    (omega (arith, begun)) latest later (omega (arith, calls))
-  where
-    each : (xs : List Alive) → ((m : ℕ) → segments m (expiry now numbers ∷ cs) ≡ segments m cs) → AllByRecursion (λ (a : Alive). segments a.number (expiry now numbers ∷ cs) ≡ segments a.number cs) xs
-    each [] same = tt
-    each (x ∷ xs) same = (same x.number, each xs same)
+    (omega (arith, changes.begun_is, same_begun)) (changes.latest_is ∙ latest) later (omega (arith, changes.calls_are, calls))
 
 -- the eras that end: none, one or two
 idles_at : (settings : PlainSettings) (now idle : ℕ) (cs : List Call) → idle ≡ settings.idle → idle_at settings now cs ≡ numbers_of (take 2 (filter (old idle now) (eras cs)))

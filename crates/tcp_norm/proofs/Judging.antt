@@ -1,4 +1,4 @@
--- What the rows say of an inbound segment of the stream: T_QUOTA or T_ROOM alone may drop it, and those that may mend it are seven.
+-- What the rules say of an inbound segment of the stream: T_QUOTA or T_ROOM alone may drop it, and those that may rewrite it are seven.
 use Rattle.std.proofs.Common.{◌≡◌, ◌&&◌, ◌||◌, not, Bool, true, false, cond, List, [], ◌∷◌, ◌++◌, Some, None, refl, sym, ap, ap₂, ◌∙◌, append_assoc}
 use Rattle.std.specs.Prelude.{filter}
 use Rattle.std.proofs.lemmas.List.{append-nil}
@@ -69,7 +69,7 @@ no_stray ws w f = rw (f.inward, f.no_syn) refl
 no_reset : (ws : List Written) (w : Written) → OfStream ws w → era.t_rst ws w ≡ false
 no_reset ws w f = rw (f.inward, f.no_rst) refl
 
--- the row that drops a datagram, by which rows hold
+-- the rule that drops a datagram, by which rules hold
 pub dropped_is : (settings : PlainSettings) (v : View) (d : Datagram) (cold state syn rst full quota room : Bool) → goes_in d.side ≡ true
     → holds_era settings v d rules.TCold ≡ cold → holds_era settings v d rules.TState ≡ state → holds_era settings v d rules.TSyn ≡ syn → holds_era settings v d rules.TRst ≡ rst
     → holds_era settings v d rules.TFull ≡ full → holds_era settings v d rules.TQuota ≡ quota → holds_era settings v d rules.TRoom ≡ room

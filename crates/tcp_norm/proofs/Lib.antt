@@ -16,7 +16,7 @@ pub mod Chains
 pub mod Streams
 pub mod Acks
 pub mod Calling
-pub mod Forwarding
+pub mod Slots
 pub mod Beginning
 pub mod Settling
 pub mod Judging
@@ -44,8 +44,8 @@ pub mod Beside
 pub mod Entering
 pub mod Bares
 pub mod Probing
-pub mod Staying
 pub mod Resetting
+pub mod Writing
 pub mod Fitting
 pub mod Marked
 pub mod Quotas

@@ -9,6 +9,7 @@ use Rattle.tcp_norm.specs.Calls.{Call, Alive, eras, is_among, ended_by, begun_in
 use Rattle.linked_table.specs.Table.{Pairwise}
 use Rattle.tcp_norm.specs.Lives.{begun_for, last_begun, has_ended, writes_in, last_touch, touch_place, IsLast}
 use Rattle.linked_table.proofs.Splits.{all_join, all_weaker, all_before, all_after}
+use Rattle.tcp_norm.proofs.Splits.{some_same}
 use Rattle.tcp_norm.proofs.Nears.{all_filter}
 use Rattle.tcp_norm.proofs.Steps.{number_other}
 use Rattle.tcp_norm.proofs.LivesLists.{all_passed, all_unfiltered, all_two, pairs_passed, pairs_join, pairs_weaker, pairs_alone}
@@ -155,9 +156,6 @@ news_last cs c f = all_passed (IsLast (c ∷ cs)) (unended c) (touched_by c) (ea
 news_among : (c : Call) → AllByRecursion (λ a. is_among (numbers_of (touched_by c)) a.number ≡ true) (touched_by c) → AllByRecursion (λ a. is_among (numbers_of (touched_by c)) a.number ≡ true) (news c)
 news_among c all = all_filter (λ (a : Alive). is_among (numbers_of (touched_by c)) a.number ≡ true) (unended c) (touched_by c) all
 
-some_same : {m n : ℕ} → Some m ≡ Some n → m ≡ n
-some_same e = cc
-
 -- an era that was has another four-tuple than one in which the call writes
 apart : (cs : List Call) (c : Call) (a t : Alive) → Still cs c a → IsLast (c ∷ cs) t → is_among (numbers_of (touched_by c)) t.number ≡ true → a.key ≢ t.key
 apart cs c a t still new among same =
@@ -173,7 +171,7 @@ keys_next cs c f s =
     (λ a still. all_two (IsLast (c ∷ cs)) (λ t. is_among (numbers_of (touched_by c)) t.number ≡ true) (λ t. a.key ≢ t.key) (λ t new among. apart cs c a t still new among) (news c) (news_last cs c f) (news_among c f.among))
     (olds cs c) (olds_last cs c f s))
 
--- no place is past the last call
+-- no position is past the last call
 place_within : (cs : List Call) (n : ℕ) → touch_place n cs ≤ length cs
 place_within [] n = omega arith
 place_within (c ∷ cs) n = cases (writes_in n c) (place_within cs n)
@@ -182,14 +180,14 @@ place_within (c ∷ cs) n = cases (writes_in n c) (place_within cs n)
     cases true le = omega arith
     cases false le = omega (arith, le)
 
--- the place of an era in which the call does not write, and of one in which it does
+-- the position of an era in which the call does not write, and of one in which it does
 place_same : (cs : List Call) (c : Call) → Effect cs c → (n : ℕ) → is_among (numbers_of (touched_by c)) n ≡ false → touch_place n (c ∷ cs) ≡ touch_place n cs
 place_same cs c f n out = ap (λ b. cond b (length cs + 1) (touch_place n cs)) (f.writes n ∙ out)
 
 place_new : (cs : List Call) (c : Call) → Effect cs c → (n : ℕ) → is_among (numbers_of (touched_by c)) n ≡ true → touch_place n (c ∷ cs) ≡ length cs + 1
 place_new cs c f n among = ap (λ b. cond b (length cs + 1) (touch_place n cs)) (f.writes n ∙ among)
 
--- one stands before the other
+-- one is before the other
 abbrev Before : List Call → Alive → Alive → Type 0
 Before cs a b = touch_place a.number cs < touch_place b.number cs
 

@@ -61,7 +61,7 @@ head_found q (x ∷ xs) = cases (q x) (head_found q xs)
 one_more : (xs : List Alive) (a : Alive) → length (xs ++ a ∷ []) ≡ length xs + 1
 one_more xs a = omega (arith, length-append xs (a ∷ []))
 
--- an era takes the place of another
+-- an era replaces another
 in_place : (xs ys : List Alive) (n : ℕ) (a : Alive) → ys ≡ without (n ∷ []) xs ++ a ∷ [] → length (without (n ∷ []) xs) < length xs → length ys ≤ length xs
 in_place xs ys n a is lt = let l = ap length is in let m = one_more (without (n ∷ []) xs) a in omega (arith, l, m, lt)
 

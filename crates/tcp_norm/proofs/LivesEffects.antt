@@ -14,7 +14,7 @@ use Rattle.tcp_norm.specs.Outcomes.{call_of, expiry_of}
 use Rattle.linked_table.specs.Table.{Pairwise}
 use Rattle.tcp_norm.specs.Lives.{begun_for, last_begun, has_ended, made_of}
 use Rattle.tcp_norm.proofs.Finds.{key_is, key_same}
-use Rattle.tcp_norm.proofs.Splits.{all_map}
+use Rattle.tcp_norm.proofs.Splits.{all_map, some_same}
 use Rattle.tcp_norm.proofs.Nears.{all_filter}
 use Rattle.tcp_norm.proofs.Steps.{number_same}
 use Rattle.tcp_norm.proofs.LivesLists.{among_is}
@@ -118,9 +118,6 @@ all_taken P (suc n) (x ∷ xs) all = (all.0, all_taken P n xs all.1)
 head_given : (cs : List Call) (xs : List Alive) (k : ℕ) → AllByRecursion (λ a. a.number ≤ begun_in cs) xs → number_of (head_of xs) ≡ Some k → k ≤ begun_in cs
 head_given cs [] k all e = cc
 head_given cs (x ∷ xs) k all e = let same : x.number ≡ k = cc in subst (λ n. n ≤ begun_in cs) same all.0
-
-some_same : {m n : ℕ} → Some m ≡ Some n → m ≡ n
-some_same e = cc
 
 none_some : {n : ℕ} → None ≡ Some n → ⊥
 none_some e = cc

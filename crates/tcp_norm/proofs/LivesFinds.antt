@@ -7,12 +7,10 @@ use Rattle.tcp_norm.specs.Calls.{Call, Alive, eras, live, is_key, begun_in}
 use Rattle.tcp_norm.specs.Views.{number_of}
 use Rattle.tcp_norm.specs.Lives.{last_begun, has_ended, IsLast}
 use Rattle.linked_table.proofs.Splits.{all_weaker}
+use Rattle.tcp_norm.proofs.Splits.{some_same}
 use Rattle.tcp_norm.proofs.Finds.{key_is, key_same}
 use Rattle.tcp_norm.proofs.LivesLists.{found_is, found_none}
 use Rattle.tcp_norm.proofs.Lives.{Lasts}
-
-some_same : {m n : ℕ} → Some m ≡ Some n → m ≡ n
-some_same e = cc
 
 -- what is live is the last begun, and has not ended
 pub live_last : (cs : List Call) → Lasts cs → (key : FlowKey) (era : ℕ) → number_of (live cs key) ≡ Some era → (last_begun key cs ≡ Some era) × (has_ended era cs ≡ false)

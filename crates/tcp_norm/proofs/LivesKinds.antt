@@ -46,7 +46,7 @@ passes : (rules : List Rule) → is_written (verdict_of rules) ≡ true
 passes [] = refl
 passes (rule ∷ more) = refl
 
--- What a segment that no row drops does to the eras, by what was asked of the calls before.
+-- What a segment that no rule drops does to the eras, by what was asked of the calls before.
 data Turn (era evictable : Option ℕ) (next : ℕ) (full : Bool) (begun : Option ℕ) (ended : List ℕ) : Type 0 where
   outside : era ≡ None → begun ≡ None → ended ≡ [] → Turn era evictable next full begun ended
   within : (m : ℕ) → era ≡ Some m → begun ≡ None → ended ≡ [] → Turn era evictable next full begun ended

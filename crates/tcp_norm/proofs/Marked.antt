@@ -105,7 +105,7 @@ rst_marked w syn rst = rw (syn, rst) refl
 pub flags_are : (packet : IpPacket) (link : List ℕ) (d : Datagram) (head : Tcp) → IsDatagram packet link d → IsRead packet.payload.now head → head.flags.0 ≡ (segment_in d).flags
 flags_are packet link d head is h = ap (λ (x : Tcp). x.flags.0) h.fields ∙ ap tcp.flags (sym is.octets)
 
--- a segment of the stream of an era of which a place is acknowledged
+-- a segment of the stream of an era of which an offset is acknowledged
 pub stream_is : (ws : List Written) (w : Written) (s : State) → s ≡ state_of ws → is_acknowledged s ≡ true → w.inward ≡ true → tcp.has_syn w.flags ≡ false → tcp.has_rst w.flags ≡ false
     → era.is_of_stream ws w ≡ true
 stream_is ws w s is settled inward syn rst = rw (inward, syn, rst) (ap is_acknowledged (sym is) ∙ settled)
@@ -120,7 +120,7 @@ step_stream v w n live f =
       full_is = rw live refl;
     }
 
--- it is written anew from the fields of its header
+-- it is rewritten from the fields of its header
 pub stream_anew : (ws : List Written) (d : Datagram) (packet : IpPacket) (link : List ℕ) (head : Tcp) (seq : ℕ) (fin : Bool) (octets : List ℕ)
     → IsDatagram packet link d → IsRead packet.payload.now head → tcp.has_syn (segment_in d).flags ≡ false → tcp.has_rst (segment_in d).flags ≡ false
     → seq ≡ frame_sequence_of ws (segment_in d) → fin ≡ is_fin_kept ws (segment_in d) → octets ≡ octets_sent ws (segment_in d)
@@ -152,7 +152,7 @@ writes_all d n s fixes named packets is = record {
   packets_are = refl;
 }
 
--- no probe goes out beside one that a row drops
+-- no probe is sent beside one that a rule drops
 pub no_probe_behind : (settings : PlainSettings) (v : View) (d : Datagram) (rule : Rule) → dropped_by settings v d ≡ Some rule → is_live v ≡ true → OfStream v.segments (segment_in d)
     → probe_packets settings d (probe_dropped v d rule) ≡ []
 no_probe_behind settings v d rule drops live f = cases (t_quota settings v (segment_in d)) (t_room v (segment_in d)) (sym drops ∙ stream_dropped settings v d live f)

@@ -1,14 +1,15 @@
 -- The numbers kept of each era stay in their bounds.
-use Rattle.std.proofs.Common.{not, ◌≡◌, ℕ, ◌==◌, ◌≤◌, Bool, true, false, cond, List, [], ◌∷◌, ◌++◌, filter, subst, arith}
+use Rattle.std.proofs.Common.{not, ◌≡◌, ℕ, ◌==◌, ◌≤◌, Bool, true, false, cond, List, [], ◌∷◌, ◌++◌, filter, arith}
 use Rattle.std.specs.List.{AllByRecursion}
 use Rattle.linked_table.specs.declared.table.Slot.{Slot}
-use Rattle.linked_table.specs.Table.{Entry, IsIn, Wherever, with_value, revalued}
+use Rattle.linked_table.specs.Table.{Entry, with_value, revalued}
 use Rattle.linked_table.specs.Table as table
 use Rattle.era_state.specs.declared.era.Era.{Era}
 use Rattle.tcp_norm.specs.declared.flow.Flow.{Flow}
 use Rattle.tcp_norm.specs.declared.key.EraKey.{EraKey}
 use Rattle.tcp_norm.specs.Near.{IsNear, AreNear}
-use Rattle.linked_table.proofs.Splits.{all_weaker, all_join, split_any, all_after}
+use Rattle.tcp_norm.specs.Spare.{written_back}
+use Rattle.linked_table.proofs.Splits.{all_weaker, all_join}
 use Rattle.std.proofs.lemmas.List.Elements.{recursion_from_All, All-from_recursion}
 
 pub near_weaker : (a b : ℕ) (e : Era) → a ≤ b → IsNear a e → IsNear b e
@@ -38,10 +39,10 @@ pub near_left : (calls : ℕ) (p : Entry EraKey Flow → Bool) (entries : List (
 near_left calls p entries near = All-from_recursion (Near calls) (filter p entries) (all_filter (Near calls) p entries (recursion_from_All (Near calls) entries near))
 
 pub near_touched : (calls : ℕ) (slot : Slot) (value : Flow) (entries : List (Entry EraKey Flow)) → IsNear calls value.era → AreNear calls entries
-    → AreNear calls (table.without (with_value entries slot value) slot ++ table.only (with_value entries slot value) slot)
+    → AreNear calls (written_back entries slot value)
 near_touched calls slot value entries is near =
     let valued = near_valued calls slot value entries is (recursion_from_All (Near calls) entries near) in
-    All-from_recursion (Near calls) (table.without (with_value entries slot value) slot ++ table.only (with_value entries slot value) slot)
+    All-from_recursion (Near calls) (written_back entries slot value)
     (all_join (Near calls) (table.without (with_value entries slot value) slot) (table.only (with_value entries slot value) slot)
     (all_filter (Near calls) (λ (e : Entry EraKey Flow). not (e.slot.0 == slot.0)) (with_value entries slot value) valued)
     (all_filter (Near calls) (λ (e : Entry EraKey Flow). e.slot.0 == slot.0) (with_value entries slot value) valued))

@@ -1,5 +1,5 @@
 -- What holds of an inbound segment of a live era.
-use Rattle.std.proofs.Common.{◌≡◌, true, List, refl, sym, ap, ◌∙◌}
+use Rattle.std.proofs.Common.{◌≡◌, true, List, sym, ap, ◌∙◌}
 use Rattle.norm_settings.specs.Settings.{PlainSettings}
 use Rattle.era_state.specs.declared.segment.Seg.{Seg}
 use Rattle.era_state.specs.Eras as era
@@ -13,33 +13,35 @@ use Rattle.tcp_norm.specs.Colds.{Comes}
 use Rattle.tcp_norm.specs.Inwards.{bare_read}
 use Rattle.tcp_norm.specs.Rulings.{IsFound, IsHeld}
 use Rattle.tcp_norm.specs.Standing.{StandsFor}
-use Rattle.tcp_norm.proofs.Outwards.{IsLive, view_live, era_at}
+use Rattle.tcp_norm.proofs.Outwards.{IsLive, view_live}
+use Rattle.tcp_norm.proofs.Slots.{AtSlot, at_slot}
 use Rattle.tcp_norm.proofs.Bares.{comes_bare}
 use Rattle.tcp_norm.proofs.Entering.{keyed}
 use Rattle.tcp_norm.proofs.Probing.{side_is}
 use Rattle.tcp_norm.proofs.Marked.{flags_are}
 
 -- what was asked of the calls before, of a connection whose live era the table has
-pub record HeldLive (settings : PlainSettings) (calls : List Call) (d : Datagram) (here : Live) : Type 0 where
+pub record HeldLive (settings : PlainSettings) (calls : List Call) (d : Datagram) (norm : TcpNorm) (here : Live) : Type 0 where
   pub live : IsLive settings calls d here.flow.number
-  pub stood : era.StandsFor here.flow.era (segments here.flow.number calls)
+  pub at : AtSlot (λ m. segments m calls) norm.begun norm.store here.slot here.flow
 
-pub held_live : (settings : PlainSettings) (calls : List Call) (d : Datagram) (norm : TcpNorm) (here : Live) → StandsFor settings norm calls → IsHeld norm.table here → key_of d ≡ here.key → HeldLive settings calls d here
+pub held_live : (settings : PlainSettings) (calls : List Call) (d : Datagram) (norm : TcpNorm) (here : Live) → StandsFor settings norm calls → IsHeld norm.table here → key_of d ≡ here.key → HeldLive settings calls d norm here
 held_live settings calls d norm here st h key_is = record {
   live = view_live settings calls _ _ _ here.slot here.flow _ d st.holds h.inside h.slots_apart h.keys_apart h.entry h.keyed key_is;
-  stood = era_at (eras calls) (λ m. segments m calls) _ _ _ here.slot here.flow st.holds h.inside h.slots_apart h.keys_apart h.entry;
+  at = at_slot (eras calls) (λ m. segments m calls) _ _ _ here.slot here.flow st.holds h.inside h.slots_apart h.keys_apart h.entry;
 }
 
-pub record OfLive (settings : PlainSettings) (calls : List Call) (d : Datagram) (a : Arrival) (here : Live) : Type 0 where
+pub record OfLive (settings : PlainSettings) (calls : List Call) (d : Datagram) (a : Arrival) (norm : TcpNorm) (here : Live) : Type 0 where
   pub side : goes_in d.side ≡ true
   pub key_is : key_of d ≡ here.key
   pub live : IsLive settings calls d here.flow.number
+  pub at : AtSlot (λ m. segments m calls) norm.begun norm.store here.slot here.flow
   pub stood : era.StandsFor here.flow.era (segments here.flow.number calls)
   pub flags : a.head.now.flags.0 ≡ (segment_in d).flags
   pub comes : (s : Seg) → came s ≡ bare_read a.packet.now.payload.now → Comes d here.key s
 
 pub of_live : (settings : PlainSettings) (calls : List Call) (d : Datagram) (a : Arrival) (norm : TcpNorm) (here : Live)
-    → StandsFor settings norm calls → IsDatagram a.packet.now a.link.now d → IsFound norm a here → OfLive settings calls d a here
+    → StandsFor settings norm calls → IsDatagram a.packet.now a.link.now d → IsFound norm a here → OfLive settings calls d a norm here
 of_live settings calls d a norm here st is f =
     let side = side_is a.packet.now a.link.now d a.side is in
     let key_is = keyed a.packet.now a.link.now d here.key a.side is f.key_is in
@@ -48,7 +50,8 @@ of_live settings calls d a norm here st is f =
       side = side;
       key_is = key_is;
       live = h.live;
-      stood = h.stood;
+      at = h.at;
+      stood = h.at.era;
       flags = flags_are a.packet.now a.link.now d a.head.now is a.read;
       comes = λ s reads. comes_bare d here.key s side key_is (reads ∙ ap bare_read (sym is.octets));
     }

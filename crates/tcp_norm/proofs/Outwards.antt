@@ -11,7 +11,6 @@ use Rattle.linked_table.specs.Table.{Entry, IsIn, HasNone, Wherever}
 use Rattle.retain_store.specs.Maps.{Store}
 use Rattle.era_state.specs.declared.segment.Seg.{Seg}
 use Rattle.era_state.specs.Read.{sent}
-use Rattle.era_state.specs.Eras as era
 use Rattle.era_state.specs.States.{state_of, is_closed}
 use Rattle.era_state.specs.Quantities.{base_of, octets_of}
 use Rattle.era_state.specs.Rules.{reopens_inward, reopens_outward, precedes}
@@ -19,14 +18,14 @@ use Rattle.tcp_norm.specs.declared.flow.Flow.{Flow}
 use Rattle.tcp_norm.specs.declared.key.EraKey.{EraKey}
 use Rattle.tcp_norm.specs.declared.step.Place.{Place}
 use Rattle.ip_rules.specs.Datagrams.{Datagram}
-use Rattle.tcp_norm.specs.Calls.{Call, Alive, segments, eras, key_of}
+use Rattle.tcp_norm.specs.Calls.{Call, segments, eras, key_of}
 use Rattle.tcp_norm.specs.Views.{View, view_of, number_of, segments_of}
 use Rattle.tcp_norm.specs.Rows.{reopens}
 use Rattle.tcp_norm.specs.Steps.{IsStep, began, evicted, place_of, place_in}
 use Rattle.tcp_norm.specs.Standing.{HoldsFor}
 use Rattle.linked_table.proofs.Parts.{split_at, wherever}
 use Rattle.tcp_norm.proofs.Finds.{live_here, live_nowhere}
-use Rattle.tcp_norm.proofs.Forwarding.{stands_at}
+use Rattle.tcp_norm.proofs.Resetting.{no_call}
 
 -- what is asked of the calls before, of a connection with this live era
 pub record IsLive (settings : PlainSettings) (cs : List Call) (d : Datagram) (n : ℕ) : Type 0 where
@@ -52,15 +51,6 @@ pub view_cold : (settings : PlainSettings) (cs : List Call) (begun : ℕ) (entri
 view_cold settings cs begun entries store key d h none same =
     ap number_of (live_nowhere entries (eras cs) (key_of d) h.eras_are (subst (λ k. HasNone entries (record { 0 = k })) (sym same) none))
 
--- the era in a slot stands for its segments
-pub era_at : (lives : List Alive) (segs : ℕ → List Written) (begun : ℕ) (entries : List (Entry EraKey Flow)) (store : Store) (slot : Slot) (flow : Flow)
-    → HoldsFor lives segs begun entries store → IsIn entries slot → AllPairs (λ e f. e.slot ≢ f.slot) entries → AllPairs (λ e f. e.key ≢ f.key) entries
-    → Wherever entries slot (λ e. e.value ≡ flow) → era.StandsFor flow.era (segs flow.number)
-era_at lives segs begun entries store slot flow h inside slots keys valued =
-    let a = split_at entries slot inside slots keys in
-    let is = wherever (λ (e : Entry EraKey Flow). e.value ≡ flow) entries slot a valued in
-    subst (λ (f : Flow). era.StandsFor f.era (segs f.number)) is (stands_at entries store slot a h).era
-
 -- an outbound segment reopens nothing as an inbound one does
 not_inward : (ws : List Written) (w : Written) → w.inward ≡ false → reopens_inward ws w ≡ false
 not_inward ws w out = stays (is_closed (state_of ws)) ((w.inward && tcp.has_syn w.flags) && not (tcp.has_ack w.flags)) (not (precedes (base_of ws) w.seq)) (rw out refl)
@@ -79,24 +69,12 @@ step_next v s octets n live rst none =
     let again : reopens v (sent s octets) ≡ false = reopens_is v (sent s octets) n false live refl none in
     record { era_is = rw (again, live) refl; begun_is = rw (again, live) refl; ended_is = rw (again, live, rst) refl; full_is = rw live refl }
 
--- it begins another era in its place
+-- it ends, and another era begins
 pub step_reopened : (v : View) (s : Seg) (octets : List ℕ) (n : ℕ) → v.era ≡ Some n → reopens_outward v.segments (sent s []) ≡ true
     → IsStep v (sent s octets) (record { era = Some v.next; begun = Some v.next; ended = Some (record { era = n; reason = reasons.Reopened; octets = Some (octets_of v.segments) }); full = false })
 step_reopened v s octets n live some =
     let again : reopens v (sent s octets) ≡ true = reopens_is v (sent s octets) n true live refl some in
     record { era_is = rw (again, live) refl; begun_is = rw (again, live) refl; ended_is = rw (again, live) refl; full_is = rw live refl }
-
-never : (b : Bool) → (b && false) ≡ true → true ≡ false
-never true e = sym e
-never false e = sym e
-
--- a reset is no call
-no_call : (f : ℕ) → tcp.are_legal f ≡ true → tcp.has_rst f ≡ true → tcp.has_syn f ≡ false
-no_call f legal rst = cases (tcp.has_syn f) refl
-  where
-    cases : (b : Bool) → tcp.has_syn f ≡ b → b ≡ false
-    cases false e = refl
-    cases true e = never (not (tcp.has_fin f)) (ap₂ (λ x y. tcp.go_together x (tcp.has_fin f) y (tcp.has_ack f)) (sym e) (sym rst) ∙ legal)
 
 -- a reset ends its live era
 pub step_reset : (v : View) (s : Seg) (octets : List ℕ) (n : ℕ) → v.era ≡ Some n → tcp.are_legal s.flags.0 ≡ true → tcp.has_rst s.flags.0 ≡ true
@@ -118,7 +96,7 @@ placed v full first f e = ap₂ (λ a b. place_of a (evicted b v.evictable_octet
 pub got : {q r : Place} → Some q ≡ Some r → q ≡ r
 got e = cc
 
--- another segment of one begins an era, where that finds a place
+-- another segment of one begins an era, where there is a slot for it
 pub step_begun : (v : View) (s : Seg) (octets : List ℕ) (p : Place) → v.era ≡ None → tcp.has_rst s.flags.0 ≡ false → place_in v ≡ Some p
     → IsStep v (sent s octets) (began p)
 step_begun v s octets p none rst found = cases v.is_full v.evictable refl refl (sym found)

@@ -21,7 +21,7 @@ use Rattle.tcp_norm.proofs.Bares.{written_long}
 use Rattle.tcp_norm.proofs.Fitting.{bare_fits, stream_fits}
 use Rattle.tcp_norm.proofs.Rewritten.{sent_long}
 
--- no more octets go out than came
+-- no more octets are sent than arrived
 kept_few : (b : Bounds) (at : ℤ) (len : ℕ) → high b at len - low b at ≤ len
 kept_few b (pos n) len = omega arith
 kept_few b (negsuc n) len = span (low b (negsuc n)) (nat_of (negsuc n +ℤ pos len)) (reach b) (ends_near (negsuc n +ℤ pos len) refl)

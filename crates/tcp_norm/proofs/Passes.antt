@@ -17,10 +17,9 @@ use Rattle.rule_book.specs.declared.rule.Rule.{Rule}
 use Rattle.tcp_codec.specs.declared.header.Tcp.{Tcp}
 use Rattle.tcp_norm.specs.Heads.{seen}
 use Rattle.tcp_norm.specs.Streams.{stream_rows}
-use Rattle.tcp_norm.specs.Rows.{is_live, clashes, differ, mended_by, t_res, t_urg, t_opt}
+use Rattle.tcp_norm.specs.Rows.{is_live, clashes, differ, mended_by, t_res, t_urg, t_opt, t_quota, t_room}
 use Rattle.tcp_norm.proofs.Judging.{OfStream, stream_mended}
 use Rattle.tcp_norm.specs.Views.{View}
-use Rattle.tcp_norm.specs.Rows.{t_quota, t_room}
 use Rattle.tcp_norm.specs.Emits.{octets_sent, stream_segment}
 use Rattle.tcp_norm.specs.Outcomes.{outcome_at}
 use Rattle.tcp_norm.specs.Writes.{WritesIn}
@@ -38,7 +37,7 @@ passes law settings v d e i n now ws sent live segs was stream kept quota room n
     goes it.0 (subst (WarmFor e) segs was) (subst (λ (l : List Written). KeptOf l (segment_in d) i) segs kept)
     (subst (λ (l : List Written). IsFrame l (segment_in d) i it.0) segs it.2.framed) (it.2.octets_are ∙ sym sends) it.1
 
--- the rows by the fields of the header are those of the datagram
+-- the rules by the fields of the header are those of the datagram
 pub rows_are : (settings : PlainSettings) (v : View) (d : Datagram) (m : List ℕ) (head : Tcp) (i : Interval) (clash changed : Bool) (rows : List Rule)
     → head ≡ seen m head → d.octets ≡ m → goes_in d.side ≡ true → is_live v ≡ true → OfStream v.segments (segment_in d) → KeptOf v.segments (segment_in d) i
     → clash ≡ clashes v.segments (segment_in d) → changed ≡ differ (cleaned (tcp.has_syn head.flags.0) (tcp.options m)) (tcp.options m)

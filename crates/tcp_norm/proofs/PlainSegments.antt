@@ -70,7 +70,7 @@ plain_packet settings d p i six side s =
       };
     }
 
--- as it was read, where no row mends it
+-- as it was read, where no rule rewrites it
 read_plain : (settings : PlainSettings) (v : View) (d : Datagram) → IsSegment settings d → goes_in d.side ≡ true → mended_by settings v d ≡ [] → IsPlainSegment d d.octets
 read_plain settings v d s side none =
     let m = d.octets in
@@ -133,7 +133,7 @@ flags_kept : (kept : Bool) (x : ℕ) → tcp.has_syn x ≡ false → tcp.has_rst
 flags_kept true x no_syn no_rst = record { legal = refl; syn = no_syn; rst = no_rst }
 flags_kept false x no_syn no_rst = ended x no_syn no_rst
 
--- a segment that is written anew, with flags that go together
+-- a segment that is rewritten, with flags that go together
 written_plain : AreReadBack → CleansOnce → StaysWellFormed → (settings : PlainSettings) (d : Datagram) (sequence flags : ℕ) (octets : List ℕ) → IsSegment settings d
     → Fits (segment_with d sequence flags octets) → tcp.are_legal flags ≡ true → tcp.has_syn flags ≡ tcp.has_syn (tcp.flags d.octets)
     → ((tcp.has_syn flags || tcp.has_rst flags) ≡ true → octets ≡ []) → IsPlainSegment d (segment_octets (segment_with d sequence flags octets))

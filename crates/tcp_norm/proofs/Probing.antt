@@ -15,7 +15,7 @@ use Rattle.tcp_norm.specs.Heads.{seen}
 use Rattle.tcp_codec.specs.Write.{segment_octets}
 use Rattle.era_state.specs.declared.probe.Probe.{Probe}
 use Rattle.reset_probe.specs.Write.{probe_octets, probe_segment}
-use Rattle.ip_rules.specs.Datagrams.{Datagram, Packet, goes_in, raised, head_sent, anew, frames_of, IsDatagram}
+use Rattle.ip_rules.specs.Datagrams.{Datagram, goes_in, raised, head_sent, anew, frames_of, IsDatagram}
 use Rattle.tcp_norm.specs.Emits.{packet_by, segment_sent, segment_anew, sum_mended, probe_packet}
 
 pub side_is : (packet : IpPacket) (link : List ℕ) (d : Datagram) → packet.side ≡ Inward → IsDatagram packet link d → goes_in d.side ≡ true
@@ -47,7 +47,7 @@ last_of [] frame = refl
 last_of (x ∷ []) frame = refl
 last_of (x ∷ y ∷ frames) frame = last_of (y ∷ frames) frame
 
--- the frame of the datagram itself, written anew, as it came, and with its header anew
+-- the frame of the datagram itself: rewritten, as it arrived, and with its header rewritten
 pub frame_rewritten : (settings : PlainSettings) (d : Datagram) (ws : List Written) (packet : IpPacket) (link : List ℕ) (rows : List Rule) (s : Segment) (ip : Ipv4) → goes_in d.side ≡ true
     → ip ≡ head_sent settings d → (length rows == 0) ≡ false → segment_anew ws d ≡ s
     → (link ++ plain_header ip (length (segment_octets s)) ++ segment_octets s) ∷ [] ≡ frames_of link (packet_by settings ws d d.fixes rows ∷ [])
@@ -76,16 +76,9 @@ frame_headed settings d ws packet link [] ip is head none fixed =
     headed [] never = cc
     headed (x ∷ xs) never = refl
 
--- a probe alone, and one behind a packet
 pub probe_is : (settings : PlainSettings) (d : Datagram) (packet : IpPacket) (link : List ℕ) (head : Tcp) (hops : ℕ) (ip : Ipv4) (probe : Probe)
     → hops ≡ settings.hops → packet.side ≡ Inward → IsDatagram packet link d → head ≡ seen packet.payload.now head → ip ≡ raised hops packet.head
     → (link ++ probe_octets ip head.sport head.dport probe) ∷ [] ≡ frames_of link (probe_packet settings d probe ∷ [])
 probe_is settings d packet link head hops ip probe same side is fields raises =
     frame_probe settings d link ip head.sport head.dport probe (raises ∙ head_is settings hops packet link d same side is)
     (ap (λ (h : Tcp). h.sport) fields ∙ ap tcp.source_port (sym is.octets)) (ap (λ (h : Tcp). h.dport) fields ∙ ap tcp.destination_port (sym is.octets))
-
-pub probe_alone : (settings : PlainSettings) (d : Datagram) (packet : IpPacket) (link : List ℕ) (head : Tcp) (hops : ℕ) (ip : Ipv4) (probe : Probe) (old new : List (List ℕ))
-    → hops ≡ settings.hops → packet.side ≡ Inward → IsDatagram packet link d → head ≡ seen packet.payload.now head → ip ≡ raised hops packet.head
-    → old ≡ [] → new ≡ old ++ (link ++ probe_octets ip head.sport head.dport probe) ∷ [] → new ≡ frames_of link (probe_packet settings d probe ∷ [])
-probe_alone settings d packet link head hops ip probe old new same side is fields raises empty puts =
-    puts ∙ (ap (λ l. l ++ (link ++ probe_octets ip head.sport head.dport probe) ∷ []) empty ∙ probe_is settings d packet link head hops ip probe same side is fields raises)

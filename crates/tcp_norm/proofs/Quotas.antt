@@ -9,7 +9,7 @@ use Rattle.retain_store.specs.Maps.{Block, Store, ChangesOnly, ForgetsBelow, IsM
 use Rattle.tcp_norm.specs.Near.{AreBounded, IsAtMost}
 use Rattle.tcp_norm.specs.Rows.{exceeds}
 use Rattle.retain_store.proofs.Kept.{holds_are}
-use Rattle.tcp_norm.proofs.Forwarding.{others_same}
+use Rattle.tcp_norm.proofs.Slots.{others_same}
 
 pub at_most : (quota : Option ℕ) (n : ℕ) → exceeds quota n ≡ false → IsAtMost quota n
 at_most None n e most is = cc

@@ -1,7 +1,6 @@
--- The rows of an inbound RST of a connection that has a live era, and the calls with it.
-use Rattle.std.proofs.Common.{◌≡◌, ◌≢◌, ℕ, ◌+◌, ◌&&◌, not, Bool, true, false, cond, List, [], ◌∷◌, ◌++◌, map, Option, Some, None, is_some, refl, sym, ap, ap₂, ◌∙◌, arith}
+-- The rules of an inbound RST of a connection that has a live era, and the calls with it.
+use Rattle.std.proofs.Common.{◌≡◌, ◌≢◌, ℕ, ◌+◌, ◌&&◌, not, Bool, true, false, cond, List, ◌∷◌, ◌++◌, Option, Some, None, is_some, refl, sym, ap, ap₂, ◌∙◌}
 use Rattle.std.specs.Prelude.{nat_lt}
-use Rattle.std.proofs.lemmas.List.{append-nil}
 use Rattle.wire_base.specs.Tcp as tcp
 use Rattle.wire_base.specs.Segments.{Written}
 use Rattle.wire_base.specs.declared.address.FlowKey.{FlowKey}
@@ -17,18 +16,12 @@ use Rattle.era_state.specs.declared.probe.Probe.{Probe}
 use Rattle.reset_probe.specs.declared.reset.ResetAnswer.TheVariants.{Pass, Refuse}
 use Rattle.reset_probe.specs.Answers.{reset_answer}
 use Rattle.reset_probe.specs.Rules.{era_probe, probe_with, awaited_number}
-use Rattle.tcp_norm.specs.declared.state.TcpNorm.{TcpNorm}
-use Rattle.ip_rules.specs.Datagrams.{Datagram, Packet, goes_in}
-use Rattle.tcp_norm.specs.Calls.{Call, datagram, Outcome, read, is_era, is_written, segments, eras, segment_in, key_of, without, begins_by, alive_at}
+use Rattle.ip_rules.specs.Datagrams.{Datagram, goes_in}
+use Rattle.tcp_norm.specs.Calls.{segments, segment_in}
 use Rattle.tcp_norm.specs.Held.{held_of}
 use Rattle.tcp_norm.specs.Views.{View}
 use Rattle.tcp_norm.specs.Rows.{is_live, holds_era, dropped_by, exceeds, wanted_of}
 use Rattle.tcp_norm.specs.Colds.{Comes}
-use Rattle.tcp_norm.specs.Resets.{WritesAll}
-use Rattle.tcp_norm.specs.Standing.{HoldsFor, IsFor, StandsFor}
-use Rattle.tcp_norm.proofs.Steps.{number_other, number_same}
-use Rattle.tcp_norm.proofs.Effects.{lives_touch, stands_next}
-use Rattle.tcp_norm.proofs.Moves.{GoesOn}
 use Rattle.tcp_norm.proofs.Judging.{dropped_is}
 
 -- what is asked of it is asked of what goes inwards
@@ -75,34 +68,7 @@ no_call f legal rst = cases (tcp.has_syn f) refl
     cases false e = refl
     cases true e = never (not (tcp.has_fin f)) (ap₂ (λ x y. tcp.go_together x (tcp.has_fin f) y (tcp.has_ack f)) (sym e) (sym rst) ∙ legal)
 
--- the segments with those of the call: in its era, and in another
-pub own_with : (cs : List Call) (now n : ℕ) (d : Datagram) (ws : List Written) (o : Outcome) → WritesAll d n ws o → segments n (datagram now d o ∷ cs) ≡ segments n cs ++ ws
-own_with cs now n d ws o does =
-    ap (λ l. segments n cs ++ l)
-    (ap₂ (λ a b. cond (is_era n a && b) (map (λ (p : Packet). read (goes_in d.side) p.octets) o.packets) []) does.era_is does.written
-    ∙ (ap (λ b. cond (b && true) (map (λ (p : Packet). read (goes_in d.side) p.octets) o.packets) []) (number_same n) ∙ does.packets_are))
-
-pub other_with : (cs : List Call) (now n m : ℕ) (d : Datagram) (ws : List Written) (o : Outcome) → WritesAll d n ws o → m ≢ n → segments m (datagram now d o ∷ cs) ≡ segments m cs
-other_with cs now n m d ws o does ne =
-    ap (λ l. segments m cs ++ l)
-    (ap (λ a. cond (is_era m a && is_written o.verdict) (map (λ (p : Packet). read (goes_in d.side) p.octets) o.packets) []) does.era_is
-    ∙ ap (λ b. cond (b && is_written o.verdict) (map (λ (p : Packet). read (goes_in d.side) p.octets) o.packets) []) (number_other n m (λ same. ne (sym same))))
-    ∙ append-nil (segments m cs)
-
--- a RST that enters its era leaves it live, and touched
-pub enters : (settings : PlainSettings) (old new : TcpNorm) (cs : List Call) (now n : ℕ) (d : Datagram) (ws : List Written) (o : Outcome)
-    → StandsFor settings old cs → IsFor settings new → GoesOn old new now 0 → WritesAll d n ws o
-    → HoldsFor (without (n ∷ []) (eras cs) ++ record { number = n; key = key_of d; touched = now } ∷ []) (λ m. segments m (datagram now d o ∷ cs)) new.begun new.table.entries new.store
-    → StandsFor settings new (datagram now d o ∷ cs)
-enters settings old new cs now n d ws o st opened goes does holds =
-    let c = datagram now d o in
-    let begins : begins_by c ≡ 0 = ap (λ b. cond {A = ℕ} (is_some b) 1 0) does.begun_is in
-    stands_next settings old new cs c _ st opened holds
-    (lives_touch c cs (record { number = n; key = key_of d; touched = now }) (ap (map (λ e. e.era)) does.ended_are)
-    (ap₂ (λ a b. cond b (alive_at now (key_of d) a) []) does.era_is does.written))
-    (omega (arith, goes.begun, begins)) goes.latest goes.later goes.calls
-
--- what was answered tells whether the row holds
+-- the answer shows whether the rule holds
 pub refused_alone : (ws : List Written) (w : Written) → reset_answer ws w ≡ Refuse → t_rst ws w ≡ true
 refused_alone ws w = cases (t_rst ws w)
   where

@@ -1,4 +1,4 @@
--- The segment of the stream that is written anew is the frame of its interval.
+-- The segment of the stream that is rewritten is the frame of its interval.
 use Rattle.std.proofs.Common.{◌≡◌, ℕ, zero, suc, ◌+◌, ◌-◌, ◌/◌, ◌%◌, ◌==◌, ◌&&◌, Bool, true, false, cond, List, [], ◌∷◌, length, map, refl, sym, ap, ◌∙◌, arith}
 use Rattle.std.specs.List.{range_with_len}
 use Rattle.wire_base.specs.Tcp as tcp
@@ -14,7 +14,7 @@ use Rattle.tcp_norm.specs.Rows.{low_of, high_of, octet_sent, kept_offsets}
 use Rattle.tcp_norm.specs.Emits.{without_flag, stream_segment, is_fin_kept, octets_sent}
 use Rattle.tcp_norm.proofs.Judging.{OfStream}
 
--- without one flag the others stand
+-- without one flag the others are set
 bits_syn_32 : (x : ℕ) → x / 32 % 2 ≡ 1 → (x - 32) / 2 % 2 ≡ x / 2 % 2
 bits_syn_32 x h = omega arith
 

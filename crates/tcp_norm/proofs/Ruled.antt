@@ -1,4 +1,4 @@
--- What is ruled of an inbound datagram, as it is told and sent.
+-- What is ruled of an inbound datagram, as it is reported and sent.
 use Rattle.std.proofs.Common.{◌≡◌, ◌∙◌, ℕ, true, cond, List, [], ◌∷◌, length, Option, Some, None, is_some, refl, sym, ap}
 use Rattle.wire_base.specs.Tcp as tcp
 use Rattle.wire_base.specs.Options.{cleaned}
@@ -32,7 +32,7 @@ pub probes_are : (settings : PlainSettings) (d : Datagram) (packet : IpPacket) (
 probes_are settings d packet link head hops ip None same side is fields raises = refl
 probes_are settings d packet link head hops ip (Some probe) same side is fields raises = probe_is settings d packet link head hops ip probe same side is fields raises
 
--- a SYN or a RST is written anew from the fields of its header
+-- a SYN or a RST is rewritten from the fields of its header
 pub bare_carried : (ws : List Written) (d : Datagram) (packet : IpPacket) (link : List ℕ) (head : Tcp) → IsDatagram packet link d → IsRead packet.payload.now head
     → segment_anew ws d ≡ bare_segment d
     → segment_anew ws d ≡ anew_segment packet.head head head.seq true (cleaned (tcp.has_syn head.flags.0) (tcp.options packet.payload.now)) []

@@ -18,7 +18,7 @@ use Rattle.tcp_norm.proofs.Sent.{out_head}
 side_is : (packet : IpPacket) (link : List ℕ) (d : Datagram) → packet.side ≡ Outward → IsDatagram packet link d → goes_in d.side ≡ false
 side_is packet link d side is = ap goes_in (is.side ∙ side)
 
--- with its header anew
+-- with its header rewritten
 by_anew : (settings : PlainSettings) (d : Datagram) (packet : IpPacket) (link : List ℕ) (m : List ℕ) → goes_in d.side ≡ false → IsDatagram packet link d
     → frames_of link (anew settings d m ∷ []) ≡ (link ++ plain_header packet.head (length m) ++ m) ∷ []
 by_anew settings d packet link m side is =

@@ -1,4 +1,4 @@
--- What becomes of an outbound datagram: it goes out, with its sum mended where that is wrong and left to the sender's interface.
+-- What becomes of an outbound datagram: it goes out, with its sum corrected where that is wrong and left to the sender's interface.
 use Rattle.std.proofs.Common.{◌≡◌, ℕ, ◌&&◌, ◌||◌, ◌≤◌, not, Bool, true, false, cond, List, [], ◌∷◌, ◌++◌, length, None, is_some, refl, sym, ap, ap₂, subst, ◌∙◌}
 use Rattle.std.specs.Prelude.{find}
 use Rattle.std.proofs.lemmas.List.{append-nil}
@@ -24,13 +24,14 @@ use Rattle.era_state.specs.Rules as era
 use Rattle.cold_start.specs.Rules.{is_asked, cold_probe_of}
 use Rattle.reset_probe.specs.Rules.{era_probe}
 use Rattle.tcp_norm.specs.declared.step.Step.{Step}
-use Rattle.tcp_norm.specs.Calls.{Outcome, read, segment_in, key_at}
+use Rattle.tcp_norm.specs.Calls.{read, segment_in, key_at}
 use Rattle.tcp_norm.specs.Views.{View}
 use Rattle.tcp_norm.specs.Rows.{is_live, holds_era, dropped_by, mended_by, noted, t_sum_out, clashes, pseudo_of}
 use Rattle.tcp_norm.specs.Emits.{packet_by, packets_passed, probe_packet, probe_packets, segment_sent, sum_mended}
 use Rattle.tcp_norm.specs.Outcomes.{outcome_at, outcome_by, verdict_of}
 use Rattle.ip_rules.specs.Judged.{where_holds}
-use Rattle.tcp_norm.specs.Steps.{IsStep, Does, Sends, listed}
+use Rattle.tcp_norm.specs.Steps.{IsStep, Does, Sends}
+use Rattle.tcp_norm.specs.Inwards.{passed}
 use Rattle.linked_table.proofs.Filters.{filter_none}
 use Rattle.tcp_norm.proofs.Judging.{row_is}
 use Rattle.tcp_norm.proofs.Passing.{fixed_or_passed}
@@ -47,7 +48,7 @@ no_probe : (l x i r o : Bool) → x ≡ false → i ≡ false → ((not l && x) 
 no_probe true x i r o e f = rw f refl
 no_probe false x i r o e f = rw e refl
 
--- of the rows that mend only T_SUM_OUT may hold
+-- of the rules that rewrite only T_SUM_OUT may hold
 pub out_mended : (settings : PlainSettings) (v : View) (d : Datagram) (wrong : Bool) → goes_in d.side ≡ false → t_sum_out settings d ≡ wrong
     → mended_by settings v d ≡ where_holds wrong rules.TSumOut
 out_mended settings v d wrong side sum =
@@ -83,19 +84,8 @@ own_alone settings v d named side = cases (is_live v) (is_asked (segment_in d)) 
     cases false x i e f = rw e refl
 
 -- its outcome, by what it does to the eras
-abbrev pub SentOutcome : PlainSettings → View → Datagram → Step → (wrong : Bool) → Outcome
-SentOutcome settings v d s wrong =
-    record {
-      verdict = verdict_of (d.fixes ++ where_holds wrong rules.TSumOut);
-      rules = where_holds s.full rules.TFull ++ d.fixes ++ where_holds wrong rules.TSumOut;
-      era = s.era;
-      begun = s.begun;
-      ended = listed s.ended;
-      packets = packet_by settings v.segments d d.fixes (where_holds wrong rules.TSumOut) ∷ [];
-    }
-
 pub out_outcome : (settings : PlainSettings) (v : View) (d : Datagram) (s : Step) (wrong : Bool) → goes_in d.side ≡ false → t_sum_out settings d ≡ wrong → IsStep v (segment_in d) s
-    → outcome_at settings v d ≡ SentOutcome settings v d s wrong
+    → outcome_at settings v d ≡ passed s d.fixes (where_holds wrong rules.TSumOut) (packet_by settings v.segments d d.fixes (where_holds wrong rules.TSumOut) ∷ [])
 out_outcome settings v d s wrong side sum is =
     let named = where_holds wrong rules.TSumOut in
     let dropped : dropped_by settings v d ≡ None = ap (λ b. cond b (find (holds_era settings v d) era_rows) None) side in

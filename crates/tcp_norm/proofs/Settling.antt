@@ -38,7 +38,7 @@ list_is (x ∷ xs) f a (suc n) long each =
     let rest = list_is xs f (a + 1) n (omega arith) (λ i lt. rw (sym (add-one i)) at (each (suc i) (omega arith)) ∙ ap f (omega arith)) in
     ap₂ (λ y l. y ∷ l) here rest
 
--- places are read in the list as the era reads them
+-- offsets are read in the list as the era reads them
 offset_is : (e : Warm) (ws : List Written) (sequence : ℕ) → WarmFor e ws → off e.base e.acked sequence ≡ offset_of ws sequence
 offset_is e ws sequence h =
     let base : e.base ≡ base_at ws = sym (ap number_in h.base_is) in

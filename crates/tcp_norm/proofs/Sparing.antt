@@ -2,17 +2,20 @@
 use Rattle.std.proofs.Common.{◌≡◌, ◌≢◌, ℕ, ◌==◌, not, Bool, true, false, cond, List, [], ◌∷◌, ◌++◌, length, map, filter, refl, sym, ap, ap₂, subst, ◌∙◌, if◌then◌else◌}
 use Rattle.std.specs.List.{AllByRecursion, AllPairs}
 use Rattle.std.proofs.lemmas.Bool.{eq-eqb, ne_eqb}
+use Rattle.std.proofs.lemmas.List.{append-nil}
 use Rattle.std.proofs.lemmas.List.Elements.{filter-append, recursion_from_All}
 use Rattle.linked_table.specs.declared.table.Slot.{Slot}
 use Rattle.linked_table.specs.Listing.{Listing, others}
-use Rattle.linked_table.specs.Table.{Entry, IsIn, IsNotIn, with_value}
+use Rattle.linked_table.specs.Table.{Entry, IsIn, IsNotIn, SplitAt}
 use Rattle.linked_table.specs.Table as table
-use Rattle.retain_store.specs.Maps.{Block, Store, chain_of}
+use Rattle.retain_store.specs.Maps.{Block, Store, ChangesOnly, chain_of}
 use Rattle.tcp_norm.specs.declared.flow.Flow.{Flow}
 use Rattle.tcp_norm.specs.declared.key.EraKey.{EraKey}
-use Rattle.tcp_norm.specs.Spare.{is_empty, spares, settled}
+use Rattle.tcp_norm.specs.Spare.{is_empty, spares, settled, written_back}
+use Rattle.tcp_norm.specs.Rulings.{IsHeld}
+use Rattle.tcp_norm.specs.declared.flow.Live.{Live}
+use Rattle.tcp_norm.proofs.Slots.{others_same}
 use Rattle.linked_table.proofs.Splits.{all_weaker, map_join, filter_rest}
-use Rattle.linked_table.specs.Table.{SplitAt}
 use Rattle.linked_table.proofs.Parts.{split_at}
 use Rattle.tcp_norm.proofs.Steps.{put_touch}
 
@@ -20,13 +23,6 @@ spares-join : (store : Store) (xs ys : List (Entry EraKey Flow)) → spares stor
 spares-join store xs ys =
     ap (map (λ (e : Entry EraKey Flow). e.slot)) (filter-append (λ (e : Entry EraKey Flow). is_empty store e.slot) xs ys)
     ∙ map_join (λ (e : Entry EraKey Flow). e.slot) (filter (λ (e : Entry EraKey Flow). is_empty store e.slot) xs) (filter (λ (e : Entry EraKey Flow). is_empty store e.slot) ys)
-
-spares-one : (store : Store) (e : Entry EraKey Flow) → spares store (e ∷ []) ≡ (if is_empty store e.slot then e.slot ∷ [] else [])
-spares-one store e = by (is_empty store e.slot) refl
-  where
-    by : (b : Bool) → is_empty store e.slot ≡ b → spares store (e ∷ []) ≡ (if b then e.slot ∷ [] else [])
-    by true is = rw is refl
-    by false is = rw is refl
 
 spares-cons : (store : Store) (e : Entry EraKey Flow) (es : List (Entry EraKey Flow)) → spares store (e ∷ es) ≡ (if is_empty store e.slot then e.slot ∷ spares store es else spares store es)
 spares-cons store e es = by (is_empty store e.slot) refl
@@ -50,7 +46,7 @@ others-step slot s slots ne =
     let mk : ℕ → Slot = λ n. record { 0 = n } in
     ap (λ b. cond (not b) (s ∷ others slots slot) (others slots slot)) (ne_eqb s.0 slot.0 (λ same. ne (ap mk same)))
 
--- a slot that is none of theirs is not listed
+-- a slot of another entry is not listed
 apart-by : (slot own : Slot) (slots : List Slot) → own ≢ slot → others slots slot ≡ slots → (b : Bool) → others (if b then own ∷ slots else slots) slot ≡ (if b then own ∷ slots else slots)
 apart-by slot own slots ne rest true = others-step slot own slots ne ∙ ap (λ l. own ∷ l) rest
 apart-by slot own slots ne rest false = rest
@@ -63,7 +59,7 @@ others-apart store slot (e ∷ es) apart =
 
 -- nothing but the slot itself goes
 others-own : (store : Store) (slot : Slot) (e : Entry EraKey Flow) → e.slot ≡ slot → others (spares store (e ∷ [])) slot ≡ []
-others-own store slot e same = ap (λ l. others l slot) (spares-one store e) ∙ by (is_empty store e.slot)
+others-own store slot e same = ap (λ l. others l slot) (spares-cons store e []) ∙ by (is_empty store e.slot)
   where
     by : (b : Bool) → others (if b then e.slot ∷ [] else []) slot ≡ []
     by true = ap (λ b. cond (not b) (e.slot ∷ []) []) (eq-eqb e.slot.0 slot.0 (ap (λ (s : Slot). s.0) same))
@@ -72,19 +68,15 @@ others-own store slot e same = ap (λ l. others l slot) (spares-one store e) ∙
 others-join : (slots more : List Slot) (slot : Slot) → others (slots ++ more) slot ≡ others slots slot ++ others more slot
 others-join slots more slot = filter-append (λ (s : Slot). not (s.0 == slot.0)) slots more
 
-append-none : (slots : List Slot) → slots ++ [] ≡ slots
-append-none [] = refl
-append-none (s ∷ slots) = ap (λ l. s ∷ l) (append-none slots)
-
 -- the slot behind others, where its chain has no block
 settled-last : (new : Store) (e : Entry EraKey Flow) (slot : Slot) (rest : List (Entry EraKey Flow)) (slots : List Slot) → e.slot ≡ slot → others slots slot ≡ spares new rest
     → spares new (rest ++ e ∷ []) ≡ settled new slot slots
 settled-last new e slot rest slots same is =
-    spares-join new rest (e ∷ []) ∙ (ap (λ l. spares new rest ++ l) (spares-one new e ∙ ap (λ (s : Slot). if is_empty new s then s ∷ [] else []) same) ∙ (ap (λ l. l ++ (if is_empty new slot then slot ∷ [] else [])) (sym is) ∙ by (is_empty new slot)))
+    spares-join new rest (e ∷ []) ∙ (ap (λ l. spares new rest ++ l) (spares-cons new e [] ∙ ap (λ (s : Slot). if is_empty new s then s ∷ [] else []) same) ∙ (ap (λ l. l ++ (if is_empty new slot then slot ∷ [] else [])) (sym is) ∙ by (is_empty new slot)))
   where
     by : (b : Bool) → others slots slot ++ (if b then slot ∷ [] else []) ≡ (if b then others slots slot ++ slot ∷ [] else others slots slot)
     by true = refl
-    by false = append-none (others slots slot)
+    by false = append-nil (others slots slot)
 
 module _ (store new : Store) (entries : List (Entry EraKey Flow)) (slot : Slot) (a : SplitAt entries slot) (chains : (chain : ℕ) → chain ≢ slot.0 → chain_of new chain ≡ chain_of store chain) where
   apart_before : AllByRecursion (λ (e : Entry EraKey Flow). e.slot ≢ slot) a.before
@@ -109,13 +101,13 @@ module _ (store new : Store) (entries : List (Entry EraKey Flow)) (slot : Slot) 
 -- an entry has another value and was touched, and no other chain has changed
 pub spares-touched : (store new : Store) (entries : List (Entry EraKey Flow)) (slot : Slot) (value : Flow) → IsIn entries slot
     → AllPairs (λ e f. e.slot ≢ f.slot) entries → AllPairs (λ e f. e.key ≢ f.key) entries → ((chain : ℕ) → chain ≢ slot.0 → chain_of new chain ≡ chain_of store chain)
-    → spares new (table.without (with_value entries slot value) slot ++ table.only (with_value entries slot value) slot) ≡ settled new slot (spares store entries)
+    → spares new (written_back entries slot value) ≡ settled new slot (spares store entries)
 spares-touched store new entries slot value inside slots keys chains =
     let a = split_at entries slot inside slots keys in
     ap (spares new) (put_touch entries slot a value)
     ∙ settled-last new (record a.here { value = value }) slot (a.before ++ a.after) (spares store entries) a.named (others-rest store new entries slot a chains)
 
--- an entry comes behind the others
+-- an entry is added behind the others
 pub spares-added : (store : Store) (entries : List (Entry EraKey Flow)) (e : Entry EraKey Flow) → IsNotIn entries e.slot → spares store (entries ++ e ∷ []) ≡ settled store e.slot (spares store entries)
 spares-added store entries e fresh =
     settled-last store e e.slot entries (spares store entries) refl (others-apart store e.slot entries (recursion_from_All (λ (f : Entry EraKey Flow). f.slot ≢ e.slot) entries fresh))
@@ -137,14 +129,12 @@ spares-left store new entries slot inside slots keys chains =
     ap (spares new) out ∙ sym (others-rest store new entries slot a chains)
 
 -- the same of the list of slots
-pub touched_listed : (old new : Listing) (store later : Store) (entries valued touched : List (Entry EraKey Flow)) (slot : Slot) (value : Flow) → IsIn entries slot
-    → AllPairs (λ e f. e.slot ≢ f.slot) entries → AllPairs (λ e f. e.key ≢ f.key) entries → ((chain : ℕ) → chain ≢ slot.0 → chain_of later chain ≡ chain_of store chain)
-    → old.slots ≡ spares store entries → new ≡ record old { slots = settled later slot old.slots }
-    → valued ≡ with_value entries slot value → touched ≡ table.without valued slot ++ table.only valued slot → new.slots ≡ spares later touched
-touched_listed old new store later entries valued touched slot value inside slots keys chains listed new_is valued_is touched_is =
+pub touched_listed : (old new : Listing) (store later : Store) (t : table.Table EraKey Flow) (touched : List (Entry EraKey Flow)) (live : Live) (value : Flow) → IsHeld t live → ChangesOnly store later live.slot.0
+    → old.slots ≡ spares store t.entries → new ≡ record old { slots = settled later live.slot old.slots } → touched ≡ written_back t.entries live.slot value → new.slots ≡ spares later touched
+touched_listed old new store later t touched live value held changed listed new_is touched_is =
     ap (λ (l : Listing). l.slots) new_is
-    ∙ (ap (settled later slot) listed
-    ∙ sym (ap (spares later) (touched_is ∙ ap (λ (l : List (Entry EraKey Flow)). table.without l slot ++ table.only l slot) valued_is) ∙ spares-touched store later entries slot value inside slots keys chains))
+    ∙ (ap (settled later live.slot) listed
+    ∙ sym (ap (spares later) touched_is ∙ spares-touched store later t.entries live.slot value held.inside held.slots_apart held.keys_apart (others_same store later live.slot.0 changed)))
 
 pub added_listed : (old new : Listing) (store : Store) (entries added : List (Entry EraKey Flow)) (e : Entry EraKey Flow) → IsNotIn entries e.slot
     → old.slots ≡ spares store entries → new ≡ record old { slots = settled store e.slot old.slots } → added ≡ entries ++ e ∷ [] → new.slots ≡ spares store added

@@ -1,4 +1,4 @@
--- How what the table and the store stand for changes: an entry is taken out, the rest goes on, and an entry is added. Every call is made of these.
+-- How what the table and the store represent changes: an entry is taken out, the rest goes on, and an entry is added. Every call is made of these.
 use Rattle.std.proofs.Common.{◌≡◌, ◌≢◌, ℕ, ◌==◌, ◌<◌, ◌≤◌, not, Bool, true, false, List, [], ◌∷◌, ◌++◌, length, map, refl, sym, ap, subst, ◌∙◌, arith, inl, inr, ap₂, cond}
 use Rattle.std.proofs.lemmas.Bool.{cases_eq}
 use Rattle.std.proofs.lemmas.List.{get_or-map, length-map}
@@ -6,7 +6,7 @@ use Rattle.std.proofs.lemmas.List.Elements.{recursion_from_All, filter_passes}
 use Rattle.std.specs.List.{AllByRecursion, filter}
 use Rattle.wire_base.specs.Segments.{Written}
 use Rattle.linked_table.specs.declared.table.Slot.{Slot}
-use Rattle.linked_table.specs.Table.{Entry, SplitAt, with_value, revalued}
+use Rattle.linked_table.specs.Table.{Entry, SplitAt, with_value, revalued, Pairwise}
 use Rattle.linked_table.proofs.Parts.{left_out, valued}
 use Rattle.linked_table.specs.Table as table
 use Rattle.retain_store.specs.Maps.{Store, chain_of}
@@ -15,10 +15,10 @@ use Rattle.tcp_norm.specs.declared.flow.Flow.{Flow}
 use Rattle.tcp_norm.specs.declared.key.EraKey.{EraKey}
 use Rattle.tcp_norm.specs.Calls.{Alive, without, is_among}
 use Rattle.tcp_norm.specs.Held.{held_of}
-use Rattle.linked_table.specs.Table.{Pairwise}
 use Rattle.tcp_norm.specs.Standing.{IsFree, HoldsFor, EntryStands, AreGiven, alive_in}
 use Rattle.tcp_norm.specs.Chains.{Keeps}
-use Rattle.linked_table.proofs.Splits.{all_before, all_after, all_join, all_weaker, map_join, pairs_before, pairs_after, filter_rest, map_same}
+use Rattle.tcp_norm.specs.Spare.{written_back}
+use Rattle.linked_table.proofs.Splits.{all_before, all_after, all_join, all_weaker, map_join, pairs_before, pairs_after, filter_rest}
 use Rattle.tcp_norm.proofs.Splits.{all_unmap, pairs_rest, pairs_push, filter_only}
 
 pub number_other : (m n : ℕ) → m ≢ n → (m == n) ≡ false
@@ -98,12 +98,10 @@ none_left n lives =
         let fails : not (is_among (n ∷ []) m) ≡ false = rw same (rw (number_same n) refl) in
         cc
 
--- an entry of another slot, whose era has the same segments, stands still
-still : (hole : ℕ) (segments later : ℕ → List Written) (store new : Store) (e : Entry EraKey Flow)
-    → ((chain : ℕ) → chain ≢ hole → chain_of new chain ≡ chain_of store chain)
-    → EntryStands segments store e → e.slot.0 ≢ hole → later e.value.number ≡ segments e.value.number → EntryStands later new e
-still hole segments later store new e chains s apart same =
-    let chain = chains e.slot.0 apart in
+-- an entry with the same chain, whose era has the same segments, is unchanged
+pub still : (segments later : ℕ → List Written) (store new : Store) (e : Entry EraKey Flow)
+    → chain_of new e.slot.0 ≡ chain_of store e.slot.0 → EntryStands segments store e → later e.value.number ≡ segments e.value.number → EntryStands later new e
+still segments later store new e chain s same =
     record {
       era = subst (era.StandsFor e.value.era) (sym same) s.era;
       octets = subst (Keeps (chain_of new e.slot.0)) (sym same) (subst (λ b. Keeps b (segments e.value.number)) (sym chain) s.octets);
@@ -116,7 +114,7 @@ all_still : (hole : ℕ) (segments later : ℕ → List Written) (store new : St
     → AllByRecursion (EntryStands later new) es
 all_still hole segments later store new [] chains each apart same = tt
 all_still hole segments later store new (e ∷ es) chains each apart same =
-    (still hole segments later store new e chains each.0 apart.0 same.0, all_still hole segments later store new es chains each.1 apart.1 same.1)
+    (still segments later store new e (chains e.slot.0 apart.0) each.0 same.0, all_still hole segments later store new es chains each.1 apart.1 same.1)
 
 -- the other eras go on as they were, whatever becomes of the chain of the hole
 pub change : {hole : ℕ} {eras : List Alive} {segments : ℕ → List Written} {begun : ℕ} {entries : List (Entry EraKey Flow)} {store : Store}
@@ -173,7 +171,7 @@ leave hole apart h = record { eras_are = h.eras_are; each = h.each; apart = apar
 
 -- the table where an entry has another value and was touched
 pub put_touch : (entries : List (Entry EraKey Flow)) (slot : Slot) (a : SplitAt entries slot) (value : Flow)
-    → table.without (with_value entries slot value) slot ++ table.only (with_value entries slot value) slot ≡ (a.before ++ a.after) ++ record a.here { value = value } ∷ []
+    → written_back entries slot value ≡ (a.before ++ a.after) ++ record a.here { value = value } ∷ []
 put_touch entries slot a value =
     let mk : ℕ → Slot = λ n. record { 0 = n } in
     let named : a.here.slot.0 ≡ slot.0 = ap (λ (s : Slot). s.0) a.named in

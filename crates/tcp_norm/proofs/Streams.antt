@@ -1,13 +1,12 @@
 -- What a frame with octets of the stream adds to what is kept of its era.
 use Rattle.std.proofs.Common.{◌≡◌, ℕ, zero, suc, ◌+◌, ◌-◌, ◌≤◌, ◌&&◌, Bool, true, false, cond, List, [], ◌∷◌, ◌++◌, length, None, pos, refl, sym, ap, ap₂, ◌∙◌, arith}
-use Rattle.std.specs.Prelude.{slice_get, nat_lt, int_le, int_lt}
+use Rattle.std.specs.Prelude.{slice_get, nat_lt, int_le, int_lt, is_none}
 use Rattle.std.specs.Option.{option_or}
 use Rattle.std.proofs.lemmas.Bool.Decides.{nat_tests}
 use Rattle.wire_base.specs.Segments.{Written}
 use Rattle.era_state.specs.declared.interval.Interval.{Interval}
 use Rattle.era_state.specs.declared.warm.Warm.{Warm}
 use Rattle.era_state.specs.Offsets.{nat_of, number_in}
-use Rattle.std.specs.Prelude.{is_none}
 use Rattle.std.specs.List.{count_by, range_with_len}
 use Rattle.std.proofs.lemmas.List.Sums.{sum_by-cons}
 use Rattle.era_state.specs.Quantities.{base_at, acked, first, fresh_places}
@@ -25,7 +24,7 @@ got_past [] i past = refl
 got_past (x ∷ xs) zero past = absurd (omega arith)
 got_past (x ∷ xs) (suc i) past = got_past xs i (omega arith)
 
--- the frame's octets by its interval, and as octets from a place on
+-- the frame's octets by its interval, and as octets from an offset on
 frame_octet : (octets : List ℕ) (lo hi o : ℕ) → lo + length octets ≡ hi
     → (cond (int_le (pos lo) (pos o) && int_lt (pos o) (pos hi)) (slice_get octets (nat_of (pos o) - lo)) None) ≡ octet_in lo octets o
 frame_octet octets lo hi o long = first_case (nat_lt o lo) refl

@@ -1,4 +1,4 @@
--- A segment of the stream on which no row holds is its own frame.
+-- A segment of the stream on which no rule holds is its own frame.
 use Rattle.std.proofs.Common.{◌≡◌, ℕ, zero, suc, ◌+◌, ◌%◌, ◌^◌, ◌<◌, ◌≤◌, ◌&&◌, ◌||◌, not, Bool, true, false, cond, List, length, Option, Some, None, ℤ, pos, negsuc, ◌+ℤ◌, ◌-ℤ◌, ◌*ℤ◌, refl, sym, ap, subst, ◌∙◌, arith}
 use Rattle.std.specs.Prelude.{nat_lt, int_lt}
 use Rattle.std.proofs.lemmas.Int.{ints}
@@ -57,7 +57,7 @@ fin_same true true e = refl
 fin_same true false e = cc
 fin_same false kept e = refl
 
--- on a segment none of the rows on its octets and its FIN holds
+-- on a segment none of the rules on its octets and its FIN holds
 pub record NoRow (b : Bounds) (at : ℤ) (len : ℕ) (fin : Bool) : Type 0 where
   pub below : begins_below b at len ≡ false
   pub window : passes_window b at len ≡ false
@@ -90,7 +90,7 @@ own b at (suc k) fin h =
       begins = λ more. (s.0, s.1, s.2);
     }
 
--- a place at which a FIN is kept is not below 0
+-- an offset at which a FIN is kept is not below 0
 kept_place : (end : Option ℕ) (b : Bounds) (place : ℤ) → is_kept_fin (whole end) b place ≡ true → (n : ℕ) × (place ≡ pos n)
 kept_place end b (pos n) kept = (n, refl)
 kept_place None b (negsuc n) kept = cc
@@ -123,7 +123,7 @@ own_sequence reads base from end b at sequence len fin ends is fits o = first_ca
         sym (ap (λ n. (base + n) % 2 ^ 32) s.2 ∙ number_back reads base from s.0 sequence (is ∙ s.1) fits)
     first_case false e = second_case (keeps_fin b at len fin) refl e
 
--- a segment of the stream on which none of these rows holds is its own frame
+-- a segment of the stream on which none of these rules holds is its own frame
 pub verbatim : OffsetsAreRead → (place : Option ℕ) (ws : List Written) (w : Written) (i : Interval) → whole place ≡ end_of (base_at ws) ws → KeptOf ws w i → OfStream ws w → w.seq < 2 ^ 32
     → i.below ≡ false → i.window ≡ false → i.end ≡ false → IsFrame ws w i w
 verbatim reads place ws w i pinned is f fits below window end =

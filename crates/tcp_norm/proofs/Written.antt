@@ -55,7 +55,7 @@ none_holds a b c d e g h none =
       clash = holds_not h rules.TClash l7.1;
     }
 
--- the octets of a segment on which no row holds are those that go out
+-- the octets of a segment on which no rule holds are those that are sent
 pub own_octets : (ws : List Written) (w : Written) → Own (bounds_of ws) (offset_of ws w.seq) (length w.octets) (tcp.has_fin w.flags) → clashes ws w ≡ false → w.octets ≡ octets_sent ws w
 own_octets ws w o none =
     list_is w.octets (own_octet ws w) (low_of ws w) (high_of ws w - low_of ws w) (omega (arith, o.long)) (λ i lt. place i (omega (arith, o.long, lt)))

@@ -1,4 +1,4 @@
--- A segment that is written anew, by the fields of the one that was read.
+-- A segment that is rewritten, by the fields of the one that was read.
 use Rattle.std.specs.Prelude.{ℕ, Bool, List, if◌then◌else◌}
 use Rattle.wire_base.specs.Segments.{Segment}
 use Rattle.ipv4_codec.specs.declared.header.Ipv4.{Ipv4}

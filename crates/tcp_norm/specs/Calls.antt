@@ -23,7 +23,7 @@ pub record Outcome : Type 0 where
   pub ended : List Ended
   pub packets : List Packet
 
--- a call: at this time the eras that are idle end; or a datagram comes
+-- a call: at this time the eras that are idle end; or a datagram arrives
 pub data Call : Type 0 where
   expiry : (now : ℕ) (ended : List ℕ) → Call
   datagram : (now : ℕ) (asked : Datagram) (outcome : Outcome) → Call
@@ -58,7 +58,7 @@ abbrev pub is_key : FlowKey → FlowKey → Bool
 is_key a b =
     (a.outside.0 == b.outside.0) && (a.outside_port == b.outside_port) && (a.inside.0 == b.inside.0) && (a.inside_port == b.inside_port)
 
--- the record was written: it passed, or went out mended
+-- the record was written: it passed, or was rewritten
 abbrev pub is_written : Verdict → Bool
 is_written verdicts.Pass = true
 is_written verdicts.Fix = true
@@ -110,7 +110,7 @@ abbrev pub begun_in : List Call → ℕ
 begun_in [] = 0
 begun_in (c ∷ cs) = begun_in cs + begins_by c
 
--- how many datagrams came
+-- number of datagrams that arrived
 abbrev pub asks_by : Call → ℕ
 asks_by (expiry now ended) = 0
 asks_by (datagram now asked outcome) = 1

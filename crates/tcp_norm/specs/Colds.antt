@@ -1,19 +1,12 @@
 -- What becomes of an inbound datagram of a connection that has no live era.
-use Rattle.std.specs.Prelude.{◌≡◌, true, false, [], Some, None}
+use Rattle.std.specs.Prelude.{◌≡◌, true, [], None}
 use Rattle.wire_base.specs.Tcp as tcp
 use Rattle.wire_base.specs.declared.address.FlowKey.{FlowKey}
-use Rattle.rule_book.specs.declared.rule.Rule.TheVariants as rules
-use Rattle.norm_settings.specs.Settings.{PlainSettings}
 use Rattle.era_state.specs.declared.segment.Seg.{Seg}
-use Rattle.era_state.specs.Read.{came}
-use Rattle.cold_start.specs.Rules.{is_asked, cold_probe_of}
 use Rattle.ip_rules.specs.Datagrams.{Datagram, goes_in}
 use Rattle.tcp_norm.specs.Calls.{Outcome, segment_in, key_of, is_written}
-use Rattle.tcp_norm.specs.Views.{View}
-use Rattle.tcp_norm.specs.Rows.{dropped_by}
-use Rattle.tcp_norm.specs.Steps.{IsStep, Does, began}
 
--- The datagram comes inwards between these ends, and what goes inwards of it has its numbers, its window and its flags but for urgent ones.
+-- The datagram is inbound between these ends, and what is sent inwards of it has its numbers, its window and its flags but for urgent ones.
 pub record Comes (d : Datagram) (key : FlowKey) (s : Seg) : Type 0 where
   pub side : goes_in d.side ≡ true
   pub key_is : key_of d ≡ key

@@ -21,7 +21,7 @@ use Rattle.tcp_norm.specs.Rows.{is_live, pseudo_of, octet_sent, kept_offsets, op
 abbrev pub without_flag : ℕ → ℕ → ℕ
 without_flag weight flags = if tcp.has_flag weight flags then flags - weight else flags
 
--- the segment written anew, with these flags, this sequence number and these octets: reserved bits and urgent marks are 0, the options are cleaned
+-- the segment rewritten, with these flags, this sequence number and these octets: reserved bits and urgent marks are 0, the options are cleaned
 abbrev pub segment_with : Datagram → (sequence flags : ℕ) → List ℕ → Segment
 segment_with d sequence flags octets =
     record {
@@ -45,11 +45,11 @@ is_fin_kept ws w = keeps_fin (bounds_of ws) (offset_of ws w.seq) (length w.octet
 abbrev pub octets_sent : List Written → Written → List ℕ
 octets_sent ws w = map (octet_sent ws w) (kept_offsets ws w)
 
--- an inbound SYN or RST written anew: without octets
+-- an inbound SYN or RST rewritten: without octets
 abbrev pub bare_segment : Datagram → Segment
 bare_segment d = segment_with d (segment_in d).seq (segment_in d).flags []
 
--- another inbound segment written anew: the kept interval, and the FIN where it is kept
+-- another inbound segment rewritten: the kept interval, and the FIN where it is kept
 abbrev pub stream_segment : List Written → Datagram → Segment
 stream_segment ws d =
     let w = segment_in d in
@@ -58,16 +58,16 @@ stream_segment ws d =
 abbrev pub segment_anew : List Written → Datagram → Segment
 segment_anew ws d = if tcp.has_syn (segment_in d).flags || tcp.has_rst (segment_in d).flags then bare_segment d else stream_segment ws d
 
--- an outbound segment with its sum mended: nothing else changes
+-- an outbound segment with its sum corrected: nothing else changes
 abbrev pub sum_mended : Datagram → List ℕ
 sum_mended d = mended (pseudo_of d) d.octets
 
--- the segment that goes out: as it came where no row mends it
+-- the segment that is sent: as it arrived where no rule rewrites it
 abbrev pub segment_sent : List Written → Datagram → List Rule → List ℕ
 segment_sent ws d [] = d.octets
 segment_sent ws d (rule ∷ more) = if goes_in d.side then segment_octets (segment_anew ws d) else sum_mended d
 
--- the packet of the datagram itself: as it came where no row mends it
+-- the packet of the datagram itself: as it arrived where no rule rewrites it
 abbrev pub packet_by : PlainSettings → List Written → Datagram → (fixes mended : List Rule) → Packet
 packet_by settings ws d [] [] = as_read d
 packet_by settings ws d [] (rule ∷ more) = anew settings d (segment_sent ws d (rule ∷ more))
@@ -83,13 +83,13 @@ abbrev pub probe_packets : PlainSettings → Datagram → Option Probe → List 
 probe_packets settings d None = []
 probe_packets settings d (Some probe) = probe_packet settings d probe ∷ []
 
--- the probe that goes out with a datagram that a row drops: the cold probe under T_STATE, the era probe under T_SYN
+-- the probe that is sent with a datagram that a rule drops: the cold probe under T_STATE, the era probe under T_SYN
 abbrev pub probe_dropped : View → Datagram → Rule → Option Probe
 probe_dropped v d rules.TState = Some (cold_probe_of (segment_in d))
 probe_dropped v d rules.TSyn = era_probe v.segments (segment_in d)
 probe_dropped v d _ = None
 
--- the packets of a datagram that no row drops: the cold probe alone where a host is asked about it; else its own, and behind a RST the era probe
+-- the packets of a datagram that no rule drops: the cold probe alone where a host is asked about it; else its own, and behind a RST the era probe
 abbrev pub packets_passed : PlainSettings → View → Datagram → (mended : List Rule) → List Packet
 packets_passed settings v d mended =
     let w = segment_in d in

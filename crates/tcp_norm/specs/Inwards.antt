@@ -4,6 +4,8 @@ use Rattle.wire_base.specs.Tcp as tcp
 use Rattle.wire_base.specs.Options.{cleaned, scale_of}
 use Rattle.wire_base.specs.Segments.{Written}
 use Rattle.rule_book.specs.declared.rule.Rule.{Rule}
+use Rattle.rule_book.specs.declared.rule.Rule.TheVariants as rules
+use Rattle.ip_rules.specs.Judged.{where_holds}
 use Rattle.tcp_norm.specs.declared.step.Step.{Step}
 use Rattle.ip_rules.specs.Datagrams.{Packet}
 use Rattle.tcp_norm.specs.Calls.{Outcome}
@@ -24,7 +26,7 @@ bare_read m =
       octets = [];
     }
 
--- the outcome of a datagram that no row drops, by what it does to the eras, the rows on its header and on its segment, and its packets
+-- the outcome of a datagram that no rule drops, by what it does to the eras, the rules on its header and on its segment, and its packets
 abbrev pub passed : Step → (fixes mended : List Rule) → List Packet → Outcome
 passed s fixes mended packets =
-    record { verdict = verdict_of (fixes ++ mended); rules = fixes ++ mended; era = s.era; begun = s.begun; ended = listed s.ended; packets = packets }
+    record { verdict = verdict_of (fixes ++ mended); rules = where_holds s.full rules.TFull ++ fixes ++ mended; era = s.era; begun = s.begun; ended = listed s.ended; packets = packets }

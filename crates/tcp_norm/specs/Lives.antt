@@ -43,7 +43,7 @@ abbrev pub last_touch : (era : ℕ) → List Call → Option ℕ
 last_touch era [] = None
 last_touch era (c ∷ cs) = if writes_in era c then Some (time_of c) else last_touch era cs
 
--- the place of the last call that wrote in the era, where the first call has place 1; 0 where none did
+-- the position of the last call that wrote in the era, where the first call has position 1; 0 where none did
 abbrev pub touch_place : (era : ℕ) → List Call → ℕ
 touch_place era [] = 0
 touch_place era (c ∷ cs) = if writes_in era c then length cs + 1 else touch_place era cs

@@ -8,7 +8,7 @@ use Rattle.era_state.specs.Eras.{acked_in, octets_in}
 use Rattle.tcp_norm.specs.declared.flow.Flow.{Flow}
 use Rattle.tcp_norm.specs.declared.key.EraKey.{EraKey}
 
--- a call acknowledges less than half a turn, and brings fewer than 65,536 octets
+-- a call acknowledges less than 2^31, and brings fewer than 65,536 octets
 abbrev pub IsNear : (calls : ℕ) → Era → Type 0
 IsNear calls e = (acked_in e ≤ calls * 2 ^ 31) × (octets_in e ≤ calls * 2 ^ 16)
 

@@ -17,12 +17,12 @@ use Rattle.tcp_norm.specs.Views.{View, view_of, idle_at}
 use Rattle.tcp_norm.specs.Rows.{begins, reopens, t_full, dropped_by, mended_by, noted}
 use Rattle.tcp_norm.specs.Emits.{probe_dropped, probe_packets, packets_passed}
 
--- fix where a row mends it, else pass
+-- fix where a rule rewrites it, else pass
 abbrev pub verdict_of : List Rule → Verdict
 verdict_of [] = verdicts.Pass
 verdict_of (rule ∷ more) = verdicts.Fix
 
--- an era of so many octets that ends for this reason, if there is one
+-- an era of this number of octets that ends for this reason, if there is one
 abbrev pub ends : Option ℕ → (octets : ℕ) → Reason → List Ended
 ends None octets reason = []
 ends (Some era) octets reason = record { era = era; reason = reason; octets = Some octets } ∷ []
@@ -31,7 +31,7 @@ ends (Some era) octets reason = record { era = era; reason = reason; octets = So
 abbrev pub begun_with : View → Written → Option ℕ
 begun_with v w = if (begins v w && not (t_full v w)) || reopens v w then Some v.next else None
 
--- the eras that end with it, with their octets before it: the one of the same connection, where it begins another; the one whose place a new one
+-- the eras that end with it, with their octets before it: the one of the same connection, where it begins another; the one whose slot a new one
 -- needs; the one that an outbound RST ends
 abbrev pub ended_with : View → Written → List Ended
 ended_with v w =
@@ -40,7 +40,7 @@ ended_with v w =
     else if not w.inward && tcp.has_rst w.flags then ends v.era (octets_of v.segments) reasons.Reset
     else []
 
--- the outcome of a datagram that a row drops: it names the era that is live, if one is, and so none under T_COLD and T_FULL
+-- the outcome of a datagram that a rule drops: it names the era that is live, if one is, and so none under T_COLD and T_FULL
 abbrev pub outcome_dropped : PlainSettings → View → Datagram → Rule → Outcome
 outcome_dropped settings v d rule =
     record {
@@ -52,7 +52,7 @@ outcome_dropped settings v d rule =
       packets = probe_packets settings d (probe_dropped v d rule);
     }
 
--- the outcome of one that no row drops, mended by these rows
+-- the outcome of one that no rule drops, rewritten by these rules
 abbrev pub outcome_passed : PlainSettings → View → Datagram → (mended : List Rule) → Outcome
 outcome_passed settings v d mended =
     let w = segment_in d in
@@ -69,7 +69,7 @@ abbrev pub outcome_by : PlainSettings → View → Datagram → Option Rule → 
 outcome_by settings v d (Some rule) mended = outcome_dropped settings v d rule
 outcome_by settings v d None mended = outcome_passed settings v d mended
 
--- what becomes of a datagram, by what its rows ask
+-- what becomes of a datagram, by what its rules ask
 abbrev pub outcome_at : PlainSettings → View → Datagram → Outcome
 outcome_at settings v d = outcome_by settings v d (dropped_by settings v d) (mended_by settings v d)
 

@@ -3,7 +3,7 @@ use Rattle.std.specs.Prelude.{◌≡◌, ◌++◌, length}
 use Rattle.rule_book.specs.declared.entry.Entry.{Entry}
 use Rattle.tcp_norm.specs.Calls.{Outcome}
 
--- the entry says what became of the datagram, and nothing else in it has changed; eras that ended before stand before those that ended with it
+-- the entry says what became of the datagram, and nothing else in it has changed; eras that ended before precede those that ended with it
 pub record Reports (old new : Entry) (o : Outcome) : Type 0 where
   pub number : new.number ≡ old.number
   pub side : new.side ≡ old.side

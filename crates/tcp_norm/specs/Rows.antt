@@ -1,4 +1,4 @@
--- The rows of the rule table on connections, one definition each, in the order of testing, then of naming (this project's profile). A row is read of a datagram
+-- The rules of the rule table on connections, one definition each, in the order of testing, then of naming (this project's profile). A rule is read of a datagram
 -- under settings, with what it asks of the calls before.
 use Rattle.std.specs.Prelude.{ℕ, ◌+◌, ◌-◌, ◌==◌, ◌&&◌, ◌||◌, nat_lt, not, Bool, true, false, List, [], ◌∷◌, length, find, filter, pos, ◌-ℤ◌, Option, Some, None, is_some, is_none, slice_index, if◌then◌else◌}
 use Rattle.std.specs.List.{list_any, range_with_len}
@@ -25,7 +25,7 @@ use Rattle.tcp_norm.specs.Views.{View}
 abbrev pub is_live : View → Bool
 is_live v = is_some v.era
 
--- the place of the first octet that goes out, and the place behind the last (both the same, where none goes out)
+-- the offset of the first octet that is sent, and the offset behind the last (both the same, where none goes out)
 abbrev pub low_of : List Written → Written → ℕ
 low_of ws w = low (bounds_of ws) (offset_of ws w.seq)
 
@@ -111,7 +111,7 @@ t_res d = goes_in d.side && not (tcp.reserved d.octets == 0)
 abbrev pub t_urg : Datagram → Bool
 t_urg d = goes_in d.side && (tcp.has_urg (tcp.flags d.octets) || not (tcp.urgent_pointer d.octets == 0))
 
--- the lists differ at a place
+-- the lists differ at an index
 abbrev pub differ : List ℕ → List ℕ → Bool
 differ [] [] = false
 differ [] (y ∷ ys) = true
@@ -130,7 +130,7 @@ t_opt d = goes_in d.side && differ (options_sent d) (tcp.options d.octets)
 abbrev pub t_strip : Written → Bool
 t_strip w = w.inward && (tcp.has_syn w.flags || tcp.has_rst w.flags) && nat_lt 0 (length w.octets)
 
--- C_PROBE: inbound, and no era is live and neither SYN nor RST stands; or RST, and something was sent outwards in the live era
+-- C_PROBE: inbound, and no era is live and neither SYN nor RST is set; or RST, and something was sent outwards in the live era
 abbrev pub c_probe : View → Written → Bool
 c_probe v w =
     (not (is_live v) && cold.is_asked w) || (is_live v && w.inward && tcp.has_rst w.flags && is_some (out v.segments))
@@ -153,7 +153,7 @@ clashes ws w = list_any (λ offset. not (octet_sent ws w offset == own_octet ws 
 abbrev pub t_clash : View → Written → Bool
 t_clash v w = is_live v && era.is_of_stream v.segments w && clashes v.segments w
 
--- whether the condition of a row on connections holds; those of other layers hold of none
+-- whether the condition of a rule on connections holds; those of other layers hold of none
 abbrev pub holds_era : PlainSettings → View → Datagram → Rule → Bool
 holds_era settings v d rules.TCold = t_cold v (segment_in d)
 holds_era settings v d rules.TState = t_state v (segment_in d)
@@ -174,17 +174,17 @@ holds_era settings v d rules.TEnd = t_end v (segment_in d)
 holds_era settings v d rules.TClash = t_clash v (segment_in d)
 holds_era settings v d _ = false
 
--- the rows that are named of one that is not dropped, in the order of their numbers
+-- the rules that are named of one that is not dropped, in the order of their numbers
 abbrev pub mends : List Rule
 mends =
     rules.TSumOut ∷ rules.TRes ∷ rules.TUrg ∷ rules.TOpt ∷ rules.TStrip ∷ rules.CProbe ∷ rules.TOld ∷ rules.TWindow ∷ rules.TEnd ∷
     rules.TClash ∷ []
 
--- the row that drops the datagram, if one does: the first that holds; outbound none does
+-- the rule that drops the datagram, if one does: the first that holds; outbound none does
 abbrev pub dropped_by : PlainSettings → View → Datagram → Option Rule
 dropped_by settings v d = if goes_in d.side then find (holds_era settings v d) era_rows else None
 
--- the rows that mend it
+-- the rules that rewrite it
 abbrev pub mended_by : PlainSettings → View → Datagram → List Rule
 mended_by settings v d = filter (holds_era settings v d) mends
 

@@ -1,4 +1,4 @@
--- Rulings on inbound segments: the outcome that each stands for, what is rewritten, and what changes in the tables (this project's profile).
+-- Rulings on inbound segments: the outcome that each represents, what is rewritten, and what changes in the tables (this project's profile).
 use Rattle.std.specs.Prelude.{◌≡◌, ◌≢◌, ℕ, true, false, ◌+◌, ◌*◌, ◌^◌, ◌<◌, ◌≤◌, length, List, [], ◌∷◌, ◌++◌, take, Option, Some, None}
 use Rattle.std.specs.List.{All, AllByRecursion, AllPairs}
 use Rattle.wire_base.specs.Segments.{Written}
@@ -7,7 +7,6 @@ use Rattle.linked_table.specs.Table as table
 use Rattle.rule_book.specs.declared.entry.Verdict.TheVariants as verdicts
 use Rattle.norm_settings.specs.Settings.{PlainSettings}
 use Rattle.era_state.specs.declared.probe.Probe.{Probe}
-use Rattle.era_state.specs.Silence.{IsSilent}
 use Rattle.era_state.specs.Standing.{WarmFor}
 use Rattle.era_state.specs.Intervals.{KeptOf}
 use Rattle.era_state.specs.Frames.{IsGiven, IsFrame}
@@ -48,6 +47,7 @@ use Rattle.tcp_norm.specs.Outcomes.{call_of, outcome_at}
 use Rattle.tcp_norm.specs.Standing.{StandsFor}
 use Rattle.tcp_norm.specs.Colds.{IsUnheard}
 use Rattle.tcp_norm.specs.Resets.{WritesAll}
+use Rattle.tcp_norm.specs.Writes.{BringsNone}
 
 -- the packets of a segment that passes
 abbrev pub packets_of : PlainSettings → List Written → Datagram → Passage → List Packet
@@ -116,7 +116,7 @@ pub record IsLast (era : Era) (warm : Warm) : Type 0 where
   pub acked_is : warm.acked ≡ eraspec.acked_in era
   pub octets_are : warm.octets ≡ eraspec.octets_in era
 
--- the octets can be taken, after so many calls, with this quota
+-- the octets can be taken, after this number of calls, with this quota
 pub record CanTake (calls : ℕ) (store : Store) (most : Option ℕ) (live : Live) (t : Taking) : Type 0 where
   pub given : IsGiven t.warm.now t.kept
   pub long : t.kept.lo + t.size ≡ t.kept.hi
@@ -146,8 +146,15 @@ pub record Brings (calls : List Call) (scratch : List ℕ) (d : Datagram) (live 
   pub more : List Written
   pub writes : WritesAll d live.flow.number more o
 
--- the outcome writes in the era what brings it no octet
-pub record Extends (calls : List Call) (d : Datagram) (live : Live) (s : Seg) (o : Outcome) : Type 0 where
+-- the outcome writes in the era what brings it no octet, and after that it is this one
+pub record Extends (calls : List Call) (d : Datagram) (live : Live) (e : Era) (ws : List Written) (o : Outcome) : Type 0 where
+  pub key_is : live.key ≡ key_of d
+  pub none : AllByRecursion BringsNone ws
+  pub stands : eraspec.StandsFor e (segments live.flow.number calls ++ ws)
+  pub writes : WritesAll d live.flow.number ws o
+
+-- the outcome writes a SYN in the era
+pub record Hears (calls : List Call) (d : Datagram) (live : Live) (s : Seg) (o : Outcome) : Type 0 where
   pub key_is : live.key ≡ key_of d
   pub stood : eraspec.StandsFor live.flow.era (segments live.flow.number calls)
   pub does : Does d (came s) (record { era = Some live.flow.number; begun = None; ended = None; full = false }) o
@@ -163,9 +170,9 @@ pub record Reopens (norm : TcpNorm) (d : Datagram) (live : Live) (era : Offered)
 -- the outcome needs this change
 abbrev pub Needs : List Call → TcpNorm → Datagram → Live → Change → Outcome → Type 0
 Needs calls norm d live Nothing o = IsUnheard o
-Needs calls norm d live Touch o = (live.key ≡ key_of d) × ((ws : List Written) × AllByRecursion IsSilent ws × WritesAll d live.flow.number ws o)
+Needs calls norm d live Touch o = (ws : List Written) × Extends calls d live live.flow.era ws o
 Needs calls norm d live (Take t) o = Brings calls norm.scratch.items d live t o
-Needs calls norm d live (Hear s) o = Extends calls d live s o
+Needs calls norm d live (Hear s) o = Hears calls d live s o
 Needs calls norm d live (Reopen era) o = Reopens norm d live era o
 
 -- the ruling on a datagram, and the change that its outcome needs

@@ -1,4 +1,4 @@
--- Datagrams that the rows before those of connections leave, and what holds of the packets that go out for them (this project's profile).
+-- Datagrams that the rules before those of connections leave, and what holds of the packets that are sent for them (this project's profile).
 use Rattle.std.specs.Prelude.{◌≡◌, ◌≢◌, ℕ, ◌*◌, ◌≤◌, Bool, true, false, List, [], ◌∷◌, ◌++◌, length, Some, None}
 use Rattle.std.specs.List.{AllByRecursion, list_any}
 use Rattle.wire_base.specs.Tcp as tcp
@@ -18,7 +18,7 @@ use Rattle.tcp_norm.specs.Lives.{AreMade}
 use Rattle.tcp_norm.specs.Held.{held_all, held_in}
 use Rattle.tcp_norm.specs.Near.{IsAtMost}
 
--- What is known of a datagram that no row on its segment's header drops: it has a whole header with legal flags and options that are well formed, and inwards
+-- What is known of a datagram that no rule on its segment's header drops: it has a whole header with legal flags and options that are well formed, and inwards
 -- a right sum.
 pub record IsSegment (settings : PlainSettings) (d : Datagram) : Type 0 where
   pub known : IsKnown settings d
@@ -61,13 +61,13 @@ pub record IsSilentPacket (p : Packet) : Type 0 where
   pub no_syn : tcp.has_syn (tcp.flags p.octets) ≡ false
   pub no_fin : tcp.has_fin (tcp.flags p.octets) ≡ false
 
--- a probe that goes out for a datagram that a row drops says nothing of a stream
+-- a probe that is sent for a datagram that a rule drops adds nothing to a stream
 abbrev pub ProbesAreSilent : Type 0
 ProbesAreSilent =
     (settings : PlainSettings) (v : View) (d : Datagram) → is_written (outcome_at settings v d).verdict ≡ false
     → AllByRecursion IsSilentPacket (outcome_at settings v d).packets
 
--- the rows that change what a segment carries, or put a probe in its place or behind it
+-- the rules that change what a segment carries, or send a probe instead of it or behind it
 abbrev pub touches_payload : Rule → Bool
 touches_payload rules.TStrip = true
 touches_payload rules.CProbe = true
@@ -77,14 +77,14 @@ touches_payload rules.TEnd = true
 touches_payload rules.TClash = true
 touches_payload _ = false
 
--- exactly one packet goes out, which carries what the datagram's segment does; it is the datagram as it was read, where no row mends it
+-- exactly one packet is sent, which carries what the datagram's segment does; it is the datagram as it was read, where no rule rewrites it
 pub record KeepsPayload (d : Datagram) (mended : List Rule) (packets : List Packet) : Type 0 where
   pub packet : Packet
   pub only : packets ≡ packet ∷ []
   pub same : tcp.payload packet.octets ≡ tcp.payload d.octets
   pub whole : d.fixes ≡ [] → mended ≡ [] → packet ≡ as_read d
 
--- this holds of a datagram that no row drops, and none of these mends
+-- this holds of a datagram that no rule drops, and none of these rewrites
 abbrev pub CleanKeepsPayload : Type 0
 CleanKeepsPayload =
     (settings : PlainSettings) (v : View) (d : Datagram) → IsSegment settings d

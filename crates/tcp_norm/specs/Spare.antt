@@ -2,7 +2,8 @@
 use Rattle.std.specs.Prelude.{◌==◌, Bool, List, [], ◌∷◌, ◌++◌, length, map, filter, if◌then◌else◌}
 use Rattle.linked_table.specs.declared.table.Slot.{Slot}
 use Rattle.linked_table.specs.Listing.{others}
-use Rattle.linked_table.specs.Table.{Entry}
+use Rattle.linked_table.specs.Table.{Entry, with_value}
+use Rattle.linked_table.specs.Table as table
 use Rattle.retain_store.specs.Maps.{Store, chain_of}
 use Rattle.tcp_norm.specs.declared.flow.Flow.{Flow}
 use Rattle.tcp_norm.specs.declared.key.EraKey.{EraKey}
@@ -15,6 +16,10 @@ is_empty store slot = length (chain_of store slot.0) == 0
 abbrev pub spares : Store → List (Entry EraKey Flow) → List Slot
 spares store entries = map (λ e. e.slot) (filter (λ e. is_empty store e.slot) entries)
 
--- of listed slots those without this one, which stands behind them where its chain has no block
+-- of listed slots those without this one, which is behind them where its chain has no block
 abbrev pub settled : Store → Slot → List Slot → List Slot
 settled store slot slots = if is_empty store slot then others slots slot ++ slot ∷ [] else others slots slot
+
+-- the entries, where that of this slot has this value and is the last
+abbrev pub written_back : List (Entry EraKey Flow) → Slot → Flow → List (Entry EraKey Flow)
+written_back entries slot flow = table.without (with_value entries slot flow) slot ++ table.only (with_value entries slot flow) slot

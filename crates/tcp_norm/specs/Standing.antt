@@ -1,5 +1,5 @@
--- What the table of eras and the store of octets stand for.
-use Rattle.std.specs.Prelude.{◌≡◌, ◌≢◌, ℕ, ◌<◌, ◌≤◌, List, [], ◌∷◌, length, map}
+-- What the table of eras and the store of octets represent.
+use Rattle.std.specs.Prelude.{◌≡◌, ◌≢◌, ℕ, ◌<◌, ◌≤◌, List, [], ◌∷◌, length, map, None}
 use Rattle.std.specs.List.{AllByRecursion}
 use Rattle.wire_base.specs.Segments.{Written}
 use Rattle.norm_settings.specs.Settings.{PlainSettings}
@@ -8,16 +8,17 @@ use Rattle.retain_store.specs.Maps.{Store, chain_of}
 use Rattle.era_state.specs.Eras as era
 use Rattle.tcp_norm.specs.declared.flow.Flow.{Flow}
 use Rattle.tcp_norm.specs.declared.key.EraKey.{EraKey}
+use Rattle.era_state.specs.declared.era.Era.{Era}
 use Rattle.tcp_norm.specs.declared.state.TcpNorm.{TcpNorm}
 use Rattle.tcp_norm.specs.Calls.{Call, Alive, segments, eras, begun_in, asked_in, latest}
-use Rattle.tcp_norm.specs.Held.{held_of}
+use Rattle.tcp_norm.specs.Held.{kept_at, held_of}
 use Rattle.tcp_norm.specs.Chains.{Keeps}
 
 -- an entry of the table as a live era
 abbrev pub alive_in : Entry EraKey Flow → Alive
 alive_in e = record { number = e.value.number; key = e.key.0; touched = e.value.touched }
 
--- what is kept of a live era stands for its segments: the state and the quantities, the octets in the chain of its slot, and how many blocks they take
+-- what is kept of a live era represents its segments: the state and the quantities, the octets in the chain of its slot, and how many blocks they take
 pub record EntryStands (segments : ℕ → List Written) (store : Store) (e : Entry EraKey Flow) : Type 0 where
   pub era : era.StandsFor e.value.era (segments e.value.number)
   pub octets : Keeps (chain_of store e.slot.0) (segments e.value.number)
@@ -27,13 +28,13 @@ pub record EntryStands (segments : ℕ → List Written) (store : Store) (e : En
 abbrev pub IsFree : List (Entry EraKey Flow) → (chain : ℕ) → Type 0
 IsFree entries chain = AllByRecursion (λ e. e.slot.0 ≢ chain) entries
 
--- numbers are given once: each live era has one that was given, no two have the same, and nothing was written in an era to come
+-- numbers are given once: each live era has one that was given, no two have the same, and nothing was written in a later era
 pub record AreGiven (begun : ℕ) (segments : ℕ → List Written) (eras : List Alive) : Type 0 where
   pub below : AllByRecursion (λ a. a.number ≤ begun) eras
   pub apart : Pairwise (λ a b. a.number ≢ b.number) eras
   pub fresh : (number : ℕ) → begun < number → segments number ≡ []
 
--- The entries and the store stand for the live eras, least recently touched first, and the segments of each; the chains of other slots are empty.
+-- The entries and the store represent the live eras, least recently touched first, and the segments of each; the chains of other slots are empty.
 pub record HoldsFor (eras : List Alive) (segments : ℕ → List Written) (begun : ℕ) (entries : List (Entry EraKey Flow)) (store : Store) : Type 0 where
   pub eras_are : map alive_in entries ≡ eras
   pub each : AllByRecursion (EntryStands segments store) entries
@@ -56,7 +57,7 @@ pub record IsFor (settings : PlainSettings) (norm : TcpNorm) : Type 0 where
   pub offload : norm.offload ≡ settings.offload
   pub quota : norm.quota ≡ settings.quota
 
--- The connections stand for the calls so far, the newest first.
+-- The connections represent the calls so far, the newest first.
 pub record StandsFor (settings : PlainSettings) (norm : TcpNorm) (calls : List Call) : Type 0 where
   pub opened : IsFor settings norm
   pub holds : HoldsFor (eras calls) (λ number. segments number calls) norm.begun norm.table.entries norm.store
@@ -64,3 +65,22 @@ pub record StandsFor (settings : PlainSettings) (norm : TcpNorm) (calls : List C
   pub latest_is : norm.latest ≡ latest calls
   pub calls_is : norm.calls ≡ asked_in calls
   pub timely : IsTimely norm.latest (eras calls)
+
+-- the table and the store hold these eras with these segments
+abbrev pub Holds : TcpNorm → List Alive → (ℕ → List Written) → Type 0
+Holds norm lives segments = HoldsFor lives segments norm.begun norm.table.entries norm.store
+
+-- with the first segments of the era of this number, of which nothing is kept, the segments are these
+pub record Begins (e : Era) (number : ℕ) (segments later : ℕ → List Written) : Type 0 where
+  pub stands : era.StandsFor e (later number)
+  pub none : (offset : ℕ) → kept_at (later number) offset ≡ None
+  pub others : (m : ℕ) → m ≢ number → later m ≡ segments m
+
+-- only the tables have changed, and this is the number of eras that began
+pub record ChangesTables (old new : TcpNorm) (begun : ℕ) : Type 0 where
+  pub opened : (settings : PlainSettings) → IsFor settings old → IsFor settings new
+  pub idle : new.idle ≡ old.idle
+  pub begun_is : new.begun ≡ begun
+  pub calls_are : new.calls ≡ old.calls
+  pub latest_is : new.latest ≡ old.latest
+  pub scratch_is : new.scratch ≡ old.scratch

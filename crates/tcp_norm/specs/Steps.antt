@@ -1,21 +1,25 @@
--- What a datagram that no row drops does to the eras.
-use Rattle.std.specs.Prelude.{◌≡◌, ℕ, ◌+◌, ◌==◌, nat_lt, if◌then◌else◌, Bool, true, false, List, [], ◌∷◌, map, filter, Option, Some, None}
+-- What a datagram that no rule drops does to the eras.
+use Rattle.std.specs.Prelude.{◌≡◌, ℕ, ◌+◌, ◌==◌, ◌≤◌, nat_lt, nat_le, if◌then◌else◌, Bool, true, false, List, [], ◌∷◌, ◌++◌, length, map, filter, Option, Some, None, IfSome, IfNone}
 use Rattle.std.specs.Option.{option_or}
 use Rattle.wire_base.specs.Segments.{Written}
 use Rattle.rule_book.specs.declared.entry.Ended.{Ended}
 use Rattle.rule_book.specs.declared.entry.Reason.TheVariants as reasons
+use Rattle.norm_settings.specs.Settings.{PlainSettings}
+use Rattle.era_state.specs.declared.era.Era.{Era}
 use Rattle.era_state.specs.declared.segment.Seg.{Seg}
 use Rattle.era_state.specs.Quantities.{octets_of}
 use Rattle.era_state.specs.Read.{sent}
 use Rattle.wire_base.specs.declared.address.FlowKey.{FlowKey}
+use Rattle.tcp_norm.specs.declared.state.TcpNorm.{TcpNorm}
 use Rattle.tcp_norm.specs.declared.step.Step.{Step}
 use Rattle.tcp_norm.specs.declared.step.Place.{Place}
 use Rattle.ip_rules.specs.Datagrams.{Datagram, goes_in}
-use Rattle.tcp_norm.specs.Calls.{Alive, Outcome, read, is_written, segment_in, key_of}
+use Rattle.tcp_norm.specs.Calls.{Alive, Call, datagram, Outcome, read, is_written, segment_in, key_of, without}
 use Rattle.tcp_norm.specs.Held.{held_of}
-use Rattle.tcp_norm.specs.Views.{View, number_of, segments_of, head_of}
+use Rattle.tcp_norm.specs.Views.{View, view_of, number_of, segments_of, head_of}
 use Rattle.tcp_norm.specs.Rows.{t_full}
 use Rattle.tcp_norm.specs.Outcomes.{begun_with, ended_with}
+use Rattle.tcp_norm.specs.Standing.{StandsFor, Holds, Begins}
 
 -- the era that ended, if one did
 abbrev pub listed : Option Ended → List Ended
@@ -60,7 +64,7 @@ idle_end segments number = record { era = number; reason = reasons.Idle; octets 
 abbrev pub idled : (ℕ → List Written) → List ℕ → List Ended
 idled segments numbers = map (idle_end segments) numbers
 
--- an era of so many octets, if there is one, ends since its place is needed
+-- an era of this number of octets, if there is one, ends since its slot is needed
 abbrev pub evicted : Option ℕ → (octets : ℕ) → Option Ended
 evicted None octets = None
 evicted (Some number) octets = Some (record { era = number; reason = reasons.Evicted; octets = Some octets })
@@ -73,7 +77,7 @@ evicted_of segments a = evicted (number_of a) (octets_of (segments_of segments a
 abbrev pub first_empty : List Alive → (ℕ → List Written) → Option Ended
 first_empty lives segments = evicted_of segments (head_of (filter (λ a. held_of (segments a.number) == 0) lives))
 
--- Where a new era finds its place: beside the others, or in that of one that ends; and none where as many are live as may be and each holds octets
+-- The slot of a new era: a free one, or that of one that ends; and none where as many are live as may be and each holds octets
 abbrev pub place_by : Option Ended → (next : ℕ) → Option Place
 place_by None next = None
 place_by (Some e) next = Some (record { begun = next; evicted = Some e })
@@ -86,16 +90,16 @@ place_of true empty next = place_by empty next
 abbrev pub continued_in : (number : ℕ) → Step
 continued_in number = record { era = Some number; begun = None; ended = None; full = false }
 
--- the era of this number ends, of so many octets, and another of its connection begins
+-- the era of this number, which has this number of octets, ends, and another of its connection begins
 abbrev pub reopened_by : (number next octets : ℕ) → Step
 reopened_by number next octets =
     record { era = Some next; begun = Some next; ended = Some (record { era = number; reason = reasons.Reopened; octets = Some octets }); full = false }
 
--- an era begins at this place
+-- an era begins in this slot
 abbrev pub began : Place → Step
 began p = record { era = Some p.begun; begun = Some p.begun; ended = p.evicted; full = false }
 
--- where the era that begins next finds its place
+-- the slot of the era that begins next
 abbrev pub place_in : View → Option Place
 place_in v = place_of v.is_full (evicted v.evictable v.evictable_octets) v.next
 
@@ -104,3 +108,34 @@ pub record Sends (d : Datagram) (key : FlowKey) (s : Seg) (octets : List ℕ) : 
   pub side : goes_in d.side ≡ false
   pub key_is : key_of d ≡ key
   pub segment_is : segment_in d ≡ sent s octets
+
+-- the least recently touched era that holds nothing has ended, if there is one
+pub record Evicts (old new : TcpNorm) (lives : List Alive) (segments : ℕ → List Written) (r : Option Ended) : Type 0 where
+  pub answer : r ≡ first_empty lives segments
+  pub given : (number : ℕ) → number_ended r ≡ Some number → number ≤ old.begun
+  pub left : Holds new (without (one (number_ended r)) lives) segments
+
+-- the least recently touched era has ended, if it is idle
+pub record EndsIdle (old new : TcpNorm) (now : ℕ) (lives : List Alive) (segments : ℕ → List Written) (r : Option Ended) : Type 0 where
+  pub answer : number_ended r ≡ first_old old.idle now lives
+  pub told : IfSome r (λ e. e ≡ idle_end segments e.era)
+  pub left : Holds new (without (one (number_ended r)) lives) segments
+
+-- an era has begun, if there was a slot for it
+pub record Places (old new : TcpNorm) (key : FlowKey) (e : Era) (now : ℕ) (lives : List Alive) (segments : ℕ → List Written) (r : Option Place) : Type 0 where
+  pub answer : r ≡ place_of (nat_le old.table.max (length lives)) (first_empty lives segments) (old.begun + 1)
+  pub given : IfSome r (λ p. (number : ℕ) → number_ended p.evicted ≡ Some number → number ≤ old.begun)
+  pub some : IfSome r (λ p. (later : ℕ → List Written) → Begins e (old.begun + 1) segments later →
+      Holds new (without (one (number_ended p.evicted)) lives ++ record { number = old.begun + 1; key = key; touched = now } ∷ []) later)
+  pub none : IfNone r (Holds new lives segments)
+
+-- the step is that of an outbound segment, and the eras are those after it
+pub record IsMade (settings : PlainSettings) (calls : List Call) (d : Datagram) (now : ℕ) (new : TcpNorm) (s : Step) : Type 0 where
+  pub is_step : IsStep (view_of settings calls d) (segment_in d) s
+  pub stands : (o : Outcome) → Does d (segment_in d) s o → StandsFor settings new (datagram now d o ∷ calls)
+
+-- after any calls
+abbrev pub Makes : (old new : TcpNorm) → FlowKey → Seg → (now : ℕ) → Step → Type 0
+Makes old new key s now step =
+    (settings : PlainSettings) (calls : List Call) (d : Datagram) (octets : List ℕ) → length octets ≡ s.len → StandsFor settings old calls
+    → Sends d key s octets → IsMade settings calls d now new step

@@ -1,10 +1,10 @@
--- The rows that mend an inbound segment of the stream, by what holds of it.
+-- The rules that rewrite an inbound segment of the stream, by what holds of it.
 use Rattle.std.specs.Prelude.{Bool, List, ◌++◌}
 use Rattle.rule_book.specs.declared.rule.Rule.{Rule}
 use Rattle.rule_book.specs.declared.rule.Rule.TheVariants as rules
 use Rattle.ip_rules.specs.Judged.{where_holds}
 
--- the rows of those that hold, in the order of their numbers
+-- the rules of those that hold, in the order of their numbers
 abbrev pub stream_rows : (reserved urgent options old window end clash : Bool) → List Rule
 stream_rows reserved urgent options old window end clash =
     where_holds reserved rules.TRes ++ where_holds urgent rules.TUrg ++ where_holds options rules.TOpt ++ where_holds old rules.TOld

@@ -1,4 +1,4 @@
--- What the rows of the rule table ask of the calls before a datagram.
+-- What the rules of the rule table ask of the calls before a datagram.
 use Rattle.std.specs.Prelude.{ℕ, ◌+◌, ◌-◌, nat_le, Bool, List, [], ◌∷◌, length, take, filter, Option, Some, None, nat_lt}
 use Rattle.wire_base.specs.Segments.{Written}
 use Rattle.era_state.specs.Quantities.{octets_of}

@@ -1,4 +1,4 @@
--- Worked rows: a connection that opens and brings octets, a clash, a reset with its probe, a reset that stays outside, and one that ends an era.
+-- Worked examples: a connection that opens and brings octets, a clash, a reset with its probe, a reset that is dropped, and one that ends an era.
 use Rattle.std.specs.Prelude.{◌≡◌, ℕ, true, false, List, [], ◌∷◌, map, Some, None}
 use Rattle.rule_book.specs.declared.entry.Reason.TheVariants as reasons
 use Rattle.ip_rules.specs.Datagrams.{Datagram, anew}
@@ -44,7 +44,7 @@ opening = came_in 16 1000 5001 [] ∷ went_out 18 5000 1000 [] ∷ came_in 2 999
 pub record WorkedRows : Type 0 where
   -- the first datagram of a connection begins its first era
   pub first_call : (became [] (came_in 2 999 0 [])).begun ≡ Some 1
-  -- the third passes as it came, in that era
+  -- the third passes as it arrived, in that era
   pub third_call : became (went_out 18 5000 1000 [] ∷ came_in 2 999 0 [] ∷ []) (came_in 16 1000 5001 [])
       ≡ record {
         verdict = verdicts.Pass;
@@ -69,7 +69,7 @@ pub record WorkedRows : Type 0 where
   pub reset_packets : map (λ p. read true p.octets) (became opening (came_in 4 1000 0 [])).packets
       ≡ record { inward = true; seq = 1000; ack = 0; flags = 4; window = 8192; scale = None; octets = [] }
       ∷ record { inward = true; seq = 999; ack = 5001; flags = 16; window = 8192; scale = None; octets = [] } ∷ []
-  -- a reset of what is acknowledged stays outside
+  -- a reset of what is acknowledged is dropped
   pub stray_reset : (became (went_out 16 5001 1004 [] ∷ came_in 24 1000 5001 (97 ∷ 98 ∷ 99 ∷ 100 ∷ []) ∷ opening) (came_in 4 1003 0 [])).rules ≡ rules.TRst ∷ []
   -- an outbound reset ends the era
   pub ends_by_reset : (became opening (went_out 4 5001 0 [])).ended ≡ record { era = 1; reason = reasons.Reset; octets = Some 0 } ∷ []

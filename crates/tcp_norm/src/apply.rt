@@ -1,32 +1,29 @@
 //! What a segment changes in its live era.
+ghost use Rattle.std.specs.Prelude.{◌≡◌, ◌<◌, length};
+ghost use Rattle.linked_table.specs.Table.{IsIn};
+ghost use Rattle.tcp_norm.specs.Spare.{settled, written_back};
+
 use crate::flow::{Flow, Live};
+use crate::key::EraKey;
 use crate::ruling::{Change, Taking};
-use crate::spare::settle;
+use crate::spare::{chain_is_counted, list_spare};
 use crate::state::TcpNorm;
 use era_state::Era;
-use era_state::laws::{
-    acked_never_falls, first_stays, frame_octets, intervals_fit, silence_changes_nothing,
-    silence_stands,
-};
-use retain_store::ChainId;
+use era_state::laws::{acked_never_falls, first_stays, frame_octets, intervals_fit};
+use linked_table::{LinkedTable, Slot, SlotList};
+use retain_store::{ChainId, Retain};
 
 impl TcpNorm {
-    ghost use Rattle.std.specs.Prelude.{◌≡◌, ◌-◌, ◌<◌, ◌≤◌, ◌^◌, List, ◌∷◌, ◌+◌, [], ◌++◌};
+    ghost use Rattle.std.specs.Prelude.{◌≡◌, ◌-◌, ◌<◌, ◌≤◌, ◌^◌, List, ◌∷◌, ◌+◌};
     ghost use Rattle.norm_settings.specs.Settings.{PlainSettings};
     ghost use Rattle.ip_rules.specs.Datagrams.{Datagram};
-    ghost use Rattle.tcp_norm.specs.Calls.{Call, Outcome, datagram, key_of, segments};
+    ghost use Rattle.tcp_norm.specs.Calls.{Call, Outcome, datagram};
     ghost use Rattle.tcp_norm.specs.Standing.{StandsFor};
-    ghost use Rattle.tcp_norm.specs.Rulings.{IsOpenTo, Needs, IsHeld, Brings, CanTake};
-    ghost use Rattle.std.specs.List.{AllByRecursion};
+    ghost use Rattle.tcp_norm.specs.Rulings.{IsOpenTo, Needs, IsHeld, Brings, CanTake, Extends};
     ghost use Rattle.wire_base.specs.Segments.{Written};
-    ghost use Rattle.era_state.specs.Silence.{IsSilent};
-    ghost use Rattle.tcp_norm.specs.Resets.{WritesAll};
     ghost use Rattle.tcp_norm.specs.Near.{IsNear};
-    ghost use Rattle.tcp_norm.specs.Steps.{Does, continued_in};
-    ghost use Rattle.tcp_norm.specs.Writes.{BringsNone};
-    ghost use Rattle.era_state.specs.Eras as eras;
 
-    /// Makes the change of a segment that comes at this time.
+    /// Makes the change of a segment that arrives at this time.
     pub(crate) fn apply(&mut self, live: &Live, change: &Change<'_>, now: u32)
         requires fits { IsOpenTo self.old live.now change.now }
         requires few { self.old.calls < 2 ^ 32 - 1 }
@@ -37,11 +34,11 @@ impl TcpNorm {
     {
         match change {
             Change::Nothing => self.arrive(now),
-            Change::Touch => self.stay(live, now),
-            Change::Take(taking) => self.forward(live, taking, now),
+            Change::Touch => self.keep_era(live, live.flow.era, now),
+            Change::Take(taking) => self.take_octets(live, taking, now),
             Change::Hear(seg) => {
                 let era = live.flow.era.seen_syn(seg);
-                self.go_on(live, era, now);
+                self.keep_era(live, era, now);
             }
             Change::Reopen(era) => {
                 let _number = self.reopen(live, Era::Offered(*era), now);
@@ -49,41 +46,14 @@ impl TcpNorm {
         }
     }
 
-    /// Touches the live era with a segment that comes at this time and brings it nothing.
-    pub(crate) fn stay(&mut self, live: &Live, now: u32)
-        requires held { IsHeld self.old.table live.now }
-        requires near { IsNear self.old.calls live.now.flow.era }
-        requires few { self.old.calls < 2 ^ 32 - 1 }
-        requires later { self.old.latest ≤ now }
-        ensures stands { (settings : PlainSettings) (calls : List Call) (d : Datagram) (ws : List Written) (o : Outcome) → StandsFor settings self.old calls →
-            live.now.key ≡ key_of d → AllByRecursion IsSilent ws → WritesAll d live.now.flow.number ws o → StandsFor settings self.new (datagram now d o ∷ calls) }
-        ensures scratch { self.new.scratch ≡ self.old.scratch }
-    {
-        silence_stands();
-        silence_changes_nothing();
-        self.calls += 1;
-        self.latest = now;
-        let _before = self.table.put(
-            live.slot,
-            Flow {
-                era: live.flow.era,
-                number: live.flow.number,
-                touched: now,
-            },
-        );
-        self.table.touch(live.slot);
-        settle(&mut self.spare, &self.store, live.slot);
-    }
-
-    /// Makes `era` of the live era, with a segment that comes at this time and brings no octet of the stream: octets that are acknowledged are forgotten.
-    pub(crate) fn go_on(&mut self, live: &Live, era: Era, now: u32)
+    /// Makes `era` of the live era, with a segment that arrives at this time and brings no octet of the stream: acknowledged octets are forgotten.
+    pub(crate) fn keep_era(&mut self, live: &Live, era: Era, now: u32)
         requires held { IsHeld self.old.table live.now }
         requires near { IsNear (self.old.calls + 1) era }
         requires few { self.old.calls < 2 ^ 32 - 1 }
         requires later { self.old.latest ≤ now }
-        ensures stands { (settings : PlainSettings) (calls : List Call) (d : Datagram) (w : Written) (o : Outcome) → StandsFor settings self.old calls →
-            live.now.key ≡ key_of d → BringsNone w → eras.StandsFor era (segments live.now.flow.number calls ++ w ∷ []) →
-            Does d w (continued_in live.now.flow.number) o → StandsFor settings self.new (datagram now d o ∷ calls) }
+        ensures stands { (settings : PlainSettings) (calls : List Call) (d : Datagram) (ws : List Written) (o : Outcome) → StandsFor settings self.old calls →
+            Extends calls d live.now era ws o → StandsFor settings self.new (datagram now d o ∷ calls) }
         ensures scratch { self.new.scratch ≡ self.old.scratch }
     {
         first_stays();
@@ -91,24 +61,24 @@ impl TcpNorm {
         self.calls += 1;
         self.latest = now;
         let chain = ChainId(live.slot.0);
-        let acked = era.acknowledged();
-        let _held = self.store.held(chain);
-        self.store.forget_below(chain, acked);
-        let number = live.flow.number;
-        let _before = self.table.put(
+        chain_is_counted(&self.store, chain);
+        self.store.forget_below(chain, era.acknowledged());
+        let flow = Flow {
+            era,
+            number: live.flow.number,
+            touched: now,
+        };
+        write_back(
+            &mut self.table,
+            &mut self.spare,
+            &self.store,
             live.slot,
-            Flow {
-                era,
-                number,
-                touched: now,
-            },
+            flow,
         );
-        self.table.touch(live.slot);
-        settle(&mut self.spare, &self.store, live.slot);
     }
 
-    /// Takes the octets of a frame, at the front of the scratch, and its FIN into the live era, with a segment that comes at this time.
-    pub(crate) fn forward(&mut self, live: &Live, taking: &Taking<'_>, now: u32)
+    /// Takes the octets of a frame, at the front of the scratch, and its FIN into the live era, with a segment that arrives at this time.
+    pub(crate) fn take_octets(&mut self, live: &Live, taking: &Taking<'_>, now: u32)
         requires held { IsHeld self.old.table live.now }
         requires can { CanTake (self.old.calls + 1) self.old.store self.old.quota live.now taking.now }
         requires few { self.old.calls < 2 ^ 32 - 1 }
@@ -127,19 +97,38 @@ impl TcpNorm {
         let fresh = self
             .store
             .place_counting(chain, kept.lo, &self.scratch[..taking.size]);
-        let _held = self.store.held(chain);
+        chain_is_counted(&self.store, chain);
         let new = taking.warm.forwarded(kept, fresh as u32);
-        let era = Era::settled(new);
-        let number = live.flow.number;
-        let _before = self.table.put(
+        let flow = Flow {
+            era: Era::settled(new),
+            number: live.flow.number,
+            touched: now,
+        };
+        write_back(
+            &mut self.table,
+            &mut self.spare,
+            &self.store,
             live.slot,
-            Flow {
-                era,
-                number,
-                touched: now,
-            },
+            flow,
         );
-        self.table.touch(live.slot);
-        settle(&mut self.spare, &self.store, live.slot);
     }
+}
+
+// Puts the value of a live era back into its slot and touches it, and lists the slot where it holds no octet.
+fn write_back(
+    table: &mut LinkedTable<EraKey, Flow>,
+    spare: &mut SlotList,
+    store: &Retain,
+    slot: Slot,
+    flow: Flow,
+)
+    requires inside { IsIn table.old.entries slot }
+    requires below { slot.0 < spare.old.max }
+    requires chain { slot.0 < length store.now.chains }
+    ensures entries { table.new ≡ record table.old { entries = written_back table.old.entries slot flow } }
+    ensures spare { spare.new ≡ record spare.old { slots = settled store.now slot spare.old.slots } }
+{
+    let _before = table.put(slot, flow);
+    table.touch(slot);
+    list_spare(spare, store, slot);
 }

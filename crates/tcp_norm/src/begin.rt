@@ -1,7 +1,7 @@
 //! Eras begin and end.
 use crate::flow::{Flow, Live};
 use crate::key::EraKey;
-use crate::spare::settle;
+use crate::spare::list_spare;
 use crate::state::TcpNorm;
 use crate::step::Place;
 use era_state::Era;
@@ -11,7 +11,7 @@ use rule_book::{Ended, Reason};
 use wire_base::FlowKey;
 
 impl TcpNorm {
-    ghost use Rattle.std.specs.Prelude.{◌≡◌, ◌+◌, ◌-◌, ◌<◌, ◌≤◌, ◌^◌, ℕ, IfSome, IfNone, None, List, [], ◌∷◌, ◌≢◌, ◌==◌, nat_le, Option, Some, is_some, ◌++◌, length, if◌then◌else◌};
+    ghost use Rattle.std.specs.Prelude.{◌≡◌, ◌+◌, ◌-◌, ◌<◌, ◌≤◌, ◌^◌, ℕ, IfSome, IfNone, None, List, [], ◌∷◌, Option, Some, is_some, ◌++◌, length, if◌then◌else◌};
     ghost use Rattle.wire_base.specs.Segments.{Written};
     ghost use Rattle.norm_settings.specs.Settings.{PlainSettings};
     ghost use Rattle.linked_table.specs.Table.{HasNone, IsIn, Wherever};
@@ -21,16 +21,15 @@ impl TcpNorm {
     ghost use Rattle.tcp_norm.specs.Colds.{IsUnheard};
     ghost use Rattle.tcp_norm.specs.Held.{kept_at};
     ghost use Rattle.tcp_norm.specs.Near.{IsNear};
-    ghost use Rattle.tcp_norm.specs.Steps.{Does, began, place_in, first_empty, number_ended, one, place_of, reopened_by};
-    ghost use Rattle.tcp_norm.specs.Standing.{StandsFor, HoldsFor, IsFor};
+    ghost use Rattle.tcp_norm.specs.Steps.{Does, Evicts, Places, began, place_in, reopened_by};
+    ghost use Rattle.tcp_norm.specs.Standing.{StandsFor, Holds, Begins, ChangesTables};
     ghost use Rattle.tcp_norm.specs.declared.key.EraKey.{EraKey};
-    ghost use Rattle.era_state.specs.Quantities.{octets_of};
+    ghost use Rattle.tcp_norm.specs.declared.flow.Flow.{Flow};
     ghost use Rattle.tcp_norm.specs.Rulings.{IsHeld};
     ghost use Rattle.era_state.specs.Eras as eras;
-    ghost use Rattle.rule_book.specs.declared.entry.Reason.TheVariants as reasons;
     ghost use Rattle.linked_table.specs.Table as table;
 
-    /// Begins an era with a segment that comes at this time, if there is a place for it.
+    /// Begins an era with a segment that arrives at this time, if there is a slot for it.
     pub(crate) fn admit(&mut self, key: FlowKey, era: Era, now: u32) -> Option<Place>
         requires absent { HasNone self.old.table.entries (record { 0 = key }) }
         requires near { IsNear (self.old.calls + 1) era }
@@ -42,48 +41,23 @@ impl TcpNorm {
         ensures none { IfNone result ((settings : PlainSettings) (calls : List Call) (d : Datagram) (o : Outcome) → StandsFor settings self.old calls →
             IsUnheard o → StandsFor settings self.new (datagram now d o ∷ calls)) }
     {
-        self.arrive(now);
+        self.calls += 1;
+        self.latest = now;
         match self.place(key, era, now) {
             None => None,
             Some(place) => Some(place),
         }
     }
 
-    // The least recently touched era that holds no octet.
-    fn oldest_empty(&self) -> Option<Slot>
-        ensures inside { IfSome result (IsIn self.now.table.entries) }
-        ensures first { IfSome result (λ slot. (lives : List Alive) (segments : ℕ → List Written) (begun : ℕ) →
-            HoldsFor lives segments begun self.now.table.entries self.now.store →
-            Wherever self.now.table.entries slot (λ e. first_empty lives segments ≡
-            Some (record { era = e.value.number; reason = reasons.Evicted; octets = Some (octets_of (segments e.value.number)) }))) }
-        ensures none { IfNone result ((lives : List Alive) (segments : ℕ → List Written) (begun : ℕ) →
-            HoldsFor lives segments begun self.now.table.entries self.now.store → first_empty lives segments ≡ None) }
-    {
-        self.entries_are_apart();
-        self.spare.first()
-    }
-
-    // The least recently touched era that holds no octet ends, if there is one.
+    // Ends the least recently touched era that holds no octet, if there is one.
     fn evict(&mut self) -> Option<Ended>
-        ensures answer { (lives : List Alive) (segments : ℕ → List Written) (begun : ℕ) →
-            HoldsFor lives segments begun self.old.table.entries self.old.store → result ≡ first_empty lives segments }
-        ensures given { IfSome result (λ ended. (lives : List Alive) (segments : ℕ → List Written) (begun : ℕ) →
-            HoldsFor lives segments begun self.old.table.entries self.old.store → ended.era ≤ begun) }
-        ensures some { IfSome result (λ ended. (lives : List Alive) (segments : ℕ → List Written) (begun : ℕ) →
-            HoldsFor lives segments begun self.old.table.entries self.old.store →
-            HoldsFor (without (ended.era ∷ []) lives) segments begun self.new.table.entries self.new.store) }
-        ensures none { IfNone result ((lives : List Alive) (segments : ℕ → List Written) (begun : ℕ) →
-            HoldsFor lives segments begun self.old.table.entries self.old.store →
-            HoldsFor lives segments begun self.new.table.entries self.new.store) }
+        ensures evicts { (lives : List Alive) (segments : ℕ → List Written) → Holds self.old lives segments → Evicts self.old self.new lives segments result }
         ensures absent { (key : EraKey) → HasNone self.old.table.entries key → HasNone self.new.table.entries key }
         ensures room { IfSome result (λ ended. length self.new.table.entries < self.new.table.max) }
-        ensures opened { (settings : PlainSettings) → IsFor settings self.old → IsFor settings self.new }
-        ensures begun { self.new.begun ≡ self.old.begun }
-        ensures calls { self.new.calls ≡ self.old.calls }
-        ensures latest { self.new.latest ≡ self.old.latest }
+        ensures tables { ChangesTables self.old self.new self.old.begun }
     {
         self.entries_are_apart();
-        let slot = self.oldest_empty()?;
+        let slot = self.spare.first()?;
         let flow = self.flow_at(slot);
         let octets = flow.era.octets();
         self.end(slot);
@@ -94,28 +68,13 @@ impl TcpNorm {
         })
     }
 
-    // An era of a connection that has none begins: beside the others, or in the place of one that holds no octet, or else not at all.
+    // Begins an era of a connection that has none: beside the others, or in the slot of one that holds no octet, or else not at all.
     pub(crate) fn place(&mut self, key: FlowKey, era: Era, now: u32) -> Option<Place>
         requires absent { HasNone self.old.table.entries (record { 0 = key }) }
         requires number { self.old.begun + 1 ≤ self.old.calls }
         requires near { IsNear self.old.calls era }
-        ensures answer { (lives : List Alive) (segments : ℕ → List Written) →
-            HoldsFor lives segments self.old.begun self.old.table.entries self.old.store →
-            result ≡ place_of (nat_le self.old.table.max (length lives)) (first_empty lives segments) (self.old.begun + 1) }
-        ensures given { IfSome result (λ p. (number : ℕ) → number_ended p.evicted ≡ Some number → (lives : List Alive) (segments : ℕ → List Written) →
-            HoldsFor lives segments self.old.begun self.old.table.entries self.old.store → number ≤ self.old.begun) }
-        ensures some { IfSome result (λ p. (lives : List Alive) (segments later : ℕ → List Written) →
-            HoldsFor lives segments self.old.begun self.old.table.entries self.old.store →
-            eras.StandsFor era (later (self.old.begun + 1)) → ((offset : ℕ) → kept_at (later (self.old.begun + 1)) offset ≡ None) →
-            ((m : ℕ) → m ≢ self.old.begun + 1 → later m ≡ segments m) →
-            HoldsFor (without (one (number_ended p.evicted)) lives ++ record { number = self.old.begun + 1; key = key; touched = now } ∷ []) later self.new.begun self.new.table.entries self.new.store) }
-        ensures none { IfNone result ((lives : List Alive) (segments : ℕ → List Written) →
-            HoldsFor lives segments self.old.begun self.old.table.entries self.old.store →
-            HoldsFor lives segments self.new.begun self.new.table.entries self.new.store) }
-        ensures opened { (settings : PlainSettings) → IsFor settings self.old → IsFor settings self.new }
-        ensures begun { self.new.begun ≡ self.old.begun + (if is_some result then 1 else 0) }
-        ensures calls { self.new.calls ≡ self.old.calls }
-        ensures latest { self.new.latest ≡ self.old.latest }
+        ensures places { (lives : List Alive) (segments : ℕ → List Written) → Holds self.old lives segments → Places self.old self.new key era now lives segments result }
+        ensures tables { ChangesTables self.old self.new (self.old.begun + (if is_some result then 1 else 0)) }
     {
         if self.table.len() < self.table.max() {
             let begun = self.begin(key, era, now);
@@ -132,23 +91,16 @@ impl TcpNorm {
         })
     }
 
-    // An era of a connection that has none begins, where fewer are live than may be. It holds no octet. Answers its number.
+    // Begins an era of a connection that has none, where fewer are live than may be. It holds no octet. Returns its number.
     pub(crate) fn begin(&mut self, key: FlowKey, era: Era, now: u32) -> u32
         requires absent { HasNone self.old.table.entries (record { 0 = key }) }
         requires room { length self.old.table.entries < self.old.table.max }
         requires number { self.old.begun + 1 ≤ self.old.calls }
         requires near { IsNear self.old.calls era }
-        ensures holds { (lives : List Alive) (segments later : ℕ → List Written) →
-            HoldsFor lives segments self.old.begun self.old.table.entries self.old.store →
-            eras.StandsFor era (later (self.old.begun + 1)) → ((offset : ℕ) → kept_at (later (self.old.begun + 1)) offset ≡ None) →
-            ((m : ℕ) → m ≢ self.old.begun + 1 → later m ≡ segments m) →
-            HoldsFor (lives ++ record { number = self.old.begun + 1; key = key; touched = now } ∷ []) later self.new.begun self.new.table.entries self.new.store }
-        ensures opened { (settings : PlainSettings) → IsFor settings self.old → IsFor settings self.new }
+        ensures holds { (lives : List Alive) (segments later : ℕ → List Written) → Holds self.old lives segments → Begins era (self.old.begun + 1) segments later →
+            Holds self.new (lives ++ record { number = self.old.begun + 1; key = key; touched = now } ∷ []) later }
         ensures number { result ≡ self.old.begun + 1 }
-        ensures begun { self.new.begun ≡ self.old.begun + 1 }
-        ensures calls { self.new.calls ≡ self.old.calls }
-        ensures latest { self.new.latest ≡ self.old.latest }
-        ensures scratch { self.new.scratch ≡ self.old.scratch }
+        ensures tables { ChangesTables self.old self.new (self.old.begun + 1) }
     {
         let number = self.begun + 1;
         let flow = Flow {
@@ -157,14 +109,14 @@ impl TcpNorm {
             touched: now,
         };
         match self.table.insert(EraKey(key), flow) {
-            Ok(slot) => settle(&mut self.spare, &self.store, slot),
+            Ok(slot) => list_spare(&mut self.spare, &self.store, slot),
             Err(_) => unreachable!(),
         }
         self.begun = number;
         number
     }
 
-    /// Ends the live era and begins another of its connection with a segment that comes at this time. Returns the number of the new era.
+    /// Ends the live era and begins another of its connection with a segment that arrives at this time. Returns the number of the new era.
     pub(crate) fn reopen(&mut self, live: &Live, era: Era, now: u32) -> u32
         requires held { IsHeld self.old.table live.now }
         requires near { IsNear (self.old.calls + 1) era }
@@ -176,25 +128,20 @@ impl TcpNorm {
             Does d w (reopened_by live.now.flow.number (self.old.begun + 1) octets) o → StandsFor settings self.new (datagram now d o ∷ calls) }
         ensures scratch { self.new.scratch ≡ self.old.scratch }
     {
-        self.arrive(now);
+        self.calls += 1;
+        self.latest = now;
         self.end(live.slot);
         self.begin(live.key, era, now)
     }
 
-    // The era in this slot ends: its octets and its entry go, and the others stay.
+    // Ends the era in this slot: its octets and its entry go, and the others stay.
     pub(crate) fn end(&mut self, slot: Slot)
         requires { IsIn self.old.table.entries slot }
-        ensures holds { (lives : List Alive) (segments : ℕ → List Written) (begun number : ℕ) →
-            HoldsFor lives segments begun self.old.table.entries self.old.store → Wherever self.old.table.entries slot (λ e. e.value.number ≡ number) →
-            HoldsFor (without (number ∷ []) lives) segments begun self.new.table.entries self.new.store }
+        ensures holds { (lives : List Alive) (segments : ℕ → List Written) (flow : Flow) → Holds self.old lives segments →
+            Wherever self.old.table.entries slot (λ e. e.value ≡ flow) → Holds self.new (without (flow.number ∷ []) lives) segments }
         ensures left { self.new.table.entries ≡ table.without self.old.table.entries slot }
         ensures max { self.new.table.max ≡ self.old.table.max }
-        ensures opened { (settings : PlainSettings) → IsFor settings self.old → IsFor settings self.new }
-        ensures idle { self.new.idle ≡ self.old.idle }
-        ensures begun { self.new.begun ≡ self.old.begun }
-        ensures calls { self.new.calls ≡ self.old.calls }
-        ensures latest { self.new.latest ≡ self.old.latest }
-        ensures scratch { self.new.scratch ≡ self.old.scratch }
+        ensures tables { ChangesTables self.old self.new self.old.begun }
     {
         self.entries_are_apart();
         self.store.forget_all(ChainId(slot.0));

@@ -1,12 +1,13 @@
 //! The packets that are sent for a segment.
-ghost use Rattle.std.specs.Prelude.{◌≡◌, ◌<◌, ◌≤◌, ◌++◌, length, ◌+◌, [], ◌∷◌, ◌-◌, ◌%◌, drop, true, false, if◌then◌else◌};
+ghost use Rattle.std.specs.Prelude.{◌≡◌, ◌<◌, ◌≤◌, ◌++◌, length, ◌+◌, [], ◌∷◌, ◌-◌, ◌%◌, drop, false, if◌then◌else◌};
 ghost use Rattle.tcp_norm.specs.Rulings.{probe_frames};
 ghost use Rattle.ipv4_codec.specs.Write.{plain_header};
 ghost use Rattle.tcp_codec.specs.Mending.{mended};
-ghost use Rattle.tcp_codec.specs.Write.{segment_octets, segment_of};
+ghost use Rattle.tcp_codec.specs.Write.{segment_octets};
 ghost use Rattle.reset_probe.specs.Write.{probe_octets};
 ghost use Rattle.tcp_norm.specs.Anews.{anew_segment};
 ghost use Rattle.tcp_norm.specs.Emits.{without_flag};
+ghost use Rattle.ip_rules.specs.Datagrams as spec;
 ghost use Rattle.wire_base.specs.Sums as sums;
 ghost use Rattle.wire_base.specs.Tcp as tcp;
 
@@ -25,14 +26,13 @@ use tcp_codec::{SegmentParts, Tcp, mend, write_segment};
 use wire_base::{Flags, protocol, pseudo_sum};
 
 impl TcpNorm {
-    ghost use Rattle.std.specs.Prelude.{List, [], ◌∷◌, ◌+◌, take};
+    ghost use Rattle.std.specs.Prelude.{List, [], ◌∷◌, ◌+◌};
     ghost use Rattle.wire_base.specs.Segments.{Written};
-    ghost use Rattle.wire_base.specs.Options.{cleaned};
     ghost use Rattle.norm_settings.specs.Settings.{PlainSettings};
-    ghost use Rattle.ip_rules.specs.Datagrams.{Datagram, frames_of, raised, IsDatagram};
+    ghost use Rattle.ip_rules.specs.Datagrams.{Datagram, frames_of, IsDatagram};
     ghost use Rattle.tcp_norm.specs.Calls.{Call};
     ghost use Rattle.tcp_norm.specs.Standing.{IsFor, StandsFor};
-    ghost use Rattle.tcp_norm.specs.Rulings.{outcome_of, packets_of, IsCarried, IsShort, IsRewritten};
+    ghost use Rattle.tcp_norm.specs.Rulings.{outcome_of, IsCarried, IsShort, IsRewritten};
     ghost use Rattle.tcp_norm.specs.Emits.{packet_by};
     ghost use Rattle.wire_base.specs.Tcp as tcp;
 
@@ -44,25 +44,20 @@ impl TcpNorm {
         ensures frames { (settings : PlainSettings) (ws : List Written) (d : Datagram) → IsFor settings self.old → IsDatagram arrival.now.packet.now arrival.now.link.now d →
             IsCarried ws d arrival.now self.old.scratch.items ruling.now → out.new ≡ frames_of arrival.now.link.now (outcome_of settings ws d ruling.now).packets }
     {
-        let ip = raised(&arrival.packet.head, self.hops);
+        let hops = self.hops;
         match ruling {
-            Ruling::Drop(refusal) => {
-                put_if_any(arrival.link, &ip, arrival.head, refusal.probe, out)
-            }
+            Ruling::Drop(refusal) => put_if_any(arrival, hops, refusal.probe, out),
             Ruling::Pass(passage) => {
-                self.emit_own(passage, arrival, &ip, out);
-                put_if_any(arrival.link, &ip, arrival.head, passage.probe, out);
+                self.emit_own(passage, arrival, out);
+                put_if_any(arrival, hops, passage.probe, out);
             }
-            Ruling::Ask(question) => {
-                put_probe(arrival.link, &ip, arrival.head, &question.probe, out)
-            }
+            Ruling::Ask(question) => put_probe(arrival, hops, &question.probe, out),
         }
     }
 
     // Puts the packet of a segment that passes, as read or rewritten.
-    fn emit_own(&mut self, passage: &Passage, arrival: &Arrival<'_>, ip: &Ipv4, out: &mut Outbox)
+    fn emit_own(&mut self, passage: &Passage, arrival: &Arrival<'_>, out: &mut Outbox)
         requires short { arrival.now.head.now.header + passage.now.size ≤ 65515 }
-        requires ip { ip.now ≡ raised self.old.hops arrival.now.packet.now.head }
         requires empty { out.old ≡ [] }
         ensures stays { (settings : PlainSettings) (calls : List Call) → StandsFor settings self.old calls → StandsFor settings self.new calls }
         ensures one { length out.new ≡ 1 }
@@ -70,44 +65,38 @@ impl TcpNorm {
             IsRewritten ws d arrival.now self.old.scratch.items passage.now →
             out.new ≡ frames_of arrival.now.link.now (packet_by settings ws d d.fixes passage.now.rows.items ∷ []) }
     {
-        let link = arrival.link;
         let octets = arrival.packet.payload;
         if !passage.rows.is_empty() {
+            let ip = raised(&arrival.packet.head, self.hops);
             let (options, _changed) = options_of(octets, arrival.head);
             let anew = Anew {
                 seq: passage.seq,
                 fin: passage.fin,
                 options,
             };
-            put_rewritten(
-                link,
-                ip,
-                arrival.head,
-                anew,
-                &self.scratch[..passage.size],
-                &mut self.page,
-                out,
-            );
+            let sent = &self.scratch[..passage.size];
+            put_rewritten(arrival, &ip, anew, sent, &mut self.page, out);
         } else if arrival.packet.fixes.is_empty() {
             put_read(arrival.packet.frame, out);
         } else {
-            put_anew(link, ip, octets, out);
+            let head = raised(&arrival.packet.head, self.hops);
+            put_anew(arrival.link, &head, octets, out);
         }
     }
 }
 
-// Puts the packet of a probe, if there is one, behind one that may stand there.
-fn put_if_any(link: &[u8], ip: &Ipv4, head: &Tcp, probe: Option<Probe>, out: &mut Outbox)
+// Puts the packet of a probe, if there is one, into the outbox, behind at most one other.
+fn put_if_any(arrival: &Arrival<'_>, hops: u8, probe: Option<Probe>, out: &mut Outbox)
+    requires passes { hops ≤ 254 }
     requires room { length out.old < 2 }
-    requires link { length link.now ≤ 14 }
-    ensures { out.new ≡ out.old ++ probe_frames link.now ip.now head.now.sport head.now.dport probe }
+    ensures { out.new ≡ out.old ++ probe_frames arrival.now.link.now (spec.raised hops arrival.now.packet.now.head) arrival.now.head.now.sport arrival.now.head.now.dport probe }
 {
     if let Some(probe) = probe {
-        put_probe(link, ip, head, &probe, out);
+        put_probe(arrival, hops, &probe, out);
     }
 }
 
-/// Puts a packet with its header anew and with its segment's checksum mended into the empty outbox.
+/// Puts a packet with a plain header and a correct checksum of its segment into the empty outbox.
 pub(crate) fn put_mended(
     link: &[u8],
     head: &Ipv4,
@@ -134,41 +123,46 @@ pub(crate) fn put_mended(
     put_anew(link, head, copy, out);
 }
 
-/// Puts a packet with its header anew and its segment written anew into the empty outbox.
+/// Puts the packet of a segment that is rewritten into the empty outbox.
 pub(crate) fn put_rewritten(
-    link: &[u8],
+    arrival: &Arrival<'_>,
     ip: &Ipv4,
-    head: &Tcp,
     anew: Anew,
     octets: &[u8],
     page: &mut [u8],
     out: &mut Outbox,
 )
     requires empty { out.old ≡ [] }
-    requires link { length link.now ≤ 14 }
     requires size { 20 + length anew.options.items + length octets.now ≤ 65515 }
     requires room { 65515 ≤ length page.old }
-    ensures { let m = segment_octets (anew_segment ip.now head.now anew.seq anew.fin anew.options.items octets.now) in
-        out.new ≡ (link.now ++ plain_header ip.now (length m) ++ m) ∷ [] }
+    ensures { let m = segment_octets (anew_segment ip.now arrival.now.head.now anew.seq anew.fin anew.options.items octets.now) in
+        out.new ≡ (arrival.now.link.now ++ plain_header ip.now (length m) ++ m) ∷ [] }
 {
-    let size = write_anew(ip, head, anew, octets, page);
-    put_anew(link, ip, &page[..size], out);
+    let size = write_anew(ip, arrival.head, anew, octets, page);
+    put_anew(arrival.link, ip, &page[..size], out);
 }
 
-/// Puts the packet of a probe between the addresses of `ip` and the ports of `head` into the outbox, behind a packet that may stand there.
-pub(crate) fn put_probe(link: &[u8], ip: &Ipv4, head: &Tcp, probe: &Probe, out: &mut Outbox)
+/// Puts the packet of a probe between the ends of an inbound segment into the outbox, behind at most one other.
+pub(crate) fn put_probe(arrival: &Arrival<'_>, hops: u8, probe: &Probe, out: &mut Outbox)
+    requires passes { hops ≤ 254 }
     requires room { length out.old < 2 }
-    requires link { length link.now ≤ 14 }
-    ensures { out.new ≡ out.old ++ (link.now ++ probe_octets ip.now head.now.sport head.now.dport probe.now) ∷ [] }
+    ensures { out.new ≡ out.old ++ (arrival.now.link.now ++ probe_octets (spec.raised hops arrival.now.packet.now.head) arrival.now.head.now.sport arrival.now.head.now.dport probe.now) ∷ [] }
 {
+    let ip = raised(&arrival.packet.head, hops);
     let mut packet = [0u8; 40];
-    let _size = write_probe(ip, head.sport, head.dport, probe, &mut packet);
+    let _size = write_probe(
+        &ip,
+        arrival.head.sport,
+        arrival.head.dport,
+        probe,
+        &mut packet,
+    );
     out.begin();
-    out.append(link);
+    out.append(arrival.link);
     out.append(&packet);
 }
 
-/// The flags without URG, and without FIN where it is not kept.
+/// Returns the flags without URG, and without FIN if it is not kept.
 pub(crate) fn flags_sent(flags: Flags, fin: bool) -> Flags
     ensures exact { result.0 ≡ without_flag 32 (if fin then flags.0 else without_flag 1 flags.0) }
     ensures urgent { tcp.has_urg result.0 ≡ false }
@@ -187,7 +181,7 @@ fn without_fin(flags: Flags) -> u8
     if flags.fin() { flags.0 - 1 } else { flags.0 }
 }
 
-/// Writes a segment anew, with these octets. Answers its length.
+/// Writes the rewritten segment with these octets. Returns its length.
 pub(crate) fn write_anew(ip: &Ipv4, head: &Tcp, anew: Anew, octets: &[u8], buf: &mut [u8]) -> usize
     requires size { 20 + length anew.options.items + length octets.now ≤ 65515 }
     requires room { 65515 ≤ length buf.old }
@@ -209,7 +203,7 @@ pub(crate) fn write_anew(ip: &Ipv4, head: &Tcp, anew: Anew, octets: &[u8], buf: 
     write_segment(&parts, octets, buf)
 }
 
-/// What changes in a segment that is written anew: its sequence number, whether its FIN stays, and its options.
+/// What changes in a segment that is rewritten: its sequence number, whether its FIN stays, and its options.
 #[derive(Drop)]
 pub(crate) struct Anew {
     pub(crate) seq: u32,

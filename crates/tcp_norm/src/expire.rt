@@ -4,16 +4,16 @@ use crate::state::TcpNorm;
 use rule_book::{Ended, Entry, Reason};
 
 impl TcpNorm {
-    ghost use Rattle.std.specs.Prelude.{◌≡◌, ◌+◌, ◌<◌, ◌≤◌, nat_lt, ℕ, IfSome, IfNone, List, [], ◌∷◌};
+    ghost use Rattle.std.specs.Prelude.{◌≡◌, ◌+◌, ◌≤◌, nat_lt, ℕ, List, [], ◌∷◌};
     ghost use Rattle.wire_base.specs.Segments.{Written};
     ghost use Rattle.norm_settings.specs.Settings.{PlainSettings};
-    ghost use Rattle.tcp_norm.specs.Calls.{Alive, Call, segments, without};
+    ghost use Rattle.tcp_norm.specs.Calls.{Alive, Call, segments};
     ghost use Rattle.tcp_norm.specs.Views.{idle_at};
-    ghost use Rattle.tcp_norm.specs.Steps.{first_old, idled, idle_end, number_ended};
+    ghost use Rattle.tcp_norm.specs.Steps.{EndsIdle, idled};
     ghost use Rattle.tcp_norm.specs.Outcomes.{expiry_of};
-    ghost use Rattle.tcp_norm.specs.Standing.{HoldsFor, IsFor, StandsFor};
+    ghost use Rattle.tcp_norm.specs.Standing.{StandsFor, Holds, ChangesTables};
 
-    /// Ends the eras, at most two, in which nothing was written for more than `idle` seconds, the least recently written first, and says so.
+    /// Ends the eras, at most two, in which nothing was written for more than `idle` seconds, the least recently written first, and appends them to the entry.
     pub fn expire(&mut self, now: u32, entry: &mut Entry)
         requires none { entry.old.ended.items ≡ [] }
         requires later { self.old.latest ≤ now }
@@ -23,7 +23,7 @@ impl TcpNorm {
             entry.new.ended.items ≡ idled (λ number. segments number calls) (idle_at settings now calls) }
         ensures rest { entry.new ≡ record entry.old { ended = entry.new.ended } }
     {
-        self.pass_to(now);
+        self.latest = now;
         let offered = self.end_idle(now);
         let Some(first) = offered else {
             return;
@@ -36,36 +36,10 @@ impl TcpNorm {
         add_idle(entry, second);
     }
 
-    // The time of the last call is this one.
-    fn pass_to(&mut self, now: u32)
-        ensures table { self.new.table ≡ self.old.table }
-        ensures store { self.new.store ≡ self.old.store }
-        ensures opened { (settings : PlainSettings) → IsFor settings self.old → IsFor settings self.new }
-        ensures idle { self.new.idle ≡ self.old.idle }
-        ensures begun { self.new.begun ≡ self.old.begun }
-        ensures calls { self.new.calls ≡ self.old.calls }
-        ensures latest { self.new.latest ≡ now }
-    {
-        self.latest = now;
-    }
-
-    // The least recently touched era ends, if it is idle.
+    // Ends the least recently touched era, if it is idle.
     fn end_idle(&mut self, now: u32) -> Option<Ended>
-        ensures answer { (lives : List Alive) (segments : ℕ → List Written) (begun : ℕ) →
-            HoldsFor lives segments begun self.old.table.entries self.old.store → number_ended result ≡ first_old self.old.idle now lives }
-        ensures told { IfSome result (λ ended. (lives : List Alive) (segments : ℕ → List Written) (begun : ℕ) →
-            HoldsFor lives segments begun self.old.table.entries self.old.store → ended ≡ idle_end segments ended.era) }
-        ensures some { IfSome result (λ ended. (lives : List Alive) (segments : ℕ → List Written) (begun : ℕ) →
-            HoldsFor lives segments begun self.old.table.entries self.old.store →
-            HoldsFor (without (ended.era ∷ []) lives) segments begun self.new.table.entries self.new.store) }
-        ensures none { IfNone result ((lives : List Alive) (segments : ℕ → List Written) (begun : ℕ) →
-            HoldsFor lives segments begun self.old.table.entries self.old.store →
-            HoldsFor lives segments begun self.new.table.entries self.new.store) }
-        ensures opened { (settings : PlainSettings) → IsFor settings self.old → IsFor settings self.new }
-        ensures idle { self.new.idle ≡ self.old.idle }
-        ensures begun { self.new.begun ≡ self.old.begun }
-        ensures calls { self.new.calls ≡ self.old.calls }
-        ensures latest { self.new.latest ≡ self.old.latest }
+        ensures ends { (lives : List Alive) (segments : ℕ → List Written) → Holds self.old lives segments → EndsIdle self.old self.new now lives segments result }
+        ensures tables { ChangesTables self.old self.new self.old.begun }
     {
         self.entries_are_apart();
         let slot = self.table.oldest()?;

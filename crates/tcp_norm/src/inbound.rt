@@ -9,7 +9,7 @@ use rule_book::Entry;
 use tcp_codec::Tcp;
 
 impl TcpNorm {
-    ghost use Rattle.std.specs.Prelude.{◌≡◌, ◌+◌, ◌-◌, ◌<◌, ◌≤◌, ◌^◌, List, [], ◌∷◌, length};
+    ghost use Rattle.std.specs.Prelude.{◌≡◌, ◌-◌, ◌<◌, ◌≤◌, ◌^◌, List, [], ◌∷◌, length};
     ghost use Rattle.wire_base.specs.declared.address.Side.TheVariants.{Inward};
     ghost use Rattle.norm_settings.specs.Settings.{PlainSettings};
     ghost use Rattle.ip_rules.specs.Datagrams.{Datagram, frames_of, IsDatagram};
@@ -20,7 +20,7 @@ impl TcpNorm {
     ghost use Rattle.tcp_norm.specs.Passing.{Reports};
     ghost use Rattle.tcp_norm.specs.Standing.{StandsFor};
 
-    /// Takes an inbound datagram: it goes on in its era, reopens or begins one, a host is asked about it, or a row drops it. A probe may go in behind
+    /// Handles an inbound datagram: it continues its era, reopens or begins one, a host is asked about it, or a rule drops it. A probe may be sent behind
     /// a reset, and for one that is dropped.
     pub fn inbound(
         &mut self,

@@ -25,7 +25,7 @@ pub fn streams_are_written()
     segments_are_read_back();
 }
 
-/// The worked rows, computed from the definitions.
+/// The worked examples, computed from the definitions.
 pub fn worked_rows()
     ensures { WorkedRows }
 {}
@@ -60,7 +60,7 @@ pub fn packets_are_plain()
     probes_are_plain();
 }
 
-/// A probe that goes out for a datagram that a row drops says nothing of a stream.
+/// A probe that is sent for a datagram that a rule drops adds nothing to a stream.
 pub fn probes_are_silent()
     ensures { ProbesAreSilent }
 {}
@@ -77,7 +77,7 @@ pub fn calls_are_emitted()
     options_are_cleaned();
 }
 
-/// Where no row holds that touches a payload, one packet goes out for a datagram, which carries what its segment does.
+/// Where no rule holds that changes a payload, one packet is sent for a datagram, with the payload of its segment.
 pub fn clean_keeps_payload()
     ensures { CleanKeepsPayload }
 {

@@ -1,14 +1,15 @@
 //! Outbound packets.
-ghost use Rattle.std.specs.Prelude.{◌≡◌, ◌+◌, ◌-◌, ◌<◌, ◌≤◌, ◌^◌, ℕ, true, false, List, [], ◌∷◌, length};
+ghost use Rattle.std.specs.Prelude.{◌≡◌, ◌<◌, ◌^◌, ℕ, true, false, List, [], ◌∷◌, length};
 ghost use Rattle.era_state.specs.Read.{sent};
 ghost use Rattle.wire_base.specs.Tcp as tcp;
 ghost use Rattle.era_state.specs.Eras as eras;
 
+use crate::arrival::Departure;
 use crate::emit::put_mended;
 use crate::flow::Live;
 use crate::key::EraKey;
 use crate::reading::{outward_key, seg_of};
-use crate::report::tell_out;
+use crate::report::report_outward;
 use crate::state::TcpNorm;
 use crate::step::Step;
 use cold_start::warm_from;
@@ -23,14 +24,14 @@ use tcp_codec::laws::mended_say_the_same;
 use wire_base::FlowKey;
 
 impl TcpNorm {
-    ghost use Rattle.std.specs.Prelude.{◌≡◌, ◌+◌, ◌-◌, ◌<◌, ◌≤◌, ◌^◌, List, [], ◌∷◌, ◌++◌, length, true, false};
+    ghost use Rattle.std.specs.Prelude.{◌≡◌, ◌+◌, ◌-◌, ◌<◌, ◌≤◌, ◌^◌, List, [], ◌∷◌, length, true};
     ghost use Rattle.wire_base.specs.Sums.{pseudo_sum};
     ghost use Rattle.wire_base.specs.Segments.{Written};
     ghost use Rattle.wire_base.specs.declared.address.Side.TheVariants.{Outward};
     ghost use Rattle.tcp_codec.specs.Header.{fields_of};
     ghost use Rattle.norm_settings.specs.Settings.{PlainSettings};
     ghost use Rattle.ip_rules.specs.Datagrams.{Datagram, frames_of, IsDatagram};
-    ghost use Rattle.tcp_norm.specs.Calls.{Call, Outcome, datagram, segment_in};
+    ghost use Rattle.tcp_norm.specs.Calls.{Call};
     ghost use Rattle.tcp_norm.specs.Views.{view_of};
     ghost use Rattle.tcp_norm.specs.Heads.{IsHead};
     ghost use Rattle.ip_rules.specs.Judged.{where_holds};
@@ -39,7 +40,7 @@ impl TcpNorm {
     ghost use Rattle.tcp_norm.specs.Passing.{Reports};
     ghost use Rattle.tcp_norm.specs.Standing.{StandsFor};
     ghost use Rattle.linked_table.specs.Table.{HasNone};
-    ghost use Rattle.tcp_norm.specs.Steps.{Sends, IsStep, Does};
+    ghost use Rattle.tcp_norm.specs.Steps.{IsMade, Makes};
     ghost use Rattle.tcp_norm.specs.Near.{IsNear};
     ghost use Rattle.tcp_norm.specs.Rulings.{IsHeld};
     ghost use Rattle.wire_base.specs.Tcp as tcp;
@@ -74,67 +75,44 @@ impl TcpNorm {
             out.new ≡ frames_of link_octets.now (outcome_at settings (view_of settings calls d) d).packets }
     {
         mended_say_the_same();
-        let parsed = seg_of(packet.payload, seg);
-        let key = outward_key(&packet.head, packet.payload, seg);
-        let offload = self.offload;
-        let step = self.go_out(key, &parsed, now);
-        let wrong = offload & !seg.sum_right;
-        tell_out(&step, &packet.fixes, wrong, entry);
-        self.send_out(packet, link_octets, wrong, out);
+        let departure = Departure {
+            time: now,
+            packet,
+            link: link_octets,
+            head: seg,
+            wrong: self.offload & !seg.sum_right,
+        };
+        let step = self.judge_outward(&departure);
+        report_outward(&step, &departure, entry);
+        self.emit_outward(&departure, out);
     }
 
-    // Puts the one packet of an outbound datagram into the empty outbox.
-    fn send_out(&mut self, packet: &IpPacket<'_>, link: &[u8], wrong: bool, out: &mut Outbox)
-        requires short { length packet.now.payload.now ≤ 65515 }
-        requires long { 20 ≤ length packet.now.payload.now }
-        requires words { 20 ≤ tcp.header_length packet.now.payload.now }
-        requires link { length link.now ≤ 14 }
-        requires frame { packet.now.fixes.items ≡ [] → length packet.now.frame.now ≤ 65549 }
-        requires empty { out.old ≡ [] }
-        ensures stays { (settings : PlainSettings) (calls : List Call) → StandsFor settings self.old calls → StandsFor settings self.new calls }
-        ensures frames { (settings : PlainSettings) (d : Datagram) (ws : List Written) → packet.now.side ≡ Outward → IsDatagram packet.now link.now d →
-            out.new ≡ frames_of link.now (packet_by settings ws d d.fixes (where_holds wrong rules.TSumOut) ∷ []) }
-    {
-        if wrong {
-            put_mended(link, &packet.head, packet.payload, &mut self.scratch, out);
-        } else if packet.fixes.is_empty() {
-            put_read(packet.frame, out);
-        } else {
-            put_anew(link, &packet.head, packet.payload, out);
-        }
-    }
-
-    // An outbound segment comes.
-    pub(crate) fn go_out(&mut self, key: FlowKey, seg: &Seg, now: u32) -> Step
-        requires legal { tcp.are_legal seg.now.flags.0 ≡ true }
+    // Updates the eras with an outbound segment.
+    fn judge_outward(&mut self, departure: &Departure<'_>) -> Step
         requires few { self.old.calls < 2 ^ 32 - 1 }
-        requires later { self.old.latest ≤ now }
-        ensures steps { (settings : PlainSettings) (calls : List Call) (d : Datagram) (octets : List ℕ) → length octets ≡ seg.now.len →
-            StandsFor settings self.old calls → Sends d key seg.now octets → IsStep (view_of settings calls d) (segment_in d) result }
-        ensures stands { (settings : PlainSettings) (calls : List Call) (d : Datagram) (octets : List ℕ) (o : Outcome) → length octets ≡ seg.now.len →
-            StandsFor settings self.old calls → Sends d key seg.now octets → Does d (segment_in d) result o →
-            StandsFor settings self.new (datagram now d o ∷ calls) }
+        requires later { self.old.latest ≤ departure.now.time }
+        ensures { (settings : PlainSettings) (calls : List Call) (d : Datagram) → StandsFor settings self.old calls →
+            IsDatagram departure.now.packet.now departure.now.link.now d → IsMade settings calls d departure.now.time self.new result }
     {
+        let octets = departure.packet.payload;
+        let parsed = seg_of(octets, departure.head);
+        let key = outward_key(&departure.packet.head, octets, departure.head);
         match self.table.find(&EraKey(key)) {
             Some(slot) => {
                 let live = self.live_at(slot, key);
-                self.go_out_live(&live, seg, now)
+                self.depart_live(&live, &parsed, departure.time)
             }
-            None => self.go_out_cold(key, seg, now),
+            None => self.depart_cold(key, &parsed, departure.time),
         }
     }
 
-    // One of a connection that has no live era.
-    fn go_out_cold(&mut self, key: FlowKey, seg: &Seg, now: u32) -> Step
+    // Updates the eras with an outbound segment of a connection that has no live era.
+    fn depart_cold(&mut self, key: FlowKey, seg: &Seg, now: u32) -> Step
         requires absent { HasNone self.old.table.entries (record { 0 = key }) }
         requires legal { tcp.are_legal seg.now.flags.0 ≡ true }
         requires few { self.old.calls < 2 ^ 32 - 1 }
         requires later { self.old.latest ≤ now }
-        ensures steps { (settings : PlainSettings) (calls : List Call) (d : Datagram) (octets : List ℕ) → length octets ≡ seg.now.len →
-            StandsFor settings self.old calls → Sends d key seg.now octets → IsStep (view_of settings calls d) (segment_in d) result }
-        ensures stands { (settings : PlainSettings) (calls : List Call) (d : Datagram) (octets : List ℕ) (o : Outcome) → length octets ≡ seg.now.len →
-            StandsFor settings self.old calls → Sends d key seg.now octets → Does d (segment_in d) result o →
-            StandsFor settings self.new (datagram now d o ∷ calls) }
+        ensures { Makes self.old self.new key seg.now now result }
     {
         if seg.flags.rst() {
             self.arrive(now);
@@ -146,28 +124,25 @@ impl TcpNorm {
         }
     }
 
-    // One of a connection whose live era is in this slot.
-    fn go_out_live(&mut self, live: &Live, seg: &Seg, now: u32) -> Step
+    // Updates the live era of an outbound segment.
+    fn depart_live(&mut self, live: &Live, seg: &Seg, now: u32) -> Step
         requires held { IsHeld self.old.table live.now }
         requires near { IsNear self.old.calls live.now.flow.era }
         requires legal { tcp.are_legal seg.now.flags.0 ≡ true }
         requires few { self.old.calls < 2 ^ 32 - 1 }
         requires later { self.old.latest ≤ now }
-        ensures steps { (settings : PlainSettings) (calls : List Call) (d : Datagram) (octets : List ℕ) → length octets ≡ seg.now.len →
-            StandsFor settings self.old calls → Sends d live.now.key seg.now octets → IsStep (view_of settings calls d) (segment_in d) result }
-        ensures stands { (settings : PlainSettings) (calls : List Call) (d : Datagram) (octets : List ℕ) (o : Outcome) → length octets ≡ seg.now.len →
-            StandsFor settings self.old calls → Sends d live.now.key seg.now octets → Does d (segment_in d) result o →
-            StandsFor settings self.new (datagram now d o ∷ calls) }
+        ensures { Makes self.old self.new live.now.key seg.now now result }
     {
         let number = live.flow.number;
         let octets = live.flow.era.octets();
         match live.flow.era.outbound(seg) {
             Moved::Next(era) => {
-                self.go_on(live, era, now);
+                self.keep_era(live, era, now);
                 Step::within(number)
             }
             Moved::Reset => {
-                self.arrive(now);
+                self.calls += 1;
+                self.latest = now;
                 self.end(live.slot);
                 Step::reset(number, octets)
             }
@@ -175,6 +150,29 @@ impl TcpNorm {
                 let next = self.reopen(live, era_of(seg), now);
                 Step::reopened(next, number, octets)
             }
+        }
+    }
+
+    // Puts the one packet of an outbound datagram into the empty outbox.
+    fn emit_outward(&mut self, departure: &Departure<'_>, out: &mut Outbox)
+        requires empty { out.old ≡ [] }
+        ensures stays { (settings : PlainSettings) (calls : List Call) → StandsFor settings self.old calls → StandsFor settings self.new calls }
+        ensures frames { (settings : PlainSettings) (d : Datagram) (ws : List Written) → IsDatagram departure.now.packet.now departure.now.link.now d →
+            out.new ≡ frames_of departure.now.link.now (packet_by settings ws d d.fixes (where_holds departure.now.wrong rules.TSumOut) ∷ []) }
+    {
+        let packet = departure.packet;
+        if departure.wrong {
+            put_mended(
+                departure.link,
+                &packet.head,
+                packet.payload,
+                &mut self.scratch,
+                out,
+            );
+        } else if packet.fixes.is_empty() {
+            put_read(packet.frame, out);
+        } else {
+            put_anew(departure.link, &packet.head, packet.payload, out);
         }
     }
 }

@@ -1,5 +1,5 @@
 //! What an entry of the report says of a segment.
-ghost use Rattle.std.specs.Prelude.{◌≡◌, ◌≤◌, List, length, ◌+◌, ◌++◌, [], ◌∷◌, true, false, None, is_some, if◌then◌else◌};
+ghost use Rattle.std.specs.Prelude.{◌≡◌, ◌≤◌, List, length, ◌+◌, ◌++◌, [], ◌∷◌, false, None, is_some, if◌then◌else◌};
 ghost use Rattle.wire_base.specs.Segments.{Written};
 ghost use Rattle.norm_settings.specs.Settings.{PlainSettings};
 ghost use Rattle.ip_rules.specs.Datagrams.{Datagram, IsDatagram, Packet};
@@ -12,7 +12,7 @@ ghost use Rattle.tcp_norm.specs.Inwards.{passed};
 ghost use Rattle.rule_book.specs.declared.rule.Rule.TheVariants as rules;
 ghost use Rattle.rule_book.specs.declared.entry.Verdict.TheVariants as verdicts;
 
-use crate::arrival::Arrival;
+use crate::arrival::{Arrival, Departure};
 use crate::rows::note;
 use crate::ruling::Ruling;
 use crate::step::Step;
@@ -30,11 +30,11 @@ pub(crate) fn report(ruling: &Ruling, arrival: &Arrival<'_>, entry: &mut Entry)
     match ruling {
         Ruling::Drop(refusal) => {
             let packets = packets_in(refusal.probe);
-            tell_dropped(refusal.rule, refusal.era, packets, entry);
+            report_dropped(refusal.rule, refusal.era, packets, entry);
         }
         Ruling::Pass(passage) => {
             let packets = packets_with(passage.probe);
-            tell_in(
+            report_passed(
                 &passage.step,
                 &arrival.packet.fixes,
                 &passage.rows,
@@ -43,7 +43,7 @@ pub(crate) fn report(ruling: &Ruling, arrival: &Arrival<'_>, entry: &mut Entry)
             );
         }
         Ruling::Ask(question) => {
-            tell_in(
+            report_passed(
                 &Step::outside(false),
                 &arrival.packet.fixes,
                 &question.rows,
@@ -65,29 +65,6 @@ fn extend(rules: &mut ArrayVec<Rule, 16>, more: &Fixes)
     rules.try_extend_from_slice(more.as_slice()).unwrap();
 }
 
-// The rules of an outbound datagram.
-fn rules_out(full: bool, fixes: &Fixes, wrong: bool) -> ArrayVec<Rule, 16>
-    requires { length fixes.now.items ≤ 6 }
-    ensures { result.items ≡ where_holds full rules.TFull ++ fixes.now.items ++ where_holds wrong rules.TSumOut }
-{
-    let mut named = ArrayVec::new();
-    note(&mut named, Rule::TFull, full);
-    extend(&mut named, fixes);
-    note(&mut named, Rule::TSumOut, wrong);
-    named
-}
-
-// Fix where a row mends the datagram.
-fn verdict_out(fixes: &Fixes, wrong: bool) -> Verdict
-    ensures { result ≡ verdict_of (fixes.now.items ++ where_holds wrong rules.TSumOut) }
-{
-    if fixes.is_empty() && !wrong {
-        Verdict::Pass
-    } else {
-        Verdict::Fix
-    }
-}
-
 // Appends the era that ended, if one did.
 fn add_ended(ended: &mut ArrayVec<Ended, 4>, more: Option<Ended>)
     requires { length ended.old.items ≤ 2 }
@@ -98,41 +75,21 @@ fn add_ended(ended: &mut ArrayVec<Ended, 4>, more: Option<Ended>)
     }
 }
 
-/// Says what became of an outbound datagram, of which one packet goes out.
-pub(crate) fn tell_out(step: &Step, fixes: &Fixes, wrong: bool, entry: &mut Entry)
+// Returns the rules of a datagram.
+fn named_rules(full: bool, fixes: &Fixes, rows: &ArrayVec<Rule, 16>) -> ArrayVec<Rule, 16>
     requires fixes { length fixes.now.items ≤ 6 }
-    requires ended { length entry.old.ended.items ≤ 2 }
-    ensures number { entry.new.number ≡ entry.old.number }
-    ensures side { entry.new.side ≡ entry.old.side }
-    ensures verdict { entry.new.verdict ≡ verdict_of (fixes.now.items ++ where_holds wrong rules.TSumOut) }
-    ensures packets { entry.new.packets ≡ 1 }
-    ensures rules { entry.new.rules.items ≡ where_holds step.now.full rules.TFull ++ fixes.now.items ++ where_holds wrong rules.TSumOut }
-    ensures era { entry.new.era ≡ step.now.era }
-    ensures begun { entry.new.begun ≡ step.now.begun }
-    ensures ended { entry.new.ended.items ≡ entry.old.ended.items ++ listed step.now.ended }
-{
-    entry.verdict = verdict_out(fixes, wrong);
-    entry.packets = 1;
-    entry.rules = rules_out(step.full, fixes, wrong);
-    entry.era = step.era;
-    entry.begun = step.begun;
-    add_ended(&mut entry.ended, step.ended);
-}
-
-// The rules of an inbound datagram.
-fn rules_in(fixes: &Fixes, rows: &ArrayVec<Rule, 16>) -> ArrayVec<Rule, 16>
-    requires fixes { length fixes.now.items ≤ 6 }
-    requires rows { length rows.now.items ≤ 10 }
-    ensures { result.items ≡ fixes.now.items ++ rows.now.items }
+    requires rows { length rows.now.items ≤ 9 }
+    ensures { result.items ≡ where_holds full rules.TFull ++ fixes.now.items ++ rows.now.items }
 {
     let mut named = ArrayVec::new();
+    note(&mut named, Rule::TFull, full);
     extend(&mut named, fixes);
     extend(&mut named, rows);
     named
 }
 
-// Fix where a row mends the datagram.
-fn verdict_in(fixes: &Fixes, rows: &ArrayVec<Rule, 16>) -> Verdict
+// Returns Fix if a rule rewrites the datagram.
+fn passed_verdict(fixes: &Fixes, rows: &ArrayVec<Rule, 16>) -> Verdict
     ensures { result ≡ verdict_of (fixes.now.items ++ rows.now.items) }
 {
     if !fixes.is_empty() {
@@ -145,8 +102,8 @@ fn verdict_in(fixes: &Fixes, rows: &ArrayVec<Rule, 16>) -> Verdict
     }
 }
 
-/// Says what became of an inbound datagram that no row drops, of which so many packets go out.
-pub(crate) fn tell_in(
+/// Reports a datagram that no rule drops, of which this number of packets is sent.
+pub(crate) fn report_passed(
     step: &Step,
     fixes: &Fixes,
     rows: &ArrayVec<Rule, 16>,
@@ -154,19 +111,30 @@ pub(crate) fn tell_in(
     entry: &mut Entry,
 )
     requires fixes { length fixes.now.items ≤ 6 }
-    requires rows { length rows.now.items ≤ 10 }
+    requires rows { length rows.now.items ≤ 9 }
     requires ended { length entry.old.ended.items ≤ 2 }
     ensures { (sent : List Packet) → length sent ≡ packets → Reports entry.old entry.new (passed step.now fixes.now.items rows.now.items sent) }
 {
-    entry.verdict = verdict_in(fixes, rows);
+    entry.verdict = passed_verdict(fixes, rows);
     entry.packets = packets;
-    entry.rules = rules_in(fixes, rows);
+    entry.rules = named_rules(step.full, fixes, rows);
     entry.era = step.era;
     entry.begun = step.begun;
     add_ended(&mut entry.ended, step.ended);
 }
 
-/// How many packets go out of a datagram with this probe behind its own.
+/// Reports an outbound datagram, of which one packet is sent.
+pub(crate) fn report_outward(step: &Step, departure: &Departure<'_>, entry: &mut Entry)
+    requires ended { length entry.old.ended.items ≤ 2 }
+    ensures { (sent : List Packet) → length sent ≡ 1 →
+        Reports entry.old entry.new (passed step.now departure.now.packet.now.fixes.items (where_holds departure.now.wrong rules.TSumOut) sent) }
+{
+    let mut rows = ArrayVec::new();
+    note(&mut rows, Rule::TSumOut, departure.wrong);
+    report_passed(step, &departure.packet.fixes, &rows, 1, entry);
+}
+
+/// Returns how many packets are sent for a datagram with this probe behind its own.
 pub(crate) fn packets_with(probe: Option<Probe>) -> u8
     ensures { result ≡ (if is_some probe then 2 else 1) }
 {
@@ -176,7 +144,7 @@ pub(crate) fn packets_with(probe: Option<Probe>) -> u8
     }
 }
 
-/// How many packets this probe is.
+/// Returns how many packets this probe is.
 pub(crate) fn packets_in(probe: Option<Probe>) -> u8
     ensures { result ≡ (if is_some probe then 1 else 0) }
 {
@@ -186,8 +154,8 @@ pub(crate) fn packets_in(probe: Option<Probe>) -> u8
     }
 }
 
-/// Says that this row drops a datagram of this era, of which so many packets go out.
-pub(crate) fn tell_dropped(rule: Rule, era: Option<u32>, packets: u8, entry: &mut Entry)
+/// Reports that this rule drops a datagram of this era, for which this number of packets is sent.
+pub(crate) fn report_dropped(rule: Rule, era: Option<u32>, packets: u8, entry: &mut Entry)
     ensures { (sent : List Packet) → length sent ≡ packets → Reports entry.old entry.new
         (record { verdict = verdicts.Drop; rules = rule ∷ []; era = era; begun = None; ended = []; packets = sent }) }
 {
@@ -198,7 +166,7 @@ pub(crate) fn tell_dropped(rule: Rule, era: Option<u32>, packets: u8, entry: &mu
     entry.begun = None;
 }
 
-// This rule alone.
+// Returns this rule alone.
 fn only(rule: Rule) -> ArrayVec<Rule, 16>
     ensures { result.items ≡ rule ∷ [] }
 {

@@ -1,4 +1,4 @@
-//! The rows that mend an inbound segment.
+//! The rules that rewrite an inbound segment.
 ghost use Rattle.std.specs.Prelude.{◌≡◌, ◌+◌, ◌<◌, ◌≤◌, ◌++◌, ◌==◌, ◌&&◌, ◌||◌, nat_lt, ◌-◌, not, length};
 ghost use Rattle.wire_base.specs.Tcp as tcp;
 ghost use Rattle.tcp_norm.specs.Streams.{stream_rows, bare_rows};
@@ -20,7 +20,7 @@ pub(crate) fn note(rules: &mut ArrayVec<Rule, 16>, rule: Rule, holds: bool)
     }
 }
 
-// Whether urgent marks stand in the header.
+// Returns whether URG is set or the urgent pointer is not 0.
 fn is_urgent(head: &Tcp) -> bool
     ensures { result ≡ (tcp.has_urg head.now.flags.0 || not (head.now.urgent == 0)) }
 {
@@ -29,7 +29,7 @@ fn is_urgent(head: &Tcp) -> bool
     flag || pointer
 }
 
-/// The rows that hold; `options` says whether options are not kept.
+/// Returns the rules that hold; `options` says whether options change.
 pub(crate) fn rows_of(head: &Tcp, options: bool, stream: &Stream) -> ArrayVec<Rule, 16>
     ensures few { length result.items ≤ 7 }
     ensures rows { result.items ≡ stream_rows (not (head.now.reserved == 0)) (tcp.has_urg head.now.flags.0 || not (head.now.urgent == 0)) options
@@ -48,7 +48,7 @@ pub(crate) fn rows_of(head: &Tcp, options: bool, stream: &Stream) -> ArrayVec<Ru
     rules
 }
 
-// Octets stand on a SYN or a RST.
+// Returns whether a SYN or a RST carries octets.
 fn is_loaded(octets: &[u8], head: &Tcp) -> bool
     requires { head.now.header ≤ length octets.now }
     ensures { result ≡ ((tcp.has_syn head.now.flags.0 || tcp.has_rst head.now.flags.0) && nat_lt 0 (length octets.now - head.now.header)) }
@@ -59,7 +59,7 @@ fn is_loaded(octets: &[u8], head: &Tcp) -> bool
     (syn || rst) && some
 }
 
-/// The rows that hold of one that brings no octet of the stream; `options` says whether options are not kept, `probe` whether a probe goes out.
+/// Returns the rules that hold of a segment that brings no octet of the stream; `options` says whether options change, `probe` whether a probe is sent.
 pub(crate) fn rows_beside(
     octets: &[u8],
     head: &Tcp,

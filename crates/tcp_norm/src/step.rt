@@ -10,20 +10,20 @@ pub struct Step {
     pub full: bool,
 }
 
-/// The number of an era that begins, and the one whose place it takes, if that was needed.
+/// The number of an era that begins, and the one that ended to make room for it, if one did.
 #[derive(Clone, Copy)]
 pub struct Place {
     pub begun: u32,
     pub evicted: Option<Ended>,
 }
 
-ghost use Rattle.std.specs.Prelude.{◌≡◌, None, Some, true, false};
+ghost use Rattle.std.specs.Prelude.{◌≡◌, None, Some, false};
 ghost use Rattle.rule_book.specs.declared.entry.Reason.TheVariants as reasons;
 
 impl Step {
     ghost use Rattle.tcp_norm.specs.Steps.{began};
 
-    // It begins an era at this place.
+    // Returns the step of a segment that begins an era.
     pub(crate) fn begun(place: Place) -> Step
         ensures { result ≡ began place }
     {
@@ -35,7 +35,7 @@ impl Step {
         }
     }
 
-    // It goes on in this era.
+    // Returns the step of a segment that continues this era.
     pub(crate) fn within(number: u32) -> Step
         ensures { result ≡ record { era = Some number; begun = None; ended = None; full = false } }
     {
@@ -47,7 +47,7 @@ impl Step {
         }
     }
 
-    // It belongs to no era.
+    // Returns the step of a segment that belongs to no era.
     pub(crate) fn outside(full: bool) -> Step
         ensures { result ≡ record { era = None; begun = None; ended = None; full = full } }
     {
@@ -59,7 +59,7 @@ impl Step {
         }
     }
 
-    // It ends this era, of so many octets.
+    // Returns the step of a segment that ends this era, which had this number of octets.
     pub(crate) fn reset(number: u32, octets: u64) -> Step
         ensures { result ≡ record { era = Some number; begun = None; ended = Some (record { era = number; reason = reasons.Reset; octets = Some octets }); full = false } }
     {
@@ -75,7 +75,7 @@ impl Step {
         }
     }
 
-    // It begins this era, and ends the one before, of so many octets.
+    // Returns the step of a segment that begins this era and ends the one before, which had this number of octets.
     pub(crate) fn reopened(number: u32, before: u32, octets: u64) -> Step
         ensures { result ≡ record { era = Some number; begun = Some number; ended = Some (record { era = before; reason = reasons.Reopened; octets = Some octets }); full = false } }
     {

@@ -1,4 +1,4 @@
-//! Worked rows: datagrams of connections, one after another, and what becomes of each.
+//! Worked examples: datagrams of connections, one after another, and what becomes of each.
 ghost use Rattle.std.specs.Prelude.{◌≡◌, ◌≤◌, ◌%◌, ◌↔◌, IfOk, IsTrue, [], length};
 ghost use Rattle.rule_book.specs.Entries.{IsOfVersion, plain};
 ghost use Rattle.norm_settings.specs.Settings.{plain_settings, AreInRange};
@@ -70,7 +70,7 @@ fn options_of(options: Option<[u8; 4]>) -> ArrayVec<u8, 40>
     area
 }
 
-// Sets the marks that are to stand in it, or its checksum to 0.
+// Sets the bits that the case asks for, or its checksum to 0.
 fn mark(segment: &mut [u8], pseudo: u32, more: &More)
     requires { 20 ≤ length segment.old }
     ensures { length segment.new ≡ length segment.old }
@@ -150,7 +150,7 @@ fn entry_of(number: u32, way: Side) -> Entry
     }
 }
 
-// Whether each era that ended is told with its octets.
+// Returns whether each era that ended is reported with its octets.
 fn has_octets(entry: &Entry) -> bool
     ensures { IsTrue result ↔ IsOfVersion 2 (plain entry.now) }
 {
@@ -168,7 +168,7 @@ fn read_head(octets: &[u8], pseudo: u32) -> Result<Tcp, Fail>
     }
 }
 
-// Hands a segment over at this time, and tells what becomes of it.
+// Passes a segment on at this time, and returns its entry.
 fn hand(
     norm: &mut TcpNorm,
     now: u32,
@@ -218,7 +218,7 @@ fn sends(rt: &impl Abort, out: &Outbox, sent: &[Sent], line: usize) {
     }
 }
 
-// What became of a segment is what its row says.
+// Checks that the entry and the frames of a segment are those of its case.
 fn says(rt: &impl Abort, entry: &Entry, out: &Outbox, row: &Row, i: usize) -> Result<(), Fail> {
     if !has_octets(entry) {
         return Err("no octets")?;
@@ -236,7 +236,7 @@ fn says(rt: &impl Abort, entry: &Entry, out: &Outbox, row: &Row, i: usize) -> Re
     Ok(())
 }
 
-// Hands the segment of a row over.
+// Passes on the segment of a case.
 fn follow_row(
     rt: &impl Abort,
     norm: &mut TcpNorm,
@@ -249,7 +249,7 @@ fn follow_row(
     says(rt, &entry, out, row, i)
 }
 
-// Hands these rows over, one after another.
+// Passes on the segments of these cases, one after another.
 fn follow_rows(
     rt: &impl Abort,
     norm: &mut TcpNorm,
@@ -267,7 +267,7 @@ fn open(alloc: Global, run: &Run) -> Result<TcpNorm, NoMemory> {
     TcpNorm::open(alloc, &settings)
 }
 
-// Hands the rows of a run over.
+// Passes on the segments of a run.
 fn follow(rt: &impl Abort, alloc: Global, run: &Run) -> Result<(), Fail> {
     let mut out = Outbox::open(alloc)?;
     let mut norm = open(alloc, run)?;

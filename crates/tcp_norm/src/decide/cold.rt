@@ -56,9 +56,8 @@ impl TcpNorm {
                 }
                 Some(place) => {
                     let rows = rows_beside(octets, arrival.head, changed, false);
-                    let step = Step::begun(place);
                     *ruling = Ruling::Pass(Passage {
-                        step,
+                        step: Step::begun(place),
                         rows,
                         seq: arrival.head.seq,
                         fin: true,

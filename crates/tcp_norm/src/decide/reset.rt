@@ -6,6 +6,7 @@ use crate::rows::rows_beside;
 use crate::ruling::{Change, Passage, Refusal, Ruling};
 use crate::state::TcpNorm;
 use crate::step::Step;
+use era_state::laws::silence_stands;
 use reset_probe::{ResetAnswer, judge_reset};
 use rule_book::Rule;
 use tcp_codec::laws::segments_are_read_back;
@@ -28,6 +29,7 @@ impl TcpNorm {
         ensures decides { Decides arrival.now self.now self.now live.now ruling.new result }
     {
         segments_are_read_back();
+        silence_stands();
         are_bits(&arrival.packet.head, arrival.packet.payload);
         let octets = arrival.packet.payload;
         let seg = bare_seg(octets, arrival.head);

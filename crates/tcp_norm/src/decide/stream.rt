@@ -1,14 +1,12 @@
 //! A segment of the stream of an era: T_QUOTA or T_ROOM drops it, or it passes with the octets that were sent first.
-ghost use Rattle.std.specs.Prelude.{◌≡◌, ℕ, ◌+◌, ◌-◌, ◌<◌, ◌≤◌, nat_lt, pos, ◌-ℤ◌, List, length, take, slice_index, true, Some, None, IfNone, if◌then◌else◌};
+ghost use Rattle.std.specs.Prelude.{◌≡◌, ◌↔◌, ℕ, ◌+◌, ◌-◌, ◌<◌, ◌≤◌, ◌^◌, nat_lt, pos, ◌-ℤ◌, List, length, take, slice_index, true, false, Some, None, IfNone, if◌then◌else◌};
 ghost use Rattle.wire_base.specs.Segments.{Written};
-ghost use Rattle.retain_store.specs.Maps.{chain_of, missing};
+ghost use Rattle.retain_store.specs.Maps.{Settles, chain_of, missing};
 ghost use Rattle.era_state.specs.Offsets.{off, nat_of};
-ghost use Rattle.era_state.specs.Read.{received};
-ghost use Rattle.era_state.specs.Standing.{WarmFor, bounds_in};
+ghost use Rattle.era_state.specs.Standing.{bounds_in};
 ghost use Rattle.era_state.specs.Intervals.{Keeps, KeptOf};
 ghost use Rattle.tcp_norm.specs.Held.{held_of};
-ghost use Rattle.tcp_norm.specs.Rows.{exceeds, wanted_of, clashes};
-ghost use Rattle.tcp_norm.specs.Emits.{octets_sent};
+ghost use Rattle.tcp_norm.specs.Rows.{exceeds, wanted_of};
 ghost use Rattle.tcp_norm.specs.Near.{IsAtMost};
 ghost use Rattle.wire_base.specs.Tcp as tcp;
 ghost use Rattle.rule_book.specs.declared.rule.Rule.TheVariants as rules;
@@ -20,6 +18,7 @@ use crate::laws::streams_are_written;
 use crate::reading::{are_bits, options_change, payload_of, seg_of};
 use crate::rows::rows_of;
 use crate::ruling::{Change, Passage, Refusal, Ruling, Taking};
+use crate::spare::{cells_are_counted, chain_is_counted};
 use crate::state::TcpNorm;
 use crate::step::Step;
 use era_state::laws::states_are_the_lists;
@@ -30,11 +29,8 @@ use rule_book::Rule;
 impl TcpNorm {
     ghost use Rattle.std.specs.Prelude.{◌≡◌, List, true, false};
     ghost use Rattle.wire_base.specs.Segments.{Written};
-    ghost use Rattle.era_state.specs.States.{is_acknowledged};
-    ghost use Rattle.era_state.specs.Standing.{WarmFor};
     ghost use Rattle.tcp_norm.specs.Rulings.{Decides, IsFound, IsLast, IsOpenTo, IsSame, IsShort};
     ghost use Rattle.wire_base.specs.Tcp as tcp;
-    ghost use Rattle.era_state.specs.Eras as eras;
 
     // `warm` is the state of the era. Only the scratch changes.
     pub(super) fn decide_stream<'a>(
@@ -56,7 +52,7 @@ impl TcpNorm {
         streams_are_written();
         states_are_the_lists();
         are_bits(&arrival.packet.head, arrival.packet.payload);
-        let _free = self.store.free();
+        cells_are_counted(&self.store);
         let octets = arrival.packet.payload;
         let seg = seg_of(octets, arrival.head);
         let payload = payload_of(octets, arrival.head);
@@ -70,15 +66,8 @@ impl TcpNorm {
             });
             return Change::Nothing;
         }
-        let clash = settle(
-            &self.store,
-            chain,
-            warm,
-            &seg,
-            &kept,
-            payload,
-            &mut self.scratch,
-        );
+        let own = own_octets(warm, &seg, &kept, payload);
+        let clash = fill_kept(&self.store, chain, &kept, own, &mut self.scratch);
         let changed = options_change(octets, arrival.head);
         let rows = rows_of(arrival.head, changed, &Stream { kept, clash });
         let size = size_of(&kept) as usize;
@@ -103,16 +92,17 @@ pub(crate) struct Stream {
     pub(crate) clash: bool,
 }
 
-/// How many octets go inwards.
+/// Returns how many octets are sent inwards.
 pub(crate) fn size_of(kept: &Interval) -> u32
     requires order { kept.now.lo ≤ kept.now.hi }
     requires short { kept.now.hi ≤ kept.now.lo + 65515 }
-    ensures { result ≡ kept.now.hi - kept.now.lo }
+    ensures size { result ≡ kept.now.hi - kept.now.lo }
+    ensures end { kept.now.hi < 2 ^ 64 }
 {
     (kept.hi - kept.lo) as u32
 }
 
-// The segment's own octets at the places of the interval.
+// Returns the segment's own octets at the offsets of the interval.
 fn own_octets<'a>(warm: &Warm, seg: &Seg, kept: &Interval, payload: &'a [u8]) -> &'a [u8]
     requires legal { tcp.are_legal seg.now.flags.0 ≡ true }
     requires kept { Keeps (bounds_in warm.now) (off warm.now.base warm.now.acked seg.now.seq) seg.now.len (tcp.has_fin seg.now.flags.0) kept.now }
@@ -132,7 +122,7 @@ fn own_octets<'a>(warm: &Warm, seg: &Seg, kept: &Interval, payload: &'a [u8]) ->
     }
 }
 
-// Whether an era would hold more cells than the quota, if one is set, with the octets that go inwards.
+// Returns whether an era would hold more cells than the quota, if one is set, with the octets that are sent inwards.
 fn is_over(store: &Retain, chain: ChainId, kept: &Interval, quota: Option<u32>) -> bool
     requires chain_in_range { chain.0 < length store.now.chains }
     requires order { kept.now.lo ≤ kept.now.hi }
@@ -142,12 +132,11 @@ fn is_over(store: &Retain, chain: ChainId, kept: &Interval, quota: Option<u32>) 
     let Some(most) = quota else {
         return false;
     };
-    let _end = kept.hi;
     let wanted = store.need(chain, kept.lo, size_of(kept));
     u64::from(most) < u64::from(store.held(chain)) + u64::from(wanted)
 }
 
-/// The row that drops an inbound segment of the stream, if its octets need more cells than its era may take, or than are free.
+/// Returns the rule that drops an inbound segment of the stream, if its octets need more cells than its era may take, or than are free.
 pub(crate) fn refusal(
     store: &Retain,
     chain: ChainId,
@@ -162,8 +151,7 @@ pub(crate) fn refusal(
     ensures free { IfNone result (missing (chain_of store.now chain.0) kept.now.lo (kept.now.hi - kept.now.lo) ≤ store.now.free) }
     ensures within { IfNone result (IsAtMost quota (length (chain_of store.now chain.0) + missing (chain_of store.now chain.0) kept.now.lo (kept.now.hi - kept.now.lo))) }
 {
-    let _held = store.held(chain);
-    let _end = kept.hi;
+    chain_is_counted(store, chain);
     let over = is_over(store, chain, kept, quota);
     if over {
         return Some(Rule::TQuota);
@@ -175,33 +163,23 @@ pub(crate) fn refusal(
     None
 }
 
-/// Puts the octets of an inbound segment of the stream that go inwards at the front of the scratch. Answers whether one of them differs from
-/// the segment's own.
-pub(crate) fn settle(
+// Fills the front of the scratch with the octets that were sent first, and where there is none with the segment's own. Returns whether one of them differs.
+fn fill_kept(
     store: &Retain,
     chain: ChainId,
-    warm: &Warm,
-    seg: &Seg,
     kept: &Interval,
-    payload: &[u8],
+    own: &[u8],
     scratch: &mut [u8],
 ) -> bool
     requires chain_in_range { chain.0 < length store.now.chains }
-    requires legal { tcp.are_legal seg.now.flags.0 ≡ true }
-    requires keeps { Keeps (bounds_in warm.now) (off warm.now.base warm.now.acked seg.now.seq) seg.now.len (tcp.has_fin seg.now.flags.0) kept.now }
     requires order { kept.now.lo ≤ kept.now.hi }
-    requires short { kept.now.hi ≤ kept.now.lo + seg.now.len }
-    requires long { length payload.now ≡ seg.now.len }
-    requires fits { seg.now.len ≤ 65515 }
+    requires short { kept.now.hi ≤ kept.now.lo + 65515 }
+    requires long { length own.now ≡ kept.now.hi - kept.now.lo }
     requires room { 65515 ≤ length scratch.old }
-    ensures octets { (ws : List Written) → chains.Keeps (chain_of store.now chain.0) ws → WarmFor warm.now ws → KeptOf ws (received seg.now payload.now) kept.now →
-        take (kept.now.hi - kept.now.lo) scratch.new ≡ octets_sent ws (received seg.now payload.now) }
-    ensures clash { (ws : List Written) → chains.Keeps (chain_of store.now chain.0) ws → WarmFor warm.now ws → KeptOf ws (received seg.now payload.now) kept.now →
-        result ≡ clashes ws (received seg.now payload.now) }
+    ensures settled { Settles (chain_of store.now chain.0) kept.now.lo own.now (take (length own.now) scratch.new) }
+    ensures same { (result ≡ false) ↔ (take (length own.now) scratch.new ≡ own.now) }
 {
-    let size = size_of(kept);
-    let own = own_octets(warm, seg, kept, payload);
-    let octets = &mut scratch[..size as usize];
+    let octets = &mut scratch[..size_of(kept) as usize];
     octets.copy_from_slice(own);
     store.settle(chain, kept.lo, octets)
 }

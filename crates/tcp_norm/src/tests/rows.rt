@@ -1,4 +1,4 @@
-//! The rows of runs: each segment, its line, and what goes out for it.
+//! The cases of runs: each segment, its line, and what is sent for it.
 use Side::{Inward, Outward};
 use wire_base::Side;
 
@@ -16,7 +16,7 @@ const ACK: u8 = 16;
 
 const PSH_ACK: u8 = 24;
 
-/// A segment between 198.51.100.7 and port 80 of 10.0.0.1: its way, flags, sequence number, acknowledgment, octets, and what else stands in it.
+/// A segment between 198.51.100.7 and port 80 of 10.0.0.1: its way, flags, sequence number, acknowledgment, octets, and its other fields.
 #[derive(Clone, Copy)]
 pub(super) struct Sent(
     pub(super) Side,
@@ -27,7 +27,7 @@ pub(super) struct Sent(
     pub(super) More,
 );
 
-/// What else stands in a segment and its header.
+/// The other fields of a segment and its header.
 #[derive(Clone, Copy)]
 pub(super) struct More {
     /// The outside port.
@@ -39,7 +39,7 @@ pub(super) struct More {
     pub(super) marked: bool,
     /// Whether the checksum is 0.
     pub(super) wrong: bool,
-    /// How many octets `a` stand behind the text.
+    /// Number of octets `a` behind the text.
     pub(super) behind: u16,
 }
 
@@ -61,7 +61,7 @@ pub(super) struct Row(
     pub(super) &'static [Sent],
 );
 
-/// A run under these settings, and its rows.
+/// A run under these settings, and its cases.
 #[derive(Clone, Copy)]
 pub(super) struct Run {
     pub(super) flows: u16,
@@ -104,7 +104,7 @@ pub(super) const RUNS: &[Run] = &[
         Row(0, Sent(Outward, ACK, 5021, 1019, "", PLAIN), "10 out pass 1 @1\n", &[]),
         Row(0, Sent(Inward, SYN, 70000, 0, "", PLAIN), "11 in pass 1 @2 +2 -1:reopened:18\n", &[]),
     ], ..RUN },
-    // Octets that come again, and octets that differ from those that went in first.
+    // Octets that arrive again, and octets that differ from those that were sent first.
     Run { rows: &[
         Row(0, Sent(Inward, SYN, 999, 0, "", PLAIN), "1 in pass 1 @1 +1\n", &[]),
         Row(0, Sent(Outward, SYN_ACK, 5000, 1000, "", PLAIN), "2 out pass 1 @1\n", &[]),
@@ -137,7 +137,7 @@ pub(super) const RUNS: &[Run] = &[
         Row(0, Sent(Outward, ACK, 5001, 1000, "", PLAIN), "6 out pass 1 @1\n", &[]),
         Row(0, Sent(Inward, PSH_ACK, 1000, 5001, "abcd", PLAIN), "7 in pass 1 @1\n", &[]),
     ], ..RUN },
-    // The inbound FIN stands at the end.
+    // The inbound FIN is at the end.
     Run { rows: &[
         Row(0, Sent(Inward, SYN, 999, 0, "", PLAIN), "1 in pass 1 @1 +1\n", &[]),
         Row(0, Sent(Outward, SYN_ACK, 5000, 1000, "", PLAIN), "2 out pass 1 @1\n", &[]),
@@ -148,7 +148,7 @@ pub(super) const RUNS: &[Run] = &[
         Row(0, Sent(Inward, FIN_ACK, 1009, 5001, "", PLAIN), "7 in fix 1 T_END @1\n", &[Sent(Inward, ACK, 1009, 5001, "", PLAIN)]),
         Row(0, Sent(Inward, ACK, 1008, 5001, "ij", PLAIN), "8 in fix 1 T_END @1\n", &[Sent(Inward, ACK, 1008, 5001, "", PLAIN)]),
     ], ..RUN },
-    // The place of each octet is read from what is acknowledged, at any length of the stream.
+    // The offset of each octet is read from what is acknowledged, at any length of the stream.
     Run { rows: &[
         Row(0, Sent(Inward, SYN, 999, 0, "", PLAIN), "1 in pass 1 @1 +1\n", &[]),
         Row(0, Sent(Outward, SYN_ACK, 5000, 1000, "", PLAIN), "2 out pass 1 @1\n", &[]),
@@ -187,7 +187,7 @@ pub(super) const RUNS: &[Run] = &[
     Run { offload: true, rows: &[
         Row(0, Sent(Outward, ACK, 5001, 1000, "", More { wrong: true, ..PLAIN }), "1 out fix 1 T_SUM_OUT @1 +1\n", &[Sent(Outward, ACK, 5001, 1000, "", PLAIN)]),
     ], ..RUN },
-    // Places run on past a turn of the sequence numbers.
+    // Offsets pass 2^32.
     Run { rows: &[
         Row(0, Sent(Inward, SYN, 4_294_967_294, 0, "", PLAIN), "1 in pass 1 @1 +1\n", &[]),
         Row(0, Sent(Outward, SYN_ACK, 5000, 4_294_967_295, "", PLAIN), "2 out pass 1 @1\n", &[]),
@@ -200,7 +200,7 @@ pub(super) const RUNS: &[Run] = &[
 
 #[rattlefmt::skip]
 pub(super) const BOUNDS: &[Run] = &[
-    // The octets of a block that no cell is free for stay outside.
+    // The octets of a block that no cell is free for are dropped.
     Run { cells: 1, rows: &[
         Row(0, Sent(Inward, SYN, 999, 0, "", PLAIN), "1 in pass 1 @1 +1\n", &[]),
         Row(0, Sent(Outward, SYN_ACK, 5000, 1000, "", PLAIN), "2 out pass 1 @1\n", &[]),
@@ -219,7 +219,7 @@ pub(super) const BOUNDS: &[Run] = &[
         Row(0, Sent(Outward, ACK, 5001, 1256, "", PLAIN), "7 out pass 1 @1\n", &[]),
         Row(0, Sent(Inward, PSH_ACK, 1256, 5001, "a", PLAIN), "8 in pass 1 @1\n", &[]),
     ], ..RUN },
-    // Octets past the window stay outside.
+    // Octets past the window are dropped.
     Run { rows: &[
         Row(0, Sent(Inward, SYN, 999, 0, "", PLAIN), "1 in pass 1 @1 +1\n", &[]),
         Row(0, Sent(Outward, SYN_ACK, 5000, 1000, "", More { window: 4, ..PLAIN }), "2 out pass 1 @1\n", &[]),
@@ -228,7 +228,7 @@ pub(super) const BOUNDS: &[Run] = &[
         Row(0, Sent(Outward, ACK, 5001, 1002, "", More { window: 4, ..PLAIN }), "5 out pass 1 @1\n", &[]),
         Row(0, Sent(Inward, PSH_ACK, 1000, 5001, "abcdefghij", PLAIN), "6 in fix 1 T_OLD T_WINDOW @1\n", &[Sent(Inward, PSH_ACK, 1002, 5001, "cdefg", PLAIN)]),
     ], ..RUN },
-    // An era that holds nothing gives its place; where each holds octets, the outside begins none, and the inside goes on without one.
+    // An era that holds nothing is evicted; where each holds octets, the outside begins none, and the inside goes on without one.
     Run { flows: 1, rows: &[
         Row(0, Sent(Inward, SYN, 999, 0, "", PLAIN), "1 in pass 1 @1 +1\n", &[]),
         Row(0, Sent(Inward, SYN, 999, 0, "", NEXT), "2 in pass 1 @2 +2 -1:evicted:0\n", &[]),
@@ -237,7 +237,7 @@ pub(super) const BOUNDS: &[Run] = &[
         Row(0, Sent(Inward, SYN, 999, 0, "", PLAIN), "5 in drop 0 T_FULL\n", &[]),
         Row(0, Sent(Outward, SYN, 7000, 0, "", More { port: 40_003, ..PLAIN }), "6 out pass 1 T_FULL\n", &[]),
     ], ..RUN },
-    // The one that was written least recently gives its place first; one that holds octets is passed over.
+    // The one that was written least recently is evicted first; one that holds octets is passed over.
     Run { flows: 2, rows: &[
         Row(0, Sent(Inward, SYN, 999, 0, "", PLAIN), "1 in pass 1 @1 +1\n", &[]),
         Row(0, Sent(Inward, SYN, 999, 0, "", NEXT), "2 in pass 1 @2 +2\n", &[]),
@@ -251,7 +251,7 @@ pub(super) const BOUNDS: &[Run] = &[
         Row(0, Sent(Inward, SYN, 999, 0, "", PLAIN), "10 in pass 1 @5\n", &[]),
         Row(0, Sent(Inward, SYN, 999, 0, "", NEXT), "11 in pass 1 @6 +6 -3:evicted:3\n", &[]),
     ], ..RUN },
-    // An era is idle past 3,600 seconds; two end at a time, before a place is looked for.
+    // An era is idle past 3,600 seconds; two end at a time, before a slot is needed.
     Run { flows: 3, rows: &[
         Row(0, Sent(Inward, SYN, 999, 0, "", PLAIN), "1 in pass 1 @1 +1\n", &[]),
         Row(0, Sent(Inward, SYN, 999, 0, "", NEXT), "2 in pass 1 @2 +2\n", &[]),

@@ -1,22 +1,24 @@
-use Rattle.std.proofs.Common.{subst, arith}
+use Rattle.std.proofs.Common.{◌+◌, [], ◌∷◌, subst, arith}
 use Rattle.era_state.specs.Read.{came}
 use Rattle.tcp_norm.specs.Calls.{segments}
 use Rattle.tcp_norm.specs.Rulings.{IsOpenTo, Needs}
 use Rattle.tcp_norm.proofs.Calleds.{came_brings_none}
 use Rattle.tcp_norm.proofs.Colding.{none_came}
+use Rattle.tcp_norm.proofs.Nears.{near_weaker}
+use Rattle.tcp_norm.proofs.Writing.{writes_one}
 use Rattle.tcp_norm.proofs.state.TcpNorm.apply.Goals as goal
 
-pub stay-requires-clause-held : goal.stay-requires-clause-held
-stay-requires-clause-held c = (subst (IsOpenTo c.args.self.now c.args.live.now) c.in-Touch.is c.requires.fits).0
+pub keep_era-requires-clause-held : goal.keep_era-requires-clause-held
+keep_era-requires-clause-held c = (subst (IsOpenTo c.args.self.now c.args.live.now) c.in-Touch.is c.requires.fits).0
 
-pub stay-requires-clause-near : goal.stay-requires-clause-near
-stay-requires-clause-near c = (subst (IsOpenTo c.args.self.now c.args.live.now) c.in-Touch.is c.requires.fits).1
+pub keep_era-requires-clause-near : goal.keep_era-requires-clause-near
+keep_era-requires-clause-near c = near_weaker c.args.self.now.calls (c.args.self.now.calls + 1) c.args.live.now.flow.era (omega arith) (subst (IsOpenTo c.args.self.now c.args.live.now) c.in-Touch.is c.requires.fits).1
 
-pub forward-requires-clause-held : goal.forward-requires-clause-held
-forward-requires-clause-held c = (subst (IsOpenTo c.args.self.now c.args.live.now) c.in-Take.is c.requires.fits).0
+pub take_octets-requires-clause-held : goal.take_octets-requires-clause-held
+take_octets-requires-clause-held c = (subst (IsOpenTo c.args.self.now c.args.live.now) c.in-Take.is c.requires.fits).0
 
-pub forward-requires-clause-can : goal.forward-requires-clause-can
-forward-requires-clause-can c = (subst (IsOpenTo c.args.self.now c.args.live.now) c.in-Take.is c.requires.fits).1
+pub take_octets-requires-clause-can : goal.take_octets-requires-clause-can
+take_octets-requires-clause-can c = (subst (IsOpenTo c.args.self.now c.args.live.now) c.in-Take.is c.requires.fits).1
 
 pub seen_syn-era-requires-clause-legal : goal.seen_syn-era-requires-clause-legal
 seen_syn-era-requires-clause-legal c = (subst (IsOpenTo c.args.self.now c.args.live.now) c.in-Hear.is c.requires.fits).2
@@ -24,11 +26,11 @@ seen_syn-era-requires-clause-legal c = (subst (IsOpenTo c.args.self.now c.args.l
 pub seen_syn-era-requires-clause-syn : goal.seen_syn-era-requires-clause-syn
 seen_syn-era-requires-clause-syn c = (subst (IsOpenTo c.args.self.now c.args.live.now) c.in-Hear.is c.requires.fits).3
 
-pub go_on-requires-clause-held : goal.go_on-requires-clause-held
-go_on-requires-clause-held c = (subst (IsOpenTo c.args.self.now c.args.live.now) c.in-Hear.is c.requires.fits).0
+pub keep_era-requires-in-Hear-clause-held : goal.keep_era-requires-in-Hear-clause-held
+keep_era-requires-in-Hear-clause-held c = (subst (IsOpenTo c.args.self.now c.args.live.now) c.in-Hear.is c.requires.fits).0
 
-pub go_on-requires-clause-near : goal.go_on-requires-clause-near
-go_on-requires-clause-near c =
+pub keep_era-requires-in-Hear-clause-near : goal.keep_era-requires-in-Hear-clause-near
+keep_era-requires-in-Hear-clause-near c =
     let near = (subst (IsOpenTo c.args.self.now c.args.live.now) c.in-Hear.is c.requires.fits).1 in
     (omega (arith, near.0, c.seen_syn-era.ensures.same), omega (arith, near.1, c.seen_syn-era.ensures.octets))
 
@@ -39,17 +41,18 @@ returns-in-Nothing-clause-stands c settings calls d o st needs =
 pub returns-in-Touch-clause-stands : goal.returns-in-Touch-clause-stands
 returns-in-Touch-clause-stands c settings calls d o st needs =
     let e = subst (λ x. Needs calls c.args.self.now d c.args.live.now x o) c.in-Touch.is needs in
-    c.stay.ensures.stands settings calls d e.1.0 o st e.0 e.1.1 e.1.2
+    c.keep_era.ensures.stands settings calls d e.0 o st e.1
 
 pub returns-in-Take-clause-stands : goal.returns-in-Take-clause-stands
 returns-in-Take-clause-stands c settings calls d o st needs =
-    c.forward.ensures.stands settings calls d o st (subst (λ x. Needs calls c.args.self.now d c.args.live.now x o) c.in-Take.is needs)
+    c.take_octets.ensures.stands settings calls d o st (subst (λ x. Needs calls c.args.self.now d c.args.live.now x o) c.in-Take.is needs)
 
 pub returns-in-Hear-clause-stands : goal.returns-in-Hear-clause-stands
 returns-in-Hear-clause-stands c settings calls d o st needs =
     let live = c.args.live.now in
     let e = subst (λ x. Needs calls c.args.self.now d live x o) c.in-Hear.is needs in
-    c.go_on.ensures.stands settings calls d (came c.in-Hear.seg) o st e.key_is (came_brings_none c.in-Hear.seg) (c.seen_syn-era.ensures.stands (segments live.flow.number calls) e.stood) e.does
+    c.keep_era-in-Hear.ensures.stands settings calls d (came c.in-Hear.seg ∷ []) o st
+    (record { key_is = e.key_is; none = (came_brings_none c.in-Hear.seg, tt); stands = c.seen_syn-era.ensures.stands (segments live.flow.number calls) e.stood; writes = writes_one d live.flow.number (came c.in-Hear.seg) o e.does })
 
 pub reopen-number-requires-clause-held : goal.reopen-number-requires-clause-held
 reopen-number-requires-clause-held c = subst (IsOpenTo c.args.self.now c.args.live.now) c.in-Reopen.is c.requires.fits

@@ -11,6 +11,10 @@ use Rattle.tcp_norm.specs.Views.{view_of}
 use Rattle.tcp_norm.specs.Emits.{packet_by, probe_packets}
 use Rattle.tcp_norm.specs.Resets.{WritesAll}
 use Rattle.tcp_norm.specs.Steps.{IsStep}
+use Rattle.tcp_norm.specs.Writes.{BringsNone}
+use Rattle.tcp_norm.specs.declared.step.Step.{Step}
+use Rattle.linked_table.proofs.Splits.{all_weaker}
+use Rattle.tcp_norm.proofs.Acks.{silent_brings_none, silent_stands}
 use Rattle.tcp_norm.proofs.Calleds.{step_seen}
 use Rattle.tcp_norm.proofs.Resetting.{rst_same, probe_same, reset_dropped, no_call, refused_alone, passed_alone}
 use Rattle.tcp_norm.proofs.Bares.{bare_anew}
@@ -67,7 +71,7 @@ returns-in-Pass-clause-decides c settings calls d st is =
     let own = packet_by settings v.segments d d.fixes named in
     let packets = own ∷ probe_packets settings d c.in-Pass.probe in
     let sends = packets_reset settings v d named n l.live.era_is l.side rst ∙ ap (λ p. own ∷ probe_packets settings d p) (sym probed) in
-    let is_it = in_outcome settings v d c.within-step.result d.fixes named packets l.side refl passes mends step sends in
+    let is_it = in_outcome settings v d c.within-step.result d.fixes named packets l.side refl passes mends step (ap (λ (s : Step). s.full) c.within-step.ensures) sends in
     let marked = rst_marked w syn rst in
     let first = first_is (bare_writes c.segments_are_read_back.ensures settings v d a.packet.now a.link.now a.head.now _ named seg l.side is
     c.are_bits.ensures a.read _ refl c.options_change-changed.ensures.words c.options_change-changed.ensures.size marked stream probes mends c.bare_seg-seg.ensures.read) in
@@ -79,7 +83,12 @@ returns-in-Pass-clause-decides c settings calls d st is =
         carried = bare_carried v.segments d a.packet.now a.link.now a.head.now is a.read (bare_anew v.segments d marked);
       };
       needs = (
-        sym l.key_is,
-        (written, (silent, probes_silent settings d c.in-Pass.probe l.side), subst (WritesAll d n written) (sym is_it) (writes_all d n c.within-step.result d.fixes named packets c.within-step.ensures)),
+        written,
+        record {
+          key_is = sym l.key_is;
+          none = all_weaker IsSilent BringsNone silent_brings_none written (silent, probes_silent settings d c.in-Pass.probe l.side);
+          stands = silent_stands c.silence_stands.ensures here.flow.era (segments n calls) written (silent, probes_silent settings d c.in-Pass.probe l.side) l.stood;
+          writes = subst (WritesAll d n written) (sym is_it) (writes_all d n c.within-step.result d.fixes named packets c.within-step.ensures);
+        },
       );
     }

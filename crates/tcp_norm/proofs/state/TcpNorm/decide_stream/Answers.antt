@@ -2,7 +2,7 @@ use Rattle.std.proofs.Common.{◌≡◌, ℕ, ◌+◌, ◌-◌, ◌<◌, ◌≤�
 use Rattle.std.specs.Prelude.{nat_lt}
 use Rattle.std.specs.List.{refill}
 use Rattle.std.proofs.Math.Seq.{take-append_seam}
-use Rattle.std.proofs.lemmas.List.{length-drop}
+use Rattle.std.proofs.lemmas.List.{length-drop, length-take-le}
 use Rattle.wire_base.specs.Tcp as tcp
 use Rattle.wire_base.specs.Options.{cleaned}
 use Rattle.wire_base.specs.Segments.{Written}
@@ -18,7 +18,7 @@ use Rattle.era_state.specs.Intervals.{KeptOf}
 use Rattle.era_state.specs.Keeping.{frame_sequence_of}
 use Rattle.era_state.specs.Rules as era
 use Rattle.ip_rules.specs.Datagrams.{goes_in}
-use Rattle.tcp_norm.specs.Calls.{read, segment_in, segments, eras}
+use Rattle.tcp_norm.specs.Calls.{read, segment_in, segments}
 use Rattle.tcp_norm.specs.Views.{view_of}
 use Rattle.tcp_norm.specs.Heads.{AreBits, seen}
 use Rattle.tcp_norm.specs.Held.{held_of}
@@ -27,12 +27,13 @@ use Rattle.tcp_norm.specs.Rows.{t_quota, t_room, is_live, exceeds, wanted_of, cl
 use Rattle.tcp_norm.specs.Emits.{packet_by, octets_sent}
 use Rattle.tcp_norm.specs.Resets.{WritesAll}
 use Rattle.tcp_norm.specs.Steps.{IsStep}
+use Rattle.tcp_norm.specs.declared.step.Step.{Step}
 use Rattle.tcp_norm.proofs.OfLive.{of_live}
 use Rattle.tcp_norm.proofs.Holding.{held_is}
-use Rattle.tcp_norm.proofs.Forwarding.{keeps_at, count_at}
 use Rattle.tcp_norm.proofs.Judging.{of_stream, stream_dropped}
 use Rattle.tcp_norm.proofs.Fitting.{stream_fits}
 use Rattle.tcp_norm.proofs.Rewritten.{sent_long}
+use Rattle.tcp_norm.proofs.Settling.{settled_is, own_is, clash_is}
 use Rattle.tcp_norm.proofs.Passes.{passes, rows_are}
 use Rattle.tcp_norm.proofs.Entering.{in_dropped, in_unheard, in_outcome, packets_live}
 use Rattle.tcp_norm.proofs.Marked.{no_probe_behind, stream_is, step_stream, stream_anew, writes_all}
@@ -65,12 +66,12 @@ returns-clause-fits c =
       c.requires.found.held,
       record {
         given = record { sequence = seg.seq; len = seg.len; fin = tcp.has_fin seg.flags.0; keeps = c.interval-kept.ensures.value };
-        long = omega (arith, c.size_of-size.ensures, c.interval-kept.ensures.order);
-        fits = omega (arith, a.short, a.read.inside, c.interval-kept.ensures.short, c.size_of-size.ensures, c.seg_of-seg.ensures.len, payload_long a.packet.now.payload.now a.head.now a.read.fields);
+        long = omega (arith, c.size_of-size.ensures.size, c.interval-kept.ensures.order);
+        fits = omega (arith, a.short, a.read.inside, c.interval-kept.ensures.short, c.size_of-size.ensures.size, c.seg_of-seg.ensures.len, payload_long a.packet.now.payload.now a.head.now a.read.fields);
         acked = omega (arith, near.0, c.requires.last.acked_is);
         few = omega (arith, near.1, c.requires.last.octets_are);
-        room = subst (λ n. missing (chain_of store here.slot.0) kept.lo n ≤ store.free) (sym c.size_of-size.ensures) c.in_default.ensures.free;
-        quota = subst (λ n. IsAtMost c.args.self.now.quota (length (chain_of store here.slot.0) + missing (chain_of store here.slot.0) kept.lo n)) (sym c.size_of-size.ensures) c.in_default.ensures.within;
+        room = subst (λ n. missing (chain_of store here.slot.0) kept.lo n ≤ store.free) (sym c.size_of-size.ensures.size) c.in_default.ensures.free;
+        quota = subst (λ n. IsAtMost c.args.self.now.quota (length (chain_of store here.slot.0) + missing (chain_of store here.slot.0) kept.lo n)) (sym c.size_of-size.ensures.size) c.in_default.ensures.within;
       },
     )
 
@@ -93,12 +94,12 @@ returns-in-Some-clause-decides c settings calls d st is =
     let f = of_stream v.segments w stream in
     let warm = subst (WarmFor c.args.warm.now) (sym live.segments_are) (c.requires.last.settled (segments n calls) stood) in
     let total = held_is calls _ _ _ _ st.holds (st.opened.chains ∙ sym st.opened.flows) h.below h.slots_apart in
-    let roomy : v.room ≡ c.args.self.now.store.free = omega (arith, total, c.free-free.ensures.total, st.opened.store) in
+    let roomy : v.room ≡ c.args.self.now.store.free = omega (arith, total, c.cells_are_counted.ensures.total, st.opened.store) in
     let keeps : Keeps (chain_of c.args.self.now.store here.slot.0) v.segments =
     subst (Keeps (chain_of c.args.self.now.store here.slot.0)) (sym live.segments_are)
-    (keeps_at (eras calls) (λ m. segments m calls) _ _ _ here.slot here.flow st.holds h.inside h.slots_apart h.keys_apart h.entry) in
+    l.at.octets in
     let count : length (chain_of c.args.self.now.store here.slot.0) ≡ held_of v.segments =
-    count_at (eras calls) (λ m. segments m calls) _ _ _ here.slot here.flow st.holds h.inside h.slots_apart h.keys_apart h.entry ∙ ap held_of (sym live.segments_are) in
+    l.at.count ∙ ap held_of (sym live.segments_are) in
     let bound = st.opened.quota in
     let is_live' = ap is_some live.era_is in
     let octets = is.octets in
@@ -135,12 +136,12 @@ returns-clause-decides c settings calls d st is =
     let f = of_stream v.segments w stream in
     let warm = subst (WarmFor c.args.warm.now) (sym live.segments_are) (c.requires.last.settled (segments n calls) stood) in
     let total = held_is calls _ _ _ _ st.holds (st.opened.chains ∙ sym st.opened.flows) h.below h.slots_apart in
-    let roomy : v.room ≡ c.args.self.now.store.free = omega (arith, total, c.free-free.ensures.total, st.opened.store) in
+    let roomy : v.room ≡ c.args.self.now.store.free = omega (arith, total, c.cells_are_counted.ensures.total, st.opened.store) in
     let keeps : Keeps (chain_of c.args.self.now.store here.slot.0) v.segments =
     subst (Keeps (chain_of c.args.self.now.store here.slot.0)) (sym live.segments_are)
-    (keeps_at (eras calls) (λ m. segments m calls) _ _ _ here.slot here.flow st.holds h.inside h.slots_apart h.keys_apart h.entry) in
+    l.at.octets in
     let count : length (chain_of c.args.self.now.store here.slot.0) ≡ held_of v.segments =
-    count_at (eras calls) (λ m. segments m calls) _ _ _ here.slot here.flow st.holds h.inside h.slots_apart h.keys_apart h.entry ∙ ap held_of (sym live.segments_are) in
+    l.at.count ∙ ap held_of (sym live.segments_are) in
     let bound = st.opened.quota in
     let is_live' = ap is_some live.era_is in
     let octets = is.octets in
@@ -155,11 +156,18 @@ returns-clause-decides c settings calls d st is =
     let within : exceeds settings.quota (held_of v.segments + wanted_of v.segments w) ≡ false = ap (λ q. exceeds q (held_of v.segments + wanted_of v.segments w)) (sym bound) ∙ open'.0 in
     let quota : t_quota settings v w ≡ false = last_false (is_live v) (era.is_of_stream v.segments w) _ within in
     let room : t_room v w ≡ false = last_false (is_live v) (era.is_of_stream v.segments w) _ enough in
-    let clash = c.settle-clash.ensures.clash v.segments keeps warm kept_here ∙ ap (clashes v.segments) w_is in
-    let held = c.settle-clash.ensures.octets v.segments keeps warm kept_here ∙ ap (octets_sent v.segments) w_is in
-    let front = refilled c.args.self.now.scratch.len c.args.self.now.scratch.items c.settle-clash.new.scratch (c.settle-clash.auto.scratch ∙ c.deref_mut.ensures.len) in
-    let sent = take c.size_of-size.result (refill c.args.self.now.scratch.len c.args.self.now.scratch.items c.settle-clash.new.scratch) in
-    let sent_are : sent ≡ octets_sent v.segments w = ap (take c.size_of-size.result) front ∙ (ap (λ m. take m c.settle-clash.new.scratch) c.size_of-size.ensures ∙ held) in
+    let seen_w = received c.seg_of-seg.result c.payload_of-payload.result.now in
+    let own = c.own_octets-own.result.now in
+    let owned = c.own_octets-own.ensures in
+    let filled = take (length own) c.fill_kept-clash.new.scratch in
+    let filled_long : length filled ≡ length own = length-take-le (length own) c.fill_kept-clash.new.scratch
+    (omega (arith, owned.long, c.interval-kept.ensures.short, c.seg_of-seg.ensures.len, a.short, a.read.inside, c.fill_kept-clash.auto.scratch, c.deref_mut.ensures.len, c.args.self.now.room, payload_long a.packet.now.payload.now a.head.now a.read.fields)) in
+    let settled = settled_is c.args.warm.now v.segments seen_w kept _ own filled warm kept_here keeps owned.long filled_long owned.own c.fill_kept-clash.ensures.settled in
+    let clash = clash_is v.segments seen_w own filled c.fill_kept-clash.result settled (own_is c.args.warm.now v.segments seen_w kept own warm kept_here owned.long owned.own) c.fill_kept-clash.ensures.same ∙ ap (clashes v.segments) w_is in
+    let held = ap (λ n. take n c.fill_kept-clash.new.scratch) (sym owned.long) ∙ (settled ∙ ap (octets_sent v.segments) w_is) in
+    let front = refilled c.args.self.now.scratch.len c.args.self.now.scratch.items c.fill_kept-clash.new.scratch (c.fill_kept-clash.auto.scratch ∙ c.deref_mut.ensures.len) in
+    let sent = take c.size_of-size.result (refill c.args.self.now.scratch.len c.args.self.now.scratch.items c.fill_kept-clash.new.scratch) in
+    let sent_are : sent ≡ octets_sent v.segments w = ap (take c.size_of-size.result) front ∙ (ap (λ m. take m c.fill_kept-clash.new.scratch) c.size_of-size.ensures.size ∙ held) in
     let passed = stream_dropped settings v d is_live' f ∙ ap₂ (λ a b. cond a (Some rules.TQuota) (cond b (Some rules.TRoom) None)) quota room in
     let rows = c.rows_of-rows.result.items in
     let mends = rows_are settings v d a.packet.now.payload.now a.head.now _ _ c.options_change-changed.result _ a.read.fields octets side is_live' f keptof clash c.options_change-changed.ensures.changed c.rows_of-rows.ensures.rows in
@@ -168,7 +176,7 @@ returns-clause-decides c settings calls d st is =
     ∙ ap (λ m. cleaned (tcp.has_syn (tcp.flags m)) (tcp.options m)) (sym octets)) in
     let step = subst (IsStep v w) (sym c.within-step.ensures) (step_stream v w n live.era_is f) in
     let packets = packet_by settings v.segments d d.fixes rows ∷ [] in
-    let is_it = in_outcome settings v d c.within-step.result d.fixes rows packets side refl passed (sym mends) step (packets_live settings v d rows n live.era_is rst) in
+    let is_it = in_outcome settings v d c.within-step.result d.fixes rows packets side refl passed (sym mends) step (ap (λ (s : Step). s.full) c.within-step.ensures) (packets_live settings v d rows n live.era_is rst) in
     let more = map (λ p. read (goes_in d.side) p.octets) packets in
     let writes = subst (WritesAll d n more) (sym is_it) (writes_all d n c.within-step.result d.fixes rows packets c.within-step.ensures) in
     let bits = subst (λ m. AreBits d.head m) (sym octets) (subst (λ (x : Ipv4). AreBits x a.packet.now.payload.now) (sym is.head) c.are_bits.ensures) in
@@ -177,9 +185,9 @@ returns-clause-decides c settings calls d st is =
     let number : w.seq < 2 ^ 32 =
     subst (λ m. tcp.sequence m < 2 ^ 32) (sym octets) (omega (arith, c.are_bits.ensures.each 4, c.are_bits.ensures.each 5, c.are_bits.ensures.each 6, c.are_bits.ensures.each 7)) in
     let sized = sent_long v.segments w in
-    let count_sent : length (octets_sent v.segments w) ≡ c.size_of-size.result = sized ∙ omega (arith, keptof.spans.lo_is, keptof.spans.hi_is, c.size_of-size.ensures) in
+    let count_sent : length (octets_sent v.segments w) ≡ c.size_of-size.result = sized ∙ omega (arith, keptof.spans.lo_is, keptof.spans.hi_is, c.size_of-size.ensures.size) in
     let fits = stream_fits v.segments d bits (ap (λ k. k % 4) (sym wide) ∙ c.options_change-changed.ensures.words)
-    (omega (arith, wide, c.options_change-changed.ensures.size, a.read.most)) (omega (arith, wide, count_sent, c.options_change-changed.ensures.size, a.short, a.read.inside, c.interval-kept.ensures.short, c.size_of-size.ensures, c.seg_of-seg.ensures.len, payload_long a.packet.now.payload.now a.head.now a.read.fields)) in
+    (omega (arith, wide, c.options_change-changed.ensures.size, a.read.most)) (omega (arith, wide, count_sent, c.options_change-changed.ensures.size, a.short, a.read.inside, c.interval-kept.ensures.short, c.size_of-size.ensures.size, c.seg_of-seg.ensures.len, payload_long a.packet.now.payload.now a.head.now a.read.fields)) in
     record {
       rules = record {
         outcome_is = is_it;

@@ -11,6 +11,7 @@ use Rattle.tcp_norm.specs.Views.{view_of}
 use Rattle.tcp_norm.specs.Emits.{probe_packets}
 use Rattle.tcp_norm.specs.Outcomes.{outcome_at}
 use Rattle.tcp_norm.specs.Steps.{IsStep, Does}
+use Rattle.tcp_norm.specs.declared.step.Step.{Step}
 use Rattle.tcp_norm.proofs.Colding as colding
 use Rattle.tcp_norm.proofs.Calleds.{state_same, syn_same, again_same, called_dropped, step_seen, step_recalled, again_alone, no_reset}
 use Rattle.tcp_norm.proofs.Resetting.{probe_same}
@@ -109,7 +110,7 @@ returns-then-again-answer-clause-decides c settings calls d st is =
     let next : c.args.self.now.begun + 1 ≡ v.next = omega (arith, st.begun_is) in
     let step = subst (IsStep v w) (sym (c.reopened-step.ensures ∙ ap₂ (λ k o. record { era = Some k; begun = Some k; ended = Some (record { era = n; reason = reasons.Reopened; octets = Some o }); full = false }) next told))
     (step_recalled v w n live.era_is side (again ∙ c.if-again-answer.true)) in
-    let is_it = in_outcome settings v d c.reopened-step.result d.fixes named _ side refl passes mends step (packets_live settings v d named n live.era_is rst) in
+    let is_it = in_outcome settings v d c.reopened-step.result d.fixes named _ side refl passes mends step (ap (λ (s : Step). s.full) c.reopened-step.ensures) (packets_live settings v d named n live.era_is rst) in
     let does = subst (Does d (came seg) c.reopened-step.result) (sym is_it) (in_does d (came seg) c.reopened-step.result d.fixes named _ writes) in
     record {
       rules = record { outcome_is = is_it; carried = carried };
@@ -153,7 +154,7 @@ returns-clause-decides c settings calls d st is =
     c.are_bits.ensures a.read _ refl c.options_change-changed.ensures.words c.options_change-changed.ensures.size marked stream probes mends c.bare_seg-seg.ensures.read in
     let carried = bare_carried v.segments d a.packet.now a.link.now a.head.now is a.read (bare_anew v.segments d marked) in
     let step = subst (IsStep v w) (sym c.within-step.ensures) (step_seen v w n live.era_is side (again ∙ c.if-again-answer.false)) in
-    let is_it = in_outcome settings v d c.within-step.result d.fixes named _ side refl passes mends step (packets_live settings v d named n live.era_is rst) in
+    let is_it = in_outcome settings v d c.within-step.result d.fixes named _ side refl passes mends step (ap (λ (s : Step). s.full) c.within-step.ensures) (packets_live settings v d named n live.era_is rst) in
     let does = subst (Does d (came seg) c.within-step.result) (sym is_it) (in_does d (came seg) c.within-step.result d.fixes named _ writes) in
     record {
       rules = record { outcome_is = is_it; carried = carried };

@@ -1,5 +1,4 @@
-use Rattle.std.proofs.Common.{◌≡◌, ◌+◌, ◌∙◌, length, take, sym, ap, arith}
-use Rattle.ip_rules.specs.Datagrams.{raised}
+use Rattle.std.proofs.Common.{◌≡◌, ◌+◌, ◌∙◌, take, sym}
 use Rattle.tcp_norm.specs.Anews.{anew_segment}
 use Rattle.tcp_norm.proofs.Probing.{side_is, head_is, frame_rewritten, frame_headed}
 use Rattle.tcp_norm.proofs.state.TcpNorm.emit_own.Goals as goal
@@ -8,15 +7,15 @@ pub returns-then-not-is_empty-clause-frames : goal.returns-then-not-is_empty-cla
 returns-then-not-is_empty-clause-frames c settings d ws opened is anews =
     let a = c.args.arrival.now in
     let p = c.args.passage.now in
-    let ip = c.requires.ip ∙ head_is settings c.args.self.now.hops a.packet.now a.link.now d opened.hops a.side is in
+    let ip = c.raised-ip.ensures ∙ head_is settings c.args.self.now.hops a.packet.now a.link.now d opened.hops a.side is in
     c.put_rewritten.ensures
-    ∙ frame_rewritten settings d ws a.packet.now a.link.now p.rows.items (anew_segment c.args.ip.now a.head.now p.seq p.fin c.options_of-options.result.0.items (take p.size c.deref.result.now)) c.args.ip.now
+    ∙ frame_rewritten settings d ws a.packet.now a.link.now p.rows.items (anew_segment c.raised-ip.result a.head.now p.seq p.fin c.options_of-options.result.0.items (take p.size c.deref.result.now)) c.raised-ip.result
     (side_is a.packet.now a.link.now d a.side is) ip (sym c.if-not-is_empty.ensures)
-    (anews ∙ (λ k. anew_segment ((sym c.requires.ip) k) a.head.now p.seq p.fin ((sym c.options_of-options.ensures.exact) k) (take p.size ((sym c.deref.ensures.value) k))))
+    (anews ∙ (λ k. anew_segment ((sym c.raised-ip.ensures) k) a.head.now p.seq p.fin ((sym c.options_of-options.ensures.exact) k) (take p.size ((sym c.deref.ensures.value) k))))
 
 pub returns-else-is_empty-clause-frames : goal.returns-else-is_empty-clause-frames
 returns-else-is_empty-clause-frames c settings d ws opened is anews =
     let a = c.args.arrival.now in
-    let ip = c.requires.ip ∙ head_is settings c.args.self.now.hops a.packet.now a.link.now d opened.hops a.side is in
     c.put_anew.ensures
-    ∙ frame_headed settings d ws a.packet.now a.link.now c.args.passage.now.rows.items c.args.ip.now is ip (sym c.if-not-is_empty.ensures) (sym c.if-is_empty.ensures)
+    ∙ frame_headed settings d ws a.packet.now a.link.now c.args.passage.now.rows.items c.raised-head.result is
+    (c.raised-head.ensures ∙ head_is settings c.args.self.now.hops a.packet.now a.link.now d opened.hops a.side is) (sym c.if-not-is_empty.ensures) (sym c.if-is_empty.ensures)

@@ -1,4 +1,4 @@
-use Rattle.std.proofs.Common.{List, [], ◌∷◌, length, sym, ap, subst, ◌∙◌, arith}
+use Rattle.std.proofs.Common.{[], ◌∷◌, length, refl, sym, ap, subst, ◌∙◌, arith}
 use Rattle.linked_table.specs.Table as table
 use Rattle.retain_store.specs.Maps.{Store}
 use Rattle.tcp_norm.specs.declared.flow.Flow.{Flow}
@@ -9,34 +9,32 @@ use Rattle.tcp_norm.specs.Near.{AreNear}
 use Rattle.tcp_norm.proofs.Ending.{end_holds}
 use Rattle.tcp_norm.proofs.Nears.{near_left}
 use Rattle.tcp_norm.proofs.Quotas.{stays_bounded}
-use Rattle.tcp_norm.proofs.Forwarding.{others_same}
+use Rattle.tcp_norm.proofs.Slots.{others_same, opened_kept}
 use Rattle.tcp_norm.proofs.Sparing.{left_listed}
+use Rattle.tcp_norm.proofs.Tables.{numbered}
 use Rattle.tcp_norm.proofs.state.TcpNorm.end.Goals as goal
 
 pub returns-clause-holds : goal.returns-clause-holds
-returns-clause-holds c lives segments begun number h numbered =
-    subst (λ (l : List (table.Entry EraKey Flow)). HoldsFor (without (number ∷ []) lives) segments begun l c.forget_all.new.self)
-    (sym (ap (λ (t : table.Table EraKey Flow). t.entries) c.remove-pair.ensures.left))
-    (end_holds lives segments begun number c.args.self.now.table.entries c.args.self.now.store c.forget_all.new.self c.args.slot h c.requires
-    c.entries_are_apart.ensures.slots_apart c.entries_are_apart.ensures.keys_apart numbered c.forget_all.ensures.empty c.forget_all.ensures.changed)
+returns-clause-holds c lives segments flow h valued =
+    subst (λ (t : table.Table EraKey Flow). HoldsFor (without (flow.number ∷ []) lives) segments c.args.self.now.begun t.entries c.forget_all.new.self) (sym c.remove-pair.ensures.left)
+    (end_holds lives segments c.args.self.now.begun flow.number c.args.self.now.table.entries c.args.self.now.store c.forget_all.new.self c.args.slot h c.requires
+    c.entries_are_apart.ensures.slots_apart c.entries_are_apart.ensures.keys_apart (numbered c.args.self.now.table.entries c.args.slot flow valued) c.forget_all.ensures.empty c.forget_all.ensures.changed)
 
-pub returns-clause-opened : goal.returns-clause-opened
-returns-clause-opened c settings is =
+pub returns-clause-tables : goal.returns-clause-tables
+returns-clause-tables c =
     record {
-      flows = ap (λ (t : table.Table EraKey Flow). t.max) c.remove-pair.ensures.left ∙ is.flows;
-      chains = c.forget_all.ensures.changed.number ∙ is.chains;
-      cells = is.cells;
-      store = ap (λ (s : Store). s.cells) c.forget_all.ensures.changed.others ∙ is.store;
-      hops = is.hops;
-      idle = is.idle;
-      offload = is.offload;
-      quota = is.quota;
+      opened = λ settings is. opened_kept settings c.args.self.now _ is (ap (λ (t : table.Table EraKey Flow). t.max) c.remove-pair.ensures.left) c.forget_all.ensures.changed.number
+          (ap (λ (s : Store). s.cells) c.forget_all.ensures.changed.others) refl refl refl refl refl;
+      idle = refl;
+      begun_is = refl;
+      calls_are = refl;
+      latest_is = refl;
+      scratch_is = refl;
     }
 
 pub invariant_of-self-clause-near : goal.invariant_of-self-clause-near
 invariant_of-self-clause-near c =
-    subst (λ (l : List (table.Entry EraKey Flow)). AreNear c.args.self.now.calls l) (sym (ap (λ (t : table.Table EraKey Flow). t.entries) c.remove-pair.ensures.left))
-    (near_left c.args.self.now.calls _ c.args.self.now.table.entries c.args.self.now.near)
+    subst (λ (t : table.Table EraKey Flow). AreNear c.args.self.now.calls t.entries) (sym c.remove-pair.ensures.left) (near_left c.args.self.now.calls _ c.args.self.now.table.entries c.args.self.now.near)
 
 pub invariant_of-self-clause-bounded : goal.invariant_of-self-clause-bounded
 invariant_of-self-clause-bounded c =

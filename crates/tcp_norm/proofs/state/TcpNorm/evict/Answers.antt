@@ -1,39 +1,59 @@
-use Rattle.std.proofs.Common.{◌≡◌, ◌∙◌, List, length, Some, sym, subst, arith, ap}
+use Rattle.std.proofs.Common.{◌≡◌, ◌∙◌, ℕ, ◌∷◌, ◌++◌, length, Some, None, sym, subst, arith, ap}
+use Rattle.std.specs.List.{AllByRecursion}
+use Rattle.std.proofs.lemmas.List.Elements.{recursion_from_All}
 use Rattle.linked_table.specs.Table as table
 use Rattle.tcp_norm.specs.declared.flow.Flow.{Flow}
 use Rattle.tcp_norm.specs.declared.key.EraKey.{EraKey}
 use Rattle.rule_book.specs.declared.entry.Reason.TheVariants as reasons
-use Rattle.tcp_norm.specs.Steps.{first_empty}
-use Rattle.linked_table.proofs.Parts.{split_at, wherever}
-use Rattle.tcp_norm.proofs.Firsts.{ended_at}
-use Rattle.tcp_norm.proofs.Outwards.{era_at}
-use Rattle.tcp_norm.proofs.Tables.{numbered, none_left, shorter}
+use Rattle.tcp_norm.specs.Standing.{Holds}
+use Rattle.tcp_norm.specs.Steps.{Evicts}
+use Rattle.linked_table.proofs.Splits.{all_after}
+use Rattle.tcp_norm.proofs.Effects.{without_none}
+use Rattle.tcp_norm.proofs.Firsts.{ended_at, found, first_is, first_none}
+use Rattle.tcp_norm.proofs.Moves.{given_some}
+use Rattle.tcp_norm.proofs.Slots.{at_slot}
+use Rattle.tcp_norm.proofs.Tables.{none_left, shorter}
 use Rattle.tcp_norm.proofs.state.TcpNorm.evict.Goals as goal
 
-pub returns-clause-answer : goal.returns-clause-answer
-returns-clause-answer c lives segments begun h =
-    let entries = c.args.self.now.table.entries in
-    let inside = c.in_ok-slot.ensures.inside in
-    let slots = c.entries_are_apart.ensures.slots_apart in
-    let keys = c.entries_are_apart.ensures.keys_apart in
-    let a = split_at entries _ inside slots keys in
-    let is = wherever (λ (e : table.Entry EraKey Flow). e.value ≡ c.flow_at-flow.result) entries _ a c.flow_at-flow.ensures.value in
-    let first = wherever (λ (e : table.Entry EraKey Flow). first_empty lives segments ≡ Some (ended_at segments e.value.number)) entries _ a (c.in_ok-slot.ensures.first lives segments begun h) in
-    let stood = era_at lives segments begun entries _ _ c.flow_at-flow.result h inside slots keys c.flow_at-flow.ensures.value in
-    let told = c.octets-octets.ensures.list (segments c.flow_at-flow.result.number) stood in
-    sym (first ∙ (ap (λ (f : Flow). Some (ended_at segments f.number)) is
-    ∙ ap (λ n. Some (record { era = c.flow_at-flow.result.number; reason = reasons.Evicted; octets = Some n })) (sym told)))
+never : {P : Type 0} {number : ℕ} → None ≡ Some number → P
+never e = cc
 
-pub returns-clause-some : goal.returns-clause-some
-returns-clause-some c lives segments begun h =
-    c.end.ensures.holds lives segments begun c.flow_at-flow.result.number h (numbered c.args.self.now.table.entries _ c.flow_at-flow.result c.flow_at-flow.ensures.value)
+pub returns-in_err-slot-clause-evicts : goal.returns-in_err-slot-clause-evicts
+returns-in_err-slot-clause-evicts c lives segments h =
+    let self = c.args.self.now in
+    let none = found self.store self.table.entries _ self.spare_listed None c.in_err-slot.ensures.first in
+    subst (Evicts self self lives segments) (sym c.from_residual.ensures)
+    (record { answer = sym (first_none lives segments _ self.table.entries self.store h none); given = λ number is. never is; left = subst (λ l. Holds self l segments) (sym (without_none lives)) h })
+
+pub flow_at-flow-requires : goal.flow_at-flow-requires
+flow_at-flow-requires c = (found c.args.self.now.store c.args.self.now.table.entries _ c.args.self.now.spare_listed (Some c.in_ok-slot.slot) c.in_ok-slot.ensures.first).inside
+
+pub end-requires : goal.end-requires
+end-requires c = (found c.args.self.now.store c.args.self.now.table.entries _ c.args.self.now.spare_listed (Some c.in_ok-slot.slot) c.in_ok-slot.ensures.first).inside
+
+pub returns-clause-evicts : goal.returns-clause-evicts
+returns-clause-evicts c lives segments h =
+    let self = c.args.self.now in
+    let flow = c.flow_at-flow.result in
+    let valued = c.flow_at-flow.ensures.value in
+    let first = found self.store self.table.entries _ self.spare_listed (Some c.in_ok-slot.slot) c.in_ok-slot.ensures.first in
+    let P : table.Entry EraKey Flow → Type 0 = λ e. e.slot ≡ c.in_ok-slot.slot → e.value ≡ flow in
+    let is : first.entry.value ≡ flow =
+    (all_after P first.before (first.entry ∷ first.after) (subst (AllByRecursion P) first.splits (recursion_from_All P self.table.entries valued))).0 first.named in
+    let at = at_slot lives segments _ self.table.entries self.store c.in_ok-slot.slot flow h first.inside c.entries_are_apart.ensures.slots_apart c.entries_are_apart.ensures.keys_apart valued in
+    let told = c.octets-octets.ensures.list (segments flow.number) at.era in
+    record {
+      answer = sym (first_is lives segments _ self.table.entries self.store first.before first.entry first.after h first.splits first.earlier first.passes
+          ∙ (ap (λ (f : Flow). Some (ended_at segments f.number)) is ∙ ap (λ n. Some (record { era = flow.number; reason = reasons.Evicted; octets = Some n })) (sym told)));
+      given = λ number same. given_some flow.number number at.given same;
+      left = c.end.ensures.holds lives segments flow h valued;
+    }
 
 pub returns-clause-absent : goal.returns-clause-absent
-returns-clause-absent c key none =
-    subst (λ (l : List (table.Entry EraKey Flow)). table.HasNone l key) (sym c.end.ensures.left) (none_left c.args.self.now.table.entries _ key none)
+returns-clause-absent c key none = rw c.end.ensures.left (none_left c.args.self.now.table.entries _ key none)
 
 pub returns-clause-room : goal.returns-clause-room
 returns-clause-room c =
-    let less = shorter c.args.self.now.table.entries _ c.in_ok-slot.ensures.inside c.entries_are_apart.ensures.slots_apart c.entries_are_apart.ensures.keys_apart in
-    let left = ap length c.end.ensures.left in
-    omega (arith, less, left, c.entries_are_apart.ensures.bounded, c.end.ensures.max)
+    let first = found c.args.self.now.store c.args.self.now.table.entries _ c.args.self.now.spare_listed (Some c.in_ok-slot.slot) c.in_ok-slot.ensures.first in
+    let less = shorter c.args.self.now.table.entries _ first.inside c.entries_are_apart.ensures.slots_apart c.entries_are_apart.ensures.keys_apart in
+    omega (arith, less, ap length c.end.ensures.left, c.entries_are_apart.ensures.bounded, c.end.ensures.max)

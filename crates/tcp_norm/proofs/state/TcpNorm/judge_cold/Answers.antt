@@ -8,6 +8,7 @@ use Rattle.tcp_norm.specs.Emits.{packet_by, probe_packet}
 use Rattle.tcp_norm.specs.Inwards.{bare_read, passed}
 use Rattle.tcp_norm.specs.Outcomes.{outcome_at}
 use Rattle.tcp_norm.specs.Steps.{IsStep, Does, began}
+use Rattle.tcp_norm.specs.declared.step.Step.{Step}
 use Rattle.tcp_norm.proofs.Outwards.{view_cold}
 use Rattle.tcp_norm.proofs.Colding.{cold_same, asked_same, call_same, probe_same, cold_refused, cold_full, cold_passes, no_call_no_begin, full_is, full_not, step_called, none_came}
 use Rattle.tcp_norm.proofs.Bares.{comes_bare, bare_anew}
@@ -63,7 +64,7 @@ returns-in-Probe-clause-judges c settings calls d st is =
     let mends = beside_are settings v d a.packet.now.payload.now a.head.now c.options_change-changed.result true named a.read.fields is.octets side (cold_stream v w none) (cold_probes v w none asked)
     c.options_change-changed.ensures.changed c.rows_beside-rows.ensures.rows in
     let sends = packets_asked settings v d named none asked ∙ ap (λ p. probe_packet settings d p ∷ []) (sym probe) in
-    let is_it = in_outcome settings v d _ d.fixes named _ side refl passes mends (step_asked v w none (asks w asked)) sends in
+    let is_it = in_outcome settings v d _ d.fixes named _ side refl passes mends (step_asked v w none (asks w asked)) refl sends in
     record {
       stands = c.arrive-in-Probe.ensures.unheard settings calls d (outcome_at settings v d) st (subst IsUnheard (sym is_it) (record { era = λ written. refl; begun = refl; ended = refl }));
       rules = record { outcome_is = is_it; carried = tt {0} };
@@ -90,11 +91,11 @@ returns-in-Some-clause-judges c settings calls d st is =
     let named = c.rows_beside-rows-in-Some.result.items in
     let mends = beside_are settings v d a.packet.now.payload.now a.head.now c.options_change-changed.result false named a.read.fields is.octets side stream probes
     c.options_change-changed.ensures.changed c.rows_beside-rows-in-Some.ensures.rows in
-    let step = subst (IsStep v w) (sym c.begun-step.ensures) (step_called v w p comes.side none call found) in
-    let is_it = in_outcome settings v d c.begun-step.result d.fixes named _ side refl passes mends step (packets_begun settings v d named none asked) in
+    let step = subst (IsStep v w) (sym c.begun.ensures) (step_called v w p comes.side none call found) in
+    let is_it = in_outcome settings v d c.begun.result d.fixes named _ side refl passes mends step (ap (λ (s : Step). s.full) c.begun.ensures) (packets_begun settings v d named none asked) in
     let writes = bare_writes c.segments_are_read_back.ensures settings v d a.packet.now a.link.now a.head.now false named seg side is
     c.are_bits.ensures a.read _ refl c.options_change-changed.ensures.words c.options_change-changed.ensures.size marked stream probes mends c.bare_seg-seg.ensures.read in
-    let does = subst (Does d (came seg) (began p)) (sym is_it) (subst (λ s. Does d (came seg) (began p) (passed s d.fixes named (packet_by settings v.segments d d.fixes named ∷ []))) (sym c.begun-step.ensures) (in_does d (came seg) (began p) d.fixes named _ writes)) in
+    let does = subst (Does d (came seg) (began p)) (sym is_it) (subst (λ s. Does d (came seg) (began p) (passed s d.fixes named (packet_by settings v.segments d d.fixes named ∷ []))) (sym c.begun.ensures) (in_does d (came seg) (began p) d.fixes named _ writes)) in
     record {
       stands = c.in-Some.ensures.some settings calls d (came seg) (outcome_at settings v d) st key_is c.in-Begin.ensures.fields (none_came seg) does;
       rules = record { outcome_is = is_it; carried = bare_carried v.segments d a.packet.now a.link.now a.head.now is a.read (bare_anew v.segments d marked) };

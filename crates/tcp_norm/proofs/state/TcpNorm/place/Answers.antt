@@ -1,39 +1,64 @@
-use Rattle.std.proofs.Common.{◌≡◌, ℕ, ◌+◌, ◌∙◌, List, [], ◌∷◌, ◌++◌, sym, ap, subst}
-use Rattle.wire_base.specs.Segments.{Written}
+use Rattle.std.proofs.Common.{◌≡◌, ◌+◌, ◌∙◌, true, false, List, [], ◌∷◌, ◌++◌, length, Option, Some, None, is_some, cond, sym, ap, subst, arith}
+use Rattle.std.specs.Prelude.{nat_le}
+use Rattle.std.proofs.lemmas.Bool.Decides.{nat_tests}
+use Rattle.std.proofs.lemmas.List.{length-map}
 use Rattle.tcp_norm.specs.Calls.{Alive, without}
-use Rattle.tcp_norm.specs.Standing.{HoldsFor}
-use Rattle.era_state.specs.Eras as eras
-use Rattle.tcp_norm.specs.Held.{kept_at}
-use Rattle.tcp_norm.proofs.Firsts.{if_none}
+use Rattle.tcp_norm.specs.Standing.{Holds, Begins, ChangesTables, alive_in}
+use Rattle.tcp_norm.specs.declared.step.Place.{Place}
+use Rattle.tcp_norm.specs.Steps.{Places, first_empty, place_of}
 use Rattle.tcp_norm.proofs.Effects.{without_none}
-use Rattle.tcp_norm.proofs.Moves.{given_some}
+use Rattle.tcp_norm.proofs.Slots.{then_changes}
 use Rattle.tcp_norm.proofs.state.TcpNorm.place.Goals as goal
 
-pub returns-then-len-max-clause-some : goal.returns-then-len-max-clause-some
-returns-then-len-max-clause-some c lives segments later h stands none others =
-    subst (λ (l : List Alive). HoldsFor (l ++ record { number = c.args.self.now.begun + 1; key = c.args.key; touched = c.args.now } ∷ []) later c.begin-begun.new.self.begun c.begin-begun.new.self.table.entries c.begin-begun.new.self.store)
-    (sym (without_none lives)) (c.begin-begun.ensures.holds lives segments later h stands none others)
+pub returns-then-len-max-clause-places : goal.returns-then-len-max-clause-places
+returns-then-len-max-clause-places c lives segments h =
+    let self = c.args.self.now in
+    let long : length lives ≡ length self.table.entries = sym (ap length h.eras_are) ∙ length-map self.table.entries alive_in in
+    let full : nat_le self.table.max (length lives) ≡ false = grind (arith, nat_tests, long, c.if-len-max.true, c.len.ensures, c.max.ensures) in
+    record {
+      answer = sym (ap (λ b. place_of b (first_empty lives segments) (self.begun + 1)) full ∙ ap (λ n. Some (record { begun = n; evicted = None })) (sym c.begin-begun.ensures.number));
+      given = λ number is. cc;
+      some = λ later begins. subst (λ (l : List Alive). Holds c.begin-begun.new.self (l ++ record { number = self.begun + 1; key = c.args.key; touched = c.args.now } ∷ []) later) (sym (without_none lives))
+          (c.begin-begun.ensures.holds lives segments later h begins);
+      none = tt;
+    }
 
-pub returns-in_err-ended-clause-none : goal.returns-in_err-ended-clause-none
-returns-in_err-ended-clause-none c =
-    let stays : (lives : List Alive) (segments : ℕ → List Written) → HoldsFor lives segments c.args.self.now.begun c.args.self.now.table.entries c.args.self.now.store
-    → HoldsFor lives segments c.evict.new.self.begun c.evict.new.self.table.entries c.evict.new.self.store =
-    λ lives segments h. subst (λ b. HoldsFor lives segments b c.evict.new.self.table.entries c.evict.new.self.store) (sym c.evict.ensures.begun) (c.in_err-ended.ensures.none lives segments c.args.self.now.begun h) in
-    if_none _ _ stays
+pub returns-in_err-ended-clause-places : goal.returns-in_err-ended-clause-places
+returns-in_err-ended-clause-places c lives segments h =
+    let self = c.args.self.now in
+    let long : length lives ≡ length self.table.entries = sym (ap length h.eras_are) ∙ length-map self.table.entries alive_in in
+    let full : nat_le self.table.max (length lives) ≡ true = grind (arith, nat_tests, long, c.if-len-max.false, c.len.ensures, c.max.ensures) in
+    let e = c.in_err-ended.ensures.evicts lives segments h in
+    subst (Places self c.evict.new.self c.args.key c.args.era c.args.now lives segments) (sym c.from_residual.ensures)
+    (record {
+      answer = sym (ap (λ b. place_of b (first_empty lives segments) (self.begun + 1)) full ∙ ap (λ r. place_of true r (self.begun + 1)) (sym e.answer));
+      given = tt;
+      some = tt;
+      none = subst (λ l. Holds c.evict.new.self l segments) (without_none lives) e.left;
+    })
 
-pub returns-clause-given : goal.returns-clause-given
-returns-clause-given c number is lives segments h =
-    given_some c.in_ok-ended.ended.era number (c.in_ok-ended.ensures.given lives segments c.args.self.now.begun h) is
+pub returns-in_err-ended-clause-tables : goal.returns-in_err-ended-clause-tables
+returns-in_err-ended-clause-tables c =
+    subst (λ (r : Option Place). ChangesTables c.args.self.now c.evict.new.self (c.args.self.now.begun + cond (is_some r) 1 0)) (sym c.from_residual.ensures)
+    (subst (ChangesTables c.args.self.now c.evict.new.self) (omega arith) c.evict.ensures.tables)
 
-pub returns-clause-some : goal.returns-clause-some
-returns-clause-some c lives segments later h stands none others =
-    let was = c.evict.ensures.begun in
-    let left = subst (λ b. HoldsFor (without (c.in_ok-ended.ended.era ∷ []) lives) segments b c.evict.new.self.table.entries c.evict.new.self.store) (sym was)
-    (c.in_ok-ended.ensures.some lives segments c.args.self.now.begun h) in
-    let next : c.evict.new.self.begun + 1 ≡ c.args.self.now.begun + 1 = ap (λ b. b + 1) was in
-    subst (λ n. HoldsFor (without (c.in_ok-ended.ended.era ∷ []) lives ++ record { number = n; key = c.args.key; touched = c.args.now } ∷ []) later c.begin-begun-2.new.self.begun c.begin-begun-2.new.self.table.entries c.begin-begun-2.new.self.store) next
-    (c.begin-begun-2.ensures.holds (without (c.in_ok-ended.ended.era ∷ []) lives) segments later left
-    (subst (λ n. eras.StandsFor c.args.era (later n)) (sym next) stands) (λ offset. ap (λ n. kept_at (later n) offset) next ∙ none offset) (λ m ne. others m (λ same. ne (same ∙ sym next))))
+pub returns-clause-places : goal.returns-clause-places
+returns-clause-places c lives segments h =
+    let self = c.args.self.now in
+    let long : length lives ≡ length self.table.entries = sym (ap length h.eras_are) ∙ length-map self.table.entries alive_in in
+    let full : nat_le self.table.max (length lives) ≡ true = grind (arith, nat_tests, long, c.if-len-max.false, c.len.ensures, c.max.ensures) in
+    let e = c.in_ok-ended.ensures.evicts lives segments h in
+    let left = without (c.in_ok-ended.ended.era ∷ []) lives in
+    let next : c.evict.new.self.begun + 1 ≡ self.begun + 1 = ap (λ b. b + 1) c.evict.ensures.tables.begun_is in
+    record {
+      answer = sym (ap (λ b. place_of b (first_empty lives segments) (self.begun + 1)) full ∙ (ap (λ r. place_of true r (self.begun + 1)) (sym e.answer)
+          ∙ ap (λ n. Some (record { begun = n; evicted = Some c.in_ok-ended.ended })) (sym (c.begin-begun-2.ensures.number ∙ next))));
+      given = λ number is. e.given number is;
+      some = λ later begins. subst (λ n. Holds c.begin-begun-2.new.self (left ++ record { number = n; key = c.args.key; touched = c.args.now } ∷ []) later) next
+          (c.begin-begun-2.ensures.holds left segments later e.left (subst (λ n. Begins c.args.era n segments later) (sym next) begins));
+      none = tt;
+    }
 
-pub returns-clause-opened : goal.returns-clause-opened
-returns-clause-opened c settings is = c.begin-begun-2.ensures.opened settings (c.evict.ensures.opened settings is)
+pub returns-clause-tables : goal.returns-clause-tables
+returns-clause-tables c =
+    subst (ChangesTables c.args.self.now c.begin-begun-2.new.self) (ap (λ b. b + 1) c.evict.ensures.tables.begun_is) (then_changes _ _ _ _ _ c.evict.ensures.tables c.begin-begun-2.ensures.tables)
