@@ -14,6 +14,8 @@ use Rattle.norm_settings.specs.Settings.{PlainSettings}
 use Rattle.norm_settings.specs.Side.{side}
 use Rattle.ip_rules.specs.declared.judged.IpPacket.{IpPacket}
 use Rattle.ip_rules.specs.declared.judged.IpJudged.{IpJudged}
+use Rattle.ip_rules.specs.declared.judged.IpKind.{IpKind}
+use Rattle.ip_rules.specs.declared.judged.IpKind.TheVariants as kinds
 use Rattle.ip_rules.specs.declared.judged.IpJudged.TheVariants.{Arp, Drop, Piece, Whole}
 use Rattle.ip_rules.specs.declared.rows.Linked.{Linked}
 use Rattle.ip_rules.specs.declared.rows.Linked.TheVariants as linked
@@ -31,6 +33,13 @@ pub record IsRead (settings : PlainSettings) (given : Option Side) (octets p : L
 pub record IsKept (settings : PlainSettings) (link : Link) (r : Packet) : Type 0 where
   pub undropped : ip_dropped_by settings link r ≡ None
   pub carries : carries_ip link r.octets ≡ true
+
+-- the result of judging a record, with the packet that was filled in
+abbrev pub judged_with : IpPacket → IpKind → IpJudged
+judged_with packet kinds.Arp = Arp
+judged_with packet (kinds.Drop side rule) = Drop side rule
+judged_with packet kinds.Piece = Piece packet
+judged_with packet kinds.Whole = Whole packet
 
 -- The result is that of the rules: ARP that no rule drops; the first drop rule that holds, with the side if that rule reports it; or the packet that the record
 -- carries, fragment or not, with the fix rules that hold.

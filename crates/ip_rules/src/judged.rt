@@ -2,7 +2,7 @@
 use arrayvec::ArrayVec;
 use ipv4_codec::Ipv4;
 use rule_book::Rule;
-use wire_base::Side;
+use wire_base::{Addr, Side};
 
 /// The fix rules that hold of a packet, in the order of their numbers.
 pub type Fixes = ArrayVec<Rule, 16>;
@@ -18,6 +18,54 @@ pub struct IpPacket<'a> {
     /// The octets from the header's end to the total length.
     pub payload: &'a [u8],
     pub fixes: Fixes,
+}
+
+impl<'a> IpPacket<'a> {
+    ghost use Rattle.std.specs.Prelude.{◌≡◌, []};
+
+    /// Returns a packet of this frame that is to be filled in.
+    pub fn unread(frame: &'a [u8]) -> IpPacket<'a>
+        ensures frame { result.frame.now ≡ frame.now }
+        ensures fixes { result.fixes.items ≡ [] }
+    {
+        IpPacket {
+            side: Side::Inward,
+            head: UNREAD,
+            frame,
+            payload: frame,
+            fixes: Fixes::new(),
+        }
+    }
+}
+
+// The header of a packet that is to be filled in.
+const UNREAD: Ipv4 = Ipv4 {
+    header: 0,
+    tos: 0,
+    total: 0,
+    ident: 0,
+    reserved: false,
+    df: false,
+    more: false,
+    offset: 0,
+    ttl: 0,
+    protocol: 0,
+    sum: 0,
+    src: Addr(0),
+    dst: Addr(0),
+};
+
+/// The result of judging a record whose packet is filled in beside it.
+#[derive(Clone, Copy, Debug)]
+pub enum IpKind {
+    /// ARP that no rule on the link drops.
+    Arp,
+    /// The rule that drops the record, and, from I_OPT_BAD on, the side.
+    Drop(Option<Side>, Rule),
+    /// A fragment. I_TTL is judged for its whole datagram only.
+    Piece,
+    /// A packet that is no fragment.
+    Whole,
 }
 
 /// The result of judging a record.

@@ -4,9 +4,9 @@
 //! Proved: `judge_ip` drops a record under exactly the first of these rules that holds, with its
 //! side if that is known by then (the record's own side if its capture gives one, otherwise that of
 //! its addresses); otherwise it returns ARP, a fragment, or a whole packet with exactly the fix
-//! rules that hold. `laws` say what is known of the datagram that a record carries, and that a
-//! rewritten header (`write`) is read with the datagram's protocol and addresses and, inwards, has
-//! a TTL that passes all routers.
+//! rules that hold. `judge_ip_into` does the same with a packet that its caller keeps. `laws` say
+//! what is known of the datagram that a record carries, and that a rewritten header (`write`) is
+//! read with the datagram's protocol and addresses and, inwards, has a TTL that passes all routers.
 #![tactic(auto)]
 
 pub mod judged;
@@ -14,8 +14,5 @@ pub mod laws;
 pub mod rows;
 pub mod write;
 
-pub use judged::{Fixes, IpJudged, IpPacket};
-pub use rows::judge_ip;
-
-#[cfg(test)]
-mod tests;
+pub use judged::{Fixes, IpJudged, IpKind, IpPacket};
+pub use rows::{judge_ip, judge_ip_into};

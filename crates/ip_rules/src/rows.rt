@@ -2,12 +2,12 @@
 ghost use Rattle.std.specs.Prelude.{◌≡◌, ◌+◌, ◌<◌, ◌≤◌, ◌++◌, ◌&&◌, ◌||◌, ◌==◌, nat_lt, nat_le, All, length, Option, Some, None};
 ghost use Rattle.wire_base.specs.Ipv4 as ip;
 ghost use Rattle.ipv4_codec.specs.Header.{fields_of};
-ghost use Rattle.norm_settings.specs.Settings.{plain_settings};
+ghost use Rattle.norm_settings.specs.Settings.{PlainSettings, plain_settings};
 ghost use Rattle.pcap_file.specs.Reads.{shown};
 ghost use Rattle.ip_rules.specs.Rows as table;
 ghost use Rattle.ip_rules.specs.Judged as spec;
 
-use crate::judged::{Fixes, IpJudged, IpPacket};
+use crate::judged::{Fixes, IpJudged, IpKind, IpPacket};
 use ipv4_codec::{IpFault, Ipv4, options, parse};
 use norm_settings::{Settings, side_of};
 use pcap_file::Record;
@@ -23,10 +23,30 @@ pub fn judge_ip<'a>(settings: &Settings, link: Link, input: &Record<'a>) -> IpJu
     requires prefixes { All (λ prefix. prefix.len ≤ 32) settings.now.prefixes.items }
     ensures { spec.IsJudged (plain_settings settings.now) link (shown input.now) result }
 {
+    let mut packet = IpPacket::unread(input.bytes);
+    match judge_ip_into(settings, link, input, &mut packet) {
+        IpKind::Arp => IpJudged::Arp,
+        IpKind::Drop(side, rule) => IpJudged::Drop(side, rule),
+        IpKind::Piece => IpJudged::Piece(packet),
+        IpKind::Whole => IpJudged::Whole(packet),
+    }
+}
+
+/// Judges a record by the first rule on the link, the header or the protocol that holds. Fills the
+/// packet if none drops the record and it carries IPv4.
+pub fn judge_ip_into<'a>(
+    settings: &Settings,
+    link: Link,
+    input: &Record<'a>,
+    packet: &mut IpPacket<'a>,
+) -> IpKind
+    requires prefixes { All (λ prefix. prefix.len ≤ 32) settings.now.prefixes.items }
+    ensures { spec.IsJudged (plain_settings settings.now) link (shown input.now) (spec.judged_with packet.new result) }
+{
     match judge_link(link, input) {
-        Linked::Row(rule) => IpJudged::Drop(None, rule),
-        Linked::Arp => IpJudged::Arp,
-        Linked::Packet(packet) => judge_packet(settings, input.side, input.bytes, packet),
+        Linked::Row(rule) => IpKind::Drop(None, rule),
+        Linked::Arp => IpKind::Arp,
+        Linked::Packet(octets) => judge_packet(settings, input.side, input.bytes, octets, packet),
     }
 }
 
@@ -67,60 +87,46 @@ fn judge_packet<'a>(
     settings: &Settings,
     given: Option<Side>,
     frame: &'a [u8],
-    packet: &'a [u8],
-) -> IpJudged<'a>
+    octets: &'a [u8],
+    packet: &mut IpPacket<'a>,
+) -> IpKind
     requires { All (λ prefix. prefix.len ≤ 32) settings.now.prefixes.items }
-    ensures { spec.IsJudgedIn (plain_settings settings.now) given frame.now packet.now result }
+    ensures { spec.IsJudgedIn (plain_settings settings.now) given frame.now octets.now (spec.judged_with packet.new result) }
 {
-    let head = match parse(packet) {
+    let head = match parse(octets) {
         Ok(head) => head,
-        Err(fault) => return IpJudged::Drop(None, rule_of(fault)),
+        Err(fault) => return IpKind::Drop(None, rule_of(fault)),
     };
     let side = match side_or_row(settings, given, head.src, head.dst) {
         Ok(side) => side,
-        Err(rule) => return IpJudged::Drop(None, rule),
+        Err(rule) => return IpKind::Drop(None, rule),
     };
-    if let Some(rule) = content_row(&head, packet) {
-        return IpJudged::Drop(Some(side), rule);
+    if let Some(rule) = content_row(&head, octets) {
+        return IpKind::Drop(Some(side), rule);
     }
-    read_packet(settings, side, head, frame, packet)
+    packet.side = side;
+    packet.head = head;
+    packet.frame = frame;
+    read_packet(settings.hops, octets, packet)
 }
 
-// Returns the packet of a frame, fragment or not, that no rule drops.
-fn read_packet<'a>(
-    settings: &Settings,
-    side: Side,
-    head: Ipv4,
-    frame: &'a [u8],
-    packet: &'a [u8],
-) -> IpJudged<'a>
-    requires fields { head ≡ fields_of packet.now }
-    requires order { head.header ≤ head.total }
-    requires inside { head.total ≤ length packet.now }
-    ensures { (given : Option Side) → spec.packet_row (plain_settings settings.now) given packet.now ≡ None → table.side_in (plain_settings settings.now) given packet.now ≡ Some side →
-        spec.IsJudgedIn (plain_settings settings.now) given frame.now packet.now result }
+// Fills the payload and the fix rules of a packet that no rule drops, with these octets, and
+// returns whether it is a fragment.
+fn read_packet<'a>(hops: u8, octets: &'a [u8], packet: &mut IpPacket<'a>) -> IpKind
+    requires fields { packet.old.head ≡ fields_of octets.now }
+    requires order { packet.old.head.header ≤ packet.old.head.total }
+    requires inside { packet.old.head.total ≤ length octets.now }
+    ensures { (settings : PlainSettings) (given : Option Side) → settings.hops ≡ hops → spec.packet_row settings given octets.now ≡ None → table.side_in settings given octets.now ≡ Some packet.old.side →
+        spec.IsJudgedIn settings given packet.old.frame.now octets.now (spec.judged_with packet.new result) }
 {
-    let piece = is_fragment(&head);
-    let payload = payload_of(&head, packet);
-    let mut fixes = header_fixes(&head, packet);
-    if piece {
-        return IpJudged::Piece(IpPacket {
-            side,
-            head,
-            frame,
-            payload,
-            fixes,
-        });
+    packet.payload = payload_of(&packet.head, octets);
+    fill_fixes(&packet.head, octets, &mut packet.fixes);
+    if is_fragment(&packet.head) {
+        return IpKind::Piece;
     }
-    let low = has_low_ttl(settings.hops, side, head.ttl);
-    note(&mut fixes, Rule::ITtl, low);
-    IpJudged::Whole(IpPacket {
-        side,
-        head,
-        frame,
-        payload,
-        fixes,
-    })
+    let low = has_low_ttl(hops, packet.side, packet.head.ttl);
+    note(&mut packet.fixes, Rule::ITtl, low);
+    IpKind::Whole
 }
 
 fn is_fragment(head: &Ipv4) -> bool
@@ -225,18 +231,17 @@ fn payload_of<'a>(head: &Ipv4, packet: &'a [u8]) -> &'a [u8]
     &whole[head.header..]
 }
 
-// Returns the fix rules that hold of a header, without I_TTL.
-fn header_fixes(head: &Ipv4, packet: &[u8]) -> Fixes
+// Makes these the fix rules that hold of a header, without I_TTL.
+fn fill_fixes(head: &Ipv4, packet: &[u8], fixes: &mut Fixes)
     requires { head.now ≡ fields_of packet.now }
-    ensures { result.items ≡ spec.header_fixes packet.now }
+    ensures { fixes.new.items ≡ spec.header_fixes packet.now }
 {
-    let mut fixes = Fixes::new();
+    fixes.clear();
     let trail = usize::from(head.total) < packet.len();
     let longer = head.header > 20;
-    note(&mut fixes, Rule::ITrail, trail);
-    note(&mut fixes, Rule::IOpt, longer);
-    note(&mut fixes, Rule::IRes, head.reserved);
-    fixes
+    note(fixes, Rule::ITrail, trail);
+    note(fixes, Rule::IOpt, longer);
+    note(fixes, Rule::IRes, head.reserved);
 }
 
 // Appends the rule if it holds.

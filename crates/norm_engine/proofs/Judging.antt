@@ -26,10 +26,10 @@ use Rattle.ip_rules.specs.Datagrams.{Datagram, DatagramsAreKnown, AreOctets, Has
 use Rattle.ip_rules.specs.Judged.{IsKept, IsRead, where_holds}
 use Rattle.ip_rules.proofs.Undropped.{none_found, none_named}
 use Rattle.dgram_rules.specs.Rows.{holds_dgram, dgram_dropped_by, u_short, u_sum_out}
-use Rattle.norm_engine.specs.declared.judge.Judged.{Judged}
-use Rattle.norm_engine.specs.declared.judge.Judged.TheVariants as judged
-use Rattle.norm_engine.specs.declared.judge.Judgment.{Judgment}
-use Rattle.norm_engine.specs.declared.judge.Judgment.TheVariants.{Drop, Hold}
+use Rattle.norm_engine.specs.Judged.{Judged}
+use Rattle.norm_engine.specs.Judged as judged
+use Rattle.norm_engine.specs.Judgment.{Judgment}
+use Rattle.norm_engine.specs.Judgment.{Drop, Hold}
 use Rattle.reassembly.specs.declared.piece.Whole.{Whole}
 use Rattle.reassembly.specs.declared.piece.Offered.TheVariants as offers
 use Rattle.tcp_norm.specs.Calls as flows
@@ -80,7 +80,7 @@ sized settings given p rows =
 pub kept_packet : (settings : PlainSettings) (link : Link) (r : Packet) → IsKept settings link r → IsSized (packet_in link r.octets)
 kept_packet settings link r kept = sized settings r.side (packet_in link r.octets) (packet_rows settings link r kept)
 
-payload_fits : (p : List ℕ) → IsSized p → ip.total_length p < 65536 → length (ip.payload p) ≤ 65515
+pub payload_fits : (p : List ℕ) → IsSized p → ip.total_length p < 65536 → length (ip.payload p) ≤ 65515
 payload_fits p s small =
     let size : length (ip.payload p) ≡ min (ip.total_length p) (length p) - ip.header_length p =
     length-drop (ip.header_length p) (take (ip.total_length p) p) ∙ ap (λ n. n - ip.header_length p) (length-take (ip.total_length p) p) in

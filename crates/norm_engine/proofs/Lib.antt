@@ -14,3 +14,4 @@ pub mod Stepped
 pub mod Certain
 pub mod Outgoing
 pub mod Naming
+pub mod Sending

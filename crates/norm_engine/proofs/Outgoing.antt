@@ -239,7 +239,7 @@ mended_short m value short =
     let all = length-append (take 6 m ++ u16_octets value) (drop 8 m) in
     omega (arith, front, all, length-take 6 m, length-drop 8 m, short)
 
-sent_short : (settings : PlainSettings) (d : Datagram) → length d.octets ≤ 65515 → length (octets_sent settings d) ≤ 65515
+pub sent_short : (settings : PlainSettings) (d : Datagram) → length d.octets ≤ 65515 → length (octets_sent settings d) ≤ 65515
 sent_short settings d short = by (holds_dgram settings false d rules.USumOut)
   where
     by : (mend : Bool) → length (cond mend (udp.mended (pseudo_of d) d.octets) d.octets) ≤ 65515
@@ -365,8 +365,11 @@ module _ (settings : PlainSettings) (link : Link) (past : Past) (r : records.Pac
       let arp = arp_of (carries_ip link r.octets) (carries_arp link r.octets) _ link_rows_none.1.1.0 none in
       ap (λ x. kind_of x r.octets) is ∙ kind_arp r.octets short (ap (λ x. carries_ip x r.octets) (sym is) ∙ none) (ap (λ x. carries_arp x r.octets) (sym is) ∙ arp)
 
+  pub carries_arp_then : kind_of link r.octets ≡ Arp
+  carries_arp_then = its_kind (carries_none (carries_ip link r.octets) refl) link refl
+
   arp_goes : GoesOut link r.octets
-  arp_goes = inl (its_kind (carries_none (carries_ip link r.octets) refl) link refl)
+  arp_goes = inl carries_arp_then
 
 -- ---- the frames of a record
 

@@ -21,8 +21,8 @@ use Rattle.dgram_rules.specs.declared.judged.DgramJudged.TheVariants as dgram
 use Rattle.dgram_rules.specs.Rows.{pseudo_of, is_offloaded, holds_dgram, dgram_dropped_by}
 use Rattle.dgram_rules.specs.Judged.{dgram_judged, icmp_judged, udp_judged}
 use Rattle.dgram_rules.specs.Laws.{Tells}
-use Rattle.norm_engine.specs.declared.judge.Judged.{Judged}
-use Rattle.norm_engine.specs.declared.judge.Judged.TheVariants as judged
+use Rattle.norm_engine.specs.Judged.{Judged}
+use Rattle.norm_engine.specs.Judged as judged
 use Rattle.norm_engine.specs.Rows.{is_tcp, t_short, t_hlen, t_sum, t_flags, t_opt_bad, holds_tcp, is_segment}
 use Rattle.norm_engine.specs.Engine.{rule_of, of_rows, segment_row, datagram_row, IsReadSegment, HeadIsRead, Follows}
 

@@ -1,7 +1,8 @@
 -- What the engine represents after a record.
-use Rattle.std.proofs.Common.{◌≡◌, ℕ, ◌+◌, ◌≤◌, Bool, List, [], ◌∷◌, ◌++◌, length, take, Some, None, refl, sym, ap, ap₂, subst, ◌∙◌, arith, if◌then◌else◌}
+use Rattle.std.proofs.Common.{◌≡◌, ℕ, ◌+◌, ◌≤◌, ◌==◌, Bool, true, List, [], ◌∷◌, ◌++◌, length, take, Some, None, refl, sym, ap, ap₂, subst, ◌∙◌, arith, if◌then◌else◌}
 use Rattle.std.proofs.Math.Logic.{∥∥₁_elim}
 use Rattle.std.specs.Coded.{le_prop}
+use Rattle.std.proofs.lemmas.Bool.{eqb-true}
 use Rattle.std.proofs.lemmas.List.{length-map}
 use Rattle.wire_base.specs.declared.address.Link.{Link}
 use Rattle.wire_base.specs.Segments.{Written}
@@ -21,8 +22,10 @@ use Rattle.tcp_norm.specs.Steps.{idled, idle_end}
 use Rattle.tcp_norm.specs.Standing as flows
 use Rattle.tcp_norm.specs.Outcomes.{call_of, expiry_of}
 use Rattle.tcp_norm.specs.Segments.{PacketsAreItsOwn}
-use Rattle.norm_engine.specs.declared.judge.Judgment.{Judgment}
-use Rattle.norm_engine.specs.declared.judge.Judgment.TheVariants.{Arp, Drop, Hold, Send, Segment}
+use Rattle.norm_engine.specs.declared.judge.Decision.{Decision}
+use Rattle.norm_engine.specs.declared.judge.Decision.TheVariants as decisions
+use Rattle.norm_engine.specs.Judgment.{Judgment, judgment_of}
+use Rattle.norm_engine.specs.Judgment.{Arp, Drop, Hold, Send, Segment}
 use Rattle.reassembly.specs.declared.assembly.Assembly.{Assembly}
 use Rattle.reassembly.specs.Assemblies as fragments
 use Rattle.reassembly.specs.Calls as reassembly
@@ -32,7 +35,7 @@ use Rattle.norm_engine.specs.Fragments.{fragment_in, piece_calls, with_offered}
 use Rattle.norm_engine.specs.Calls.{Past, past_of, flow_calls}
 use Rattle.norm_engine.specs.Frames.{octets_sent, mended_frame, frame_by}
 use Rattle.norm_engine.specs.Trace.{Read, read_after, is_held, item_of, named_rows, frames_by, emits}
-use Rattle.norm_engine.specs.Engine.{Engaged, StandsFor, IsTaken, IsSent, Judges, Fits, frames_for, frame_for, frame_with, payload_for}
+use Rattle.norm_engine.specs.Engine.{Engaged, StandsFor, IsTaken, IsSent, Judges, Fits, is_as_read, frames_for, frame_for, frame_with, payload_for}
 use Rattle.norm_engine.proofs.Stepping.{taken_rows, segment_calls, plain_calls, plain_frames}
 use Rattle.norm_engine.proofs.Lawfuls.{both_of, segment_known, long_enough}
 
@@ -56,16 +59,35 @@ few_idle settings now calls segments =
     of_two (a ∷ b ∷ more) = omega arith
 
 -- the bounds of the outbox and the header, by the judgment, which some reading of the record gives
-pub room_for : (settings : PlainSettings) (link : Link) (r : records.Packet) (judgment : Judgment) → ∥ ((read : Read) × Judges settings link read r judgment) ∥₁ → Fits judgment r.octets
-room_for settings link r Arp judged = ∥∥₁_elim judged le_prop (λ j. j.1.short)
-room_for settings link r (Drop side rule) judged = tt
-room_for settings link r (Hold side) judged = tt
-room_for settings link r (Send packet mend) judged = (
-  ∥∥₁_elim judged le_prop (λ j. j.1.fits),
-  λ mends. ∥∥₁_elim judged le_prop (λ j. j.1.whole mends),
-  λ none. ∥∥₁_elim judged le_prop (λ j. j.1.short none),
-)
-room_for settings link r (Segment packet head) judged = tt
+pub room_for : (settings : PlainSettings) (link : Link) (r : records.Packet) (packet : IpPacket) (head : Tcp) (decision : Decision)
+    → ∥ ((read : Read) × Judges settings link read r (judgment_of packet head decision)) ∥₁ → Fits packet decision
+room_for settings link r packet head decisions.Arp judged = tt
+room_for settings link r packet head (decisions.Drop side rule) judged = tt
+room_for settings link r packet head (decisions.Hold side) judged = tt
+room_for settings link r packet head (decisions.Send mend) judged = (∥∥₁_elim judged le_prop (λ j. j.1.fits), λ mends. ∥∥₁_elim judged le_prop (λ j. j.1.whole mends))
+room_for settings link r packet head decisions.Segment judged = tt
+
+-- a record that is written as it was read fits in the outbox
+
+none_named : (fixes : List Rule) → (length fixes == 0) ≡ true → fixes ≡ []
+none_named [] none = refl
+none_named (rule ∷ more) none = let size = eqb-true (length (rule ∷ more)) 0 none in absurd (omega (arith, size))
+
+pub short_read : (settings : PlainSettings) (link : Link) (read : Read) (r : records.Packet) (judgment : Judgment) → Judges settings link read r judgment
+    → is_as_read judgment ≡ true → length r.octets ≤ 65549
+short_read settings link read r Arp j as_read = j.short
+short_read settings link read r (Drop side rule) j as_read = absurd (cc)
+short_read settings link read r (Hold side) j as_read = absurd (cc)
+short_read settings link read r (Send packet mend) j as_read = subst (λ (xs : List ℕ). length xs ≤ 65549) j.frame (j.short (none_named packet.fixes.items as_read))
+short_read settings link read r (Segment packet head) j as_read = absurd (cc)
+
+-- a decision that is not a segment gives no judgment that is one
+pub no_segment_of : (packet : IpPacket) (head : Tcp) (decision : Decision) → (decision ≡ decisions.Segment → ⊥) → (other : IpPacket) (told : Tcp) → judgment_of packet head decision ≡ Segment other told → ⊥
+no_segment_of packet head decisions.Arp never other told is = absurd (cc)
+no_segment_of packet head (decisions.Drop side rule) never other told is = absurd (cc)
+no_segment_of packet head (decisions.Hold side) never other told is = absurd (cc)
+no_segment_of packet head (decisions.Send mend) never other told is = absurd (cc)
+no_segment_of packet head decisions.Segment never other told is = never refl
 
 -- a record that is judged not to be a segment is not one
 pub no_segment : (settings : PlainSettings) (link : Link) (read : Read) (r : records.Packet) (judgment : Judgment) → Judges settings link read r judgment
@@ -109,8 +131,7 @@ other_frames settings link read r (Hold side) j none =
     ∙ (λ i. frames_by (j.undropped i) (j.held i) (frame_by settings (link_octets link r.octets) r.octets read.datagram (named_rows settings link read r))))
 other_frames settings link read r (Send packet mend) j none =
     ap (λ frame. frame ∷ [])
-    (ap (λ (read : List ℕ). frame_with packet.fixes.items read (frame_for packet mend settings.hops link)) j.frame
-    ∙ frame_named settings (link_octets link r.octets) r.octets (frame_for packet mend settings.hops link) packet.fixes.items j.own (sent_frame settings link read r packet mend j))
+    (frame_named settings (link_octets link r.octets) r.octets (frame_for packet mend settings.hops link) packet.fixes.items j.own (sent_frame settings link read r packet mend j))
     ∙ sym (plain_frames settings link read r none ∙ (λ i. frames_by (j.undropped i) (j.held i) (frame_by settings (link_octets link r.octets) r.octets (j.datagram i) (j.named i))))
 other_frames settings link read r (Segment packet head) j none = let never = sym j.segment ∙ none in absurd (cc)
 

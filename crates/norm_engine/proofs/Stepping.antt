@@ -27,8 +27,8 @@ use Rattle.tcp_norm.specs.Steps.{idled}
 use Rattle.tcp_norm.specs.Rows as era
 use Rattle.tcp_norm.specs.Outcomes.{call_of}
 use Rattle.tcp_norm.specs.Passing.{Reports}
-use Rattle.norm_engine.specs.declared.judge.Judgment.{Judgment}
-use Rattle.norm_engine.specs.declared.judge.Judgment.TheVariants.{Arp, Drop, Hold, Send, Segment}
+use Rattle.norm_engine.specs.Judgment.{Judgment}
+use Rattle.norm_engine.specs.Judgment.{Arp, Drop, Hold, Send, Segment}
 use Rattle.norm_engine.specs.Items.{Item, now_with}
 use Rattle.norm_engine.specs.Rows.{side_of_record}
 use Rattle.norm_engine.specs.Calls.{past_of, outcome_in, with_asked, flow_calls, is_idle, packet_of}

@@ -1,5 +1,5 @@
 -- The state of the engine, and the meaning of its answers for a record.
-use Rattle.std.specs.Prelude.{◌≡◌, ℕ, ◌≤◌, ◌&&◌, nat_le, Bool, true, false, List, [], ◌∷◌, ◌++◌, length, Option, Some, None, find, if◌then◌else◌}
+use Rattle.std.specs.Prelude.{◌≡◌, ℕ, ◌≤◌, ◌==◌, ◌&&◌, nat_le, Bool, true, false, List, [], ◌∷◌, ◌++◌, length, Option, Some, None, find, if◌then◌else◌}
 use Rattle.std.specs.Option.{option_or}
 use Rattle.wire_base.specs.declared.address.Link.{Link}
 use Rattle.wire_base.specs.declared.address.Side.{Side}
@@ -34,10 +34,12 @@ use Rattle.tcp_norm.specs.Heads.{IsHead}
 use Rattle.tcp_norm.specs.Views.{view_of}
 use Rattle.tcp_norm.specs.Outcomes.{verdict_of}
 use Rattle.tcp_norm.specs.Rows as era
-use Rattle.norm_engine.specs.declared.judge.Judgment.{Judgment}
-use Rattle.norm_engine.specs.declared.judge.Judgment.TheVariants.{Arp, Drop, Hold, Send, Segment}
-use Rattle.norm_engine.specs.declared.judge.Judged.{Judged}
-use Rattle.norm_engine.specs.declared.judge.Judged.TheVariants as judged
+use Rattle.norm_engine.specs.declared.judge.Decision.{Decision}
+use Rattle.norm_engine.specs.declared.judge.Decision.TheVariants as decisions
+use Rattle.norm_engine.specs.Judgment.{Judgment}
+use Rattle.norm_engine.specs.Judgment.{Arp, Drop, Hold, Send, Segment}
+use Rattle.norm_engine.specs.Judged.{Judged}
+use Rattle.norm_engine.specs.Judged as judged
 use Rattle.reassembly.specs.declared.assembly.Assembly.{Assembly}
 use Rattle.reassembly.specs.declared.piece.Whole.{Whole}
 use Rattle.reassembly.specs.Pieces.{whole_of, datagram_octets}
@@ -270,14 +272,18 @@ entry_for number (Hold side) ended = entry_stopped number (Some side) verdicts.H
 entry_for number (Send packet mend) ended = entry_written number (Some packet.side) packet.fixes.items ended
 entry_for number (Segment packet head) ended = entry_written number (Some packet.side) [] ended
 
--- the bounds of the outbox and the header
-abbrev pub Fits : Judgment → (octets : List ℕ) → Type 0
-Fits Arp octets = length octets ≤ 65549
-Fits (Drop side rule) octets = Unit {0}
-Fits (Hold side) octets = Unit {0}
-Fits (Send packet mend) octets =
-    (length packet.payload.now ≤ 65515) × (mend ≡ true → 8 ≤ length packet.payload.now) × (packet.fixes.items ≡ [] → length packet.frame.now ≤ 65549)
-Fits (Segment packet head) octets = Unit {0}
+-- the bounds of the outbox and the header, for a packet with this decision
+abbrev pub Fits : IpPacket → Decision → Type 0
+Fits packet (decisions.Send mend) = (length packet.payload.now ≤ 65515) × (mend ≡ true → 8 ≤ length packet.payload.now)
+Fits packet _ = Unit {0}
+
+-- the record is written as it was read: it is ARP, or no rule rewrites its packet
+abbrev pub is_as_read : Judgment → Bool
+is_as_read Arp = true
+is_as_read (Drop side rule) = false
+is_as_read (Hold side) = false
+is_as_read (Send packet mend) = length packet.fixes.items == 0
+is_as_read (Segment packet head) = false
 
 -- the payload that is written with a packet
 abbrev pub payload_for : IpPacket → (mend : Bool) → List ℕ
@@ -299,5 +305,10 @@ abbrev pub frames_for : Judgment → (hops : ℕ) → Link → (octets : List �
 frames_for Arp hops link octets = octets ∷ []
 frames_for (Drop side rule) hops link octets = []
 frames_for (Hold side) hops link octets = []
-frames_for (Send packet mend) hops link octets = frame_with packet.fixes.items packet.frame.now (frame_for packet mend hops link) ∷ []
+frames_for (Send packet mend) hops link octets = frame_with packet.fixes.items octets (frame_for packet mend hops link) ∷ []
 frames_for (Segment packet head) hops link octets = []
+
+-- the frames that a step gives: the record as it was read, or those of the outbox
+abbrev pub frames_given : (as_read : Bool) → (octets : List ℕ) → (out : List (List ℕ)) → List (List ℕ)
+frames_given true octets out = octets ∷ []
+frames_given false octets out = out

@@ -7,6 +7,9 @@ pub mod Trace
 pub mod Clean
 pub mod Agreement
 pub mod Laws
+pub mod Judged
+pub mod Judgment
 pub mod Engine
 pub mod Certain
 pub mod Outgoing
+pub mod Sending

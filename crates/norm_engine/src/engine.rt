@@ -1,9 +1,10 @@
 //! The engine: each record of a capture is one step.
-use crate::entries::{blank, tell};
-use crate::judge::{Judgment, judge};
+use crate::entries::{blank_entry, renew, tell};
+use crate::judge::{Decision, Parsed, judge};
 use crate::segment::take;
 use crate::send::{MAX_PAYLOAD, send};
 use edge_io::{NoMemory, Outbox};
+use ip_rules::write::put_read;
 use norm_settings::Settings;
 use pcap_file::Record;
 use reassembly::Assembly;
@@ -45,7 +46,7 @@ impl Model for Engine {
 }
 
 impl Engine {
-    ghost use Rattle.std.specs.Prelude.{◌≡◌, ◌<◌, ◌≤◌, ◌-◌, ◌^◌, List, [], ◌∷◌, length, IfOk};
+    ghost use Rattle.std.specs.Prelude.{◌≡◌, ◌<◌, ◌≤◌, ◌-◌, ◌^◌, true, List, [], ◌∷◌, length, IfOk};
     ghost use Rattle.wire_base.specs.declared.address.Link.TheVariants.{Raw};
     ghost use Rattle.norm_settings.specs.Settings.{plain_settings, AreInRange};
     ghost use Rattle.pcap_file.specs.Reads.{shown};
@@ -57,7 +58,7 @@ impl Engine {
     ghost use Rattle.norm_engine.specs.Fragments.{piece_calls};
     ghost use Rattle.norm_engine.specs.Calls.{flow_calls};
     ghost use Rattle.norm_engine.specs.Trace.{item_of};
-    ghost use Rattle.norm_engine.specs.Engine.{StandsFor};
+    ghost use Rattle.norm_engine.specs.Engine.{StandsFor, frames_given};
 
     /// Creates an engine for records of a raw link, before the first of them.
     pub fn open(alloc: Global, settings: Settings) -> Result<Engine, NoMemory>
@@ -146,12 +147,35 @@ impl Engine {
         ensures stands { (history : List Item) → StandsFor self.old history →
             StandsFor self.new (item_of self.old.settings self.old.link history (shown input.now) ∷ history) }
     {
+        let mut entry = blank_entry();
+        if self.step_into(input, out, &mut entry) {
+            put_read(input.bytes, out);
+        }
+        entry
+    }
+
+    /// Fills the entry of this record after all before it, and replaces the frames in the outbox by
+    /// its frames; or returns true, with an empty outbox, if its one frame is the record as it was
+    /// read. Allocates no memory.
+    pub fn step_into(&mut self, input: &Record<'_>, out: &mut Outbox, entry: &mut Entry) -> bool
+        requires { self.old.records < 2 ^ 32 - 1 }
+        ensures settings { self.new.settings ≡ self.old.settings }
+        ensures link { self.new.link ≡ self.old.link }
+        ensures entry { (history : List Item) → StandsFor self.old history →
+            plain entry.new ≡ (item_of self.old.settings self.old.link history (shown input.now)).entry }
+        ensures frames { (history : List Item) → StandsFor self.old history →
+            frames_given result input.now.bytes.now out.new ≡ (item_of self.old.settings self.old.link history (shown input.now)).frames }
+        ensures empty { result ≡ true → out.new ≡ [] }
+        ensures short { result ≡ true → length input.now.bytes.now ≤ 65549 }
+        ensures stands { (history : List Item) → StandsFor self.old history →
+            StandsFor self.new (item_of self.old.settings self.old.link history (shown input.now) ∷ history) }
+    {
         packets_are_its_own();
         out.clear();
         self.latest = self.latest.max(input.seconds);
         self.records += 1;
-        let mut entry = blank(self.records);
-        self.norm.expire(self.latest, &mut entry);
+        renew(entry, self.records);
+        self.norm.expire(self.latest, entry);
         let _forgotten = self.pieces.expire(self.latest);
         // A copy of the record, whose octets live as long as the borrowed buffer.
         let record = Record {
@@ -162,6 +186,7 @@ impl Engine {
             side: input.side,
             bytes: input.bytes,
         };
+        let mut parsed = Parsed::unread(input.bytes);
         match judge(
             &self.settings,
             self.link,
@@ -170,32 +195,33 @@ impl Engine {
             &mut self.whole[..],
             self.latest,
             &record,
+            &mut parsed,
         ) {
-            Judgment::Segment(packet, head) => {
-                entry.side = Some(packet.side);
+            Decision::Segment => {
+                entry.side = Some(parsed.packet.side);
                 let link = link_octets(self.link, input.bytes);
                 take(
                     &mut self.norm,
                     self.latest,
-                    &packet,
+                    &parsed.packet,
                     link,
-                    &head,
+                    &parsed.head,
                     out,
-                    &mut entry,
+                    entry,
                 );
-                entry
+                false
             }
-            judgment => {
-                send(
-                    &judgment,
+            decision => {
+                let as_read = send(
+                    decision,
+                    &parsed.packet,
                     self.settings.hops,
                     self.link,
-                    input.bytes,
                     &mut self.scratch,
                     out,
                 );
-                tell(judgment, &mut entry);
-                entry
+                tell(decision, &mut parsed.packet, entry);
+                as_read
             }
         }
     }

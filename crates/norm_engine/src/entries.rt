@@ -1,20 +1,23 @@
 //! The entry of a record, as it was judged.
 ghost use Rattle.std.specs.Prelude.{◌≡◌, None, []};
 ghost use Rattle.rule_book.specs.Entries.{plain};
+ghost use Rattle.tcp_codec.specs.declared.header.Tcp.{Tcp};
+ghost use Rattle.norm_engine.specs.Judgment.{judgment_of};
 ghost use Rattle.norm_engine.specs.Engine as spec;
 
-use crate::judge::Judgment;
+use crate::judge::Decision;
 use arrayvec::ArrayVec;
-use ip_rules::Fixes;
+use ip_rules::IpPacket;
 use rule_book::{Entry, Rule, Verdict};
+use std::mem::swap;
 use wire_base::Side;
 
-/// Returns the entry of the record with this number, before it is judged.
-pub fn blank(number: u32) -> Entry
-    ensures { plain result ≡ spec.entry_written number None [] [] }
+/// Returns an entry that a step fills.
+pub fn blank_entry() -> Entry
+    ensures { plain result ≡ spec.entry_written 0 None [] [] }
 {
     Entry {
-        number,
+        number: 0,
         side: None,
         verdict: Verdict::Pass,
         packets: 1,
@@ -25,48 +28,64 @@ pub fn blank(number: u32) -> Entry
     }
 }
 
-/// Fills the entry of a record with this judgment, which is not a segment. Its number and the eras
-/// that ended stay.
-pub fn tell(judgment: Judgment<'_>, entry: &mut Entry)
+/// Makes this the entry of the record with this number, before it is judged.
+pub fn renew(entry: &mut Entry, number: u32)
+    ensures { plain entry.new ≡ spec.entry_written number None [] [] }
+{
+    entry.number = number;
+    entry.side = None;
+    entry.verdict = Verdict::Pass;
+    entry.packets = 1;
+    entry.rules.clear();
+    entry.era = None;
+    entry.begun = None;
+    entry.ended.clear();
+}
+
+/// Fills the entry of a record with this decision, which is not a segment, and moves the rules of
+/// its packet there. Its number and the eras that ended stay.
+pub fn tell(decision: Decision, packet: &mut IpPacket<'_>, entry: &mut Entry)
+    requires rules { entry.old.rules.items ≡ [] }
     requires era { entry.old.era ≡ None }
     requires begun { entry.old.begun ≡ None }
-    ensures { plain entry.new ≡ spec.entry_for entry.old.number judgment.entry entry.old.ended.items }
+    ensures { (head : Tcp) → plain entry.new ≡ spec.entry_for entry.old.number (judgment_of packet.old head decision) entry.old.ended.items }
 {
-    match judgment {
-        Judgment::Arp => written(None, Fixes::new(), entry),
-        Judgment::Drop(side, rule) => stopped(side, Verdict::Drop, rule, entry),
-        Judgment::Hold(side) => stopped(Some(side), Verdict::Hold, Rule::FHeld, entry),
-        Judgment::Send(packet, _) => written(Some(packet.side), packet.fixes, entry),
-        Judgment::Segment(packet, _) => written(Some(packet.side), Fixes::new(), entry),
+    match decision {
+        Decision::Arp => written(None, entry),
+        Decision::Drop(side, rule) => stopped(side, Verdict::Drop, rule, entry),
+        Decision::Hold(side) => stopped(Some(side), Verdict::Hold, Rule::FHeld, entry),
+        Decision::Send(_) => {
+            swap(&mut entry.rules, &mut packet.fixes);
+            written(Some(packet.side), entry);
+        }
+        Decision::Segment => written(Some(packet.side), entry),
     }
 }
 
-// Fills the entry of a record that is written, rewritten by these rules.
-fn written(side: Option<Side>, rules: Fixes, entry: &mut Entry)
+// Fills the entry of a record that is written, rewritten by its rules.
+fn written(side: Option<Side>, entry: &mut Entry)
     requires era { entry.old.era ≡ None }
     requires begun { entry.old.begun ≡ None }
-    ensures { plain entry.new ≡ spec.entry_written entry.old.number side rules.items entry.old.ended.items }
+    ensures { plain entry.new ≡ spec.entry_written entry.old.number side entry.old.rules.items entry.old.ended.items }
 {
-    entry.verdict = if rules.is_empty() {
+    entry.verdict = if entry.rules.is_empty() {
         Verdict::Pass
     } else {
         Verdict::Fix
     };
     entry.side = side;
     entry.packets = 1;
-    entry.rules = rules;
 }
 
 // Fills the entry of a record for which nothing is written, by this rule alone.
 fn stopped(side: Option<Side>, verdict: Verdict, rule: Rule, entry: &mut Entry)
+    requires rules { entry.old.rules.items ≡ [] }
     requires era { entry.old.era ≡ None }
     requires begun { entry.old.begun ≡ None }
     ensures { plain entry.new ≡ spec.entry_stopped entry.old.number side verdict rule entry.old.ended.items }
 {
-    let mut rules = ArrayVec::new();
-    rules.push(rule);
     entry.side = side;
     entry.verdict = verdict;
     entry.packets = 0;
-    entry.rules = rules;
+    entry.rules.push(rule);
 }

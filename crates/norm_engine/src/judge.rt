@@ -14,24 +14,57 @@ ghost use Rattle.reassembly.specs.Rows.{answer_at, call_of};
 ghost use Rattle.norm_engine.specs.Fragments.{fragment_with, fragment_in, offering_of, with_offered};
 ghost use Rattle.norm_engine.specs.Calls.{Past};
 ghost use Rattle.norm_engine.specs.Trace.{is_quoted_live};
+ghost use Rattle.norm_engine.specs.Judged.{judged_with};
+ghost use Rattle.norm_engine.specs.Judgment.{judgment_of, judgment_with};
 ghost use Rattle.norm_engine.specs.Engine as spec;
 
 use dgram_rules::laws::{datagrams_tell_the_rows, others_have_no_row};
 use dgram_rules::{DgramJudged, judge_icmp, judge_udp};
 use icmp_codec::quoted;
 use ip_rules::laws::datagrams_are_known;
-use ip_rules::{IpJudged, IpPacket, judge_ip};
+use ip_rules::{IpKind, IpPacket, judge_ip_into};
 use norm_settings::Settings;
 use pcap_file::Record;
 use reassembly::{Assembly, Offered, Piece, Whole};
 use rule_book::Rule;
 use tcp_codec::{SumRule, Tcp, TcpFault};
 use tcp_norm::TcpNorm;
-use wire_base::{FlowKey, Link, Side, protocol, pseudo_sum};
+use wire_base::{Flags, FlowKey, Link, Side, protocol, pseudo_sum};
 
-/// Judgment of a record.
-#[derive(Debug, Drop)]
-pub enum Judgment<'a> {
+/// The packet of a record and the header of its segment, filled in as the rules on them are tested.
+#[derive(Drop)]
+pub struct Parsed<'a> {
+    pub packet: IpPacket<'a>,
+    pub head: Tcp,
+}
+
+impl<'a> Parsed<'a> {
+    /// Returns what is to be filled in of a record with this frame.
+    pub fn unread(frame: &'a [u8]) -> Parsed<'a> {
+        Parsed {
+            packet: IpPacket::unread(frame),
+            head: UNREAD,
+        }
+    }
+}
+
+// The header of a segment that is to be filled in.
+const UNREAD: Tcp = Tcp {
+    sport: 0,
+    dport: 0,
+    seq: 0,
+    ack: 0,
+    header: 0,
+    reserved: 0,
+    flags: Flags(0),
+    window: 0,
+    sum_right: false,
+    urgent: 0,
+};
+
+/// Decision on a record.
+#[derive(Clone, Copy, Debug)]
+pub enum Decision {
     /// It is ARP, and is written as it was read.
     Arp,
     /// This rule drops it; its side, if it was known by then.
@@ -40,26 +73,27 @@ pub enum Judgment<'a> {
     Hold(Side),
     /// Its packet is written, rewritten by the rules that it names; the flag is true if its UDP
     /// checksum is corrected.
-    Send(IpPacket<'a>, bool),
-    /// It is a TCP segment with this header, which its connection decides.
-    Segment(IpPacket<'a>, Tcp),
+    Send(bool),
+    /// It is a TCP segment, which its connection decides.
+    Segment,
 }
 
-/// Judgment of a complete datagram.
-#[derive(Debug, Drop)]
-pub enum Judged {
+/// Answer of the rules on a complete datagram.
+#[derive(Clone, Copy, Debug)]
+pub enum Answer {
     /// No rule holds.
     Pass,
     /// It is written with its UDP checksum corrected.
     Mend,
     /// This rule drops it.
     Drop(Rule),
-    /// It is a TCP segment with this header.
-    Segment(Tcp),
+    /// It is a TCP segment.
+    Segment,
 }
 
 /// Judges a record by the rules before those of eras. A fragment is offered to those held. If it
-/// completes its datagram, the datagram is written to the front of the buffer and judged.
+/// completes its datagram, the datagram is written to the front of the buffer and judged. Fills what
+/// is read of the record.
 pub fn judge<'a>(
     settings: &Settings,
     link: Link,
@@ -68,13 +102,14 @@ pub fn judge<'a>(
     buffer: &'a mut [u8],
     now: u32,
     input: &Record<'a>,
-) -> Judgment<'a>
+    parsed: &mut Parsed<'a>,
+) -> Decision
     requires prefixes { All (λ prefix. prefix.len ≤ 32) settings.now.prefixes.items }
     requires buffer { 65515 ≤ length buffer.old }
     requires late { fragments.last_time pieces.old ≤ now }
-    ensures read { spec.SegmentIsRead result }
+    ensures read { spec.SegmentIsRead (judgment_with parsed.new result) }
     ensures rows { (past : Past) → flows.StandsFor (plain_settings settings.now) norm.now past.calls → fragments.StandsFor (plain_settings settings.now) pieces.old past.pieces →
-        spec.Judges (plain_settings settings.now) link (spec.read_with (plain_settings settings.now) link past (shown input.now)) (shown input.now) result }
+        spec.Judges (plain_settings settings.now) link (spec.read_with (plain_settings settings.now) link past (shown input.now)) (shown input.now) (judgment_with parsed.new result) }
     ensures pieces { (calls : List reassembly.Call) → fragments.StandsFor (plain_settings settings.now) pieces.old calls →
         fragments.StandsFor (plain_settings settings.now) pieces.new
         (with_offered (plain_settings settings.now) (fragment_in (plain_settings settings.now) link (shown input.now)) now calls) }
@@ -82,11 +117,11 @@ pub fn judge<'a>(
 {
     datagrams_are_known();
     have_octets(input.bytes);
-    match judge_ip(settings, link, input) {
-        IpJudged::Arp => Judgment::Arp,
-        IpJudged::Drop(side, rule) => Judgment::Drop(side, rule),
-        IpJudged::Piece(packet) => judge_piece(settings, norm, pieces, buffer, now, packet),
-        IpJudged::Whole(packet) => judge_whole(settings, norm, packet),
+    match judge_ip_into(settings, link, input, &mut parsed.packet) {
+        IpKind::Arp => Decision::Arp,
+        IpKind::Drop(side, rule) => Decision::Drop(side, rule),
+        IpKind::Piece => judge_piece(settings, norm, pieces, buffer, now, parsed),
+        IpKind::Whole => judge_whole(settings, norm, parsed),
     }
 }
 
@@ -98,48 +133,48 @@ fn judge_piece<'a>(
     pieces: &mut Assembly,
     buffer: &'a mut [u8],
     now: u32,
-    packet: IpPacket<'a>,
-) -> Judgment<'a>
+    parsed: &mut Parsed<'a>,
+) -> Decision
     requires prefixes { All (λ prefix. prefix.len ≤ 32) settings.now.prefixes.items }
     requires buffer { 65515 ≤ length buffer.old }
     requires late { fragments.last_time pieces.old ≤ now }
-    requires piece { IsPiece (fragment_with packet.head packet.payload.now) }
-    requires known { ((packet.head.protocol == 1) || (packet.head.protocol == 6) || (packet.head.protocol == 17)) ≡ true }
-    requires few { length packet.fixes.items ≤ 4 }
-    ensures read { spec.SegmentIsRead result }
+    requires piece { IsPiece (fragment_with parsed.old.packet.head parsed.old.packet.payload.now) }
+    requires known { ((parsed.old.packet.head.protocol == 1) || (parsed.old.packet.head.protocol == 6) || (parsed.old.packet.head.protocol == 17)) ≡ true }
+    requires few { length parsed.old.packet.fixes.items ≤ 4 }
+    ensures read { spec.SegmentIsRead (judgment_with parsed.new result) }
     ensures rows { (calls : List Call) (offers : List reassembly.Call) → flows.StandsFor (plain_settings settings.now) norm.now calls →
         fragments.StandsFor (plain_settings settings.now) pieces.old offers →
-        let o = offering_of (plain_settings settings.now) offers (fragment_with packet.entry.head packet.entry.payload.now) in
-        spec.IsPieceJudged (plain_settings settings.now) calls o packet.entry result (answer_at o.view o.piece) }
+        let o = offering_of (plain_settings settings.now) offers (fragment_with parsed.old.packet.head parsed.old.packet.payload.now) in
+        spec.IsPieceJudged (plain_settings settings.now) calls o parsed.old.packet (judgment_with parsed.new result) (answer_at o.view o.piece) }
     ensures pieces { (offers : List reassembly.Call) → fragments.StandsFor (plain_settings settings.now) pieces.old offers →
-        fragments.StandsFor (plain_settings settings.now) pieces.new (call_of (plain_settings settings.now) offers now (fragment_with packet.entry.head packet.entry.payload.now) ∷ offers) }
+        fragments.StandsFor (plain_settings settings.now) pieces.new (call_of (plain_settings settings.now) offers now (fragment_with parsed.old.packet.head parsed.old.packet.payload.now) ∷ offers) }
     ensures passed { fragments.last_time pieces.new ≤ now }
 {
-    match pieces.offer(now, &piece_of(&packet), buffer) {
-        Offered::Held => Judgment::Hold(packet.side),
-        Offered::Drop(rule) => Judgment::Drop(Some(packet.side), rule),
+    match pieces.offer(now, &piece_of(&parsed.packet), buffer) {
+        Offered::Held => Decision::Hold(parsed.packet.side),
+        Offered::Drop(rule) => Decision::Drop(Some(parsed.packet.side), rule),
         Offered::Done(whole) => {
             let octets = &buffer[..whole.len];
             have_octets(octets);
-            let made = whole_packet(packet, &whole, octets, settings.hops);
-            judge_whole(settings, norm, made)
+            make_whole(&whole, octets, settings.hops, &mut parsed.packet);
+            judge_whole(settings, norm, parsed)
         }
     }
 }
 
 // Judges a complete datagram by the rules on it.
 #[inline(always)]
-fn judge_whole<'a>(settings: &Settings, norm: &TcpNorm, packet: IpPacket<'a>) -> Judgment<'a>
+fn judge_whole(settings: &Settings, norm: &TcpNorm, parsed: &mut Parsed<'_>) -> Decision
     requires prefixes { All (λ prefix. prefix.len ≤ 32) settings.now.prefixes.items }
-    requires known { ((packet.head.protocol == 1) || (packet.head.protocol == 6) || (packet.head.protocol == 17)) ≡ true }
-    requires size { length packet.payload.now < 2 ^ 16 }
-    requires few { length packet.fixes.items < 16 }
-    ensures read { spec.SegmentIsRead result }
+    requires known { ((parsed.old.packet.head.protocol == 1) || (parsed.old.packet.head.protocol == 6) || (parsed.old.packet.head.protocol == 17)) ≡ true }
+    requires size { length parsed.old.packet.payload.now < 2 ^ 16 }
+    requires few { length parsed.old.packet.fixes.items < 16 }
+    ensures read { spec.SegmentIsRead (judgment_with parsed.new result) }
     ensures rows { (calls : List Call) (header : List ℕ) → flows.StandsFor (plain_settings settings.now) norm.now calls →
-        spec.IsWholeJudged (plain_settings settings.now) calls header packet.entry result }
+        spec.IsWholeJudged (plain_settings settings.now) calls header parsed.old.packet (judgment_with parsed.new result) }
 {
-    let judged = judge_datagram(settings, norm, &packet);
-    joined(packet, judged)
+    let answer = judge_datagram(settings, norm, &parsed.packet, &mut parsed.head);
+    joined(answer, &mut parsed.packet)
 }
 
 // Returns the fragment in a packet.
@@ -160,13 +195,11 @@ fn piece_of<'a>(packet: &IpPacket<'a>) -> Piece<'a>
     }
 }
 
-// Returns the packet of a complete datagram with these octets, whose last fragment arrived in this
-// packet.
-fn whole_packet<'a>(packet: IpPacket<'a>, whole: &Whole, octets: &'a [u8], hops: u8) -> IpPacket<'a>
-    requires { length packet.fixes.items ≤ 14 }
-    ensures { spec.IsMadeWhole hops packet.entry whole.now octets.now result }
+// Makes the packet of a fragment that of its complete datagram, with these octets.
+fn make_whole<'a>(whole: &Whole, octets: &'a [u8], hops: u8, packet: &mut IpPacket<'a>)
+    requires { length packet.old.fixes.items ≤ 14 }
+    ensures { spec.IsMadeWhole hops packet.old whole.now octets.now packet.new }
 {
-    let mut packet = packet;
     packet.head.tos = whole.tos;
     packet.head.df = whole.df;
     packet.head.more = false;
@@ -177,34 +210,37 @@ fn whole_packet<'a>(packet: IpPacket<'a>, whole: &Whole, octets: &'a [u8], hops:
         packet.fixes.push(Rule::ITtl);
     }
     packet.fixes.push(Rule::FDone);
-    packet
 }
 
-// Returns the judgment on a packet whose datagram has this judgment.
-fn joined(packet: IpPacket<'_>, judged: Judged) -> Judgment<'_>
-    requires { length packet.fixes.items < 16 }
-    ensures { result ≡ spec.joined packet.entry judged }
+// Returns the decision on a packet whose datagram has this answer.
+fn joined(answer: Answer, packet: &mut IpPacket<'_>) -> Decision
+    requires { length packet.old.fixes.items < 16 }
+    ensures { (head : Tcp) → judgment_of packet.new head result ≡ spec.joined packet.old (judged_with head answer) }
 {
-    match judged {
-        Judged::Pass => Judgment::Send(packet, false),
-        Judged::Drop(rule) => Judgment::Drop(Some(packet.side), rule),
-        Judged::Mend => {
-            let mut packet = packet;
+    match answer {
+        Answer::Pass => Decision::Send(false),
+        Answer::Drop(rule) => Decision::Drop(Some(packet.side), rule),
+        Answer::Mend => {
             packet.fixes.push(Rule::USumOut);
-            Judgment::Send(packet, true)
+            Decision::Send(true)
         }
-        Judged::Segment(head) => Judgment::Segment(packet, head),
+        Answer::Segment => Decision::Segment,
     }
 }
 
-// Returns the judgment on the datagram of a packet.
-fn judge_datagram(settings: &Settings, norm: &TcpNorm, packet: &IpPacket<'_>) -> Judged
+// Returns the answer to the datagram of a packet, and fills the header of its segment.
+fn judge_datagram(
+    settings: &Settings,
+    norm: &TcpNorm,
+    packet: &IpPacket<'_>,
+    head: &mut Tcp,
+) -> Answer
     requires prefixes { All (λ prefix. prefix.len ≤ 32) settings.now.prefixes.items }
     requires known { ((packet.now.head.protocol == 1) || (packet.now.head.protocol == 6) || (packet.now.head.protocol == 17)) ≡ true }
     requires size { length packet.now.payload.now < 2 ^ 16 }
-    ensures read { (header : List ℕ) → spec.HeadIsRead (datagram_with header packet.now) result }
+    ensures read { (header : List ℕ) → spec.HeadIsRead (datagram_with header packet.now) (judged_with head.new result) }
     ensures rows { (calls : List Call) (header : List ℕ) → flows.StandsFor (plain_settings settings.now) norm.now calls →
-        spec.Follows (plain_settings settings.now) (is_quoted_live calls (quoted_in packet.now.payload.now)) (datagram_with header packet.now) result }
+        spec.Follows (plain_settings settings.now) (is_quoted_live calls (quoted_in packet.now.payload.now)) (datagram_with header packet.now) (judged_with head.new result) }
 {
     datagrams_tell_the_rows();
     others_have_no_row();
@@ -214,18 +250,18 @@ fn judge_datagram(settings: &Settings, norm: &TcpNorm, packet: &IpPacket<'_>) ->
             let live = quotes_live(norm, packet.payload);
             of_rows(judge_icmp(settings, packet, live))
         }
-        _ => read_segment(settings, packet),
+        _ => read_segment(settings, packet, head),
     }
 }
 
-// Returns the judgment of the rules on UDP and ICMP.
-fn of_rows(judged: DgramJudged) -> Judged
-    ensures { result ≡ spec.of_rows judged }
+// Returns the answer of the rules on UDP and ICMP.
+fn of_rows(judged: DgramJudged) -> Answer
+    ensures { (head : Tcp) → judged_with head result ≡ spec.of_rows judged }
 {
     match judged {
-        DgramJudged::Pass => Judged::Pass,
-        DgramJudged::Mend => Judged::Mend,
-        DgramJudged::Drop(rule) => Judged::Drop(rule),
+        DgramJudged::Pass => Answer::Pass,
+        DgramJudged::Mend => Answer::Mend,
+        DgramJudged::Drop(rule) => Answer::Drop(rule),
     }
 }
 
@@ -245,17 +281,20 @@ fn quotes_live(norm: &TcpNorm, message: &[u8]) -> bool
     })
 }
 
-// Returns the header of a TCP segment, or the first rule on it that holds.
-fn read_segment(settings: &Settings, packet: &IpPacket<'_>) -> Judged
+// Fills the header of a TCP segment, or returns the first rule on it that holds.
+fn read_segment(settings: &Settings, packet: &IpPacket<'_>, head: &mut Tcp) -> Answer
     requires { length packet.now.payload.now < 2 ^ 16 }
-    ensures { (header : List ℕ) → spec.IsReadSegment (plain_settings settings.now) (datagram_with header packet.now) result }
+    ensures { (header : List ℕ) → spec.IsReadSegment (plain_settings settings.now) (datagram_with header packet.now) (judged_with head.new result) }
 {
     let size = packet.payload.len() as u16;
     let pseudo = pseudo_sum(packet.head.src, packet.head.dst, packet.head.protocol, size);
     let rule = sum_rule(settings, packet.side);
     match tcp_codec::parse(packet.payload, pseudo, rule) {
-        Ok(head) => Judged::Segment(head),
-        Err(fault) => Judged::Drop(rule_of(fault)),
+        Ok(read) => {
+            *head = read;
+            Answer::Segment
+        }
+        Err(fault) => Answer::Drop(rule_of(fault)),
     }
 }
 

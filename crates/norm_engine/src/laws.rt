@@ -2,6 +2,7 @@
 ghost use Rattle.norm_engine.specs.Certain.{ItemsAreCertain, LawfulIsEmitted};
 ghost use Rattle.norm_engine.specs.Laws.{ItemsAreCounted, LawfulAgrees, LawfulCallsAreMade, LawfulIsOne, LawfulIsWithin, LawfulKeepsClean, LawfulLeavesRoom, LawfulTellsStreams};
 ghost use Rattle.norm_engine.specs.Outgoing.{ItemsGoOut};
+ghost use Rattle.norm_engine.specs.Sending.{LawfulIsPlainInwards, LawfulIsShort};
 
 use era_agreement::laws::{emitted_agrees, emitted_tells_one_stream};
 use ip_rules::laws::{anew_is_packet, datagrams_are_known};
@@ -128,4 +129,22 @@ pub fn items_go_out()
     segments_are_read_back();
     options_are_cleaned();
     mended_say_the_same();
+}
+
+/// Proves that no frame of a lawful trace has more than 65,549 octets.
+pub fn lawful_is_short()
+    ensures { LawfulIsShort }
+{
+    datagrams_are_known();
+    packets_are_its_own();
+    items_go_out();
+}
+
+/// Proves that in every lawful trace each frame written inwards is plain, whether or not it belongs
+/// to an era, except ARP.
+pub fn lawful_is_plain_inwards()
+    ensures { LawfulIsPlainInwards }
+{
+    datagrams_are_known();
+    items_are_certain();
 }

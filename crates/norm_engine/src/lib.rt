@@ -21,6 +21,7 @@ mod segment;
 mod send;
 
 pub use engine::Engine;
+pub use entries::blank_entry;
 
 #[cfg(test)]
 mod tests;

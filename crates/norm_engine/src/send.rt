@@ -1,14 +1,16 @@
 //! The frames written for a record that is not a segment, by its judgment.
-ghost use Rattle.std.specs.Prelude.{◌≡◌, ◌+◌, ◌<◌, ◌≤◌, ◌^◌, true, List, [], ◌∷◌, ◌++◌, length};
+ghost use Rattle.std.specs.Prelude.{◌≡◌, ◌+◌, ◌<◌, ◌≤◌, ◌^◌, true, ℕ, List, [], ◌∷◌, ◌++◌, length};
 ghost use Rattle.ip_rules.specs.Datagrams.{datagram_with};
 ghost use Rattle.dgram_rules.specs.Rows.{pseudo_of};
 ghost use Rattle.udp_codec.specs.Checksum.{mended};
+ghost use Rattle.tcp_codec.specs.declared.header.Tcp.{Tcp};
+ghost use Rattle.norm_engine.specs.Judgment.{judgment_of};
 ghost use Rattle.norm_engine.specs.Engine as spec;
 
-use crate::judge::Judgment;
+use crate::judge::Decision;
 use edge_io::Outbox;
 use ip_rules::IpPacket;
-use ip_rules::write::{head_sent, put_anew, put_read};
+use ip_rules::write::{head_sent, put_anew};
 use udp_codec::mend;
 use wire_base::{Link, link_octets, pseudo_sum};
 
@@ -16,28 +18,33 @@ use wire_base::{Link, link_octets, pseudo_sum};
 /// header of 20 octets.
 pub const MAX_PAYLOAD: usize = 65_515;
 
-/// Puts the frame of a record with this judgment into the outbox, which is empty: none if a rule
-/// drops or holds it, the record as read if no rule rewrites it, otherwise its packet with a
-/// rewritten header.
+/// Puts the frame of a record with this decision into the outbox, which is empty, or returns true
+/// if the record is written as it was read: it is ARP, or no rule rewrites it.
 pub fn send(
-    judgment: &Judgment<'_>,
+    decision: Decision,
+    packet: &IpPacket<'_>,
     hops: u8,
     link: Link,
-    input: &[u8],
     scratch: &mut [u8],
     out: &mut Outbox,
-)
+) -> bool
     requires empty { out.old ≡ [] }
     requires room { 65515 ≤ length scratch.old }
     requires hops { hops ≤ 254 }
-    requires fits { spec.Fits judgment.now input.now }
-    ensures { out.new ≡ spec.frames_for judgment.now hops link input.now }
+    requires fits { spec.Fits packet.now decision }
+    ensures as_read { (head : Tcp) → result ≡ spec.is_as_read (judgment_of packet.now head decision) }
+    ensures empty { result ≡ true → out.new ≡ [] }
+    ensures frames { (head : Tcp) (octets : List ℕ) →
+        spec.frames_given result octets out.new ≡ spec.frames_for (judgment_of packet.now head decision) hops link octets }
 {
-    match judgment {
-        Judgment::Arp => put_read(input, out),
-        Judgment::Drop(_, _) | Judgment::Hold(_) | Judgment::Segment(_, _) => {}
-        Judgment::Send(packet, _) if packet.fixes.is_empty() => put_read(packet.frame, out),
-        Judgment::Send(packet, mend) => send_mended(packet, *mend, hops, link, scratch, out),
+    match decision {
+        Decision::Arp => true,
+        Decision::Drop(_, _) | Decision::Hold(_) | Decision::Segment => false,
+        Decision::Send(_) if packet.fixes.is_empty() => true,
+        Decision::Send(mend) => {
+            send_mended(packet, mend, hops, link, scratch, out);
+            false
+        }
     }
 }
 

@@ -7,3 +7,4 @@ pub mod Answering
 pub mod Going
 pub mod Standing
 pub mod Mirrors
+pub mod Sending

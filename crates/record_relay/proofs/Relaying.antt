@@ -1,5 +1,6 @@
 -- What is written for one record.
-use Rattle.std.proofs.Common.{◌≡◌, ℕ, ◌<◌, ◌≤◌, false, All, List, length, Option, Some, None, Result, Ok, Err, OnOk, refl, sym, subst}
+use Rattle.std.proofs.Common.{◌≡◌, ℕ, ◌<◌, ◌≤◌, Bool, true, false, All, List, [], arith, length, Option, Some, None, Result, Ok, Err, OnOk, refl, sym, subst}
+use Rattle.std.proofs.lemmas.List.Elements.{All-cons}
 use Rattle.std.specs.Result.{is_err}
 use Rattle.wire_base.specs.declared.address.Link.{Link}
 use Rattle.pcap_file.specs.Records.{Packet}
@@ -7,6 +8,7 @@ use Rattle.rule_book.specs.Entries.{IsOfVersion, PlainEntry}
 use Rattle.norm_settings.specs.Settings.{PlainSettings}
 use Rattle.norm_engine.specs.Items.{Item}
 use Rattle.norm_engine.specs.Trace.{item_of}
+use Rattle.norm_engine.specs.Engine.{frames_given}
 use Rattle.norm_engine.specs.Clean.{HasOctets, HaveOctets}
 use Rattle.norm_engine.specs.Laws.{IsCounted, ItemsAreCounted}
 use Rattle.norm_engine.specs.Outgoing.{ItemsGoOut}
@@ -35,6 +37,11 @@ packets_written (Some mtu) link item counted = refl
 pub each_has : (mtu : Option ℕ) (frames : List (List ℕ)) → All AreOctets frames → FramesHaveOctets mtu frames
 each_has None frames all = tt
 each_has (Some mtu) frames all = all
+
+-- so may those that a step gives
+pub each_given : (as_read : Bool) (octets : List ℕ) (out : List (List ℕ)) → AreOctets octets → All AreOctets out → All AreOctets (frames_given as_read octets out)
+each_given true octets out read all = All-cons AreOctets octets [] read (λ k d h. absurd (omega (arith, h)))
+each_given false octets out read all = all
 
 -- the frames of an item after a history are written on its link, which has this MTU
 module _ (goes : ItemsGoOut) (counts : ItemsAreCounted) (whole : PlainHeadersAreWhole) (few : AreFew) (settings : PlainSettings) (link : Link) (history : List Item) (r : Packet)

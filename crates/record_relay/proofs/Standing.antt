@@ -8,6 +8,7 @@ use Rattle.norm_engine.specs.Clean.{HasOctets}
 use Rattle.norm_engine.specs.Engine.{Engaged}
 use Rattle.norm_engine.specs.Engine as single
 use Rattle.norm_engine.specs.Laws.{IsSound, LawfulIsWithin, LawfulKeepsClean}
+use Rattle.norm_engine.specs.Sending.{LawfulIsPlainInwards, LawfulIsShort}
 use Rattle.both_sides.specs.Both.{Joined}
 use Rattle.both_sides.specs.Both as double
 use Rattle.both_sides.specs.Laws.{AreSound, BothAgree, FramesGoThrough}
@@ -109,6 +110,8 @@ pub record SoundLaws : Type 0 where
   pub within : LawfulIsWithin
   pub through : FramesGoThrough
   pub agree : BothAgree
+  pub plain : LawfulIsPlainInwards
+  pub short : LawfulIsShort
 
 pub soundly : SoundLaws → RunsAreWrittenSoundly
 soundly laws settings link (one trace) range together lawful octets sideless =
@@ -127,6 +130,9 @@ soundly laws settings link (two trace mirror) range together lawful octets sidel
       agree = agree.0;
       agree_behind = agree.1;
       through = laws.through settings link trace mirror pair;
+      plain = laws.plain settings link trace front;
+      plain_behind = laws.plain (mirrored settings) link mirror back;
+      short = laws.short (mirrored settings) link mirror back;
     }
 
 -- ---- engines by another name

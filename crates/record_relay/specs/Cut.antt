@@ -19,6 +19,7 @@ use Rattle.norm_engine.specs.Items.{Item}
 use Rattle.norm_engine.specs.Clean.{KeepsPayload, is_clean, payload_in}
 use Rattle.norm_engine.specs.Agreement.{sent_in}
 use Rattle.norm_engine.specs.Laws.{IsAlwaysWithin, IsSound}
+use Rattle.norm_engine.specs.Sending.{ArePlainInwards, HasShortFrames}
 use Rattle.emit_mtu.specs.Frames.{AreOctets}
 use Rattle.emit_mtu.specs.Laws as cuts
 use Rattle.emit_mtu.specs.Long.{e_cut, e_mtu, is_long}
@@ -111,12 +112,15 @@ NoneIsLong None link trace = Unit {0}
 NoneIsLong (Some mtu) link trace = AllByRecursion (λ item. All (λ frame. is_long link mtu frame ≡ false) item.frames) trace
 
 -- What is written of a trace. Each clean record has one frame with the record's payload, or the segments that carry it, unless a frame of the record is too
--- long and dropped; receivers agree on what is written; no frame of it is too long; and after no record more is held than the settings allow.
+-- long and dropped; receivers agree on what is written; no frame of it is too long, by the MTU or for a capture; each frame written inwards is plain, except
+-- ARP; and after no record more is held than the settings allow.
 pub record IsWrittenSoundly (settings : PlainSettings) (link : Link) (trace : List Item) : Type 0 where
   pub clean_kept : CleanIsWritten settings link trace
   pub within : IsAlwaysWithin settings link trace
   pub agree : AgreeAsWritten settings link trace
   pub none_long : NoneIsLong settings.mtu link (written settings link trace)
+  pub plain : ArePlainInwards settings.hops link (written settings link trace)
+  pub short : AllByRecursion HasShortFrames (written settings link trace)
 
 -- each octet of frames that may be cut is a number below 256
 abbrev pub FramesHaveOctets : (mtu : Option ℕ) → (frames : List (List ℕ)) → Type 0

@@ -1,5 +1,6 @@
 -- Laws of the traces of runs, and of the outputs for them.
 use Rattle.std.specs.Prelude.{◌≡◌, false, List, [], ◌∷◌, None}
+use Rattle.std.specs.List.{AllByRecursion}
 use Rattle.wire_base.specs.declared.address.Link.{Link}
 use Rattle.pcap_file.specs.declared.order.Order.{Order}
 use Rattle.pcap_file.specs.Records.{Packet}
@@ -10,6 +11,7 @@ use Rattle.norm_engine.specs.Items.{Item, entries}
 use Rattle.norm_engine.specs.Agreement.{Agree}
 use Rattle.norm_engine.specs.Clean.{CleanIsKept}
 use Rattle.norm_engine.specs.Laws.{IsAlwaysWithin}
+use Rattle.norm_engine.specs.Sending.{ArePlainInwards, HasShortFrames}
 use Rattle.both_sides.specs.Laws.{InwardGoesThrough}
 use Rattle.both_sides.specs.Traces.{mirrored, AreLawful}
 use Rattle.record_relay.specs.Cut.{IsWrittenSoundly, written}
@@ -65,7 +67,8 @@ LawfulRunsAreOne =
     → run ≡ other
 
 -- What two engines write: the clean records of each keep their payload, and after none more is held than the settings allow; receivers agree on either side;
--- and frames written inwards pass the second engine octet for octet, so that the first engine's agreement holds of what was written.
+-- frames written inwards pass the second engine octet for octet, so that the first engine's agreement holds of what was written; each frame written inwards by
+-- an engine is plain, except ARP; and no frame is too long for a capture.
 pub record AreWrittenSoundly (settings : PlainSettings) (link : Link) (trace mirror : List Item) : Type 0 where
   pub clean_kept : CleanIsKept settings link trace
   pub clean_kept_behind : CleanIsKept (mirrored settings) link mirror
@@ -74,6 +77,9 @@ pub record AreWrittenSoundly (settings : PlainSettings) (link : Link) (trace mir
   pub agree : Agree settings.hops link trace
   pub agree_behind : Agree settings.hops link mirror
   pub through : InwardGoesThrough trace mirror
+  pub plain : ArePlainInwards settings.hops link trace
+  pub plain_behind : ArePlainInwards settings.hops link mirror
+  pub short : AllByRecursion HasShortFrames mirror
 
 -- what is written of a run, by one engine or by two
 abbrev pub RunIsWrittenSoundly : PlainSettings → Link → RunTrace → Type 0

@@ -1,10 +1,11 @@
 //! What is written for the frames of a record: each is written as it is, cut if it is longer than
 //! the MTU of the next link, or dropped.
-ghost use Rattle.std.specs.Prelude.{◌≡◌, ◌≤◌, ◌<◌, ◌+◌, ◌^◌, ◌||◌, ℕ, All, Some, length, slice_index, IfOk, IfSome, OnOk, OnErr};
+ghost use Rattle.std.specs.Prelude.{◌≡◌, ◌≤◌, ◌<◌, ◌+◌, ◌^◌, ◌||◌, ℕ, true, [], ◌∷◌, All, Some, length, slice_index, IfOk, IfSome, OnOk, OnErr};
 ghost use Rattle.edge_io.specs.Faults.{HasCause};
 ghost use Rattle.edge_io.specs.Octets.{Puts};
 ghost use Rattle.pcap_file.specs.Reads.{shown};
 ghost use Rattle.rule_book.specs.Entries.{plain};
+ghost use Rattle.norm_engine.specs.Engine.{frames_given};
 ghost use Rattle.emit_mtu.specs.Frames.{AreOctets, IsSent};
 ghost use Rattle.emit_mtu.specs.Long.{long_kind};
 ghost use Rattle.emit_mtu.specs.Segments.{segments};
@@ -16,6 +17,7 @@ ghost use Rattle.record_relay.specs.Cut as spec;
 use edge_io::{Failed, Outbox, Sink};
 use emit_mtu::laws::segments_fit;
 use emit_mtu::{Cutter, LongKind, long_kind};
+use ip_rules::write::put_read;
 use pcap_file::{Head, Record, write_record};
 use rule_book::{Entry, Rule, Verdict};
 
@@ -31,10 +33,11 @@ pub struct Emitted {
 }
 
 /// Writes the frames of a record, each with the record's time, and reports cuts and drops in its
-/// entry. `mtu` is the greatest length of a packet in octets, if it is bounded; `segment` has room
-/// for one frame.
+/// entry: the record itself if it is written as it was read, otherwise those of the outbox. `mtu` is
+/// the greatest length of a packet in octets, if it is bounded; `segment` has room for one frame.
 pub fn write_item<K: Sink>(
-    out: &Outbox,
+    as_read: bool,
+    out: &mut Outbox,
     head: &Head,
     mtu: Option<u16>,
     input: &Record<'_>,
@@ -42,21 +45,24 @@ pub fn write_item<K: Sink>(
     capture: &mut K,
     entry: &mut Entry,
 ) -> Result<(), Failed>
-    requires sent { All (IsSent head.now.link) out.now }
+    requires sent { All (IsSent head.now.link) (frames_given as_read input.now.bytes.now out.old) }
     requires least { IfSome mtu (λ most. 576 ≤ most) }
-    requires few { length (spec.frames_written mtu head.now.link out.now) < 256 }
+    requires few { length (spec.frames_written mtu head.now.link (frames_given as_read input.now.bytes.now out.old)) < 256 }
     requires named { length entry.old.rules.items ≤ 14 }
+    requires empty { as_read ≡ true → out.old ≡ [] }
+    requires short { as_read ≡ true → length input.now.bytes.now ≤ 65549 }
     requires room { 65549 ≤ length segment.old }
     ensures octets { Puts (K.held capture.old) (K.held capture.new) result
-        (frame_octets head.now.order (shown input.now) (spec.frames_written mtu head.now.link out.now)) }
+        (frame_octets head.now.order (shown input.now) (spec.frames_written mtu head.now.link (frames_given as_read input.now.bytes.now out.old))) }
     ensures cause { HasCause (K.fault_count capture.old) (K.fault_count capture.new) result }
-    ensures some { OnErr result (0 < length (spec.frames_written mtu head.now.link out.now)) }
-    ensures entry { OnOk result (plain entry.new ≡ spec.entry_written mtu head.now.link out.now (plain entry.old)) }
+    ensures some { OnErr result (0 < length (spec.frames_written mtu head.now.link (frames_given as_read input.now.bytes.now out.old))) }
+    ensures entry { OnOk result (plain entry.new ≡ spec.entry_written mtu head.now.link (frames_given as_read input.now.bytes.now out.old) (plain entry.old)) }
     ensures room { length segment.new ≡ length segment.old }
 {
     match mtu {
-        None => write_frames(out, head, input, capture),
+        None => write_whole(as_read, out, head, input, capture),
         Some(mtu) => {
+            put_if(as_read, input.bytes, out);
             let Ok(emitted) = write_cut(out, head, mtu, input, segment, capture) else {
                 return Err(Failed);
             };
@@ -64,6 +70,50 @@ pub fn write_item<K: Sink>(
             Ok(())
         }
     }
+}
+
+// Puts a frame that is written as it was read into the outbox, which is empty in that case.
+fn put_if(as_read: bool, frame: &[u8], out: &mut Outbox)
+    requires empty { as_read ≡ true → out.old ≡ [] }
+    requires short { as_read ≡ true → length frame.now ≤ 65549 }
+    ensures { out.new ≡ frames_given as_read frame.now out.old }
+{
+    if as_read {
+        put_read(frame, out);
+    }
+}
+
+// Writes a record as it was read, or the frames of the outbox as they are.
+fn write_whole<K: Sink>(
+    as_read: bool,
+    out: &Outbox,
+    head: &Head,
+    input: &Record<'_>,
+    capture: &mut K,
+) -> Result<(), Failed>
+    requires { as_read ≡ true → length input.now.bytes.now ≤ 65549 }
+    ensures octets { Puts (K.held capture.old) (K.held capture.new) result
+        (frame_octets head.now.order (shown input.now) (frames_given as_read input.now.bytes.now out.now)) }
+    ensures cause { HasCause (K.fault_count capture.old) (K.fault_count capture.new) result }
+    ensures some { OnErr result (0 < length (frames_given as_read input.now.bytes.now out.now)) }
+{
+    if as_read {
+        return write_read(head, input, capture);
+    }
+    write_frames(out, head, input, capture)
+}
+
+// Writes a record as it was read.
+fn write_read<K: Sink>(head: &Head, input: &Record<'_>, capture: &mut K) -> Result<(), Failed>
+    requires { length input.now.bytes.now ≤ 65549 }
+    ensures octets { Puts (K.held capture.old) (K.held capture.new) result
+        (frame_octets head.now.order (shown input.now) (input.now.bytes.now ∷ [])) }
+    ensures cause { HasCause (K.fault_count capture.old) (K.fault_count capture.new) result }
+{
+    if write_record(capture, head, input.seconds, input.fraction, input.bytes).is_err() {
+        return Err(Failed);
+    }
+    Ok(())
 }
 
 /// Writes the frames of a record as they are.

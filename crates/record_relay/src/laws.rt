@@ -4,11 +4,12 @@ ghost use Rattle.record_relay.specs.Laws.{LawfulRunsAreOne, OnePutsItsTrace, Run
 
 use both_sides::laws::{both_agree, frames_go_through};
 use emit_mtu::laws::{
-    cut_packets_tell_one_stream, plain_packets_go_out, segments_carry_the_payload, segments_fit,
+    cut_packets_tell_one_stream, plain_packets_go_out, segments_are_plain,
+    segments_carry_the_payload, segments_fit,
 };
 use norm_engine::laws::{
-    items_go_out, lawful_agrees, lawful_is_one, lawful_is_within, lawful_keeps_clean,
-    lawful_tells_streams,
+    items_go_out, lawful_agrees, lawful_is_one, lawful_is_plain_inwards, lawful_is_short,
+    lawful_is_within, lawful_keeps_clean, lawful_tells_streams,
 };
 use receiver_model::laws::members_agree;
 
@@ -44,7 +45,8 @@ pub fn unbounded_is_written_whole()
 
 /// Proves of what is written of each sound trace: a clean record has its payload, in one frame or
 /// in segments, unless a frame of the record is too long and dropped; receivers agree on it; no
-/// frame of it is too long; and no more is held than the settings allow.
+/// frame of it is too long; each frame written inwards is plain, except ARP; and no more is held
+/// than the settings allow.
 pub fn lawful_is_written_soundly()
     ensures { LawfulIsWrittenSoundly }
 {
@@ -53,7 +55,10 @@ pub fn lawful_is_written_soundly()
     lawful_is_within();
     lawful_agrees();
     lawful_tells_streams();
+    lawful_is_plain_inwards();
+    lawful_is_short();
     segments_fit();
+    segments_are_plain();
     segments_carry_the_payload();
     plain_packets_go_out();
     cut_packets_tell_one_stream();
@@ -69,6 +74,8 @@ pub fn runs_are_written_soundly()
     lawful_is_written_soundly();
     lawful_keeps_clean();
     lawful_is_within();
+    lawful_is_plain_inwards();
+    lawful_is_short();
     frames_go_through();
     both_agree();
 }

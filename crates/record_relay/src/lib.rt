@@ -6,8 +6,9 @@
 //! written for it is what the definitions say. Laws: records have one lawful run. Without `--mtu`
 //! one engine writes its trace itself; two engines write the frames of the second trace. In a
 //! lawful run clean records keep their payload (with `--mtu` in one frame or in segments, unless a
-//! frame is too long and cannot be cut), no more is held than the settings allow, and receivers
-//! agree on each protected side.
+//! frame is too long and cannot be cut), no more is held than the settings allow, receivers agree on
+//! each protected side, each frame written inwards is plain, except ARP, and none has more than
+//! 65,549 octets.
 //!
 //! Choices: with `--mtu` a record has at most 133 frames, since only its first frame can be long:
 //! behind it is at most a probe of 40 octets. Segments are written as they are made, and the line

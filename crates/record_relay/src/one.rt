@@ -19,8 +19,10 @@ use emit_mtu::laws::{plain_packets_go_out, segments_fit};
 use norm_engine::Engine;
 use norm_engine::laws::{items_are_counted, items_go_out};
 use pcap_file::{Head, Record};
+use rule_book::Entry;
 
-/// Judges one record, writes its frames and its line, and returns the number of frames written.
+/// Judges one record into the entry, writes its frames and its line, and returns the number of
+/// frames written.
 pub fn relay_one<K: Sink, R: Sink>(
     engine: &mut Engine,
     out: &mut Outbox,
@@ -28,6 +30,7 @@ pub fn relay_one<K: Sink, R: Sink>(
     mtu: Option<u16>,
     input: &Record<'_>,
     segment: &mut [u8],
+    entry: &mut Entry,
     line: &mut [u8; LINE],
     capture: &mut K,
     report: &mut R,
@@ -68,12 +71,12 @@ pub fn relay_one<K: Sink, R: Sink>(
     segments_fit();
     plain_packets_go_out();
     have_octets(input.bytes);
-    let mut entry = engine.step(input, out);
+    let as_read = engine.step_into(input, out, entry);
     frames_have_octets(out);
-    if write_item(out, head, mtu, input, segment, capture, &mut entry).is_err() {
+    if write_item(as_read, out, head, mtu, input, segment, capture, entry).is_err() {
         return Err(RelayFault::Capture);
     }
-    if write_line(&entry, line, report).is_err() {
+    if write_line(entry, line, report).is_err() {
         return Err(RelayFault::Report);
     }
     Ok(u64::from(entry.packets))

@@ -5,8 +5,10 @@ use crate::lines::LINE;
 use crate::one::relay_one;
 use crate::two::relay_two;
 use edge_io::{MAX_FRAME, NoMemory, Outbox, Sink};
+use norm_engine::blank_entry;
 use norm_settings::Settings;
 use pcap_file::{Head, Record};
+use rule_book::Entry;
 use std::alloc::Global;
 use std::marker::Model;
 use wire_base::Link;
@@ -25,6 +27,8 @@ pub struct Relay {
     behind: Outbox,
     /// Octets of one segment of a frame that is cut.
     segment: Vec<u8>,
+    /// Entry of one record, if there is one engine.
+    entry: Entry,
     /// One line of the report.
     line: [u8; LINE],
 }
@@ -72,6 +76,7 @@ impl Relay {
             out,
             behind,
             segment,
+            entry: blank_entry(),
             line: [0; LINE],
         })
     }
@@ -150,6 +155,7 @@ impl Relay {
                 self.mtu,
                 input,
                 &mut self.segment,
+                &mut self.entry,
                 &mut self.line,
                 capture,
                 report,

@@ -1,4 +1,4 @@
-use Rattle.std.proofs.Common.{sym, ap, ◌∙◌, Some, None, Ok, Err, if◌then◌else◌}
+use Rattle.std.proofs.Common.{refl, sym, ap, ◌∙◌, Some, None, Ok, Err, if◌then◌else◌}
 use Rattle.norm_settings.specs.Settings.{plain_settings}
 use Rattle.ip_rules.specs.Rows.{side_in, tells_side}
 use Rattle.ip_rules.proofs.Judging.{faulty_row, late_row, side_told, fault_is_early, address_is_early, content_is_late}
@@ -6,29 +6,29 @@ use Rattle.ip_rules.proofs.rows.judge_packet.Goals as goal
 
 pub returns-in-Err : goal.returns-in-Err
 returns-in-Err c = (
-  faulty_row (plain_settings c.args.settings.now) c.args.given c.args.packet.now c.in-Err.fault (sym c.parse.ensures.exact ∙ c.in-Err.is) ∙ ap Some (sym c.rule_of.ensures),
-  sym (ap (λ tells. if tells then side_in (plain_settings c.args.settings.now) c.args.given c.args.packet.now else None) (ap tells_side c.rule_of.ensures ∙ fault_is_early c.in-Err.fault)),
+  faulty_row (plain_settings c.args.settings.now) c.args.given c.args.octets.now c.in-Err.fault (sym c.parse.ensures.exact ∙ c.in-Err.is) ∙ ap Some (sym c.rule_of.ensures),
+  sym (ap (λ tells. if tells then side_in (plain_settings c.args.settings.now) c.args.given c.args.octets.now else None) (ap tells_side c.rule_of.ensures ∙ fault_is_early c.in-Err.fault)),
 )
 
 pub returns-in-Err-side_or_row : goal.returns-in-Err-side_or_row
 returns-in-Err-side_or_row c = (
-  late_row (plain_settings c.args.settings.now) c.args.given c.args.packet.now c.in-Ok.head (Err c.in-Err-side_or_row.rule) (sym c.parse.ensures.exact ∙ c.in-Ok.is) (sym c.in-Err-side_or_row.is ∙ c.side_or_row.ensures),
-  sym (ap (λ tells. if tells then side_in (plain_settings c.args.settings.now) c.args.given c.args.packet.now else None)
+  late_row (plain_settings c.args.settings.now) c.args.given c.args.octets.now c.in-Ok.head (Err c.in-Err-side_or_row.rule) (sym c.parse.ensures.exact ∙ c.in-Ok.is) (sym c.in-Err-side_or_row.is ∙ c.side_or_row.ensures),
+  sym (ap (λ tells. if tells then side_in (plain_settings c.args.settings.now) c.args.given c.args.octets.now else None)
       (address_is_early (plain_settings c.args.settings.now) c.args.given c.in-Ok.head c.in-Err-side_or_row.rule (sym c.in-Err-side_or_row.is ∙ c.side_or_row.ensures))),
 )
 
 pub returns-in-Some : goal.returns-in-Some
 returns-in-Some c =
     let found = sym c.content_row.ensures ∙ c.in-Some.is in (
-      late_row (plain_settings c.args.settings.now) c.args.given c.args.packet.now c.in-Ok.head (Ok c.in-Ok-side_or_row.side) (sym c.parse.ensures.exact ∙ c.in-Ok.is) (sym c.in-Ok-side_or_row.is ∙ c.side_or_row.ensures) ∙ found,
-      sym (ap (λ tells. if tells then side_in (plain_settings c.args.settings.now) c.args.given c.args.packet.now else None) (content_is_late c.args.packet.now c.in-Some.rule found)
-          ∙ side_told (plain_settings c.args.settings.now) c.args.given c.args.packet.now c.in-Ok.head c.in-Ok-side_or_row.side (sym c.parse.ensures.exact ∙ c.in-Ok.is) (sym c.in-Ok-side_or_row.is ∙ c.side_or_row.ensures)),
+      late_row (plain_settings c.args.settings.now) c.args.given c.args.octets.now c.in-Ok.head (Ok c.in-Ok-side_or_row.side) (sym c.parse.ensures.exact ∙ c.in-Ok.is) (sym c.in-Ok-side_or_row.is ∙ c.side_or_row.ensures) ∙ found,
+      sym (ap (λ tells. if tells then side_in (plain_settings c.args.settings.now) c.args.given c.args.octets.now else None) (content_is_late c.args.octets.now c.in-Some.rule found)
+          ∙ side_told (plain_settings c.args.settings.now) c.args.given c.args.octets.now c.in-Ok.head c.in-Ok-side_or_row.side (sym c.parse.ensures.exact ∙ c.in-Ok.is) (sym c.in-Ok-side_or_row.is ∙ c.side_or_row.ensures)),
     )
 
 pub returns : goal.returns
 returns c =
     let read = sym c.parse.ensures.exact ∙ c.in-Ok.is in
     let told = sym c.in-Ok-side_or_row.is ∙ c.side_or_row.ensures in
-    c.read_packet.ensures c.args.given
-    (late_row (plain_settings c.args.settings.now) c.args.given c.args.packet.now c.in-Ok.head (Ok c.in-Ok-side_or_row.side) read told ∙ sym c.content_row.ensures ∙ c.in_default.is)
-    (side_told (plain_settings c.args.settings.now) c.args.given c.args.packet.now c.in-Ok.head c.in-Ok-side_or_row.side read told)
+    c.read_packet.ensures (plain_settings c.args.settings.now) c.args.given refl
+    (late_row (plain_settings c.args.settings.now) c.args.given c.args.octets.now c.in-Ok.head (Ok c.in-Ok-side_or_row.side) read told ∙ sym c.content_row.ensures ∙ c.in_default.is)
+    (side_told (plain_settings c.args.settings.now) c.args.given c.args.octets.now c.in-Ok.head c.in-Ok-side_or_row.side read told)

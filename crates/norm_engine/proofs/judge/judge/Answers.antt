@@ -1,11 +1,14 @@
-use Rattle.std.proofs.Common.{rules, ◌≡◌, ◌<◌, ◌≤◌, ◌==◌, ◌||◌, true, false, [], length, Some, None, refl, sym, subst, arith}
+use Rattle.std.proofs.Common.{◌≡◌, ◌^◌, ◌<◌, ◌≤◌, ◌==◌, ◌||◌, true, false, [], length, Some, None, refl, sym, subst, arith}
 use Rattle.norm_settings.specs.Settings.{plain_settings}
 use Rattle.pcap_file.specs.Reads.{shown}
 use Rattle.wire_base.specs.Ipv4 as ip
 use Rattle.wire_base.specs.Frames.{packet_in}
 use Rattle.ipv4_codec.specs.declared.header.Ipv4.{Ipv4}
 use Rattle.reassembly.specs.Assemblies as fragments
-use Rattle.norm_engine.proofs.Judging.{arp_is_no_ip, arp_passes, row_drops, none_called, kept_packet, few_fixes, few_parts, own, stands_in, carried_made, whole_judged, piece_judged, piece_called, is_piece}
+use Rattle.ip_rules.proofs.Known.{packet_octets}
+use Rattle.ip_rules.proofs.Octets.{two_below}
+use Rattle.norm_engine.specs.Judgment.{judgment_with}
+use Rattle.norm_engine.proofs.Judging.{arp_is_no_ip, arp_passes, row_drops, none_called, kept_packet, few_fixes, few_parts, payload_fits, own, stands_in, carried_made, whole_judged, piece_judged, piece_called, is_piece}
 use Rattle.norm_engine.proofs.judge.judge.Goals as goal
 
 pub returns-in-Arp-clause-rows : goal.returns-in-Arp-clause-rows
@@ -30,22 +33,21 @@ returns-in-Drop-clause-pieces c = λ calls stands.
 
 pub returns-in-Piece-clause-rows : goal.returns-in-Piece-clause-rows
 returns-in-Piece-clause-rows c = λ past stands held.
-    piece_judged (plain_settings c.args.settings.now) c.args.link past (shown c.args.input.now) c.in-Piece.packet c.in-Piece.ensures.0 c.in-Piece.ensures.1 c.in-Piece.ensures.2 c.judge_piece.result
+    piece_judged (plain_settings c.args.settings.now) c.args.link past (shown c.args.input.now) c.judge_ip_into.new.packet c.in-Piece.ensures.0 c.in-Piece.ensures.1 c.in-Piece.ensures.2 (judgment_with c.judge_piece.new.parsed c.judge_piece.result)
     (c.judge_piece.ensures.rows past.calls past.pieces stands held)
 
 pub returns-in-Piece-clause-pieces : goal.returns-in-Piece-clause-pieces
 returns-in-Piece-clause-pieces c = λ calls stands.
     let settings = plain_settings c.args.settings.now in
     subst (fragments.StandsFor settings c.judge_piece.new.pieces)
-    (sym (piece_called settings c.args.link (record { idle = []; calls = []; pieces = calls }) (shown c.args.input.now) c.in-Piece.packet c.in-Piece.ensures.0 c.in-Piece.ensures.1 c.in-Piece.ensures.2 c.args.now calls))
+    (sym (piece_called settings c.args.link (record { idle = []; calls = []; pieces = calls }) (shown c.args.input.now) c.judge_ip_into.new.packet c.in-Piece.ensures.0 c.in-Piece.ensures.1 c.in-Piece.ensures.2 c.args.now calls))
     (c.judge_piece.ensures.pieces calls stands)
 
 pub judge_piece-requires-clause-piece : goal.judge_piece-requires-clause-piece
 judge_piece-requires-clause-piece c =
     let p = packet_in c.args.link c.args.input.now.bytes.now in
-    let small : ip.total_length p < 65536 =
-    (let total : c.in-Piece.packet.head.total < 65536 = search rules in subst (λ (head : Ipv4). head.total < 65536) c.in-Piece.ensures.2.head total) in
-    is_piece (plain_settings c.args.settings.now) c.args.link (record { idle = []; calls = []; pieces = [] }) (shown c.args.input.now) c.in-Piece.packet c.in-Piece.ensures.0 c.in-Piece.ensures.1 c.in-Piece.ensures.2 small
+    let small : ip.total_length p < 65536 = two_below p 2 (packet_octets c.args.link c.args.input.now.bytes.now c.have_octets.ensures) in
+    is_piece (plain_settings c.args.settings.now) c.args.link (record { idle = []; calls = []; pieces = [] }) (shown c.args.input.now) c.judge_ip_into.new.packet c.in-Piece.ensures.0 c.in-Piece.ensures.1 c.in-Piece.ensures.2 small
 
 pub judge_piece-requires-clause-known : goal.judge_piece-requires-clause-known
 judge_piece-requires-clause-known c =
@@ -62,6 +64,13 @@ judge_whole-requires-clause-known c =
     subst (λ (head : Ipv4). ((head.protocol == 1) || (head.protocol == 6) || (head.protocol == 17)) ≡ true) (sym c.in-Whole.ensures.2.head)
     (kept_packet (plain_settings c.args.settings.now) c.args.link (shown c.args.input.now) c.in-Whole.ensures.0).known
 
+pub judge_whole-requires-clause-size : goal.judge_whole-requires-clause-size
+judge_whole-requires-clause-size c =
+    let p = packet_in c.args.link c.args.input.now.bytes.now in
+    let small : ip.total_length p < 65536 = two_below p 2 (packet_octets c.args.link c.args.input.now.bytes.now c.have_octets.ensures) in
+    let fits = payload_fits p (kept_packet (plain_settings c.args.settings.now) c.args.link (shown c.args.input.now) c.in-Whole.ensures.0) small in
+    subst (λ xs. length xs < 2 ^ 16) (sym c.in-Whole.ensures.2.payload) (omega (arith, fits))
+
 pub judge_whole-requires-clause-few : goal.judge_whole-requires-clause-few
 judge_whole-requires-clause-few c =
     let few = few_fixes (plain_settings c.args.settings.now) c.args.link (shown c.args.input.now) in
@@ -73,12 +82,11 @@ returns-in-Whole-clause-rows c = λ past stands held.
     let r = shown c.args.input.now in
     let whole = c.in-Whole.ensures in
     let p = packet_in c.args.link c.args.input.now.bytes.now in
-    let small : ip.total_length p < 65536 =
-    (let total : c.in-Whole.packet.head.total < 65536 = search rules in subst (λ (head : Ipv4). head.total < 65536) whole.2.head total) in
-    whole_judged settings c.args.link past r (own settings c.args.link r c.in-Whole.packet whole.0 whole.1 whole.2 small) c.in-Whole.packet
-    (carried_made settings c.args.link r c.in-Whole.packet whole.0 whole.1 whole.2 small past)
-    (stands_in settings c.args.link r c.in-Whole.packet whole.0 whole.1 whole.2 small c.datagrams_are_known.ensures c.have_octets.ensures)
-    c.judge_whole.result (c.judge_whole.ensures.rows past.calls (ip.header p) stands)
+    let small : ip.total_length p < 65536 = two_below p 2 (packet_octets c.args.link c.args.input.now.bytes.now c.have_octets.ensures) in
+    whole_judged settings c.args.link past r (own settings c.args.link r c.judge_ip_into.new.packet whole.0 whole.1 whole.2 small) c.judge_ip_into.new.packet
+    (carried_made settings c.args.link r c.judge_ip_into.new.packet whole.0 whole.1 whole.2 small past)
+    (stands_in settings c.args.link r c.judge_ip_into.new.packet whole.0 whole.1 whole.2 small c.datagrams_are_known.ensures c.have_octets.ensures)
+    (judgment_with c.judge_whole.new.parsed c.judge_whole.result) (c.judge_whole.ensures.rows past.calls (ip.header p) stands)
 
 pub returns-in-Whole-clause-pieces : goal.returns-in-Whole-clause-pieces
 returns-in-Whole-clause-pieces c = λ calls stands.

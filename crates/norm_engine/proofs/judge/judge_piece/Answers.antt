@@ -5,13 +5,14 @@ use Rattle.reassembly.specs.Pieces.{Fragment}
 use Rattle.reassembly.specs.Assemblies as fragments
 use Rattle.reassembly.specs.Rows.{call_of}
 use Rattle.norm_engine.specs.Fragments.{fragment_with}
+use Rattle.norm_engine.specs.Judgment.{judgment_with}
 use Rattle.norm_engine.proofs.Judging.{held_judged, dropped_judged, done_judged}
 use Rattle.norm_engine.proofs.judge.judge_piece.Goals as goal
 
 pub returns-in-Held-clause-rows : goal.returns-in-Held-clause-rows
 returns-in-Held-clause-rows c = λ calls came stands held.
     let settings = plain_settings c.args.settings.now in
-    held_judged settings calls came c.args.packet _ (fragment_with c.args.packet.head c.args.packet.payload.now) c.piece_of.ensures (c.in-Held.ensures.answer settings came held)
+    held_judged settings calls came c.args.parsed.now.packet _ (fragment_with c.args.parsed.now.packet.head c.args.parsed.now.packet.payload.now) c.piece_of.ensures (c.in-Held.ensures.answer settings came held)
 
 pub returns-in-Held-clause-pieces : goal.returns-in-Held-clause-pieces
 returns-in-Held-clause-pieces c = λ came held.
@@ -21,7 +22,7 @@ returns-in-Held-clause-pieces c = λ came held.
 pub returns-in-Drop-clause-rows : goal.returns-in-Drop-clause-rows
 returns-in-Drop-clause-rows c = λ calls came stands held.
     let settings = plain_settings c.args.settings.now in
-    dropped_judged settings calls came c.args.packet _ (fragment_with c.args.packet.head c.args.packet.payload.now) c.in-Drop.rule c.piece_of.ensures (c.in-Drop.ensures.answer settings came held)
+    dropped_judged settings calls came c.args.parsed.now.packet _ (fragment_with c.args.parsed.now.packet.head c.args.parsed.now.packet.payload.now) c.in-Drop.rule c.piece_of.ensures (c.in-Drop.ensures.answer settings came held)
 
 pub returns-in-Drop-clause-pieces : goal.returns-in-Drop-clause-pieces
 returns-in-Drop-clause-pieces c = λ came held.
@@ -31,7 +32,7 @@ returns-in-Drop-clause-pieces c = λ came held.
 pub returns-in-Done-clause-rows : goal.returns-in-Done-clause-rows
 returns-in-Done-clause-rows c = λ calls came stands held.
     let settings = plain_settings c.args.settings.now in
-    let head = c.whole_packet-made.result.head in
+    let head = c.make_whole.new.packet.head in
     let sizes : HasSizes head = record {
       tos = search rules;
       ident = search rules;
@@ -40,8 +41,8 @@ returns-in-Done-clause-rows c = λ calls came stands held.
       source = search rules;
       destination = search rules;
     } in
-    done_judged settings calls came c.args.packet _ (fragment_with c.args.packet.head c.args.packet.payload.now) c.in-Done.whole c.offer.new.buf c.whole_packet-made.result c.judge_whole.result c.piece_of.ensures
-    (c.in-Done.ensures.answer settings came held) (c.in-Done.ensures.octets settings came held) c.whole_packet-made.ensures sizes c.have_octets.ensures c.in-Done.ensures.short
+    done_judged settings calls came c.args.parsed.now.packet _ (fragment_with c.args.parsed.now.packet.head c.args.parsed.now.packet.payload.now) c.in-Done.whole c.offer.new.buf c.make_whole.new.packet (judgment_with c.judge_whole.new.parsed c.judge_whole.result) c.piece_of.ensures
+    (c.in-Done.ensures.answer settings came held) (c.in-Done.ensures.octets settings came held) c.make_whole.ensures sizes c.have_octets.ensures c.in-Done.ensures.short
     (c.judge_whole.ensures.rows calls [] stands)
 
 pub returns-in-Done-clause-pieces : goal.returns-in-Done-clause-pieces

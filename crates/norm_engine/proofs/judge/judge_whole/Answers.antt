@@ -1,11 +1,15 @@
 use Rattle.std.proofs.Common.{[], sym, subst}
 use Rattle.norm_engine.specs.Engine as spec
+use Rattle.norm_engine.specs.Judged.{judged_with}
 use Rattle.norm_engine.proofs.Judging.{head_read}
 use Rattle.norm_engine.proofs.judge.judge_whole.Goals as goal
 
 pub returns-clause-read : goal.returns-clause-read
-returns-clause-read c = subst spec.SegmentIsRead (sym c.joined.ensures) (head_read c.args.packet c.judge_datagram-judged.result (c.judge_datagram-judged.ensures.read []))
+returns-clause-read c =
+    let head = c.judge_datagram-answer.new.head in
+    subst spec.SegmentIsRead (sym (c.joined.ensures head)) (head_read c.args.parsed.now.packet (judged_with head c.judge_datagram-answer.result) (c.judge_datagram-answer.ensures.read []))
 
 pub returns-clause-rows : goal.returns-clause-rows
 returns-clause-rows c = λ calls header stands.
-    record { answer = c.judge_datagram-judged.result; follows = c.judge_datagram-judged.ensures.rows calls header stands; is = c.joined.ensures }
+    let head = c.judge_datagram-answer.new.head in
+    record { answer = judged_with head c.judge_datagram-answer.result; follows = c.judge_datagram-answer.ensures.rows calls header stands; is = c.joined.ensures head }

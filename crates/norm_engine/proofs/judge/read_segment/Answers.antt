@@ -6,7 +6,7 @@ use Rattle.norm_engine.proofs.judge.read_segment.Goals as goal
 
 pub returns-in-Ok : goal.returns-in-Ok
 returns-in-Ok c = λ header.
-    read_row (plain_settings c.args.settings.now) (datagram_with header c.args.packet.now) c.sum_rule-rule.result c.pseudo_sum-pseudo.result c.in-Ok.head
+    read_row (plain_settings c.args.settings.now) (datagram_with header c.args.packet.now) c.sum_rule-rule.result c.pseudo_sum-pseudo.result c.in-Ok.read
     c.sum_rule-rule.ensures c.pseudo_sum-pseudo.ensures (sym c.parse.ensures.exact ∙ c.in-Ok.is)
     c.in-Ok.ensures.header c.in-Ok.ensures.inside c.in-Ok.ensures.flags c.in-Ok.ensures.options c.in-Ok.ensures.area
 

@@ -1,3 +1,4 @@
+use Rattle.record_relay.proofs.Sending.{plain_written, short_written}
 use Rattle.record_relay.proofs.Writtens.{agree_as_written, clean_written, each_goes, none_long}
 use Rattle.record_relay.proofs.laws.lawful_is_written_soundly.Goals as goal
 
@@ -16,4 +17,6 @@ returns c settings link trace range sound octets =
         members = c.members_agree.ensures;
       }) settings link trace range.mtu sound each octets;
       none_long = none_long c.segments_fit.ensures.all plain.whole settings.mtu link trace range.mtu each octets;
+      plain = plain_written c.segments_are_plain.ensures plain.whole settings.mtu settings.hops link trace range.mtu each octets (c.lawful_is_plain_inwards.ensures settings link trace sound);
+      short = short_written c.segments_fit.ensures.fit plain.whole settings.mtu link trace range.mtu each octets (c.lawful_is_short.ensures settings link trace sound);
     }

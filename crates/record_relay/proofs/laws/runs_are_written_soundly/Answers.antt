@@ -8,4 +8,6 @@ returns c = soundly (record {
   within = c.lawful_is_within.ensures;
   through = c.frames_go_through.ensures;
   agree = c.both_agree.ensures;
+  plain = c.lawful_is_plain_inwards.ensures;
+  short = c.lawful_is_short.ensures;
 })

@@ -3,8 +3,9 @@ use Rattle.wire_base.specs.Frames.{packet_in}
 use Rattle.pcap_file.specs.Reads.{shown}
 use Rattle.norm_settings.specs.Settings.{plain_settings}
 use Rattle.ip_rules.specs.Rows.{side_in}
+use Rattle.ip_rules.specs.Judged.{judged_with}
 use Rattle.ip_rules.proofs.Joining.{dropped_early, link_is_early, arp_passes, judged_here}
-use Rattle.ip_rules.proofs.rows.judge_ip.Goals as goal
+use Rattle.ip_rules.proofs.rows.judge_ip_into.Goals as goal
 
 pub returns-in-Row : goal.returns-in-Row
 returns-in-Row c = (
@@ -18,4 +19,4 @@ returns-in-Arp c = (arp_passes (plain_settings c.args.settings.now) c.args.link 
 
 pub returns-in-Packet : goal.returns-in-Packet
 returns-in-Packet c =
-    judged_here (plain_settings c.args.settings.now) c.args.link (shown c.args.input.now) c.in-Packet.packet.now c.judge_packet.result c.in-Packet.ensures.0 c.in-Packet.ensures.1 c.in-Packet.ensures.2 c.judge_packet.ensures
+    judged_here (plain_settings c.args.settings.now) c.args.link (shown c.args.input.now) c.in-Packet.octets.now (judged_with c.judge_packet.new.packet c.judge_packet.result) c.in-Packet.ensures.0 c.in-Packet.ensures.1 c.in-Packet.ensures.2 c.judge_packet.ensures

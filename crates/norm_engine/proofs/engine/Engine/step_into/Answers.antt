@@ -16,7 +16,7 @@ use Rattle.tcp_codec.specs.declared.header.Tcp.{Tcp}
 use Rattle.tcp_norm.specs.Calls.{segments}
 use Rattle.tcp_norm.specs.Views.{idle_at}
 use Rattle.tcp_norm.specs.Steps.{idled}
-use Rattle.norm_engine.specs.declared.judge.Judgment.TheVariants.{Segment}
+use Rattle.norm_engine.specs.Judgment.{Segment, judgment_with}
 use Rattle.tcp_norm.specs.Standing as flows
 use Rattle.reassembly.specs.Calls as reassembly
 use Rattle.reassembly.specs.Assemblies as fragments
@@ -25,10 +25,10 @@ use Rattle.norm_engine.specs.Items.{Item, now_with}
 use Rattle.norm_engine.specs.Fragments.{fragment_in, piece_calls, with_offered}
 use Rattle.norm_engine.specs.Calls.{past_of, flow_calls}
 use Rattle.norm_engine.specs.Trace.{item_of, read_after, outcome_of}
-use Rattle.norm_engine.specs.Engine.{Engaged, StandsFor, read_with, entry_for}
+use Rattle.norm_engine.specs.Engine.{Engaged, StandsFor, read_with, entry_for, frames_given}
 use Rattle.norm_engine.proofs.Stepping.{segment_entry, segment_frames, taken_rows, other_entry}
-use Rattle.norm_engine.proofs.Stepped.{past_with, few_idle, room_for, no_segment, other_frames, pieces_stand, segment_stands, other_stands}
-use Rattle.norm_engine.proofs.engine.Engine.step.Goals as goal
+use Rattle.norm_engine.proofs.Stepped.{past_with, few_idle, room_for, no_segment, no_segment_of, short_read, other_frames, pieces_stand, segment_stands, other_stands}
+use Rattle.norm_engine.proofs.engine.Engine.step_into.Goals as goal
 
 pub expire-requires-clause-later : goal.expire-requires-clause-later
 expire-requires-clause-later c = ∥∥₁_elim c.self.invariant.2 le_prop (λ k. let now = c.max-self-inside.ensures in let later = k.later in omega (arith, now, later))
@@ -41,11 +41,11 @@ take-requires-clause-short c = ∥∥₁_elim c.self.invariant.2 le_prop (λ k. 
 
 pub take-requires-clause-fields : goal.take-requires-clause-fields
 take-requires-clause-fields c =
-    let six : c.in-Segment.packet.head.protocol ≡ 6 = ∥∥₁_elim c.self.invariant.2 (hlevel ℕ_set) (λ k.
+    let six : c.judge.new.parsed.packet.head.protocol ≡ 6 = ∥∥₁_elim c.self.invariant.2 (hlevel ℕ_set) (λ k.
     let t = (c.in-Segment.ensures.rows (past_with (plain_settings c.self.inside.settings) c.max-self-inside.result k.calls k.offers) (c.expire.ensures.stands (plain_settings c.self.inside.settings) k.calls k.stands) (c.expire-forgotten.ensures.stands (plain_settings c.self.inside.settings) k.offers k.holds)) in
     sym (ap (λ (h : Ipv4). h.protocol) t.is.head) ∙ t.protocol) in
     c.in-Segment.ensures.read.fields
-    ∙ ap (λ n. fields_of (pseudo_sum c.in-Segment.packet.head.src.0 c.in-Segment.packet.head.dst.0 n (length c.in-Segment.packet.payload.now)) c.in-Segment.packet.payload.now) six
+    ∙ ap (λ n. fields_of (pseudo_sum c.judge.new.parsed.packet.head.src.0 c.judge.new.parsed.packet.head.dst.0 n (length c.judge.new.parsed.packet.payload.now)) c.judge.new.parsed.packet.payload.now) six
 
 pub take-requires-clause-frame : goal.take-requires-clause-frame
 take-requires-clause-frame c = λ none. ∥∥₁_elim c.self.invariant.2 le_prop (λ k. (c.in-Segment.ensures.rows (past_with (plain_settings c.self.inside.settings) c.max-self-inside.result k.calls k.offers) (c.expire.ensures.stands (plain_settings c.self.inside.settings) k.calls k.stands) (c.expire-forgotten.ensures.stands (plain_settings c.self.inside.settings) k.offers k.holds)).short none)
@@ -81,7 +81,7 @@ invariant_of-self c = (
       let t = (c.in-Segment.ensures.rows (past_with (plain_settings c.self.inside.settings) c.max-self-inside.result k.calls k.offers) (c.expire.ensures.stands (plain_settings c.self.inside.settings) k.calls k.stands) (c.expire-forgotten.ensures.stands (plain_settings c.self.inside.settings) k.offers k.holds)) in
       let before = (c.expire.ensures.stands (plain_settings c.self.inside.settings) k.calls k.stands) in
       let calls = expiry_of (plain_settings c.self.inside.settings) k.calls c.max-self-inside.result ∷ k.calls in
-      let is = subst (λ link. IsDatagram c.in-Segment.packet link t.own) (sym c.link_octets-link.ensures.octets) t.is in
+      let is = subst (λ link. IsDatagram c.judge.new.parsed.packet link t.own) (sym c.link_octets-link.ensures.octets) t.is in
       let stands = c.take.ensures.stands (plain_settings c.self.inside.settings) calls t.own before is in
       let latest = stands.latest_is in
       let asked = stands.calls_is in
@@ -93,12 +93,12 @@ invariant_of-self c = (
       record { calls = call_of (plain_settings c.self.inside.settings) calls c.max-self-inside.result t.own ∷ calls; stands = stands; later = omega (arith, latest, old_latest, later, now); few = omega (arith, asked, old, few); offers = with_offered (plain_settings c.self.inside.settings) (fragment_in (plain_settings c.self.inside.settings) c.self.inside.link (shown c.args.input.now)) c.max-self-inside.result (reassembly.expiry c.max-self-inside.result ∷ k.offers); holds = c.judge.ensures.pieces (reassembly.expiry c.max-self-inside.result ∷ k.offers) (c.expire-forgotten.ensures.stands (plain_settings c.self.inside.settings) k.offers k.holds); passed = c.judge.ensures.passed }),
 )
 
-pub send-requires : goal.send-requires
-send-requires c = record {
+pub send-as_read-requires : goal.send-as_read-requires
+send-as_read-requires c = record {
   empty = c.clear.ensures;
   room = search rules;
   hops = c.self.invariant.0.hops;
-  fits = room_for (plain_settings c.self.inside.settings) c.self.inside.link (shown c.args.input.now) c.judge.result (∥∥₁_map c.self.invariant.2 (λ k. (read_with (plain_settings c.self.inside.settings) c.self.inside.link (past_with (plain_settings c.self.inside.settings) c.max-self-inside.result k.calls k.offers) (shown c.args.input.now), c.judge.ensures.rows (past_with (plain_settings c.self.inside.settings) c.max-self-inside.result k.calls k.offers) (c.expire.ensures.stands (plain_settings c.self.inside.settings) k.calls k.stands) (c.expire-forgotten.ensures.stands (plain_settings c.self.inside.settings) k.offers k.holds))));
+  fits = room_for (plain_settings c.self.inside.settings) c.self.inside.link (shown c.args.input.now) c.judge.new.parsed.packet c.judge.new.parsed.head c.judge.result (∥∥₁_map c.self.invariant.2 (λ k. (read_with (plain_settings c.self.inside.settings) c.self.inside.link (past_with (plain_settings c.self.inside.settings) c.max-self-inside.result k.calls k.offers) (shown c.args.input.now), c.judge.ensures.rows (past_with (plain_settings c.self.inside.settings) c.max-self-inside.result k.calls k.offers) (c.expire.ensures.stands (plain_settings c.self.inside.settings) k.calls k.stands) (c.expire-forgotten.ensures.stands (plain_settings c.self.inside.settings) k.offers k.holds))));
 }
 
 pub invariant_of-self-in_default : goal.invariant_of-self-in_default
@@ -127,10 +127,10 @@ returns-in-Segment-clause-entry c = subst (λ (e : Engaged). (history : List Ite
     let read = read_after (plain_settings c.self.inside.settings) c.self.inside.link history (shown c.args.input.now) in
     let idle : c.expire.new.entry.ended.items ≡ past.idle = c.expire.ensures.entry (plain_settings c.self.inside.settings) calls stands.flows ∙ ap (λ n. idled (λ number. segments number calls) (idle_at (plain_settings c.self.inside.settings) n calls)) now in
     let t = c.in-Segment.ensures.rows past before gone in
-    let is = subst (λ link. IsDatagram c.in-Segment.packet link t.own) (sym c.link_octets-link.ensures.octets) t.is in
+    let is = subst (λ link. IsDatagram c.judge.new.parsed.packet link t.own) (sym c.link_octets-link.ensures.octets) t.is in
     let entry = c.expire.ensures.rest in
-    let number : c.expire.new.entry.number ≡ length history + 1 = ap (λ (e : Entry). e.number) entry ∙ (ap (λ (e : PlainEntry). e.number) c.blank-entry.ensures ∙ ap (λ n. n + 1) stands.counted) in
-    segment_entry (plain_settings c.self.inside.settings) c.self.inside.link read (shown c.args.input.now) c.in-Segment.packet c.in-Segment.head (length history + 1) (record c.expire.new.entry { side = Some c.in-Segment.packet.side }) c.take.new.entry t number refl idle
+    let number : c.expire.new.entry.number ≡ length history + 1 = ap (λ (e : Entry). e.number) entry ∙ (ap (λ (e : PlainEntry). e.number) c.renew.ensures ∙ ap (λ n. n + 1) stands.counted) in
+    segment_entry (plain_settings c.self.inside.settings) c.self.inside.link read (shown c.args.input.now) c.judge.new.parsed.packet c.judge.new.parsed.head (length history + 1) (record c.expire.new.entry { side = Some c.judge.new.parsed.packet.side }) c.take.new.entry t number refl idle
     (c.take.ensures.entry (plain_settings c.self.inside.settings) past.calls t.own before is))
 
 pub returns-in-Segment-clause-frames : goal.returns-in-Segment-clause-frames
@@ -143,10 +143,10 @@ returns-in-Segment-clause-frames c = subst (λ (e : Engaged). (history : List It
     let read = read_after (plain_settings c.self.inside.settings) c.self.inside.link history (shown c.args.input.now) in
     let idle : c.expire.new.entry.ended.items ≡ past.idle = c.expire.ensures.entry (plain_settings c.self.inside.settings) calls stands.flows ∙ ap (λ n. idled (λ number. segments number calls) (idle_at (plain_settings c.self.inside.settings) n calls)) now in
     let t = c.in-Segment.ensures.rows past before gone in
-    let is = subst (λ link. IsDatagram c.in-Segment.packet link t.own) (sym c.link_octets-link.ensures.octets) t.is in
+    let is = subst (λ link. IsDatagram c.judge.new.parsed.packet link t.own) (sym c.link_octets-link.ensures.octets) t.is in
     c.take.ensures.frames (plain_settings c.self.inside.settings) past.calls t.own before is
     ∙ (ap (λ link. frames_of link (outcome_of (plain_settings c.self.inside.settings) read t.own).packets) c.link_octets-link.ensures.octets
-    ∙ sym (segment_frames (plain_settings c.self.inside.settings) c.self.inside.link read (shown c.args.input.now) t.own (taken_rows (plain_settings c.self.inside.settings) c.self.inside.link read (shown c.args.input.now) c.in-Segment.packet c.in-Segment.head t))))
+    ∙ sym (segment_frames (plain_settings c.self.inside.settings) c.self.inside.link read (shown c.args.input.now) t.own (taken_rows (plain_settings c.self.inside.settings) c.self.inside.link read (shown c.args.input.now) c.judge.new.parsed.packet c.judge.new.parsed.head t))))
 
 pub returns-in-Segment-clause-stands : goal.returns-in-Segment-clause-stands
 returns-in-Segment-clause-stands c = subst (λ (e : Engaged). (history : List Item) → StandsFor e history
@@ -159,9 +159,9 @@ returns-in-Segment-clause-stands c = subst (λ (e : Engaged). (history : List It
     let read = read_after (plain_settings c.self.inside.settings) c.self.inside.link history (shown c.args.input.now) in
     let idle : c.expire.new.entry.ended.items ≡ past.idle = c.expire.ensures.entry (plain_settings c.self.inside.settings) calls stands.flows ∙ ap (λ n. idled (λ number. segments number calls) (idle_at (plain_settings c.self.inside.settings) n calls)) now in
     let t = c.in-Segment.ensures.rows past before gone in
-    let is = subst (λ link. IsDatagram c.in-Segment.packet link t.own) (sym c.link_octets-link.ensures.octets) t.is in
+    let is = subst (λ link. IsDatagram c.judge.new.parsed.packet link t.own) (sym c.link_octets-link.ensures.octets) t.is in
     segment_stands c.packets_are_its_own.ensures (record { settings = (plain_settings c.self.inside.settings); link = c.self.inside.link; records = c.self.inside.records; latest = c.self.inside.latest; norm = c.self.inside.norm; pieces = c.self.inside.pieces })
-    (record { settings = (plain_settings c.self.inside.settings); link = c.self.inside.link; records = c.self.inside.records + 1; latest = c.max-self-inside.result; norm = c.take.new.norm; pieces = c.judge.new.pieces }) history (shown c.args.input.now) c.in-Segment.packet c.in-Segment.head
+    (record { settings = (plain_settings c.self.inside.settings); link = c.self.inside.link; records = c.self.inside.records + 1; latest = c.max-self-inside.result; norm = c.take.new.norm; pieces = c.judge.new.pieces }) history (shown c.args.input.now) c.judge.new.parsed.packet c.judge.new.parsed.head
     c.self.invariant.0.hops t stands refl refl refl now
     (subst (λ n. flows.StandsFor (plain_settings c.self.inside.settings) c.take.new.norm (call_of (plain_settings c.self.inside.settings) past.calls n t.own ∷ past.calls)) now (c.take.ensures.stands (plain_settings c.self.inside.settings) past.calls t.own before is))
     (pieces_stand (plain_settings c.self.inside.settings) c.self.inside.link history (shown c.args.input.now) c.judge.new.pieces c.max-self-inside.result now (c.judge.ensures.pieces (reassembly.expiry c.max-self-inside.result ∷ piece_calls (plain_settings c.self.inside.settings) c.self.inside.link history) (c.expire-forgotten.ensures.stands (plain_settings c.self.inside.settings) (piece_calls (plain_settings c.self.inside.settings) c.self.inside.link history) stands.pieces))))
@@ -179,11 +179,16 @@ returns-in_default c = record {
       let read = read_after (plain_settings c.self.inside.settings) c.self.inside.link history (shown c.args.input.now) in
       let idle : c.expire.new.entry.ended.items ≡ past.idle = c.expire.ensures.entry (plain_settings c.self.inside.settings) calls stands.flows ∙ ap (λ n. idled (λ number. segments number calls) (idle_at (plain_settings c.self.inside.settings) n calls)) now in
       let entry = c.expire.ensures.rest in
-      let number : c.expire.new.entry.number ≡ length history + 1 = ap (λ (e : Entry). e.number) entry ∙ (ap (λ (e : PlainEntry). e.number) c.blank-entry.ensures ∙ ap (λ n. n + 1) stands.counted) in
+      let number : c.expire.new.entry.number ≡ length history + 1 = ap (λ (e : Entry). e.number) entry ∙ (ap (λ (e : PlainEntry). e.number) c.renew.ensures ∙ ap (λ n. n + 1) stands.counted) in
       let j = c.judge.ensures.rows past before gone in
-      let none = no_segment (plain_settings c.self.inside.settings) c.self.inside.link read (shown c.args.input.now) c.judge.result j other in
-      c.tell.ensures ∙ ((λ i. entry_for (number i) c.judge.result (idle i)) ∙ other_entry (plain_settings c.self.inside.settings) c.self.inside.link read (shown c.args.input.now) (length history + 1) c.judge.result j none));
-  frames = subst (λ (e : Engaged). (history : List Item) → StandsFor e history → c.send.new.out ≡ (item_of e.settings e.link history (shown c.args.input.now)).frames) c.self.view_is (λ history stands.
+      let none = no_segment (plain_settings c.self.inside.settings) c.self.inside.link read (shown c.args.input.now) (judgment_with c.judge.new.parsed c.judge.result) j other in
+      c.tell.ensures c.judge.new.parsed.head ∙ ((λ i. entry_for (number i) (judgment_with c.judge.new.parsed c.judge.result) (idle i)) ∙ other_entry (plain_settings c.self.inside.settings) c.self.inside.link read (shown c.args.input.now) (length history + 1) (judgment_with c.judge.new.parsed c.judge.result) j none));
+  empty = c.send-as_read.ensures.empty;
+  short = λ as_read. ∥∥₁_elim c.self.invariant.2 le_prop (λ k.
+      short_read (plain_settings c.self.inside.settings) c.self.inside.link (read_with (plain_settings c.self.inside.settings) c.self.inside.link (past_with (plain_settings c.self.inside.settings) c.max-self-inside.result k.calls k.offers) (shown c.args.input.now)) (shown c.args.input.now) (judgment_with c.judge.new.parsed c.judge.result)
+      (c.judge.ensures.rows (past_with (plain_settings c.self.inside.settings) c.max-self-inside.result k.calls k.offers) (c.expire.ensures.stands (plain_settings c.self.inside.settings) k.calls k.stands) (c.expire-forgotten.ensures.stands (plain_settings c.self.inside.settings) k.offers k.holds))
+      (sym (c.send-as_read.ensures.as_read c.judge.new.parsed.head) ∙ as_read));
+  frames = subst (λ (e : Engaged). (history : List Item) → StandsFor e history → (frames_given c.send-as_read.result c.args.input.now.bytes.now c.send-as_read.new.out) ≡ (item_of e.settings e.link history (shown c.args.input.now)).frames) c.self.view_is (λ history stands.
       let calls = flow_calls (plain_settings c.self.inside.settings) c.self.inside.link history in
       let now : c.max-self-inside.result ≡ now_with history (shown c.args.input.now) = c.max-self-inside.ensures ∙ ap (λ n. max n c.args.input.now.seconds) stands.latest in
       let before = subst (λ n. flows.StandsFor (plain_settings c.self.inside.settings) c.expire.new.self (expiry_of (plain_settings c.self.inside.settings) calls n ∷ calls)) now (c.expire.ensures.stands (plain_settings c.self.inside.settings) calls stands.flows) in
@@ -192,8 +197,8 @@ returns-in_default c = record {
       let read = read_after (plain_settings c.self.inside.settings) c.self.inside.link history (shown c.args.input.now) in
       let idle : c.expire.new.entry.ended.items ≡ past.idle = c.expire.ensures.entry (plain_settings c.self.inside.settings) calls stands.flows ∙ ap (λ n. idled (λ number. segments number calls) (idle_at (plain_settings c.self.inside.settings) n calls)) now in
       let j = c.judge.ensures.rows past before gone in
-      let none = no_segment (plain_settings c.self.inside.settings) c.self.inside.link read (shown c.args.input.now) c.judge.result j other in
-      c.send.ensures ∙ other_frames (plain_settings c.self.inside.settings) c.self.inside.link read (shown c.args.input.now) c.judge.result j none);
+      let none = no_segment (plain_settings c.self.inside.settings) c.self.inside.link read (shown c.args.input.now) (judgment_with c.judge.new.parsed c.judge.result) j other in
+      c.send-as_read.ensures.frames c.judge.new.parsed.head c.args.input.now.bytes.now ∙ other_frames (plain_settings c.self.inside.settings) c.self.inside.link read (shown c.args.input.now) (judgment_with c.judge.new.parsed c.judge.result) j none);
   stands = subst (λ (e : Engaged). (history : List Item) → StandsFor e history
       → StandsFor (record { settings = (plain_settings c.self.inside.settings); link = c.self.inside.link; records = c.self.inside.records + 1; latest = c.max-self-inside.result; norm = c.expire.new.self; pieces = c.judge.new.pieces }) (item_of e.settings e.link history (shown c.args.input.now) ∷ history)) c.self.view_is (λ history stands.
       let calls = flow_calls (plain_settings c.self.inside.settings) c.self.inside.link history in
@@ -204,11 +209,11 @@ returns-in_default c = record {
       let read = read_after (plain_settings c.self.inside.settings) c.self.inside.link history (shown c.args.input.now) in
       let idle : c.expire.new.entry.ended.items ≡ past.idle = c.expire.ensures.entry (plain_settings c.self.inside.settings) calls stands.flows ∙ ap (λ n. idled (λ number. segments number calls) (idle_at (plain_settings c.self.inside.settings) n calls)) now in
       let j = c.judge.ensures.rows past before gone in
-      let none = no_segment (plain_settings c.self.inside.settings) c.self.inside.link read (shown c.args.input.now) c.judge.result j other in
+      let none = no_segment (plain_settings c.self.inside.settings) c.self.inside.link read (shown c.args.input.now) (judgment_with c.judge.new.parsed c.judge.result) j other in
       other_stands (record { settings = (plain_settings c.self.inside.settings); link = c.self.inside.link; records = c.self.inside.records; latest = c.self.inside.latest; norm = c.self.inside.norm; pieces = c.self.inside.pieces }) (record { settings = (plain_settings c.self.inside.settings); link = c.self.inside.link; records = c.self.inside.records + 1; latest = c.max-self-inside.result; norm = c.expire.new.self; pieces = c.judge.new.pieces }) history (shown c.args.input.now)
       none stands refl refl refl now before
       (pieces_stand (plain_settings c.self.inside.settings) c.self.inside.link history (shown c.args.input.now) c.judge.new.pieces c.max-self-inside.result now (c.judge.ensures.pieces (reassembly.expiry c.max-self-inside.result ∷ piece_calls (plain_settings c.self.inside.settings) c.self.inside.link history) (c.expire-forgotten.ensures.stands (plain_settings c.self.inside.settings) (piece_calls (plain_settings c.self.inside.settings) c.self.inside.link history) stands.pieces))));
 }
   where
-    other : (packet : IpPacket) (head : Tcp) → c.judge.result ≡ Segment packet head → ⊥
-    other packet head is = c.in_default.not-Segment packet head is
+    other : (packet : IpPacket) (head : Tcp) → judgment_with c.judge.new.parsed c.judge.result ≡ Segment packet head → ⊥
+    other = no_segment_of c.judge.new.parsed.packet c.judge.new.parsed.head c.judge.result c.in_default.not-Segment
