@@ -1,5 +1,6 @@
 pub mod Outputs
 pub mod Asking
+pub mod Going
 pub mod Running
 pub mod Reading
 pub mod Statuses

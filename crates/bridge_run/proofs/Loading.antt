@@ -11,7 +11,7 @@ use Rattle.rule_book.specs.declared.load.LoadLine.{LoadLine}
 use Rattle.rule_book.specs.declared.load.LoadLine.TheVariants as lines
 use Rattle.rule_book.specs.Entries.{PlainEntry}
 use Rattle.norm_engine.specs.Items.{Item, packets}
-use Rattle.norm_engine.specs.Trace.{item_of}
+use Rattle.norm_engine.specs.Trace.{Lawful, item_of}
 use Rattle.norm_engine.specs.Laws.{ItemsAreCounted, IsCounted}
 use Rattle.norm_engine.specs.Engine.{Engaged, StandsFor}
 use Rattle.load_make.specs.Generated.{Generated, record_at}
@@ -19,7 +19,18 @@ use Rattle.load_make.specs.Loads.{Making}
 use Rattle.bridge_run.specs.declared.tally.Tally.{Tally}
 use Rattle.record_relay.specs.Frames.{frame_count}
 use Rattle.bridge_run.specs.Summary.{load_settings, eras_of, eras_begun, rules_named, rule_counts, rule_line}
-use Rattle.bridge_run.specs.Loads.{Counts, Going, IsTallied, SumsUp, lines_of}
+use Rattle.bridge_run.specs.Loads.{Counts, IsTallied, SumsUp, lines_of}
+
+-- So far: a lawful trace of the records that were made, which the engine represents, and which the tally counts.
+pub record Going (seed count : ℕ) (load : Making) (engine : Engaged) (tally : Tally) : Type 0 where
+  pub trace : List Item
+  pub lawful : Lawful load_settings Raw trace
+  pub made : load ≡ record { seed = seed; count = count; made = length trace }
+  pub records : packets trace ≡ reverse (take (length trace) (Generated seed count))
+  pub settings : engine.settings ≡ load_settings
+  pub link : engine.link ≡ Raw
+  pub stands : StandsFor engine trace
+  pub counts : Counts tally trace
 
 -- one more of the first records
 taken_more : (xs : List Packet) (i : ℕ) (p : Packet) → slice_get xs i ≡ Some p → reverse (take (i + 1) xs) ≡ p ∷ reverse (take i xs)

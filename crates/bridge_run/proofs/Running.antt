@@ -21,7 +21,7 @@ use Rattle.norm_engine.specs.Items.{Item, packets}
 use Rattle.record_relay.specs.declared.engines.Engines.{Engines}
 use Rattle.record_relay.specs.declared.engines.Engines.TheVariants.{One, Two}
 use Rattle.record_relay.specs.declared.fault.RelayFault.{RelayFault}
-use Rattle.record_relay.specs.Laws.{Begins, GoesOn, RunsAreWrittenSoundly, RunsBegin, RunsGoOn}
+use Rattle.record_relay.specs.Laws.{Begins, GoesOn, RunIsWrittenSoundly, RunsAreWrittenSoundly, RunsBegin, RunsGoOn}
 use Rattle.record_relay.specs.Outputs.{Given, heading}
 use Rattle.record_relay.specs.Outputs as relayed
 use Rattle.record_relay.specs.Puts.{IsPut, Put, count_put, next_put, puts, put_outputs, text_put}
@@ -30,9 +30,34 @@ use Rattle.record_relay.specs.Runs.{LawfulRun, RunHasNoSide, RunHasOctets, RunTr
 use Rattle.bridge_run.specs.declared.stop.Stop.{Stop}
 use Rattle.bridge_run.specs.Moments.{Moment, NoneRose}
 use Rattle.bridge_run.specs.Outputs.{BreaksOff, end_outputs, outputs_of, stop_by}
-use Rattle.bridge_run.specs.Run.{Begun, Going, Ended, IsFew, Normalized}
+use Rattle.bridge_run.specs.Run.{Begun, Ended, IsFew}
+use Rattle.bridge_run.specs.Promises.{CleanKeepPayload, FramesFit, HaveTimes, InwardArePlain, ReceiversAgree, StateIsBounded}
+use Rattle.bridge_run.specs.Theorem.{Normalized}
+use Rattle.bridge_run.proofs.Going.{Going}
 use Rattle.bridge_run.specs.Stopped.{StopsAtEnd, StopsAtPacket, StopsAtRecord, StopsAtTooMany}
 use Rattle.bridge_run.proofs.Outputs.{capture_part-append, report_part-append, given_after, broke_behind, capture_is, report_is}
+
+-- what is written soundly, promise by promise
+module _ (settings : PlainSettings) (link : Link) where
+  agree_in : (run : RunTrace) → RunIsWrittenSoundly settings link run → ReceiversAgree settings link run
+  agree_in (one trace) sound = sound.agree
+  agree_in (two trace mirror) sound = (sound.agree, sound.agree_behind, sound.through)
+
+  within_in : (run : RunTrace) → RunIsWrittenSoundly settings link run → StateIsBounded settings link run
+  within_in (one trace) sound = sound.within
+  within_in (two trace mirror) sound = (sound.within, sound.within_behind)
+
+  clean_in : (run : RunTrace) → RunIsWrittenSoundly settings link run → CleanKeepPayload settings link run
+  clean_in (one trace) sound = sound.clean_kept
+  clean_in (two trace mirror) sound = (sound.clean_kept, sound.clean_kept_behind)
+
+  plain_in : (run : RunTrace) → RunIsWrittenSoundly settings link run → InwardArePlain settings link run
+  plain_in (one trace) sound = sound.plain
+  plain_in (two trace mirror) sound = (sound.plain, sound.plain_behind)
+
+  fit_in : (run : RunTrace) → RunIsWrittenSoundly settings link run → FramesFit settings link run
+  fit_in (one trace) sound = (sound.none_long, sound.short)
+  fit_in (two trace mirror) sound = sound.short
 
 length-packets : (trace : List Item) → length (packets trace) ≡ length trace
 length-packets [] = refl
@@ -100,6 +125,7 @@ begins law settings head a b engines input is set linked stands p =
       so_far = record {
         lawful = first.lawful;
         octets = first.octets;
+        times = subst HaveTimes (sym first.taken) tt;
         sideless = first.sideless;
         few = λ both. let none = ap length first.taken in omega (arith, none);
         took = subst (λ (h : Head). Took settings.inside a.source.octets b.source.octets h p.walk) (sym is) p.took;
@@ -174,7 +200,8 @@ module _ (settings : PlainSettings) (head : Head) (a b : Moment) (engines : Engi
           (stands : (run : RunTrace) → StandsForRun engines run → StandsForRun engines' (next_run (settings_of engines) (link_of engines) run (shown given)))
           (octets : (run : RunTrace) → StandsForRun engines run → RunHasOctets (settings_of engines) run
           → RunHasOctets (settings_of engines) (next_run (settings_of engines) (link_of engines) run (shown given)))
-          (settled : settings_of engines' ≡ settings_of engines) (linked : link_of engines' ≡ link_of engines) (none : settings.both ≡ true → (shown given).side ≡ None) where
+          (settled : settings_of engines' ≡ settings_of engines) (linked : link_of engines' ≡ link_of engines) (none : settings.both ≡ true → (shown given).side ≡ None)
+          (seconds : given.seconds < 2 ^ 32) (fraction : given.fraction < 2 ^ 32) where
         pub goes_on : Going settings head a c engines' input' (frames + n)
         goes_on =
             let run = going.run in
@@ -190,6 +217,7 @@ module _ (settings : PlainSettings) (head : Head) (a b : Moment) (engines : Engi
               so_far = record {
                 lawful = step.lawful now.lawful;
                 octets = subst (λ (s : PlainSettings). RunHasOctets s (next_run settings head.link run p)) going.engine_settings (subst (RunHasOctets (settings_of engines)) (run_is p) has);
+                times = subst HaveTimes (sym step.taken) ((seconds, fraction), now.times);
                 sideless = sideless_more settings head.link run p now.lawful step now.sideless none;
                 few = still_few settings head.link engines run p going.stands now.lawful more size;
                 took = took_more;
@@ -248,6 +276,7 @@ module _ (settings : PlainSettings) (head : Head) (a b : Moment) (engines : Engi
     normalized soundly range together ended =
         let run = going.run in
         let now = going.so_far in
+        let sound : RunIsWrittenSoundly settings head.link run = soundly settings head.link run range together now.lawful now.octets now.sideless in
         let out = puts settings head.link run in
         let before = outputs_of settings.both head out in
         let all : Given (before ++ end_outputs count frames) a.sinks c.sinks = given_after _ _ a.sinks b.sinks c.sinks now.given ended.given in
@@ -256,15 +285,20 @@ module _ (settings : PlainSettings) (head : Head) (a b : Moment) (engines : Engi
         record {
           head = head;
           run = run;
+          agree = agree_in settings head.link run sound;
           lawful = now.lawful;
+          within = within_in settings head.link run sound;
+          clean = clean_in settings head.link run sound;
+          plain = plain_in settings head.link run sound;
+          fit = fit_in settings head.link run sound;
           octets = now.octets;
+          times = now.times;
           few = now.few;
           whole = subst (TookAll settings.inside a.source.octets head) packets_end all_taken.0;
           taken = all_taken.1;
           frames_written = subst (Appends a.sinks.capture.octets c.sinks.capture.octets) (capture_part-append before _ ∙ append-nil _ ∙ capture_is settings.both head out) all.capture;
           report_written = subst (Appends a.sinks.report.octets c.sinks.report.octets)
               (report_part-append before _ ∙ ap₂ (λ x y. x ++ y) (report_is settings.both head out) line) all.report;
-          sound = soundly settings head.link run range together now.lawful now.octets now.sideless;
         }
 
     -- an output at the end failed

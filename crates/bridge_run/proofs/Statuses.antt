@@ -14,7 +14,7 @@ use Rattle.bridge_run.specs.declared.stop.Stop.{Stop}
 use Rattle.bridge_run.specs.declared.stop.Stop.TheVariants as stops
 use Rattle.bridge_run.specs.Moments.{Moment}
 use Rattle.bridge_run.specs.Stops.{AreFew, BeginsTooMany, Faulted, FirstFault, fault_kind, kind_status, status_of, is_faulty, IsFaulty, IsCutShort, IsWhole, WasFaulty, WasCut, WasTooMany, WereFew}
-use Rattle.bridge_run.specs.Run.{Normalized}
+use Rattle.bridge_run.specs.Theorem.{Normalized}
 use Rattle.bridge_run.specs.Stopped.{Faulty, Stands, StopsAtTooMany}
 
 -- the status of a fault of the input

@@ -4,6 +4,9 @@ pub mod Stops
 pub mod Summary
 pub mod Counting
 pub mod Loads
+pub mod Promises
+pub mod Theorem
 pub mod Run
 pub mod Stopped
+pub mod Ends
 pub mod Rows

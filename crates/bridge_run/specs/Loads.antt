@@ -25,17 +25,6 @@ pub record Counts (tally : Tally) (trace : List Item) : Type 0 where
   pub few_eras : eras_begun trace ≤ length trace
   pub few_rules : length (rules_named trace) ≤ 16 * length trace
 
--- So far: a lawful trace of the records that were made, which the engine represents, and which the tally counts.
-pub record Going (seed count : ℕ) (load : Making) (engine : Engaged) (tally : Tally) : Type 0 where
-  pub trace : List Item
-  pub lawful : Lawful load_settings Raw trace
-  pub made : load ≡ record { seed = seed; count = count; made = length trace }
-  pub records : packets trace ≡ reverse (take (length trace) (Generated seed count))
-  pub settings : engine.settings ≡ load_settings
-  pub link : engine.link ≡ Raw
-  pub stands : StandsFor engine trace
-  pub counts : Counts tally trace
-
 -- All records were made and judged, and the tally counts them.
 pub record IsTallied (seed count records : ℕ) (tally : Tally) : Type 0 where
   pub trace : List Item

@@ -20,7 +20,8 @@ use Rattle.bridge_run.specs.declared.stop.Stop.{Stop}
 use Rattle.bridge_run.specs.declared.stop.Stop.TheVariants as stops
 use Rattle.bridge_run.specs.Moments.{Moment, NoneRose}
 use Rattle.bridge_run.specs.Outputs.{BreaksOff, first_outputs, head_outputs, outputs_of, end_outputs}
-use Rattle.bridge_run.specs.Run.{Normalized, AsksRun, IsFew}
+use Rattle.bridge_run.specs.Run.{AsksRun, IsFew}
+use Rattle.bridge_run.specs.Theorem.{Normalized}
 use Rattle.bridge_run.specs.Stops.{FirstFault, Kept, Told, status_of, stop_line, words_line, memory_line}
 use Rattle.bridge_run.specs.Summary.{LoadLeaves, AsksLoad}
 

@@ -8,7 +8,7 @@ ghost use Rattle.record_relay.specs.Runs.{empty_run};
 ghost use Rattle.record_relay.specs.Sinks.{sinks_of};
 ghost use Rattle.bridge_run.specs.Moments.{moment_of};
 ghost use Rattle.bridge_run.specs.Moments as moments;
-ghost use Rattle.bridge_run.specs.Outputs as outputs;
+ghost use Rattle.bridge_run.specs.Ends as ends;
 ghost use Rattle.bridge_run.specs.Stopped as stopped;
 ghost use Rattle.bridge_run.specs.Stops as stops;
 ghost use Rattle.bridge_run.specs.Run as spec;
@@ -60,16 +60,12 @@ pub fn run<S: Source, K: Sink, R: Sink>(
 
     // The state at the return: what was taken from the source and given to the sinks, by the lawful
     // run over the records that were judged.
-    ensures stopped { stopped.Stopped (map string_bytes words.now) result
-        (moment_of (S.left source.old) (S.fault_count source.old) (K.held capture.old) (K.fault_count capture.old)
-        (R.held report.old) (R.fault_count report.old))
-        (moment_of (S.left source.new) (S.fault_count source.new) (K.held capture.new) (K.fault_count capture.new)
-        (R.held report.new) (R.fault_count report.new)) }
-    ensures no_fault { result ≡ 0 → moments.NoneRose
-        (moment_of (S.left source.old) (S.fault_count source.old) (K.held capture.old) (K.fault_count capture.old)
-        (R.held report.old) (R.fault_count report.old))
-        (moment_of (S.left source.new) (S.fault_count source.new) (K.held capture.new) (K.fault_count capture.new)
-        (R.held report.new) (R.fault_count report.new)) }
+    ensures stopped { let before = moment_of (S.left source.old) (S.fault_count source.old) (K.held capture.old) (K.fault_count capture.old) (R.held report.old) (R.fault_count report.old) in
+        let now = moment_of (S.left source.new) (S.fault_count source.new) (K.held capture.new) (K.fault_count capture.new) (R.held report.new) (R.fault_count report.new) in
+        stopped.Stopped (map string_bytes words.now) result before now }
+    ensures no_fault { let before = moment_of (S.left source.old) (S.fault_count source.old) (K.held capture.old) (K.fault_count capture.old) (R.held report.old) (R.fault_count report.old) in
+        let now = moment_of (S.left source.new) (S.fault_count source.new) (K.held capture.new) (K.fault_count capture.new) (R.held report.new) (R.fault_count report.new) in
+        result ≡ 0 → moments.NoneRose before now }
 
     // The status is 2 for refused words, and 8 if memory could not be allocated; then only the
     // report is touched, by one line.
@@ -146,16 +142,12 @@ pub fn run_capture<S: Source, K: Sink, R: Sink>(
 ) -> u8
     requires range { AreInRange (plain_settings settings.now) }
     requires together { GoTogether (plain_settings settings.now) }
-    ensures stopped { stopped.StoppedUnder (plain_settings settings.now) result
-        (moment_of (S.left source.old) (S.fault_count source.old) (K.held capture.old) (K.fault_count capture.old)
-        (R.held report.old) (R.fault_count report.old))
-        (moment_of (S.left source.new) (S.fault_count source.new) (K.held capture.new) (K.fault_count capture.new)
-        (R.held report.new) (R.fault_count report.new)) }
-    ensures no_fault { result ≡ 0 → moments.NoneRose
-        (moment_of (S.left source.old) (S.fault_count source.old) (K.held capture.old) (K.fault_count capture.old)
-        (R.held report.old) (R.fault_count report.old))
-        (moment_of (S.left source.new) (S.fault_count source.new) (K.held capture.new) (K.fault_count capture.new)
-        (R.held report.new) (R.fault_count report.new)) }
+    ensures stopped { let before = moment_of (S.left source.old) (S.fault_count source.old) (K.held capture.old) (K.fault_count capture.old) (R.held report.old) (R.fault_count report.old) in
+        let now = moment_of (S.left source.new) (S.fault_count source.new) (K.held capture.new) (K.fault_count capture.new) (R.held report.new) (R.fault_count report.new) in
+        stopped.StoppedUnder (plain_settings settings.now) result before now }
+    ensures no_fault { let before = moment_of (S.left source.old) (S.fault_count source.old) (K.held capture.old) (K.fault_count capture.old) (R.held report.old) (R.fault_count report.old) in
+        let now = moment_of (S.left source.new) (S.fault_count source.new) (K.held capture.new) (K.fault_count capture.new) (R.held report.new) (R.fault_count report.new) in
+        result ≡ 0 → moments.NoneRose before now }
     ensures memory { result ≡ 8 → stops.Told (R.held report.old) (R.held report.new)
         (R.fault_count report.old) (R.fault_count report.new) stops.memory_line }
     ensures source_untouched { result ≡ 8 → source.new ≡ source.old }
@@ -204,24 +196,9 @@ fn normalize_in_room<S: Source, K: Sink, R: Sink>(
 ) -> Result<Result<(), Stop>, NoMemory>
     requires range { AreInRange (plain_settings settings.now) }
     requires together { GoTogether (plain_settings settings.now) }
-    ensures finished { IfOk result (λ ended. OnOk ended (spec.Normalized (plain_settings settings.now)
-        (S.left source.old) (S.left source.new) (K.held capture.old) (K.held capture.new)
-        (R.held report.old) (R.held report.new))) }
-    ensures no_fault { IfOk result (λ ended. OnOk ended (moments.NoneRose
-        (moment_of (S.left source.old) (S.fault_count source.old) (K.held capture.old) (K.fault_count capture.old)
-        (R.held report.old) (R.fault_count report.old))
-        (moment_of (S.left source.new) (S.fault_count source.new) (K.held capture.new) (K.fault_count capture.new)
-        (R.held report.new) (R.fault_count report.new)))) }
-    ensures stands { IfOk result (λ ended. IfErr ended (λ stop. stopped.Stands (plain_settings settings.now) stop
-        (moment_of (S.left source.old) (S.fault_count source.old) (K.held capture.old) (K.fault_count capture.old)
-        (R.held report.old) (R.fault_count report.old))
-        (moment_of (S.left source.new) (S.fault_count source.new) (K.held capture.new) (K.fault_count capture.new)
-        (R.held report.new) (R.fault_count report.new)))) }
-    ensures first { IfOk result (λ ended. IfErr ended (λ stop. stops.FirstFault stop
-        (moment_of (S.left source.old) (S.fault_count source.old) (K.held capture.old) (K.fault_count capture.old)
-        (R.held report.old) (R.fault_count report.old))
-        (moment_of (S.left source.new) (S.fault_count source.new) (K.held capture.new) (K.fault_count capture.new)
-        (R.held report.new) (R.fault_count report.new)))) }
+    ensures ends { let before = moment_of (S.left source.old) (S.fault_count source.old) (K.held capture.old) (K.fault_count capture.old) (R.held report.old) (R.fault_count report.old) in
+        let now = moment_of (S.left source.new) (S.fault_count source.new) (K.held capture.new) (K.fault_count capture.new) (R.held report.new) (R.fault_count report.new) in
+        IfOk result (λ ended. ends.Ends (plain_settings settings.now) ended before now) }
     ensures opened { IfOk result (λ ended. IfErr ended (λ stop. stops.status_of stop ≡ 7
         → (source.new ≡ source.old) ⊎ stops.HasHead (plain_settings settings.now) (S.left source.old))) }
     ensures source_stays { IfErr result (λ fault. source.new ≡ source.old) }
@@ -263,24 +240,9 @@ fn normalize<S: Source, K: Sink, R: Sink>(
     requires range { AreInRange (plain_settings settings.now) }
     requires together { GoTogether (plain_settings settings.now) }
     requires room { 262144 ≤ length buffer.old }
-    ensures finished { OnOk result (spec.Normalized (plain_settings settings.now)
-        (S.left source.old) (S.left source.new) (K.held capture.old) (K.held capture.new)
-        (R.held report.old) (R.held report.new)) }
-    ensures no_fault { OnOk result (moments.NoneRose
-        (moment_of (S.left source.old) (S.fault_count source.old) (K.held capture.old) (K.fault_count capture.old)
-        (R.held report.old) (R.fault_count report.old))
-        (moment_of (S.left source.new) (S.fault_count source.new) (K.held capture.new) (K.fault_count capture.new)
-        (R.held report.new) (R.fault_count report.new))) }
-    ensures stands { IfErr result (λ stop. stopped.Stands (plain_settings settings.now) stop
-        (moment_of (S.left source.old) (S.fault_count source.old) (K.held capture.old) (K.fault_count capture.old)
-        (R.held report.old) (R.fault_count report.old))
-        (moment_of (S.left source.new) (S.fault_count source.new) (K.held capture.new) (K.fault_count capture.new)
-        (R.held report.new) (R.fault_count report.new))) }
-    ensures first { IfErr result (λ stop. stops.FirstFault stop
-        (moment_of (S.left source.old) (S.fault_count source.old) (K.held capture.old) (K.fault_count capture.old)
-        (R.held report.old) (R.fault_count report.old))
-        (moment_of (S.left source.new) (S.fault_count source.new) (K.held capture.new) (K.fault_count capture.new)
-        (R.held report.new) (R.fault_count report.new))) }
+    ensures ends { let before = moment_of (S.left source.old) (S.fault_count source.old) (K.held capture.old) (K.fault_count capture.old) (R.held report.old) (R.fault_count report.old) in
+        let now = moment_of (S.left source.new) (S.fault_count source.new) (K.held capture.new) (K.fault_count capture.new) (R.held report.new) (R.fault_count report.new) in
+        ends.Ends (plain_settings settings.now) result before now }
     ensures opened { IfErr result (λ stop. stops.status_of stop ≡ 7
         → (source.new ≡ source.old) ⊎ stops.HasHead (plain_settings settings.now) (S.left source.old)) }
     ensures source_later { S.fault_count source.old ≤ S.fault_count source.new }
@@ -336,21 +298,9 @@ fn begin<S: Source, K: Sink, R: Sink>(
     capture: &mut K,
     report: &mut R,
 ) -> Result<Input, Stop>
-    ensures begun { IfOk result (λ input. spec.Begun (plain_settings settings.now) input
-        (moment_of (S.left source.old) (S.fault_count source.old) (K.held capture.old) (K.fault_count capture.old)
-        (R.held report.old) (R.fault_count report.old))
-        (moment_of (S.left source.new) (S.fault_count source.new) (K.held capture.new) (K.fault_count capture.new)
-        (R.held report.new) (R.fault_count report.new))) }
-    ensures stands { IfErr result (λ stop. stopped.Stands (plain_settings settings.now) stop
-        (moment_of (S.left source.old) (S.fault_count source.old) (K.held capture.old) (K.fault_count capture.old)
-        (R.held report.old) (R.fault_count report.old))
-        (moment_of (S.left source.new) (S.fault_count source.new) (K.held capture.new) (K.fault_count capture.new)
-        (R.held report.new) (R.fault_count report.new))) }
-    ensures first { IfErr result (λ stop. stops.FirstFault stop
-        (moment_of (S.left source.old) (S.fault_count source.old) (K.held capture.old) (K.fault_count capture.old)
-        (R.held report.old) (R.fault_count report.old))
-        (moment_of (S.left source.new) (S.fault_count source.new) (K.held capture.new) (K.fault_count capture.new)
-        (R.held report.new) (R.fault_count report.new))) }
+    ensures begins { let before = moment_of (S.left source.old) (S.fault_count source.old) (K.held capture.old) (K.fault_count capture.old) (R.held report.old) (R.fault_count report.old) in
+        let now = moment_of (S.left source.new) (S.fault_count source.new) (K.held capture.new) (K.fault_count capture.new) (R.held report.new) (R.fault_count report.new) in
+        ends.Begins (plain_settings settings.now) result before now }
     ensures untouched { IfErr result (λ stop. stops.status_of stop ≡ 7 → source.new ≡ source.old) }
     ensures source_later { S.fault_count source.old ≤ S.fault_count source.new }
     ensures capture_later { K.fault_count capture.old ≤ K.fault_count capture.new }
@@ -377,15 +327,9 @@ fn finish<K: Sink, R: Sink>(
     capture: &mut K,
     report: &mut R,
 ) -> Result<(), Stop>
-    ensures ended { OnOk result (spec.Ended records frames
+    ensures closes { ends.Closes records frames place result
         (sinks_of (K.held capture.old) (K.fault_count capture.old) (R.held report.old) (R.fault_count report.old))
-        (sinks_of (K.held capture.new) (K.fault_count capture.new) (R.held report.new) (R.fault_count report.new))) }
-    ensures broke { IfErr result (λ stop. outputs.BreaksOff [] (outputs.end_outputs records frames) place stop
-        (sinks_of (K.held capture.old) (K.fault_count capture.old) (R.held report.old) (R.fault_count report.old))
-        (sinks_of (K.held capture.new) (K.fault_count capture.new) (R.held report.new) (R.fault_count report.new))) }
-    ensures first { IfErr result (λ stop. stops.FirstSinkFault stop
-        (sinks_of (K.held capture.old) (K.fault_count capture.old) (R.held report.old) (R.fault_count report.old))
-        (sinks_of (K.held capture.new) (K.fault_count capture.new) (R.held report.new) (R.fault_count report.new))) }
+        (sinks_of (K.held capture.new) (K.fault_count capture.new) (R.held report.new) (R.fault_count report.new)) }
     ensures capture_later { K.fault_count capture.old ≤ K.fault_count capture.new }
     ensures report_later { R.fault_count report.old ≤ R.fault_count report.new }
 {

@@ -1,4 +1,4 @@
-use Rattle.std.proofs.Common.{◌≡◌, ℕ, rules, true, List, inl, inr, refl, sym, subst, ◌∙◌}
+use Rattle.std.proofs.Common.{◌≡◌, ℕ, ◌<◌, ◌^◌, rules, true, List, inl, inr, refl, sym, subst, ◌∙◌}
 use Rattle.std.proofs.lemmas.Result.{on_ok_weaker}
 use Rattle.std.specs.declared.option.Option.{Option}
 use Rattle.capture_input.specs.Reading.{Behind}
@@ -6,6 +6,7 @@ use Rattle.norm_settings.specs.Settings.{PlainSettings, plain_settings}
 use Rattle.record_relay.specs.Relays.{StandsForRun, is_full_of}
 use Rattle.record_relay.specs.Runs.{empty_run}
 use Rattle.bridge_run.specs.Moments.{Moment, moment_of}
+use Rattle.bridge_run.specs.Run.{Ended}
 use Rattle.bridge_run.proofs.Running.{begins, none_counted, fewer_left, goes_on, normalized, stops_at_packet, stops_at_end, stops_at_record, stops_at_too_many, if_err_weaker}
 use Rattle.bridge_run.proofs.Reading.{first_at_sink, stands_faulty, stands_unwritten}
 use Rattle.bridge_run.proofs.runner.normalize.Goals as goal
@@ -18,11 +19,11 @@ records-init g c =
     let first : StandsForRun c.args.relay.now (empty_run (plain_settings c.args.settings.now).both) = c.requires.stands in
     let linked = c.set_link.ensures.stands (subst (λ (s : PlainSettings). StandsForRun c.args.relay.now (empty_run s.both)) (sym c.requires.settings) first) in
     record {
-      may_ask = c.in_ok-input.ensures.begun.goes_on;
+      may_ask = c.in_ok-input.ensures.begins.begun.goes_on;
       room = search rules;
       going = begins c.runs_go_on.ensures.begin (plain_settings c.args.settings.now) c.head-head.result _ _ c.set_link.new.self c.in_ok-input.input c.head-head.ensures
           (c.set_link.ensures.settings ∙ c.requires.settings) c.set_link.ensures.link
-          (subst (λ (s : PlainSettings). StandsForRun c.set_link.new.self (empty_run s.both)) c.requires.settings linked) c.in_ok-input.ensures.begun;
+          (subst (λ (s : PlainSettings). StandsForRun c.set_link.new.self (empty_run s.both)) c.requires.settings linked) c.in_ok-input.ensures.begins.begun;
     }
 
 pub records-smaller : goal.records-smaller
@@ -41,6 +42,8 @@ records-preserved g c =
     let settings = plain_settings c.args.settings.now in
     let going = c.records.invariant.going in
     let gives = rw c.in-Ok-Some.field-0-is at (c.in-Ok-Some.ensures.octets settings.inside going.walk going.behind) in
+    let seconds : c.in-Ok-Some.record.seconds < 2 ^ 32 = search rules in
+    let fraction : c.in-Ok-Some.record.fraction < 2 ^ 32 = search rules in
     record {
       may_ask = gives.goes_on;
       room = search rules;
@@ -48,58 +51,74 @@ records-preserved g c =
           goes_on settings c.head-head.result _ _ c.records.relay c.records.input c.records.frames going _ c.next.new.self c.in-Ok-Some.record gives c.runs_go_on.ensures.next
           c.relay.new.self c.in-Ok.count (search rules) (sym c.is_full.ensures ∙ c.if-is_full.false)
           c.in-Ok.ensures.relayed c.in-Ok.ensures.short c.relay.ensures.stands c.relay.ensures.octets c.relay.ensures.settings c.relay.ensures.link
-          (λ both. rw c.in-Ok-Some.field-0-is at (c.in-Ok-Some.ensures.sideless going.walk (subst (λ (inside : Option (List ℕ)). Behind c.records.input inside going.walk) (c.requires.together.inside both) going.behind)));
+          (λ both. rw c.in-Ok-Some.field-0-is at (c.in-Ok-Some.ensures.sideless going.walk (subst (λ (inside : Option (List ℕ)). Behind c.records.input inside going.walk) (c.requires.together.inside both) going.behind)))
+          seconds fraction;
     }
 
-pub returns-in-Err-clause-stands : goal.returns-in-Err-clause-stands
-returns-in-Err-clause-stands g c =
+pub returns-in-Err-clause-ends : goal.returns-in-Err-clause-ends
+returns-in-Err-clause-ends g c =
     let going = c.records.invariant.going in
     let stops = c.in-Err.ensures.octets (plain_settings c.args.settings.now).inside going.walk going.behind in
     let now : Moment = moment_of (g.S.Source.left c.next.new.source) (g.S.Source.fault_count c.next.new.source) (g.K.Sink.held c.records.capture) (g.K.Sink.fault_count c.records.capture) (g.R.Sink.held c.records.report) (g.R.Sink.fault_count c.records.report) in
-    rw c.stop_at_fault.ensures (stands_faulty (plain_settings c.args.settings.now) c.in-Err.fault c.offset.result _ now
-    (inr (stops_at_record (plain_settings c.args.settings.now) c.head-head.result _ _ c.records.relay c.records.input c.records.frames going now c.next.new.self c.in-Err.fault c.offset.result stops c.offset.ensures refl)))
+    record {
+      finished = tt;
+      stopped = record {
+        stands = rw c.stop_at_fault.ensures (stands_faulty (plain_settings c.args.settings.now) c.in-Err.fault c.offset.result _ now
+            (inr (stops_at_record (plain_settings c.args.settings.now) c.head-head.result _ _ c.records.relay c.records.input c.records.frames going now c.next.new.self c.in-Err.fault c.offset.result stops c.offset.ensures refl)));
+        first = search rules;
+      };
+    }
 
-pub returns-then-is_full-clause-stands : goal.returns-then-is_full-clause-stands
-returns-then-is_full-clause-stands g c =
+pub returns-then-is_full-clause-ends : goal.returns-then-is_full-clause-ends
+returns-then-is_full-clause-ends g c =
     let going = c.records.invariant.going in
     let now : Moment = moment_of (g.S.Source.left c.next.new.source) (g.S.Source.fault_count c.next.new.source) (g.K.Sink.held c.records.capture) (g.K.Sink.fault_count c.records.capture) (g.R.Sink.held c.records.report) (g.R.Sink.fault_count c.records.report) in
     let gives = rw c.in-Ok-Some.field-0-is at (c.in-Ok-Some.ensures.octets (plain_settings c.args.settings.now).inside going.walk going.behind) in
     let full : is_full_of c.records.relay ≡ true = sym c.is_full.ensures ∙ c.if-is_full.true in
-    rw c.stop_at_too_many.ensures (inr (stops_at_too_many (plain_settings c.args.settings.now) c.head-head.result _ _ c.records.relay c.records.input c.records.frames going now c.next.new.self c.in-Ok-Some.record gives
-    c.in-Ok-Some.record.offset refl full refl))
+    record {
+      finished = tt;
+      stopped = record {
+        stands = rw c.stop_at_too_many.ensures (inr (stops_at_too_many (plain_settings c.args.settings.now) c.head-head.result _ _ c.records.relay c.records.input c.records.frames going now c.next.new.self c.in-Ok-Some.record gives
+            c.in-Ok-Some.record.offset refl full refl));
+        first = search rules;
+      };
+    }
 
-pub returns-in-Err-relay-clause-stands : goal.returns-in-Err-relay-clause-stands
-returns-in-Err-relay-clause-stands g c =
+pub returns-in-Err-relay-clause-ends : goal.returns-in-Err-relay-clause-ends
+returns-in-Err-relay-clause-ends g c =
     let settings = plain_settings c.args.settings.now in
     let now : Moment = moment_of (g.S.Source.left c.next.new.source) (g.S.Source.fault_count c.next.new.source) (g.K.Sink.held c.relay.new.capture) (g.K.Sink.fault_count c.relay.new.capture) (g.R.Sink.held c.relay.new.report) (g.R.Sink.fault_count c.relay.new.report) in
     let going = c.records.invariant.going in
     let gives = rw c.in-Ok-Some.field-0-is at (c.in-Ok-Some.ensures.octets settings.inside going.walk going.behind) in
     let at = stops_at_packet settings c.head-head.result _ _ c.records.relay c.records.input c.records.frames going now c.next.new.self c.in-Ok-Some.record gives c.runs_go_on.ensures.next
     (sym c.is_full.ensures ∙ c.if-is_full.false) c.in-Err-relay.fault c.in-Err-relay.ensures.broke in
-    rw c.stop_at_sink.ensures (stands_unwritten settings _ c.in-Err-relay.fault c.in-Ok-Some.record.offset _ now refl (inr (inr (inl at))))
+    record {
+      finished = tt;
+      stopped = record {
+        stands = rw c.stop_at_sink.ensures (stands_unwritten settings _ c.in-Err-relay.fault c.in-Ok-Some.record.offset _ now refl (inr (inr (inl at))));
+        first = rw c.stop_at_sink.ensures (first_at_sink c.in-Err-relay.fault c.in-Ok-Some.record.offset _ _ _ going.so_far.none_rose (search rules) c.in-Err-relay.ensures.first);
+      };
+    }
 
-pub returns-in-Err-relay-clause-first : goal.returns-in-Err-relay-clause-first
-returns-in-Err-relay-clause-first g c =
-    let going = c.records.invariant.going in
-    rw c.stop_at_sink.ensures (first_at_sink c.in-Err-relay.fault c.in-Ok-Some.record.offset _ _ _ going.so_far.none_rose (search rules) c.in-Err-relay.ensures.first)
-
-pub returns-clause-finished : goal.returns-clause-finished
-returns-clause-finished g c =
+pub returns-clause-ends : goal.returns-clause-ends
+returns-clause-ends g c =
     let now : Moment = moment_of (g.S.Source.left c.next.new.source) (g.S.Source.fault_count c.next.new.source) (g.K.Sink.held c.finish.new.capture) (g.K.Sink.fault_count c.finish.new.capture) (g.R.Sink.held c.finish.new.report) (g.R.Sink.fault_count c.finish.new.report) in
     let going = c.records.invariant.going in
     let ends = rw c.in-Ok-None.field-0-is at (c.in-Ok-None.ensures.octets (plain_settings c.args.settings.now).inside going.walk going.behind) in
-    on_ok_weaker c.finish.result
-    (normalized (plain_settings c.args.settings.now) c.head-head.result _ _ c.records.relay c.records.input c.records.frames going now c.next.new.self c.whole_is_input.ensures ends c.records-2.result c.records-2.ensures
-    c.runs_are_written_soundly.ensures c.requires.range c.requires.together)
-    c.finish.ensures.ended
-
-pub returns-clause-stands : goal.returns-clause-stands
-returns-clause-stands g c =
-    let now : Moment = moment_of (g.S.Source.left c.next.new.source) (g.S.Source.fault_count c.next.new.source) (g.K.Sink.held c.finish.new.capture) (g.K.Sink.fault_count c.finish.new.capture) (g.R.Sink.held c.finish.new.report) (g.R.Sink.fault_count c.finish.new.report) in
-    let going = c.records.invariant.going in
-    let ends = rw c.in-Ok-None.field-0-is at (c.in-Ok-None.ensures.octets (plain_settings c.args.settings.now).inside going.walk going.behind) in
-    if_err_weaker c.finish.result
-    (λ stop broke. stands_unwritten (plain_settings c.args.settings.now) stop broke.fault c.offset-2.result _ now broke.answered
-    (inr (inr (inr (stops_at_end (plain_settings c.args.settings.now) c.head-head.result _ _ c.records.relay c.records.input c.records.frames going now c.next.new.self c.whole_is_input.ensures ends c.records-2.result c.records-2.ensures
-    c.offset-2.result stop c.offset-2.ensures broke)))))
-    c.finish.ensures.broke
+    record {
+      finished = on_ok_weaker c.finish.result
+          (λ (e : Ended c.records-2.result c.records.frames _ _). record {
+            normalized = normalized (plain_settings c.args.settings.now) c.head-head.result _ _ c.records.relay c.records.input c.records.frames going now c.next.new.self c.whole_is_input.ensures ends c.records-2.result c.records-2.ensures
+                c.runs_are_written_soundly.ensures c.requires.range c.requires.together e;
+            none_rose = search rules;
+          })
+          c.finish.ensures.closes.ended;
+      stopped = if_err_weaker c.finish.result
+          (λ stop broke. record {
+            stands = stands_unwritten (plain_settings c.args.settings.now) stop broke.broke.fault c.offset-2.result _ now broke.broke.answered
+                (inr (inr (inr (stops_at_end (plain_settings c.args.settings.now) c.head-head.result _ _ c.records.relay c.records.input c.records.frames going now c.next.new.self c.whole_is_input.ensures ends c.records-2.result c.records-2.ensures
+                c.offset-2.result stop c.offset-2.ensures broke.broke))));
+            first = search rules;
+          })
+          c.finish.ensures.closes.stopped;
+    }

@@ -1,0 +1,36 @@
+-- How the parts of a run over a capture end, before a line reports why it stopped (this project's profile).
+use Rattle.std.specs.Prelude.{ℕ, List, [], Result, OnOk, IfErr, IfOk}
+use Rattle.norm_settings.specs.Settings.{PlainSettings}
+use Rattle.capture_input.specs.declared.input.Input.{Input}
+use Rattle.record_relay.specs.Sinks.{Sinks}
+use Rattle.bridge_run.specs.declared.stop.Stop.{Stop}
+use Rattle.bridge_run.specs.Moments.{Moment}
+use Rattle.bridge_run.specs.Outputs.{BreaksOff, end_outputs}
+use Rattle.bridge_run.specs.Run.{Begun, Ended}
+use Rattle.bridge_run.specs.Stops.{FirstFault, FirstSinkFault}
+use Rattle.bridge_run.specs.Stopped.{Finishes, Stands}
+
+-- the state at a stop, whose fault was the first
+pub record StopsAt (settings : PlainSettings) (stop : Stop) (before now : Moment) : Type 0 where
+  pub stands : Stands settings stop before now
+  pub first : FirstFault stop before now
+
+-- the capture was normalized, and nothing failed; or the run stopped
+pub record Ends {T : Type 0} (settings : PlainSettings) (result : Result T Stop) (before now : Moment) : Type 0 where
+  pub finished : OnOk result (Finishes settings before now)
+  pub stopped : IfErr result (λ stop. StopsAt settings stop before now)
+
+-- the first line and the head were written, and the head was read, and nothing after it; or the run stopped
+pub record Begins (settings : PlainSettings) (result : Result Input Stop) (before now : Moment) : Type 0 where
+  pub begun : IfOk result (λ input. Begun settings input before now)
+  pub stopped : IfErr result (λ stop. StopsAt settings stop before now)
+
+-- an output at the end failed, at this offset
+pub record StopsClosing (records frames offset : ℕ) (stop : Stop) (before now : Sinks) : Type 0 where
+  pub broke : BreaksOff [] (end_outputs records frames) offset stop before now
+  pub first : FirstSinkFault stop before now
+
+-- the last line was written, and no sink failed; or an output at the end failed
+pub record Closes {T : Type 0} (records frames offset : ℕ) (result : Result T Stop) (before now : Sinks) : Type 0 where
+  pub ended : OnOk result (Ended records frames before now)
+  pub stopped : IfErr result (λ stop. StopsClosing records frames offset stop before now)

@@ -1,0 +1,44 @@
+-- The promises of a finished run over a capture, each by one engine or by two (this project's profile). `bridge_run/specs/Theorem.antt` joins them.
+use Rattle.std.specs.Prelude.{ℕ, ◌<◌, ◌^◌, List}
+use Rattle.std.specs.List.{AllByRecursion}
+use Rattle.wire_base.specs.declared.address.Link.{Link}
+use Rattle.pcap_file.specs.Records.{Packet}
+use Rattle.norm_settings.specs.Settings.{PlainSettings}
+use Rattle.norm_engine.specs.Agreement.{Agree}
+use Rattle.norm_engine.specs.Clean.{CleanIsKept}
+use Rattle.norm_engine.specs.Laws.{IsAlwaysWithin}
+use Rattle.norm_engine.specs.Sending.{ArePlainInwards, HasShortFrames}
+use Rattle.both_sides.specs.Laws.{InwardGoesThrough}
+use Rattle.both_sides.specs.Traces.{mirrored}
+use Rattle.record_relay.specs.Cut.{AgreeAsWritten, CleanIsWritten, NoneIsLong, written}
+use Rattle.record_relay.specs.Runs.{RunTrace, one, two}
+
+-- In each era any two receivers of the family, under any schedules of the frames written inwards, deliver streams of which one is a prefix of the other. If both
+-- sides are protected, that holds of either side, since frames of the first engine to the inside pass the second unchanged.
+abbrev pub ReceiversAgree : PlainSettings → Link → RunTrace → Type 0
+ReceiversAgree settings link (one trace) = AgreeAsWritten settings link trace
+ReceiversAgree settings link (two trace mirror) = Agree settings.hops link trace × Agree settings.hops link mirror × InwardGoesThrough trace mirror
+
+-- Before the first record and after each, no more is held than the settings allow.
+abbrev pub StateIsBounded : PlainSettings → Link → RunTrace → Type 0
+StateIsBounded settings link (one trace) = IsAlwaysWithin settings link trace
+StateIsBounded settings link (two trace mirror) = IsAlwaysWithin settings link trace × IsAlwaysWithin (mirrored settings) link mirror
+
+-- Each clean record has exactly one frame with its payload, or is cut into segments that carry it, unless its frame is too long and cannot be cut.
+abbrev pub CleanKeepPayload : PlainSettings → Link → RunTrace → Type 0
+CleanKeepPayload settings link (one trace) = CleanIsWritten settings link trace
+CleanKeepPayload settings link (two trace mirror) = CleanIsKept settings link trace × CleanIsKept (mirrored settings) link mirror
+
+-- Each frame written inwards is plain for the routers behind norm, except ARP.
+abbrev pub InwardArePlain : PlainSettings → Link → RunTrace → Type 0
+InwardArePlain settings link (one trace) = ArePlainInwards settings.hops link (written settings link trace)
+InwardArePlain settings link (two trace mirror) = ArePlainInwards settings.hops link trace × ArePlainInwards settings.hops link mirror
+
+-- No frame written is longer than a capture may have, or than the MTU, if there is one.
+abbrev pub FramesFit : PlainSettings → Link → RunTrace → Type 0
+FramesFit settings link (one trace) = NoneIsLong settings.mtu link (written settings link trace) × AllByRecursion HasShortFrames (written settings link trace)
+FramesFit settings link (two trace mirror) = AllByRecursion HasShortFrames mirror
+
+-- The time of each record is two numbers of 32 bits.
+abbrev pub HaveTimes : List Packet → Type 0
+HaveTimes packets = AllByRecursion (λ (p : Packet). (p.seconds < 2 ^ 32) × (p.fraction < 2 ^ 32)) packets
