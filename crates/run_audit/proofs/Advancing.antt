@@ -15,7 +15,7 @@ use Rattle.run_audit.specs.declared.ledger.Ledger.{Ledger}
 use Rattle.run_audit.specs.Ledgers.{IsOutward, Tells, StandsFor, acked_with, counted}
 use Rattle.run_audit.proofs.Tops.{last_same, outward_end}
 
--- what an outward segment says
+-- the base that an outward segment fixes, if it fixes one
 fixes_out : (f n : ℕ) (w : Written) → IsOutward f n w → fixes w ≡ (if tcp.has_ack f && not (tcp.has_rst f) then Some n else None)
 fixes_out f n w is =
     ap (λ (i : Bool). if i then (if tcp.has_syn w.flags then Some ((w.seq + 1) % 2 ^ 32) else None) else (if tcp.has_ack w.flags && not (tcp.has_rst w.flags) then Some w.ack else None)) is.inward_is
@@ -26,7 +26,7 @@ ack_out base a f n w is =
     ap (λ (i : Bool). if not i && tcp.has_ack w.flags then natural (off base a w.ack) else None) is.inward_is
     ∙ ap₂ (λ g m. if tcp.has_ack g then natural (off base a m) else None) is.flags_are is.number_is
 
--- the fields with it, where so much is acknowledged
+-- the fields with an outward segment, if `a` is the acknowledged offset with it
 tells_outward : (base a : ℕ) (o : Option ℕ) (l : Ledger) (ws : List Written) (w : Written) → w.inward ≡ false → a ≡ acked base (ws ++ w ∷ []) → Tells base l ws → Tells base (record l { base = o; acked = a }) (ws ++ w ∷ [])
 tells_outward base a o l ws w out acked_is t = record {
   acked_is = acked_is;
@@ -44,11 +44,11 @@ tells_outward base a o l ws w out acked_is t = record {
 pub other_before : (base : ℕ) (ws : List Written) (w : Written) → HasNoOtherBase base (ws ++ w ∷ []) → HasNoOtherBase base ws
 other_before base ws w only number e = only number (base_push ws w ∙ or_kept (base_of ws) (fixes w) number e)
 
--- it counts exactly where a base is fixed with it
+-- an outward segment is counted exactly if a base is fixed before it or by it
 abbrev CountedAs : Ledger → List Written → Written → Option ℕ → Type 0
 CountedAs l ws w o = StandsFor l (if is_some o then ws ++ w ∷ [] else ws)
 
--- it does not acknowledge
+-- the segment does not acknowledge
 pub unacknowledging : (l : Ledger) (f n : ℕ) (ws : List Written) (w : Written) → StandsFor l ws → IsOutward f n w → tcp.has_ack f ≡ false → StandsFor l (counted ws w)
 unacknowledging l f n ws w st is idle = subst (CountedAs l ws w) (sym base_same) (by (base_of ws))
   where
@@ -68,14 +68,14 @@ unacknowledging l f n ws w st is idle = subst (CountedAs l ws w) (sym base_same)
           record { acked_is = with_it.acked_is; top_is = with_it.top_is; end_is = with_it.end_is; octets_are = with_it.octets_are };
     }
 
--- what is acknowledged with it
+-- the acknowledged offset with the segment
 acked_on : (base f n : ℕ) (ws : List Written) (w : Written) → IsOutward f n w → tcp.has_ack f ≡ true → acked base (ws ++ w ∷ []) ≡ acked_with base (acked base ws) n
 acked_on base f n ws w is acks = acked_push base ws w ∙ ap (λ o. max (acked base ws) (number_in o)) (ack_out base (acked base ws) f n w is ∙ ap (λ (a : Bool). if a then natural (off base (acked base ws) n) else None) acks)
 
 pub one_base : (base other : ℕ) (ws : List Written) → base_of ws ≡ Some base → base_of ws ≡ Some other → base ≡ other
 one_base base other ws e f = cc (e, f)
 
--- it acknowledges, and with it this base is fixed
+-- the segment acknowledges, and the base fixed before it or by it is this one
 reached : (l : Ledger) (b f n : ℕ) (ws : List Written) (w : Written) → StandsFor l ws → IsOutward f n w → tcp.has_ack f ≡ true → base_of (ws ++ w ∷ []) ≡ Some b → StandsFor (record l { base = Some b; acked = acked_with b l.acked n }) (counted ws w)
 reached l b f n ws w st is acks based = subst (CountedAs (record l { base = Some b; acked = acked_with b l.acked n }) ws w) (sym based) (record {
   base_is = sym based;
@@ -94,14 +94,14 @@ reached_on l b f n ws w st is acks based =
     let P : Option ℕ → Type 0 = λ o. StandsFor (record l { base = o; acked = acked_with b l.acked n }) (counted ws w) in
     subst P (sym based) (reached l b f n ws w st is acks (base_push ws w ∙ or_kept (base_of ws) (fixes w) b (sym st.base_is ∙ based)))
 
--- none was, and it fixes none
+-- no base was fixed before, and the segment fixes none
 pub reset : (l : Ledger) (f n : ℕ) (ws : List Written) (w : Written) → StandsFor l ws → IsOutward f n w → tcp.has_ack f ≡ true → tcp.has_rst f ≡ true → l.base ≡ None → StandsFor l (counted ws w)
 reset l f n ws w st is acks rst unbased = subst (CountedAs l ws w) (sym after) st
   where
     after : base_of (ws ++ w ∷ []) ≡ None
     after = base_push ws w ∙ none_or (base_of ws) (fixes w) (sym st.base_is ∙ unbased) ∙ fixes_out f n w is ∙ ap₂ (λ (a r : Bool). if a && not r then Some n else None) acks rst
 
--- none was, and it fixes one
+-- no base was fixed before, and the segment fixes one
 pub opened : (l : Ledger) (f n : ℕ) (ws : List Written) (w : Written) → StandsFor l ws → IsOutward f n w → tcp.has_ack f ≡ true → tcp.has_rst f ≡ false → l.base ≡ None → StandsFor (record l { base = Some n; acked = acked_with n l.acked n }) (counted ws w)
 opened l f n ws w st is acks rst unbased =
     reached l n f n ws w st is acks (base_push ws w ∙ none_or (base_of ws) (fixes w) (sym st.base_is ∙ unbased) ∙ fixes_out f n w is ∙ ap₂ (λ (a r : Bool). if a && not r then Some n else None) acks rst)

@@ -1,4 +1,4 @@
--- Frames without a fault tell one stream in each era, so that all receivers agree.
+-- Frames without a fault describe one stream in each era, so all receivers agree.
 use Rattle.std.proofs.Common.{◌≡◌, ℕ, zero, suc, ◌+◌, ◌%◌, ◌^◌, ◌==◌, ◌&&◌, ◌||◌, List, [], ◌∷◌, ◌++◌, map, length, Option, Some, None, Bool, true, false, refl, sym, ap, ◌∙◌, subst, if◌then◌else◌, append-nil}
 use Rattle.std.specs.Prelude.{ℤ, All, IfSome, IsTrue, slice_get}
 use Rattle.std.proofs.lemmas.Bool.{eqb-true}
@@ -57,13 +57,13 @@ each_long P [] (q ∷ ps) h = absurd h
 each_long P (y ∷ zs) [] h = absurd h
 each_long P (y ∷ zs) (q ∷ ps) h = ap suc (each_long P zs ps h.1)
 
--- what the packets of an era tell
+-- the packets of an era describe the quantities of its segments
 pub record EraTells (hops base : ℕ) (ws : List Written) (zs : List ℤ) (ps : List (List ℕ)) : Type 0 where
   pub each : Each (Told base ws) zs ps
   pub ends : EndsBehind base ws
   pub plain : All (λ p. Plain hops p) ps
 
--- with further segments and packets
+-- the same with more segments and packets
 goes_on : EraLaws → (hops base : ℕ) (ws vs : List Written) (zs ys : List ℤ) (ps qs : List (List ℕ)) → EraTells hops base ws zs ps → Each (Told base (ws ++ vs)) ys qs → EndsBehind base (ws ++ vs) → All (λ p. Plain hops p) qs → EraTells hops base (ws ++ vs) (zs ++ ys) (ps ++ qs)
 goes_on laws hops base ws vs zs ys ps qs before new ends plain = record {
   each =
@@ -77,7 +77,7 @@ goes_on laws hops base ws vs zs ys ps qs before new ends plain = record {
 still : (base : ℕ) (ws : List Written) → EndsBehind base ws → EndsBehind base (ws ++ [])
 still base ws h = let P : List Written → Type 0 = EndsBehind base in subst P (sym (append-nil ws)) h
 
--- the tests on a frame that went inwards in the era
+-- a frame without a fault that went inwards in the era has a segment without a fault
 right_of : (hops era : ℕ) (older : List Frame) (f : Frame) (s : Segment) → IsFaultless hops (sent older) f → f.side ≡ Some Inward → f.era ≡ Some era → segment_of f.packet ≡ Some s → IsRight (written_in era (sent older)) (written_of true s)
 right_of hops era older f s right side named is = record {
   base = sym (at lacks_base) ∙ right.base;
@@ -105,7 +105,7 @@ pub named_is : (era : ℕ) (o : Option ℕ) → is_era era o ≡ true → o ≡ 
 named_is era (Some n) e = ap (λ m. Some m) (eqb-true n era e)
 named_is era None e = absurd (cc e)
 
--- the frames of an era, one after the other
+-- this holds of all frames of an era
 era_tells : Laws → (hops era base : ℕ) (frames : List Frame) → AreFaultless hops frames → HasNoOtherBase base (written_in era (sent frames)) → EraTells hops base (written_in era (sent frames)) (inward_places era base (sent frames)) (inward_packets era (sent frames))
 era_tells laws hops era base [] h only = record { each = tt; ends = λ o x end ex ee. absurd (cc ex); plain = All-nil (λ p. Plain hops p) }
 era_tells laws hops era base (f ∷ older) h only = by (era_tells laws hops era base older h.0) (is_era era f.era) refl (is_inward f.side) refl (is_based (sent older) f.era f.packet) only
@@ -125,7 +125,7 @@ era_tells laws hops era base (f ∷ older) h only = by (era_tells laws hops era 
     Rest : Type 0
     Rest = HasNoOtherBase base ws → EraTells hops base ws zs ps
 
-    -- one that went outwards
+    -- the frame went outwards
     outward : Rest → (o : Option Segment) → HasNoOtherBase base (ws ++ (written_as false o ++ [])) → EraTells hops base (ws ++ (written_as false o ++ [])) (zs ++ []) (ps ++ [])
     outward go None only = let before = go (other_before laws.eras base ws [] only) in goes_on laws.eras hops base ws [] zs [] ps [] before tt (still base ws before.ends) (All-nil (λ q. Plain hops q))
     outward go (Some s) only =
@@ -133,7 +133,7 @@ era_tells laws hops era base (f ∷ older) h only = by (era_tells laws hops era 
         let before = go (other_before laws.eras base ws (w ∷ []) only) in
         goes_on laws.eras hops base ws (w ∷ []) zs [] ps [] before tt (ends_outward base ws w refl before.ends) (All-nil (λ q. Plain hops q))
 
-    -- one that went inwards
+    -- the frame went inwards
     inward : Rest → f.side ≡ Some Inward → f.era ≡ Some era → HasNoOtherBase base (ws ++ (written_as true (segment_of p) ++ [])) → EraTells hops base (ws ++ (written_as true (segment_of p) ++ [])) (zs ++ (placed_at base (acked base ws) (segment_of p) ∷ [])) (ps ++ p ∷ [])
     inward go side named only = subst P (sym is) (goes_on laws.eras hops base ws (w ∷ []) zs (place ∷ []) ps (p ∷ []) before (here, tt) (ends (base_of (ws ++ w ∷ [])) refl) (All-cons (λ q. Plain hops q) p [] well.0 (All-nil (λ q. Plain hops q))))
       where
@@ -177,7 +177,7 @@ era_tells laws hops era base (f ∷ older) h only = by (era_tells laws hops era 
     by go true e false i true only = outward go (segment_of p) only
     by go true e true i based only = inward go (inward_is f.side i) (named_is era f.era e) only
 
--- where no base is fixed, the packets say nothing of a stream
+-- if no base is fixed, the packets have no SYN, no FIN and no octets
 all_silent : Laws → (hops era : ℕ) (frames : List Frame) → AreFaultless hops frames → ((b : ℕ) → base_of (written_in era (sent frames)) ≡ Some b → ⊥) → All IsSilentPacket (inward_packets era (sent frames))
 all_silent laws hops era [] h none = All-nil IsSilentPacket
 all_silent laws hops era (f ∷ older) h none = by (all_silent laws hops era older h.0) (is_era era f.era) refl (is_inward f.side) refl (is_based (sent older) f.era f.packet) none
@@ -258,7 +258,7 @@ fin_end base ws zs ps o h c =
     let t : IsTold base ws c.place c.segment = each_at (Told base ws) zs ps c.number c.place c.frame h c.placed c.stands c.segment c.says in
     t.fin c.has ∙ ap (λ z. Some z) (sym c.there)
 
--- such packets tell one stream
+-- such packets describe one stream
 one_stream : (hops base : ℕ) (ws : List Written) (zs : List ℤ) (ps : List (List ℕ)) → EraTells hops base ws zs ps → TellOneStream hops base zs ps
 one_stream hops base ws zs ps t = record {
   plain = t.plain;

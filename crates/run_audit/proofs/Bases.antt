@@ -1,4 +1,4 @@
--- The segments that do not count fix no base, and nothing is acknowledged before one is fixed.
+-- The segments that are not counted fix no base, and nothing is acknowledged before one is fixed.
 use Rattle.std.proofs.Common.{◌≡◌, ℕ, ◌==◌, ◌&&◌, ◌||◌, List, [], ◌∷◌, ◌++◌, Option, Some, None, is_some, Bool, true, false, refl, sym, ap, ap₂, ◌∙◌, if◌then◌else◌, append-nil}
 use Rattle.std.specs.Option.{option_or}
 use Rattle.wire_base.specs.Segments.{Segment, Written, segment_of, written_of}
@@ -28,7 +28,7 @@ left_none : (o p : Option ℕ) → option_or o p ≡ None → o ≡ None
 left_none None p e = refl
 left_none (Some x) p e = absurd (cc e)
 
--- none is fixed before what fixes none
+-- if segments fix no base, those at their front fix none
 unbased_before : (xs ys : List Written) → base_of (xs ++ ys) ≡ None → base_of xs ≡ None
 unbased_before xs ys e = left_none (base_of xs) (base_of ys) (sym (base_append xs ys) ∙ e)
 
@@ -49,11 +49,11 @@ read_from_base era (f ∷ older) = by (read_from_base era older) (is_era era f.e
     segs : Bool → List Written
     segs inw = segments_in inw (f.packet ∷ [])
 
-    -- the same segments behind both
+    -- the same segments are added to both lists
     with_same : (zs : List Written) → base_of ws ≡ base_of vs → base_of (ws ++ zs) ≡ base_of (vs ++ zs)
     with_same zs e = base_append ws zs ∙ ap (λ o. option_or o (base_of zs)) e ∙ sym (base_append vs zs)
 
-    -- none behind one, where those behind the other fix no base
+    -- nothing is added to one list, and segments that fix no base to the other
     with_none : base_of ws ≡ base_of vs → base_of (ws ++ segs false) ≡ None → base_of (ws ++ []) ≡ base_of (vs ++ segs false)
     with_none e none = ap base_of (append-nil ws) ∙ unbased_before ws (segs false) none ∙ sym none ∙ with_same (segs false) e
 

@@ -28,7 +28,7 @@ fixes_in s w is =
     ap (λ (i : Bool). if i then (if tcp.has_syn w.flags then Some ((w.seq + 1) % 2 ^ 32) else None) else (if tcp.has_ack w.flags && not (tcp.has_rst w.flags) then Some w.ack else None)) is.inward_is
     ∙ ap₂ (λ f n. if tcp.has_syn f then Some ((n + 1) % 2 ^ 32) else None) is.flags_are is.seq_is
 
--- the base that is fixed with it
+-- the base, with the segment
 base_settled : (l : Ledger) (o : Option ℕ) (syn : Bool) (behind : ℕ) → l.base ≡ o → (settled l syn behind).base ≡ option_or o (if syn then Some behind else None)
 base_settled l None true behind e = ap (λ (q : Option ℕ). (if true && is_none q then record l { base = Some behind } else l).base) e
 base_settled l None false behind e = e
@@ -41,7 +41,7 @@ base_with l s ws w st is =
     ∙ ap (option_or (base_of ws)) (sym (fixes_in s w is))
     ∙ sym (base_push ws w)
 
--- the other fields stay
+-- the other fields are unchanged
 pub tells_settled : (base : ℕ) (l : Ledger) (ws : List Written) (syn : Bool) (behind : ℕ) → Tells base l ws → Tells base (settled l syn behind) ws
 tells_settled base l ws syn behind t = by (syn && is_none l.base)
   where
@@ -49,7 +49,7 @@ tells_settled base l ws syn behind t = by (syn && is_none l.base)
     by true = record { acked_is = t.acked_is; top_is = t.top_is; end_is = t.end_is; octets_are = t.octets_are }
     by false = t
 
--- the reasons, one after the other
+-- the tests of the code give the reasons of the definitions, one after the other
 pub base_is_missing : (s : Inward) (ws : List Written) (w : Written) → IsInward s w → base_of (ws ++ w ∷ []) ≡ None → (nat_lt 0 (length s.octets.now) || tcp.has_fin s.flags.0) ≡ true → stream_reason ws w ≡ Some reasons.Base
 base_is_missing s ws w is none brings = ap (λ (b : Bool). if b then Some reasons.Base else if has_other_syn ws w then Some reasons.Syn else octets_reason ws w) lacks
   where
@@ -75,14 +75,14 @@ octets_left : (s : Inward) (ws : List Written) (w : Written) (base : ℕ) → Is
 octets_left s ws w base is based other =
     ap₂ (λ (a b : Bool). if a then Some reasons.Base else if b then Some reasons.Syn else octets_reason ws w) (based_lacks_none ws w base based) (other_syn s ws w base is based ∙ other)
 
--- a ledger that is read by the base stands for the segments with the new one
+-- a ledger that is read by the base represents the segments with the new one
 stands_by : (new : Ledger) (ws : List Written) (w : Written) (base : ℕ) → base_of (ws ++ w ∷ []) ≡ Some base → Tells base new (ws ++ w ∷ []) → new.base ≡ Some base → StandsFor new (ws ++ w ∷ [])
 stands_by new ws w base based read new_base = record {
   base_is = new_base ∙ sym based;
   tells = λ other only. let same : base ≡ other = only base based in subst (λ b. Tells b new (ws ++ w ∷ [])) same read;
 }
 
--- the verdict on octets and FIN is that on the segment
+-- the verdict on the octets and the FIN is the verdict on the segment, if the segment has no fault before
 pub whole_verdict : (l mid new : Ledger) (s : Inward) (ws : List Written) (w : Written) (base : ℕ) (verdict : Option Reason) → StandsFor l ws → IsInward s w → mid ≡ settled l (tcp.has_syn s.flags.0) ((s.seq + 1) % 2 ^ 32) → mid.base ≡ Some base → (tcp.has_syn s.flags.0 && not (((s.seq + 1) % 2 ^ 32) == base)) ≡ false → IsVerdictAt base mid new ws w verdict → new.base ≡ mid.base → IsVerdict new ws w verdict
 whole_verdict l mid new s ws w base verdict st is mid_is mid_base other at same_base = by verdict (at read based)
   where
@@ -101,7 +101,7 @@ whole_verdict l mid new s ws w base verdict st is mid_is mid_base other at same_
     by None r = (left ∙ r.0, stands_by new ws w base based r.1 (same_base ∙ mid_base))
     by (Some reason) r = left ∙ r
 
--- nothing comes, and no base is fixed
+-- the segment has no octets and no FIN, and no base is fixed
 none_both : (o p : Option ℕ) → option_or o p ≡ None → (o ≡ None) × (p ≡ None)
 none_both None p e = (refl, e)
 none_both (Some x) p e = absurd (cc e)
@@ -179,7 +179,7 @@ silent_verdict l mid s ws w st is mid_is mid_base brings = (right, subst P (sym 
         ap₂ (λ (a b : Bool). if a then Some reasons.Base else if b then Some reasons.Syn else octets_reason ws w) lacks syn
         ∙ ap₂ (λ (a b : Bool). if a then Some reasons.Octet else if b then Some reasons.Fin else None) octet fin
 
--- what holds of the verdict and of the fields holds of the whole
+-- the result for the octets and the FIN is the result for the segment
 pub whole_result : (r : Result (Option Reason) NoMemory) (l mid new : Ledger) (s : Inward) (base : ℕ) → mid ≡ settled l (tcp.has_syn s.flags.0) ((s.seq + 1) % 2 ^ 32) → mid.base ≡ Some base → (tcp.has_syn s.flags.0 && not (((s.seq + 1) % 2 ^ 32) == base)) ≡ false
     → IfOk r (λ _. new.base ≡ mid.base) → IfOk r (λ verdict. (ws : List Written) (w : Written) → IsInward s w → IsVerdictAt base mid new ws w verdict)
     → IfOk r (λ verdict. (ws : List Written) (w : Written) → StandsFor l ws → IsInward s w → IsVerdict new ws w verdict)

@@ -1,4 +1,4 @@
--- A segment that may be written in an era has no fault, also where others that say nothing stand between those before it.
+-- A segment that is emitted in an era has no fault, also if silent segments are between those before it.
 use Rattle.std.proofs.Common.{◌≡◌, ⊎_elim, ℕ, zero, suc, ◌+◌, ◌%◌, ◌^◌, ◌≤◌, ◌&&◌, ◌||◌, not, nat_lt, nat_eq, List, [], ◌∷◌, ◌++◌, length, Option, Some, None, is_none, Bool, true, false, refl, sym, ap, ap₂, ◌∙◌, subst, arith, eq-eqb}
 use Rattle.std.specs.Prelude.{ℤ, pos, negsuc, ◌+ℤ◌, ◌-ℤ◌, ◌<ℤ◌, ◌≤ℤ◌, max, int_lt, slice_get, if◌then◌else◌}
 use Rattle.std.specs.Option.{option_or}
@@ -25,7 +25,7 @@ use Rattle.run_audit.specs.Tops.{octets_end, greater, last_end, place_in, top}
 use Rattle.run_audit.proofs.Telling.{IsRight}
 use Rattle.run_audit.proofs.Tops.{last_push, last_same, outward_end, bare_end, top_most}
 
--- two lists have the quantities of which faults are read in common
+-- two lists have the same quantities for the tests of faults
 pub record Alike (ws vs : List Written) : Type 0 where
   pub base_is : base_of vs ≡ base_of ws
   pub acked_is : (base : ℕ) → acked base vs ≡ acked base ws
@@ -36,7 +36,7 @@ pub record Alike (ws vs : List Written) : Type 0 where
 pub alike_none : Alike [] []
 alike_none = record { base_is = refl; acked_is = λ base. refl; last_is = λ base. refl; end_is = λ base. refl; first_is = λ base offset. refl }
 
--- with the same segment behind both
+-- the same segment is added to both lists
 pub alike_on : (ws vs : List Written) (w : Written) → Alike ws vs → Alike (ws ++ w ∷ []) (vs ++ w ∷ [])
 alike_on ws vs w a = record {
   base_is = base_push vs w ∙ ap (λ o. option_or o (fixes w)) a.base_is ∙ sym (base_push ws w);
@@ -46,7 +46,7 @@ alike_on ws vs w a = record {
   first_is = λ base offset. octet_push base vs w offset ∙ ap₂ (λ o n. option_or o (octet_at base n offset w)) (a.first_is base offset) (a.acked_is base) ∙ sym (octet_push base ws w offset);
 }
 
--- with one that says nothing behind the other
+-- a silent segment is added to the second list
 pub alike_silent : SilenceChangesNothing → (ws vs : List Written) (w : Written) → IsSilent w → Alike ws vs → Alike ws (vs ++ w ∷ [])
 alike_silent silence ws vs w silent a =
     let same = silence vs w silent in
@@ -58,7 +58,7 @@ alike_silent silence ws vs w silent a =
       first_is = λ base offset. same.first_is base offset ∙ a.first_is base offset;
     }
 
--- with an outward one behind the first that acknowledges nothing and fixes no base
+-- an outward segment that does not acknowledge is added to the first list
 pub alike_idle : (ws vs : List Written) (w : Written) → w.inward ≡ false → acknowledges w ≡ false → Alike ws vs → Alike (ws ++ w ∷ []) vs
 alike_idle ws vs w out idle a = record {
   base_is = a.base_is ∙ sym (base_push ws w ∙ ap (option_or (base_of ws)) no_base ∙ or_none (base_of ws));
@@ -82,7 +82,7 @@ alike_idle ws vs w out idle a = record {
     no_octet : (base : ℕ) (o : ℤ) → octet_at base (acked base ws) o w ≡ None
     no_octet base o = ap (λ (i : Bool). if i then get_at w.octets (natural (o -ℤ off base (acked base ws) w.seq)) else None) out
 
--- a segment without a fault behind one list has none behind the other
+-- a segment without a fault after one list has none after the other
 pub right_alike : (ws vs : List Written) (w : Written) → Alike ws vs → IsRight ws w → IsRight vs w
 right_alike ws vs w a right = record {
   base = ap (λ o. is_none o && (has_octets w || tcp.has_fin w.flags)) on.base_is ∙ right.base;
@@ -103,7 +103,7 @@ right_alike ws vs w a right = record {
     base : ℕ
     base = number_in (base_of (ws ++ w ∷ []))
 
--- one that says nothing has none
+-- a silent segment has no fault
 pub right_silent : (ws : List Written) (w : Written) → IsSilent w → IsRight ws w
 right_silent ws w s = record {
   base = and_right (is_none (base_of (ws ++ w ∷ []))) (has_octets w || tcp.has_fin w.flags) (ap₂ (λ (os : List ℕ) (f : Bool). nat_lt 0 (length os) || f) s.no_octets s.no_fin);
@@ -115,7 +115,7 @@ right_silent ws w s = record {
     base : ℕ
     base = number_in (base_of (ws ++ w ∷ []))
 
--- octets of which each is the first at its place, or there is none, and stands before the end
+-- octets do not stray if each equals the first one at its offset, if there is one, and is before the end
 none_stray : (f : ℤ → Option ℕ) (end : Option ℤ) (z : ℤ) (octets : List ℕ)
     → ((i x : ℕ) → slice_get octets i ≡ Some x → (is_other (f (z +ℤ pos i)) x ≡ false) × (is_past end (z +ℤ pos i) ≡ false)) → some_strays f end z octets ≡ false
 none_stray f end z [] h = refl
@@ -132,7 +132,7 @@ none_stray f end z (y ∷ octets) h =
         let at : ((z +ℤ pos 1) +ℤ pos i) ≡ (z +ℤ pos (suc i)) = omega (arith, ints) in
         (ap (λ n. is_other (f n) x) at ∙ there.0, ap (is_past end) at ∙ there.1)
 
--- where this base is fixed with the segment
+-- a segment that agrees with its era has no fault, if this base is fixed before it or by it
 right_based : EraLaws → EmittedOctetsArePlaces → (b : ℕ) (ws : List Written) (w : Written) → base_of (ws ++ w ∷ []) ≡ Some b → AreEmitted [] (ws ++ w ∷ []) → IsTold b ws w → IsRight ws w
 right_based laws places b ws w based all told = record {
   base = ap (λ o. is_none o && (has_octets w || tcp.has_fin w.flags)) based;

@@ -31,15 +31,15 @@ pub record Laws : Type 0 where
   pub places : EmittedOctetsArePlaces
   pub silence : SilenceChangesNothing
 
--- the segments that a packet adds to those of an era, where its entry names the era and it is a written segment of it
+-- the segments that a packet adds to those of an era: its own, if its entry names the era and it is a written segment
 abbrev added : (named written inward : Bool) → Option Segment → List Written
 added named written inward o = if named && written then written_as inward o ++ [] else []
 
--- a segment that says nothing, as one that was written
+-- the segment of a silent packet is silent
 silent_of : (p : List ℕ) (s : Segment) → IsSilentPacket p → segment_of p ≡ Some s → IsSilent (written_of true s)
 silent_of p s silent is = let says = silent s is in record { inward = refl; no_syn = says.1; no_fin = says.2; no_octets = says.0 }
 
--- as long as no base is fixed, none acknowledges
+-- before a base is fixed, no segment acknowledges
 abbrev AcksNone : List Written → Type 0
 AcksNone ws = base_of ws ≡ None → list_any acknowledges ws ≡ false
 
@@ -58,14 +58,14 @@ module _ (laws : Laws) (hops : ℕ) (m : Marked) (older : List Marked) (certain 
   abbrev p : List ℕ
   p = m.frame.packet
 
-  -- the segments of an era before the frame: those that were written, and those of all frames
+  -- the segments of an era before the frame: the written ones, and those of all frames
   abbrev ws : (era : ℕ) → List Written
   ws era = written_in era (map sent_as older)
 
   abbrev vs : (era : ℕ) → List Written
   vs era = written_in era (sent (frames_in older))
 
-  -- with the frame
+  -- the two lists have the same quantities with the frame
   alike_with : (era : ℕ) → (AcksNone (ws era) → Alike (ws era) (vs era))
       → NoneAcksUnbased (ws era ++ added (is_era era f.era) m.written (is_inward f.side) (segment_of p))
       → AcksNone (ws era ++ added (is_era era f.era) m.written (is_inward f.side) (segment_of p))
@@ -73,7 +73,7 @@ module _ (laws : Laws) (hops : ℕ) (m : Marked) (older : List Marked) (certain 
       (vs era ++ added (is_era era f.era) (is_inward f.side || is_based (sent (frames_in older)) f.era p) (is_inward f.side) (segment_of p))
   alike_with era a early none = by (is_era era f.era) refl m.written refl (segment_of p) refl (is_inward f.side) refl early none
     where
-      -- where the frame adds nothing
+      -- the frame adds nothing
       same : AcksNone (ws era ++ []) → Alike (ws era ++ []) (vs era ++ [])
       same none =
           let P : List Written → Type 0 = λ xs. Alike xs (vs era ++ []) in
@@ -87,7 +87,7 @@ module _ (laws : Laws) (hops : ℕ) (m : Marked) (older : List Marked) (certain 
       unread false true none = same none
       unread false false none = same none
 
-      -- an outward segment, which counts exactly where a base is fixed with it
+      -- an outward segment, which is counted exactly if a base is fixed before it or by it
       outward : (w : Written) → w.inward ≡ false → AcksNone (ws era ++ w ∷ []) → Alike (ws era) (vs era) → (based : Bool) → is_some (base_of (vs era ++ w ∷ [])) ≡ based → Alike (ws era ++ w ∷ []) (vs era ++ (if based then w ∷ [] else []))
       outward w out none before true e = alike_on (ws era) (vs era) w before
       outward w out none before false e =
@@ -100,7 +100,7 @@ module _ (laws : Laws) (hops : ℕ) (m : Marked) (older : List Marked) (certain 
       named : is_era era f.era ≡ true → IsSome f.era
       named e = ap (λ (o : Option ℕ). elim o as (λ _. Bool) [ Some n ↦ true | None ↦ false ]) (named_is era f.era e)
 
-      -- one that is no written segment goes inwards
+      -- a frame that is no written segment goes inwards
       beside : (s : Segment) (based : Bool) (side : Option Side) → f.side ≡ side → IsSome f.era → m.written ≡ false → segment_of p ≡ Some s → AcksNone (ws era ++ [])
           → Alike (ws era ++ []) (vs era ++ added true (is_inward side || based) (is_inward side) (Some s))
       beside s based (Some Inward) is there unwritten says none =
@@ -112,7 +112,7 @@ module _ (laws : Laws) (hops : ℕ) (m : Marked) (older : List Marked) (certain 
           let P : Option Side → Type 0 = λ side. IsWellReadAs hops p side f.era in
           absurd (not_there f.era (subst P is certain.read) there)
 
-      -- whether an outward one counts
+      -- whether an outward segment is counted
       counts : (x : Segment) → is_era era f.era ≡ true → segment_of p ≡ Some x → is_based (sent (frames_in older)) f.era p ≡ is_some (base_of (vs era ++ written_of false x ∷ []))
       counts x e s =
           ap (λ o. is_based (sent (frames_in older)) o p) (named_is era f.era e)
@@ -133,11 +133,11 @@ module _ (laws : Laws) (hops : ℕ) (m : Marked) (older : List Marked) (certain 
           subst (λ b. Alike (ws era ++ []) (vs era ++ added true (b || is_based (sent (frames_in older)) f.era p) b (Some x))) i
           (beside x (is_based (sent (frames_in older)) f.era p) f.side refl (named e) w s none)
 
-  -- where it is asked nothing
+  -- a frame has no fault if none of the tests on a stream holds of it
   quiet : ((test : List Written → Written → Bool) → in_stream test (sent (frames_in older)) f ≡ false) → IsFaultless hops (sent (frames_in older)) f
   quiet h = record { read = certain.read; base = h lacks_base; syn = h has_other_syn; octet = h has_other_octet; fin = h has_other_fin }
 
-  -- one that goes inwards in an era
+  -- a frame that goes inwards in an era
   inward : (era : ℕ) → f.side ≡ Some Inward → f.era ≡ Some era → (AcksNone (ws era) → Alike (ws era) (vs era))
       → AreEmitted [] (ws era ++ added (is_era era f.era) m.written (is_inward f.side) (segment_of p))
       → NoneAcksUnbased (ws era ++ added (is_era era f.era) m.written (is_inward f.side) (segment_of p)) → IsFaultless hops (sent (frames_in older)) f
@@ -192,12 +192,12 @@ module _ (laws : Laws) (hops : ℕ) (m : Marked) (older : List Marked) (certain 
       by (Some Outward) s era e = quiet (λ test i. in_stream_as test (sent (frames_in older)) (s i) f.era (segment_of p))
       by None s era e = quiet (λ test i. in_stream_as test (sent (frames_in older)) (s i) f.era (segment_of p))
 
--- what holds after some frames
+-- the facts that hold after some frames
 record Holds (hops : ℕ) (marked : List Marked) : Type 0 where
   faultless : AreFaultless hops (frames_in marked)
   alike : (era : ℕ) → AcksNone (written_in era (map sent_as marked)) → Alike (written_in era (map sent_as marked)) (written_in era (sent (frames_in marked)))
 
--- what holds of all of them holds of the first ones
+-- if no segment follows an early acknowledgment in a list, none does in its front
 acks_before : (xs ys : List Written) → NoneAcksUnbased (xs ++ ys) → NoneAcksUnbased xs
 acks_before xs ys h before w later e = h before w (later ++ ys) (ap (λ zs. zs ++ ys) e ∙ append_assoc before (w ∷ later) ys)
 

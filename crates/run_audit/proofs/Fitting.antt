@@ -1,4 +1,4 @@
--- The numbers of the entries of a lawful trace are within the ranges of the report's text, where the frames and the records are fewer than 2^32.
+-- The numbers of the entries of a lawful trace are in the ranges of the report's text, if there are fewer than 2^32 frames and records.
 use Rattle.std.proofs.Common.{◌≡◌, ℕ, ◌+◌, ◌^◌, ◌<◌, ◌≤◌, ◌==◌, ◌&&◌, ◌||◌, not, cond, Bool, true, false, List, [], ◌∷◌, ◌++◌, length, map, take, find, reverse, filter, Option, Some, None, refl, sym, subst, arith, append-nil, length-append, if◌then◌else◌}
 use Rattle.std.specs.Prelude.{IfSome, option_map, is_some, nat_lt}
 use Rattle.std.specs.List.{AllByRecursion}
@@ -41,7 +41,7 @@ use Rattle.run_audit.specs.Lawful.{frames_written}
 use Rattle.run_audit.proofs.Lawfuls.{before}
 use Rattle.run_audit.proofs.Rooms.{acked_small}
 
--- no more segments are written in an era than frames in all, and no more eras begin than records come
+-- an era has at most as many segments as there are frames, and at most as many eras begin as there are records
 
 frames_more : (item : Item) (older : List Item) → length (frames_written (item ∷ older)) ≡ length (frames_written older) + length item.frames
 frames_more item older =
@@ -91,7 +91,7 @@ begun_few settings link (item ∷ older) =
     by None = omega arith
     by (Some d) = let k = one_at_most (is_some item.entry.begun) in omega (arith, k)
 
--- the octets of an era are fewer than 2^64
+-- an era has fewer than 2^64 octets
 octets_few : AckedGrowsNear → (ws : List Written) → AreEmitted [] ws → length ws < 2 ^ 32 → octets_of ws < 2 ^ 64
 octets_few near ws emitted few = by (base_of ws) refl
   where
@@ -105,11 +105,11 @@ octets_few near ws emitted few = by (base_of ws) refl
         let acked = acked_small near base ws in
         omega (arith, most, top, edge, acked, few)
 
--- a number that may be there and is one of those given
+-- an optional number is at most `given`, if there is one
 abbrev IsGiven : (given : ℕ) → Option ℕ → Type 0
 IsGiven given o = IfSome o (λ number. number ≤ given)
 
--- one that is of 32 bits
+-- an optional number has at most 32 bits, if there is one
 abbrev IsNarrow : Option ℕ → Type 0
 IsNarrow o = IfSome o (λ number. number < 2 ^ 32)
 
@@ -129,13 +129,13 @@ head_given : (given : ℕ) (xs : List Alive) → AllByRecursion (λ a. a.number 
 head_given given [] all = tt
 head_given given (x ∷ xs) all = all.0
 
--- what is known of the calls before a record
+-- the bounds of the calls before a record
 record Before (given : ℕ) (cs : List Call) : Type 0 where
   numbers : AllByRecursion (λ a. a.number ≤ given) (eras cs)
   begun : begun_in cs ≤ given
   octets : (number : ℕ) → octets_of (segments number cs) < 2 ^ 64
 
--- what its rows ask of them is within these ranges
+-- the values that the rules read of these calls are in these bounds
 record IsNear (given : ℕ) (v : View) : Type 0 where
   era : IsGiven given v.era
   evictable : IsGiven given v.evictable
@@ -156,7 +156,7 @@ view_near settings cs d given b = record {
     of None = let none : octets_of [] ≡ 0 = refl in omega (arith, none)
     of (Some a) = b.octets a.number
 
--- the eras that end with a segment: one at the most, with numbers in their ranges
+-- at most one era ends with a segment, and its numbers are in their ranges
 record EndsOne (ended : List Ended) : Type 0 where
   few : length ended ≤ 1
   fit : AllByRecursion EndedFits ended
@@ -172,7 +172,7 @@ ended_one given v false true reset few near = ends_one given v.evictable v.evict
 ended_one given v false false true few near = ends_one given v.era (octets_of v.segments) reasons.Reset few near.era near.octets
 ended_one given v false false false few near = record { few = omega arith; fit = tt }
 
--- what an outcome says of eras is in its ranges
+-- the eras of an outcome are in their ranges
 record SaysFew (o : Outcome) : Type 0 where
   era : IsNarrow o.era
   begun : IsNarrow o.begun
@@ -198,7 +198,7 @@ outcome_few settings v d None mended given few near =
     own true = let n = near.next in omega (arith, few, n)
     own false = given_narrow given v.era (omega (arith, few)) near.era
 
--- the same of a segment that may be there
+-- the same of an optional outcome
 record SaysFewOf (o : Option Outcome) : Type 0 where
   era : IsNarrow (era_by o)
   begun : IsNarrow (begun_by o)
@@ -211,7 +211,7 @@ segment_few settings read (Some d) given few b =
     let says = outcome_few settings v d (era.dropped_by settings v d) (era.mended_by settings v d) given few (view_near settings read.past.calls d given b) in
     record { era = says.era; begun = says.begun; ended = says.ended }
 
--- the eras that are idle are two at the most
+-- at most two eras end as idle
 
 take_two : (xs : List Alive) → length (take 2 xs) ≤ 2
 take_two [] = omega arith
@@ -242,7 +242,7 @@ idle_given settings now cs given b =
     all_map (λ number. number ≤ given) (λ (a : Alive). a.number) (take 2 (filter late (eras cs)))
     (take_all (λ (a : Alive). a.number ≤ given) (filter late (eras cs)) (all_filter (λ (a : Alive). a.number ≤ given) late (eras cs) b.numbers))
 
--- the laws that say so
+-- the laws that are cited
 pub record RangeLaws : Type 0 where
   pub counted : ItemsAreCounted
   pub outgoing : ItemsGoOut
@@ -268,7 +268,7 @@ module _ (laws : RangeLaws) (settings : PlainSettings) (link : Link) where
         octets = octets_before older sound few;
       }
 
-  -- the same once the eras that are idle have ended
+  -- the same after the idle eras have ended
   calls_idled : (older : List Item) (now : ℕ) → IsSound settings link older → length (frames_written older) < 2 ^ 32
       → Before (length older) (expiry_of settings (flow_calls settings link older) now ∷ flow_calls settings link older)
   calls_idled older now sound few =

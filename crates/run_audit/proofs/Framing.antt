@@ -1,4 +1,4 @@
--- How an audit goes on from frame to frame, and how it ends.
+-- How an audit proceeds from frame to frame, and how it ends.
 use Rattle.std.proofs.Common.{◌≡◌, ℕ, zero, suc, ◌+◌, ◌≤◌, List, [], ◌∷◌, length, drop, Option, Some, None, Ok, refl, sym, ap, ap₂, subst, ◌∙◌, arith}
 use Rattle.std.specs.Prelude.{IfSome, IsSome, slice_get, nat_eq}
 use Rattle.std.specs.List.{AllByRecursion}
@@ -23,7 +23,7 @@ use Rattle.run_audit.specs.FirstFault.{AreFaultless, FailsNext, FirstFault}
 use Rattle.run_audit.specs.Frames.{Frame, frame_of, owners, with_frame, owned, sent}
 use Rattle.run_audit.specs.Owned.{left_of}
 
--- nothing is left behind so many
+-- if nothing is left after n owners, there is no owner after n others
 left_none : (os : List PlainEntry) (n : ℕ) → drop n os ≡ [] → (slice_get os n ≡ None) × (length os ≤ n)
 left_none [] n e = (slice_get_past [] n (omega arith), omega arith)
 left_none (o ∷ os) zero e = absurd (cc e)
@@ -39,7 +39,7 @@ pub frames_long : (packets : List Packet) → length (frames_of packets) ≡ len
 frames_long [] = refl
 frames_long (p ∷ packets) = ap suc (frames_long packets)
 
--- the next owner of the frames so far
+-- the owner of the frame after these
 pub owner_at : (os : List PlainEntry) (packets : List Packet) (o : Option PlainEntry) → slice_get os (length packets) ≡ o → slice_get os (length (frames_of packets)) ≡ o
 owner_at os packets o e = ap (slice_get os) (frames_long packets) ∙ e
 
@@ -97,7 +97,7 @@ goes_on hops head entries old mid new eras eras' left left' reader reader' frame
     tail : AllByRecursion (HasEra eras) (e ∷ left_of left') → AllByRecursion (HasEra eras) (left_of left')
     tail h = h.1
 
--- the fault of the next frame
+-- the fault of the frame after these
 first_fault : (hops : ℕ) (head : Head) (entries : List PlainEntry) (old now : Option (List ℕ)) (eras : Eras) (left : Owners) (reader : Reading) (frames : ℕ) (next : Option (List ℕ)) (owner : Option PlainEntry) (reason : Reason) (g : GoesOn hops head entries old now eras left reader frames)
     → slice_get (owners entries) (length g.packets) ≡ owner
     → FailsNext hops head.link (sent (owned head.link (owners entries) (frames_of g.packets))) next owner reason
@@ -111,7 +111,7 @@ first_fault hops head entries old now eras left reader frames next owner reason 
       subst P (sym (owner_at (owners entries) g.packets owner at)) fails;
 }
 
--- a frame is read that has a fault
+-- a frame with a fault was read
 at_frame : (hops : ℕ) (head : Head) (entries : List PlainEntry) (old mid new : Option (List ℕ)) (eras : Eras) (left : Owners) (reader : Reading) (frames : ℕ) (p : Packet) (owner : Option PlainEntry) (reason : Reason) (g : GoesOn hops head entries old mid eras left reader frames)
     → Leaves reader.head.order reader.given mid new p → slice_get (owners entries) (length g.packets) ≡ owner
     → FailsNext hops head.link (sent (owned head.link (owners entries) (frames_of g.packets))) (Some p.octets) owner reason
@@ -144,7 +144,7 @@ nothing_left : (order : Order) (count : ℕ) → front_of order count [] ≡ Ok 
 unfolding front_of
 nothing_left order count = refl
 
--- the capture has its end, and an entry wants another frame
+-- the capture ends, and an entry names another frame
 pub unwritten : (hops : ℕ) (head : Head) (entries : List PlainEntry) (old mid new : Option (List ℕ)) (eras : Eras) (left left' : Owners) (reader : Reading) (frames : ℕ) (e : PlainEntry) → GoesOn hops head entries old mid eras left reader frames
     → HasEnd mid new → left_of left ≡ e ∷ left_of left' → IfSome old (λ all. FaultyFrame hops head entries all (frames + 1) reasons.Count)
 unwritten hops head entries old mid new eras left left' reader frames e g end owner = by old mid new g.took end
@@ -158,7 +158,7 @@ unwritten hops head entries old mid new eras left left' reader frames e g end ow
     by (Some all) (Some xs) None took l = absurd l
     by (Some all) (Some xs) (Some ys) took l = record { packets = g.packets; left = xs; reads = took; next = None; stands = ap (front_of head.order (length g.packets)) l.0 ∙ nothing_left head.order (length g.packets); first = first }
 
--- both have their end
+-- the capture ends, and no entry names another frame
 pub sound : (hops : ℕ) (head : Head) (entries : List PlainEntry) (old mid new : Option (List ℕ)) (eras : Eras) (left : Owners) (reader : Reading) (frames : ℕ) → GoesOn hops head entries old mid eras left reader frames
     → HasEnd mid new → left_of left ≡ [] → IfSome old (λ all. SoundFrames hops head entries all frames)
 sound hops head entries old mid new eras left reader frames g end none = by old mid new g.took end
@@ -177,7 +177,7 @@ sound hops head entries old mid new eras left reader frames g end none = by old 
       count = g.frames_are;
     }
 
--- the frames are few
+-- there are fewer than 2^32 frames
 pub few_frames : (hops : ℕ) (head : Head) (entries : List PlainEntry) (old now : Option (List ℕ)) (eras : Eras) (left : Owners) (reader : Reading) (frames : ℕ) → GoesOn hops head entries old now eras left reader frames → StandsForFew eras
 few_frames hops head entries old now eras left reader frames g = record {
   frames = owned head.link (owners entries) (frames_of g.packets);
@@ -193,7 +193,7 @@ few_frames hops head entries old now eras left reader frames g = record {
     shorter [] = omega arith
     shorter (f ∷ fs) = let h = shorter fs in let k = with_one f (slice_get (owners entries) (length fs)) (owned head.link (owners entries) fs) in omega (arith, h, k)
 
--- the judgment on a packet is that on its frame
+-- the verdict on a packet is the verdict on its frame
 pub noted_by : (hops : ℕ) (old new : Eras) (link : Link) (packet octets : List ℕ) (e : PlainEntry) (verdict : Option Reason) → verdict ≡ None → packet ≡ packet_in link octets
     → ((before : List Frame) → AllStandFor old (sent before) → IsJudged hops before (record { packet = packet; side = e.side; era = e.era }) old new verdict)
     → (before : List Frame) → AllStandFor old (sent before) → IsNoted hops before (frame_of link octets e) old new

@@ -1,4 +1,4 @@
--- The judgment on a frame, by what its era says of its segment.
+-- The verdict on a frame, from the verdict of its era on its segment.
 use Rattle.std.proofs.Common.{◌≡◌, ◌≢◌, ℕ, ◌-◌, ◌==◌, ◌&&◌, ◌||◌, List, [], ◌∷◌, ◌++◌, length, take, drop, append-nil, eq-eqb, Option, Some, None, is_some, Bool, true, false, refl, sym, ap, ◌∙◌, subst, arith, if◌then◌else◌, nat_eq}
 use Rattle.std.specs.Prelude.{IsSome, IfOk, Result, Ok, Err}
 use Rattle.std.proofs.lemmas.List.{take_all, length-drop}
@@ -25,11 +25,11 @@ use Rattle.run_audit.specs.Ledgers.{IsInward, IsOutward, IsVerdict, StandsFor, c
 use Rattle.run_audit.specs.Eras.{Eras, EraStands, AllStandFor, AreThere, IsTaken, Takes, IsNoted, IsJudged}
 use Rattle.run_audit.specs.Read.{IsSegment}
 
--- the first of four reasons
+-- the first of the four reasons that holds
 abbrev reason_by : (a b c d : Bool) → Option Reason
 reason_by a b c d = if a then Some reasons.Base else if b then Some reasons.Syn else if c then Some reasons.Octet else if d then Some reasons.Fin else None
 
--- the first reason that holds, or that none does
+-- this is the first reason that holds of the frame, or none holds
 abbrev pub FirstOrNone : (hops : ℕ) → List Sent → Frame → Option Reason → Type 0
 FirstOrNone hops older f None = IsFaultless hops older f
 FirstOrNone hops older f (Some reason) = IsFirstReason hops older f reason
@@ -45,7 +45,7 @@ first_by hops older f false false false false ea eb ec ed read = record { read =
 abbrev pub inward_frame : List ℕ → ℕ → Frame
 inward_frame p era = record { packet = p; side = Some Inward; era = Some era }
 
--- what is first with its segment is first with it
+-- the first reason of its segment is the first reason of the frame
 pub first_in_stream : (hops : ℕ) (older : List Sent) (p : List ℕ) (era : ℕ) (s : Segment) → segment_of p ≡ Some s → IsWellReadAs hops p (Some Inward) (Some era) → FirstOrNone hops older (inward_frame p era) (stream_reason (written_in era older) (written_of true s))
 first_in_stream hops older p era s is read =
     first_by hops older (inward_frame p era) (lacks_base ws w) (has_other_syn ws w) (has_other_octet ws w) (has_other_fin ws w) (at lacks_base) (at has_other_syn) (at has_other_octet) (at has_other_fin) read
@@ -59,11 +59,11 @@ first_in_stream hops older p era s is read =
     at : (test : List Written → Written → Bool) → in_stream test older (inward_frame p era) ≡ test ws w
     at test = ap (λ o. elim o as (λ _. Bool) [ Some t ↦ test ws (written_of true t) | None ↦ false ]) is
 
--- a packet that carries a segment was written as it
+-- a packet with a segment adds this segment alone
 written_one : (inward : Bool) (p : List ℕ) (s : Segment) → segment_of p ≡ Some s → segments_in inward (p ∷ []) ≡ written_of inward s ∷ []
 written_one inward p s is = ap (λ o. written_as inward o ++ []) is
 
--- a frame of an era adds its segment to that era, if it counts, and nothing to another one
+-- a frame of an era adds its segment to that era, if it is counted, and nothing to another one
 written_here : (era : ℕ) (p : List ℕ) (side : Option Side) (frames : List Frame)
     → written_in era (sent (record { packet = p; side = side; era = Some era } ∷ frames))
     ≡ written_in era (sent frames) ++ (if is_inward side || is_based (sent frames) (Some era) p then segments_in (is_inward side) (p ∷ []) else [])
@@ -75,7 +75,7 @@ written_there q era p side frames other =
     ap (λ (t : Bool). written_in q (sent frames) ++ (if t && (is_inward side || is_based (sent frames) (Some era) p) then segments_in (is_inward side) (p ∷ []) else [])) other
     ∙ append-nil (written_in q (sent frames))
 
--- what is known of the eras, with the segments of one as they are with the frame
+-- the states of the eras represent the frames with one more, if the state of its era does
 all_stand : (old new : Eras) (era : ℕ) (p : List ℕ) (side : Option Side) (frames : List Frame) (ws : List Written) → written_in era (sent (record { packet = p; side = side; era = Some era } ∷ frames)) ≡ ws → AllStandFor old (sent frames) → Takes old new era ws → AllStandFor new (sent (record { packet = p; side = side; era = Some era } ∷ frames))
 all_stand old new era p side frames ws here stand takes q = by (era == q) refl
   where
@@ -104,14 +104,14 @@ all_there old new era ws takes q some = by (era == q) refl
         let P : Option Ledger → Type 0 = λ o. IsSome o in
         subst P (sym (takes.others q (λ is. eqb-false era q e (sym is)))) some
 
--- a packet that went outwards
+-- a packet that went outwards has no fault if it is a segment
 outward_faultless : (hops : ℕ) (older : List Sent) (p : List ℕ) (era : ℕ) → is_segment p ≡ true → IsFaultless hops older (record { packet = p; side = Some Outward; era = Some era })
 outward_faultless hops older p era is = record { read = λ _. is; base = refl; syn = refl; octet = refl; fin = refl }
 
 tcp_segment : (p : List ℕ) → ip.protocol p ≡ 6 → segment_of p ≡ Some (fields_of p)
 tcp_segment p six = ap (λ n. if n == 6 then Some (fields_of p) else None) six
 
--- the segments with an outward one
+-- the segments of an era with an outward one
 written_outward : (era : ℕ) (p : List ℕ) (s : Segment) (frames : List Frame) → segment_of p ≡ Some s
     → written_in era (sent (record { packet = p; side = Some Outward; era = Some era } ∷ frames)) ≡ counted (written_in era (sent frames)) (written_of false s)
 written_outward era p s frames is =
@@ -138,7 +138,7 @@ noted_outward hops old new era p head frames is stand takes = record {
     taken : Takes old new era (counted (written_in era (sent frames)) w)
     taken = takes (written_in era (sent frames)) w (stand era) (record { inward_is = refl; flags_are = sym is.flags_are; number_is = sym is.number_is })
 
--- a plain packet that went inwards in an era and is TCP
+-- a plain TCP packet that went inwards in an era is well read
 well_read : (hops : ℕ) (p : List ℕ) (era : ℕ) → Plain hops p → ip.protocol p ≡ 6 → IsWellReadAs hops p (Some Inward) (Some era)
 well_read hops p era plain six = (plain, λ _. six)
 
@@ -166,11 +166,11 @@ judged_inward (Ok verdict) hops old new era p read s plain six fields seq flags 
       octets_are = sym (octets ∙ ap (λ (t : Segment). t.octets) fields);
     }))
 
--- the octets behind a place of a packet
+-- the octets of a packet from `start` on
 pub behind_place : (p : List ℕ) (start : ℕ) → take (length p - start) (drop start p) ≡ drop start p
 behind_place p start = take_all (length p - start) (drop start p) (let e = length-drop start p in omega (arith, e))
 
--- what a segment changes of the eras
+-- the verdict of the state of one era is that on all eras
 pub taken_in : (r : Result (Option Reason) NoMemory) (old new : Eras) (era : ℕ) (l newer : Ledger) (s : Came) → get nat_eq old era ≡ Some l → get nat_eq new era ≡ Some newer → ((other : ℕ) → other ≢ era → get nat_eq new other ≡ get nat_eq old other)
     → IfOk r (λ verdict. (ws : List Written) (w : Written) → StandsFor l ws → IsInward s w → IsVerdict newer ws w verdict)
     → IfOk r (λ verdict. (ws : List Written) (w : Written) → EraStands (get nat_eq old era) ws → IsInward s w → IsTaken old new era ws w verdict)

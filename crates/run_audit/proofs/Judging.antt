@@ -1,4 +1,4 @@
--- What the fields of a ledger say of a segment that went inwards.
+-- The verdict of the fields of a ledger on a segment that went inwards.
 use Rattle.std.proofs.Common.{◌≡◌, ℕ, ◌+◌, ◌-◌, ◌^◌, ◌&&◌, ◌||◌, not, List, [], ◌∷◌, ◌++◌, length, Option, Some, None, Bool, true, false, refl, sym, ap, ap₂, ◌∙◌, arith, slice_get, if◌then◌else◌, nat_le, nat_lt}
 use Rattle.std.specs.Prelude.{ℤ, pos, negsuc, ◌+ℤ◌, ◌-ℤ◌}
 use Rattle.std.specs.Int.{int_max}
@@ -39,7 +39,7 @@ strays f g end place z (octet ∷ octets) same is =
     (ap (is_past (some_offset end)) is ∙ past end place))
     (strays f g end (place + 1) (z +ℤ pos 1) octets same (ap (λ n. n +ℤ pos 1) is ∙ sym (raised_on place 1)))
 
--- a segment that went inwards, with the offsets of its first octet and behind its last one
+-- a segment that went inwards, with the offset of its first octet and the offset behind its last one
 pub record Came (base : ℕ) (l : Ledger) (s : Inward) (w : Written) (place behind : Offset) : Type 0 where
   pub is : IsInward s w
   pub placed : receiver.offset_in place.raised ≡ off base l.acked s.seq
@@ -53,7 +53,7 @@ behind_place base l s ws w place behind came read =
     ap₂ (λ z n. z +ℤ pos n) (place_is base l s ws w place behind came read) (ap length came.is.octets_are)
     ∙ sym (ap receiver.offset_in came.behind_is ∙ raised_on place.raised (length s.octets.now))
 
--- an octet strays where one of the code's does
+-- an octet strays in the definitions exactly if one strays in the code
 pub octets_judged : (base : ℕ) (l : Ledger) (s : Inward) (ws : List Written) (w : Written) (place behind : Offset) → Came base l s w place behind → Tells base l ws → base_of (ws ++ w ∷ []) ≡ Some base → has_other_octet ws w ≡ some_stray (kept_at l.octets) l.end place.raised s.octets.now
 octets_judged base l s ws w place behind came read based =
     ap (λ b. some_strays (first b ws) (end_of b ws) (off b (acked b ws) w.seq) w.octets) (ap number_in based)
@@ -61,7 +61,7 @@ octets_judged base l s ws w place behind came read based =
     ∙ ap (some_strays (first base ws) (some_offset l.end) (off base (acked base ws) w.seq)) came.is.octets_are
     ∙ strays (kept_at l.octets) (first base ws) l.end place.raised (off base (acked base ws) w.seq) s.octets.now read.octets_are (place_is base l s ws w place behind came read)
 
--- the octets that are kept with the segment's are the first ones
+-- the octets that are kept, with those of the segment, are the first ones
 natural-raised : (a b : ℕ) → natural (receiver.offset_in b -ℤ receiver.offset_in a) ≡ (if nat_le a b then Some (b - a) else None)
 natural-raised a b = by (nat_le a b) refl
   where
@@ -91,7 +91,7 @@ octets_kept base l new s ws w place behind came read kept raised =
     ∙ ap₂ option_or (read.octets_are raised) (sym (octet_brought base l s ws w place behind came read raised))
     ∙ sym (octet_push base ws w (receiver.offset_in raised))
 
--- the place behind the last octet
+-- the offset behind the last octet
 top_moved : (t : Option Offset) (n : ℕ) (behind : Offset) (z : ℤ) → z ≡ offset_in behind → some_offset (top_with t n behind) ≡ greater (some_offset t) (if nat_lt 0 n then Some z else None)
 top_moved t n behind z at = by (nat_lt 0 n) t
   where
@@ -109,7 +109,7 @@ top_kept base l s ws w place behind came read =
     ∙ ap (λ (i : Bool). if i && has_octets w then Some (off base (acked base ws) w.seq +ℤ pos (length w.octets)) else None) (sym came.is.inward_is))
     ∙ sym (last_push base ws w)
 
--- the FIN
+-- the FIN strays in the definitions exactly if it does not fit in the code
 fits : (end t : Option Offset) (behind : Offset) → fin_strays (some_offset end) (place_in (some_offset t)) (offset_in behind) ≡ not (fin_fits end t behind)
 fits None None behind = int_lt-raised behind.raised (2 ^ 31)
 fits None (Some top) behind = int_lt-raised behind.raised top.raised
@@ -141,7 +141,7 @@ end_kept base l s ws w place behind came read =
     ∙ ap (λ (i : Bool). option_or (end_of base ws) (if i && tcp.has_fin w.flags then Some (off base (acked base ws) w.seq +ℤ pos (length w.octets)) else None)) (sym came.is.inward_is)
     ∙ sym (end_push base ws w)
 
--- the verdicts
+-- the reasons of the verdicts
 pub octet_strays : (ws : List Written) (w : Written) → has_other_octet ws w ≡ true → octets_reason ws w ≡ Some reasons.Octet
 octet_strays ws w e = ap (λ (b : Bool). if b then Some reasons.Octet else if has_other_fin ws w then Some reasons.Fin else None) e
 
@@ -151,7 +151,7 @@ fin_is_other ws w e f = ap₂ (λ (a b : Bool). if a then Some reasons.Octet els
 pub nothing_strays : (ws : List Written) (w : Written) → has_other_octet ws w ≡ false → has_other_fin ws w ≡ false → octets_reason ws w ≡ None
 nothing_strays ws w e f = ap₂ (λ (a b : Bool). if a then Some reasons.Octet else if b then Some reasons.Fin else None) e f
 
--- the fields with the segment
+-- the fields are those of the segments with the new one
 pub read_on : (base : ℕ) (l new : Ledger) (s : Inward) (ws : List Written) (w : Written) (place behind : Offset) → Came base l s w place behind → Tells base l ws → AreKeptWith l.octets new.octets place.raised s.octets.now → new.acked ≡ l.acked → new.top ≡ top_with l.top (length s.octets.now) behind → new.end ≡ end_with (tcp.has_fin s.flags.0) l.end behind → Tells base new (ws ++ w ∷ [])
 read_on base l new s ws w place behind came read kept acked_is top_is end_is = record {
   acked_is = acked_is ∙ read.acked_is ∙ sym (acked_same base ws w came.is.inward_is);

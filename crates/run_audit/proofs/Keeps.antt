@@ -1,4 +1,4 @@
--- Octets that are added one after the other.
+-- Octets that are added one after another.
 use Rattle.std.proofs.Common.{◌≡◌, ℕ, suc, ◌+◌, ◌-◌, ◌==◌, ◌||◌, ◌≤◌, nat_le, List, [], ◌∷◌, ◌<◌, length, drop, drop-cons, get_or, add-one, Option, Some, None, Bool, true, false, refl, sym, ap, ap₂, ◌∙◌, subst, arith, slice_get, if◌then◌else◌}
 use Rattle.std.specs.Option.{option_or}
 use Rattle.std.proofs.lemmas.Bool.{eqb-true, eqb-false, ne_eqb, leb-true, leb-false, le-leb, lt-leb, not-false}
@@ -6,7 +6,7 @@ use Rattle.run_audit.specs.Faults.{is_other}
 use Rattle.run_audit.specs.Kept.{brought, is_at_end, some_stray, kept_with}
 use Rattle.run_audit.specs.declared.offset.Offset.{Offset}
 
--- only the octets kept from the place on are looked at
+-- the test for strays reads only the octets that are kept from `place` on
 pub stray_ahead : (f g : ℕ → Option ℕ) (end : Option Offset) (place : ℕ) (octets : List ℕ) → ((raised : ℕ) → place ≤ raised → g raised ≡ f raised) → some_stray g end place octets ≡ some_stray f end place octets
 stray_ahead f g end place [] same = refl
 stray_ahead f g end place (octet ∷ octets) same =
@@ -14,7 +14,7 @@ stray_ahead f g end place (octet ∷ octets) same =
     (ap (λ (o : Option ℕ). is_other o octet || is_at_end end place) (same place (omega arith)))
     (stray_ahead f g end (place + 1) octets (λ raised h. same raised (omega (arith, h))))
 
--- the octets with one more
+-- the kept octets with one more
 abbrev pub with_one : (ℕ → Option ℕ) → ℕ → ℕ → ℕ → Option ℕ
 with_one f place octet raised = if place == raised then Some octet else f raised
 
@@ -26,7 +26,7 @@ stray_step f g end place octet octets new same before =
     apart : (raised : ℕ) → place + 1 ≤ raised → with_one f place octet raised ≡ f raised
     apart raised h = ap (λ (b : Bool). if b then Some octet else f raised) (ne_eqb place raised (λ e. omega (arith, h, e)))
 
--- there are no others
+-- an empty list has no octet at any offset
 brought_none : (place raised : ℕ) → brought place [] raised ≡ None
 brought_none place raised = by (nat_le place raised) (raised - place)
   where
@@ -41,7 +41,7 @@ kept_all f place raised = ap (option_or (f raised)) (brought_none place raised) 
     by None = refl
     by (Some x) = refl
 
--- at another place than the first the octet is one of the others
+-- an octet at another offset than the first one is in the rest of the list
 brought_next : (place raised octet : ℕ) (octets : List ℕ) → (place ≡ raised → ⊥) → brought (place + 1) octets raised ≡ brought place (octet ∷ octets) raised
 brought_next place raised octet octets apart = by (nat_le (place + 1) raised) refl
   where
@@ -65,7 +65,7 @@ brought_first place octet octets =
     let none : place - place ≡ 0 = omega arith in
     ap (λ (t : Bool). if t then slice_get (octet ∷ octets) (place - place) else None) within ∙ ap (slice_get (octet ∷ octets)) none
 
--- where none is another, an octet that is added first is as one that is added with the others
+-- if the first octet does not differ from the kept one, adding it and then the others adds all of them
 pub kept_step : (f g : ℕ → Option ℕ) (place octet : ℕ) (octets : List ℕ) → ((raised : ℕ) → g raised ≡ with_one f place octet raised) → is_other (f place) octet ≡ false → (raised : ℕ) → kept_with g (place + 1) octets raised ≡ kept_with f place (octet ∷ octets) raised
 kept_step f g place octet octets new same raised = by (place == raised) refl
   where
@@ -86,18 +86,18 @@ kept_step f g place octet octets new same raised = by (place == raised) refl
         let there : g raised ≡ f raised = new raised ∙ ap (λ (t : Bool). if t then Some octet else f raised) e in
         ap₂ option_or there (brought_next place raised octet octets (eqb-false place raised e))
 
--- an octet that strays
+-- the first octet strays
 pub strays_first : (f : ℕ → Option ℕ) (end : Option Offset) (place octet : ℕ) (octets : List ℕ) → (is_other (f place) octet || is_at_end end place) ≡ true → some_stray f end place (octet ∷ octets) ≡ true
 strays_first f end place octet octets h = ap (λ (b : Bool). b || some_stray f end (place + 1) octets) h
 
--- the octets from an index on
+-- the octets from an index on: the one at the index and the others
 unrolled : (octets : List ℕ) (index : ℕ) → index < length octets → drop index octets ≡ get_or octets index 0 ∷ drop (index + 1) octets
 unrolled octets index h = drop-cons octets index 0 h ∙ ap (λ n. get_or octets index 0 ∷ drop n octets) (sym (add-one index))
 
 further : (place index off : ℕ) → off ≡ place + index → place + (index + 1) ≡ off + 1
 further place index off is = omega (arith, is)
 
--- one octet is looked at
+-- the test for strays proceeds by one octet
 pub stray_on : (f g : ℕ → Option ℕ) (end : Option Offset) (place index off : ℕ) (octets : List ℕ) (whole : Bool) → off ≡ place + index → index < length octets → ((raised : ℕ) → g raised ≡ with_one f off (get_or octets index 0) raised) → is_other (f off) (get_or octets index 0) ≡ false → is_at_end end off ≡ false → some_stray f end (place + index) (drop index octets) ≡ whole → some_stray g end (place + (index + 1)) (drop (index + 1) octets) ≡ whole
 stray_on f g end place index off octets whole is h new same before so_far =
     ap (λ n. some_stray g end n (drop (index + 1) octets)) (further place index off is)
@@ -106,7 +106,7 @@ stray_on f g end place index off octets whole is h new same before so_far =
     ∙ ap (λ n. some_stray f end n (drop index octets)) is
     ∙ so_far
 
--- and added
+-- the kept octets with one octet more
 pub kept_on : (f g : ℕ → Option ℕ) (place index off : ℕ) (octets : List ℕ) (raised : ℕ) (whole : Option ℕ) → off ≡ place + index → index < length octets → ((raised : ℕ) → g raised ≡ with_one f off (get_or octets index 0) raised) → is_other (f off) (get_or octets index 0) ≡ false → kept_with f (place + index) (drop index octets) raised ≡ whole → kept_with g (place + (index + 1)) (drop (index + 1) octets) raised ≡ whole
 kept_on f g place index off octets raised whole is h new same so_far =
     ap (λ n. kept_with g n (drop (index + 1) octets) raised) (further place index off is)
@@ -115,7 +115,7 @@ kept_on f g place index off octets raised whole is h new same so_far =
     ∙ ap (λ n. kept_with f n (drop index octets) raised) is
     ∙ so_far
 
--- an octet strays, so one of them does
+-- an octet strays, so one of the list does
 pub strays_here : (f : ℕ → Option ℕ) (end : Option Offset) (place index off : ℕ) (octets : List ℕ) (whole : Bool) → off ≡ place + index → index < length octets → (is_other (f off) (get_or octets index 0) || is_at_end end off) ≡ true → some_stray f end (place + index) (drop index octets) ≡ whole → whole ≡ true
 strays_here f end place index off octets whole is h strays so_far =
     sym so_far

@@ -41,7 +41,7 @@ use Rattle.run_audit.specs.Frames.{Frame, frame_of, is_inward, owned, owners, wi
 use Rattle.run_audit.specs.Lawful.{ResetsAreLast, frames_written, entries_written, LawfulHasNoFault, LawfulIsYes}
 use Rattle.run_audit.proofs.Resets.{unbased_acks}
 
--- the frames of one entry behind others, each marked as its item's verdict says
+-- the frames of one entry after others, each marked by the verdict of its item
 
 marked_onto : Link → PlainEntry → (written : Bool) → List (List ℕ) → List Marked → List Marked
 marked_onto link entry written [] older = older
@@ -63,7 +63,7 @@ frames_marked link entry written (octets ∷ more) older = frames_marked link en
 
 -- each frame belongs to its own entry
 
--- an owner behind others
+-- the owner after others
 slice_behind : (os more : List PlainEntry) (e : PlainEntry) (n : ℕ) → n ≡ length os → slice_get (os ++ e ∷ more) n ≡ Some e
 slice_behind [] more e zero h = refl
 slice_behind [] more e (suc n) h = absurd (omega arith)
@@ -108,7 +108,7 @@ replicate_long : (n : ℕ) (e : PlainEntry) → length (replicate n e) ≡ n
 replicate_long zero e = refl
 replicate_long (suc n) e = ap suc (replicate_long n e)
 
--- each item counts its frames
+-- each entry has the number of the frames of its item
 AreCounted : List Item → Type 0
 AreCounted [] = Unit {0}
 AreCounted (item ∷ older) = AreCounted older × (item.entry.packets ≡ length item.frames)
@@ -175,7 +175,7 @@ written_same link era (item ∷ older) =
     ∙ ap₂ (λ xs inward. xs ++ if_named (is_era era item.entry.era && is_written item.entry.verdict) (segments_in inward (map (packet_in link) item.frames)))
     (written_same link era older) (sym (same_side item.entry.side))
 
--- a whole segment has no fault in its headers
+-- the headers of a whole segment have no fault
 module _ (p : List ℕ) (s : IsWholeSegment p) where
   abbrev m : List ℕ
   m = ip.payload p
@@ -207,7 +207,7 @@ module _ (p : List ℕ) (s : IsWholeSegment p) where
   is_read : is_segment p ≡ true
   is_read = λ i. header_read i && (s.protocol i == 6) && segment_read i
 
--- what is known of the frames of an item
+-- the facts about the frames of an item
 module _ (hops : ℕ) (link : Link) (item : Item) (older : List Item) (certain : engine.IsCertain hops link item)
     (emitted : (era : ℕ) → IsEmittedEra hops era (sent_in link (item ∷ older))) where
   abbrev side : Option Side
@@ -216,13 +216,13 @@ module _ (hops : ℕ) (link : Link) (item : Item) (older : List Item) (certain :
   abbrev era : Option ℕ
   era = item.entry.era
 
-  -- what one frame is known to be
+  -- the facts about one frame
   record OneIs (octets : List ℕ) : Type 0 where
     plain : side ≡ Some Inward → Plain hops (packet_in link octets)
     whole : IsSome era → IsWholeSegment (packet_in link octets)
     silent : is_written item.entry.verdict ≡ false → side ≡ Some Inward → IsSome era → IsSilentPacket (packet_in link octets)
 
-  -- those that are no written segments say nothing
+  -- frames that are no written segments have no SYN, no FIN and no octets
   silent_ones : is_written item.entry.verdict ≡ false → side ≡ Some Inward → (number : ℕ) → era ≡ Some number → All IsSilentPacket (map (packet_in link) item.frames)
   silent_ones unwritten inward number named =
       let xs = aside_packets number (sent_in link older) in
@@ -240,7 +240,7 @@ module _ (hops : ℕ) (link : Link) (item : Item) (older : List Item) (certain :
     each_one fs (λ e. (plain e).1) (λ e. (whole e).1) (λ u e n. (silent u e n).1),
   )
 
-  -- so it is certain
+  -- so the frame is well read, and silent unless it is a written segment
   certain_one : (octets : List ℕ) → OneIs octets → IsCertain hops (record { frame = frame_of link octets item.entry; written = is_written item.entry.verdict })
   certain_one octets one = record {
     read = by side refl;

@@ -1,4 +1,4 @@
--- Eras that are named one after the other.
+-- Eras that are named one after another.
 use Rattle.std.proofs.Common.{◌≡◌, ℕ, zero, suc, ◌+◌, ◌<◌, ◌==◌, ◌||◌, List, [], ◌∷◌, ◌++◌, map, length, drop, drop-cons, get_or, add-one, Option, Some, None, Bool, true, false, refl, sym, ap, ap₂, ◌∙◌, subst, nat_eq, if◌then◌else◌}
 use Rattle.std.specs.Prelude.{is_some, IfSome, IsSome, replicate}
 use Rattle.std.specs.Option.{option_to_list}
@@ -15,7 +15,7 @@ use Rattle.run_audit.specs.Eras.{Eras}
 use Rattle.run_audit.specs.Frames.{owners}
 use Rattle.run_audit.specs.Named.{noted, all_noted, numbers_of, named_in, eras_named}
 
--- a key is among the keys where it is found
+-- a key is among the keys exactly if it is found
 keys_found : {X : Type 0} (test : ℕ → Bool) (es : List (ℕ × X)) → list_any test (keys_of es) ≡ is_some (lookup test es)
 keys_found test [] = refl
 keys_found test (e ∷ es) = by (keys_found test es) (test e.0) refl
@@ -38,7 +38,7 @@ pub all_noted-append : (ns xs ys : List ℕ) → all_noted ns (xs ++ ys) ≡ all
 all_noted-append ns [] ys = refl
 all_noted-append ns (x ∷ xs) ys = all_noted-append (noted ns x) xs ys
 
--- one that ended is named
+-- one more ended era is named
 pub ended_on : (ns more : List ℕ) (ended : List Ended) (i : ℕ) (one : Ended) (whole : List ℕ) → i < length ended → one ≡ get_or ended i one → more ≡ noted ns one.era → all_noted ns (numbers_of (drop i ended)) ≡ whole → all_noted more (numbers_of (drop (i + 1) ended)) ≡ whole
 ended_on ns more ended i one whole less is named so_far =
     ap₂ (λ ks n. all_noted ks (numbers_of (drop n ended))) named (add-one i)
@@ -46,7 +46,7 @@ ended_on ns more ended i one whole less is named so_far =
     ∙ sym (ap (λ es. all_noted ns (numbers_of es)) (drop-cons ended i one less))
     ∙ so_far
 
--- the eras of an entry are named
+-- the eras of one more entry are named
 pub entry_on : (ns more : List ℕ) (entries : List Entry) (i : ℕ) (entry : Entry) (whole : List ℕ) → i < length entries → entry ≡ get_or entries i entry → more ≡ all_noted ns (named_in (plain entry)) → all_noted ns (flat_map named_in (map plain (drop i entries))) ≡ whole → all_noted more (flat_map named_in (map plain (drop (i + 1) entries))) ≡ whole
 entry_on ns more entries i entry whole less is named so_far =
     ap₂ (λ ks n. all_noted ks (flat_map named_in (map plain (drop n entries)))) named (add-one i)
@@ -59,7 +59,7 @@ pub none_of : {X : Type 0} (o : Option X) → is_some o ≡ false → o ≡ None
 none_of None e = refl
 none_of (Some x) e = absurd (cc e)
 
--- what is named is there
+-- an era that is named remains named
 noted_keeps : (n : ℕ) (ns : List ℕ) (x : ℕ) → list_any (λ other. n == other) ns ≡ true → list_any (λ other. n == other) (noted ns x) ≡ true
 noted_keeps n ns x h = by (list_any (λ other. x == other) ns)
   where
@@ -85,7 +85,7 @@ all_keeps : (n : ℕ) (ns xs : List ℕ) → list_any (λ other. n == other) ns 
 all_keeps n ns [] h = h
 all_keeps n ns (x ∷ xs) h = all_keeps n (noted ns x) xs (noted_keeps n ns x h)
 
--- the era of an entry is among those that are named
+-- the era of an entry is among the named ones
 abbrev Names : List ℕ → PlainEntry → Type 0
 Names ns e = IfSome e.era (λ n. list_any (λ other. n == other) ns ≡ true)
 
@@ -107,7 +107,7 @@ all_named ns (e ∷ entries) = (by e.era refl, subst (λ ms. AllByRecursion (Nam
         ap (list_any (λ other. n == other)) (parts ∙ ap (λ ms. all_noted ms (flat_map named_in entries)) here)
         ∙ all_keeps n (all_noted (noted ns n) (rest ++ numbers_of e.ended)) (flat_map named_in entries) (all_keeps n (noted ns n) (rest ++ numbers_of e.ended) (noted_has n ns))
 
--- so it is for each frame's owner
+-- so it is for the owner of each frame
 each_has : (eras : Eras) (ns : List ℕ) (e : PlainEntry) → keys_of eras.entries ≡ ns → Names ns e → HasEra eras e
 each_has eras ns e keys named = by e.era named
   where

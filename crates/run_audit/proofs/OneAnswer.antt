@@ -1,4 +1,4 @@
--- One answer holds of words, a capture and a report.
+-- At most one answer holds of words, a capture and a report.
 use Rattle.std.proofs.Common.{◌≡◌, ◌⊎◌, ℕ, List, length, drop, Option, Some, None, Ok, refl, sym, ap, ap₂, ◌∙◌, subst, inl, inr}
 use Rattle.std.specs.Prelude.{IfSome, IsSome}
 use Rattle.edge_io.specs.Faults.{Rose}
@@ -21,7 +21,7 @@ use Rattle.run_audit.specs.Words.{asked}
 use Rattle.run_audit.proofs.OneReport.{finished_one, finished_no_other, unfinished_one}
 use Rattle.run_audit.proofs.OneCapture.{sound_one, sound_no_fault, sound_no_flaw, fault_no_flaw, flaw_one, fault_one}
 
--- the flaws of the code are those of the grammar
+-- the flaw of the code for a flaw of the definitions
 flaw_from : found.Flaw → Flaw
 flaw_from found.bad_magic = flaws.Magic
 flaw_from found.bad_version = flaws.Version
@@ -46,7 +46,7 @@ same_flaw f g e = sym (flaw_back f) ∙ ap flaw_from e ∙ flaw_back g
 one_head : (c : List ℕ) (h k : Head) → head_of c ≡ Ok h → head_of c ≡ Ok k → h ≡ k
 one_head c h k e f = let g = sym e ∙ f in cc g
 
--- the same capture, by the same entries
+-- the answers about one capture by the same entries
 module _ (hops : ℕ) (c : List ℕ) (es : List PlainEntry) where
   sounds : (n m : ℕ) → IsSound hops es c n → IsSound hops es c m → n ≡ m
   sounds n m a b =
@@ -89,7 +89,7 @@ record Read (r : List ℕ) (P : List PlainEntry → Type 0) : Type 0 where
   finished : IsFinished r entries
   fact : P entries
 
--- what an answer says of words and octets that are told
+-- the meaning of an answer for words and known octets
 Told : (words : List (List ℕ)) → (c r : List ℕ) → Answer → Type 0
 Told words c r (answers.Yes eras frames) = (hops : ℕ) × (asked words ≡ Some hops) × Read r (λ es. (eras ≡ length (eras_named es)) × IsSound hops es c frames)
 Told words c r (answers.No number reason) = (hops : ℕ) × (asked words ≡ Some hops) × Read r (λ es. IsFaulty hops es c number reason)
@@ -99,7 +99,7 @@ Told words c r answers.Unread = ⊥
 Told words c r answers.Memory = ⊥
 Told words c r (answers.Report line) = (hops : ℕ) × (asked words ≡ Some hops) × IsUnfinished r line
 
--- of octets that are told
+-- a fact of octets that are known
 at : (P : List ℕ → Type 0) (left : Option (List ℕ)) (x : List ℕ) → left ≡ Some x → IfSome left P → P x
 at P left x e h = let Q : Option (List ℕ) → Type 0 = λ o. IfSome o P in subst Q e h
 
@@ -130,14 +130,14 @@ told_of words capture report c r answers.Unread e f exact s = absurd exact
 told_of words capture report c r answers.Memory e f exact s = absurd exact
 told_of words capture report c r (answers.Report line) e f exact s = (s.0, s.1, at (λ x. IsUnfinished x line) report.left r f s.2)
 
--- the words ask for one number
+-- the words ask for at most one number
 one_number : (words : List (List ℕ)) (h k : ℕ) → asked words ≡ Some h → asked words ≡ Some k → h ≡ k
 one_number words h k e f = let g = sym e ∙ f in cc g
 
 refused : (words : List (List ℕ)) (h : ℕ) → asked words ≡ None → asked words ≡ Some h → ⊥
 refused words h e f = absurd (cc (e, f))
 
--- facts of a finished report, by the number and the entries of another one
+-- a fact of a finished report holds of each number that the words ask for and of each list of its entries
 moved : (words : List (List ℕ)) (r : List ℕ) (h k : ℕ) (P : ℕ → List PlainEntry → Type 0) → asked words ≡ Some h → asked words ≡ Some k → Read r (P h) → (es : List PlainEntry) → IsFinished r es → P k es
 moved words r h k P e f a es fin =
     let Q : ℕ → Type 0 = λ n. P n a.entries in
@@ -204,7 +204,7 @@ some_of : (o : Option (List ℕ)) → IsSome o → (x : List ℕ) × (o ≡ Some
 some_of None h = absurd (cc h)
 some_of (Some x) h = (x, refl)
 
--- beside refused words
+-- no other answer holds of refused words
 words_alone : (words : List (List ℕ)) (capture report : Seen) (b : Answer) → IsExact b → asked words ≡ None → Says words capture report b → answers.Words ≡ b
 words_alone words capture report (answers.Yes eras frames) exact s t = absurd (refused words t.0 s t.1)
 words_alone words capture report (answers.No number reason) exact s t = absurd (refused words t.0 s t.1)
@@ -214,11 +214,11 @@ words_alone words capture report answers.Unread exact s t = absurd exact
 words_alone words capture report answers.Memory exact s t = absurd exact
 words_alone words capture report (answers.Report line) exact s t = absurd (refused words t.0 s t.1)
 
--- a report is not that of a finished run and of none
+-- a report is not both that of a finished run and not that of one
 not_both : (left : Option (List ℕ)) (r : List ℕ) (es : List PlainEntry) (line : ℕ) → left ≡ Some r → IfSome left (λ x. IsFinished x es) → IfSome left (λ x. IsUnfinished x line) → ⊥
 not_both left r es line e fin un = finished_no_other r es line (at (λ x. IsFinished x es) left r e fin) (at (λ x. IsUnfinished x line) left r e un)
 
--- beside a report of no finished run
+-- no other answer holds of a report that is not that of a finished run
 report_alone : (words : List (List ℕ)) (capture report : Seen) (r : List ℕ) (line : ℕ) (b : Answer) → report.left ≡ Some r → IsExact b
     → Says words capture report (answers.Report line) → Says words capture report b → answers.Report line ≡ b
 report_alone words capture report r line (answers.Yes eras frames) f exact s t = absurd (not_both report.left r t.2.entries line f t.2.finished s.2)
@@ -248,7 +248,7 @@ answers_are_one words capture report (answers.Report line) b heard exact s t =
     let r = some_of report.left heard in
     report_alone words capture report r.0 line b r.1 exact s t
 
--- a source that failed beside an answer that holds
+-- a source failed although an answer holds
 either_failed : (capture report : Seen) → Failed capture report → Rose report.before report.now ⊎ Rose capture.before capture.now
 either_failed capture report (inl a) = inl a
 either_failed capture report (inr b) = inr b.fact
@@ -268,7 +268,7 @@ may_fail words capture report (answers.Report line) heard s t =
     let r = some_of report.left heard in
     report_failed capture report r.0 line r.1 s.2 t.2
 
--- the answer that is told is the one that holds
+-- the answer that is written is the one that holds
 pub tells_exactly : AnswersAreOne → (words : List (List ℕ)) (capture report : Seen) (old new : Option (List ℕ)) (before now status : ℕ) → Answered words capture report old new before now status → TellsExactly words capture report old new before now status
 tells_exactly one words capture report old new before now status told answer heard says = by told.answer told.says told.told
   where

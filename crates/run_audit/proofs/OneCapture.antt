@@ -1,4 +1,4 @@
--- The octets of a capture are sound, or have one first fault or flaw, by the entries of a report.
+-- By the entries of a report the octets of a capture are sound, or have one first fault or flaw.
 use Rattle.std.proofs.Common.{◌≡◌, ◌⊎◌, ℕ, ◌<◌, ◌≤◌, List, [], ◌∷◌, length, Option, Some, None, Ok, Err, refl, sym, ap, ap₂, ◌∙◌, subst, arith, inl, inr, ⊎_elim}
 use Rattle.std.specs.Prelude.{slice_get, option_map}
 use Rattle.std.proofs.lemmas.Bool.{cases_order}
@@ -18,7 +18,7 @@ use Rattle.run_audit.specs.FirstFault.{AreFaultless, FailsNext}
 use Rattle.run_audit.specs.Frames.{Frame, frame_of, owners, owned, sent}
 use Rattle.run_audit.proofs.Framing.{frames_long, owner_at, owned_more}
 
--- a frame has one first reason, and no fault has none
+-- a frame has at most one first reason, and a frame without a fault has none
 first_one : (hops : ℕ) (older : List Sent) (f : Frame) (r s : Reason) → IsFirstReason hops older f r → IsFirstReason hops older f s → r ≡ s
 first_one hops older f reasons.Count s a b = absurd a.holds
 first_one hops older f reasons.Plain reasons.Count a b = absurd b.holds
@@ -61,13 +61,13 @@ none_holds hops older f reasons.Octet h right = absurd (cc (h, right.octet))
 none_holds hops older f reasons.Fin h right = absurd (cc (h, right.fin))
 
 module _ (hops : ℕ) (head : Head) (entries : List PlainEntry) (all : List ℕ) where
-  -- what is behind some frames that have an entry each and no fault
+  -- the octets behind some frames, each of which belongs to an entry and has no fault
   record Behind (packets : List Packet) (left : List ℕ) : Type 0 where
     reads : ReadsTo head.order all packets left
     each_owned : length packets ≤ length (owners entries)
     faultless : AreFaultless hops (owned head.link (owners entries) (frames_of packets))
 
-  -- one more frame, which has an entry and no fault
+  -- one more frame, which belongs to an entry and has no fault
   record More (packets : List Packet) (left : List ℕ) : Type 0 where
     packet : Packet
     rest : List ℕ
@@ -79,7 +79,7 @@ module _ (hops : ℕ) (head : Head) (entries : List PlainEntry) (all : List ℕ)
   has_owner : (n : ℕ) → n < length (owners entries) → (e : PlainEntry) × (slice_get (owners entries) n ≡ Some e)
   has_owner n less = ⊎_elim (λ h. (h.0, h.2)) (λ h. let k = h.0 in absurd (omega (arith, less, k))) (slice_get_cases (owners entries) n).1
 
-  -- fewer frames are followed by one more
+  -- the shorter of two such lists of frames is followed by one more
   goes : (ps qs : List Packet) (l m : List ℕ) → Behind qs m → ReadsTo head.order all ps l → length ps < length qs → More ps l
   goes ps [] l m b reads less = absurd (omega (arith, less))
   goes ps (q ∷ qs) l m b reads less = by (cases_order (length ps) (length qs)) (λ older less. goes ps qs l b.reads.0 older reads less)
@@ -105,7 +105,7 @@ module _ (hops : ℕ) (head : Head) (entries : List PlainEntry) (all : List ℕ)
       by (inr (inl fewer)) go = go older fewer
       by (inr (inr more)) go = absurd (omega (arith, less, more))
 
-  -- where no frame more follows either, they are the same
+  -- two such lists of frames that no further frame follows are the same
   one_place : (ps qs : List Packet) (l m : List ℕ) → Behind ps l → (More ps l → ⊥) → Behind qs m → (More qs m → ⊥) → (ps ≡ qs) × (l ≡ m)
   one_place ps qs l m a no_a b no_b = by (cases_order (length ps) (length qs))
     where
@@ -114,7 +114,7 @@ module _ (hops : ℕ) (head : Head) (entries : List PlainEntry) (all : List ℕ)
       by (inr (inl fewer)) = absurd (no_a (goes ps qs l m b a.reads fewer))
       by (inr (inr more)) = absurd (no_b (goes qs ps m l a b.reads more))
 
-  -- what follows
+  -- the frames of each result are such lists
   sound_behind : (n : ℕ) (s : SoundFrames hops head entries all n) → Behind s.packets []
   sound_behind n s = record { reads = s.reads; each_owned = (let h = s.none.as_many in let k = frames_long s.packets in omega (arith, h, k)); faultless = s.none.faultless }
 
@@ -195,7 +195,7 @@ module _ (hops : ℕ) (head : Head) (entries : List PlainEntry) (all : List ℕ)
       let f = sym a.stands ∙ e in
       (cc f, a.place ∙ ap offset_of one.0 ∙ sym b.place)
 
-  -- what fails next is one reason
+  -- there is at most one next fault
   next_one : (older : List Sent) (o : Option (List ℕ)) (e : Option PlainEntry) (r s : Reason) → FailsNext hops head.link older o e r → FailsNext hops head.link older o e s → r ≡ s
   next_one older None None r s a b = absurd a
   next_one older None (Some e) r s a b = a ∙ sym b

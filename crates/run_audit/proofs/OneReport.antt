@@ -1,4 +1,4 @@
--- Octets are one report, or have one first fault.
+-- Octets are the text of one report, or have one first fault.
 use Rattle.std.proofs.Common.{◌≡◌, ◌⊎◌, ℕ, ◌+◌, List, [], ◌∷◌, ◌++◌, length, map, Err, refl, sym, ap, ◌∙◌, subst, arith, inl, inr, ⊎_elim}
 use Rattle.rule_book.specs.Entries.{PlainEntry}
 use Rattle.rule_book.specs.Reports.{IsVersion, PlainReport, HasFault, IsReport, lines, text_of}
@@ -11,7 +11,7 @@ use Rattle.rule_book.proofs.Outcomes.{Gives, gives_fault, gives_one, gives_repor
 use Rattle.rule_book.proofs.Whole.{lines-text}
 use Rattle.run_audit.specs.Reported.{IsEnd, IsStop, IsFinished, IsUnfinished, IsTooLong, HasFaultAt, TellsStop, line_of_fault}
 
--- the first line is another, or it is known and the lines give this fault
+-- the first line has a known version, and the lines give this fault
 record Known (all : List (List ℕ)) (fault : LineFault) : Type 0 where
   version : ℕ
   known : IsVersion version
@@ -48,7 +48,7 @@ fault_no_report octets f report has is text = by (fault_gives (lines octets) f h
     by (inl a) = first (subst (HasFault (lines octets)) a has)
     by (inr a) = let same = gives_one (gives_report (lines octets) report is (lines-text octets report is text)) a.gives in absurd (cc same)
 
--- a report is not that of a finished run and of one that stopped
+-- a report is not both that of a finished run and that of one that stopped
 end_no_stop : (last : Last) → IsEnd last → IsStop last → ⊥
 end_no_stop (End records packets) e s = s
 end_no_stop (Stop kind offset) e s = e

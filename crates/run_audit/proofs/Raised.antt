@@ -1,4 +1,4 @@
--- Offsets that are counted from half a turn below 0 are compared as whole numbers are.
+-- Raised offsets, which are offsets plus 2^31, are compared as the offsets are.
 use Rattle.std.proofs.Common.{◌≡◌, ℕ, ◌+◌, ◌==◌, nat_le, not, arith}
 use Rattle.std.specs.Prelude.{pos, ◌+ℤ◌, int_le, int_lt}
 use Rattle.std.specs.Ordering.{int_eq}

@@ -1,4 +1,4 @@
--- In a lawful trace nothing is written in an era behind an outbound reset, so none acknowledges there before the base is fixed.
+-- In an era of a lawful trace nothing is written after an outbound RST, so none acknowledges there before the base is fixed.
 use Rattle.std.proofs.Common.{◌≡◌, ◌⊎◌, inl, inr, ℕ, ◌+◌, ◌%◌, ◌^◌, ◌≤◌, ◌==◌, ◌&&◌, ◌||◌, not, cond, Bool, true, false, List, [], ◌∷◌, ◌++◌, length, map, Option, Some, None, refl, sym, ap, ap₂, ◌∙◌, subst, arith, append-nil, eq-eqb}
 use Rattle.std.specs.List.{AllByRecursion, list_any}
 use Rattle.std.specs.Option.{option_or}
@@ -41,7 +41,7 @@ use Rattle.norm_engine.proofs.Agreeing.{PacketLaws, written_is}
 use Rattle.run_audit.specs.Emitted.{NoneAcksUnbased}
 use Rattle.run_audit.specs.Lawful.{is_outbound_reset, NoneBehindReset, ResetsAreLast}
 
--- what the call of an outbound datagram does to the eras
+-- the changes of the eras by the call of an outbound datagram
 
 abbrev head_of : List Ended → Option Ended
 head_of [] = None
@@ -73,7 +73,7 @@ does law settings v d h out =
     let inside = h.inside in
     out_does law settings v d (step_of v (segment_in d)) (t_sum_out settings d) out refl (step_is v (segment_in d)) (omega (arith, least, inside)) least
 
--- a reset begins no era and reopens none, so it ends the one that is live
+-- a RST begins no era and reopens none, so it ends the one that is live
 record EndsLive (v : View) (w : Written) : Type 0 where
   begins_none : begun_with v w ≡ None
   ends_it : ended_with v w ≡ ends v.era (octets_of v.segments) reasons.Reset
@@ -115,7 +115,7 @@ ends_live v w out rst legal = record {
         || ((not (out i) && syn i) && rules.is_another (iss v.segments) (state_of v.segments) w.seq)))
         ∙ neither (is_live v) (is_closed (state_of v.segments)) (not (rules.precedes (base_of v.segments) w.seq))
 
--- What a call writes in an era: no outbound reset, or one alone, and then the era ends.
+-- A call writes no outbound RST in an era, or one alone, and then the era ends.
 abbrev Writes : (era : ℕ) → Call → Type 0
 Writes era c =
     (list_any is_outbound_reset (written_by era c) ≡ false)
@@ -182,7 +182,7 @@ writes_of law settings cs (datagram now d o) era is asks = subst (Writes era) (s
     by true side = writes_inward era now d (outcome_at settings (view_of settings cs d) d) side
     by false side = writes_outward law settings (view_of settings cs d) d era now asks side
 
--- an era in which a reset was written has ended
+-- an era in which an outbound RST was written has ended
 has_ended_by : MendedSayTheSame → (settings : PlainSettings) (cs : List Call) → AreMade settings cs → AllByRecursion (AsksSegment settings) cs → (era : ℕ)
     → list_any is_outbound_reset (segments era cs) ≡ true → has_ended era cs ≡ true
 has_ended_by law settings [] made asked era e = absurd (false≢true e)
@@ -202,7 +202,7 @@ has_ended_by law settings (c ∷ cs) made asked era e = by (has_ended_by law set
     by go true before = or_right (is_among (ended_by c) era) (has_ended era cs) (go before)
     by go false none = or_left (is_among (ended_by c) era) (has_ended era cs) (ends_here (writes_of law settings cs c era made.0 asked.0) (here none))
 
--- where a call writes in an era, this has not ended, so no reset was written in it
+-- an era in which a call writes has not ended, so no outbound RST was written in it
 none_before : MendedSayTheSame → (settings : PlainSettings) (cs : List Call) (c : Call) (era : ℕ) → c ≡ made_of settings cs c → AreMade settings cs → AllByRecursion (AsksSegment settings) cs
     → writes_in era c ≡ true → list_any is_outbound_reset (segments era cs) ≡ false
 none_before law settings cs c era is made asked writes = by (list_any is_outbound_reset (segments era cs)) refl
@@ -216,7 +216,7 @@ none_before law settings cs c era is made asked writes = by (list_any is_outboun
     by false e = refl
     by true e = absurd (false≢true (sym goes_on ∙ has_ended_by law settings cs made asked era e))
 
--- two ways to part a list
+-- a front of two joined lists ends in the first or in the second
 data Parts (xs ys before rest : List Written) : Type 0 where
   inside : (more : List Written) → xs ≡ before ++ more → rest ≡ more ++ ys → Parts xs ys before rest
   past : (more : List Written) → before ≡ xs ++ more → ys ≡ more ++ rest → Parts xs ys before rest
@@ -237,7 +237,7 @@ some_left : (before : List Written) (w : Written) (later : List Written) → [] 
 some_left [] w later e = cc e
 some_left (b ∷ before) w later e = cc e
 
--- nothing is written behind a reset
+-- nothing is written after an outbound RST
 none_behind : MendedSayTheSame → (settings : PlainSettings) (cs : List Call) → AreMade settings cs → AllByRecursion (AsksSegment settings) cs → (era : ℕ) → NoneBehindReset (segments era cs)
 none_behind law settings [] made asked era before w later e = absurd (some_left before w later e)
 none_behind law settings (c ∷ cs) made asked era before w later e = by (none_behind law settings cs made.1 asked.1 era) (parts xs ys before (w ∷ later) e)
@@ -248,7 +248,7 @@ none_behind law settings (c ∷ cs) made asked era before w later e = by (none_b
     ys : List Written
     ys = written_by era c
 
-    -- where the call writes, none is among those before it
+    -- if the call writes, there is no outbound RST before it
     none : (more : List Written) → ys ≡ more ++ (w ∷ later) → list_any is_outbound_reset xs ≡ false
     none more some = at (writes_in era c) refl
       where
@@ -256,7 +256,7 @@ none_behind law settings (c ∷ cs) made asked era before w later e = by (none_b
         at true writes = none_before law settings cs c era made.0 made.1 asked.1 writes
         at false idle = absurd (some_left more w later (sym (unwritten era c idle) ∙ some))
 
-    -- nor among those that the call writes before another one
+    -- and none among the segments that the call writes before another one
     alone : (more : List Written) → ys ≡ more ++ (w ∷ later) → Writes era c → list_any is_outbound_reset more ≡ false
     alone more some (inl quiet) =
         (or_parts (list_any is_outbound_reset more) (list_any is_outbound_reset (w ∷ later))
@@ -283,7 +283,7 @@ resets_last laws same made settings link trace sound era =
     let is = made settings link trace sound in
     subst NoneBehindReset (sym (written_is laws settings link era trace sound)) (none_behind same settings (flow_calls settings link trace) is.made is.asked era)
 
--- what acknowledges and fixes no base is an outbound reset
+-- a segment that acknowledges and fixes no base is an outbound RST
 none_acks : (ws : List Written) → list_any is_outbound_reset ws ≡ false → base_of ws ≡ None → list_any acknowledges ws ≡ false
 none_acks [] resets unbased = refl
 none_acks (w ∷ ws) resets unbased =

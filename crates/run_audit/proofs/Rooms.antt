@@ -1,4 +1,4 @@
--- There is room for the numbers of each era, since the frames are few.
+-- The numbers of each era do not overflow, since there are fewer than 2^32 frames.
 use Rattle.std.proofs.Common.{◌≡◌, ℕ, ◌+◌, ◌*◌, ◌^◌, ◌<◌, ◌≤◌, ◌&&◌, ◌||◌, List, [], ◌∷◌, ◌++◌, length, length-append, append-nil, Option, Some, None, Bool, true, false, sym, ap, arith, if◌then◌else◌, nat_eq}
 use Rattle.indexmap.specs.IndexMap.{get}
 use Rattle.wire_base.specs.Segments.{Segment, Written, segment_of}
@@ -20,7 +20,7 @@ acked_from near base before (w ∷ ws) =
     let k = near base before w in
     omega (arith, e, h, k)
 
--- what is acknowledged grows by less than half a turn with each segment
+-- the acknowledged offset grows by less than 2^31 with each segment
 pub acked_small : AckedGrowsNear → (base : ℕ) (ws : List Written) → acked base ws ≤ length ws * 2 ^ 31
 acked_small near base ws = let h = acked_from near base [] ws in omega (arith, h)
 

@@ -1,4 +1,4 @@
--- What an answer says, by what was found in the report and in the capture.
+-- The meaning of an answer, from the results of the report and of the capture.
 use Rattle.std.proofs.Common.{◌≡◌, ◌⊎◌, ℕ, List, Option, Some, Result, IfSome, IfErr, inr, ⊎_elim}
 use Rattle.std.proofs.lemmas.Result.{IfErr-weaker}
 use Rattle.rule_book.specs.Entries.{PlainEntry}
@@ -10,7 +10,7 @@ use Rattle.run_audit.specs.Reported.{IsFinished}
 use Rattle.run_audit.specs.Told.{Tells}
 use Rattle.run_audit.specs.Words.{asked}
 
--- an answer is told
+-- an answer is written
 pub answered : (words : List (List ℕ)) (capture report : Seen) (answer : Answer) (old new : Option (List ℕ)) (before now status : ℕ) → Says words capture report answer → Tells answer old new before now status ⊎ Tells answers.Memory old new before now status → Answered words capture report old new before now status
 answered words capture report answer old new before now status says told = ⊎_elim one other told
   where
@@ -20,7 +20,7 @@ answered words capture report answer old new before now status says told = ⊎_e
     other : Tells answers.Memory old new before now status → Answered words capture report old new before now status
     other t = record { answer = answers.Memory; says = tt; told = t }
 
--- what was found in a capture, by the entries of the report of a finished run
+-- the meaning of the answer about a capture, by the entries of the report of a finished run
 pub unsound : {T : Type 0} (words : List (List ℕ)) (capture : Option (List ℕ)) (before now : ℕ) (report : Option (List ℕ)) (report_before report_now : ℕ) (hops : ℕ) (entries : List PlainEntry)
     → asked words ≡ Some hops → IfSome report (λ octets. IsFinished octets entries) → (result : Result T Answer) → IfErr result (λ answer. WhyUnsoundWhole hops entries capture before now answer)
     → IfErr result (λ answer. Says words (seen capture before now) (seen report report_before report_now) answer)

@@ -1,4 +1,4 @@
--- What is read of a capture of octets, and that the audit of what a run made of it says yes.
+-- The records that are read from a capture, and the answer `yes` of the audit of the two files that a run wrote for it.
 use Rattle.std.proofs.Common.{◌≡◌, inl, inr, ℕ, ◌+◌, ◌^◌, ◌<◌, ◌≤◌, ◌==◌, Bool, true, false, List, [], ◌∷◌, length, map, drop, reverse, Option, Some, None, Result, Ok, Err, refl, ap, subst, arith, if◌then◌else◌}
 use Rattle.std.specs.Prelude.{nat_lt}
 use Rattle.std.specs.List.{AllByRecursion}
@@ -20,7 +20,7 @@ use Rattle.norm_engine.specs.Items.{Item, packets}
 use Rattle.run_audit.specs.Lawful.{RecordFits, RunIsYes, WrittenIsYes, frames_written, record_with, records_written}
 use Rattle.run_audit.proofs.Writing.{frames_long}
 
--- a number of four octets is one of 32 bits
+-- a number of four octets has at most 32 bits
 number_below : (order : Order) (xs : List ℕ) (at : ℕ) → AreOctets xs → u32_at order xs at < 2 ^ 32
 number_below Little xs at each =
     let a = each at in
@@ -30,19 +30,19 @@ number_below Little xs at each =
     omega (arith, a, b, c, d)
 number_below Big xs at each = four_below xs at each
 
--- a record of octets whose time is of 32 bits
+-- a record of octets whose seconds and fraction have at most 32 bits
 record IsOfOctets (p : Packet) : Type 0 where
   seconds : p.seconds < 2 ^ 32
   fraction : p.fraction < 2 ^ 32
   each : AreOctets p.octets
 
--- what is read from the front of octets
+-- the record at the front of octets, and the octets behind it
 record IsRead (count : ℕ) (p : Packet) (rest : List ℕ) : Type 0 where
   one : IsOfOctets p
   left : AreOctets rest
   few : (count == 4294967295) ≡ false
 
--- what stands at the front, by its tests
+-- what octets begin with, by its tests
 abbrev front_by : (empty short : Bool) → Result (Option (Packet × List ℕ)) Flaw → Result (Option (Packet × List ℕ)) Flaw
 front_by empty short next = if empty then Ok None else if short then Err cut_short else next
 
@@ -79,7 +79,7 @@ front_read order count xs p rest each h = by (length xs == 0) (nat_lt (length xs
     by false true h = absurd (cc h)
     by false false h = sized (nat_lt 262144 size) (count == 4294967295) (nat_lt (length xs) (16 + size)) refl h
 
--- what is read of all of them
+-- all records that are read, and the octets behind them
 record AreRead (ps : List Packet) (rest : List ℕ) : Type 0 where
   each : AllByRecursion IsOfOctets ps
   left : AreOctets rest
@@ -104,7 +104,7 @@ have_octets : (trace : List Item) → AllByRecursion IsOfOctets (packets trace) 
 have_octets [] each = tt
 have_octets (item ∷ older) each = (have_octets older each.1, each.0.each)
 
--- the records of frames fit, where the frames do
+-- the records of frames fit if the frames do
 frames_fit : (r : Packet) (frames : List (List ℕ)) → IsOfOctets r → AllByRecursion (λ frame. length frame ≤ 262144) (reverse frames) → AllByRecursion RecordFits (reverse (map (record_with r) frames))
 frames_fit r frames own short =
     subst (AllByRecursion RecordFits) (map-reverse (record_with r) frames)

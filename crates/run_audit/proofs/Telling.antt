@@ -1,4 +1,4 @@
--- What a segment without a fault tells of its era.
+-- A segment without a fault agrees with its era.
 use Rattle.std.proofs.Common.{◌≡◌, ℕ, zero, suc, ◌+◌, ◌%◌, ◌^◌, ◌==◌, ◌&&◌, ◌||◌, not, List, [], ◌∷◌, ◌++◌, length, Option, Some, None, Bool, true, false, refl, sym, ap, ap₂, ◌∙◌, subst, arith, if◌then◌else◌, nat_lt, is_none}
 use Rattle.std.specs.Prelude.{ℤ, pos, negsuc, ◌+ℤ◌, ◌-ℤ◌, ◌<ℤ◌, int_le, int_lt, slice_get}
 use Rattle.std.specs.Ordering.{int_eq}
@@ -20,14 +20,14 @@ use Rattle.run_audit.specs.Faults.{is_other, is_past, some_strays, fin_strays, l
 use Rattle.run_audit.specs.Tops.{top}
 use Rattle.run_audit.proofs.Tops.{below_top}
 
--- none of the segment's reasons holds
+-- no reason holds of the segment
 pub record IsRight (ws : List Written) (w : Written) : Type 0 where
   pub base : lacks_base ws w ≡ false
   pub syn : has_other_syn ws w ≡ false
   pub octet : has_other_octet ws w ≡ false
   pub fin : has_other_fin ws w ≡ false
 
--- each octet is the first one at its place, or there was none, and stands before the end
+-- each octet equals the first one at its offset, if there was one, and is before the end
 none_strays : (f : ℤ → Option ℕ) (end : Option ℤ) (z : ℤ) (octets : List ℕ) (i x : ℕ) → some_strays f end z octets ≡ false → slice_get octets i ≡ Some x → (is_other (f (z +ℤ pos i)) x ≡ false) × (is_past end (z +ℤ pos i) ≡ false)
 none_strays f end z [] i x h e = absurd (cc e)
 none_strays f end z (y ∷ octets) zero x h e =
@@ -42,7 +42,7 @@ none_strays f end z (y ∷ octets) (suc i) x h e =
     let at : (z +ℤ pos (suc i)) ≡ ((z +ℤ pos 1) +ℤ pos i) = omega (arith, ints) in
     (ap (λ n. is_other (f n) x) at ∙ go.0, ap (is_past end) at ∙ go.1)
 
--- an octet that is no other one is the first, or becomes it
+-- an octet that does not differ from the first one is it or becomes it
 same_first : (o : Option ℕ) (x : ℕ) → is_other o x ≡ false → option_or o (Some x) ≡ Some x
 same_first None x h = refl
 same_first (Some y) x h = ap (λ n. Some n) (eqb-true y x (not-false (y == x) h))
@@ -64,7 +64,7 @@ same_end (Some e) t z h = let is = not-false (int_eq z e) h in ap (λ n. Some n)
 is_place : EraLaws → (base at number : ℕ) → IsPlace base number (off base at number)
 is_place laws base at number = let is = (laws.read base at number (off base at number)).1 refl in record { turns = is.turns; is = is.place }
 
--- where a base is fixed up to and with the segment
+-- if a base is fixed before the segment or by it, its octets and its FIN are those of the era
 told_based : EraLaws → (base : ℕ) (ws : List Written) (s : Segment) → base_of (ws ++ written_of true s ∷ []) ≡ Some base → IsRight ws (written_of true s) → IsTold base (ws ++ written_of true s ∷ []) (off base (acked base ws) s.sequence) s
 told_based laws base ws s based right = record {
   placed = is_place laws base (acked base ws) s.sequence;
@@ -97,7 +97,7 @@ told_based laws base ws s based right = record {
     syn : (tcp.has_syn s.flags && not (((s.sequence + 1) % 2 ^ 32) == base)) ≡ false
     syn = ap (λ o. tcp.has_syn s.flags && not (precedes o s.sequence)) (sym based) ∙ right.syn
 
--- where none is, the segment says nothing of a stream
+-- if no base is fixed, the segment has no SYN, no FIN and no octets
 pub silent_unbased : (ws : List Written) (s : Segment) → base_of (ws ++ written_of true s ∷ []) ≡ None → IsRight ws (written_of true s) → IsSilent (written_of true s)
 silent_unbased ws s none right = record { inward = refl; no_syn = mute (tcp.has_syn s.flags) refl; no_fin = parts.1; no_octets = empty s.octets parts.0 }
   where
@@ -128,11 +128,11 @@ told laws base ws s only right = by (base_of (ws ++ written_of true s ∷ [])) r
     by None e = let q = silent_unbased ws s e right in silent_is_told laws base (acked base ws) (ws ++ written_of true s ∷ []) s q.no_octets q.no_syn q.no_fin
     by (Some b) e = told_based laws base ws s (e ∙ ap (λ n. Some n) (only b e)) right
 
--- no octet stands at or past the end
+-- no octet is at or past the end
 abbrev pub EndsBehind : (base : ℕ) → List Written → Type 0
 EndsBehind base ws = (o : ℤ) (x : ℕ) (end : ℤ) → first base ws o ≡ Some x → end_of base ws ≡ Some end → o <ℤ end
 
--- an octet of the segment has an index
+-- an octet at an offset has an index in the segment
 indexed : (octets : List ℕ) (z o : ℤ) (x : ℕ) → get_at octets (natural (o -ℤ z)) ≡ Some x → (i : ℕ) × (slice_get octets i ≡ Some x) × (o ≡ (z +ℤ pos i))
 indexed octets z o x e = by (o -ℤ z) refl e
   where
@@ -140,7 +140,7 @@ indexed octets z o x e = by (o -ℤ z) refl e
     by (pos i) is there = (i, there, omega (arith, ints, is))
     by (negsuc i) is there = absurd (cc there)
 
--- an inward segment that is right leaves the end behind all octets
+-- with an inward segment without a fault no octet is at or past the end
 pub ends_on : (base : ℕ) (ws : List Written) (s : Segment) → base_of (ws ++ written_of true s ∷ []) ≡ Some base → IsRight ws (written_of true s) → EndsBehind base ws → EndsBehind base (ws ++ written_of true s ∷ [])
 ends_on base ws s based right before o x end ex ee = by (end_of base ws) refl (sym (end_push base ws w) ∙ ee)
   where
@@ -156,7 +156,7 @@ ends_on base ws s based right before o x end ex ee = by (end_of base ws) refl (s
     fin : (tcp.has_fin s.flags && fin_strays (end_of base ws) (top base (ws ++ w ∷ [])) (place +ℤ pos (length s.octets))) ≡ false
     fin = ap (λ b. tcp.has_fin s.flags && fin_strays (end_of b ws) (top b (ws ++ w ∷ [])) (off b (acked b ws) s.sequence +ℤ pos (length s.octets))) (sym (ap number_in based)) ∙ right.fin
 
-    -- an octet before a pinned end
+    -- there is an end before the segment: its octets are below it
     pinned : (e : ℤ) → end_of base ws ≡ Some e → (p : Option ℕ) → first base ws o ≡ p → option_or p (octet_at base (acked base ws) o w) ≡ Some x → o <ℤ e
     pinned e is (Some y) f h = before o y e f is
     pinned e is None f h =
@@ -166,7 +166,7 @@ ends_on base ws s based right before o x end ex ee = by (end_of base ws) refl (s
         let there = at.2 in
         grind (arith, ints, past, there)
 
-    -- a FIN behind all octets
+    -- the segment has the first FIN: it is behind all octets
     opened : (f : Bool) → tcp.has_fin s.flags ≡ f → end_of base ws ≡ None → (if f then Some (place +ℤ pos (length s.octets)) else None) ≡ Some end → o <ℤ end
     opened false is none h = absurd (cc h)
     opened true is none h =

@@ -1,4 +1,4 @@
--- The place behind the last octet with one more segment, and that all octets stand before it.
+-- The offset behind the last octet, with one more segment; all octets are below it.
 use Rattle.std.proofs.Common.{◌≡◌, ℕ, ◌+◌, ◌≤◌, ◌&&◌, List, [], ◌∷◌, ◌++◌, length, Option, Some, None, Bool, true, false, refl, sym, ap, ◌∙◌, subst, arith}
 use Rattle.std.specs.Prelude.{ℤ, pos, negsuc, ◌+ℤ◌, ◌-ℤ◌, ◌<ℤ◌, ◌≤ℤ◌, max, nat_lt, slice_get, if◌then◌else◌}
 use Rattle.std.specs.Int.{int_max}
@@ -37,7 +37,7 @@ last_push base ws w =
     let f : Moment Written → Option ℤ = λ m. octets_end base (acked base m.before) m.now in
     ap (furthest f) (moments_push ws w) ∙ furthest_push f (moments ws) (record { before = ws; now = w })
 
--- one that brings no octets inwards leaves it
+-- a segment without inward octets does not change it
 pub last_same : (base : ℕ) (ws : List Written) (w : Written) → octets_end base (acked base ws) w ≡ None → last_end base (ws ++ w ∷ []) ≡ last_end base ws
 last_same base ws w none = last_push base ws w ∙ ap (greater (last_end base ws)) none ∙ greater_none (last_end base ws)
 
@@ -53,7 +53,7 @@ bare_end base a w bare =
     ap (λ (os : List ℕ). if w.inward && nat_lt 0 (length os) then Some (off base a w.seq +ℤ pos (length os)) else None) bare
     ∙ no_octets w.inward (off base a w.seq +ℤ pos 0)
 
--- a place stands before another one, which is there
+-- an offset is below an optional one, which is there
 abbrev IsBefore : ℤ → Option ℤ → Type 0
 IsBefore o None = ⊥
 IsBefore o (Some end) = o <ℤ end
@@ -68,7 +68,7 @@ before_other o None q h = h
 before_other o (Some p) None h = absurd h
 before_other o (Some p) (Some q) h = omega (arith, ints, h, int_max_is p q)
 
--- where each element that has something has an end behind this place
+-- the offset is below the greatest end, if each element with a value has an end above the offset
 first_before : {A B : Type 0} (f : A → Option B) (g : A → Option ℤ) (o : ℤ) → ((x : A) (y : B) → f x ≡ Some y → IsBefore o (g x)) → (xs : List A) (y : B) → first_of f xs ≡ Some y → IsBefore o (furthest g xs)
 first_before f g o each [] y e = absurd (cc e)
 first_before {B = B} f g o each (x ∷ xs) y e = by (first_before f g o each xs y) (f x) refl e
@@ -102,7 +102,7 @@ octet_before base a o w x = by w.inward w.octets
         let some : nat_lt 0 (length (y ∷ os)) ≡ true = grind (arith, nat_tests) in
         subst (λ b. IsBefore o (if b then Some (z +ℤ pos (length (y ∷ os))) else None)) (sym some) (at (y ∷ os) (o -ℤ z) refl e)
 
--- each octet stands before it
+-- each octet is below Top
 pub below_top : (base : ℕ) (ws : List Written) (o : ℤ) (x : ℕ) → first base ws o ≡ Some x → o <ℤ top base ws
 below_top base ws o x e =
     by (last_end base ws)
@@ -113,7 +113,7 @@ below_top base ws o x e =
     by None h = absurd h
     by (Some end) h = h
 
--- it is at most the Top that is not below 0
+-- an optional offset is at most this number, if there is one
 abbrev IsAtMost : Option ℤ → ℕ → Type 0
 IsAtMost None n = Unit {0}
 IsAtMost (Some end) n = end ≤ℤ pos n

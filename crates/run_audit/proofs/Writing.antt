@@ -1,4 +1,4 @@
--- What is written of a trace is a capture and a report.
+-- The files written for a trace are a capture and a report.
 use Rattle.std.proofs.Common.{◌≡◌, inr, ℕ, ◌+◌, ◌≤◌, Bool, List, [], ◌∷◌, ◌++◌, length, map, drop, reverse, flat_map, Some, Ok, refl, sym, ap, ap₂, ◌∙◌, subst, arith, append-nil, append_assoc, length-append}
 use Rattle.std.specs.List.{AllByRecursion}
 use Rattle.std.proofs.lemmas.List.{map-append, reverse-append, reverse-reverse, length-reverse, length-map}
@@ -25,7 +25,7 @@ use Rattle.run_audit.proofs.Lawfuls.{before}
 
 -- the records are read back
 
--- a record as it is written: its length is that of its octets, and it has no side
+-- a written record: its original length is that of its octets, and it has no side
 abbrev IsOwn : Packet → Type 0
 IsOwn w = w ≡ record_with w w.octets
 
@@ -50,7 +50,7 @@ reads back order (w ∷ older) rest own fits few =
       back order (length older) w.seconds w.fraction w.octets rest (omega (arith, few)) fits.0.seconds fits.0.fraction fits.0.octets ∙ ap (λ x. Ok (Some (x, rest))) (sym own.0),
     )
 
--- behind the head stands what was written behind it
+-- the octets behind the head are those that were written behind it
 behind_head : (order : Order) (nano : Bool) (link : Link) (xs : List ℕ) → drop 24 (head_octets (record { order = order; nano = nano; link = link }) ++ xs) ≡ xs
 unfolding head_octets
 behind_head Little nano link xs = refl
@@ -65,7 +65,7 @@ is_capture head_back back head trace fits =
       whole = subst P (append-nil octets ∙ sym (behind_head head.order head.nano head.link octets)) (reads back head.order (records_written trace) [] (records_own trace) fits.records fits.few);
     }
 
--- item by item
+-- the octets of the records of one more item
 with_frames : (order : Order) (r : Packet) (frames : List (List ℕ)) (older : List Packet)
     → records_octets order (reverse (map (record_with r) frames) ++ older) ≡ records_octets order older ++ flat_map (λ frame. record_octets order r.seconds r.fraction frame) frames
 with_frames order r [] older = sym (append-nil (records_octets order older))
@@ -83,7 +83,7 @@ written_in_order order item older =
     let long = length-map item.frames (record_with item.packet) in
     record { octets = with_frames order item.packet item.frames (records_written older); count = omega (arith, more, turn, long) }
 
--- they are the frames
+-- the octets of the records are the frames
 
 turned : (r : Packet) (frames : List (List ℕ)) → map (λ (w : Packet). w.octets) (reverse (map (record_with r) frames)) ≡ reverse frames
 turned r [] = refl
@@ -99,13 +99,13 @@ same_frames (item ∷ older) =
     map-append (λ (w : Packet). w.octets) (reverse (map (record_with item.packet) item.frames)) (records_written older)
     ∙ ap₂ (λ xs ys. xs ++ ys) (turned item.packet item.frames) (same_frames older)
 
--- there are as many
+-- there are as many frames as records
 pub frames_long : (trace : List Item) → length (frames_written trace) ≡ length (records_written trace)
 frames_long trace = sym (ap length (same_frames trace)) ∙ length-map (records_written trace) (λ (w : Packet). w.octets)
 
--- the report is one
+-- the written report is a report
 
--- what is known of entries: they are of version 2, and numbered
+-- the entries are of version 2, and they are numbered
 record AreLines (es : List PlainEntry) : Type 0 where
   fit : AllByRecursion (IsEntryOf 2) es
   numbered : AreNumbered es

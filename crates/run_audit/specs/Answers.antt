@@ -16,7 +16,7 @@ use Rattle.run_audit.specs.declared.answer.Flaw.TheVariants as flaws
 use Rattle.run_audit.specs.declared.answer.Reason.{Reason}
 use Rattle.run_audit.specs.declared.answer.Reason.TheVariants as reasons
 
--- what is wrong with a frame
+-- the word for the fault of a frame
 abbrev pub reason_word : Reason → List ℕ
 reason_word reasons.Count = codes "count"
 reason_word reasons.Plain = codes "plain"
@@ -25,7 +25,7 @@ reason_word reasons.Syn = codes "syn"
 reason_word reasons.Octet = codes "octet"
 reason_word reasons.Fin = codes "fin"
 
--- why a capture is none, as the grammar of captures has it
+-- the flaw of a capture in the definitions of captures
 abbrev pub flaw_of : Flaw → found.Flaw
 flaw_of flaws.Magic = found.bad_magic
 flaw_of flaws.Version = found.bad_version
@@ -34,7 +34,7 @@ flaw_of flaws.Long = found.too_long
 flaw_of flaws.Many = found.too_many
 flaw_of flaws.Cut = found.cut_short
 
--- the same as the word of a `stop` line
+-- the reason of a `stop` line for a flaw of a capture
 abbrev pub kind_of : Flaw → StopKind
 kind_of flaws.Magic = kinds.Magic
 kind_of flaws.Version = kinds.Version
@@ -43,7 +43,7 @@ kind_of flaws.Long = kinds.Long
 kind_of flaws.Many = kinds.Many
 kind_of flaws.Cut = kinds.Cut
 
--- a capture that ends inside its head or a record is told by another status than one with another flaw
+-- the status for a flaw of a capture: 4 if the capture ends inside its head or a record, else 3
 abbrev pub flaw_status : Flaw → ℕ
 flaw_status flaws.Magic = 3
 flaw_status flaws.Version = 3
@@ -52,7 +52,7 @@ flaw_status flaws.Long = 3
 flaw_status flaws.Many = 3
 flaw_status flaws.Cut = 4
 
--- the status of an answer whose line was written
+-- the status of an answer whose line is written
 abbrev pub status_of : Answer → ℕ
 status_of (answers.Yes eras frames) = 0
 status_of (answers.No frame reason) = 1

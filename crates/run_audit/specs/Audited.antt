@@ -1,4 +1,4 @@
--- What the answer of an audit says of its words, its capture and its report (this project's profile), and how it is told.
+-- What the answer of an audit means for its words, its capture and its report (this project's profile), and how it is written.
 use Rattle.std.specs.Prelude.{◌≡◌, ◌⊎◌, ℕ, List, length, Option, Some, None, IfSome, IsSome}
 use Rattle.edge_io.specs.Faults.{Rose}
 use Rattle.pcap_file.specs.declared.head.Head.{Head}
@@ -16,7 +16,7 @@ use Rattle.run_audit.specs.Reported.{IsFinished, IsUnfinished}
 use Rattle.run_audit.specs.Told.{Tells}
 use Rattle.run_audit.specs.Words.{asked}
 
--- a source before and after an audit: the octets that it had left, where it tells them, and how often it had failed
+-- a source before and after an audit: the octets that it had left, if they are known, and its counts of faults
 pub record Seen : Type 0 where
   pub left : Option (List ℕ)
   pub before : ℕ
@@ -26,15 +26,15 @@ pub record Seen : Type 0 where
 abbrev pub seen : Option (List ℕ) → (before now : ℕ) → Seen
 seen left before now = record { left = left; before = before; now = now }
 
--- The report, where it is told, is that of a finished run; the capture, where it is told, has its end and so many frames, and none of them has a fault by
--- the entries of the report, which name so many different eras.
+-- The report, if it is known, is that of a finished run, whose entries name this number of different eras; the capture, if it is known, is whole and has this
+-- number of frames, and none of them has a fault by these entries.
 pub record IsYes (hops : ℕ) (report capture : Option (List ℕ)) (eras frames : ℕ) : Type 0 where
   pub entries : List PlainEntry
   pub finished : IfSome report (λ octets. IsFinished octets entries)
   pub sound : IfSome capture (λ octets. IsSound hops entries octets frames)
   pub eras_are : eras ≡ length (eras_named entries)
 
--- The report, where it is told, is that of a finished run, and this is a fact of its entries.
+-- The report, if it is known, is that of a finished run, and this is a fact of its entries.
 pub record OfFinished (report : Option (List ℕ)) (P : List PlainEntry → Type 0) : Type 0 where
   pub entries : List PlainEntry
   pub finished : IfSome report (λ octets. IsFinished octets entries)
@@ -44,15 +44,15 @@ pub record OfFinished (report : Option (List ℕ)) (P : List PlainEntry → Type
 abbrev pub WhereAsked : (words : List (List ℕ)) → ((hops : ℕ) → Type 0) → Type 0
 WhereAsked words P = (hops : ℕ) × (asked words ≡ Some hops) × P hops
 
--- the same, and this is a fact of the entries of the report and of the octets of the capture, where it is told
+-- the same, and this is a fact of the entries of the report and of the octets of the capture, if it is known
 abbrev pub WhereRead : (words : List (List ℕ)) → (capture report : Seen) → ((hops : ℕ) → List PlainEntry → (capture : List ℕ) → Type 0) → Type 0
 WhereRead words capture report P = WhereAsked words (λ hops. OfFinished report.left (λ entries. IfSome capture.left (λ octets. P hops entries octets)))
 
--- a source failed: the report, or the capture behind the report of a finished run
+-- a source failed: the report, or, after the report of a finished run, the capture
 abbrev pub Failed : (capture report : Seen) → Type 0
 Failed capture report = Rose report.before report.now ⊎ OfFinished report.left (λ entries. Rose capture.before capture.now)
 
--- What an answer says. Of a source that does not tell its octets nothing is claimed, and of the other one no less.
+-- What an answer means. Nothing is claimed of a source without known octets; what is claimed of the other source does not depend on that.
 abbrev pub Says : (words : List (List ℕ)) → (capture report : Seen) → Answer → Type 0
 Says words capture report (answers.Yes eras frames) = WhereAsked words (λ hops. IsYes hops report.left capture.left eras frames)
 Says words capture report (answers.No number reason) = WhereRead words capture report (λ hops entries c. IsFaulty hops entries c number reason)
@@ -62,7 +62,7 @@ Says words capture report answers.Unread = WhereAsked words (λ hops. Failed cap
 Says words capture report answers.Memory = Unit {0}
 Says words capture report (answers.Report line) = WhereAsked words (λ hops. IfSome report.left (λ octets. IsUnfinished octets line))
 
--- there is an answer that is told, and what it says holds
+-- an answer is written, and what it means holds
 pub record Answered (words : List (List ℕ)) (capture report : Seen) (old new : Option (List ℕ)) (before now answered : ℕ) : Type 0 where
   pub answer : Answer
   pub says : Says words capture report answer
@@ -75,13 +75,13 @@ pub record FramesAgree (hops : ℕ) (entries : List PlainEntry) (capture : List 
   pub is : IsCapture capture head packets
   pub agree : Agree hops (sent (owned head.link (owners entries) (frames_of packets)))
 
--- the answer is neither that a source failed nor that memory was wanting: then it is one of the two files and the words alone
+-- the answer is neither that a source failed nor that memory could not be allocated: it is one about the words and the two files alone
 abbrev pub IsExact : Answer → Type 0
 IsExact answers.Unread = ⊥
 IsExact answers.Memory = ⊥
 IsExact _ = Unit {0}
 
--- the answer is such a one, and the sources of which it speaks tell their octets
+-- the answer is such a one, and the sources that it is about have known octets
 abbrev pub IsHeard : (capture report : Seen) → Answer → Type 0
 IsHeard capture report answers.Unread = ⊥
 IsHeard capture report answers.Memory = ⊥
@@ -89,26 +89,26 @@ IsHeard capture report answers.Words = Unit {0}
 IsHeard capture report (answers.Report line) = IsSome report.left
 IsHeard capture report _ = IsSome report.left × IsSome capture.left
 
--- Beside an answer that holds, and whose sources tell their octets, no other such answer holds.
+-- Beside an answer that holds, and whose sources have known octets, no other such answer holds.
 abbrev pub AnswersAreOne : Type 0
 AnswersAreOne =
     (words : List (List ℕ)) (capture report : Seen) (one other : Answer) → IsHeard capture report one → IsExact other
     → Says words capture report one → Says words capture report other → one ≡ other
 
--- a source can fail beside this answer: none does where the words are refused, and the capture is not asked for behind a report of no finished run
+-- a source may fail although this answer holds: none is read if the words are refused, and the capture is read only after the report of a finished run
 abbrev pub MayFail : (capture report : Seen) → Answer → Type 0
 MayFail capture report answers.Words = ⊥
 MayFail capture report (answers.Report line) = Rose report.before report.now
 MayFail capture report _ = Rose report.before report.now ⊎ Rose capture.before capture.now
 
--- this answer is told, or that memory was wanting, or that a source failed, which it did
+-- this answer is written, or that memory could not be allocated, or that a source failed, if one did
 abbrev pub ToldUnless : (capture report : Seen) → Answer → (old new : Option (List ℕ)) → (before now answered : ℕ) → Type 0
 ToldUnless capture report answer old new before now answered =
     Tells answer old new before now answered
     ⊎ Tells answers.Memory old new before now answered
     ⊎ (MayFail capture report answer × Tells answers.Unread old new before now answered)
 
--- Where an answer holds, and the sources of which it speaks tell their octets, it is told, unless memory is wanting or a source fails.
+-- An answer that holds, and whose sources have known octets, is written, unless memory could not be allocated or a source failed.
 abbrev pub TellsExactly : (words : List (List ℕ)) → (capture report : Seen) → (old new : Option (List ℕ)) → (before now answered : ℕ) → Type 0
 TellsExactly words capture report old new before now answered =
     (answer : Answer) → IsHeard capture report answer → Says words capture report answer

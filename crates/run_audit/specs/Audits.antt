@@ -1,4 +1,4 @@
--- What an audit finds in the octets of a capture (this project's profile). Records are a list with the last one at the head.
+-- What an audit finds in the octets of a capture (this project's profile). Records are a list, newest first.
 use Rattle.std.specs.Prelude.{◌≡◌, ◌⊎◌, ℕ, ◌^◌, ◌<◌, ◌≤◌, List, [], length, drop, map, Option, option_map, Ok, Err, IfSome, IsSome, nat_eq}
 use Rattle.std.specs.List.{AllByRecursion}
 use Rattle.edge_io.specs.Faults.{Rose}
@@ -24,14 +24,14 @@ use Rattle.run_audit.specs.Owned.{left_of}
 abbrev pub frames_of : List Packet → List (List ℕ)
 frames_of packets = map (λ (p : Packet). p.octets) packets
 
--- Behind the head there are so many frames and nothing else, they are those of the report, and none has a fault.
+-- Behind the head there are this number of frames and nothing else; they are those of the report, and none has a fault.
 pub record SoundFrames (hops : ℕ) (head : Head) (entries : List PlainEntry) (all : List ℕ) (frames : ℕ) : Type 0 where
   pub packets : List Packet
   pub reads : ReadsTo head.order all packets []
   pub none : NoFault hops head.link entries (frames_of packets)
   pub count : frames ≡ length packets
 
--- Behind the head this is the first fault; the frame that has it is read, or the capture has its end there.
+-- Behind the head this is the first fault: of a frame that is read, or of one that is missing at the end of the capture.
 pub record FaultyFrame (hops : ℕ) (head : Head) (entries : List PlainEntry) (all : List ℕ) (number : ℕ) (reason : Reason) : Type 0 where
   pub packets : List Packet
   pub left : List ℕ
@@ -40,7 +40,7 @@ pub record FaultyFrame (hops : ℕ) (head : Head) (entries : List PlainEntry) (a
   pub stands : front_of head.order (length packets) left ≡ Ok next
   pub first : FirstFault hops head.link entries (frames_of packets) (option_map (λ (n : Packet × List ℕ). n.0.octets) next) number reason
 
--- Behind the head the capture has this flaw at this offset, and the frames before it have an entry each and no fault.
+-- Behind the head the capture has this flaw at this offset, and each frame before it belongs to an entry and has no fault.
 pub record FlawedFrame (hops : ℕ) (head : Head) (entries : List PlainEntry) (all : List ℕ) (flaw : found.Flaw) (offset : ℕ) : Type 0 where
   pub packets : List Packet
   pub left : List ℕ
@@ -50,27 +50,29 @@ pub record FlawedFrame (hops : ℕ) (head : Head) (entries : List PlainEntry) (a
   pub each_owned : length packets ≤ length (owners entries)
   pub faultless : AreFaultless hops (owned head.link (owners entries) (frames_of packets))
 
--- the same of a whole capture
+-- the capture has a head and behind it this number of frames, which are those of the report and have no fault
 pub record IsSound (hops : ℕ) (entries : List PlainEntry) (capture : List ℕ) (frames : ℕ) : Type 0 where
   pub head : Head
   pub accepted : head_of capture ≡ Ok head
   pub behind : SoundFrames hops head entries (drop 24 capture) frames
 
+-- the capture has a head, and behind it this is the first fault
 pub record IsFaulty (hops : ℕ) (entries : List PlainEntry) (capture : List ℕ) (number : ℕ) (reason : Reason) : Type 0 where
   pub head : Head
   pub accepted : head_of capture ≡ Ok head
   pub behind : FaultyFrame hops head entries (drop 24 capture) number reason
 
+-- the capture has a head, and behind it this flaw at this offset
 pub record IsFlawedBehind (hops : ℕ) (entries : List PlainEntry) (capture : List ℕ) (flaw : found.Flaw) (offset : ℕ) : Type 0 where
   pub head : Head
   pub accepted : head_of capture ≡ Ok head
   pub behind : FlawedFrame hops head entries (drop 24 capture) flaw offset
 
--- the flaw stands in the head, or behind it
+-- the capture has this flaw at this offset, in its head or behind it
 abbrev pub IsFlawed : (hops : ℕ) → List PlainEntry → (capture : List ℕ) → found.Flaw → (offset : ℕ) → Type 0
 IsFlawed hops entries capture flaw offset = ((head_of capture ≡ Err flaw) × (offset ≡ 0)) ⊎ IsFlawedBehind hops entries capture flaw offset
 
--- why frames behind a head are not sound, where the source tells the octets left there; `before` and `now` count its faults
+-- the cause of an answer about the frames behind a head, if the source has known octets; `before` and `now` count its faults
 abbrev pub WhyUnsound : (hops : ℕ) → Head → List PlainEntry → Option (List ℕ) → (before now : ℕ) → Answer → Type 0
 WhyUnsound hops head entries left before now (answers.No number reason) = IfSome left (λ all. FaultyFrame hops head entries all number reason)
 WhyUnsound hops head entries left before now (answers.Flawed flaw offset) = IfSome left (λ all. FlawedFrame hops head entries all (flaw_of flaw) offset)
@@ -78,7 +80,7 @@ WhyUnsound hops head entries left before now answers.Unread = Rose before now
 WhyUnsound hops head entries left before now answers.Memory = Unit {0}
 WhyUnsound hops head entries left before now _ = ⊥
 
--- the same of a capture
+-- the cause of an answer about a capture, if the source has known octets
 abbrev pub WhyUnsoundWhole : (hops : ℕ) → List PlainEntry → Option (List ℕ) → (before now : ℕ) → Answer → Type 0
 WhyUnsoundWhole hops entries capture before now (answers.No number reason) = IfSome capture (λ octets. IsFaulty hops entries octets number reason)
 WhyUnsoundWhole hops entries capture before now (answers.Flawed flaw offset) = IfSome capture (λ octets. IsFlawed hops entries octets (flaw_of flaw) offset)
@@ -86,11 +88,11 @@ WhyUnsoundWhole hops entries capture before now answers.Unread = Rose before now
 WhyUnsoundWhole hops entries capture before now answers.Memory = Unit {0}
 WhyUnsoundWhole hops entries capture before now _ = ⊥
 
--- the era that the entry names is there
+-- the era that the entry names, if it names one, is among the eras
 abbrev pub HasEra : Eras → PlainEntry → Type 0
 HasEra eras entry = IfSome entry.era (λ era. IsSome (get nat_eq eras era))
 
--- Where the frames that were judged have no fault: what is known of the eras, which entries are left, and where the reader stands.
+-- The frames that were judged have no fault: the states of the eras, the entries that are left, and the position of the reader.
 pub record GoesOn (hops : ℕ) (head : Head) (entries : List PlainEntry) (old now : Option (List ℕ)) (eras : Eras) (left : Owners) (reader : Reading) (frames : ℕ) : Type 0 where
   pub packets : List Packet
   pub took : Took head.order old now packets

@@ -1,5 +1,5 @@
--- What may be wrong with a frame, after those before it (this project's profile). Base, Acked, First, End and the place of a number are the words of
--- `era_state`: `ws` are the segments written in the frame's era before it, and `w` is its own.
+-- The faults of a frame, after those before it (this project's profile). Base, Acked, First, End and the offset of a number are those of `era_state`: `ws` are
+-- the segments written in the frame's era before it, and `w` is its own.
 use Rattle.std.specs.Prelude.{◌≡◌, ℕ, ◌==◌, ◌&&◌, ◌||◌, not, Bool, true, false, List, [], ◌∷◌, ◌++◌, length, ℤ, pos, ◌+ℤ◌, int_le, int_lt, Option, Some, None, IsSome, is_none, is_ok}
 use Rattle.std.specs.Ordering.{int_eq}
 use Rattle.std.specs.List.{AllByRecursion}
@@ -22,70 +22,72 @@ use Rattle.run_audit.specs.declared.answer.Reason.TheVariants.{Count, Plain as M
 use Rattle.run_audit.specs.Frames.{Frame}
 use Rattle.run_audit.specs.Tops.{top}
 
--- the packet is a TCP segment whose headers have no fault, its TCP checksum not being judged
+-- the packet is a TCP segment whose headers have no fault; its TCP checksum is not tested
 abbrev pub is_segment : List ℕ → Bool
 is_segment p = is_ok (header.parsed p) && (ip.protocol p == 6) && is_ok (segment.parsed Skip 0 (ip.payload p))
 
--- What is read of a frame is certain: one that went inwards is plain for so many routers, and where its entry names an era, it is TCP; one that went
--- outwards in an era is a segment; and where the entry names no side, it names no era.
+-- The frame is well read: one that went inwards is plain for `hops` routers, and is TCP if its entry names an era; one that went outwards in an era is a
+-- segment; and an entry without a side names no era.
 abbrev pub IsWellReadAs : (hops : ℕ) → List ℕ → Option Side → (era : Option ℕ) → Type 0
 IsWellReadAs hops p (Some Inward) era = Plain hops p × (IsSome era → ip.protocol p ≡ 6)
 IsWellReadAs hops p (Some Outward) era = IsSome era → is_segment p ≡ true
 IsWellReadAs hops p None era = era ≡ None
 
+-- the frame of a report is well read
 abbrev pub IsWellRead : (hops : ℕ) → Frame → Type 0
 IsWellRead hops f = IsWellReadAs hops f.packet f.side f.era
 
--- base: octets or a FIN, and no base is fixed up to and with the segment
+-- base: it has octets or a FIN, and no base is fixed before it or by it
 abbrev pub lacks_base : List Written → Written → Bool
 lacks_base ws w = is_none (base_of (ws ++ w ∷ [])) && (has_octets w || tcp.has_fin w.flags)
 
--- syn: a SYN whose number is not the one before the base
+-- syn: it has a SYN, and its sequence number is not the one before the base
 abbrev pub has_other_syn : List Written → Written → Bool
 has_other_syn ws w = tcp.has_syn w.flags && not (precedes (base_of (ws ++ w ∷ [])) w.seq)
 
--- an octet is another one than the first at its place
+-- an octet differs from the first one at its offset, if there is one
 abbrev pub is_other : Option ℕ → (octet : ℕ) → Bool
 is_other None octet = false
 is_other (Some first) octet = not (first == octet)
 
--- a place is at or past the end, where this is pinned
+-- an offset is at or past the end, if there is an end
 abbrev pub is_past : (end : Option ℤ) → (place : ℤ) → Bool
 is_past None place = false
 is_past (Some end) place = int_le end place
 
--- of octets that stand from this place on, one is another than the first at its place, or stands at or past the end
+-- of octets that begin at `place`, one differs from the first one at its offset, or is at or past the end
 abbrev pub some_strays : (first : ℤ → Option ℕ) → (end : Option ℤ) → (place : ℤ) → List ℕ → Bool
 some_strays first end place [] = false
 some_strays first end place (octet ∷ octets) =
     (is_other (first place) octet || is_past end place) || some_strays first end (place +ℤ pos 1) octets
 
--- octet: one that is another than the first at its place, or stands at or past the end that was pinned before
+-- octet: one of its octets differs from the first one at its offset, or is at or past the end of the segments before it
 abbrev pub has_other_octet : List Written → Written → Bool
 has_other_octet ws w =
     let base = base_at (ws ++ w ∷ []) in
     some_strays (first base ws) (end_of base ws) (off base (acked base ws) w.seq) w.octets
 
--- a FIN's place is another than the end; where none is pinned, it is below Top
+-- a FIN's offset is not the end; or, if there is no end, it is below Top
 abbrev pub fin_strays : (end : Option ℤ) → (top place : ℤ) → Bool
 fin_strays None top place = int_lt place top
 fin_strays (Some end) top place = not (int_eq place end)
 
--- fin: one at another place than the end that was pinned before, or, where none was, below Top up to and with the segment
+-- fin: its FIN is at another offset than the end of the segments before it; or, if they have none, it is below Top of these segments and its own
 abbrev pub has_other_fin : List Written → Written → Bool
 has_other_fin ws w =
     let base = base_at (ws ++ w ∷ []) in
     tcp.has_fin w.flags && fin_strays (end_of base ws) (top base (ws ++ w ∷ [])) (off base (acked base ws) w.seq +ℤ pos (length w.octets))
 
--- the frame went inwards in an era, and this holds of its segment after those written in the era before it
+-- a packet went inwards in an era, and this holds of its segment after those written in the era before it
 abbrev pub in_stream_as : (List Written → Written → Bool) → List Sent → Option Side → (era : Option ℕ) → Option Segment → Bool
 in_stream_as test older (Some Inward) (Some era) (Some s) = test (written_in era older) (written_of true s)
 in_stream_as test older _ _ _ = false
 
+-- the same of a frame
 abbrev pub in_stream : (List Written → Written → Bool) → List Sent → Frame → Bool
 in_stream test older f = in_stream_as test older f.side f.era (segment_of f.packet)
 
--- the reason holds of the frame, after what was sent before it; that a frame is missing in the capture or in the report is said of no frame
+-- the reason holds of the frame, after what was sent before it; `count` holds of no frame, since it is the reason for one that is missing
 abbrev pub Holds : (hops : ℕ) → List Sent → Frame → Reason → Type 0
 Holds hops older f Count = ⊥
 Holds hops older f Misread = IsWellRead hops f → ⊥
@@ -94,7 +96,7 @@ Holds hops older f Syn = in_stream has_other_syn older f ≡ true
 Holds hops older f Octet = in_stream has_other_octet older f ≡ true
 Holds hops older f Fin = in_stream has_other_fin older f ≡ true
 
--- the reasons before one, in the order in which they are asked
+-- the reasons before one, in the order of testing
 abbrev pub earlier : Reason → List Reason
 earlier Count = []
 earlier Misread = Count ∷ []
@@ -108,7 +110,7 @@ pub record IsFirstReason (hops : ℕ) (older : List Sent) (f : Frame) (reason : 
   pub holds : Holds hops older f reason
   pub none_before : AllByRecursion (λ other. Holds hops older f other → ⊥) (earlier reason)
 
--- no reason holds of it
+-- no reason holds of the frame
 pub record IsFaultless (hops : ℕ) (older : List Sent) (f : Frame) : Type 0 where
   pub read : IsWellRead hops f
   pub base : in_stream lacks_base older f ≡ false

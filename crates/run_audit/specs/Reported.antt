@@ -1,4 +1,4 @@
--- What an audit reads of a report (this project's profile).
+-- What an audit reads from a report (this project's profile).
 use Rattle.std.specs.Prelude.{◌≡◌, ◌⊎◌, ℕ, ◌+◌, ◌<◌, ◌≤◌, List, length, Option, Some, None, IfSome}
 use Rattle.edge_io.specs.Faults.{Rose}
 use Rattle.rule_book.specs.Entries.{PlainEntry}
@@ -10,17 +10,17 @@ use Rattle.rule_book.specs.declared.last.Last.TheVariants.{End, Stop}
 use Rattle.run_audit.specs.declared.answer.Answer.{Answer}
 use Rattle.run_audit.specs.declared.answer.Answer.TheVariants as answers
 
--- the last line tells that the run ended
+-- the last line is an `end` line
 abbrev pub IsEnd : Last → Type 0
 IsEnd (End records packets) = Unit {0}
 IsEnd (Stop kind offset) = ⊥
 
--- the last line tells why the run stopped
+-- the last line is a `stop` line
 abbrev pub IsStop : Last → Type 0
 IsStop (End records packets) = ⊥
 IsStop (Stop kind offset) = Unit {0}
 
--- a report has at most 67,108,864 octets
+-- the maximum length of a report: 67,108,864 octets
 abbrev pub is_most : ℕ
 is_most = 67108864
 
@@ -33,21 +33,21 @@ pub record IsFinished (octets : List ℕ) (entries : List PlainEntry) : Type 0 w
   pub entries_are : report.entries ≡ entries
   pub small : length octets ≤ is_most
 
--- the line of a fault: the first, or the one that the fault names; want of memory has none
+-- the line of a fault: the first, or the one that the fault names; 0 for a failed allocation
 abbrev pub line_of_fault : LineFault → ℕ
 line_of_fault faults.First = 1
 line_of_fault (faults.Shape line) = line
 line_of_fault (faults.Number line) = line
 line_of_fault faults.NoMemory = 0
 
--- the octets are the text of no report, and this is the line that shows it
+-- the octets are the text of no report, and this is the line of their first fault
 pub record HasFaultAt (octets : List ℕ) (line : ℕ) : Type 0 where
   pub fault : LineFault
   pub has : HasFault (lines octets) fault
   pub line_is : line ≡ line_of_fault fault
   pub small : length octets ≤ is_most
 
--- the octets are a report whose last line, which this is, tells why the run stopped
+-- the octets are a report that ends with a `stop` line, which is this line
 pub record TellsStop (octets : List ℕ) (line : ℕ) : Type 0 where
   pub report : PlainReport
   pub is : IsReport report
@@ -56,21 +56,21 @@ pub record TellsStop (octets : List ℕ) (line : ℕ) : Type 0 where
   pub line_is : line ≡ length report.entries + 2
   pub small : length octets ≤ is_most
 
--- there are more octets than a report may have, which line 0 tells
+-- there are more octets than a report may have; the line is then 0
 pub record IsTooLong (octets : List ℕ) (line : ℕ) : Type 0 where
   pub long : is_most < length octets
   pub line_is : line ≡ 0
 
--- the octets are the report of no finished run, by this line
+-- the octets are not the report of a finished run, by this line
 abbrev pub IsUnfinished : List ℕ → (line : ℕ) → Type 0
 IsUnfinished octets line = IsTooLong octets line ⊎ HasFaultAt octets line ⊎ TellsStop octets line
 
--- these are all octets that a source had left, where it tells them
+-- these are all octets that a source had left, if it has known octets
 abbrev pub WereLeft : Option (List ℕ) → List ℕ → Type 0
 WereLeft None octets = Unit {0}
 WereLeft (Some xs) octets = xs ≡ octets
 
--- why there are no entries, where the source tells its octets; `before` and `now` count its faults
+-- the cause of an answer instead of entries, if the source has known octets; `before` and `now` count its faults
 abbrev pub WhyUnread : Option (List ℕ) → (before now : ℕ) → Answer → Type 0
 WhyUnread left before now (answers.Report line) = IfSome left (λ octets. IsUnfinished octets line)
 WhyUnread left before now answers.Unread = Rose before now
@@ -84,7 +84,7 @@ fault_answer (faults.Shape line) = answers.Report line
 fault_answer (faults.Number line) = answers.Report line
 fault_answer faults.NoMemory = answers.Memory
 
--- why these octets give no entries
+-- the cause of an answer instead of the entries of these octets
 abbrev pub WhyNone : List ℕ → Answer → Type 0
 WhyNone octets (answers.Report line) = IsUnfinished octets line
 WhyNone octets answers.Memory = Unit {0}

@@ -1,4 +1,4 @@
--- That a capture and a report without a fault make receivers agree, whoever wrote them, and by which base and from where they are read.
+-- A capture and a report without a fault make receivers agree, whoever wrote them; and by which base their segments are read.
 use Rattle.std.specs.Prelude.{◌≡◌, ℕ, true, List, [], ◌∷◌, map, None}
 use Rattle.wire_base.specs.Segments.{Written}
 use Rattle.era_state.specs.Quantities.{base_of, acked}
@@ -7,15 +7,15 @@ use Rattle.era_agreement.specs.Agreement.{Agree}
 use Rattle.run_audit.specs.Frames.{Frame, is_inward, sent}
 use Rattle.run_audit.specs.FirstFault.{AreFaultless}
 
--- In each era any two receivers of the family behind at most so many routers agree on the frames that went inwards, each at its place.
+-- In each era any two receivers of the family behind at most `hops` routers agree on the frames that went inwards, each at its offset.
 abbrev pub FaultlessAgrees : Type 0
 FaultlessAgrees = (hops : ℕ) (frames : List Frame) → AreFaultless hops frames → Agree hops (sent frames)
 
--- the segments of all frames of an era, whether or not they count
+-- the segments of all frames of an era, counted or not
 abbrev pub all_written : (era : ℕ) → List Frame → List Written
 all_written era frames = written_in era (map (λ (f : Frame). record { inward = is_inward f.side; era = f.era; written = true; packets = f.packet ∷ [] }) frames)
 
--- those that count have the base of all; and as long as none is fixed, nothing is acknowledged
+-- the counted segments have the base of all; and if no base is fixed, they acknowledge nothing
 pub record IsReadFromBase (counted all : List Written) : Type 0 where
   pub base_is : base_of counted ≡ base_of all
   pub unbased : base_of counted ≡ None → (base : ℕ) → acked base counted ≡ 0

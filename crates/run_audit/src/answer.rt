@@ -1,4 +1,4 @@
-//! What an audit answers, and the line that says so.
+//! The answer of an audit, and its line.
 ghost use Rattle.std.specs.Prelude.{◌≡◌, ◌⊎◌, ◌≤◌, IfOk, string_bytes};
 ghost use Rattle.run_audit.specs.Told.{Tells, TellsLine};
 ghost use Rattle.rule_book.specs.Text.{stop_word};
@@ -6,24 +6,25 @@ ghost use Rattle.rule_book.specs.Text.{stop_word};
 use edge_io::{NoMemory, Sink};
 use std::alloc::{AllocError, Global};
 
-/// What is wrong with a frame, in the order in which it is asked.
+/// The fault of a frame. The variants are in the order of testing.
 #[derive(Clone, Copy, Debug, PartialEq, Eq)]
 pub enum Reason {
-    /// It stands in one of capture and report alone.
+    /// The frame is in the capture or in the report alone.
     Count,
-    /// Receivers may read it otherwise than its fields say, or it is no segment of its era.
+    /// Receivers may read it otherwise than by its fields, or its entry names an era that it is no segment of.
     Plain,
-    /// It brings octets or a FIN, and its era has no base.
+    /// It has octets or a FIN, and neither it nor an earlier segment fixes the base of its era.
     Base,
-    /// Its SYN has another number than the one before the base.
+    /// The sequence number of its SYN is not the one before the base.
     Syn,
-    /// One of its octets is another than the first at its place, or stands at or past the end.
+    /// One of its octets differs from the first one at its offset, or is at or past the end.
     Octet,
-    /// Its FIN stands at another place than the end, or, where none is pinned before, below the place behind all octets.
+    /// Its FIN is not at the end; or no end is known before it, and it is below the offset behind all octets, which is
+    /// 0 without octets.
     Fin,
 }
 
-/// Why the octets of a capture are none.
+/// The flaw of octets that are no capture.
 #[derive(Clone, Copy, Debug, PartialEq, Eq)]
 pub enum Flaw {
     Magic,
@@ -34,23 +35,24 @@ pub enum Flaw {
     Cut,
 }
 
-/// What an audit answers.
+/// The answer of an audit.
 #[derive(Clone, Copy, Debug, PartialEq, Eq)]
 pub enum Answer {
-    /// No frame has a fault; so many different eras are named in the report, and so many frames were written.
+    /// No frame has a fault. The number of different eras that the report names, and the number of written frames.
     Yes { eras: usize, frames: u64 },
-    /// This frame, counted from 1, is the first with a fault.
+    /// The first frame with a fault, counted from 1.
     No { frame: u64, reason: Reason },
-    /// The words are no words of an audit.
+    /// The words are not those of an audit.
     Words,
-    /// The capture is none: this flaw stands in its head or in the record whose first octet has this offset.
+    /// The capture is refused or cut: its head or a record has this flaw. The offset is that of the head or record, in
+    /// octets.
     Flawed { flaw: Flaw, offset: u64 },
     /// A source failed.
     Unread,
-    /// Memory was wanting.
+    /// Memory could not be allocated.
     Memory,
-    /// The report is none of a finished run: this is its first line that is no line of one, counted from 1, or the last one, which
-    /// tells why the run stopped; or it is too long, which 0 tells.
+    /// The report is not that of a finished run. The number of its first malformed line, counted from 1, or of its
+    /// `stop` line; 0 if it is too long.
     Report { line: u64 },
 }
 
@@ -96,7 +98,7 @@ impl Reason {
 impl Flaw {
     ghost use Rattle.run_audit.specs.Answers as spec;
 
-    // The word of its `stop` line.
+    // Returns the word of its `stop` line.
     fn word(self) -> &'static str
         ensures { result.now ≡ stop_word (spec.kind_of self) }
     {
@@ -123,7 +125,7 @@ impl Flaw {
 impl Answer {
     ghost use Rattle.run_audit.specs.Answers as spec;
 
-    /// The status that goes with the line.
+    /// Returns the status of this answer, if its line is written.
     pub fn status(self) -> u8
         ensures { result ≡ spec.status_of self }
     {
@@ -138,7 +140,7 @@ impl Answer {
         }
     }
 
-    // The line, with its line feed.
+    // Returns the line, with its line feed.
     fn line(self, alloc: Global) -> Result<String, AllocError>
         ensures { IfOk result (λ line. string_bytes line ≡ spec.line_of self) }
     {
@@ -160,8 +162,8 @@ impl Answer {
     }
 }
 
-/// Writes the line of an answer, and answers its status: 7 where the output failed. Where no memory is left for the line, it is that of
-/// want of memory.
+/// Writes the line of an answer. Returns its status, or 7 if the output fails. If memory for the line cannot be
+/// allocated, the answer is `Memory`.
 pub(crate) fn tell<K: Sink>(alloc: Global, answer: Answer, out: &mut K) -> u8
     ensures told { Tells answer (K.held out.old) (K.held out.new) (K.fault_count out.old) (K.fault_count out.new) result
         ⊎ Tells Answer.Memory (K.held out.old) (K.held out.new) (K.fault_count out.old) (K.fault_count out.new) result }
@@ -173,7 +175,7 @@ pub(crate) fn tell<K: Sink>(alloc: Global, answer: Answer, out: &mut K) -> u8
     }
 }
 
-// Writes a line, and answers its status, or 7 where the output failed.
+// Writes a line. Returns its status, or 7 if the output fails.
 fn tell_line<K: Sink>(line: &[u8], status: u8, out: &mut K) -> u8
     ensures told { TellsLine status line.now (K.held out.old) (K.held out.new) (K.fault_count out.old) (K.fault_count out.new) result }
     ensures later { K.fault_count out.old ≤ K.fault_count out.new }

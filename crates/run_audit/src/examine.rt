@@ -26,19 +26,21 @@ use rule_book::Entry;
 use std::alloc::Global;
 use wire_base::packet_in;
 
-/// Audits a written capture and its report, writes one line to `out`, and answers the status:
+/// Audits a written capture and its report, writes one line to `out`, and returns the status:
 ///
-/// - 0, `yes E F`: no frame has a fault; E is the number of different eras that the report names, F that of the frames;
-/// - 1, `no F REASON`: frame F is the first that has one;
-/// - 2, `stop words`: the words are no words of an audit;
-/// - 3 and 4, `stop magic 0` and the like: the capture is none, 4 where it ends inside its head or a record;
+/// - 0, `yes E F`: no frame has a fault; E is the number of different eras that the report names, F that of frames;
+/// - 1, `no F REASON`: frame F, counted from 1, is the first with a fault;
+/// - 2, `stop words`: the words are not those of an audit;
+/// - 3, `stop magic 0` and the like: the capture is refused;
+/// - 4, `stop cut O`: the capture ends inside its head or a record;
 /// - 5, `stop read`: the capture or the report failed;
 /// - 7: `out` failed;
-/// - 8, `stop memory`: memory was wanting;
-/// - 9, `stop report N`: the report is none of a finished run, by its line N, or too long.
+/// - 8, `stop memory`: memory could not be allocated;
+/// - 9, `stop report N`: the report is not that of a finished run, by its line N; N is 0 for a report of over
+///   67,108,864 octets.
 ///
-/// The words are the names of the two files and the number of routers behind the bridge. The report is read first, to its end, and then
-/// the capture, frame by frame.
+/// The words are the names of the two files and the number of routers behind the bridge. The report is read first, to
+/// its end, and then the capture, frame by frame.
 pub fn audit<C: Source, R: Source, K: Sink>(
     alloc: Global,
     words: &[String],
@@ -57,7 +59,7 @@ pub fn audit<C: Source, R: Source, K: Sink>(
         (seen (R.left report.old) (R.fault_count report.old) (R.fault_count report.new))
         FramesAgree }
 
-    // The one answer that holds is told, unless memory is wanting or a source fails.
+    // The one answer that holds is written, unless memory could not be allocated or a source failed.
     ensures exactly { TellsExactly (map string_bytes words.now)
         (seen (C.left capture.old) (C.fault_count capture.old) (C.fault_count capture.new))
         (seen (R.left report.old) (R.fault_count report.old) (R.fault_count report.new))
@@ -75,7 +77,7 @@ pub fn audit<C: Source, R: Source, K: Sink>(
     }
 }
 
-/// How many different eras a report names, and how many frames were written.
+/// The number of different eras that a report names, and the number of written frames.
 #[derive(Clone, Copy)]
 struct Counts {
     eras: usize,
@@ -83,7 +85,7 @@ struct Counts {
 }
 
 impl Counts {
-    // That nothing is wrong.
+    // Returns the answer `yes`.
     fn answer(self) -> Answer
         ensures { result ≡ Answer.Yes self.eras self.frames }
     {
@@ -94,7 +96,7 @@ impl Counts {
     }
 }
 
-// The counts of a report and a capture in which nothing is wrong, or another answer.
+// Returns the counts of a report and a capture without a fault, or another answer.
 fn examine<C: Source, R: Source>(
     alloc: Global,
     words: &[String],
@@ -120,7 +122,7 @@ fn examine<C: Source, R: Source>(
     }
 }
 
-// The counts of a capture in which nothing is wrong by the entries of its report, or another answer.
+// Returns the counts of a capture without a fault by the entries of its report, or another answer.
 fn examine_capture<C: Source>(
     alloc: Global,
     hops: u8,
@@ -145,7 +147,7 @@ fn examine_capture<C: Source>(
     }
 }
 
-// Judges each frame of a capture, and answers how many there are.
+// Judges each frame of a capture. Returns their number.
 fn judge_capture<C: Source>(
     eras: &mut Eras,
     hops: u8,
@@ -168,7 +170,7 @@ fn judge_capture<C: Source>(
     judge_frames(eras, hops, head, entries, buffer, capture)
 }
 
-// Judges each frame behind a head, and answers how many there are.
+// Judges each frame behind a head. Returns their number.
 fn judge_frames<C: Source>(
     eras: &mut Eras,
     hops: u8,
@@ -212,7 +214,7 @@ fn judge_frames<C: Source>(
     }
 }
 
-// The frame behind so many others is missing in the capture or in the report.
+// Returns the answer that the frame behind `count` others is missing in the capture or in the report.
 fn missing(count: u64) -> Answer
     requires { count < 2 ^ 32 }
     ensures { result ≡ Answer.No (count + 1) Reason.Count }
@@ -223,7 +225,7 @@ fn missing(count: u64) -> Answer
     }
 }
 
-// The answer to a fault of the head.
+// Returns the answer to a fault of the head.
 fn flawed_head(fault: HeadFault) -> Answer
     ensures { result ≡ spec.head_answer fault }
 {
@@ -237,7 +239,7 @@ fn flawed_head(fault: HeadFault) -> Answer
     Answer::Flawed { flaw, offset: 0 }
 }
 
-// The answer to a fault of the record at this offset.
+// Returns the answer to a fault of the record at this offset.
 fn flawed_record(fault: RecordFault, offset: u64) -> Answer
     ensures { result ≡ spec.record_answer fault offset }
 {

@@ -1,4 +1,4 @@
-//! A frame is judged by the entry that it belongs to and by what is known of its era.
+//! Judges a frame by the entry that it belongs to and by the state of its era.
 
 ghost use Rattle.std.specs.Prelude.{◌≡◌, ℕ, Some, ◌^◌, ◌<◌, List, false, length, nat_eq, IfOk, IfNone, IfSome, IsSome};
 ghost use Rattle.indexmap.specs.IndexMap.{get};
@@ -22,7 +22,7 @@ use rule_book::Entry;
 use tcp_codec::{SumRule, Tcp};
 use wire_base::{Flags, Side, protocol};
 
-/// What is wrong with a packet that belongs to this entry; where nothing is, it is noted in its era.
+/// Returns the fault of a packet that belongs to this entry. A packet without a fault is added to its era.
 pub(crate) fn judge(
     eras: &mut Eras,
     hops: u8,
@@ -42,7 +42,7 @@ pub(crate) fn judge(
     }
 }
 
-// A packet that went inwards.
+// Judges a packet that went inwards.
 fn judge_inward(
     eras: &mut Eras,
     hops: u8,
@@ -63,7 +63,7 @@ fn judge_inward(
     }
 }
 
-// A plain packet that went inwards in an era.
+// Judges a plain packet that went inwards in an era.
 fn judge_in_stream(
     eras: &mut Eras,
     hops: u8,
@@ -89,7 +89,7 @@ fn judge_in_stream(
     take_inward(eras, era, segment)
 }
 
-// A packet that went outwards in an era.
+// Judges a packet that went outwards in an era.
 fn judge_outward(eras: &mut Eras, era: u32, packet: &[u8]) -> Result<Option<Reason>, NoMemory>
     requires few { StandsForFew eras.old }
     requires named { IsSome (get nat_eq eras.old era) }
@@ -104,7 +104,7 @@ fn judge_outward(eras: &mut Eras, era: u32, packet: &[u8]) -> Result<Option<Reas
     Ok(None)
 }
 
-// The header of the TCP segment that a packet carries; its checksum is not judged.
+// Returns the header of the TCP segment in a packet, or None if the packet has none; the TCP checksum is not tested.
 fn segment_in(packet: &[u8]) -> Option<Tcp>
     ensures none { IfNone result (is_segment packet.now ≡ false) }
     ensures some { IfSome result (λ head. IsSegment packet.now head) }
@@ -122,7 +122,7 @@ fn segment_in(packet: &[u8]) -> Option<Tcp>
     }
 }
 
-// A segment that went inwards is taken in its era.
+// Judges a segment that went inwards, and adds it to its era.
 fn take_inward(eras: &mut Eras, era: u32, segment: Inward<'_>) -> Result<Option<Reason>, NoMemory>
     requires there { IsSome (get nat_eq eras.old era) }
     requires room { EraHasRoom (get nat_eq eras.old era) }
@@ -136,7 +136,7 @@ fn take_inward(eras: &mut Eras, era: u32, segment: Inward<'_>) -> Result<Option<
     }
 }
 
-// A segment that went outwards is taken in its era.
+// Adds a segment that went outwards to its era.
 fn take_outward(eras: &mut Eras, era: u32, flags: Flags, number: u32)
     requires there { IsSome (get nat_eq eras.old era) }
     requires room { EraHasRoom (get nat_eq eras.old era) }

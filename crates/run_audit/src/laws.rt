@@ -1,4 +1,4 @@
-//! Laws of what an audit looks at.
+//! Laws of the audit.
 ghost use Rattle.run_audit.specs.Audited.{AnswersAreOne};
 ghost use Rattle.run_audit.specs.Emitted.{EmittedHasNoFault};
 ghost use Rattle.run_audit.specs.Lawful.{EntriesFit, ItemsAreWrittenInOrder, LawfulHasNoFault, LawfulIsYes, ResetsAreLast, RunIsYes, WrittenIsYes};
@@ -19,12 +19,14 @@ use tcp_norm::laws::{
     calls_are_emitted, lives_are_last, packets_are_its_own, packets_are_plain, probes_are_silent,
 };
 
-/// The segments of an era that count have the base of all its segments, and as long as none is fixed, nothing is acknowledged.
+/// States that the segments of an era that are counted have the base of all its segments, and that they acknowledge
+/// nothing before a base is fixed.
 pub fn eras_are_read_from_the_base()
     ensures { EachIsReadFromBase }
 {}
 
-/// Where no frame has a fault, all receivers agree on the frames that went inwards in each era, whoever wrote them.
+/// States that all receivers agree on the frames that went inwards in each era, whoever wrote them, if no frame has a
+/// fault.
 pub fn faultless_agrees()
     ensures { FaultlessAgrees }
 {
@@ -37,13 +39,15 @@ pub fn faultless_agrees()
     members_agree();
 }
 
-/// Beside an answer that holds of words, a capture and a report, and whose sources tell their octets, no other holds, but that a source failed or memory was wanting.
+/// States that beside an answer that holds, and whose sources have known octets, no other answer holds, except that a
+/// source failed or that memory could not be allocated.
 pub fn answers_are_one()
     ensures { AnswersAreOne }
 {}
 
-/// Frames whose segments may be written in their eras, each after those before it and between others that say nothing, have no fault, where in no
-/// era a segment stands behind one that acknowledges before the base is fixed.
+/// States that frames whose segments are emitted, each after those before it, have no fault; between them there may be
+/// frames without SYN, FIN and octets. It requires that in no era a segment follows one that acknowledges before the
+/// base is fixed.
 pub fn emitted_has_no_fault()
     ensures { EmittedHasNoFault }
 {
@@ -56,7 +60,7 @@ pub fn emitted_has_no_fault()
     silence_changes_nothing();
 }
 
-/// In each era of a lawful trace nothing is written behind an outbound reset.
+/// States that in each era of a lawful trace nothing is written after an outbound RST.
 pub fn resets_are_last()
     ensures { ResetsAreLast }
 {
@@ -68,7 +72,8 @@ pub fn resets_are_last()
     lawful_calls_are_made();
 }
 
-/// What goes out by a lawful trace has no fault: its frames are those of its entries, and none of them has one. (A run with a largest packet cuts them first.)
+/// States that the frames of a lawful trace are those of its entries, and that none of them has a fault. A run with
+/// `--mtu` cuts these frames before it writes them, so it is not covered.
 pub fn lawful_has_no_fault()
     ensures { LawfulHasNoFault }
 {
@@ -79,19 +84,21 @@ pub fn lawful_has_no_fault()
     emitted_has_no_fault();
 }
 
-/// A capture of the frames of a lawful trace and a finished report of its entries have no fault, so that their audit says yes.
+/// States that the answer `yes` holds of a capture of the frames of a lawful trace and a finished report of its
+/// entries.
 pub fn lawful_is_yes()
     ensures { LawfulIsYes }
 {
     lawful_has_no_fault();
 }
 
-/// The written capture of a trace has the records of its items' frames behind one another.
+/// States that the written capture of a trace has the records of its items' frames in the order of the items.
 pub fn items_are_written_in_order()
     ensures { ItemsAreWrittenInOrder }
 {}
 
-/// The numbers of the entries of a lawful trace are within the ranges of a report's text, where frames and records are fewer than 2^32.
+/// States that the numbers of the entries of a lawful trace are in the ranges of a report's text, if frames and
+/// records are fewer than 2^32.
 pub fn entries_fit()
     ensures { EntriesFit }
 {
@@ -103,7 +110,7 @@ pub fn entries_fit()
     acked_grows_near();
 }
 
-/// The two files that are written of a lawful trace have no fault, where they have room for it, so that their audit says yes.
+/// States that the answer `yes` holds of the two files written for a lawful trace, if the trace fits their formats.
 pub fn written_is_yes()
     ensures { WrittenIsYes }
 {
@@ -114,7 +121,7 @@ pub fn written_is_yes()
     lawful_is_yes();
 }
 
-/// Of the two files that a finished run by one engine, without a largest packet, wrote an audit says yes.
+/// States that the answer `yes` holds of the two files that a finished run of one engine without `--mtu` wrote.
 pub fn run_is_yes()
     ensures { RunIsYes }
 {

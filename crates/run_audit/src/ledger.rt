@@ -1,4 +1,4 @@
-//! What is known of an era from the segments that were written in it.
+//! The state of an era, from the segments written in it.
 ghost use Rattle.std.specs.Prelude.{◌≡◌, ℕ, ◌+◌, ◌^◌, ◌<◌, ◌==◌, ◌&&◌, ◌||◌, not, nat_lt, max, [], List, length, Some, IfOk};
 ghost use Rattle.wire_base.specs.Segments.{Written};
 ghost use Rattle.wire_base.specs.Tcp.{has_fin};
@@ -12,7 +12,7 @@ use edge_io::NoMemory;
 use std::alloc::Global;
 use wire_base::{Flags, sequence_plus};
 
-/// A segment that went inwards, as far as its era is told by it: its sequence number, its flags and its octets.
+/// The fields of a segment that went inwards that the state of its era depends on.
 #[derive(Clone, Copy)]
 pub(crate) struct Inward<'a> {
     pub(crate) seq: u32,
@@ -21,7 +21,7 @@ pub(crate) struct Inward<'a> {
 }
 
 impl Inward<'_> {
-    // Octets or a FIN.
+    // Returns whether the segment has octets or a FIN.
     fn brings_something(&self) -> bool
         ensures { result ≡ (nat_lt 0 (length self.now.octets.now) || has_fin self.now.flags.0) }
     {
@@ -29,8 +29,8 @@ impl Inward<'_> {
     }
 }
 
-/// What is known of an era: its base, once it is fixed; what is acknowledged; the offset behind all octets, if there are some; the end, once it
-/// is pinned; and the first octets at their offsets.
+/// The state of an era: its base, once it is fixed; the greatest acknowledged offset; the offset behind all octets, if
+/// there are any; the end, once a FIN sets it; and the first octets at their offsets.
 #[derive(Drop)]
 pub(crate) struct Ledger {
     base: Option<u32>,
@@ -43,7 +43,7 @@ pub(crate) struct Ledger {
 impl Ledger {
     ghost use Rattle.run_audit.specs.Ledgers.{IsInward, IsOutward, IsVerdict, IsVerdictAt, StandsFor, acked_with as acked_with_number, counted, end_with, may_end, settled, top_with};
 
-    /// That of an era without segments.
+    /// Returns the state of an era without segments.
     pub(crate) fn new(alloc: Global) -> Ledger
         ensures { StandsFor result [] }
     {
@@ -56,7 +56,8 @@ impl Ledger {
         }
     }
 
-    /// Takes a segment that went outwards, with these flags and this acknowledgment. Before a base is fixed a reset acknowledges nothing.
+    /// Adds a segment that went outwards, with these flags and this acknowledgment number. Before a base is fixed a RST
+    /// acknowledges nothing.
     pub(crate) fn acknowledge(&mut self, flags: Flags, number: u32)
         requires { self.old.acked < 2 ^ 63 }
         ensures { (ws : List Written) (w : Written) → StandsFor self.old ws → IsOutward flags.0 number w → StandsFor self.new (counted ws w) }
@@ -75,7 +76,7 @@ impl Ledger {
         self.reach(number, number);
     }
 
-    /// Takes a segment that went inwards, and answers what is wrong with it.
+    /// Adds a segment that went inwards, or returns its fault; after a fault the state has no meaning.
     pub(crate) fn judge(&mut self, segment: Inward<'_>) -> Result<Option<Reason>, NoMemory>
         requires room { self.old.acked < 2 ^ 63 }
         requires short { length segment.octets.now < 2 ^ 16 }
@@ -95,7 +96,7 @@ impl Ledger {
         self.judge_octets(base, segment)
     }
 
-    // The base, which a SYN fixes by the number behind it, where none is fixed.
+    // Fixes the base at the number behind a SYN, if none is fixed. Returns the base.
     fn base_with(&mut self, syn: bool, behind: u32) -> Option<u32>
         ensures changes { self.new ≡ settled self.old syn behind }
         ensures base { result ≡ self.new.base }
@@ -107,7 +108,7 @@ impl Ledger {
         self.base
     }
 
-    // Takes the octets and the FIN of a segment that went inwards, where this base is fixed.
+    // Adds the octets and the FIN of a segment that went inwards, with this base. Returns their fault.
     fn judge_octets(&mut self, base: u32, segment: Inward<'_>) -> Result<Option<Reason>, NoMemory>
         requires room { self.old.acked < 2 ^ 63 }
         requires short { length segment.octets.now < 2 ^ 16 }
@@ -126,7 +127,7 @@ impl Ledger {
         Ok(None)
     }
 
-    // So many octets stand before this offset.
+    // Raises the offset behind all octets to the end of a segment's octets, if it has any.
     fn rise(&mut self, octets: usize, behind: Offset)
         ensures { self.new ≡ record self.old { top = top_with self.old.top octets behind } }
     {
@@ -135,7 +136,8 @@ impl Ledger {
         }
     }
 
-    // Whether a FIN, where there is one, may stand at this offset: at the end, or behind all octets; it is the end from then on.
+    // Returns whether a segment has no FIN, or one that may be at this offset: at the end, or, if there is no end,
+    // not below the offset behind all octets, which is 0 without octets. The first FIN sets the end.
     fn ends_at(&mut self, fin: bool, place: Offset) -> bool
         ensures right { result ≡ may_end fin self.old.end self.old.top place }
         ensures changes { self.new ≡ record self.old { end = end_with fin self.old.end place } }
@@ -153,7 +155,7 @@ impl Ledger {
         }
     }
 
-    // A number is acknowledged.
+    // Raises the greatest acknowledged offset to that of an acknowledgment number.
     fn reach(&mut self, base: u32, number: u32)
         requires { self.old.acked < 2 ^ 63 }
         ensures { self.new ≡ record self.old { acked = acked_with_number base self.old.acked number } }
@@ -162,7 +164,7 @@ impl Ledger {
     }
 }
 
-// The offset behind all octets, with some before this one.
+// Returns the offset behind all octets, with octets that end at `behind`.
 fn raise(top: Option<Offset>, behind: Offset) -> Offset
     ensures { result ≡ raised_to top behind }
 {
@@ -174,14 +176,14 @@ fn raise(top: Option<Offset>, behind: Offset) -> Offset
     }
 }
 
-// A SYN, where there is one, has another number than the one before the base.
+// Returns whether a segment has a SYN, and its sequence number is not the one before the base.
 fn is_another(syn: bool, behind: u32, base: u32) -> bool
     ensures { result ≡ (syn && not (behind == base)) }
 {
     syn && behind != base
 }
 
-// What is acknowledged, with one more number that is acknowledged.
+// Returns the greatest acknowledged offset, with one more acknowledgment number.
 fn acked_with(base: u32, acked: u64, number: u32) -> u64
     requires { acked < 2 ^ 63 }
     ensures value { result ≡ max acked (number_in (natural (off base acked number))) }

@@ -1,4 +1,4 @@
-//! The audit of a finished run: its written capture and its report are judged without the rules of
+//! The audit of a finished run: it judges the written capture and the report without the rules of
 //! the run.
 //!
 //! Proved of `audit`: it returns one of its statuses, with a cause that holds of the words and of
@@ -10,17 +10,17 @@
 //!
 //! Laws: the segments by which an era is read have the base of all its segments, and nothing is
 //! acknowledged before it is fixed. In each era of a lawful trace nothing is written after an
-//! outbound reset. The frames of a lawful trace are those of its entries and have no fault, and the
+//! outbound RST. The frames of a lawful trace are those of its entries and have no fault, and the
 //! numbers of its entries fit a report if records and frames are fewer than 2^32. The audit of the
 //! capture and the report written for a lawful trace answers `yes`, if the records are those of a
 //! capture of octets, there are at most 2^32 - 1 frames of at most 262,144 octets each, and the
-//! report is not too long; runs with `--mtu` or `--both` are not covered.
+//! report has at most 67,108,864 octets; runs with `--mtu` or `--both` are not covered.
 //!
 //! Choices: first octets are held in blocks of 256 offsets, one ordered map an era, with the block
 //! used last beside the map. Nothing is forgotten, so memory grows with the octets written inwards;
 //! an octet far from all others takes a block of its own. That a frame has no fault is a record of
-//! what holds of it and not a negation. What is asked of the written files of a run is that no
-//! frame is longer than a record may be: of a lawful trace that is not proved.
+//! what holds of it and not a negation. The law on written files asks that no frame is longer than a
+//! record may be; `run_laws` shows that of the files of a run.
 #![tactic(auto)]
 
 mod answer;

@@ -12,10 +12,10 @@ use indexmap::IndexMap;
 use rule_book::{Ended, Entry};
 use std::alloc::Global;
 
-/// By the number of an era, what is known of it.
+/// The state of each era, by the number of the era.
 pub(crate) type Eras = IndexMap<u32, Ledger>;
 
-/// The eras that the entries name behind `@`, `+` or `-`, in the order in which they are named first, without segments.
+/// Returns the eras that the entries name after `@`, `+` or `-`, in the order of their first names, without segments.
 pub(crate) fn eras_named(alloc: Global, entries: &[Entry]) -> Result<Eras, NoMemory>
     ensures named { IfOk result (λ eras. keys eras ≡ spec.eras_named (map plain entries.now)) }
     ensures fresh { IfOk result (λ eras. AllStandFor eras []) }
@@ -27,7 +27,7 @@ pub(crate) fn eras_named(alloc: Global, entries: &[Entry]) -> Result<Eras, NoMem
     Ok(eras)
 }
 
-// Adds those that an entry names.
+// Adds the eras that an entry names.
 fn name_all(alloc: Global, eras: &mut Eras, entry: &Entry) -> Result<(), NoMemory>
     ensures named { IfOk result (λ _. keys eras.new ≡ spec.all_noted (keys eras.old) (spec.named_in (plain entry.now))) }
     ensures fresh { IfOk result (λ _. AllStandFor eras.old [] → AllStandFor eras.new []) }
@@ -38,7 +38,7 @@ fn name_all(alloc: Global, eras: &mut Eras, entry: &Entry) -> Result<(), NoMemor
     Ok(())
 }
 
-// Adds those that ended.
+// Adds the eras that ended.
 fn name_ended(alloc: Global, eras: &mut Eras, ended: &[Ended]) -> Result<(), NoMemory>
     ensures named { IfOk result (λ _. keys eras.new ≡ spec.all_noted (keys eras.old) (spec.numbers_of ended.now)) }
     ensures fresh { IfOk result (λ _. AllStandFor eras.old [] → AllStandFor eras.new []) }
@@ -49,7 +49,7 @@ fn name_ended(alloc: Global, eras: &mut Eras, ended: &[Ended]) -> Result<(), NoM
     Ok(())
 }
 
-// Adds an era, where there is one.
+// Adds an era, if there is one.
 fn name_one(alloc: Global, eras: &mut Eras, era: Option<u32>) -> Result<(), NoMemory>
     ensures named { IfOk result (λ _. keys eras.new ≡ spec.all_noted (keys eras.old) (option_to_list era)) }
     ensures fresh { IfOk result (λ _. AllStandFor eras.old [] → AllStandFor eras.new []) }
@@ -60,7 +60,7 @@ fn name_one(alloc: Global, eras: &mut Eras, era: Option<u32>) -> Result<(), NoMe
     Ok(())
 }
 
-// Adds an era, where it is not there yet.
+// Adds an era, unless it is there.
 fn name(alloc: Global, eras: &mut Eras, era: u32) -> Result<(), NoMemory>
     ensures named { IfOk result (λ _. keys eras.new ≡ spec.noted (keys eras.old) era) }
     ensures fresh { IfOk result (λ _. AllStandFor eras.old [] → AllStandFor eras.new []) }

@@ -1,4 +1,4 @@
-//! The first octets of a stream, by their offsets. None is ever forgotten.
+//! The first octets of a stream, by their offsets. No octet is forgotten.
 ghost use Rattle.std.specs.Prelude.{◌≡◌, ℕ, ◌+◌, ◌==◌, ◌^◌, ◌<◌, not, length, IsTrue, Some, None, IfOk, if◌then◌else◌};
 ghost use Rattle.run_audit.specs.Faults.{is_other};
 ghost use Rattle.run_audit.specs.Kept.{is_at_end};
@@ -10,10 +10,10 @@ use std::boxed::Box;
 use std::collections::BTreeMap;
 use std::mem;
 
-/// How many offsets a block has.
+/// The number of offsets in a block.
 const BLOCK: u64 = 256;
 
-/// The octets at 256 offsets that follow one another, of which some may have none.
+/// The octets at 256 consecutive offsets; an offset may have none.
 #[derive(Drop)]
 struct Block {
     first: [Option<u8>; 256],
@@ -22,14 +22,14 @@ struct Block {
 impl Block {
     ghost use Rattle.run_audit.specs.Kept.{octet_in};
 
-    // No octets.
+    // Returns a block without octets.
     fn new() -> Block
         ensures { (index : ℕ) → octet_in result index ≡ None }
     {
         Block { first: [None; 256] }
     }
 
-    // Puts an octet at an index, and answers whether it is the first there, or the same.
+    // Stores an octet at an index. Returns whether it is the first there or equals the one before.
     fn put(&mut self, index: usize, octet: u8) -> bool
         requires { index < 256 }
         ensures same { result ≡ not (is_other (octet_in self.old index) octet) }
@@ -44,12 +44,12 @@ impl Block {
     }
 }
 
-/// At some offsets an octet, the first that came there, in blocks. The block that was looked at last is at hand, if there is one, and the
-/// others stand in a map.
+/// The first octets at their offsets, in blocks. The block used last, if there is one, is beside the map of the
+/// others.
 #[derive(Drop)]
 pub(crate) struct Octets {
     alloc: Global,
-    // The number of the block at hand: its offsets, as they are counted from half a turn below 0, divided by 256.
+    // The number of the block used last: its offsets plus 2^31, divided by 256.
     number: u64,
     block: Option<Box<Block>>,
     others: BTreeMap<u64, Box<Block>>,
@@ -58,7 +58,7 @@ pub(crate) struct Octets {
 impl Octets {
     ghost use Rattle.run_audit.specs.Kept.{AreKeptWith, kept_at, octet_in, some_stray};
 
-    /// No octets.
+    /// Returns a stream without octets.
     pub(crate) fn new(alloc: Global) -> Octets
         ensures { (raised : ℕ) → kept_at result raised ≡ None }
     {
@@ -70,8 +70,8 @@ impl Octets {
         }
     }
 
-    /// Adds octets that stand from an offset on, and answers whether none of them strays: none is another than the first at its offset,
-    /// and none stands at or past the end.
+    /// Adds octets from an offset on. Returns whether none of them strays: none differs from the first one at its
+    /// offset, and none is at or past the end.
     pub(crate) fn add(
         &mut self,
         place: Offset,
@@ -94,7 +94,7 @@ impl Octets {
         Ok(true)
     }
 
-    // Adds an octet at an offset, and answers whether it is the first there, or the same.
+    // Adds an octet at an offset. Returns whether it is the first there or equals the one before.
     fn add_one(&mut self, offset: Offset, octet: u8) -> Result<bool, NoMemory>
         ensures same { IfOk result (λ right. right ≡ not (is_other (kept_at self.old offset.raised) octet)) }
         ensures kept { IfOk result (λ right. (raised : ℕ) → kept_at self.new raised ≡ (if offset.raised == raised then Some octet else kept_at self.old raised)) }
@@ -110,7 +110,7 @@ impl Octets {
         }
     }
 
-    // A block with this octet alone.
+    // Returns a block with this octet alone.
     fn new_block(&self, index: usize, octet: u8) -> Result<Box<Block>, NoMemory>
         requires { index < 256 }
         ensures { IfOk result (λ block. (at : ℕ) → octet_in block.value at ≡ (if index == at then Some octet else None)) }
@@ -120,7 +120,7 @@ impl Octets {
         Ok(block)
     }
 
-    // Takes the block with this number to hand, if there is one.
+    // Switches from the block used last to the one with this number, if there is one.
     fn turn_to(&mut self, number: u64) -> Result<(), NoMemory>
         ensures there { IfOk result (λ _. self.new.number ≡ number) }
         ensures same { IfOk result (λ _. (raised : ℕ) → kept_at self.new raised ≡ kept_at self.old raised) }
@@ -133,7 +133,7 @@ impl Octets {
             Some(block) => {
                 self.others.insert(self.number, block)?;
             }
-            // There is none with its number among the others either.
+            // The map has no block with this number either.
             None => {
                 self.others.remove(&self.number);
             }
@@ -143,7 +143,7 @@ impl Octets {
     }
 }
 
-// The offset is at or past the end, where one is pinned.
+// Returns whether the offset is at or past the end, if there is one.
 fn is_past(end: Option<Offset>, offset: Offset) -> bool
     ensures { result ≡ is_at_end end offset.raised }
 {

@@ -5,16 +5,16 @@ ghost use Rattle.era_state.specs.Offsets.{off, nat_of};
 
 use wire_base::{sequence_distance, sequence_plus};
 
-// Half a turn of sequence numbers.
+// 2^31, half the range of sequence numbers.
 const HALF: u64 = 2147483648;
 
-/// An offset in a stream, which may lie below 0: it is counted from half a turn below 0.
+/// An offset in a stream. It may be below 0: `raised` is the offset plus 2^31.
 #[derive(Clone, Copy, Debug, PartialEq, Eq)]
 pub(crate) struct Offset {
     pub(crate) raised: u64,
 }
 
-/// The begin of the stream.
+/// Returns the offset 0, the start of the stream.
 pub(crate) fn begin() -> Offset
     ensures { result.raised ≡ 2 ^ 31 }
 {
@@ -22,7 +22,7 @@ pub(crate) fn begin() -> Offset
 }
 
 impl Offset {
-    /// The offset of a sequence number, where so much is acknowledged.
+    /// Returns the offset of a sequence number, which is read relative to the acknowledged offset.
     pub(crate) fn of(base: u32, acked: u64, number: u32) -> Offset
         requires { acked < 2 ^ 63 }
         ensures value { receiver.offset_in result.raised ≡ off base acked number }
@@ -40,7 +40,7 @@ impl Offset {
         }
     }
 
-    /// The offset so many octets further.
+    /// Returns the offset `octets` further.
     pub(crate) fn after(self, octets: usize) -> Offset
         requires { self.raised + octets < 2 ^ 64 }
         ensures { result.raised ≡ self.raised + octets }
@@ -50,7 +50,7 @@ impl Offset {
         }
     }
 
-    /// The offset, and 0 in place of one below 0.
+    /// Returns the offset, or 0 if it is below 0.
     pub(crate) fn or_zero(self) -> u64
         ensures { result ≡ nat_of (receiver.offset_in self.raised) }
     {

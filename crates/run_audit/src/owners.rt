@@ -1,29 +1,29 @@
-//! To which entry of a report each frame belongs.
+//! The entry of the report that each frame belongs to.
 ghost use Rattle.std.specs.Prelude.{◌≡◌, [], ◌∷◌, map, MatchOption};
 ghost use Rattle.rule_book.specs.Entries.{plain};
 ghost use Rattle.run_audit.specs.Frames as frames;
 
 use rule_book::Entry;
 
-/// The entries to which the frames that are left belong, in order.
+/// The entries of the frames that are left, in order.
 #[derive(Drop)]
 pub(crate) struct Owners<'a> {
     entries: &'a [Entry],
-    // How many frames of the first entry were given.
+    // The number of frames of the first entry that `next` has returned.
     given: u8,
 }
 
 impl<'a> Owners<'a> {
     ghost use Rattle.run_audit.specs.Owned.{left_of};
 
-    /// Those of all frames.
+    /// Returns the entries of all frames.
     pub(crate) fn new(entries: &'a [Entry]) -> Owners<'a>
         ensures { left_of result ≡ frames.owners (map plain entries.now) }
     {
         Owners { entries, given: 0 }
     }
 
-    /// The entry of the next frame, and none where no frame is left.
+    /// Returns the entry of the next frame, or None if no frame is left.
     pub(crate) fn next(&mut self) -> Option<&'a Entry>
         ensures { MatchOption result (left_of self.old ≡ []) (λ entry. left_of self.old ≡ plain entry.now ∷ left_of self.new) }
     {

@@ -1,4 +1,4 @@
-//! The report of a run, read to its end.
+//! Reads the report of a run to its end.
 ghost use Rattle.std.specs.Prelude.{◌≡◌, ◌≤◌, length, map, IfErr, IfOk, IfSome};
 ghost use Rattle.edge_io.specs.Faults.{Rose};
 ghost use Rattle.rule_book.specs.Entries.{plain};
@@ -12,10 +12,10 @@ use edge_io::Source;
 use rule_book::{Entry, Last, LineFault, read_report};
 use std::alloc::Global;
 
-/// The most octets that a report may have.
+/// The maximum length of a report, in octets.
 const MAX_REPORT: usize = 67_108_864;
 
-/// The entries of the report of a finished run.
+/// Reads the report of a finished run. Returns its entries.
 pub(crate) fn entries_of<R: Source>(alloc: Global, source: &mut R) -> Result<Vec<Entry>, Answer>
     ensures finished { IfOk result (λ entries. IfSome (R.left source.old) (λ octets. IsFinished octets (map plain entries.items))) }
     ensures why { IfErr result (λ answer. WhyUnread (R.left source.old) (R.fault_count source.old) (R.fault_count source.new) answer) }
@@ -25,7 +25,7 @@ pub(crate) fn entries_of<R: Source>(alloc: Global, source: &mut R) -> Result<Vec
     entries_in(alloc, octets.as_slice())
 }
 
-// The entries of the report of a finished run that these octets are.
+// Parses the report of a finished run. Returns its entries.
 fn entries_in(alloc: Global, octets: &[u8]) -> Result<Vec<Entry>, Answer>
     requires { length octets.now ≤ 67108864 }
     ensures finished { IfOk result (λ entries. IsFinished octets.now (map plain entries.items)) }
@@ -42,7 +42,7 @@ fn entries_in(alloc: Global, octets: &[u8]) -> Result<Vec<Entry>, Answer>
     }
 }
 
-// The answer to a fault of the report.
+// Returns the answer to a fault of the report.
 fn at_line(fault: LineFault) -> Answer
     ensures { result ≡ spec.fault_answer fault }
 {
@@ -53,7 +53,7 @@ fn at_line(fault: LineFault) -> Answer
     }
 }
 
-// All octets that the source has left.
+// Reads all octets that the source has left.
 fn read_whole<R: Source>(alloc: Global, source: &mut R) -> Result<Vec<u8>, Answer>
     ensures whole { IfOk result (λ octets. WereLeft (R.left source.old) octets.items) }
     ensures small { IfOk result (λ octets. length octets.items ≤ 67108864) }

@@ -1,4 +1,4 @@
-//! Audits of captures and reports that were worked out by hand.
+//! Audits of captures and reports whose answers were worked out by hand.
 ghost use Rattle.std.specs.Prelude.{◌<◌, ◌≤◌, ◌+◌, length};
 
 use crate::audit;
@@ -30,36 +30,37 @@ const PSH: u8 = 8;
 
 const ACK: u8 = 16;
 
-/// A TCP packet with a TTL of 64: whether it goes inwards, its sequence number, acknowledgment, flags and payload.
+/// A TCP packet with TTL 64: whether it goes inwards, its sequence number, acknowledgment number, flags and payload.
 type Packet = (bool, u32, u32, u8, &'static [u8]);
 
-/// What opens a connection: SYN 999, SYN ACK 5000 and ACK 1000.
+/// The opening of a connection: SYN 999, SYN ACK 5000 and ACK 1000.
 const CALL: Packet = (true, 999, 0, SYN, b"");
 
 const ANSWER: Packet = (false, 5000, 1000, SYN | ACK, b"");
 
 const OPENED: Packet = (true, 1000, 5001, ACK, b"");
 
-/// Octets at 1000, and the same with another third one.
+/// Octets at 1000, and the same with another third octet.
 const ABCD: Packet = (true, 1000, 5001, PSH | ACK, b"abcd");
 
 const ABXD: Packet = (true, 1000, 5001, PSH | ACK, b"abXd");
 
-/// An acknowledgment by which the stream begins at 1000; octets that end 5 before it; and octets of which the first two stand before it.
+/// An acknowledgment that fixes the base at 1000; octets that end 5 before it; and octets of which the first two are
+/// before it.
 const FIRST_ACK: Packet = (false, 5001, 1000, ACK, b"");
 
 const BELOW: Packet = (true, 990, 5001, PSH | ACK, b"abcde");
 
 const WXYZ: Packet = (true, 998, 5001, PSH | ACK, b"wxyz");
 
-/// A reset that acknowledges 2^31 - 1 octets from 1000 on.
+/// A RST that acknowledges 2^31 - 1 octets from 1000 on.
 const EARLY_RESET: Packet = (false, 0, 2147484647, RST | ACK, b"");
 
-/// The report of a connection with two segments behind its opening.
+/// The report of a connection with two segments after its opening.
 const REPORT: &str =
     "norm 2\n1 in pass 1 @1 +1\n2 out pass 1 @1\n3 in pass 1 @1\n4 in pass 1 @1\n5 in fix 1 T_CLASH @1\nend 5 5\n";
 
-/// The octets of a packet.
+/// Returns the octets of a packet.
 fn packet_octets(alloc: Global, packet: Packet) -> Result<Vec<u8>, AllocError> {
     let (inward, seq, ack, flags, payload) = packet;
     let (src, dst) = if inward {
@@ -101,7 +102,7 @@ fn packet_octets(alloc: Global, packet: Packet) -> Result<Vec<u8>, AllocError> {
     Vec::from_slice(alloc, &octets[..20 + size])
 }
 
-/// A capture of these packets, all at time 0.
+/// Returns a capture of these packets, all at time 0.
 fn capture_file(alloc: Global, packets: &[Packet]) -> Result<Vec<u8>, AllocError> {
     let mut file = Vec::from_slice(alloc, &HEAD)?;
     for packet in packets {
@@ -113,7 +114,7 @@ fn capture_file(alloc: Global, packets: &[Packet]) -> Result<Vec<u8>, AllocError
     Ok(file)
 }
 
-/// The list of this one call, and no call for 0.
+/// Returns the list of this one call, or an empty list for 0.
 fn only(alloc: Global, call: u32) -> Result<Vec<u32>, AllocError> {
     let mut calls = Vec::new(alloc);
     if call > 0 {
@@ -130,8 +131,8 @@ fn line(alloc: Global, words: &[&str]) -> Result<Vec<String>, AllocError> {
     Ok(line)
 }
 
-/// Audits a capture and a report, in pieces of 7 octets, and answers the status and what the output holds. Of the capture, the report and the
-/// output the call of the given number fails; 0 is none.
+/// Audits a capture and a report whose sources return at most 7 octets a call. Returns the status and the octets of the
+/// output. `failing` has the numbers of the calls that fail of the capture, the report and the output, 0 for none.
 fn audited(
     alloc: Global,
     words: &[&str],
@@ -147,7 +148,7 @@ fn audited(
     Ok((status, Vec::from_slice(alloc, out.held())?))
 }
 
-/// The packets of a capture, its report, and the line and the status of their audit for 30 routers.
+/// A test case: the packets of a capture, its report, and the line and the status of their audit for 30 routers.
 type Row = (&'static [Packet], &'static str, &'static str, u8);
 
 const ROWS: [Row; 21] = [
@@ -206,7 +207,7 @@ const ROWS: [Row; 21] = [
         "no 4 octet\n",
         1,
     ),
-    // Octets below the begin of the stream alone, so that a FIN may stand there too, behind them.
+    // All octets are before the base, so a FIN may be there too, behind them.
     (
         &[FIRST_ACK, BELOW, (true, 995, 5001, FIN | ACK, b"")],
         "norm 2\n1 out pass 1 @1\n2 in pass 1 @1\n3 in pass 1 @1\nend 3 3\n",
@@ -225,7 +226,7 @@ const ROWS: [Row; 21] = [
         "no 2 fin\n",
         1,
     ),
-    // A reset before the base acknowledges nothing: 998 is then two before the begin, and not some 2^32 behind it.
+    // A RST before the base is fixed acknowledges nothing: 998 is then read as offset -2, and not as 2^32 - 2.
     (
         &[EARLY_RESET, FIRST_ACK, WXYZ, ABCD],
         "norm 2\n1 out pass 1 @1\n2 out pass 1 @1\n3 in pass 1 @1\n4 in pass 1 @1\nend 4 4\n",
@@ -238,7 +239,7 @@ const ROWS: [Row; 21] = [
         "yes 1 4\n",
         0,
     ),
-    // One behind the base acknowledges as each segment does.
+    // A RST after the base is fixed acknowledges as each segment does.
     (
         &[FIRST_ACK, EARLY_RESET, WXYZ, ABCD],
         "norm 2\n1 out pass 1 @1\n2 out pass 1 @1\n3 in pass 1 @1\n4 in pass 1 @1\nend 4 4\n",
@@ -284,7 +285,7 @@ fn each_reason_is_told(rt: HostRuntime) -> Result<(), Fail> {
     Ok(())
 }
 
-// A ACK of 2^31 - 1 and one of 2^32 - 2 more octets move the places by a turn: the same numbers then name other octets.
+// ACKs of 2^31 - 1 and of 2^32 - 2 octets from 1000 on: the same numbers are then read as offsets 2^32 higher.
 #[test]
 fn numbers_are_read_from_what_is_acknowledged(rt: HostRuntime) -> Result<(), Fail> {
     let packets = [
@@ -305,7 +306,8 @@ fn numbers_are_read_from_what_is_acknowledged(rt: HostRuntime) -> Result<(), Fai
     Ok(())
 }
 
-/// Words, how many octets of the capture of an opening there are, which calls fail, and the line and the status.
+/// A test case: the words, the number of octets of a capture with two packets, the calls that fail, and the line and
+/// the status.
 type Stop = (
     &'static [&'static str],
     usize,

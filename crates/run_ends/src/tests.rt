@@ -18,8 +18,9 @@ mod loads;
 mod sections;
 mod stopped;
 
-/// A capture of UDP messages: changes of its file header, its records, changes of the last record header, and its size. The calls that fail; the
-/// status, the report, and how many octets of the capture are written.
+/// A test case. A capture of UDP messages: changes of its file header, its number of records, changes of the last
+/// record header, and its size. The calls that fail; the status, the report, and the number of octets written to the
+/// capture.
 struct Ending {
     head: Changes,
     records: u8,
@@ -53,7 +54,7 @@ const ENDINGS: &[Ending] = &[
 /// The words of a run without options.
 const WORDS: &[&str] = &["run", "a", "b", "10.0.0.0/8"];
 
-/// Tests a row in a run that reads its capture in pieces of so many octets.
+/// Tests a case in a run whose source returns at most `piece` octets a call.
 fn ends(rt: &impl Abort, alloc: Global, row: &Ending, seed: &str, piece: usize) -> Result<(), Fail>
     requires { 0 < piece }
 {
@@ -72,7 +73,7 @@ fn ends(rt: &impl Abort, alloc: Global, row: &Ending, seed: &str, piece: usize) 
     Ok(())
 }
 
-/// Tests each row with each seed.
+/// Tests each case with each seed.
 fn each_ends(rt: &impl Abort, alloc: Global, rows: &[Ending], piece: usize) -> Result<(), Fail>
     requires { 0 < piece }
 {
@@ -124,7 +125,7 @@ fn is_refused(
     Ok(())
 }
 
-/// Tests each row with each seed.
+/// Tests each case with each seed.
 fn each_is_refused(rt: &impl Abort, alloc: Global, rows: &[(&str, &str)]) -> Result<(), Fail> {
     for (line, report) in rows {
         for seed in SEEDS {
@@ -143,7 +144,7 @@ fn refused_words_leave_one_line(rt: HostRuntime) -> Result<(), Fail> {
 #[derive(Clone, Copy)]
 enum Written {
     Nothing,
-    /// The octets that were captured.
+    /// Its captured octets.
     AsRead,
     /// Its 30 octets with these changes.
     Rewritten(Changes),
@@ -151,7 +152,8 @@ enum Written {
 
 use Written::{AsRead, Nothing, Rewritten};
 
-/// Changes of the UDP message, its captured and its original length; the record's line without its number, and the output.
+/// A test case: changes of the UDP message, its captured and its original length; the record's line without its number,
+/// and the output.
 struct Judged {
     changes: Changes,
     captured: u8,
@@ -222,7 +224,7 @@ fn one_record(alloc: Global, octets: &[u8], original: u8) -> Result<Vec<u8>, All
     Ok(file)
 }
 
-/// Returns the output capture for a record of these octets.
+/// Returns the output capture for one record of these octets.
 fn written_file(alloc: Global, octets: &[u8], written: Written) -> Result<Vec<u8>, Fail> {
     match written {
         Nothing => Ok(Vec::from_slice(alloc, &HEAD)?),
@@ -263,7 +265,7 @@ fn judges(
     Ok(())
 }
 
-/// Tests each row.
+/// Tests each case.
 fn each_is_judged(rt: &impl Abort, alloc: Global, rows: &[Judged]) -> Result<(), Fail> {
     for row in rows {
         let packet = message_with(alloc, row.changes)?;
@@ -281,7 +283,7 @@ fn messages_are_judged(rt: HostRuntime) -> Result<(), Fail> {
     each_is_judged(&rt, rt.alloc(), JUDGED)
 }
 
-/// The words of a run, changes of the UDP message, its line and its output.
+/// A test case: the words of a run, changes of the UDP message, its line and its output.
 struct Set {
     words: &'static str,
     changes: Changes,
@@ -289,7 +291,7 @@ struct Set {
     written: Written,
 }
 
-/// Sixteen prefixes, the last of which holds the message's destination.
+/// The words of a run with 16 prefixes, of which the last contains the message's destination.
 const SIXTEEN: &str =
     "run a b 192.0.2.0/32 192.0.2.1/32 192.0.2.2/32 192.0.2.3/32 192.0.2.4/32 192.0.2.5/32 192.0.2.6/32 192.0.2.7/32 \
     192.0.2.8/32 192.0.2.9/32 192.0.2.10/32 192.0.2.11/32 192.0.2.12/32 192.0.2.13/32 192.0.2.14/32 10.0.0.0/8";
@@ -313,7 +315,7 @@ const SETS: &[Set] = &[
 
 const WRONG_OUTWARD: Changes = "12:0x0a000001c6336407 27:0xbe";
 
-/// Tests each row.
+/// Tests each case.
 fn each_counts(rt: &impl Abort, alloc: Global, rows: &[Set]) -> Result<(), Fail> {
     for row in rows {
         let words = words_in(alloc, &[row.words])?;
@@ -329,7 +331,7 @@ fn options_and_prefixes_count(rt: HostRuntime) -> Result<(), Fail> {
     each_counts(&rt, rt.alloc(), SETS)
 }
 
-/// A sink that buffers each piece and cannot flush.
+/// A sink that takes all octets and fails at each flush.
 #[derive(Drop)]
 struct Stuck {
     faults: u64,

@@ -1,5 +1,5 @@
-//! Tests of whole runs by worked captures: fragments and what they make, and evasions whose written
-//! frames go to receivers that resolve overlaps each in its own way.
+//! Tests of whole runs with worked captures: fragments and their datagrams, and evasions whose
+//! written frames are given to receivers that each resolve overlaps differently.
 #![tactic(auto)]
 
 #[cfg(test)]

@@ -1,9 +1,9 @@
-//! Whole runs described by lines of text: packets, captures of them, and what a run over a capture
-//! leaves. The tests compare `run` with worked captures: connections, both sides, segments that are
-//! cut.
+//! Test cases of whole runs in a text notation: packets, captures of them, and the outputs of a run
+//! over a capture. The tests compare `run` with worked captures: connections, both sides, segments
+//! that are cut.
 //!
-//! Only tests use this crate. `line` and `only` have contracts; the other functions ensure nothing,
-//! so all that is proved of them is that they are safe and return.
+//! Only tests use this crate. `line` and `only` have contracts; of the other functions it is proved
+//! only that they are safe and return.
 #![tactic(auto)]
 
 pub mod notation;

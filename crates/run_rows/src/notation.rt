@@ -1,4 +1,4 @@
-//! The notation of packets in rows: `> PA 1000,5001 abcd [ttl=1 id=7]`.
+//! The notation of packets in test cases: `> PA 1000,5001 abcd [ttl=1 id=7]`.
 //!
 //! - `>` for an inbound packet and `<` for an outbound one.
 //! - The first letters of the TCP flags, or another protocol: `UDP`, `ICMP` or `IGMP`.
@@ -6,8 +6,8 @@
 //! - The payload, if any; of another protocol all octets after the IPv4 header.
 //! - In brackets the fields that differ from those of most packets, by the names in `MARKS`.
 //!
-//! Octets are parts joined by `+`: text, in which `_` is a space, or `0x` and hexadecimal digits. `*` and a number after a part repeat it.
-//! A name from `NAMED` may replace all octets.
+//! Octets are parts joined by `+`: text, in which `_` is a space, or `0x` and hexadecimal digits. `*` and a number
+//! after a part repeat it. A name from `NAMED` may replace all octets.
 use std::test::Fail;
 use wire_base::protocol;
 
@@ -15,22 +15,24 @@ use wire_base::protocol;
 const MARKS: [&str; 18] = [
     // Of the capture: the record's seconds, and the last octet of the Ethernet source.
     "t", "mac",
-    // Of the IPv4 header: time to live, type of service, identification, the reserved flag, the flag DF, and the options.
+    // Of the IPv4 header: TTL, type of service, identification, the reserved flag, the flag DF, and the options.
     "ttl", "tos", "id", "RF", "DF", "ipopt",
     // Of a fragment: its range of the IPv4 payload, as `8..16`; or its offset, with `+` for the flag MF.
     "part", "at",
     // Octets after the packet.
     "trail",
-    // Of the TCP header: the outside port, the window, the options, the reserved bits, and the urgent pointer with the flag URG.
+    // Of the TCP header: the outside port, the window, the options, the reserved bits, and the urgent pointer with
+    // the flag URG.
     "port", "win", "opt", "res", "urg",
-    // The TCP checksum in place of the right one, and the right one with its last bit changed.
+    // Of the TCP header: a checksum instead of the right one, and the right one with its last bit changed.
     "sum", "wrongsum",
 ];
 
-/// Octets of several rows.
+/// Names of octets that several cases have.
 #[rattlefmt::skip]
 const NAMED: [(&str, &str); 6] = [
-    // UDP (RFC 768) without a checksum; the same with another first octet of the payload; with a right checksum; with a wrong one.
+    // UDP (RFC 768) without a checksum; the same with another first octet of the payload; with a right checksum; with
+    // a wrong one.
     ("$PLAIN", "0x9c40003500180000+a*16"),
     ("$OTHER", "0x9c40003500180000+b+a*15"),
     ("$SUMMED", "0x9c400035000ac6bf+hi"),
@@ -53,6 +55,7 @@ pub(crate) struct Packet<'a> {
 }
 
 impl<'a> Packet<'a> {
+    /// Parses the line of a packet.
     pub(crate) fn read(line: &'a str) -> Result<Packet<'a>, Fail> {
         let (head, marks) = line.split_once('[').unwrap_or((line, "]"));
         let Some(marks) = marks.strip_suffix("]") else {
@@ -82,7 +85,7 @@ impl<'a> Packet<'a> {
         })
     }
 
-    /// Returns the value of a mark, empty where the mark has none.
+    /// Returns the value of a mark, empty if the mark has none; None if the line has no such mark.
     pub(crate) fn mark(&self, name: &str) -> Option<&'a str> {
         for mark in self.marks.split_whitespace() {
             let (known, value) = mark.split_once('=').unwrap_or((mark, ""));
@@ -93,7 +96,7 @@ impl<'a> Packet<'a> {
         None
     }
 
-    /// Returns the number of a mark, or the usual one.
+    /// Returns the number of a mark, or `usual` if the line has no such mark.
     pub(crate) fn number(&self, name: &str, usual: u32) -> Result<u32, Fail> {
         match self.mark(name) {
             Some(value) => Ok(value.parse()?),
@@ -101,12 +104,12 @@ impl<'a> Packet<'a> {
         }
     }
 
-    /// Returns the number of a mark, or the usual one, as two octets.
+    /// Returns the same as 16 bits.
     pub(crate) fn word(&self, name: &str, usual: u16) -> Result<u16, Fail> {
         Ok(u16::try_from(self.number(name, u32::from(usual))?)?)
     }
 
-    /// Returns the number of a mark, or the usual one, as one octet.
+    /// Returns the same as 8 bits.
     pub(crate) fn octet(&self, name: &str, usual: u8) -> Result<u8, Fail> {
         Ok(u8::try_from(self.number(name, u32::from(usual))?)?)
     }
@@ -127,6 +130,7 @@ impl<'a> Packet<'a> {
     }
 }
 
+/// Fails if a mark is not one of `MARKS`.
 fn check_marks(marks: &str) -> Result<(), Fail> {
     for mark in marks.split_whitespace() {
         let (name, _) = mark.split_once('=').unwrap_or((mark, ""));
@@ -165,6 +169,7 @@ fn flag(letter: char) -> Result<u8, Fail> {
     }
 }
 
+/// Returns the octets of a name of `NAMED`; other text unchanged.
 fn without_name(spelled: &str) -> &str {
     for (name, octets) in NAMED {
         if name == spelled {
@@ -174,7 +179,7 @@ fn without_name(spelled: &str) -> &str {
     spelled
 }
 
-/// Appends octets.
+/// Appends the octets that `spelled` spells.
 pub fn add_octets(octets: &mut Vec<u8>, spelled: &str) -> Result<(), Fail> {
     for part in without_name(spelled).split('+') {
         let (unit, times) = part.split_once('*').unwrap_or((part, "1"));

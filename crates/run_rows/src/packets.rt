@@ -1,5 +1,6 @@
-//! Packets and fragments (RFC 791, RFC 9293), and classic captures of them. Where a line has no mark, the outside host is 198.51.100.7 port 40000,
-//! the inside host 10.0.0.1 port 80, the TTL 64, the identification 1 and the window 8192.
+//! Packets and fragments (RFC 791, RFC 9293), and classic captures of them. Without a mark on the line, the outside
+//! host is 198.51.100.7 port 40000, the inside host 10.0.0.1 port 80, the TTL 64, the identification 1 and the
+//! window 8192.
 use crate::notation::{Packet, add_octets};
 use crate::runs::HEAD;
 use std::alloc::Global;
@@ -13,7 +14,7 @@ const DF: u8 = 64;
 
 const MF: u8 = 32;
 
-/// Writes a big-endian number of two octets at an offset.
+/// Writes a big-endian number of two octets at offset `at`.
 fn put(octets: &mut [u8], at: usize, value: u16) {
     let [high, low] = value.to_be_bytes();
     for (offset, octet) in [(at, high), (at.saturating_add(1), low)] {
@@ -23,23 +24,24 @@ fn put(octets: &mut [u8], at: usize, value: u16) {
     }
 }
 
+/// Returns the number of octets, at most 65,535.
 fn length_of(octets: &[u8]) -> u16 {
     octets.len().min(65_535) as u16
 }
 
-/// Returns the length in words of a header with these options, in the upper half of an octet.
+/// Returns the length in words of a header of 20 octets and these options, in the upper half of an octet.
 fn words(options: &[u8]) -> u8 {
     (5 + (options.len() / 4).min(10) as u8) * 16
 }
 
-/// Returns the octets of a mark.
+/// Returns the octets of a mark, none if the line has no such mark.
 fn marked(alloc: Global, packet: &Packet<'_>, name: &str) -> Result<Vec<u8>, Fail> {
     let mut octets = Vec::new(alloc);
     add_octets(&mut octets, packet.mark(name).unwrap_or(""))?;
     Ok(octets)
 }
 
-/// Returns the source and the destination.
+/// Returns the source and the destination address.
 fn addresses(packet: &Packet<'_>) -> (u32, u32) {
     let (outside, inside) = (0xc633_6407, 0x0a00_0001);
     if packet.inward {
@@ -59,7 +61,7 @@ fn ports(packet: &Packet<'_>) -> Result<(u16, u16), Fail> {
     })
 }
 
-/// Returns the TCP segment with the checksum 0.
+/// Returns the TCP segment with checksum 0.
 fn unsummed(alloc: Global, packet: &Packet<'_>) -> Result<Vec<u8>, Fail> {
     let (from, to) = ports(packet)?;
     let (sequence, acknowledgment) = packet.numbers()?;
@@ -81,7 +83,7 @@ fn unsummed(alloc: Global, packet: &Packet<'_>) -> Result<Vec<u8>, Fail> {
     Ok(octets)
 }
 
-/// Returns the TCP segment.
+/// Returns the TCP segment with its checksum.
 fn segment_octets(alloc: Global, packet: &Packet<'_>) -> Result<Vec<u8>, Fail> {
     let mut octets = unsummed(alloc, packet)?;
     let (from, to) = addresses(packet);
@@ -96,7 +98,7 @@ fn segment_octets(alloc: Global, packet: &Packet<'_>) -> Result<Vec<u8>, Fail> {
     Ok(octets)
 }
 
-/// Returns the IPv4 payload of the whole packet.
+/// Returns the IPv4 payload of the packet before it is fragmented.
 fn payload_octets(alloc: Global, packet: &Packet<'_>) -> Result<Vec<u8>, Fail> {
     if packet.protocol == protocol::TCP {
         return segment_octets(alloc, packet);
@@ -106,7 +108,8 @@ fn payload_octets(alloc: Global, packet: &Packet<'_>) -> Result<Vec<u8>, Fail> {
     Ok(octets)
 }
 
-/// A fragment of an IPv4 payload: its octets, their offset, and the flag MF. The whole payload is one without MF at offset 0.
+/// A fragment of an IPv4 payload: its octets, their offset, and the flag MF. A payload that is not fragmented has
+/// offset 0 and no MF.
 #[derive(Clone, Copy)]
 struct Fragment<'a> {
     octets: &'a [u8],
@@ -114,6 +117,7 @@ struct Fragment<'a> {
     more: bool,
 }
 
+/// Returns the fragment of the payload that the marks `part` or `at` describe.
 fn fragment_of<'a>(packet: &Packet<'_>, payload: &'a [u8]) -> Result<Fragment<'a>, Fail> {
     if let Some(part) = packet.mark("part") {
         let (from, to) = part.split_once("..").unwrap_or((part, ""));
@@ -174,7 +178,7 @@ fn header_octets(
     Ok(octets)
 }
 
-/// Returns the octets of a packet and those after it.
+/// Returns the octets of a packet, and those after it.
 fn octets_of(alloc: Global, packet: &Packet<'_>) -> Result<Vec<u8>, Fail> {
     let payload = payload_octets(alloc, packet)?;
     let fragment = fragment_of(packet, &payload)?;
@@ -189,7 +193,7 @@ pub(crate) fn packet_octets(alloc: Global, line: &str) -> Result<Vec<u8>, Fail> 
     octets_of(alloc, &Packet::read(line.trim())?)
 }
 
-/// Appends a record of a frame: a link header and a packet.
+/// Appends a record with a frame: a link header and a packet.
 fn add_record(file: &mut Vec<u8>, seconds: u32, link: &[u8], octets: &[u8]) -> Result<(), Fail> {
     let size = u32::from(length_of(link)) + u32::from(length_of(octets));
     for value in [seconds, 0, size, size] {
@@ -213,7 +217,7 @@ fn add_packets(file: &mut Vec<u8>, alloc: Global, packets: &str) -> Result<(), F
     Ok(())
 }
 
-/// Returns a raw IP capture of some packets and then others.
+/// Returns a raw IP capture of the packets `first` and then those of `then`.
 pub fn capture_of(alloc: Global, first: &str, then: &str) -> Result<Vec<u8>, Fail> {
     let mut file = Vec::from_slice(alloc, &HEAD)?;
     add_packets(&mut file, alloc, first)?;

@@ -1,24 +1,24 @@
-//! Rows of whole runs: the input packets, the report, and the output packets.
+//! Test cases of whole runs: the input packets, the report, and the output packets.
 use crate::notation::add_octets;
 use crate::packets::{capture_of, packet_octets};
 use crate::runs::{NONE, ended_run, words_in};
 use std::alloc::Global;
 use std::test::Fail;
 
-/// Packets that come before those of a row and pass unchanged.
+/// Packets that precede those of a case and pass unchanged, and the lines of the report for them.
 #[derive(Clone, Copy)]
 pub struct Before {
     pub packets: &'static str,
     pub lines: &'static str,
 }
 
-/// No packets come before.
+/// No packets precede those of the case.
 pub const NOTHING: Before = Before {
     packets: "",
     lines: "",
 };
 
-/// An outside host opens a connection. The first octet of its stream has the sequence number 1000.
+/// An outside host opens a connection. The first octet of its stream has sequence number 1000.
 pub const OPENED: Before = Before {
     packets: "> S 999; < SA 5000,1000; > A 1000,5001",
     lines: "1 in pass 1 @1 +1\n2 out pass 1 @1\n3 in pass 1 @1\n",
@@ -34,7 +34,8 @@ pub const REQUEST: Before = Before {
         8 out pass 1 @1\n9 in pass 1 @1\n10 out pass 1 @1\n",
 };
 
-/// Options of the command line and the input packets; the report and the output packets, without those of `before`.
+/// A test case: options of the command line and input packets; the report and the output packets, without those of
+/// `before`.
 #[derive(Clone, Copy)]
 pub struct Row {
     pub options: &'static str,
@@ -44,7 +45,7 @@ pub struct Row {
     pub written: &'static str,
 }
 
-/// Options with which each row runs: for the default seed of the tables, which is 0, and for another one.
+/// Options for the seed of the tables in the two runs of each case: none, for the default of 0, and one for 7.
 pub const SEEDS: [&str; 2] = ["", "--seed=7"];
 
 /// Returns the words of a run with these options and this seed.
@@ -52,7 +53,7 @@ pub fn words_of<'a>(alloc: Global, options: &'a str, seed: &'a str) -> Result<Ve
     words_in(alloc, &["run", options, seed, "a b 10.0.0.0/8"])
 }
 
-/// Returns whether a run with this seed writes what the row says.
+/// Returns whether a run with this seed ends with status 0 and gives the report and the output packets of the case.
 pub fn holds(alloc: Global, row: &Row, seed: &str) -> Result<bool, Fail> {
     let words = words_of(alloc, row.options, seed)?;
     let before = row.before;
@@ -66,7 +67,7 @@ pub fn holds(alloc: Global, row: &Row, seed: &str) -> Result<bool, Fail> {
     Ok(ended.status == 0 && same_report && same_capture)
 }
 
-/// Returns whether the packet has these octets.
+/// Returns whether the packet has the octets that `spelled` spells.
 pub fn is_spelled(alloc: Global, packet: &str, spelled: &str) -> Result<bool, Fail> {
     let mut octets = Vec::new(alloc);
     add_octets(&mut octets, spelled)?;

@@ -1,4 +1,4 @@
-//! Runs over captures in memory, read in pieces. A call of the source or of a sink may fail.
+//! Runs over captures in memory. A call of the source or of a sink may fail.
 ghost use Rattle.std.specs.Prelude.{◌≡◌, ◌<◌, ◌==◌, [], ◌∷◌, map, string_bytes, if◌then◌else◌, IfOk};
 
 use crate::notation::add_octets;
@@ -15,13 +15,14 @@ pub const HEAD: [u8; 24] = [
 /// The record header of the UDP message at time 0.
 pub const RECORD_HEADER: [u8; 16] = [0, 0, 0, 0, 0, 0, 0, 0, 30, 0, 0, 0, 30, 0, 0, 0];
 
-/// A UDP message of 30 octets from 198.51.100.7 port 40000 to 10.0.0.1 port 53 with payload `hi`, and an octet after it.
+/// A packet of 30 octets with a UDP message from 198.51.100.7 port 40000 to 10.0.0.1 port 53 and the payload `hi`, and
+/// an octet after it.
 pub const UDP_MESSAGE: [u8; 31] = [
     0x45, 0x00, 0x00, 0x1e, 0x00, 0x01, 0x00, 0x00, 0x40, 0x11, 0x46, 0x93, 0xc6, 0x33, 0x64, 0x07,
     0x0a, 0x00, 0x00, 0x01, 0x9c, 0x40, 0x00, 0x35, 0x00, 0x0a, 0xc6, 0xbf, 0x68, 0x69, 0x00,
 ];
 
-/// Octets that replace others, with their offset: `8:0x1e` for one octet, `12:0x0a000001` for four.
+/// Octets that replace others, each with its offset: `8:0x1e` for one octet, `12:0x0a000001` for four.
 pub type Changes = &'static str;
 
 /// Makes the changes in these octets.
@@ -81,7 +82,7 @@ pub fn line(alloc: Global, words: &[&str]) -> Result<Vec<String>, AllocError>
     Ok(line)
 }
 
-/// Returns the list of this one call, empty for 0.
+/// Returns the list of this one call, or an empty list for 0.
 pub fn only(alloc: Global, call: u32) -> Result<Vec<u32>, AllocError>
     ensures { IfOk result (λ calls. calls.items ≡ (if call == 0 then [] else call ∷ [])) }
 {
@@ -100,8 +101,8 @@ pub struct Outcome {
     pub report: MemSink,
 }
 
-/// Runs over a file that the source gives in pieces of so many octets. `failing` has the number of the call that fails of the source, of the
-/// capture sink and of the report sink, 0 for none.
+/// Runs over a file of which a call of the source returns at most `piece` octets. `failing` has the number of the call
+/// that fails of the source, of the capture sink and of the report sink, 0 for none.
 pub fn ended_run(
     alloc: Global,
     words: &[&str],

@@ -8,7 +8,7 @@ mod both;
 mod connections;
 mod cut;
 
-/// Tests each row with each seed.
+/// Tests each case with each seed.
 fn each_holds(rt: &impl Abort, alloc: Global, rows: &[Row]) -> Result<(), Fail> {
     for row in rows {
         let packets = row.packets;

@@ -1,4 +1,4 @@
-//! What a run leaves that is disturbed, as a function of the two outputs of the undisturbed run.
+//! The expected outputs of a disturbed run, computed from the outputs of the undisturbed run.
 use run_rows::packets::capture_of;
 use run_rows::rows::{Before, words_of};
 use run_rows::runs::{NONE, ended_run, line};
@@ -12,7 +12,7 @@ pub(super) struct Case {
     pub(super) packets: &'static str,
 }
 
-/// The three ends of a run.
+/// The three objects of a run: its source and its two sinks.
 #[derive(Clone, Copy)]
 pub(super) enum End {
     Source,
@@ -20,7 +20,7 @@ pub(super) enum End {
     Report,
 }
 
-/// Octets taken from the source, and octets that the two sinks hold.
+/// Numbers of octets: taken from the source, held by the capture sink, held by the report sink.
 #[derive(Clone, Copy)]
 pub(super) struct Mark {
     pub(super) taken: usize,
@@ -38,7 +38,8 @@ impl Mark {
     }
 }
 
-/// A run without a fault: its words, its input, its outputs, and the marks before the file header, after it, and after each record.
+/// A run without failed calls: its words, its input, its outputs, and the marks before the file header, after it, and
+/// after each record.
 #[derive(Drop)]
 pub(super) struct Undisturbed {
     pub(super) words: Vec<String>,
@@ -55,7 +56,7 @@ fn captured_length(octets: &[u8], at: usize) -> usize {
     usize::from(*low) + 256 * usize::from(*high)
 }
 
-/// Returns the offset after so many records.
+/// Returns the offset after `records` records from offset `at` on.
 fn after_records(octets: &[u8], at: usize, records: u32) -> usize {
     let mut at = at;
     for _ in 0..records {
@@ -72,7 +73,8 @@ fn frames_in(line: &str) -> Result<u32, Fail> {
     Ok(word.parse()?)
 }
 
-/// Returns the marks of a run. A line that begins with `/` is one of the second engine, whose frames are written where there is one.
+/// Returns the marks of a run. A line that begins with `/` is one of the second engine; with two engines only the
+/// frames of the second are written.
 fn marks_of(alloc: Global, file: &[u8], capture: &[u8], report: &str) -> Result<Vec<Mark>, Fail> {
     let mut lines = report.split_inclusive('\n');
     let first = lines.next().unwrap_or("");
@@ -106,7 +108,7 @@ fn marks_of(alloc: Global, file: &[u8], capture: &[u8], report: &str) -> Result<
     Err(Fail::new("the report has no last line"))
 }
 
-/// Returns the run of a case.
+/// Returns the undisturbed run of a case.
 pub(super) fn undisturbed_run(alloc: Global, case: &Case) -> Result<Undisturbed, Fail> {
     let words = words_of(alloc, case.options, "")?;
     let file = capture_of(alloc, case.before.packets, case.packets)?;
@@ -126,8 +128,8 @@ pub(super) fn undisturbed_run(alloc: Global, case: &Case) -> Result<Undisturbed,
     })
 }
 
-/// What a run leaves: octets taken from the source and held by the sinks, and the kind and the offset of its `stop` line. The report
-/// holds `told` octets of the undisturbed one, and then the `stop` line.
+/// The expected end of a run: its status, the octets taken from the source and held by the sinks, and the kind and the
+/// offset of its `stop` line. The report has the first `told` octets of the undisturbed one, and then the `stop` line.
 #[derive(Clone, Copy)]
 pub(super) struct Expected {
     pub(super) status: u8,
@@ -136,7 +138,7 @@ pub(super) struct Expected {
 }
 
 impl Undisturbed {
-    /// Returns the last mark at which an end had at most so many octets, and the next one.
+    /// Returns the last mark at which an object of the run has at most `octets`, and the next one.
     fn around(&self, end: End, octets: usize) -> (Mark, Mark) {
         let mut last = Mark {
             taken: 0,
@@ -161,7 +163,7 @@ impl Undisturbed {
         }
     }
 
-    /// Returns what a run leaves whose source fails after so many octets were taken.
+    /// Returns the end of a run whose source fails after `taken` octets.
     fn at_source(&self, taken: usize) -> Expected {
         let (last, _) = self.around(End::Source, taken);
         Expected {
@@ -171,7 +173,7 @@ impl Undisturbed {
         }
     }
 
-    /// Returns what a run leaves whose capture sink fails while it holds so many octets.
+    /// Returns the end of a run whose capture sink fails when it holds `written` octets.
     pub(super) fn at_capture(&self, written: usize) -> Expected {
         let (last, next) = self.around(End::Capture, written);
         Expected {
@@ -185,7 +187,7 @@ impl Undisturbed {
         }
     }
 
-    /// Returns what a run leaves whose report sink fails while it holds so many octets.
+    /// Returns the end of a run whose report sink fails when it holds `told` octets.
     fn at_report(&self, told: usize) -> Expected {
         let (_, next) = self.around(End::Report, told);
         Expected {
@@ -195,7 +197,7 @@ impl Undisturbed {
         }
     }
 
-    /// Returns what a run leaves of which this end fails while it has so many octets.
+    /// Returns the end of a run of which the object `end` fails at this number of octets.
     pub(super) fn at(&self, end: End, octets: usize) -> Expected {
         match end {
             End::Source => self.at_source(octets),
@@ -204,7 +206,7 @@ impl Undisturbed {
         }
     }
 
-    /// Returns what a run leaves that nothing disturbs.
+    /// Returns the end of the undisturbed run.
     pub(super) fn at_end(&self) -> Expected {
         Expected {
             status: 0,

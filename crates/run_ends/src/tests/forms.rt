@@ -88,14 +88,15 @@ fn captures_of_every_form_are_written_as_read(rt: HostRuntime) -> Result<(), Fai
     each_form_is_kept(&rt, rt.alloc(), 1, &framed)
 }
 
-/// A SYN (RFC 9293) from 198.51.100.7 port 40000 to 10.0.0.1 port 80 with sequence number 999 and window 8192, and six octets of padding.
+/// A SYN (RFC 9293) from 198.51.100.7 port 40000 to 10.0.0.1 port 80 with sequence number 999 and window 8192, and six
+/// octets of padding.
 const SYN: [u8; 46] = [
     0x45, 0x00, 0x00, 0x28, 0x00, 0x01, 0x00, 0x00, 0x40, 0x06, 0x46, 0x94, 0xc6, 0x33, 0x64, 0x07,
     0x0a, 0x00, 0x00, 0x01, 0x9c, 0x40, 0x00, 0x50, 0x00, 0x00, 0x03, 0xe7, 0x00, 0x00, 0x00, 0x00,
     0x50, 0x02, 0x20, 0x00, 0xbb, 0x2f, 0x00, 0x00, 0, 0, 0, 0, 0, 0,
 ];
 
-/// Returns a big-endian Ethernet capture in nanoseconds: ARP of 42 octets and the SYN with so many octets of padding.
+/// Returns a big-endian Ethernet capture in nanoseconds: ARP of 42 octets, and the SYN with `padding` octets behind it.
 fn framed(alloc: Global, padding: usize) -> Result<Vec<u8>, Fail> {
     let mut arp = Vec::from_slice(alloc, &ethernet(0x0806))?;
     arp.extend_from_slice(&[0, 1, 8, 0, 6, 4, 0, 1])?;

@@ -7,7 +7,8 @@ use std::test::Fail;
 
 const SUMMARY: &str = "load 1 1\nrecords 1\npackets 1\neras 1\nend\n";
 
-/// The words of a load of one record, the call of the report that fails, 0 for none, the status, and how many octets of the summary are written.
+/// Test cases: the words of a load of one record, the call of the report that fails, 0 for none, the status, and the
+/// number of octets of the summary that are written.
 #[rattlefmt::skip]
 const LOADS: &[(&str, u32, u8, usize)] = &[
     ("load 1 1", 0, 0, 40),
@@ -17,7 +18,7 @@ const LOADS: &[(&str, u32, u8, usize)] = &[
     ("load 1 1", 5, 7, 36),
 ];
 
-/// Tests each row. The source and the capture sink would fail at their first call, and are not called.
+/// Tests each case. The source and the capture sink would fail at their first call; they are not called.
 fn each_is_summed_up(
     rt: &impl Abort,
     alloc: Global,
@@ -44,7 +45,8 @@ fn a_load_of_one_record_begins_an_era(rt: HostRuntime) -> Result<(), Fail> {
 struct Made {
     /// Records with the flags SYN alone, at octet 33 of the packet.
     calls: u32,
-    /// Records whose payload, from octet 40 of the packet on, begins with 255: no octet that a flow sends first is above 250.
+    /// Records whose payload, from octet 40 of the packet on, begins with 255: an octet that a connection sends first
+    /// is at most 250, so these are the changed ones.
     changed: u32,
 }
 
@@ -68,7 +70,7 @@ fn made_of(seed: u64, count: u32) -> Made {
     made
 }
 
-// A load is the same each time. All its records pass, each flow is one era, and exactly the changed octets clash.
+// A load is the same each time. All its records pass, each connection is one era, and exactly the changed octets clash.
 #[test]
 fn a_large_load_is_the_same_each_time(rt: HostRuntime) -> Result<(), Fail> {
     let made = made_of(7, 200_000);

@@ -1,4 +1,5 @@
-//! pcapng captures with two interfaces, `in` and `ex`: `--inside` takes the side of a packet from its interface and not from its addresses.
+//! pcapng captures with two interfaces, `in` and `ex`: with `--inside` the side of a packet is that of its interface,
+//! not that of its addresses.
 use run_rows::rows::{SEEDS, words_of};
 use run_rows::runs::{NONE, RECORD_HEADER, UDP_MESSAGE, capture_file, ended_run};
 use std::alloc::{AllocError, Global};
@@ -11,7 +12,7 @@ const SECTION: [u8; 28] = [
     0xff, 0xff, 0xff, 0xff, 0xff, 28, 0, 0, 0,
 ];
 
-/// Returns an interface description block of raw IP with a name of two octets.
+/// Returns an interface description block for raw IP with a name of two octets.
 fn interface(first: u8, second: u8) -> [u8; 32] {
     [
         1, 0, 0, 0, 32, 0, 0, 0, 101, 0, 0, 0, 0, 0, 0, 0, 2, 0, 2, 0, first, second, 0, 0, 0, 0,
@@ -43,7 +44,7 @@ const WRITTEN: [u8; 24] = [
     0x4d, 0x3c, 0xb2, 0xa1, 2, 0, 4, 0, 0, 0, 0, 0, 0, 0, 0, 0, 0, 0, 4, 0, 101, 0, 0, 0,
 ];
 
-/// Returns the output capture with so many UDP messages.
+/// Returns the output capture with `records` UDP messages.
 fn written(alloc: Global, records: u8) -> Result<Vec<u8>, AllocError> {
     let mut file = Vec::from_slice(alloc, &WRITTEN)?;
     for _ in 0..records {
@@ -53,7 +54,7 @@ fn written(alloc: Global, records: u8) -> Result<Vec<u8>, AllocError> {
     Ok(file)
 }
 
-/// The interface of the packet, the status, the report, and the number of records written.
+/// Test cases: the interface of the packet, the status, the report, and the number of records written.
 #[rattlefmt::skip]
 const INTERFACES: &[(u8, u8, &str, u8)] = &[
     (1, 0, "norm 2\n1 in pass 1\nend 1 1\n", 1),
@@ -62,7 +63,7 @@ const INTERFACES: &[(u8, u8, &str, u8)] = &[
     (2, 3, "norm 2\nstop block 92\n", 0),
 ];
 
-/// Tests each row in a run with this seed.
+/// Tests each case in a run with this seed.
 fn each_has_its_side(
     rt: &impl Abort,
     alloc: Global,

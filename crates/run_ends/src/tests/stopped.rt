@@ -22,11 +22,12 @@ const CONNECTION: &[Case] = &[Case {
 const OTHERS: &[Case] = &[
     // The same connection through two engines.
     Case { options: "--both", before: REQUEST, packets: "" },
-    // A frame that is cut into three, one that is too long, and one that passes.
+    // A frame that is cut into three segments, one that is too long, and one that passes.
     Case { options: "--mtu=576", before: OPENED, packets: "> PA 1000,5001 a*1100; < PA 5001,1000 a*537 [urg=1]; < A 5001,2100" },
 ];
 
-/// How a run is disturbed: the octets that a call of the source gives, the calls that fail, 0 for none, and the capture sink's room.
+/// A disturbance of a run: the most octets that a call of the source returns, the calls that fail, 0 for none, and the
+/// capacity of the capture sink in octets.
 #[derive(Clone, Copy)]
 struct Disturbance {
     piece: usize,
@@ -34,7 +35,7 @@ struct Disturbance {
     room: usize,
 }
 
-/// Returns the disturbance by which this call of an end fails.
+/// Returns the disturbance in which this call of an object fails.
 fn failing_at(end: End, call: u32, piece: usize) -> Disturbance
     ensures { result.piece ≡ piece }
 {
@@ -50,7 +51,8 @@ fn failing_at(end: End, call: u32, piece: usize) -> Disturbance
     }
 }
 
-/// The status of a disturbed run, the number of failed calls of each end, the octets taken from the source, and the sinks.
+/// A disturbed run: its status, the number of failed calls of each object, the octets taken from the source, and the
+/// sinks.
 #[derive(Drop)]
 struct Disturbed {
     status: u8,
@@ -61,7 +63,7 @@ struct Disturbed {
 }
 
 impl Disturbed {
-    /// Returns the octets taken from the source or held by a sink.
+    /// Returns the number of octets taken from the source or held by a sink.
     fn octets_at(&self, end: End) -> usize {
         match end {
             End::Source => self.taken,
@@ -97,7 +99,7 @@ fn disturbed_run(
     })
 }
 
-/// Returns the number of failed calls of each end at a status.
+/// Returns the number of failed calls of each object that a status implies.
 fn faults_at(status: u8) -> (u64, u64, u64) {
     match status {
         5 => (1, 0, 0),
@@ -107,7 +109,7 @@ fn faults_at(status: u8) -> (u64, u64, u64) {
     }
 }
 
-/// Returns whether a disturbed run leaves what is expected.
+/// Returns whether a disturbed run ends as expected.
 fn leaves(
     alloc: Global,
     run: &Undisturbed,
@@ -129,7 +131,7 @@ fn leaves(
     Ok(same_status && same_faults && same_source && same_report && same_capture)
 }
 
-/// Tests that the source may give its octets in pieces of any length.
+/// Tests that the outputs do not depend on the number of octets that a call of the source returns.
 fn pieces_change_nothing(
     rt: &impl Abort,
     alloc: Global,
@@ -143,7 +145,8 @@ fn pieces_change_nothing(
     Ok(())
 }
 
-/// Tests each call of an end in turn, until a run ends with 0. Each fails later than the one before it.
+/// Fails each call of an object in turn, until a run ends with status 0. Tests that each run gets further than the one
+/// before it.
 fn each_call_fails(
     rt: &impl Abort,
     alloc: Global,
@@ -174,7 +177,7 @@ fn each_call_fails(
     Err(Fail::new("no run ends with 0"))
 }
 
-/// Tests a capture sink with room for each number of octets from 0 to 200.
+/// Tests a capture sink of each capacity from 0 to 200 octets.
 fn each_room_fails(rt: &impl Abort, alloc: Global, run: &Undisturbed) -> Result<(), Fail> {
     for room in 0..=200usize {
         let disturbance = Disturbance {
@@ -191,7 +194,7 @@ fn each_room_fails(rt: &impl Abort, alloc: Global, run: &Undisturbed) -> Result<
     Ok(())
 }
 
-/// Tests pieces of 1, 7 and 65,536 octets in each case.
+/// Tests calls of the source that return at most 1, 7 and 65,536 octets in each case.
 fn each_is_given_in_pieces(rt: &impl Abort, alloc: Global, cases: &[Case]) -> Result<(), Fail> {
     for case in cases {
         let run = undisturbed_run(alloc, case)?;
@@ -208,7 +211,7 @@ fn pieces_of_any_length_give_the_same_outputs(rt: HostRuntime) -> Result<(), Fai
     each_is_given_in_pieces(&rt, rt.alloc(), OTHERS)
 }
 
-/// Tests each call of each end in each case.
+/// Fails each call of each object in each case.
 fn each_end_fails(rt: &impl Abort, alloc: Global, cases: &[Case], piece: usize) -> Result<(), Fail>
     requires { 0 < piece }
 {
@@ -233,7 +236,7 @@ fn each_call_that_fails_stops_a_run_with_options(rt: HostRuntime) -> Result<(), 
     each_end_fails(&rt, rt.alloc(), OTHERS, 65536)
 }
 
-/// Tests the rooms of a capture sink in each case.
+/// Tests the capacities of a capture sink in each case.
 fn each_is_without_room(rt: &impl Abort, alloc: Global, cases: &[Case]) -> Result<(), Fail> {
     for case in cases {
         let run = undisturbed_run(alloc, case)?;
@@ -248,7 +251,7 @@ fn a_full_capture_sink_stops_a_run(rt: HostRuntime) -> Result<(), Fail> {
     each_is_without_room(&rt, rt.alloc(), OTHERS)
 }
 
-/// The octets of a capture, the call of the report that fails, and the report: the `stop` line fails.
+/// Test cases in which the `stop` line fails: the size of a capture, the call of the report that fails, and the report.
 const STOP_LINES: &[(usize, u32, &str)] = &[
     (0, 2, "norm 2\n"),
     (23, 2, "norm 2\n"),
@@ -256,7 +259,7 @@ const STOP_LINES: &[(usize, u32, &str)] = &[
     (115, 3, "norm 2\n1 in pass 1\n"),
 ];
 
-/// Tests a capture of each length, which ends inside the file header or a record.
+/// Tests captures of each size, which end inside the file header or a record.
 fn each_is_cut(rt: &impl Abort, alloc: Global, rows: &[(usize, u32, &str)]) -> Result<(), Fail> {
     for (size, call, report) in rows {
         let mut file = capture_file(alloc, "", 2, "")?;

@@ -1,5 +1,5 @@
-//! Whole runs over the evasions of Handley, Paxson and Kreibich (USENIX Security 2001): the whole report, all output packets, and the streams of
-//! four receivers that resolve overlaps each in its own way.
+//! Whole runs over the evasions of Handley, Paxson and Kreibich (USENIX Security 2001): the whole report, all output
+//! packets, and the streams of four receivers that each resolve overlaps differently.
 use edge_io::NoMemory;
 use receiver_model::{Family, Policy, plain};
 use run_rows::notation::add_octets;
@@ -9,8 +9,8 @@ use std::alloc::Global;
 use std::process::Abort;
 use std::test::Fail;
 
-/// A run, and the streams that receivers deliver of the first connection: the offset of the first octet, the octets if any, and `FIN` where the
-/// stream ends; `;` separates streams.
+/// A run, and the streams that receivers deliver of the first connection: the offset of the first octet, the octets if
+/// any, and `FIN` if the stream ends; `;` separates streams.
 struct Case {
     row: Row,
     streams: &'static str,
@@ -25,10 +25,10 @@ const CASES: &[Case] = &[
     Case { row: Row { options: "", before: OPENED, packets: "> PA 1000,5001 bad! [ttl=1]; > PA 1000,5001 good",
             report: "4 in fix 1 I_TTL @1\n5 in fix 1 T_CLASH @1\nend 5 5\n", written: "> PA 1000,5001 bad! [ttl=31]; > PA 1000,5001 bad!" },
         streams: "0 bad!" },
-    // An urgent octet, which some hosts leave out of the stream.
+    // An urgent octet, which some hosts remove from the stream.
     Case { row: Row { options: "", before: OPENED, packets: "> PA 1000,5001 abcd [urg=1]",
             report: "4 in fix 1 T_URG @1\nend 4 4\n", written: "> PA 1000,5001 abcd" }, streams: "0 abcd" },
-    // A reset that some hosts accept.
+    // A RST that some hosts accept.
     Case { row: Row { options: "", before: OPENED, packets: "> R 1003; > PA 1000,5001 abcd",
             report: "4 in drop 0 T_RST @1\n5 in pass 1 @1\nend 5 4\n", written: "> PA 1000,5001 abcd" }, streams: "0 abcd" },
     // A wrong checksum.
@@ -47,7 +47,8 @@ const CASES: &[Case] = &[
     // Octets past the window.
     Case { row: Row { options: "", before: OPENED, packets: "> PA 10000,5001 zz", report: "4 in fix 1 T_WINDOW @1\nend 4 4\n", written: "> PA 10000,5001" },
         streams: "0" },
-    // Overlapping fragments that differ: in an octet of the TCP header, whose checksum stays, and in octets with the same sum in either order.
+    // Overlapping fragments that differ: in an octet of the TCP header with an unchanged checksum, and in octets whose
+    // sum is the same in either order.
     Case { row: Row { options: "", before: OPENED, packets: "> PA 1000,5001 abcd [id=7 part=0..16]; > PA 1000,16782217 abcd [id=7 part=8..24 sum=58052]",
             report: "4 in hold 0 F_HELD\n5 in drop 0 F_CLASH\nend 5 3\n", written: "" }, streams: "0" },
     Case { row: Row { options: "", before: OPENED,
@@ -73,7 +74,7 @@ const CASES: &[Case] = &[
                 > S 999 [port=40006]; > S 999 [port=40007]; > S 999 [port=40008]; > S 999 [port=40009]" }, streams: "0" },
 ];
 
-/// Gives a packet to each receiver. Returns whether every host behind at most 30 routers reads it by its fields.
+/// Gives a packet to each receiver. Returns whether every host behind at most 30 routers reads it alike, by its fields.
 fn is_given(family: &mut Family, packet: &[u8]) -> Result<bool, NoMemory> {
     if packet.len() < 10 {
         return Ok(false);
@@ -96,7 +97,7 @@ enum Order {
     EachTwice,
 }
 
-/// Gives all packets in this order. Returns whether every host reads each by its fields.
+/// Gives all packets in this order. Returns whether every host reads each of them alike, by its fields.
 fn give(family: &mut Family, packets: &[Vec<u8>], order: Order) -> Result<bool, NoMemory> {
     let mut all = true;
     match order {
@@ -131,7 +132,7 @@ fn inward_of(alloc: Global, row: &Row) -> Result<Vec<Vec<u8>>, Fail> {
     Ok(packets)
 }
 
-/// Returns whether the receiver of each policy delivered these octets, and ended or not.
+/// Returns whether the receiver of each policy delivers these octets, and whether its stream ends as `ended` states.
 fn delivers(family: &Family, octets: &[u8], ended: bool) -> bool {
     let mut all = true;
     for policy in [Policy::First, Policy::Newest, Policy::Left, Policy::Right] {
@@ -150,6 +151,7 @@ struct Delivered {
     ended: bool,
 }
 
+/// Parses a stream of a case.
 fn delivered_by(alloc: Global, stream: &str) -> Result<Delivered, Fail> {
     let (stream, ended) = match stream.strip_suffix(" FIN") {
         Some(stream) => (stream, true),
@@ -166,7 +168,8 @@ fn delivered_by(alloc: Global, stream: &str) -> Result<Delivered, Fail> {
     })
 }
 
-/// Returns whether all receivers agree on the packets in this order, and deliver the stream where the order is that of writing.
+/// Returns whether all receivers agree on the packets in this order, and deliver the stream if the order is the written
+/// one.
 fn hears(
     family: &mut Family,
     packets: &[Vec<u8>],
@@ -181,7 +184,8 @@ fn hears(
     Ok(given && delivered && family.agree())
 }
 
-// Owns the receivers, and calls one function: the prover goes through all that they hold where a function may end.
+// Owns the receivers and makes one call: at each point where the function may return, the proof covers the drop of all
+// that they own.
 fn is_heard(
     alloc: Global,
     packets: &[Vec<u8>],
@@ -193,7 +197,8 @@ fn is_heard(
     heard
 }
 
-/// Returns whether all receivers deliver this stream, and agree also on the packets in reverse order and on each twice.
+/// Returns whether all receivers deliver this stream, and agree also on the packets in reverse order and on each packet
+/// twice.
 fn tells(alloc: Global, packets: &[Vec<u8>], stream: &str) -> Result<bool, Fail> {
     let stream = delivered_by(alloc, stream)?;
     for order in [Order::Written, Order::Reverse, Order::EachTwice] {

@@ -8,19 +8,19 @@ use std::test::Fail;
 
 #[rattlefmt::skip]
 const DATAGRAMS: &[Row] = &[
-    // Equal overlaps make a datagram; one differing octet makes it forgotten.
+    // Fragments with equal overlaps complete a datagram; if one octet differs, the datagram is forgotten.
     Row { options: "", before: NOTHING,
         packets: "> UDP $PLAIN [id=7 part=0..16]; > UDP $PLAIN [id=7 part=8..16]; > UDP $PLAIN [id=7 part=16..24]; > UDP $PLAIN [id=8 part=0..16]; \
             > UDP $OTHER [id=8 part=8..16]; > UDP $PLAIN [id=8 part=16..24]",
         report: "1 in hold 0 F_HELD\n2 in hold 0 F_HELD\n3 in fix 1 F_DONE\n4 in hold 0 F_HELD\n5 in drop 0 F_CLASH\n6 in hold 0 F_HELD\nend 6 1\n",
         written: "> UDP $PLAIN [id=7]" },
-    // Fragments in any order, each twice. A fragment after the whole datagram is held anew.
+    // Fragments in any order, each twice. A fragment after a complete datagram begins another one.
     Row { options: "", before: NOTHING,
         packets: "> UDP $PLAIN [id=7 part=16..24]; > UDP $PLAIN [id=7 part=8..16]; > UDP $PLAIN [id=7 part=16..24]; > UDP $PLAIN [id=7 part=0..8]; \
             > UDP $PLAIN [id=7 part=0..8]; > UDP $PLAIN [id=7 part=8..24]",
         report: "1 in hold 0 F_HELD\n2 in hold 0 F_HELD\n3 in hold 0 F_HELD\n4 in fix 1 F_DONE\n5 in hold 0 F_HELD\n6 in fix 1 F_DONE\nend 6 2\n",
         written: "> UDP $PLAIN [id=7]; > UDP $PLAIN [id=7]" },
-    // After a clash the datagram begins anew with the next fragment.
+    // After a clash the next fragment begins the datagram again.
     Row { options: "", before: NOTHING,
         packets: "> UDP $PLAIN [id=7 part=0..16]; > UDP $OTHER [id=7 part=8..24]; > UDP $OTHER [id=7 part=8..24]; > UDP $PLAIN [id=7 part=0..8]",
         report: "1 in hold 0 F_HELD\n2 in drop 0 F_CLASH\n3 in hold 0 F_HELD\n4 in fix 1 F_DONE\nend 4 1\n", written: "> UDP $OTHER [id=7]" },
@@ -29,7 +29,7 @@ const DATAGRAMS: &[Row] = &[
         packets: "> UDP $PLAIN [id=7 part=0..16]; > UDP $OTHER [id=8 part=16..24]; > UDP $PLAIN [id=7 part=16..24]; > UDP $OTHER [id=8 part=0..16]",
         report: "1 in hold 0 F_HELD\n2 in hold 0 F_HELD\n3 in fix 1 F_DONE\n4 in fix 1 F_DONE\nend 4 2\n",
         written: "> UDP $PLAIN [id=7]; > UDP $OTHER [id=8]" },
-    // Another protocol and the other direction make other datagrams.
+    // Fragments of another protocol or of the other direction belong to other datagrams.
     Row { options: "", before: NOTHING,
         packets: "> UDP $PLAIN [id=7 part=0..16]; > ICMP 0x0000ffff+0x00*4 [id=7 at=16]; < UDP $PLAIN [id=7 part=16..24]; \
             > UDP $PLAIN [id=7 part=16..24]; < UDP $PLAIN [id=7 part=0..16]",
@@ -46,7 +46,7 @@ const DATAGRAMS: &[Row] = &[
         packets: "> ICMP 0x0000ffff+0x00*65500 [id=7 at=0+]; > UDP $PLAIN [id=8 part=16..24]; > ICMP 0x00*11 [id=7 at=65504]; \
             > UDP $PLAIN [id=8 part=16..24]",
         report: "1 in hold 0 F_HELD\n2 in drop 0 F_ROOM\n3 in fix 1 F_DONE\n4 in hold 0 F_HELD\nend 4 1\n", written: "> ICMP 0x0000ffff+0x00*65511 [id=7]" },
-    // One cell is free: fragments within the blocks that are held need none, another block needs one, also where it would complete its datagram.
+    // One cell is free: fragments in held blocks need none, another block needs one, also to complete its datagram.
     Row { options: "--frag-cells=256", before: NOTHING,
         packets: "> ICMP 0x0000ffff+0x00*65276 [id=7 at=0+]; > UDP a*9 [id=8 at=248]; > UDP a*8 [id=8 at=248+]; > UDP a*8 [id=8 at=240+]; \
             > UDP a [id=8 at=256]; > ICMP a [id=7 at=65280]",
@@ -58,19 +58,19 @@ const DATAGRAMS: &[Row] = &[
             > UDP $PLAIN [id=7 part=8..16 t=1]; > UDP $PLAIN [id=7 part=16..24 t=2]; > UDP $PLAIN [id=7 part=0..16 t=3]",
         report: "1 in hold 0 F_HELD\n2 in hold 0 F_HELD\n3 in fix 1 F_DONE\n4 in hold 0 F_HELD\n5 in hold 0 F_HELD\n6 in fix 1 F_DONE\nend 6 2\n",
         written: "> UDP $PLAIN [id=8 t=1]; > UDP $PLAIN [id=7 t=3]" },
-    // Every record moves the time on, and none moves it back.
+    // Every record may advance the time, and none sets it back.
     Row { options: "--frag-time=1", before: NOTHING, packets: "> UDP $PLAIN [id=7 part=0..16]; > IGMP [t=2]; > UDP $PLAIN [id=7 part=16..24]",
         report: "1 in hold 0 F_HELD\n2 in drop 0 P_PROTO\n3 in hold 0 F_HELD\nend 3 0\n", written: "" },
-    // A whole datagram that a rule drops is no longer held.
+    // A complete datagram that a rule drops is no longer held.
     Row { options: "", before: NOTHING,
         packets: "> UDP $WRONG [id=7 part=0..8]; > UDP $WRONG [id=7 part=8..10]; > UDP $WRONG [id=7 part=8..10]; > UDP $SUMMED [id=7 part=0..8]",
         report: "1 in hold 0 F_HELD\n2 in drop 0 U_SUM\n3 in hold 0 F_HELD\n4 in fix 1 F_DONE\nend 4 1\n", written: "> UDP $SUMMED [id=7]" },
-    // With offload an outbound UDP checksum is filled in; an inbound one is not.
+    // With `--offload` an outbound UDP checksum is computed again; an inbound one is not.
     Row { options: "--offload", before: NOTHING, packets: "< UDP $WRONG [id=7 part=8..10]; < UDP $WRONG [id=7 part=0..8]",
         report: "1 out hold 0 F_HELD\n2 out fix 1 F_DONE U_SUM_OUT\nend 2 1\n", written: "< UDP $SUMMED [id=7]" },
     Row { options: "--offload", before: NOTHING, packets: "> UDP $WRONG [id=7 part=8..10]; > UDP $WRONG [id=7 part=0..8]",
         report: "1 in hold 0 F_HELD\n2 in drop 0 U_SUM\nend 2 0\n", written: "" },
-    // A whole ICMP message with a wrong checksum, and one of a type that is dropped.
+    // A reassembled ICMP message with a wrong checksum, and one of a type that is dropped.
     Row { options: "", before: NOTHING,
         packets: "> ICMP 0x0000ffff0000000001 [id=7 part=0..8]; > ICMP 0x0000ffff0000000001 [id=7 part=8..9]; \
             > ICMP 0x0500faff0000000000 [id=7 part=0..8]; > ICMP 0x0500faff0000000000 [id=7 part=8..9]",
@@ -79,19 +79,19 @@ const DATAGRAMS: &[Row] = &[
 
 #[rattlefmt::skip]
 const DROPPED: &[Row] = &[
-    // DF is dropped on a later fragment and kept on the first.
+    // A fragment with DF is dropped at an offset above 0; at offset 0 it is held, and the datagram has DF.
     Row { options: "", before: NOTHING, packets: "> UDP $PLAIN [id=7 part=0..16 DF]; > UDP $PLAIN [id=7 part=16..24 DF]; > UDP $PLAIN [id=7 part=16..24]",
         report: "1 in hold 0 F_HELD\n2 in drop 0 F_DF\n3 in fix 1 F_DONE\nend 3 1\n", written: "> UDP $PLAIN [id=7 DF]" },
-    // The first rule that holds of the fragment alone.
+    // Only the first rule that holds of a fragment is named.
     Row { options: "", before: NOTHING,
         packets: "> UDP [id=7 at=8 DF]; > UDP [id=7 at=8]; > UDP [id=7 at=0+]; > UDP a*9 [id=7 at=0+]; > UDP aaaa [id=7 at=65512+]; \
             > UDP a*8 [id=7 at=65512+]",
         report: "1 in drop 0 F_DF\n2 in drop 0 F_EMPTY\n3 in drop 0 F_EMPTY\n4 in drop 0 F_ALIGN\n5 in drop 0 F_ALIGN\n6 in drop 0 F_BIG\nend 6 0\n",
         written: "" },
-    // The longest datagram ends at 65,515.
+    // The longest datagram ends at offset 65,515.
     Row { options: "", before: NOTHING, packets: "> UDP aaa [id=7 at=65512]; > UDP aaaa [id=8 at=65512]",
         report: "1 in hold 0 F_HELD\n2 in drop 0 F_BIG\nend 2 0\n", written: "" },
-    // Octets past the end of the last fragment, which differ too; the datagram is forgotten.
+    // A fragment past the end of the last fragment, which also differs in octets; the datagram is forgotten.
     Row { options: "", before: NOTHING,
         packets: "> UDP $PLAIN [id=7 part=16..24]; > UDP b*16 [id=7 at=16+]; > UDP $PLAIN [id=7 part=0..16]; > UDP $PLAIN [id=7 part=16..24]",
         report: "1 in hold 0 F_HELD\n2 in drop 0 F_END\n3 in hold 0 F_HELD\n4 in fix 1 F_DONE\nend 4 1\n", written: "> UDP $PLAIN [id=7]" },
@@ -106,7 +106,7 @@ const DROPPED: &[Row] = &[
     Row { options: "", before: NOTHING,
         packets: "> UDP a*8 [id=7 at=8+]; > UDP a*7 [id=7 at=8]; > UDP a*8 [id=7 at=8+]; > UDP a*8 [id=7 at=8]; > UDP a*7 [id=7 at=8]",
         report: "1 in hold 0 F_HELD\n2 in drop 0 F_END\n3 in hold 0 F_HELD\n4 in hold 0 F_HELD\n5 in drop 0 F_END\nend 5 0\n", written: "" },
-    // Rules of the header come before those of fragments.
+    // Rules on the header are tested before those on fragments.
     Row { options: "", before: NOTHING,
         packets: "> UDP $PLAIN [id=7 part=0..16 ipopt=0x83030400]; > IGMP $PLAIN [id=7 part=0..16]; > UDP $PLAIN [id=7 part=16..24]",
         report: "1 in drop 0 I_ROUTE\n2 in drop 0 P_PROTO\n3 in hold 0 F_HELD\nend 3 0\n", written: "" },
@@ -114,7 +114,7 @@ const DROPPED: &[Row] = &[
 
 #[rattlefmt::skip]
 const REWRITTEN: &[Row] = &[
-    // The rules that rewrite the last fragment alone are named.
+    // Of the rules that rewrite fragments only those of the completing fragment are named.
     Row { options: "", before: NOTHING, packets: "> UDP $PLAIN [id=7 part=0..16]; > UDP $PLAIN [id=7 part=16..24 ttl=1 RF ipopt=0x01010101 trail=zz]",
         report: "1 in hold 0 F_HELD\n2 in fix 1 I_TRAIL I_OPT I_RES F_DONE\nend 2 1\n", written: "> UDP $PLAIN [id=7]" },
     Row { options: "", before: NOTHING, packets: "> UDP $PLAIN [id=7 part=16..24 ttl=1 RF ipopt=0x01010101 trail=zz]; > UDP $PLAIN [id=7 part=0..16]",
@@ -127,7 +127,7 @@ const REWRITTEN: &[Row] = &[
         written: "> UDP $PLAIN [id=7 ttl=31 tos=2]" },
     Row { options: "", before: NOTHING, packets: "> UDP $PLAIN [id=7 part=16..24 ttl=1 tos=1]; > UDP $PLAIN [id=7 part=0..16 ttl=31 tos=2 DF]",
         report: "1 in hold 0 F_HELD\n2 in fix 1 F_DONE\nend 2 1\n", written: "> UDP $PLAIN [id=7 ttl=31 tos=2 DF]" },
-    // An outbound TTL stays.
+    // An outbound TTL is unchanged.
     Row { options: "", before: NOTHING, packets: "< UDP $PLAIN [id=7 part=0..16 ttl=1]; < UDP $PLAIN [id=7 part=16..24 trail=z]",
         report: "1 out hold 0 F_HELD\n2 out fix 1 I_TRAIL F_DONE\nend 2 1\n", written: "< UDP $PLAIN [id=7 ttl=1]" },
 ];
@@ -166,7 +166,7 @@ const SEGMENTS: &[Row] = &[
         report: "4 in hold 0 F_HELD\n5 in drop 0 T_SUM\n6 in pass 1 @1\nend 6 4\n", written: "> PA 1000,5001 good" },
     Row { options: "--offload", before: NOTHING, packets: "< A 5001,1000 [id=7 part=0..16 sum=0]; < A 5001,1000 [id=7 part=16..20 sum=0]",
         report: "1 out hold 0 F_HELD\n2 out fix 1 F_DONE T_SUM_OUT @1 +1\nend 2 1\n", written: "< A 5001,1000 [id=7]" },
-    // With a full table the note comes before the rules that rewrite.
+    // With a full table the note precedes the rules that rewrite.
     Row { options: "--flows=1", before: OPENED,
         packets: "> PA 1000,5001 a; < S 7000 [port=40003 id=7 part=0..16]; < S 7000 [port=40003 id=7 part=16..20]; \
             > S 999 [port=40003 id=7 part=0..16]; > S 999 [port=40003 id=7 part=16..20]",
@@ -179,7 +179,7 @@ const SEGMENTS: &[Row] = &[
         report: "1 in hold 0 F_HELD\n2 in drop 0 M_QUOTE\nend 2 0\n", written: "" },
 ];
 
-/// Tests each row with each seed.
+/// Tests each case with each seed.
 fn each_holds(rt: &impl Abort, alloc: Global, rows: &[Row]) -> Result<(), Fail> {
     for row in rows {
         let packets = row.packets;
@@ -210,7 +210,7 @@ fn reassembled_segments_belong_to_connections(rt: HostRuntime) -> Result<(), Fai
     each_holds(&rt, rt.alloc(), SEGMENTS)
 }
 
-/// The packets of Ethernet frames, the report, and the output packets.
+/// A test case: the packets of Ethernet frames, the report, and the output packets.
 struct Framed {
     packets: &'static str,
     report: &'static str,
@@ -229,7 +229,7 @@ const FRAMED: &[Framed] = &[
         report: "norm 2\n1 in hold 0 F_HELD\n2 in fix 1 F_DONE C_PROBE\nend 2 1\n", written: "> A 999,5001 [mac=2 id=7 ttl=40]" },
 ];
 
-/// Tests each capture of frames.
+/// Tests each case.
 fn each_is_framed(rt: &impl Abort, alloc: Global, rows: &[Framed]) -> Result<(), Fail> {
     let words = words_of(alloc, "", "")?;
     for row in rows {
@@ -248,7 +248,7 @@ fn datagrams_have_the_link_header_of_their_last_fragment(rt: HostRuntime) -> Res
     each_is_framed(&rt, rt.alloc(), FRAMED)
 }
 
-/// Fragments octet for octet: eight octets in the middle, and the last eight with every mark of an IPv4 header.
+/// Fragments and their octets: eight octets in the middle, and the last eight with every mark of an IPv4 header.
 #[rattlefmt::skip]
 const SPELLED: &[(&str, &str)] = &[
     ("> UDP $PLAIN [id=7 part=8..16]", "0x4500001c000720014011268ec63364070a000001+0x6161616161616161"),

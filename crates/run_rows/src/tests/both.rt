@@ -7,7 +7,7 @@ use std::alloc::Global;
 use std::process::Abort;
 use std::test::Fail;
 
-/// The input packets, the report without its first line, and the output packets without those of `before`.
+/// A test case: the input packets, the report without its first line, and the output packets without those of `before`.
 struct Row {
     before: Before,
     packets: &'static str,
@@ -33,7 +33,7 @@ const ROWS: &[Row] = &[
             4 in drop 0 T_RST @1\n5 in pass 1 @1\n/4 out pass 1 @1\nend 5 4\n" },
 ];
 
-/// Tests a row in a run with these words.
+/// Tests a case in a run with these words.
 fn tells(rt: &impl Abort, alloc: Global, words: &[&str], row: &Row) -> Result<(), Fail> {
     let (first, lines) = (row.before.packets, row.report);
     let file = capture_of(alloc, first, row.packets)?;
@@ -46,7 +46,7 @@ fn tells(rt: &impl Abort, alloc: Global, words: &[&str], row: &Row) -> Result<()
     Ok(())
 }
 
-/// Tests each row with each seed.
+/// Tests each case with each seed.
 fn each_tells(rt: &impl Abort, alloc: Global, rows: &[Row]) -> Result<(), Fail> {
     for row in rows {
         for seed in SEEDS {

@@ -32,12 +32,12 @@ const ROWS: &[Row] = &[
     // A segment without a connection becomes a probe; the answer begins an era.
     Row { options: "", before: NOTHING, packets: "> PA 1000,5001 abcd; < A 5001,1000; > PA 1000,5001 abcd",
         report: "1 in fix 1 C_PROBE\n2 out pass 1 @1 +1\n3 in pass 1 @1\nend 3 3\n", written: "> A 999,5001; < A 5001,1000; > PA 1000,5001 abcd" },
-    // A reset in place, with its probe, and one below the acknowledged offset.
+    // A RST with the next sequence number, which a probe follows, and one below the acknowledged offset.
     Row { options: "", before: OPENED, packets: "> R 1000; < A 5001,1000; > PA 1000,5001 abcd",
         report: "4 in fix 2 C_PROBE @1\n5 out pass 1 @1\n6 in pass 1 @1\nend 6 7\n", written: "> R 1000; > A 999,5001; < A 5001,1000; > PA 1000,5001 abcd" },
     Row { options: "", before: OPENED, packets: "> PA 1000,5001 abcd; < A 5001,1004; > R 1003",
         report: "4 in pass 1 @1\n5 out pass 1 @1\n6 in drop 0 T_RST @1\nend 6 5\n", written: "> PA 1000,5001 abcd; < A 5001,1004" },
-    // A stream has one end.
+    // A stream has one end: payloads and FINs that disagree with it are rewritten.
     Row { options: "", before: OPENED, packets: "> PA 1004,5001 efgh; > FA 1000,5001 abcd; > FA 1008,5001; > FA 1009,5001; > A 1008,5001 ij",
         report: "4 in pass 1 @1\n5 in fix 1 T_END @1\n6 in pass 1 @1\n7 in fix 1 T_END @1\n8 in fix 1 T_END @1\nend 8 8\n",
         written: "> PA 1004,5001 efgh; > A 1000,5001 abcd; > FA 1008,5001; > A 1009,5001; > A 1008,5001" },
@@ -50,7 +50,7 @@ const ROWS: &[Row] = &[
         report: "1 in pass 1 @1 +1\n2 in pass 1 @2 +2 -1:evicted:0\n3 out pass 1 @2\n4 in pass 1 @2\n5 in drop 0 T_FULL\n6 out pass 1 T_FULL\n\
             end 6 5\n",
         written: "> S 999; > S 999 [port=40001]; < SA 5000,1000 [port=40001]; > PA 1000,5001 a [port=40001]; < S 7000 [port=40003]" },
-    // An idle era ends before the record is judged, so another one can begin.
+    // An idle era ends before the record is judged, so another era can begin.
     Row { options: "--flows=1 --idle=1", before: OPENED, packets: "> PA 1000,5001 a; > S 999 [port=40001 t=9]",
         report: "4 in pass 1 @1\n5 in pass 1 @2 +2 -1:idle:1\nend 5 5\n", written: "> PA 1000,5001 a; > S 999 [port=40001 t=9]" },
     // Streams past 2^31 and past 2^32 octets.
@@ -63,22 +63,22 @@ const ROWS: &[Row] = &[
         written: "< A 5001,2147484647; < A 5001,998; > PA 998,5001 wxyz; < A 5001,1001; > PA 1001,5001 zcd" },
     // A second SYN.
     Row { options: "", before: OPENED, packets: "> S 7000", report: "4 in drop 1 T_SYN @1\nend 4 4\n", written: "> A 999,5001" },
-    // An outbound reset ends the era.
+    // An outbound RST ends the era.
     Row { options: "", before: OPENED, packets: "< R 5001; > A 1000,5001",
         report: "4 out pass 1 @1 -1:reset:0\n5 in fix 1 C_PROBE\nend 5 5\n", written: "< R 5001; > A 999,5001" },
     // A SYN after a closed connection.
     Row { options: "", before: REQUEST, packets: "> S 70000", report: "11 in pass 1 @2 +2 -1:reopened:18\nend 11 11\n", written: "> S 70000" },
-    // Every mark of a TCP header that is rewritten.
+    // Every field of a TCP header that is rewritten.
     Row { options: "", before: OPENED, packets: "> PA 1000,5001 abcd [res=1 urg=2 opt=0xfe04aabb]",
         report: "4 in fix 1 T_RES T_URG T_OPT @1\nend 4 4\n", written: "> PA 1000,5001 abcd [opt=0x01010101]" },
-    // An inside host opens a connection; the answer is right, wrong, a reset.
+    // An inside host opens a connection; the answer is right, wrong, a RST.
     Row { options: "", before: NOTHING, packets: "< S 5000; > SA 999,5001; < A 5001,1000; > PA 1000,5001 abcd",
         report: "1 out pass 1 @1 +1\n2 in pass 1 @1\n3 out pass 1 @1\n4 in pass 1 @1\nend 4 4\n",
         written: "< S 5000; > SA 999,5001; < A 5001,1000; > PA 1000,5001 abcd" },
     Row { options: "", before: NOTHING, packets: "< S 5000; > SA 999,7000; > RA 0,5001",
         report: "1 out pass 1 @1 +1\n2 in drop 1 T_STATE @1\n3 in fix 2 C_PROBE @1\nend 3 4\n",
         written: "< S 5000; > A 998,7000; > RA 0,5001; > A 4294967295,5001" },
-    // An era ends that was idle for more than an hour.
+    // An era ends that was idle for more than 3,600 seconds.
     Row { options: "", before: NOTHING, packets: "> S 999; > UDP $SUMMED [t=3600]; > UDP $SUMMED [t=3601]",
         report: "1 in pass 1 @1 +1\n2 in pass 1\n3 in pass 1 -1:idle:0\nend 3 3\n", written: "> S 999; > UDP $SUMMED [t=3600]; > UDP $SUMMED [t=3601]" },
     // ICMP messages; the last one quotes a connection.
@@ -101,7 +101,8 @@ fn connections_are_normalized(rt: HostRuntime) -> Result<(), Fail> {
     each_holds(&rt, rt.alloc(), ROWS)
 }
 
-/// Packets octet for octet: a SYN, a UDP message with three TTLs, a segment with four octets and its differing retransmission, and a probe.
+/// Packets and their octets: a SYN, a UDP message with three TTLs, a segment with four octets and its differing
+/// retransmission, and a probe.
 #[rattlefmt::skip]
 const SPELLED: &[(&str, &str)] = &[
     ("> S 999", "0x450000280001000040064694c63364070a000001+0x9c400050000003e70000000050022000bb2f0000"),

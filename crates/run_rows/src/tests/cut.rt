@@ -1,19 +1,19 @@
-//! Whole runs with an MTU of 576 octets, the least that every host accepts (RFC 791 section 3.1).
+//! Whole runs with an MTU of 576 octets: every host accepts packets of this length (RFC 791 section 3.1).
 
 use super::each_holds;
 use crate::rows::{NOTHING, OPENED, Row};
 use crate::runs::{HEAD, NONE, change, ended_run};
 use std::test::Fail;
 
-/// A packet carries 536 octets after two headers of 20.
+/// With this MTU a packet has at most 536 octets after two headers of 20 octets.
 const CUT: &str = "--mtu 576";
 
 #[rattlefmt::skip]
 const ROWS: &[Row] = &[
-    // An inbound segment of 1,100 octets; PSH stands on the last piece alone.
+    // An inbound segment of 1,100 octets; only the last segment has PSH.
     Row { options: CUT, before: OPENED, packets: "> PA 1000,5001 a*1100",
         report: "4 in fix 3 E_CUT @1\nend 4 6\n", written: "> A 1000,5001 a*536; > A 1536,5001 a*536 [id=2]; > PA 2072,5001 a*28 [id=3]" },
-    // 576 octets are not long. One more gives a last piece of one octet, with the FIN.
+    // A packet of 576 octets is not cut. One more octet gives a last segment of one octet, with the FIN.
     Row { options: CUT, before: OPENED, packets: "> PA 1000,5001 a*536; > FA 1536,5001 a*537",
         report: "4 in pass 1 @1\n5 in fix 2 E_CUT @1\nend 5 6\n", written: "> PA 1000,5001 a*536; > A 1536,5001 a*536; > FA 2072,5001 a [id=2]" },
     // An outbound segment, and one that is rewritten and cut.

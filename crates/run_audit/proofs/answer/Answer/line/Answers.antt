@@ -4,7 +4,7 @@ use Rattle.rule_book.specs.Text.{part}
 use Rattle.run_audit.specs.Answers.{line_of}
 use Rattle.run_audit.proofs.answer.Answer.line.Goals as goal
 
--- two words behind a first one, and the line feed
+-- three words and the line feed
 spaced : (first second third : List ℕ) → (first ++ (second ++ (32 ∷ (third ++ 10 ∷ [])))) ≡ (((first ++ second) ++ part third) ++ 10 ∷ [])
 spaced first second third = sym (append_assoc (first ++ second) (part third) (10 ∷ []) ∙ append_assoc first second (part third ++ 10 ∷ []))
 
