@@ -1,0 +1,4 @@
+pub mod Fronts
+pub mod Runs
+pub mod Packets
+pub mod Frames

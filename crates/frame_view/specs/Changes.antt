@@ -1,0 +1,105 @@
+-- What differs between a record and a frame that was written for it: the fields in which they say something else, in order, with what both say.
+use Rattle.std.specs.Prelude.{ℕ, suc, ◌+◌, ◌-◌, ◌^◌, ◌%◌, ◌==◌, nat_le, Bool, true, false, List, [], ◌∷◌, map, length, take, drop, Option, option_map, string_bytes, if◌then◌else◌}
+use Rattle.std.specs.List.{flat_map}
+use Rattle.std.specs.Str.{bytes_eq}
+use Rattle.hex.specs.Hex.{encode_lower}
+use Rattle.wire_base.specs.declared.address.Link.{Link}
+use Rattle.frame_view.specs.Parts.{payload_of}
+use Rattle.frame_view.specs.Readings.{fields, reading}
+use Rattle.frame_view.specs.declared.change.Change.{Change}
+use Rattle.frame_view.specs.declared.change.Change.TheVariants.{InField, InPayload}
+use Rattle.frame_view.specs.declared.change.PayloadChange.{PayloadChange}
+use Rattle.frame_view.specs.declared.change.Replaced.{Replaced}
+use Rattle.frame_view.specs.declared.field.Field.{Field}
+use Rattle.frame_view.specs.declared.field.Field.TheVariants.{Sequence, Payload}
+use Rattle.frame_view.specs.Texts.{reading_text}
+
+-- a run of octets that were replaced by as many others: the offset of the first, and both in hexadecimal digits
+pub record PlainReplaced : Type 0 where
+  pub at : ℕ
+  pub from : List ℕ
+  pub to : List ℕ
+
+-- what differs in a payload: octets cut off at its front and at its end, octets behind its end, and octets replaced
+pub record PlainPayload : Type 0 where
+  pub front : ℕ
+  pub end : ℕ
+  pub longer : ℕ
+  pub replaced : List PlainReplaced
+
+-- what differs in one field: the number of the frame, and the texts of both values, where there is one; the payload has a form of its own
+pub data PlainChange : Type 0 where
+  in_field : (frame : ℕ) → Field → (from to : Option (List ℕ)) → PlainChange
+  in_payload : (frame : ℕ) → PlainPayload → PlainChange
+
+abbrev pub plain_replaced : Replaced → PlainReplaced
+plain_replaced run = record { at = run.at; from = string_bytes run.from; to = string_bytes run.to }
+
+abbrev pub plain_payload : PayloadChange → PlainPayload
+plain_payload change = record { front = change.front; end = change.end; longer = change.longer; replaced = map plain_replaced change.replaced.items }
+
+-- a change in which each collection is a list
+abbrev pub plain : Change → PlainChange
+plain (InField frame field from to) = in_field frame field (option_map string_bytes from) (option_map string_bytes to)
+plain (InPayload frame change) = in_payload frame (plain_payload change)
+
+-- how many octets at the front of two lists differ
+abbrev pub differing : List ℕ → List ℕ → ℕ
+differing [] to = 0
+differing (x ∷ from) [] = 0
+differing (x ∷ from) (y ∷ to) = if x == y then 0 else suc (differing from to)
+
+-- the runs of octets that differ; `at` is the offset of both fronts, and `inside` says that the octets before them differ
+abbrev pub runs : (inside : Bool) → (at : ℕ) → (from to : List ℕ) → List PlainReplaced
+runs inside at [] to = []
+runs inside at (x ∷ from) [] = []
+runs inside at (x ∷ from) (y ∷ to) =
+    if x == y then runs false (at + 1) from to
+    else if inside then runs true (at + 1) from to
+    else
+    record {
+      at = at;
+      from = encode_lower (take (differing (x ∷ from) (y ∷ to)) (x ∷ from));
+      to = encode_lower (take (differing (x ∷ from) (y ∷ to)) (y ∷ to));
+    }
+    ∷ runs true (at + 1) from to
+
+-- a number, or 0 where it is above a limit
+abbrev pub within : (limit : ℕ) → ℕ → ℕ
+within limit n = if nat_le n limit then n else 0
+
+-- how far the sequence number of a frame is ahead of the record's, modulo 2^32 (RFC 9293 section 3.4), where both have one and it is at most a limit; else 0
+abbrev pub ahead : (limit : ℕ) → (from to : List ℕ) → ℕ
+ahead limit [] to = 0
+ahead limit (first ∷ more) [] = 0
+ahead limit (first ∷ more) (second ∷ others) = within limit ((second + 2 ^ 32 - first) % 2 ^ 32)
+
+-- how many octets are cut off at the front of a record's payload
+abbrev pub cut_at_front : Link → (octets frame : List ℕ) → ℕ
+cut_at_front link octets frame = ahead (length (payload_of link octets)) (reading link Sequence octets) (reading link Sequence frame)
+
+-- what differs in a payload of which so many octets are cut off at the front
+abbrev pub payload_change : (front : ℕ) → (from to : List ℕ) → PlainPayload
+payload_change front from to =
+    record {
+      front = front;
+      end = length (drop front from) - length to;
+      longer = length to - length (drop front from);
+      replaced = runs false front (drop front from) to;
+    }
+
+-- what differs in a field
+abbrev pub change_in : Link → (number : ℕ) → (octets frame : List ℕ) → Field → PlainChange
+change_in link number octets frame Payload =
+    in_payload number (payload_change (cut_at_front link octets frame) (payload_of link octets) (payload_of link frame))
+change_in link number octets frame field =
+    in_field number field (reading_text field (reading link field octets)) (reading_text field (reading link field frame))
+
+-- what differs in a field, where a record and a frame say something else in it
+abbrev pub changes_in : Link → (number : ℕ) → (octets frame : List ℕ) → Field → List PlainChange
+changes_in link number octets frame field =
+    if bytes_eq (reading link field octets) (reading link field frame) then [] else change_in link number octets frame field ∷ []
+
+-- what differs between a record and the frame of this number: the fields in which they say something else, in order
+abbrev pub changes_of : Link → (number : ℕ) → (octets frame : List ℕ) → List PlainChange
+changes_of link number octets frame = flat_map (changes_in link number octets frame) fields

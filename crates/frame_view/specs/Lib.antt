@@ -1,0 +1,7 @@
+pub mod Parts
+pub mod Readings
+pub mod Flows
+pub mod Changes
+pub mod Texts
+pub mod Shapes
+pub mod Laws

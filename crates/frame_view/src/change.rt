@@ -1,0 +1,149 @@
+//! What differs between a record and a frame that was written for it.
+ghost use Rattle.std.specs.Prelude.{◌≡◌, ◌++◌, map, OnOk, IfOk};
+ghost use Rattle.frame_view.specs.Changes.{changes_of, plain};
+ghost use Rattle.frame_view.specs.Changes as spec;
+ghost use Rattle.frame_view.specs.Readings.{reading};
+ghost use Rattle.frame_view.specs.Shapes.{AreAlike, plain_reading};
+ghost use Rattle.std.specs.Str.{bytes_eq};
+
+use crate::Field;
+use crate::field::FIELDS;
+use crate::payload::payload_change;
+use crate::reading::{Reading, read_field};
+use crate::text::text_of;
+use edge_io::NoMemory;
+use std::alloc::Global;
+use wire_base::Link;
+
+/// A run of octets that were replaced by as many others.
+#[derive(Debug, Drop)]
+pub struct Replaced {
+    /// The offset of the first octet in the record's payload.
+    pub at: usize,
+    /// The octets of the record, in hexadecimal digits.
+    pub from: String,
+    /// The octets of the frame, in hexadecimal digits.
+    pub to: String,
+}
+
+/// What differs in a payload; numbers are counts of octets.
+#[derive(Debug, Drop)]
+pub struct PayloadChange {
+    /// Octets cut off at the front.
+    pub front: usize,
+    /// Octets cut off at the end.
+    pub end: usize,
+    /// Octets behind the end of the record's payload.
+    pub longer: usize,
+    pub replaced: Vec<Replaced>,
+}
+
+/// What differs in one field; `frame` is the number of the frame, from 1.
+#[derive(Debug, Drop)]
+pub enum Change {
+    /// The texts of what the record and the frame say, None where they say nothing.
+    InField {
+        frame: u32,
+        field: Field,
+        from: Option<String>,
+        to: Option<String>,
+    },
+    /// The payload differs.
+    InPayload {
+        frame: u32,
+        payload: PayloadChange,
+    },
+}
+
+// Returns whether two readings are the same.
+fn same(one: Reading<'_>, other: Reading<'_>) -> bool
+    requires { AreAlike one other }
+    ensures { result ≡ bytes_eq (plain_reading one.entry) (plain_reading other.entry) }
+{
+    match (one, other) {
+        (Reading::Number(one), Reading::Number(other)) => one == other,
+        (Reading::Octets(one), Reading::Octets(other)) => one == other,
+        (Reading::Absent, Reading::Absent) => true,
+        (Reading::Absent, Reading::Octets(octets)) | (Reading::Octets(octets), Reading::Absent) =>
+            octets.is_empty(),
+        _ => false,
+    }
+}
+
+// A record and a frame with this number that was written for it.
+#[derive(Clone, Copy)]
+struct Pair<'a> {
+    link: Link,
+    octets: &'a [u8],
+    frame: &'a [u8],
+    number: u32,
+}
+
+// Returns what differs in a field.
+fn change_in(alloc: Global, pair: &Pair<'_>, field: Field) -> Result<Change, NoMemory>
+    ensures { IfOk result (λ change. plain change ≡ spec.change_in pair.now.link pair.now.number pair.now.octets.now pair.now.frame.now field) }
+{
+    let frame = pair.number;
+    match field {
+        Field::Payload => Ok(Change::InPayload {
+            frame,
+            payload: payload_change(alloc, pair.link, pair.octets, pair.frame)?,
+        }),
+        _ => Ok(Change::InField {
+            frame,
+            field,
+            from: text_of(alloc, field, read_field(pair.link, field, pair.octets))?,
+            to: text_of(alloc, field, read_field(pair.link, field, pair.frame))?,
+        }),
+    }
+}
+
+// Returns whether a record and a frame say the same in a field.
+fn say_the_same(pair: &Pair<'_>, field: Field) -> bool
+    ensures { result ≡ bytes_eq (reading pair.now.link field pair.now.octets.now) (reading pair.now.link field pair.now.frame.now) }
+{
+    let one = read_field(pair.link, field, pair.octets);
+    let other = read_field(pair.link, field, pair.frame);
+    same(one, other)
+}
+
+// Adds what differs in a field, where something does.
+fn add_change(
+    alloc: Global,
+    pair: &Pair<'_>,
+    field: Field,
+    changes: &mut Vec<Change>,
+) -> Result<(), NoMemory>
+    ensures { OnOk result (map plain changes.new.items ≡ map plain changes.old.items
+        ++ spec.changes_in pair.now.link pair.now.number pair.now.octets.now pair.now.frame.now field) }
+{
+    if say_the_same(pair, field) {
+        return Ok(());
+    }
+    let change = change_in(alloc, pair, field)?;
+    changes.push(change)?;
+    Ok(())
+}
+
+/// Adds what differs between a record and the frame of this number, field by field.
+pub fn add_changes(
+    alloc: Global,
+    link: Link,
+    octets: &[u8],
+    frame: &[u8],
+    number: u32,
+    changes: &mut Vec<Change>,
+) -> Result<(), NoMemory>
+    ensures { OnOk result (map plain changes.new.items ≡ map plain changes.old.items ++ changes_of link number octets.now frame.now) }
+{
+    let pair = Pair {
+        link,
+        octets,
+        frame,
+        number,
+    };
+    for field in FIELDS {
+        add_change(alloc, &pair, field, changes)?;
+    }
+    Ok(())
+}

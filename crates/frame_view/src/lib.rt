@@ -1,0 +1,33 @@
+//! What the headers of a packet say, and what differs between a record and a frame that was written
+//! for it.
+//!
+//! Proved: `flow_of` returns the addresses, ports and marks that the headers of a frame's packet
+//! say, exactly where an IPv4 header can be read, and `length_of` the number of octets behind the
+//! last header that can be read. `add_changes` adds exactly the fields in which a record and a
+//! frame say something else, in the order of the headers, with the text of both values; of the
+//! payload the octets cut off at either end, those behind its end, and the runs replaced. What is
+//! said in the fields determines a frame: two frames of octets say the same in each exactly if they
+//! are equal, so that nothing differs exactly between equal frames (`laws`).
+//!
+//! Choices: header lengths, the data offset and the fragment offset are in octets. A TCP or UDP
+//! header is read only where it is whole, in a packet that is unfragmented or the first fragment;
+//! otherwise the payload begins behind the IPv4 header. Where no IPv4 header can be read, all
+//! octets behind the link header are payload. A total length above the octets that stand, or below
+//! the header length, is read as their number.
+#![tactic(auto)]
+
+pub mod change;
+pub mod field;
+pub mod flow;
+pub mod laws;
+mod parts;
+mod payload;
+mod reading;
+#[cfg(test)]
+mod tests;
+pub mod text;
+
+pub use change::{Change, PayloadChange, Replaced, add_changes};
+pub use field::Field;
+pub use flow::{Flow, Ports, TcpMarks, flow_of, length_of};
+pub use text::{put_address, put_flags};

@@ -1,0 +1,70 @@
+//! The texts that the program prints if its only word asks for them.
+
+/// The answer to `--version`.
+pub const VERSION: &str = "normview 0.1.0\n";
+
+/// The answer to `--help` and `-h`.
+pub const HELP: &str = "normview: what became of each record of a run of norm, and why
+
+usage: normview [OPTION..] IN OUT REPORT
+       normview --help | -h | --version
+
+  IN      the capture that norm run read: classic pcap or pcapng
+  OUT     the capture that it wrote
+  REPORT  its report, of version 1 or 2; one of a run with --both is refused
+
+The files are those of a finished run. They are read in step, a record at a time:
+memory grows with the eras alone. A summary is printed: verdicts by side, frames,
+each rule that was named with its number and a sentence, eras by their end; then a
+line for each era. norm-report(5) explains the words of a report.
+
+Options go before IN, each at most once, as --name=VALUE or --name VALUE. With one
+of the first three a line for each record that fits all of them is printed, and no
+summary:
+
+  --rule NAME  records whose line names this rule
+  --era E      records that belong to era E, begin it or end it: 1 to 4294967295
+  --only WORD  records with this verdict: pass, fix, hold or drop
+  --json       a JSON object for each of these records; without a choice for all records and eras
+
+The line of a record has these parts, those that it has not left out:
+
+  N TIME SIDE SRC:PORT > DST:PORT PROTO FLAGS seq S ack A len L VERDICT
+    era E RULE (sentence) frames F; frame I FIELD FROM > TO, FIELD FROM > TO; ..
+
+N is the record's number, L the octets of its payload. Of the F frames those are
+listed that differ from the record: frame I in each FIELD, from its value in the
+record to that in the frame, - for none. Of the payload it says how many octets
+were cut in front and at the end, how many the frame has more, and which were
+replaced, each with the offset in the record's.
+
+The line of an era has these:
+
+  era E SRC:PORT > DST:PORT FIRST LAST records N octets O END RULE ..
+
+FIRST and LAST are the times of its first and its last record, O the octets of its
+segments that went inwards, each time that they did, END live or why it ended.
+
+Status and last line:
+
+  0  none: all three files were read to their end
+  1  no record N: IN lacks record N of REPORT, or has one more than REPORT
+  1  no frame N: OUT lacks frame N of REPORT, or has one more than REPORT
+  2  stop words: the words are no words of a view; nothing is read
+  3  stop in KIND O, stop out KIND O: IN or OUT is no such capture, by its octets at offset O
+  3  stop out link 0: also where IN and OUT are not of the same network
+  4  stop in cut O, stop out cut O: IN or OUT ends inside its head, a record or a block
+  5  stop read: IN, OUT or REPORT could not be opened or read
+  7  none: the output could not be written, or was cut off
+  8  stop memory: memory could not be allocated
+  9  stop report N: REPORT is none of a finished run of one engine, by its line N
+
+KIND is magic, version, link, block, long or many, as in a report. What was printed
+before a last line stays.
+
+Examples:
+
+  normview in.pcap out.pcap report.txt
+  normview --rule T_CLASH in.pcap out.pcap report.txt
+  normview --json --only drop in.pcap out.pcap report.txt
+";

@@ -1,0 +1,13 @@
+pub mod Taking
+pub mod Tables
+pub mod Records
+pub mod Written
+pub mod Going
+pub mod Whys
+pub mod Ending
+pub mod Gathering
+pub mod Listing
+pub mod Counting
+pub mod Ons
+pub mod Starting
+pub mod Telling

@@ -1,0 +1,16 @@
+pub mod Words
+pub mod WordsMet
+pub mod Lines
+pub mod Stops
+pub mod SourceStops
+pub mod Standing
+pub mod Eras
+pub mod Rows
+pub mod Items
+pub mod Summary
+pub mod Steps
+pub mod View
+pub mod Printed
+pub mod SoFar
+pub mod Why
+pub mod Viewed

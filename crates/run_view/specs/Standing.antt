@@ -1,0 +1,105 @@
+-- Where the readers of the input and of the output stand (this project's profile). Records and frames are lists with the newest at the head. `all` is what a
+-- source had left at first, and `left` what it has left now, where it tells them.
+use Rattle.std.specs.Prelude.{◌≡◌, ◌≢◌, ◌⊎◌, ℕ, true, List, [], ◌∷◌, length, drop, Option, Some, None, Result, Ok, Err, IfSome}
+use Rattle.edge_io.specs.Faults.{Rose}
+use Rattle.wire_base.specs.declared.address.Link.{Link}
+use Rattle.pcap_file.specs.declared.head.Head.{Head}
+use Rattle.pcap_file.specs.declared.record.Record.{Record}
+use Rattle.pcap_file.specs.Heads.{head_of}
+use Rattle.pcap_file.specs.Records.{Packet}
+use Rattle.pcap_file.specs.Capture.{IsCapture, ReadsTo, offset_of}
+use Rattle.pcap_file.specs.Capture as capture
+use Rattle.pcap_file.specs.Flaws as classic
+use Rattle.pcap_file.specs.Reading.{Reading}
+use Rattle.pcap_file.specs.Reads.{shown}
+use Rattle.capture_input.specs.declared.fault.InputFault.{InputFault}
+use Rattle.capture_input.specs.declared.fault.InputFault.TheVariants as faults
+use Rattle.capture_input.specs.declared.input.Input.{Input}
+use Rattle.capture_input.specs.Faults.{of_flaw}
+use Rattle.capture_input.specs.Inputs.{Walk, packets_in, BeginsWith, HasFaultAt, Took, TookAll, TakenWhole}
+use Rattle.capture_input.specs.Reading.{Behind, head_in, is_open_in}
+use Rattle.run_view.specs.declared.stop.Stop.{Stop}
+use Rattle.run_view.specs.declared.stop.Stop.TheVariants as stops
+
+-- the input stands behind these records
+pub record InputAt (input : Input) (head : Head) (all left : Option (List ℕ)) (packets : List Packet) : Type 0 where
+  pub walk : Walk
+  pub took : Took None all left head walk
+  pub packets_are : packets_in walk ≡ packets
+  pub behind : Behind input None walk
+  pub head_is : head_in input ≡ head
+
+-- the input stands behind some records
+pub record IsBehind (input : Input) : Type 0 where
+  pub walk : Walk
+  pub behind : Behind input None walk
+
+-- the input was opened, and stands before its first record
+pub record InputOpened (input : Input) (all left : Option (List ℕ)) : Type 0 where
+  pub goes_on : is_open_in input ≡ true
+  pub stands : InputAt input (head_in input) all left []
+
+-- why no record was read of the input
+abbrev pub InputStops : (all : Option (List ℕ)) → (before now : ℕ) → Stop → Type 0
+InputStops all before now (stops.Input fault offset) = HasFaultAt None all fault offset
+InputStops all before now stops.Unread = Rose before now
+InputStops all before now _ = ⊥
+
+-- the next record was read of the input, or it is a capture of those before
+abbrev pub InputReads : (input : Input) (head : Head) (all left : Option (List ℕ)) (packets : List Packet) → Option Record → Type 0
+InputReads input head all left packets None = TookAll None all head packets
+InputReads input head all left packets (Some given) = InputAt input head all left (shown given ∷ packets)
+
+-- Where a source tells its octets, they begin with this head and these frames, and the rest is left.
+abbrev pub TookFrames : (all left : Option (List ℕ)) → Head → List Packet → Type 0
+TookFrames None left head frames = Unit {0}
+TookFrames (Some octets) None head frames = ⊥
+TookFrames (Some octets) (Some rest) head frames = (head_of octets ≡ Ok head) × ReadsTo head.order (drop 24 octets) frames rest
+
+-- the reader of the output stands behind these frames
+pub record OutputAt (reader : Reading) (head : Head) (all left : Option (List ℕ)) (frames : List Packet) : Type 0 where
+  pub took : TookFrames all left head frames
+  pub given_is : reader.given ≡ length frames
+  pub place_is : reader.place ≡ offset_of frames
+  pub head_is : reader.head ≡ head
+
+-- the output, where it is told, has this first fault, at this offset
+abbrev pub OutputFails : Option (List ℕ) → InputFault → (offset : ℕ) → Type 0
+OutputFails output fault offset = IfSome output (λ octets. (flaw : classic.Flaw) × (fault ≡ of_flaw flaw) × capture.FailsAt octets flaw offset)
+
+-- the octets begin with this head
+pub record HasHead (octets : List ℕ) (head : Head) : Type 0 where
+  pub walk : Walk
+  pub rest : List ℕ
+  pub begins : BeginsWith None octets head walk rest
+
+-- the output, where it is told, has a head of another link than this: a fault of the link at offset 0
+pub record IsOfOtherLink (link : Link) (output : Option (List ℕ)) (fault : InputFault) (offset : ℕ) : Type 0 where
+  pub head : Head
+  pub accepted : IfSome output (λ octets. head_of octets ≡ Ok head)
+  pub other : head.link ≢ link
+  pub fault_is : fault ≡ faults.Link
+  pub place : offset ≡ 0
+
+-- input and output, where they are told, have heads of different links
+pub record AreOfOtherLinks (input output : Option (List ℕ)) (fault : InputFault) (offset : ℕ) : Type 0 where
+  pub head : Head
+  pub begins : IfSome input (λ octets. HasHead octets head)
+  pub written : IsOfOtherLink head.link output fault offset
+
+-- why the head of the output was not read, or not taken where the input has this link
+abbrev pub OutputHeadStops : (link : Link) → (all : Option (List ℕ)) → (before now : ℕ) → Stop → Type 0
+OutputHeadStops link all before now (stops.Output fault offset) = OutputFails all fault offset ⊎ IsOfOtherLink link all fault offset
+OutputHeadStops link all before now stops.Unread = Rose before now
+OutputHeadStops link all before now _ = ⊥
+
+-- why no frame was read of the output
+abbrev pub OutputStops : (all : Option (List ℕ)) → (before now : ℕ) → Stop → Type 0
+OutputStops all before now (stops.Output fault offset) = OutputFails all fault offset
+OutputStops all before now stops.Unread = Rose before now
+OutputStops all before now _ = ⊥
+
+-- the next frame was read of the output, or it is a capture of those before
+abbrev pub OutputReads : (reader : Reading) (head : Head) (all left : Option (List ℕ)) (frames : List Packet) → Option Record → Type 0
+OutputReads reader head all left frames None = IfSome all (λ octets. IsCapture octets head frames)
+OutputReads reader head all left frames (Some given) = OutputAt reader head all left (shown given ∷ frames)

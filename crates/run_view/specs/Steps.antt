@@ -1,0 +1,96 @@
+-- What reading a record and its frames gives (this project's profile). Records and frames are lists with the newest at the head.
+use Rattle.std.specs.Prelude.{◌≡◌, ◌⊎◌, ℕ, ◌+◌, ◌<◌, ◌≤◌, true, List, ◌∷◌, ◌++◌, length, map, Option, None, IfSome}
+use Rattle.wire_base.specs.declared.address.Link.{Link}
+use Rattle.pcap_file.specs.declared.head.Head.{Head}
+use Rattle.pcap_file.specs.Records.{Packet}
+use Rattle.pcap_file.specs.Capture.{IsCapture}
+use Rattle.capture_input.specs.Inputs.{TookAll}
+use Rattle.capture_input.specs.Reading.{is_open_in}
+use Rattle.frame_view.specs.Changes.{plain}
+use Rattle.run_view.specs.Items.{begun_by, changes_in, flow_at, length_at, octets_in, time_of}
+use Rattle.run_view.specs.Standing.{InputAt, InputStops, IsBehind, OutputAt, OutputStops}
+use Rattle.run_view.specs.declared.item.Files.{Files}
+use Rattle.run_view.specs.declared.item.Frames.{Frames}
+use Rattle.run_view.specs.declared.item.Gathered.{Gathered}
+use Rattle.run_view.specs.declared.item.Shown.{Shown}
+use Rattle.run_view.specs.declared.stop.Stop.{Stop}
+use Rattle.run_view.specs.declared.stop.Stop.TheVariants as stops
+
+-- the next frame may be read
+pub record MayRead (frames : Frames) : Type 0 where
+  pub goes_on : frames.reader.is_open ≡ true
+
+-- the next record and the next frame may be read
+pub record IsReady (files : Files) : Type 0 where
+  pub goes_on : is_open_in files.input ≡ true
+  pub behind : IsBehind files.input
+  pub frames : MayRead files.frames
+
+-- this is gathered of these frames of a record
+pub record IsGathered (link : Link) (octets : List ℕ) (own : List Packet) (gathered : Gathered) : Type 0 where
+  pub changes : map plain gathered.changes.items ≡ changes_in link octets own
+  pub flow : gathered.flow ≡ begun_by link octets own
+  pub octets_are : gathered.octets ≡ octets_in link own
+
+-- one more frame of a record was read
+pub record FrameAdded (frames : Frames) (all left : Option (List ℕ)) (head : Head) (own older : List Packet) (link : Link) (octets : List ℕ) (gathered : Gathered) : Type 0 where
+  pub frame : Packet
+  pub stands : OutputAt frames.reader head all left (frame ∷ (own ++ older))
+  pub gathers : IsGathered link octets (frame ∷ own) gathered
+
+-- so many frames of a record were read
+pub record FramesRead (frames : Frames) (all left : Option (List ℕ)) (head : Head) (older : List Packet) (link : Link) (octets : List ℕ) (packets : ℕ) (gathered : Gathered) : Type 0 where
+  pub own : List Packet
+  pub count : length own ≡ packets
+  pub stands : OutputAt frames.reader head all left (own ++ older)
+  pub gathers : IsGathered link octets own gathered
+
+-- this is shown of a record with these frames
+pub record IsShown (head : Head) (packet : Packet) (own : List Packet) (shown : Shown) : Type 0 where
+  pub time : shown.time ≡ time_of head packet
+  pub flow : shown.flow ≡ flow_at head.link packet.octets
+  pub length_is : shown.length ≡ length_at head.link packet.octets
+  pub gathers : IsGathered head.link packet.octets own shown.gathered
+
+-- a record and so many frames were read
+pub record ItemRead (files : Files) (read written read_left written_left : Option (List ℕ)) (head : Head) (records frames : List Packet) (packets : ℕ) (shown : Shown) : Type 0 where
+  pub packet : Packet
+  pub own : List Packet
+  pub count : length own ≡ packets
+  pub input : InputAt files.input files.head read read_left (packet ∷ records)
+  pub output : OutputAt files.frames.reader head written written_left (own ++ frames)
+  pub shows : IsShown files.head packet own shown
+
+-- the output is a capture of these frames, and this is the number of the next
+pub record IsMissing (count : ℕ) (all : Option (List ℕ)) (head : Head) (behind : List Packet) (number : ℕ) : Type 0 where
+  pub whole : IfSome all (λ octets. IsCapture octets head behind)
+  pub place : number ≡ count + 1
+
+-- why the next frame was not read
+abbrev pub FrameStops : (frames : Frames) (all : Option (List ℕ)) (head : Head) (behind : List Packet) (before now : ℕ) → Stop → Type 0
+FrameStops frames all head behind before now (stops.Frame number) = IsMissing frames.count all head behind number
+FrameStops frames all head behind before now stops.Memory = Unit {0}
+FrameStops frames all head behind before now stop = OutputStops all before now stop
+
+-- a frame of a record is missing, behind these of its own
+pub record OwnMissing (count : ℕ) (all : Option (List ℕ)) (head : Head) (older : List Packet) (packets number : ℕ) : Type 0 where
+  pub own : List Packet
+  pub fewer : length own < packets
+  pub missing : IsMissing (count + length own) all head (own ++ older) number
+
+-- why the frames of a record were not read
+abbrev pub FramesStop : (frames : Frames) (all : Option (List ℕ)) (head : Head) (older : List Packet) (packets before now : ℕ) → Stop → Type 0
+FramesStop frames all head older packets before now (stops.Frame number) = OwnMissing frames.count all head older packets number
+FramesStop frames all head older packets before now stops.Memory = Unit {0}
+FramesStop frames all head older packets before now stop = OutputStops all before now stop
+
+-- the input is a capture of these records, and this is the number of the next
+pub record RecordMissing (files : Files) (read : Option (List ℕ)) (records : List Packet) (number : ℕ) : Type 0 where
+  pub whole : TookAll None read files.head records
+  pub place : number ≡ files.count + 1
+
+-- why a record and its frames were not read
+abbrev pub ItemStops : (files : Files) (read written : Option (List ℕ)) (head : Head) (records frames : List Packet) (packets read_before read_now written_before written_now : ℕ) → Stop → Type 0
+ItemStops files read written head records frames packets read_before read_now written_before written_now (stops.Record number) = RecordMissing files read records number
+ItemStops files read written head records frames packets read_before read_now written_before written_now stop =
+    InputStops read read_before read_now stop ⊎ FramesStop files.frames written head frames packets written_before written_now stop

@@ -1,0 +1,107 @@
+-- What a status of `view` says of the words, of the three sources and of the output (this project's profile). None of a source or of the output says that it
+-- tells no octets; then nothing is claimed of them.
+use Rattle.std.specs.Prelude.{◌≡◌, ◌⊎◌, ℕ, List, ◌++◌, length, Option, Some, None, IfSome}
+use Rattle.std.specs.Io.KnownBytes.{Appends}
+use Rattle.edge_io.specs.Faults.{Rose}
+use Rattle.edge_io.specs.Octets.{AppendsPart}
+use Rattle.pcap_file.specs.declared.head.Head.{Head}
+use Rattle.pcap_file.specs.Capture.{IsCapture}
+use Rattle.capture_input.specs.Inputs.{TookAll}
+use Rattle.rule_book.specs.Reports.{IsVersion}
+use Rattle.rule_book.specs.Text.{report_text}
+use Rattle.rule_book.specs.declared.last.Last.TheVariants.{End}
+use Rattle.run_view.specs.declared.stop.Stop as own
+use Rattle.run_view.specs.declared.stop.Stop.TheVariants as stops
+use Rattle.run_view.specs.declared.words.Asked.{Asked}
+use Rattle.run_view.specs.Items.{Item, AreItems, packets_of, entries_of, frames_of}
+use Rattle.run_view.specs.Stops.{line_of, status_of}
+use Rattle.run_view.specs.Why.{FaultCounts, StopWhy, counts_of}
+use Rattle.run_view.specs.Words.{asked_in}
+use Rattle.run_view.specs.View.{view_text_of}
+
+-- the octets are the report of a finished run with these items
+pub record Reports (octets : List ℕ) (version : ℕ) (items : List Item) : Type 0 where
+  pub known : IsVersion version
+  pub text : octets ≡ report_text version (entries_of items) (End (length items) (length (frames_of items)))
+
+-- The input is a capture of these records, the output a capture of these frames, and the report that of a finished run with these entries, each with the frames
+-- that it names; and exactly the text of them was printed.
+pub record ViewedAs (asked : Asked) (input output report old new : Option (List ℕ)) : Type 0 where
+  pub head : Head
+  pub written : Head
+  pub version : ℕ
+  pub items : List Item
+  pub link_is : written.link ≡ head.link
+  pub are : AreItems version items
+  pub records : TookAll None input head (packets_of items)
+  pub frames : IfSome output (λ octets. IsCapture octets written (frames_of items))
+  pub entries : IfSome report (λ octets. Reports octets version items)
+  pub text : Appends old new (view_text_of asked head items)
+
+-- Status 0: the words are accepted, and the run was viewed as they ask.
+pub record Viewed (words : List (List ℕ)) (input output report old new : Option (List ℕ)) : Type 0 where
+  pub asked : Asked
+  pub accepted : asked_in words ≡ Some asked
+  pub viewed : ViewedAs asked input output report old new
+
+-- a source or the output, at a moment: its octets, left or held, where it tells them, and how often it has failed
+pub record Seen : Type 0 where
+  pub octets : Option (List ℕ)
+  pub faults : ℕ
+
+-- the three sources and the output, at a moment
+pub record Moment : Type 0 where
+  pub input : Seen
+  pub output : Seen
+  pub report : Seen
+  pub out : Seen
+
+-- the same, of these octets and counts
+abbrev pub moment_of : (input : Option (List ℕ)) (input_faults : ℕ) (output : Option (List ℕ)) (output_faults : ℕ) (report : Option (List ℕ)) (report_faults : ℕ) (out : Option (List ℕ)) (out_faults : ℕ) → Moment
+moment_of input input_faults output output_faults report report_faults out out_faults =
+    record {
+      input = record { octets = input; faults = input_faults };
+      output = record { octets = output; faults = output_faults };
+      report = record { octets = report; faults = report_faults };
+      out = record { octets = out; faults = out_faults };
+    }
+
+-- how often the four have failed
+abbrev pub faults_of : Moment → FaultCounts
+faults_of moment = counts_of moment.input.faults moment.output.faults moment.report.faults moment.out.faults
+
+-- Why a run is not viewed to its end: the words are refused, or, where they are not, by the octets of the input and of the output, and by the counts of faults.
+abbrev pub Cause : (words : List (List ℕ)) → (before now : Moment) → own.Stop → Type 0
+Cause words before now stop =
+    ((stop ≡ stops.Words) × (asked_in words ≡ None)) ⊎ StopWhy before.input.octets before.output.octets (faults_of before) (faults_of now) stop
+
+-- the last octets that were printed are this line
+pub record EndsIn (line : List ℕ) (old new : Option (List ℕ)) : Type 0 where
+  pub first : List ℕ
+  pub text : Appends old new (first ++ line)
+
+-- there is a stop with this status whose cause holds, and its line was printed last, unless the output failed, which 7 tells
+pub record Stopped (words : List (List ℕ)) (before now : Moment) (status : ℕ) : Type 0 where
+  pub stop : own.Stop
+  pub cause : Cause words before now stop
+  pub status_is : status ≡ status_of stop
+  pub line : EndsIn (line_of stop) before.out.octets now.out.octets
+
+-- the line was printed whole, and its status is returned
+pub record TellsWhole (status : ℕ) (line : List ℕ) (old new : Option (List ℕ)) (answered : ℕ) : Type 0 where
+  pub status_is : answered ≡ status
+  pub whole : Appends old new line
+
+-- the output failed, which 7 tells; a prefix of the line was printed
+pub record TellsPart (line : List ℕ) (old new : Option (List ℕ)) (before now answered : ℕ) : Type 0 where
+  pub status_is : answered ≡ 7
+  pub part : AppendsPart old new line
+  pub failed : Rose before now
+
+abbrev pub TellsLine : (status : ℕ) → (line : List ℕ) → (old new : Option (List ℕ)) → (before now answered : ℕ) → Type 0
+TellsLine status line old new before now answered = TellsWhole status line old new answered ⊎ TellsPart line old new before now answered
+
+-- the line of the stop was told, or that memory could not be allocated
+abbrev pub Tells : own.Stop → (old new : Option (List ℕ)) → (before now answered : ℕ) → Type 0
+Tells stop old new before now answered =
+    TellsLine (status_of stop) (line_of stop) old new before now answered ⊎ TellsLine 8 (line_of stops.Memory) old new before now answered

@@ -1,0 +1,225 @@
+//! A record of the input with the frames of the output that were written for it.
+ghost use Rattle.std.specs.Prelude.{◌≡◌, ◌+◌, ◌≤◌, ◌<◌, ◌^◌, ◌++◌, ◌∷◌, ℕ, List, length, IfErr, IfOk, OnOk, if◌then◌else◌};
+ghost use Rattle.std.specs.declared.option.Option.{Option};
+ghost use Rattle.pcap_file.specs.Records.{Packet};
+ghost use Rattle.pcap_file.specs.declared.head.Head.{Head};
+ghost use Rattle.run_view.specs.Items as spec;
+ghost use Rattle.run_view.specs.Standing.{InputAt, OutputAt};
+ghost use Rattle.run_view.specs.Steps.{FrameAdded, FrameStops, FramesRead, FramesStop, IsGathered, IsReady, ItemRead, ItemStops, MayRead};
+
+use crate::Stop;
+use crate::seen::{add_changes_at, flow_at, length_at};
+use crate::sources::{next_frame, next_record};
+use capture_input::Input;
+use edge_io::{NoMemory, Source};
+use frame_view::{Change, Flow};
+use pcap_file::{Head, Reader};
+use std::alloc::Global;
+use wire_base::Link;
+
+/// The room for the octets of a record, the most that a capture may have.
+pub(crate) const ROOM: usize = 262_144;
+
+/// The frames of the output.
+#[derive(Drop)]
+pub(crate) struct Frames {
+    pub(crate) reader: Reader,
+    /// The octets of one frame.
+    pub(crate) buffer: Box<[u8; ROOM]>,
+    /// How many frames were read.
+    pub(crate) count: u64,
+}
+
+/// The records of the input and the frames of the output.
+#[derive(Drop)]
+pub(crate) struct Files {
+    /// The head of the input.
+    pub(crate) head: Head,
+    pub(crate) input: Input,
+    /// The octets of one record.
+    pub(crate) buffer: Box<[u8; ROOM]>,
+    /// How many records were read.
+    pub(crate) count: u64,
+    pub(crate) frames: Frames,
+}
+
+/// The octets of a record, and the link that they begin with.
+#[derive(Clone, Copy)]
+pub(crate) struct Original<'a> {
+    pub(crate) link: Link,
+    pub(crate) octets: &'a [u8],
+}
+
+/// What is known of the frames of a record.
+#[derive(Drop)]
+pub(crate) struct Gathered {
+    /// What differs between the record and its frames.
+    pub(crate) changes: Vec<Change>,
+    /// The packet of the first frame, or of the record if there is no frame.
+    pub(crate) flow: Option<Flow>,
+    /// How many octets the frames have behind TCP headers.
+    pub(crate) octets: u64,
+}
+
+/// What is shown of a record.
+#[derive(Drop)]
+pub(crate) struct Shown {
+    /// Nanoseconds since 1970.
+    pub(crate) time: u64,
+    pub(crate) flow: Option<Flow>,
+    pub(crate) length: u64,
+    pub(crate) gathered: Gathered,
+}
+
+/// Reads the next record and as many frames.
+pub(crate) fn read_item<I: Source, O: Source>(
+    alloc: Global,
+    files: &mut Files,
+    packets: u8,
+    input: &mut I,
+    output: &mut O,
+) -> Result<Shown, Stop>
+    requires ready { IsReady files.old }
+    requires few { files.old.count < 2 ^ 33 }
+    requires few_frames { files.old.frames.count < 2 ^ 63 }
+    ensures read { IfOk result (λ shown. (read written : Option (List ℕ)) (head : Head) (records frames : List Packet) →
+        InputAt files.old.input files.old.head read (I.left input.old) records → OutputAt files.old.frames.reader head written (O.left output.old) frames →
+        ItemRead files.new read written (I.left input.new) (O.left output.new) head records frames packets shown) }
+    ensures ready { OnOk result (IsReady files.new) }
+    ensures head { OnOk result (files.new.head ≡ files.old.head) }
+    ensures count { OnOk result (files.new.count ≡ files.old.count + 1) }
+    ensures frame_count { OnOk result (files.new.frames.count ≡ files.old.frames.count + packets) }
+    ensures stops { IfErr result (λ stop. (read written : Option (List ℕ)) (head : Head) (records frames : List Packet) →
+        InputAt files.old.input files.old.head read (I.left input.old) records → OutputAt files.old.frames.reader head written (O.left output.old) frames →
+        ItemStops files.old read written head records frames packets (I.fault_count input.old) (I.fault_count input.new) (O.fault_count output.old) (O.fault_count output.new) stop) }
+    ensures input_later { I.fault_count input.old ≤ I.fault_count input.new }
+    ensures output_later { O.fault_count output.old ≤ O.fault_count output.new }
+{
+    let Some(record) = next_record(&mut files.input, input, &mut files.buffer[..])? else {
+        return Err(Stop::Record(files.count + 1));
+    };
+    files.count += 1;
+    let original = Original {
+        link: files.head.link,
+        octets: record.bytes,
+    };
+    let gathered = gather(alloc, original, packets, &mut files.frames, output)?;
+    Ok(Shown {
+        time: time_of(files.head, record.seconds, record.fraction),
+        flow: flow_at(original.link, original.octets),
+        length: length_at(original.link, original.octets),
+        gathered,
+    })
+}
+
+// Returns a time in nanoseconds since 1970.
+fn time_of(head: Head, seconds: u32, fraction: u32) -> u64
+    ensures { result ≡ spec.nanoseconds head seconds fraction }
+{
+    let unit = if head.nano { 1 } else { 1_000 };
+    u64::from(seconds) * 1_000_000_000 + u64::from(fraction) * unit
+}
+
+// Reads so many frames of a record.
+fn gather<O: Source>(
+    alloc: Global,
+    original: Original<'_>,
+    packets: u8,
+    frames: &mut Frames,
+    output: &mut O,
+) -> Result<Gathered, Stop>
+    requires ready { MayRead frames.old }
+    requires few { frames.old.count < 2 ^ 63 }
+    ensures read { IfOk result (λ gathered. (all : Option (List ℕ)) (head : Head) (older : List Packet) →
+        OutputAt frames.old.reader head all (O.left output.old) older →
+        FramesRead frames.new all (O.left output.new) head older original.entry.link original.entry.octets.now packets gathered) }
+    ensures ready { OnOk result (MayRead frames.new) }
+    ensures count { OnOk result (frames.new.count ≡ frames.old.count + packets) }
+    ensures stops { IfErr result (λ stop. (all : Option (List ℕ)) (head : Head) (older : List Packet) →
+        OutputAt frames.old.reader head all (O.left output.old) older →
+        FramesStop frames.old all head older packets (O.fault_count output.old) (O.fault_count output.new) stop) }
+    ensures later { O.fault_count output.old ≤ O.fault_count output.new }
+{
+    let mut gathered = Gathered {
+        changes: Vec::new(alloc),
+        flow: flow_at(original.link, original.octets),
+        octets: 0,
+    };
+    for number in 0..packets {
+        add_frame(alloc, original, number, &mut gathered, frames, output)?;
+    }
+    Ok(gathered)
+}
+
+// Reads the next frame of a record, behind so many others.
+fn add_frame<O: Source>(
+    alloc: Global,
+    original: Original<'_>,
+    number: u8,
+    gathered: &mut Gathered,
+    frames: &mut Frames,
+    output: &mut O,
+) -> Result<(), Stop>
+    requires ready { MayRead frames.old }
+    requires few { frames.old.count + 1 < 2 ^ 64 }
+    ensures added { OnOk result ((all : Option (List ℕ)) (head : Head) (own older : List Packet) → length own ≡ number →
+        OutputAt frames.old.reader head all (O.left output.old) (own ++ older) → IsGathered original.entry.link original.entry.octets.now own gathered.old →
+        FrameAdded frames.new all (O.left output.new) head own older original.entry.link original.entry.octets.now gathered.new) }
+    ensures ready { OnOk result (MayRead frames.new) }
+    ensures count { OnOk result (frames.new.count ≡ frames.old.count + 1) }
+    ensures stops { IfErr result (λ stop. (all : Option (List ℕ)) (head : Head) (behind : List Packet) →
+        OutputAt frames.old.reader head all (O.left output.old) behind →
+        FrameStops frames.old all head behind (O.fault_count output.old) (O.fault_count output.new) stop) }
+    ensures later { O.fault_count output.old ≤ O.fault_count output.new }
+{
+    let Some(frame) = next_frame(&mut frames.reader, output, &mut frames.buffer[..])? else {
+        return Err(Stop::Frame(frames.count + 1));
+    };
+    note_frame(alloc, original, number, frame.bytes, gathered)?;
+    frames.count += 1;
+    Ok(())
+}
+
+// Notes the next frame of a record, behind so many others.
+fn note_frame(
+    alloc: Global,
+    original: Original<'_>,
+    number: u8,
+    frame: &[u8],
+    gathered: &mut Gathered,
+) -> Result<(), NoMemory>
+    ensures { OnOk result ((own : List Packet) (packet : Packet) → length own ≡ number → packet.octets ≡ frame.now →
+        IsGathered original.entry.link original.entry.octets.now own gathered.old →
+        IsGathered original.entry.link original.entry.octets.now (packet ∷ own) gathered.new) }
+{
+    let place = u32::from(number) + 1;
+    add_changes_at(
+        alloc,
+        original.link,
+        original.octets,
+        frame,
+        place,
+        &mut gathered.changes,
+    )?;
+    let flow = flow_at(original.link, frame);
+    gathered.flow = first_flow(number, flow, gathered.flow);
+    gathered.octets = gathered.octets.saturating_add(tcp_octets(flow));
+    Ok(())
+}
+
+// Returns what the headers of the first frame say: this one's if it has the number 0.
+fn first_flow(number: u8, flow: Option<Flow>, before: Option<Flow>) -> Option<Flow>
+    ensures { result ≡ spec.first_flow number flow before }
+{
+    if number == 0 { flow } else { before }
+}
+
+// Returns how many octets a packet has behind its TCP header.
+fn tcp_octets(flow: Option<Flow>) -> u64
+    ensures { result ≡ spec.tcp_octets flow }
+{
+    match flow {
+        Some(flow) if flow.tcp.is_some() => flow.length,
+        _ => 0,
+    }
+}

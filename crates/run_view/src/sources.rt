@@ -1,0 +1,141 @@
+//! The records of the input and the frames of the output, read one by one.
+ghost use Rattle.std.specs.Prelude.{◌≡◌, ◌+◌, ◌≤◌, ℕ, true, List, [], length, IfErr, IfOk, IfSome, IsSome, IsSomeAnd, vec_len};
+ghost use Rattle.std.specs.declared.option.Option.{Option};
+ghost use Rattle.edge_io.specs.Faults.{Rose};
+ghost use Rattle.pcap_file.specs.Reads.{IfRecord};
+ghost use Rattle.pcap_file.specs.Records.{Packet};
+ghost use Rattle.pcap_file.specs.declared.head.Head.{Head};
+ghost use Rattle.capture_input.specs.Reading.{is_open_in};
+ghost use Rattle.run_view.specs.SourceStops as spec;
+ghost use Rattle.run_view.specs.Standing.{InputAt, InputOpened, IsBehind, InputReads, InputStops, OutputAt, OutputHeadStops, OutputReads, OutputStops};
+
+use crate::Stop;
+use capture_input::laws::{head_stops_are_faults, stops_are_faults, whole_is_input};
+use capture_input::{Input, InputFault};
+use edge_io::Source;
+use pcap_file::{HeadFault, Reader, Record, RecordFault, read_head};
+use wire_base::Link;
+
+/// Reads the head of the input.
+pub(crate) fn open_input<I: Source>(source: &mut I) -> Result<Input, Stop>
+    ensures opened { IfOk result (λ input. InputOpened input (I.left source.old) (I.left source.new)) }
+    ensures stops { IfErr result (λ stop. InputStops (I.left source.old) (I.fault_count source.old) (I.fault_count source.new) stop) }
+    ensures later { I.fault_count source.old ≤ I.fault_count source.new }
+{
+    head_stops_are_faults();
+    match Input::open(None, source) {
+        Ok(input) => Ok(input),
+        Err(stop) => Err(input_stop(stop.fault, stop.offset)),
+    }
+}
+
+/// Reads the next record of the input.
+pub(crate) fn next_record<'a, I: Source>(
+    input: &mut Input,
+    source: &mut I,
+    buffer: &'a mut [u8],
+) -> Result<Option<Record<'a>>, Stop>
+    requires open { is_open_in input.old ≡ true }
+    requires behind { IsBehind input.old }
+    requires room { 262144 ≤ length buffer.old }
+    ensures reads { IfOk result (λ given. (head : Head) (all : Option (List ℕ)) (packets : List Packet) →
+        InputAt input.old head all (I.left source.old) packets → InputReads input.new head all (I.left source.new) packets given) }
+    ensures goes_on { IfOk result (λ given. IfSome given (λ _. is_open_in input.new ≡ true)) }
+    ensures behind { IfOk result (λ given. IfSome given (λ _. IsBehind input.new)) }
+    ensures stops { IfErr result (λ stop. (head : Head) (all : Option (List ℕ)) (packets : List Packet) →
+        InputAt input.old head all (I.left source.old) packets → InputStops all (I.fault_count source.old) (I.fault_count source.new) stop) }
+    ensures later { I.fault_count source.old ≤ I.fault_count source.new }
+{
+    stops_are_faults();
+    whole_is_input();
+    match input.next(source, buffer) {
+        Ok(given) => Ok(given),
+        Err(fault) => Err(input_stop(fault, input.offset())),
+    }
+}
+
+// Returns the stop at a fault of the input.
+fn input_stop(fault: InputFault, offset: u64) -> Stop
+    ensures { result ≡ spec.input_stop fault offset }
+{
+    match fault {
+        InputFault::ReadFault => Stop::Unread,
+        InputFault::Cut
+        | InputFault::Magic
+        | InputFault::Version
+        | InputFault::Link
+        | InputFault::Block
+        | InputFault::Long
+        | InputFault::Many => Stop::Input { fault, offset },
+    }
+}
+
+/// Reads the head of the output, which has the link of the input.
+pub(crate) fn open_output<O: Source>(link: Link, source: &mut O) -> Result<Reader, Stop>
+    ensures opened { IfOk result (λ reader. OutputAt reader reader.head (O.left source.old) (O.left source.new) []) }
+    ensures goes_on { IfOk result (λ reader. reader.is_open ≡ true) }
+    ensures same { IfOk result (λ reader. reader.head.link ≡ link) }
+    ensures stops { IfErr result (OutputHeadStops link (O.left source.old) (O.fault_count source.old) (O.fault_count source.new)) }
+    ensures later { O.fault_count source.old ≤ O.fault_count source.new }
+{
+    match read_head(source) {
+        Ok(head) => {
+            if head.link == link {
+                return Ok(Reader::new(head));
+            }
+            Err(Stop::Output {
+                fault: InputFault::Link,
+                offset: 0,
+            })
+        }
+        Err(fault) => Err(output_head_stop(fault)),
+    }
+}
+
+/// Reads the next frame of the output.
+pub(crate) fn next_frame<'a, O: Source>(
+    reader: &mut Reader,
+    source: &mut O,
+    buffer: &'a mut [u8],
+) -> Result<Option<Record<'a>>, Stop>
+    requires open { reader.old.is_open ≡ true }
+    requires room { 262144 ≤ length buffer.old }
+    ensures reads { IfOk result (λ given. (head : Head) (all : Option (List ℕ)) (frames : List Packet) →
+        OutputAt reader.old head all (O.left source.old) frames → OutputReads reader.new head all (O.left source.new) frames given) }
+    ensures goes_on { IfOk result (λ given. IfSome given (λ _. reader.new.is_open ≡ true)) }
+    ensures stops { IfErr result (λ stop. (head : Head) (all : Option (List ℕ)) (frames : List Packet) →
+        OutputAt reader.old head all (O.left source.old) frames → OutputStops all (O.fault_count source.old) (O.fault_count source.new) stop) }
+    ensures later { O.fault_count source.old ≤ O.fault_count source.new }
+{
+    match reader.next(source, buffer) {
+        Ok(given) => Ok(given),
+        Err(fault) => Err(output_stop(fault, reader.offset())),
+    }
+}
+
+// Returns the stop at a fault of the head of the output.
+fn output_head_stop(fault: HeadFault) -> Stop
+    ensures { result ≡ spec.output_head_stop fault }
+{
+    let fault = match fault {
+        HeadFault::Cut => InputFault::Cut,
+        HeadFault::Magic => InputFault::Magic,
+        HeadFault::Version => InputFault::Version,
+        HeadFault::Link => InputFault::Link,
+        HeadFault::ReadFault => return Stop::Unread,
+    };
+    Stop::Output { fault, offset: 0 }
+}
+
+// Returns the stop at a fault of a record of the output.
+fn output_stop(fault: RecordFault, offset: u64) -> Stop
+    ensures { result ≡ spec.output_stop fault offset }
+{
+    let fault = match fault {
+        RecordFault::Cut => InputFault::Cut,
+        RecordFault::Long => InputFault::Long,
+        RecordFault::TooMany => InputFault::Many,
+        RecordFault::ReadFault => return Stop::Unread,
+    };
+    Stop::Output { fault, offset }
+}

@@ -1,0 +1,235 @@
+//! What is counted over a run.
+ghost use Rattle.std.specs.Prelude.{◌≡◌, OnOk, [], map};
+ghost use Rattle.rule_book.specs.Entries.{plain};
+ghost use Rattle.run_view.specs.Eras as rows;
+ghost use Rattle.run_view.specs.Rows.{table_of};
+ghost use Rattle.run_view.specs.Summary as spec;
+
+use crate::eras::{Eras, Told, add_record, begin, end_all};
+use edge_io::NoMemory;
+use frame_view::Flow;
+use indexmap::IndexMap;
+use rule_book::{Entry, Reason, Rule, Verdict};
+use std::alloc::Global;
+use view_text::{Counts, EraCounts, RuleCount, Sides};
+use wire_base::Side;
+
+/// What is known of a run so far.
+#[derive(Drop)]
+pub(crate) struct Tally {
+    /// How many entries have each verdict, by side.
+    pub(crate) sides: Sides,
+    /// How many entries name each rule, in the order in which they are named first.
+    pub(crate) rules: Vec<RuleCount>,
+    pub(crate) eras: Eras,
+}
+
+/// What is counted of a record, beside its entry.
+#[derive(Clone, Copy)]
+pub(crate) struct Noted {
+    /// Nanoseconds since 1970.
+    pub(crate) time: u64,
+    /// The packet of its first frame, or its own if it has none.
+    pub(crate) flow: Option<Flow>,
+    /// How many octets its frames bring inwards in TCP segments.
+    pub(crate) octets: u64,
+}
+
+impl Tally {
+    /// Returns that nothing is known.
+    pub(crate) fn new(alloc: Global) -> Tally
+        ensures sides { result.sides ≡ spec.no_sides }
+        ensures rules { result.rules.items ≡ [] }
+        ensures eras { table_of result.eras ≡ [] }
+    {
+        Tally {
+            sides: no_sides(),
+            rules: Vec::new(alloc),
+            eras: IndexMap::new(alloc),
+        }
+    }
+
+    /// Counts a record.
+    pub(crate) fn note(
+        &mut self,
+        alloc: Global,
+        entry: &Entry,
+        noted: Noted,
+    ) -> Result<(), NoMemory>
+        ensures sides { OnOk result (self.new.sides ≡ spec.with_side (plain entry.now).side (plain entry.now).verdict self.old.sides) }
+        ensures rules { OnOk result (self.new.rules.items ≡ spec.all_counted (plain entry.now).rules self.old.rules.items) }
+        ensures eras { OnOk result (table_of self.new.eras ≡ rows.with_entry (plain entry.now) noted.time noted.octets noted.flow (table_of self.old.eras)) }
+    {
+        self.sides = with_side(entry.side, entry.verdict, self.sides);
+        count_rules(&mut self.rules, entry.rules.as_slice())?;
+        note_eras(alloc, &mut self.eras, entry, noted)
+    }
+}
+
+fn no_counts() -> Counts
+    ensures { result ≡ spec.no_counts }
+{
+    Counts {
+        pass: 0,
+        fix: 0,
+        hold: 0,
+        drop: 0,
+    }
+}
+
+fn no_sides() -> Sides
+    ensures { result ≡ spec.no_sides }
+{
+    Sides {
+        inward: no_counts(),
+        outward: no_counts(),
+        neither: no_counts(),
+    }
+}
+
+// Notes what an entry says of eras.
+fn note_eras(alloc: Global, eras: &mut Eras, entry: &Entry, noted: Noted) -> Result<(), NoMemory>
+    ensures { OnOk result (table_of eras.new ≡ rows.with_entry (plain entry.now) noted.time noted.octets noted.flow (table_of eras.old)) }
+{
+    let told = Told {
+        time: noted.time,
+        octets: noted.octets,
+        rules: entry.rules.as_slice(),
+    };
+    add_record(alloc, eras, entry.era, told)?;
+    begin(alloc, eras, entry.begun, noted.flow)?;
+    end_all(alloc, eras, entry.ended.as_slice())
+}
+
+// Adds one with this verdict on this side.
+fn with_side(side: Option<Side>, verdict: Verdict, sides: Sides) -> Sides
+    ensures { result ≡ spec.with_side side verdict sides }
+{
+    match side {
+        Some(Side::Inward) => Sides {
+            inward: with_verdict(verdict, sides.inward),
+            ..sides
+        },
+        Some(Side::Outward) => Sides {
+            outward: with_verdict(verdict, sides.outward),
+            ..sides
+        },
+        None => Sides {
+            neither: with_verdict(verdict, sides.neither),
+            ..sides
+        },
+    }
+}
+
+// Adds one with this verdict.
+fn with_verdict(verdict: Verdict, counts: Counts) -> Counts
+    ensures { result ≡ spec.with_verdict verdict counts }
+{
+    match verdict {
+        Verdict::Pass => Counts {
+            pass: counts.pass.saturating_add(1),
+            ..counts
+        },
+        Verdict::Fix => Counts {
+            fix: counts.fix.saturating_add(1),
+            ..counts
+        },
+        Verdict::Hold => Counts {
+            hold: counts.hold.saturating_add(1),
+            ..counts
+        },
+        Verdict::Drop => Counts {
+            drop: counts.drop.saturating_add(1),
+            ..counts
+        },
+    }
+}
+
+// Counts a line that names these rules.
+fn count_rules(counts: &mut Vec<RuleCount>, rules: &[Rule]) -> Result<(), NoMemory>
+    ensures { OnOk result (counts.new.items ≡ spec.all_counted rules.now counts.old.items) }
+{
+    for rule in rules {
+        count_rule(counts, *rule)?;
+    }
+    Ok(())
+}
+
+// Counts a line that names this rule.
+fn count_rule(counts: &mut Vec<RuleCount>, rule: Rule) -> Result<(), NoMemory>
+    ensures { OnOk result (counts.new.items ≡ spec.counted rule counts.old.items) }
+{
+    let number = rule.number();
+    for place in 0..counts.len() {
+        let count = counts[place];
+        if count.rule.number() == number {
+            counts[place] = with_line(count);
+            return Ok(());
+        }
+    }
+    counts.push(RuleCount { rule, lines: 1 })?;
+    Ok(())
+}
+
+// Adds a line to a count.
+fn with_line(count: RuleCount) -> RuleCount
+    ensures { result ≡ spec.with_line count }
+{
+    RuleCount {
+        lines: count.lines.saturating_add(1),
+        ..count
+    }
+}
+
+/// Counts the eras of a table by how they ended.
+pub(crate) fn era_counts(eras: &Eras) -> EraCounts
+    ensures { result ≡ spec.with_eras (table_of eras.now) spec.no_eras }
+{
+    let mut counts = EraCounts {
+        all: 0,
+        live: 0,
+        reset: 0,
+        evicted: 0,
+        idle: 0,
+        reopened: 0,
+    };
+    for place in 0..eras.len() {
+        let Some((_, row)) = eras.get_index(place) else {
+            unreachable!();
+        };
+        counts = with_era(row.end, counts);
+    }
+    counts
+}
+
+// Adds an era that ended so.
+fn with_era(end: Option<Reason>, counts: EraCounts) -> EraCounts
+    ensures { result ≡ spec.with_era end counts }
+{
+    let counts = EraCounts {
+        all: counts.all.saturating_add(1),
+        ..counts
+    };
+    match end {
+        None => EraCounts {
+            live: counts.live.saturating_add(1),
+            ..counts
+        },
+        Some(Reason::Reset) => EraCounts {
+            reset: counts.reset.saturating_add(1),
+            ..counts
+        },
+        Some(Reason::Evicted) => EraCounts {
+            evicted: counts.evicted.saturating_add(1),
+            ..counts
+        },
+        Some(Reason::Idle) => EraCounts {
+            idle: counts.idle.saturating_add(1),
+            ..counts
+        },
+        Some(Reason::Reopened) => EraCounts {
+            reopened: counts.reopened.saturating_add(1),
+            ..counts
+        },
+    }
+}

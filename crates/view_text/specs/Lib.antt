@@ -1,0 +1,5 @@
+pub mod Sentences
+pub mod Views
+pub mod Times
+pub mod Lines
+pub mod Json

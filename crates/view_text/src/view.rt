@@ -1,0 +1,98 @@
+//! What is shown of a record, of an era and of a whole run.
+
+use frame_view::{Change, Flow};
+use rule_book::{Entry, Reason, Rule};
+
+/// A record of the capture that was read, or a frame as the second engine judged it.
+#[derive(Clone, Copy, Debug)]
+pub struct RecordView<'a> {
+    /// The number of the record, from 1.
+    pub number: u64,
+    /// The line is one of the second engine.
+    pub second: bool,
+    /// The number of the line itself in the report; read of the second engine alone, since that of
+    /// the first is the record's.
+    pub own: u32,
+    /// In nanoseconds since the beginning of 1970.
+    pub time: u64,
+    /// None where no IPv4 header can be read.
+    pub flow: Option<Flow>,
+    /// The number of octets of the payload.
+    pub length: u64,
+    pub entry: &'a Entry,
+    /// The number of frames that were written.
+    pub frames: u32,
+    /// What differs between the record and its frames, frame by frame.
+    pub changes: &'a [Change],
+}
+
+/// An era.
+#[derive(Clone, Copy, Debug)]
+pub struct EraView<'a> {
+    pub era: u32,
+    /// It is an era of the second engine.
+    pub second: bool,
+    /// The packet that began it.
+    pub flow: Option<Flow>,
+    /// The time of its first record, in nanoseconds since the beginning of 1970.
+    pub first: u64,
+    /// The time of its last record, in the same unit.
+    pub last: u64,
+    /// The number of records that belong to it.
+    pub records: u64,
+    /// The number of octets in its inbound TCP frames.
+    pub octets: u64,
+    /// Why it ended; None while it is live.
+    pub end: Option<Reason>,
+    /// The rules that its entries name, each once.
+    pub rules: &'a [Rule],
+}
+
+/// How many lines have each verdict.
+#[derive(Clone, Copy, Debug, Default, PartialEq, Eq)]
+pub struct Counts {
+    pub pass: u64,
+    pub fix: u64,
+    pub hold: u64,
+    pub drop: u64,
+}
+
+/// How many lines have each verdict, by side.
+#[derive(Clone, Copy, Debug, Default, PartialEq, Eq)]
+pub struct Sides {
+    pub inward: Counts,
+    pub outward: Counts,
+    pub neither: Counts,
+}
+
+/// How many lines name a rule.
+#[derive(Clone, Copy, Debug, PartialEq, Eq)]
+pub struct RuleCount {
+    pub rule: Rule,
+    pub lines: u64,
+}
+
+/// How many eras there are, and how many ended for each reason.
+#[derive(Clone, Copy, Debug, Default, PartialEq, Eq)]
+pub struct EraCounts {
+    pub all: u64,
+    pub live: u64,
+    pub reset: u64,
+    pub evicted: u64,
+    pub idle: u64,
+    pub reopened: u64,
+}
+
+/// A whole run.
+#[derive(Clone, Copy, Debug)]
+pub struct Summary<'a> {
+    pub records: u64,
+    pub first: Sides,
+    /// The lines of the second engine, where there is one.
+    pub second: Option<Sides>,
+    /// The number of frames that were written.
+    pub frames: u64,
+    /// The rules that are named, in the order of first naming.
+    pub rules: &'a [RuleCount],
+    pub eras: EraCounts,
+}
