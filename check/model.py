@@ -3,8 +3,9 @@
 
 usage: check/model.py [--whole] run OPTION* IN OUT PREFIX+
        check/model.py --whole load SEED COUNT
+       check/model.py view OPTION* IN OUT REPORT
 
-Without --whole the model does what the program has today, with it all that the rules say. It
+The last form is what normview does. Without --whole the model does what the program has today, with it all that the rules say. It
 prints the report, writes OUT and ends with the status.
 """
 
@@ -15,10 +16,15 @@ sys.path.insert(0, os.path.dirname(os.path.abspath(__file__)))
 
 from norm_model.built import BUILT, WHOLE  # noqa: E402
 from norm_model.run import run  # noqa: E402
+from norm_model.view import view_files  # noqa: E402
 from norm_model.words import read_words  # noqa: E402
 
 
 def main(words):
+    if words[:1] == ["view"]:
+        status, text = view_files(words[1:])
+        sys.stdout.write(text)
+        return status
     has = BUILT
     if words[:1] == ["--whole"]:
         has, words = WHOLE, words[1:]

@@ -1,4 +1,4 @@
-"""The programs that a check runs: one form of argument for all checks, --norm PROGRAM and --normaudit PROGRAM."""
+"""The programs that a check runs: one form of argument for all checks, --norm PROGRAM, --normaudit PROGRAM and --normview PROGRAM."""
 
 import os
 import sys
@@ -20,6 +20,6 @@ def found(program):
     """Returns the program's absolute path; ends with 2 where it is not there."""
     program = os.path.abspath(program)
     if not os.access(program, os.X_OK):
-        print("%s is not there: build it as README.md says, or name one by --norm or --normaudit" % program, file=sys.stderr)
+        print("%s is not there: build it as README.md says, or name one by --norm, --normaudit or --normview" % program, file=sys.stderr)
         sys.exit(2)
     return program

@@ -88,6 +88,14 @@ def is_last(text):
     return below(32, found[1]) and below(64, found[2], found[4])
 
 
+def read_end(text):
+    """The two counts of an `end` line, or None."""
+    found = LAST.fullmatch(text)
+    if found is None or found[1] is None or not is_last(text):
+        return None
+    return int(found[1]), int(found[2])
+
+
 def read_report(text):
     """The version, the entries and the last line; or the name of the first fault and the number of its line."""
     lines = text.split("\n")

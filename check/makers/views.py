@@ -1,0 +1,283 @@
+"""Makes the three files of a view and its words from a number: those of a run, most of them changed in a place, or of frames that no run wrote."""
+
+import random
+
+from makers.audits import changed_capture, changed_report
+from makers.files import make_capture, make_pcapng
+from norm_model.built import WHOLE
+from norm_model.capture import ETHERNET, RAW, read_head, read_records
+from norm_model.formats import ICMP, TCP, UDP, four, two
+from norm_model.packets import INSIDE, OUTSIDE, head, icmp, ipv4, record, segment, tcp, udp
+from norm_model.report import REASONS
+from norm_model.rule_names import RULES
+from norm_model.run import run
+from norm_model.view_texts import VERDICTS
+
+EDGES = [0, 1, 2, 255, 256, 65535, 65536, 2**31, 2**32 - 1]
+
+
+# Words
+
+def choice_words(rng):
+    """Some of the options, each in one of its forms."""
+    words = []
+    if rng.random() < 0.4:
+        words.append(["--json"])
+    for name, values in (("rule", RULES), ("era", ["1", "1", "2", "3", "01", "4294967295"]), ("only", VERDICTS)):
+        if rng.random() < 0.25:
+            value = rng.choice(values)
+            words.append(["--%s=%s" % (name, value)] if rng.random() < 0.5 else ["--" + name, value])
+    rng.shuffle(words)
+    return [word for group in words for word in group]
+
+
+# Numbers of an era at both ends of their range, and of as many digits as are read.
+ERA_EDGES = ["0", "1", "4294967295", "4294967296", "18446744073709551616", "0" * 19 + "1", "0" * 20 + "1", ""]
+
+
+def edge_words(rng):
+    value = rng.choice(ERA_EDGES)
+    return ["--era=" + value] if rng.random() < 0.5 else ["--era", value]
+
+
+BAD_OPTIONS = [["--json=1"], ["--json="], ["--json", "--json"], ["--rule"], ["--rule="], ["--rule", "T_CLASHES"], ["--rule=t_clash"],
+               ["--rule=T_CLASH", "--rule=T_OLD"], ["--era=0"], ["--era", "4294967296"], ["--era=" + "0" * 20 + "1"], ["--era=x"],
+               ["--era=4294967297"], ["--era=18446744073709551615"],
+               ["--era=-1"], ["--era=+1"], ["--era="], ["--only"], ["--only=passed"], ["--only="], ["--only=drop,fix"], ["--only=Drop"],
+               ["--"], ["-"], ["-j"], ["--rul=T_CLASH"], ["--rules=T_CLASH"], ["--hops=30"], ["--help"], ["-h"], ["--version"], [""],
+               ["--only", "drop", "--only", "drop"], ["--era", "1", "--json", "--era=1"]]
+
+
+def spoilt_words(rng, words):
+    """Words that are refused."""
+    kind = rng.randrange(6)
+    if kind < 3:
+        return rng.choice(BAD_OPTIONS) + words
+    if kind == 3:
+        return words[:rng.randrange(len(words))]
+    if kind == 4:
+        return words + [rng.choice(["", "x", "--json", "-"])]
+    if rng.random() < 0.5:
+        return words[:-3] + [rng.choice(["", "-", "-x", word]) for word in words[-3:]]
+    at = len(words) - rng.randrange(3)
+    return words[:at] + rng.choice(BAD_OPTIONS + [["x"]]) + words[at:]
+
+
+# Frames that no run wrote
+
+def any_message(rng):
+    """A protocol and a message, whole or cut."""
+    octets = bytes(rng.choice(b"aaab") for _ in range(rng.randrange(9)))
+    kind = rng.randrange(5)
+    if kind < 2:
+        options = rng.choice([b"", b"", b"\1\1\1\1", b"\2\4\5\xb4", b"\1" * 40])
+        flags = rng.choice([2, 16, 18, 24, 17, 4, 0, 255, rng.randrange(256)])
+        message = tcp(OUTSIDE, INSIDE, rng.choice([40000, 0, 65535]), 80, rng.choice([1000, 1000, 1001, 0, 2**32 - 1]),
+                      rng.choice(EDGES), flags, octets, options=options, reserved=rng.choice([0, 0, 1, 15]), urgent=rng.choice([0, 0, 9]),
+                      header=rng.choice([None, None, None, None, 0, 4, 5, 6, 15]))
+        protocol = TCP
+    elif kind == 2:
+        protocol, message = UDP, udp(OUTSIDE, INSIDE, 40000, 53, octets, length=rng.choice([None, None, 0, 65535]))
+    elif kind == 3:
+        protocol, message = ICMP, icmp(rng.choice([0, 3, 8]), 0, two(1) + two(1) + octets)
+    else:
+        protocol, message = rng.choice([0, 2, 47, 255, TCP, UDP]), octets
+    ends = {TCP: [19, 20, 24], UDP: [7, 8]}.get(protocol, [7, 8])
+    return protocol, message[:rng.choice([None, None, None] + ends)]
+
+
+def any_packet(rng):
+    protocol, message = any_message(rng)
+    options = rng.choice([b"", b"", b"", b"\1\1\1\1", b"\x94\4\0\0", b"\1" * 40])
+    fields = {"options": options, "ttl": rng.choice([0, 31, 64, 255]), "tos": rng.choice([0, 0, 255]), "ident": rng.choice([1, 2, 65535]),
+              "reserved": rng.random() < 0.1, "df": rng.random() < 0.2, "mf": rng.random() < 0.2, "offset": rng.choice([0, 0, 0, 8, 65528])}
+    if rng.random() < 0.2:
+        fields[rng.choice(["version", "header"])] = rng.choice([0, 4, 5, 6, 15])
+    if rng.random() < 0.2:
+        fields["total"] = rng.choice([0, 19, 20, 24, 28, 40, 65535, 20 + len(options) + len(message) - 1])
+    packet = ipv4(rng.choice([OUTSIDE, INSIDE, 0, 2**32 - 1]), INSIDE, protocol, message, **fields)
+    return packet + rng.choice([b"", b"", b"", bytes(6), b"xyz"])
+
+
+def any_frame(rng, link):
+    if rng.random() < 0.03:
+        return bytes(rng.randrange(256) for _ in range(rng.randrange(30)))
+    packet = any_packet(rng)
+    before = bytes(12) + rng.choice([b"\x08\0"] * 9 + [b"\x08\x06", b"\x86\xdd"]) if link == ETHERNET else b""
+    return (before + packet)[:rng.choice([None] * 9 + [0, 13, 14, 33, 34, 54])]
+
+
+def changed_octets(rng, frame):
+    """The frame with an octet or two changed, octets more or less at an end, or in front."""
+    for _ in range(rng.choice([0, 1, 1, 2, 3])):
+        kind, at = rng.randrange(4), rng.randrange(len(frame) + 1)
+        if kind == 0:
+            frame = frame[:at]
+        elif kind == 1:
+            frame = frame + bytes(rng.randrange(4))
+        elif frame:
+            at = rng.randrange(len(frame))
+            frame = frame[:at] + bytes([rng.choice([frame[at] ^ 1 << rng.randrange(8), rng.randrange(256)])]) + frame[at + 1:]
+    return frame
+
+
+def moved_segment(rng):
+    """A segment, and one that has some of its octets, with some of them changed."""
+    count = rng.randrange(1, 12)
+    octets = bytes(rng.choice(b"ab") for _ in range(count))
+    front, end = rng.randrange(count + 1), rng.randrange(count + 1)
+    part = bytes(octet ^ (rng.random() < 0.2) for octet in octets[front:end])
+    seq, letters = rng.choice([1000, 2**32 - 2]), rng.choice(["PA", "A", "FA", "S"])
+    make = lambda text, payload: segment("> %s,5001" % text, payload=payload)  # noqa: E731
+    moved = (seq + rng.choice([front, front, front, front + 1, front - 1, -1, front + 2**31])) % 2**32
+    return make("%s %d" % (letters, seq), octets), make("%s %d" % (rng.choice([letters, "A"]), moved), part)
+
+
+def free_pair(rng, link):
+    """A record and a frame that may be written for it."""
+    if rng.random() < 0.3:
+        pair = moved_segment(rng)
+        return tuple((bytes(12) + b"\x08\0" if link == ETHERNET else b"") + packet for packet in pair)
+    frame = any_frame(rng, link)
+    return frame, rng.choice([frame, changed_octets(rng, frame), changed_octets(rng, frame), any_frame(rng, link)])
+
+
+# Reports that no run wrote
+
+def free_line(rng, number, packets, version):
+    """An entry of any words, with this many frames."""
+    words = [str(number), rng.choice(["in", "in", "out", "-"]), rng.choice(VERDICTS), str(packets)]
+    words += rng.choices(RULES, k=rng.choice([0, 0, 1, 1, 2, 16]))
+    words += ["@%d" % rng.choice([1, 2, 3, 0, 2**32 - 1])] if rng.random() < 0.6 else []
+    words += ["+%d" % rng.choice([1, 2, 3])] if rng.random() < 0.3 else []
+    for _ in range(rng.choice([0] * 6 + [1, 2, 4])):
+        octets = ":%d" % rng.choice([0, 1, 2**64 - 1]) if version == 2 else ""
+        words.append("-%d:%s%s" % (rng.choice([1, 2, 3, 4]), rng.choice(REASONS), octets))
+    return " ".join(words)
+
+
+def free_view(rng):
+    """Records, frames that are changed from them in any way, and a report that names as many of them."""
+    order, nano, link = rng.choice(["little", "big"]), rng.random() < 0.5, rng.choice([ETHERNET, RAW])
+    version = rng.choice([1, 2, 2])
+    source, written = head(order, nano, link), head(rng.choice([order, order, "big"]), rng.random() < 0.5, link)
+    lines, frames = ["norm %d" % version], 0
+    count = rng.choice([0, 1, 2, 5, 9])
+    for number in range(1, count + 1):
+        octets, frame = free_pair(rng, link)
+        source += record(octets, rng.choice([0, 1, 1790000000, 2**32 - 1]), rng.choice([0, 1, 999999, 10**9, 2**32 - 1]), order=order)
+        packets = rng.choice([0, 1, 1, 1, 2, 3])
+        lines.append(free_line(rng, number, packets, version))
+        parts = [rng.choice([frame, changed_octets(rng, octets)]) for _ in range(packets)]
+        frames += len(parts)
+        written_order = "little" if written[0] in (0xd4, 0x4d) else "big"
+        written += b"".join(record(part, 0, 0, order=written_order) for part in parts)
+    lines.append("end %d %d" % (count, frames))
+    return [source, written, "".join(line + "\n" for line in lines).encode()]
+
+
+# Files that are changed
+
+def more_of_report(rng, text):
+    """Changes that only the lines of a finished run show."""
+    lines = text.split("\n")
+    kind = rng.randrange(8)
+    if kind == 0:
+        lines[0] = rng.choice(["norm 1", "norm 2", "norm 2 both", "norm 3", "norm 2 ", ""])
+    elif kind == 1:
+        return text + rng.choice(["\n", "x", "end 0 0\n", lines[-2] + "\n"])
+    elif kind == 2:
+        words = lines[-2].split(" ")
+        at = rng.randrange(len(words))
+        words[at] = str(int(words[at]) + rng.choice([-1, 1])) if words[at].isdigit() else "End"
+        lines[-2] = " ".join(words)
+    elif kind == 3:
+        lines[-2] = "stop %s 24" % rng.choice(["cut", "read", "memory"])
+    elif kind == 4:
+        at = rng.randrange(len(lines))
+        lines[at] = rng.choice(["/", " "]) + lines[at] if rng.random() < 0.5 else lines[at].lstrip("/")
+    elif kind == 5:
+        at = rng.randrange(len(lines))
+        lines[at] = lines[at] + rng.choice([" ", "\r", "\0", " T_CLASH", " T_CLASH" * 17, "x" * 400])
+    elif kind == 6:
+        at = rng.randrange(len(lines))
+        lines[at] = lines[at].replace(" ", "  ", 1) if rng.random() < 0.5 else "0" + lines[at]
+    else:
+        return text[:-1]
+    return "\n".join(lines)
+
+
+def record_less_or_more(rng, octets):
+    """The capture without its last record, or with one more behind it."""
+    head_read = read_head(octets)
+    if isinstance(head_read, str):
+        return octets
+    records, _, end = read_records(octets, head_read)
+    if records and rng.random() < 0.5:
+        return octets[:records[-1].offset]
+    return octets[:end] + record(b"x" * rng.randrange(3), order=head_read.order)
+
+
+def changed_file(rng, octets, other):
+    """A capture that is cut, of another run, changed in a place, with a record more or less, or with another head."""
+    kind = rng.randrange(10)
+    if kind > 7:
+        return record_less_or_more(rng, octets)
+    if kind == 0:
+        return octets[:rng.randrange(len(octets) + 1)]
+    if kind == 1:
+        return other
+    if kind == 2:
+        return octets + octets[24:24 + rng.choice([1, 15, 16, len(octets)])]
+    if kind == 3 and len(octets) >= 24:
+        at = rng.randrange(24)
+        return octets[:at] + bytes([rng.randrange(256)]) + octets[at + 1:]
+    if kind == 4 and len(octets) >= 24:
+        return octets[:20] + rng.choice([four(1), four(101), four(1)[::-1], four(101)[::-1]]) + octets[24:]
+    if kind == 5 and len(octets) >= 40:
+        return octets[:28] + four(rng.choice([10**6, 10**9, 2**32 - 1])) + octets[32:]
+    if isinstance(read_head(octets), str):
+        return octets[:-1]
+    return changed_capture(rng, octets)
+
+
+def with_faults(rng, files, other):
+    """One or two of the three files are changed."""
+    for _ in range(rng.choice([0, 1, 1, 1, 2])):
+        at = rng.randrange(4)
+        if at < 2:
+            files[at] = changed_file(rng, files[at], other[at])
+        else:
+            change = rng.choice([changed_report, more_of_report, more_of_report])
+            text = files[2].decode("latin-1")
+            files[2] = change(rng, text).encode("latin-1") if text.count("\n") > 1 else files[2][:-1]
+    return files
+
+
+def run_files(number, rng):
+    """The three files of a run of the model that reads its capture to the end, or of one that stops."""
+    make = make_pcapng if rng.random() < 0.2 else make_capture
+    for again in range(8):
+        words, octets, _ = make("%s %d" % (number, again), WHOLE)
+        if words[:1] != ["run"]:
+            continue
+        status, written, text = run(words, octets, WHOLE)
+        if status == 0 or (status in (3, 4) and again == 7):
+            return [octets, written, text.encode()]
+    return free_view(rng)
+
+
+def make_view(number):
+    """The words, in which IN, OUT and REPORT stand for the names, and the octets of the three files; one that is None is not there."""
+    rng = random.Random("view " + number)
+    if rng.random() < 0.1:
+        if rng.random() < 0.4:
+            return edge_words(rng) + ["IN", "OUT", "REPORT"], free_view(rng)
+        return spoilt_words(rng, choice_words(rng) + ["IN", "OUT", "REPORT"]), free_view(rng)
+    files = free_view(rng) if rng.random() < 0.4 else run_files(number, rng)
+    if rng.random() < 0.45:
+        files = with_faults(rng, files, free_view(rng))
+    if rng.random() < 0.02:
+        files[rng.randrange(3)] = None
+    words = choice_words(rng) + ["IN", "OUT", "REPORT"]
+    return spoilt_words(rng, words) if rng.random() < 0.08 else words, files

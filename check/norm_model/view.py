@@ -1,0 +1,305 @@
+"""A view of a finished run: the capture that it read, the capture that it wrote, and its report, explained record by record.
+
+The three files are read in step: their heads, then for each line of the report its record and its frames.
+"""
+
+from types import SimpleNamespace
+
+from norm_model.capture import read_head, read_records
+from norm_model.report import first_line, read_end, read_entry
+from norm_model.rule_names import RULES
+from norm_model.run import STATUS, read_input
+from norm_model.view_fields import changes_of, flow_of, length_of
+from norm_model.view_texts import VERDICTS, era_json, era_text, record_json, record_text, summary_text
+from norm_model.words import read_number
+
+
+class Ended(Exception):
+    """Why a view ends before all was read: the status and the last line."""
+
+    def __init__(self, status, line):
+        Exception.__init__(self, line)
+        self.status, self.line = status, line
+
+
+# The words
+
+def read_value(name, text):
+    """The value of this option, or None where it is refused."""
+    if name == "era":
+        return read_number(text, 1, 2**32 - 1)
+    return text if text in {"rule": RULES, "only": VERDICTS}[name] else None
+
+
+def take_option(words, asked, seen):
+    """Reads the option in front: the words behind it, or None where it is refused."""
+    name, equals, value = words[0][2:].partition("=")
+    rest = words[1:]
+    if not words[0].startswith("--") or name in seen or name not in ("json", "rule", "era", "only"):
+        return None
+    seen.append(name)
+    if name == "json":
+        asked.json = True
+        return rest if equals == "" else None
+    if equals == "":
+        if not rest:
+            return None
+        value, rest = rest[0], rest[1:]
+    read = read_value(name, value)
+    if read is None:
+        return None
+    setattr(asked, name, read)
+    return rest
+
+
+def read_view_words(words):
+    """What is asked, or None where the words are refused."""
+    asked, seen = SimpleNamespace(json=False, rule=None, era=None, only=None), []
+    while words and words[0].startswith("-"):
+        words = take_option(words, asked, seen)
+        if words is None:
+            return None
+    if len(words) != 3 or any(word == "" or word.startswith("-") for word in words):
+        return None
+    asked.names = words
+    return asked
+
+
+def has_choice(asked):
+    return (asked.rule, asked.era, asked.only) != (None, None, None)
+
+
+def is_chosen(asked, entry):
+    eras = [entry.era, entry.begun] + [ended.era for ended in entry.ended]
+    return (asked.rule is None or asked.rule in entry.rules) and (asked.era is None or asked.era in eras) \
+        and asked.only in (None, entry.verdict)
+
+
+# The three files
+
+class Capture:
+    """The records of a capture, one at a time."""
+
+    def __init__(self, name, head, records, fault, at):
+        self.name, self.head, self.records, self.fault, self.at = name, head, records, fault, at
+        self.taken = 0
+
+    def next(self):
+        """The next record, or None at the end."""
+        if self.taken < len(self.records):
+            self.taken += 1
+            return self.records[self.taken - 1]
+        if self.fault != "end":
+            raise capture_fault(self.name, self.fault, self.at)
+        return None
+
+
+def capture_fault(name, fault, at):
+    return Ended(STATUS[fault], "stop %s %s %d" % (name, fault, at))
+
+
+class Lines:
+    """The lines of a report, one at a time."""
+
+    def __init__(self, octets):
+        self.lines = octets.decode("latin-1").split("\n")
+        self.unended = self.lines.pop()
+        self.number = 0
+
+    def next(self):
+        self.number += 1
+        if self.number > len(self.lines):
+            raise self.fault()
+        return self.lines[self.number - 1]
+
+    def fault(self):
+        """The line taken last is none of a finished run's report."""
+        return Ended(9, "stop report %d" % self.number)
+
+    def need_end(self):
+        """Behind the last line there is nothing."""
+        if self.number < len(self.lines) or self.unended:
+            self.number += 1
+            raise self.fault()
+
+
+def octets_of(octets):
+    """The octets of a file; None is one that cannot be read."""
+    if octets is None:
+        raise Ended(5, "stop read")
+    return octets
+
+
+def open_input(octets):
+    head, records, fault, at = read_input(octets_of(octets), None)
+    if head is None:
+        raise capture_fault("in", fault, at)
+    return Capture("in", head, records, fault, at)
+
+
+def open_output(octets, link):
+    """Its frames have the link of the input's records."""
+    head = read_head(octets_of(octets))
+    if isinstance(head, str):
+        raise capture_fault("out", head, 0)
+    if head.link != link:
+        raise capture_fault("out", "link", 0)
+    return Capture("out", head, *read_records(octets, head))
+
+
+def open_report(octets):
+    """The lines behind the first one, and the version. That of a run with both sides protected is refused."""
+    lines = Lines(octets_of(octets))
+    first = lines.next() + "\n"
+    for version in (1, 2):
+        if first == first_line(version):
+            return lines, version
+    raise lines.fault()
+
+
+def open_files(files):
+    source = open_input(files[0])
+    written = open_output(files[1], source.head.link)
+    lines, version = open_report(files[2])
+    return SimpleNamespace(source=source, written=written, lines=lines, version=version, link=source.head.link)
+
+
+# The items, one for each record
+
+def items_of(run):
+    """The item of each record. Then all three files are at their end."""
+    records = 0
+    while True:
+        line = run.lines.next()
+        counts = read_end(line)
+        if counts is not None:
+            need_ends(run, records, counts)
+            return
+        records += 1
+        yield need_item(run, need_entry(run, line, records))
+
+
+def need_entry(run, line, number):
+    entry = read_entry(line, run.version)
+    if entry is None or entry.number != number:
+        raise run.lines.fault()
+    return entry
+
+
+def need_frames(run, count):
+    frames = []
+    for _ in range(count):
+        frame = run.written.next()
+        if frame is None:
+            raise Ended(1, "no frame %d" % (run.written.taken + 1))
+        frames.append(frame.octets)
+    return frames
+
+
+def need_item(run, entry):
+    record = run.source.next()
+    if record is None:
+        raise Ended(1, "no record %d" % entry.number)
+    return item_of(run, entry, record, need_frames(run, entry.packets))
+
+
+def time_of(head, record):
+    return record.seconds * 10**9 + record.fraction * (1 if head.nano else 1000)
+
+
+def item_of(run, entry, record, frames):
+    changes = [change for n, frame in enumerate(frames, 1) for change in changes_of(run.link, record.octets, frame, n)]
+    return SimpleNamespace(number=entry.number, entry=entry, time=time_of(run.source.head, record), frames=frames,
+                           flow=flow_of(run.link, record.octets), length=length_of(run.link, record.octets), changes=changes,
+                           record=record.octets)
+
+
+def need_ends(run, records, counts):
+    if counts != (records, run.written.taken):
+        raise run.lines.fault()
+    run.lines.need_end()
+    if run.source.next() is not None:
+        raise Ended(1, "no record %d" % (records + 1))
+    if run.written.next() is not None:
+        raise Ended(1, "no frame %d" % run.written.taken)
+
+
+# The eras
+
+def eras_of(run, items):
+    """The eras that the items name, in the order in which they are first named."""
+    eras = {}
+    for item in items:
+        for number in [item.entry.era, item.entry.begun] + [ended.era for ended in item.entry.ended]:
+            if number is not None:
+                eras.setdefault(number, new_era(number))
+        if item.entry.era is not None:
+            add_to_era(run, eras[item.entry.era], item)
+        if item.entry.begun is not None:
+            eras[item.entry.begun].flow = flow_of(run.link, (item.frames + [item.record])[0])
+        for ended in item.entry.ended:
+            eras[ended.era].end = ended.reason
+    return list(eras.values())
+
+
+def new_era(number):
+    return SimpleNamespace(number=number, flow=None, first=0, last=0, records=0, octets=0, end="live", rules=[])
+
+
+def add_to_era(run, era, item):
+    era.first = item.time if era.records == 0 else era.first
+    era.last = item.time
+    era.records += 1
+    era.rules += [rule for rule in dict.fromkeys(item.entry.rules) if rule not in era.rules]
+    if item.entry.side == "in":
+        era.octets += sum(length_of(run.link, frame) for frame in item.frames if has_tcp(run.link, frame))
+
+
+def has_tcp(link, frame):
+    flow = flow_of(link, frame)
+    return flow is not None and flow.flags is not None
+
+
+# The view
+
+def view(words, files):
+    """The status and the output; `files` are the octets of the three files, None for one that cannot be read."""
+    asked = read_view_words(words)
+    if asked is None:
+        return 2, "stop words\n"
+    lines = []
+    try:
+        add_lines(asked, files, lines)
+    except Ended as ended:
+        return ended.status, "".join(lines) + ended.line + "\n"
+    return 0, "".join(lines)
+
+
+def view_files(words):
+    """The same of the files that the words name, as the program reads them."""
+    asked = read_view_words(words)
+    return view(words, [] if asked is None else [read_file(name) for name in asked.names])
+
+
+def read_file(name):
+    try:
+        with open(name, "rb") as file:
+            return file.read()
+    except OSError:
+        return None
+
+
+def add_lines(asked, files, lines):
+    run = open_files(files)
+    one_by_one = asked.json or has_choice(asked)
+    items = []
+    for item in items_of(run):
+        items.append(item)
+        if one_by_one and is_chosen(asked, item.entry):
+            lines.append((record_json if asked.json else record_text)(item))
+    if has_choice(asked):
+        return
+    eras = eras_of(run, items)
+    if not asked.json:
+        lines.append(summary_text(items, eras))
+    lines += [(era_json if asked.json else era_text)(era) for era in eras]

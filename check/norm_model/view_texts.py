@@ -1,0 +1,138 @@
+"""The lines of a view: records, eras and the summary, as text and as JSON."""
+
+import json
+from datetime import datetime, timedelta
+
+from norm_model.sentences import SENTENCES
+from norm_model.view_fields import address_text, flags_text, protocol_text
+
+ENDS = ("live", "reset", "evicted", "idle", "reopened")
+
+VERDICTS = ("pass", "fix", "hold", "drop")
+
+SIDES = ("in", "out", "-")
+
+
+def time_text(nanoseconds):
+    """RFC 3339, in UTC."""
+    seconds, fraction = divmod(nanoseconds, 10**9)
+    return (datetime(1970, 1, 1) + timedelta(seconds=seconds)).strftime("%Y-%m-%dT%H:%M:%S") + ".%09dZ" % fraction
+
+
+def rule_text(rule):
+    return "%s (%s)" % (rule, SENTENCES[rule])
+
+
+def end_text(address, port):
+    return address_text(address) + ("" if port is None else ":%d" % port)
+
+
+def ends_text(flow):
+    if flow is None:
+        return "- > -"
+    return "%s > %s" % (end_text(flow.src, flow.sport), end_text(flow.dst, flow.dport))
+
+
+def flow_text(flow):
+    if flow is None:
+        return "- > - -"
+    text = "%s %s" % (ends_text(flow), protocol_text(flow.protocol))
+    if flow.flags is None:
+        return text
+    return text + " %s seq %d ack %d" % (flags_text(flow.flags), flow.seq, flow.ack)
+
+
+# A record
+
+def change_text(change):
+    if change.field != "payload":
+        return "%s %s > %s" % (change.field, change.before or "-", change.after or "-")
+    text = "payload"
+    for word, number in (("front", change.front), ("end", change.end), ("longer", change.longer)):
+        text += " %s %d" % (word, number) if number else ""
+    return text + "".join(" at %d %s > %s" % (run.at, run.before.hex(), run.after.hex()) for run in change.replaced)
+
+
+def changes_text(changes):
+    text = ""
+    for number in sorted({change.frame for change in changes}):
+        text += "; frame %d " % number + ", ".join(change_text(change) for change in changes if change.frame == number)
+    return text
+
+
+def record_text(item):
+    entry = item.entry
+    words = [str(item.number), time_text(item.time), entry.side, flow_text(item.flow), "len %d" % item.length, entry.verdict]
+    words += [] if entry.era is None else ["era %d" % entry.era]
+    words += [rule_text(rule) for rule in entry.rules] + ["frames %d" % len(item.frames)]
+    return " ".join(words) + changes_text(item.changes) + "\n"
+
+
+def json_line(values):
+    return json.dumps(values, sort_keys=True, separators=(",", ":")) + "\n"
+
+
+def ends_values(flow):
+    if flow is None:
+        return {"src_ip": None, "src_port": None, "dest_ip": None, "dest_port": None}
+    return {"src_ip": address_text(flow.src), "src_port": flow.sport, "dest_ip": address_text(flow.dst), "dest_port": flow.dport}
+
+
+def flow_values(flow):
+    values = dict(ends_values(flow), proto=None, flags=None, seq=None, ack=None)
+    if flow is not None:
+        values["proto"] = protocol_text(flow.protocol)
+    if flow is not None and flow.flags is not None:
+        values.update(flags=flags_text(flow.flags), seq=flow.seq, ack=flow.ack)
+    return values
+
+
+def change_values(change):
+    if change.field != "payload":
+        return {"frame": change.frame, "field": change.field, "from": change.before, "to": change.after}
+    replaced = [{"at": run.at, "from": run.before.hex(), "to": run.after.hex()} for run in change.replaced]
+    return {"frame": change.frame, "field": change.field, "front": change.front, "end": change.end, "longer": change.longer,
+            "replaced": replaced}
+
+
+def record_json(item):
+    entry = item.entry
+    return json_line(dict(
+        flow_values(item.flow), event="record", record=item.number, by="first", number=entry.number,
+        time=time_text(item.time), side=None if entry.side == "-" else entry.side, length=item.length,
+        verdict=entry.verdict, rules=entry.rules, era=entry.era, begun=entry.begun,
+        ended=[{"era": ended.era, "reason": ended.reason} for ended in entry.ended],
+        frames=len(item.frames), changes=[change_values(change) for change in item.changes],
+    ))
+
+
+# An era
+
+def era_text(era):
+    words = ["era %d" % era.number, ends_text(era.flow), time_text(era.first), time_text(era.last)]
+    return " ".join(words + ["records %d" % era.records, "octets %d" % era.octets, era.end] + era.rules) + "\n"
+
+
+def era_json(era):
+    return json_line(dict(
+        ends_values(era.flow), event="era", era=era.number, by="first", first=time_text(era.first),
+        last=time_text(era.last), records=era.records, octets=era.octets, end=era.end, rules=era.rules,
+    ))
+
+
+# The summary
+
+def side_line(items, side):
+    verdicts = [item.entry.verdict for item in items if item.entry.side == side]
+    return side + "".join(" %s %d" % (verdict, verdicts.count(verdict)) for verdict in VERDICTS) + "\n"
+
+
+def summary_text(items, eras):
+    """`items` are those of all lines of the report, and `eras` those that are named in it."""
+    text = "records %d\n" % len(items) + "".join(side_line(items, side) for side in SIDES)
+    text += "frames %d\n" % sum(len(item.frames) for item in items)
+    named = [rule for item in items for rule in item.entry.rules]
+    for rule in dict.fromkeys(named):
+        text += "rule %s %d (%s)\n" % (rule, named.count(rule), SENTENCES[rule])
+    ends = [era.end for era in eras]
+    return text + "eras %d" % len(eras) + "".join(" %s %d" % (end, ends.count(end)) for end in ENDS) + "\n"
