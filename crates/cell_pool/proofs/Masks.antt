@@ -1,38 +1,63 @@
 -- Masks of offsets, and what their bits mean for the packed octets.
-use Rattle.std.proofs.Common.{◌≡◌, ℕ, zero, suc, ◌+◌, ◌-◌, ◌*◌, ◌/◌, ◌%◌, ◌^◌, ◌<◌, ◌≤◌, List, [], ◌∷◌, min, get_or, Option, Some, None, IsSome, is_some, IsTrue, Bool, true, false, ◌↔◌, refl, sym, ap, ap₂, subst, ◌∙◌, arith, eq-eqb, inl, inr, bit_and, bit_xor, ◌==◌, ◌&&◌}
+use Rattle.std.proofs.Common.{◌≡◌, ℕ, zero, suc, ◌+◌, ◌-◌, ◌*◌, ◌/◌, ◌%◌, ◌^◌, ◌<◌, ◌≤◌, List, ◌++◌, length, map, min, replicate, get_or, Option, Some, None, IsSome, is_some, IsTrue, Bool, true, false, ◌↔◌, refl, sym, ap, ap₂, subst, ◌∙◌, arith, eq-eqb, inl, inr, bit_and, bit_xor, ◌==◌, ◌&&◌}
 use Rattle.std.specs.Int.{bit_at}
-use Rattle.std.proofs.lemmas.Bool.{cases_eq, cases_lt, lt-ltb, le-ltb}
+use Rattle.std.specs.List.{range_with_len}
+use Rattle.std.proofs.lemmas.Bool.{cases_eq, cases_lt}
 use Rattle.std.proofs.lemmas.Bool.Decides.{nat_tests}
+use Rattle.std.proofs.lemmas.List.{get_or-replicate, get_or_append_left, get_or-append_right, length-replicate}
+use Rattle.std.proofs.lemmas.List.FromFn.{get_or-map-range_with_len, length-map-range_with_len}
 use Rattle.std.proofs.lemmas.Nat.{and_le_r}
-use Rattle.std.proofs.lemmas.Nat.Bits.{bit_at_and, bit_at_xor, bit_at_ones, bit_at-zero, bit_at-lt, same_from_bits_below}
-use Rattle.cell_pool.specs.Packed.{octet_at, octets_of, HasBitsFrom, HasOnesBetween, IsMask, bit_of}
+use Rattle.std.proofs.lemmas.Nat.Bits.{bit_at_and, bit_at_xor, bit_at_ones, bit_at_ones_above, bit_at-zero, bit_at-lt, same_from_bits_below}
+use Rattle.cell_pool.specs.Packed.{octet_at, octets_of, HasOnesBetween, IsMask, bit_of}
 use Rattle.cell_pool.specs.Lists.{IsBlank, IsCovered}
 use Rattle.cell_pool.proofs.Bits.{octet_read}
 
--- the bits of `MAX` from a bit on
-max_low : (place word i : ℕ) → HasBitsFrom place (2 ^ 64 - 1) word → i < 64 → i < place → bit_at word i ≡ 0
-max_low place word i from lt below = from i lt ∙ rw (lt-ltb i place below) refl
-
-max_high : (place word i : ℕ) → HasBitsFrom place (2 ^ 64 - 1) word → i < 64 → place ≤ i → bit_at word i ≡ 1
-max_high place word i from lt above = from i lt ∙ rw (le-ltb i place above) (bit_at_ones 64 i lt)
-
-pub ones_of : (at end a b : ℕ) → at ≤ end → HasBitsFrom at (2 ^ 64 - 1) a → HasBitsFrom end (2 ^ 64 - 1) b →
-    HasOnesBetween at end (bit_xor a b)
-ones_of at end a b order low high = record {
-  inside = λ i lt above below. bit_at_xor a b i
-      ∙ ap₂ (λ x y. (x + y) % 2) (max_high at a i low lt above) (max_low end b i high lt below);
-  before = λ i lt below. bit_at_xor a b i
-      ∙ ap₂ (λ x y. (x + y) % 2) (max_low at a i low lt below) (max_low end b i high lt (omega arith));
-  behind = λ i lt over. bit_at_xor a b i
-      ∙ ap₂ (λ x y. (x + y) % 2) (max_high at a i low lt (omega arith)) (max_high end b i high lt over);
+-- a word with 1 at the bits below k, seen up to bit 63
+ones_upto : (k n : ℕ) → min k 64 ≡ min n 64 → HasOnesBetween 0 n (2 ^ k - 1)
+ones_upto k n same = record {
+  inside = λ i lt above below. bit_at_ones k i (omega arith);
+  before = λ i lt below. absurd (omega arith);
+  behind = λ i lt over. bit_at_ones_above k i (omega arith);
 }
 
-ones_at : {at other end other_end word : ℕ} → other ≡ at → other_end ≡ end → HasOnesBetween other other_end word →
-    HasOnesBetween at end word
-ones_at first last ones = record {
-  inside = λ i lt above below. ones.inside i lt (omega arith) (omega arith);
-  before = λ i lt below. ones.before i lt (omega arith);
-  behind = λ i lt over. ones.behind i lt (omega arith);
+-- the table of the words below each bit, row after row
+abbrev pub edges : List ℕ
+edges = replicate 192 0 ++ (map (λ k. 2 ^ k - 1) (range_with_len 0 64) ++ replicate 256 (2 ^ 64 - 1))
+
+pub edge_ones : (i n : ℕ) → i < 512 → n ≡ i - 192 → HasOnesBetween 0 n (get_or edges i 0)
+edge_ones i n lt is =
+    let zeros = replicate {A = ℕ} 192 0 in
+    let part = map (λ k. 2 ^ k - 1) (range_with_len 0 64) in
+    let ones = replicate {A = ℕ} 256 (2 ^ 64 - 1) in
+    let zeros_size : length zeros ≡ 192 = length-replicate {A = ℕ} 192 0 in
+    let part_size : length part ≡ 64 = length-map-range_with_len (λ k. 2 ^ k - 1) 0 64 in
+    elim (cases_lt i 192) [
+      | inl low ↦
+          let read : get_or edges i 0 ≡ 0 = get_or_append_left zeros (part ++ ones) 0 i (omega arith) ∙ get_or-replicate {A = ℕ} 192 i 0 0 low in
+          rw read (ones_upto 0 n (omega arith))
+      | inr high ↦
+          let behind = get_or-append_right zeros (part ++ ones) 192 i 0 zeros_size high in
+          elim (cases_lt i 256) [
+            | inl inside ↦
+                let read : get_or edges i 0 ≡ 2 ^ (i - 192) - 1 = behind ∙ (get_or_append_left part ones 0 (i - 192) (omega arith)
+                ∙ get_or-map-range_with_len (λ k. 2 ^ k - 1) 0 64 (i - 192) (i - 192) 0 (omega arith) (omega arith)) in
+                rw read (ones_upto (i - 192) n (omega arith))
+            | inr past ↦
+                let read : get_or edges i 0 ≡ 2 ^ 64 - 1 = behind ∙ (get_or-append_right part ones 64 (i - 192) 0 part_size (omega arith)
+                ∙ get_or-replicate {A = ℕ} 256 (i - 192 - 64) (2 ^ 64 - 1) 0 (omega arith)) in
+                rw read (ones_upto 64 n (omega arith))
+          ]
+    ]
+
+-- the ones below one bit and not below another
+pub ones_apart : (at end a b : ℕ) → at ≤ end → HasOnesBetween 0 at a → HasOnesBetween 0 end b → HasOnesBetween at end (bit_xor a b)
+ones_apart at end a b order low high = record {
+  inside = λ i lt above below. bit_at_xor a b i
+      ∙ ap₂ (λ x y. (x + y) % 2) (low.behind i lt above) (high.inside i lt (omega arith) below);
+  before = λ i lt below. bit_at_xor a b i
+      ∙ ap₂ (λ x y. (x + y) % 2) (low.inside i lt (omega arith) below) (high.inside i lt (omega arith) (omega arith));
+  behind = λ i lt over. bit_at_xor a b i
+      ∙ ap₂ (λ x y. (x + y) % 2) (low.behind i lt (omega arith)) (high.behind i lt over);
 }
 
 -- what holds of four words holds of each
@@ -44,32 +69,16 @@ four P first second third fourth (suc (suc (suc zero))) lt = fourth
 four P first second third fourth (suc (suc (suc (suc j)))) lt = absurd (omega arith)
 
 -- each word has the ones of its own offsets
-abbrev AreOnes : ℕ → ℕ → List ℕ → Type 0
+abbrev pub AreOnes : ℕ → ℕ → List ℕ → Type 0
 AreOnes at end words = (j : ℕ) → j < 4 → HasOnesBetween (at - 64 * j) (end - 64 * j) (get_or words j 0)
 
-mask_of : (at end : ℕ) (words : List ℕ) → ((j : ℕ) → j < 4 → get_or words j 0 < 2 ^ 64) → AreOnes at end words → IsMask at end words
+pub mask_of : (at end : ℕ) (words : List ℕ) → ((j : ℕ) → j < 4 → get_or words j 0 < 2 ^ 64) → AreOnes at end words → IsMask at end words
 mask_of at end words small each = record {
   small = small;
   inside = λ i lt above below. (each (i / 64) (omega arith)).inside (i % 64) (omega arith) (omega arith) (omega arith);
   before = λ i lt below. (each (i / 64) (omega arith)).before (i % 64) (omega arith) (omega arith);
   behind = λ i lt over. (each (i / 64) (omega arith)).behind (i % 64) (omega arith) (omega arith);
 }
-
--- the four words of a mask
-module _ (at end q r s x y z a b c d : ℕ) (q_is : q ≡ at - 64) (x_is : x ≡ end - 64) (r_is : r ≡ at - 128)
-    (y_is : y ≡ end - 128) (s_is : s ≡ at - 192) (z_is : z ≡ end - 192) where
-  words_ones : HasOnesBetween at end a → HasOnesBetween q x b → HasOnesBetween r y c → HasOnesBetween s z d →
-      AreOnes at end (a ∷ b ∷ c ∷ d ∷ [])
-  words_ones first second third fourth zero lt = ones_at (omega arith) (omega arith) first
-  words_ones first second third fourth (suc zero) lt = ones_at (omega arith) (omega arith) second
-  words_ones first second third fourth (suc (suc zero)) lt = ones_at (omega arith) (omega arith) third
-  words_ones first second third fourth (suc (suc (suc zero))) lt = ones_at (omega arith) (omega arith) fourth
-  words_ones first second third fourth (suc (suc (suc (suc j)))) lt = absurd (omega arith)
-
-  pub mask_words : a < 2 ^ 64 → b < 2 ^ 64 → c < 2 ^ 64 → d < 2 ^ 64 → HasOnesBetween at end a → HasOnesBetween q x b →
-      HasOnesBetween r y c → HasOnesBetween s z d → IsMask at end (a ∷ b ∷ c ∷ d ∷ [])
-  mask_words a_lt b_lt c_lt d_lt first second third fourth = mask_of at end (a ∷ b ∷ c ∷ d ∷ [])
-      (four (λ j. get_or (a ∷ b ∷ c ∷ d ∷ []) j 0 < 2 ^ 64) a_lt b_lt c_lt d_lt) (words_ones first second third fourth)
 
 -- the element at an offset, by its bit
 pub octet_off : (values known : List ℕ) (i : ℕ) → bit_of known i ≡ 0 → octet_at values known i ≡ None

@@ -13,12 +13,10 @@
 #![tactic(auto)]
 
 mod cells;
+mod mask;
 mod octets;
 mod pool;
 mod trees;
 
 pub use cells::{CellId, ChainId};
 pub use pool::Pool;
-
-#[cfg(test)]
-mod tests;

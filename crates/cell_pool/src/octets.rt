@@ -2,8 +2,9 @@
 ghost use Rattle.std.specs.Prelude.{◌≡◌, ◌↔◌, ◌+◌, ◌≤◌, length, IsTrue, IsNone, None, Some, replicate, slice_index_or, slice_set};
 ghost use Rattle.std.specs.List.{All};
 ghost use Rattle.cell_pool.specs.Lists.{without_below, with_run, IsBlank, IsCovered, StandsFrom};
-ghost use Rattle.cell_pool.specs.Packed.{HasBitsFrom, HasOnesBetween, IsMask};
+ghost use Rattle.cell_pool.specs.Packed.{HasBitsFrom};
 
+use crate::mask::mask;
 use std::marker::Model;
 
 /// 256 offsets, each with an octet or nothing.
@@ -32,27 +33,6 @@ fn bits_from(word: u64, place: usize) -> u64
     } else {
         0
     }
-}
-
-// Returns the word with 1 at the bits from `at` up to `end`; both may be 64 or more.
-fn ones_between(at: usize, end: usize) -> u64
-    requires { at ≤ end }
-    ensures { HasOnesBetween at end result }
-{
-    bits_from(u64::MAX, at) ^ bits_from(u64::MAX, end)
-}
-
-// Returns four words with 1 at the bits of the offsets from `at` up to `end`.
-fn mask(at: usize, end: usize) -> [u64; 4]
-    requires { at ≤ end }
-    ensures { IsMask at end result }
-{
-    [
-        ones_between(at, end),
-        ones_between(at.saturating_sub(64), end.saturating_sub(64)),
-        ones_between(at.saturating_sub(128), end.saturating_sub(128)),
-        ones_between(at.saturating_sub(192), end.saturating_sub(192)),
-    ]
 }
 
 impl Octets {
@@ -173,13 +153,13 @@ impl Octets {
         let first = usize::from(at);
         let end = first + octets.len();
         let places = mask(first, end);
-        let run = &mut self.values[first..end];
-        run.copy_from_slice(octets);
         self.known = [
             self.known[0] | places[0],
             self.known[1] | places[1],
             self.known[2] | places[2],
             self.known[3] | places[3],
         ];
+        let run = &mut self.values[first..end];
+        run.copy_from_slice(octets);
     }
 }
