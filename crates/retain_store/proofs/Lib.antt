@@ -1,5 +1,6 @@
 pub mod Blocks
 pub mod Counts
+pub mod Ends
 pub mod Fills
 pub mod Found
 pub mod Fronts

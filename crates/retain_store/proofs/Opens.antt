@@ -41,7 +41,7 @@ abbrev pub opened_cell : {old new : Lists} {c n : ℕ} {name : CellId} → Opens
 opened_cell opens = record { before = opens.before; cell = opens.cell; after = opens.after; at = opens.at; numbered = opens.numbered }
 
 -- the block has a cell
-pub opens_found : {pool : Lists} {c n : ℕ} {name : CellId} → IsKept (chain_at pool c) → IsCellOf (chain_at pool c) n name →
+abbrev pub opens_found : {pool : Lists} {c n : ℕ} {name : CellId} → IsKept (chain_at pool c) → IsCellOf (chain_at pool c) n name →
     Opens pool pool c n name
 opens_found {pool = pool} {c = c} kept cell = record {
   before = cell.before;
@@ -59,18 +59,18 @@ opens_found {pool = pool} {c = c} kept cell = record {
 }
 
 -- a block without octets
-no_octet : (n i : ℕ) (none : Option ℕ) → none ≡ None → get_or (replicate n none) i None ≡ None
+pub no_octet : (n i : ℕ) (none : Option ℕ) → none ≡ None → get_or (replicate n none) i None ≡ None
 no_octet n i none is = elim (cases_lt i n) [
   | inl lt ↦ get_or-replicate n i none None lt ∙ is
   | inr le ↦ get_or_past (replicate n none) i None (omega (arith, length-replicate n none))
 ]
 
-none_held : (n : ℕ) (none : Option ℕ) → none ≡ None → list_any is_some (replicate n none) ≡ false
+pub none_held : (n : ℕ) (none : Option ℕ) → none ≡ None → list_any is_some (replicate n none) ≡ false
 none_held n none is =
     list_any_none is_some (replicate n none) (All-replicate (λ o. is_some o ≡ false) n none (ap is_some is))
 
 -- the block gets a cell
-pub opens_taken : {old new : Lists} {c n : ℕ} {after : Option CellId} {name : CellId} → c < length old.chains →
+abbrev pub opens_taken : {old new : Lists} {c n : ℕ} {after : Option CellId} {name : CellId} → c < length old.chains →
     IsKept (chain_at old c) → (has : HasPlaceFor (chain_at old c) after n) → (old.free ≡ 0 → ⊥) →
     TakesAfter old new c after (empty_cell name n) → Opens old new c n name
 opens_taken {old = old} {new = new} {c = c} {n = n} {name = name} inside kept has some takes =

@@ -5,18 +5,18 @@ use Rattle.std.specs.Option.{option_or}
 use Rattle.std.proofs.lemmas.Bool.{cases_eq, cases_lt, or_right}
 use Rattle.std.proofs.lemmas.Bool.Decides.{nat_tests}
 use Rattle.std.proofs.Math.Bool.{or-false}
-use Rattle.std.proofs.lemmas.List.{set-set}
+use Rattle.std.proofs.lemmas.List.{set-set, length-replicate}
 use Rattle.std.proofs.lemmas.List.Folds.{list_any_at}
 use Rattle.cell_pool.specs.declared.cells.CellId.{CellId}
-use Rattle.cell_pool.specs.Lists.{Lists, Held, IsRising, Writes, chain_at, with_chain}
+use Rattle.cell_pool.specs.Lists.{Lists, Held, HasPlaceFor, IsBlank, IsRising, TakesAfter, Writes, chain_at, empty_cell, with_chain, with_run}
 use Rattle.cell_pool.proofs.Rising.{IsRising-octets}
 use Rattle.retain_store.specs.Maps.{IsFull, block_at, octet_at, octet_in, holds}
-use Rattle.retain_store.specs.Seats.{blocks_in, AllFull}
+use Rattle.retain_store.specs.Seats.{blocks_in, AllFull, IsCellOf, IsKept}
 use Rattle.retain_store.specs.Changes.{IsChanged, Opens, PlacesPiece, with_octets}
 use Rattle.retain_store.proofs.Walks.{stands}
 use Rattle.retain_store.proofs.Blocks.{found_in, full_more, other_in}
-use Rattle.retain_store.proofs.Segments.{got_with, length_with, octet_before, octet_past, or_none}
-use Rattle.retain_store.proofs.Opens.{chain_is, changed_by, opened_cell}
+use Rattle.retain_store.proofs.Segments.{got_with, length_with, octet_before, octet_past, or_none, with_blank}
+use Rattle.retain_store.proofs.Opens.{chain_is, changed_by, no_octet, opened_cell, opens_found, opens_taken}
 
 -- the chain is still one of the chains
 pub inside_then : {old new : Lists} {c : ℕ} → c < length old.chains → IsChanged old new c → c < length new.chains
@@ -53,15 +53,15 @@ or_some (Some x) b some = refl
 
 -- octets of this block were added
 pub places_piece : {old mid new : Lists} {c from : ℕ} {piece : List ℕ} {name : CellId} (at : ℕ) → c < length old.chains →
-    at ≡ from % 256 → 0 < length piece → from % 256 + length piece ≤ 256 → Opens old mid c (from / 256) name →
-    Writes mid new name (λ octets. with_octets octets at piece) → PlacesPiece old new c from piece name
-places_piece {old = old} {mid = mid} {new = new} {c = c} {from = from} {piece = piece} {name = name} at inside at_is some fits opens writes =
+    at ≡ from % 256 → 0 < length piece → from % 256 + length piece ≤ 256 → (opens : Opens old mid c (from / 256) name) →
+    new ≡ with_chain mid c (opens.before ++ record opens.cell { octets = with_octets opens.cell.octets at piece } ∷ opens.after) mid.free →
+    PlacesPiece old new c from piece name
+places_piece {old = old} {mid = mid} {new = new} {c = c} {from = from} {piece = piece} {name = name} at inside at_is some fits opens is =
     let n = from / 256 in
     let x = opens.cell in
     let y : Held = record x { octets = with_octets x.octets at piece } in
     let cells = opens.before ++ y ∷ opens.after in
     let within = inside_then inside opens.changed in
-    let is : new ≡ with_chain mid c cells mid.free = writes c opens.before x opens.after (stands within opens.at) in
     let here = chain_is mid c cells mid.free within is in
     let old_rises = subst IsRising opens.at.splits opens.rising in
     let rises = IsRising-octets opens.before x opens.after y.octets old_rises in
@@ -128,3 +128,26 @@ places_piece {old = old} {mid = mid} {new = new} {c = c} {from = from} {piece = 
             ∙ (sym (or-false (holds (blocks_in old c) m)) ∙ ap (λ b. holds (blocks_in old c) m || b) (sym (ne_eqb m n (λ e. differ (sym e))))))
       ];
     }
+
+-- they were written into a cell of the block
+pub places_found : {old new : Lists} {c from : ℕ} {piece : List ℕ} {name : CellId} (at : ℕ) → c < length old.chains →
+    at ≡ from % 256 → 0 < length piece → from % 256 + length piece ≤ 256 → IsKept (chain_at old c) →
+    IsCellOf (chain_at old c) (from / 256) name → Writes old new name (λ octets. with_octets octets at piece) →
+    PlacesPiece old new c from piece name
+places_found at inside at_is some fits kept cell writes =
+    places_piece at inside at_is some fits (opens_found kept cell) (writes _ cell.before cell.cell cell.after (stands inside cell.at))
+
+-- or into a cell that was taken for it
+pub places_taken : {old mid new : Lists} {c from : ℕ} {piece : List ℕ} {after : Option CellId} {name : CellId} (at : ℕ) →
+    c < length old.chains → at ≡ from % 256 → 0 < length piece → from % 256 + length piece ≤ 256 → IsKept (chain_at old c) →
+    HasPlaceFor (chain_at old c) after (from / 256) → (old.free ≡ 0 → ⊥) →
+    TakesAfter old mid c after (empty_cell name (from / 256)) → Writes mid new name (with_run at piece) →
+    PlacesPiece old new c from piece name
+places_taken {mid = mid} {c = c} {from = from} {piece = piece} {name = name} at inside at_is some fits kept has free takes writes =
+    let x = empty_cell name (from / 256) in
+    let blank : IsBlank at (length piece) x.octets = λ i lt. no_octet 256 (at + i) None refl in
+    let run = with_blank x.octets at piece (omega (arith, length-replicate {A = Option ℕ} 256 None)) blank in
+    let opens = opens_taken inside kept has free takes in
+    places_piece at inside at_is some fits opens
+    (writes c has.before x has.rest (stands (inside_then inside opens.changed) opens.at)
+    ∙ ap (λ o. with_chain mid c (has.before ++ record x { octets = o } ∷ has.rest) mid.free) run)

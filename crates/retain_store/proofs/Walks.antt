@@ -1,5 +1,5 @@
 -- The cells of a chain, in the form that the pool's calls require, and a walk along them.
-use Rattle.std.proofs.Common.{◌≡◌, ℕ, ◌+◌, ◌<◌, ◌≤◌, ◌≢◌, List, [], ◌∷◌, ◌++◌, length, Option, Some, None, refl, sym, ap, ◌∙◌, arith, length-append, append_assoc}
+use Rattle.std.proofs.Common.{◌≡◌, ℕ, ◌+◌, ◌<◌, ◌≤◌, ◌≢◌, List, [], ◌∷◌, ◌++◌, length, false, Option, Some, None, is_some, refl, sym, ap, ◌∙◌, arith, length-append, append_assoc}
 use Rattle.cell_pool.specs.declared.cells.CellId.{CellId}
 use Rattle.cell_pool.specs.Lists.{Lists, Held, HasPlaceFor, BeginsAbove, EndsBelow, chain_at, first_id, last_id, Stands, StandsUpTo, IsHeld}
 use Rattle.cell_pool.proofs.Steps.{last_id-push, EndsBelow-push}
@@ -23,6 +23,10 @@ pub record Reached (cells : List Held) (number : ℕ) (last : Option CellId) (na
   pub ends : last_id before ≡ last
   pub below : EndsBelow number before
   pub count : passed ≤ length before
+
+pub none_of : {A : Type 0} (o : Option A) → is_some o ≡ false → o ≡ None
+none_of None none = refl
+none_of (Some x) none = cc
 
 none_left : (number : ℕ) (rest : List Held) → None ≡ first_id rest → BeginsAbove number rest
 none_left number [] none = tt

@@ -27,6 +27,3 @@ mod writes;
 pub use cell_pool::ChainId;
 pub use reads::blocks_touched;
 pub use store::Retain;
-
-#[cfg(test)]
-mod tests;

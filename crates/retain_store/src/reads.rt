@@ -6,7 +6,7 @@ ghost use Rattle.retain_store.specs.Maps.{holds, octet_at, touched, missing, Agr
 ghost use Rattle.retain_store.specs.Seats.{blocks_in, IsKept, IsNear};
 
 use crate::runs::{agrees_piece, copy_piece, covers_piece, piece_len, settle_piece};
-use crate::seat::{Seat, seek};
+use crate::seat::{Seat, ends_before, seek};
 use cell_pool::{CellId, ChainId, Pool};
 
 /// Returns the number of blocks of 256 offsets that `len` offsets from `from` on touch: as many
@@ -106,6 +106,9 @@ pub(crate) fn agrees_all(
     requires offsets { from + length bytes.now ≤ 2 ^ 64 - 1 }
     ensures { IsTrue result ↔ Agrees (blocks_in pool.now chain.0) from bytes.now }
 {
+    if ends_before(pool, chain, near, from) {
+        return true;
+    }
     let mut near = near;
     let mut done = 0;
     while done < bytes.len() {
@@ -156,6 +159,9 @@ pub(crate) fn settle_all(
     ensures settled { Settles (blocks_in pool.now chain.0) from bytes.old bytes.new }
     ensures same { (result ≡ false) ↔ (bytes.new ≡ bytes.old) }
 {
+    if ends_before(pool, chain, near, from) {
+        return false;
+    }
     let mut near = near;
     let mut changed = false;
     let mut done = 0;

@@ -1,8 +1,8 @@
 //! The position of a block in a chain of the pool.
-ghost use Rattle.std.specs.Prelude.{◌≡◌, ◌<◌, ◌%◌, length};
+ghost use Rattle.std.specs.Prelude.{◌≡◌, ◌<◌, ◌%◌, length, IsTrue};
 ghost use Rattle.cell_pool.specs.Lists.{chain_at, IsRising};
 ghost use Rattle.retain_store.specs.Seats.{blocks_in, IsNear, IsSeat, IsWalk};
-ghost use Rattle.retain_store.specs.Maps.{octet_at};
+ghost use Rattle.retain_store.specs.Maps.{octet_at, IsWithin};
 
 use cell_pool::{CellId, ChainId, Pool};
 
@@ -16,8 +16,9 @@ pub(crate) enum Seat {
 // A walk starts at the cell used last if the block is less than this many blocks after it.
 const CLOSE: u64 = 16;
 
-/// Finds the seat of a block. The walk starts at `near` if that cell is less than 16 blocks before,
-/// otherwise at a landmark of the pool or at the front.
+/// Finds the seat of a block: after `near` if that cell is before the block and the last of its
+/// chain. A walk starts at `near` if that cell is less than 16 blocks before, otherwise at a landmark
+/// of the pool or at the front.
 pub(crate) fn seek(pool: &Pool, chain: ChainId, near: Option<CellId>, block: u64) -> Seat
     requires chain_in_range { chain.0 < length pool.now.chains }
     requires near_in_chain { IsNear (chain_at pool.now chain.0) near }
@@ -28,8 +29,14 @@ pub(crate) fn seek(pool: &Pool, chain: ChainId, near: Option<CellId>, block: u64
         if reached == block {
             return Seat::Cell(cell);
         }
-        if reached < block && block - reached < CLOSE {
-            return walk(pool, chain, near, pool.next_of(cell), block);
+        if reached < block {
+            let next = pool.next_of(cell);
+            if next.is_none() {
+                return Seat::After(near);
+            }
+            if block - reached < CLOSE {
+                return walk(pool, chain, near, next, block);
+            }
         }
     }
     seek_far(pool, chain, block)
@@ -83,6 +90,28 @@ fn walk(
         next = pool.next_of(cell);
     }
     Seat::After(after)
+}
+
+/// Returns whether `near` is the last cell of the chain and no offset from `from` on has an octet.
+/// No cell is walked past, so false says nothing of a chain whose last cell is another one.
+pub(crate) fn ends_before(pool: &Pool, chain: ChainId, near: Option<CellId>, from: u64) -> bool
+    requires chain_in_range { chain.0 < length pool.now.chains }
+    requires near_in_chain { IsNear (chain_at pool.now chain.0) near }
+    requires rising { IsRising (chain_at pool.now chain.0) }
+    ensures { IsTrue result → IsWithin (blocks_in pool.now chain.0) from }
+{
+    let Some(cell) = near else {
+        return pool.first(chain).is_none();
+    };
+    if let Some(_) = pool.next_of(cell) {
+        return false;
+    }
+    let reached = pool.block(cell);
+    let at = place_of(from);
+    if reached == from / 256 {
+        return pool.is_blank(cell, at, 256 - usize::from(at));
+    }
+    reached < from / 256
 }
 
 /// Returns the octet at an offset, if there is one, and a cell at which the next walk may start.

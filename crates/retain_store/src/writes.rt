@@ -1,9 +1,9 @@
 //! Additions to a chain.
 ghost use Rattle.std.specs.Prelude.{◌≡◌, ℕ, ◌+◌, ◌-◌, ◌<◌, ◌≤◌, ◌/◌, ◌%◌, ◌^◌, Some, true, length};
-ghost use Rattle.cell_pool.specs.Lists.{chain_at, IsHeld, IsRising, Writes};
+ghost use Rattle.cell_pool.specs.Lists.{chain_at, HasPlaceFor, IsHeld, IsRising, Writes};
 ghost use Rattle.retain_store.specs.Maps.{fresh, holds, missing, Places};
 ghost use Rattle.retain_store.specs.Seats.{blocks_in, IsCellOf, IsKept, IsNear};
-ghost use Rattle.retain_store.specs.Changes.{with_octet, with_octets, IsChanged, Opens, PlacesPiece};
+ghost use Rattle.retain_store.specs.Changes.{with_octet, with_octets, IsChanged, PlacesPiece};
 
 use crate::each::count_each;
 use crate::seat::{Seat, place_of, seek};
@@ -54,23 +54,27 @@ fn fill(pool: &mut Pool, chain: ChainId, cell: CellId, from: u64, piece: &[u8]) 
     fresh
 }
 
-// Returns the cell of a block; takes a free one if the block has none.
-fn cell_for(pool: &mut Pool, chain: ChainId, near: Option<CellId>, block: u64) -> CellId
+// Takes a free cell for a block that has none, and writes octets of the block into it.
+fn open_piece(
+    pool: &mut Pool,
+    chain: ChainId,
+    after: Option<CellId>,
+    from: u64,
+    piece: &[u8],
+) -> CellId
     requires chain_in_range { chain.0 < length pool.old.chains }
-    requires near_in_chain { IsNear (chain_at pool.old chain.0) near }
+    requires place { HasPlaceFor (chain_at pool.old chain.0) after (from / 256) }
     requires kept { IsKept (chain_at pool.old chain.0) }
-    requires room { pool.old.free ≡ 0 → holds (blocks_in pool.old chain.0) block ≡ true }
-    ensures { Opens pool.old pool.new chain.0 block result }
+    requires room { 0 < pool.old.free }
+    requires some { 0 < length piece.now }
+    requires fits { from % 256 + length piece.now ≤ 256 }
+    ensures { PlacesPiece pool.old pool.new chain.0 from piece.now result }
 {
-    match seek(pool, chain, near, block) {
-        Seat::Cell(cell) => cell,
-        Seat::After(after) => {
-            let Some(cell) = pool.take_after(chain, after, block) else {
-                unreachable!()
-            };
-            cell
-        }
-    }
+    let Some(cell) = pool.take_after(chain, after, from / 256) else {
+        unreachable!()
+    };
+    pool.set_run(cell, place_of(from), piece);
+    cell
 }
 
 // Adds octets of one block at the offsets that have none, and returns its cell and their number.
@@ -91,9 +95,16 @@ fn place_piece(
     ensures placed { PlacesPiece pool.old pool.new chain.0 from piece.now result.0 }
     ensures fresh { result.1 ≡ fresh (blocks_in pool.old chain.0) from (length piece.now) }
 {
-    let cell = cell_for(pool, chain, near, from / 256);
-    let fresh = fill(pool, chain, cell, from, piece);
-    (cell, fresh)
+    match seek(pool, chain, near, from / 256) {
+        Seat::Cell(cell) => {
+            let fresh = fill(pool, chain, cell, from, piece);
+            (cell, fresh)
+        }
+        Seat::After(after) => {
+            let cell = open_piece(pool, chain, after, from, piece);
+            (cell, piece.len() as u32)
+        }
+    }
 }
 
 /// Adds octets at the offsets that have none, and returns a cell at which the next walk may start
