@@ -12,3 +12,33 @@ pub trait Key: Copy + Eq {
 
     ghost equal_is_same: { (a b : Self) → Self.eq a b ≡ true → a ≡ b };
 }
+
+/// Key with its hash under the seed of a table.
+#[derive(Drop)]
+pub struct Hashed<K: Key> {
+    pub key: K,
+    seed: u64,
+    hash: u64,
+    ghost right: { hash ≡ K.hash_of key seed },
+}
+
+impl<K: Key> Hashed<K> {
+    /// Hashes a key under a seed.
+    pub(crate) fn under(key: K, seed: u64) -> Hashed<K>
+        ensures { result.key ≡ key }
+    {
+        let hash = key.hash_with(seed);
+        Hashed { key, seed, hash }
+    }
+
+    /// Returns the hash of the key under a seed, which is at hand if the seed is the same.
+    pub(crate) fn hash_under(&self, seed: u64) -> u64
+        ensures { result ≡ K.hash_of self.now.key seed }
+    {
+        if self.seed == seed {
+            self.hash
+        } else {
+            self.key.hash_with(seed)
+        }
+    }
+}

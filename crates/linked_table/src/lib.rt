@@ -22,6 +22,6 @@ mod ring;
 mod table;
 
 pub use hash::hash_words;
-pub use key::Key;
+pub use key::{Hashed, Key};
 pub use list::SlotList;
 pub use table::{LinkedTable, Slot};

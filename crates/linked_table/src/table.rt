@@ -4,7 +4,7 @@ ghost use Rattle.std.specs.List.{All, AllPairs};
 ghost use Rattle.linked_table.specs.Table.{IsIn, IsNotIn, HasNone, SplitAt, Wherever, Answers, IsCallableAt, PassesFirst, without, only, with_value, first_slot};
 ghost use Rattle.linked_table.specs.Sound.{IsAllFree};
 
-use crate::key::Key;
+use crate::key::{Hashed, Key};
 use crate::ring::Rings;
 use edge_io::NoMemory;
 use std::alloc::Global;
@@ -45,11 +45,11 @@ impl<K: Key, V> Model for LinkedTable<K, V> {
 }
 
 // Returns the bucket of a key, below `buckets`.
-fn bucket_of<K: Key>(key: &K, seed: u64, buckets: usize) -> usize
+fn bucket_of<K: Key>(hashed: &Hashed<K>, seed: u64, buckets: usize) -> usize
     requires { 0 < buckets }
-    ensures { result ≡ K.hash_of key.now seed % buckets }
+    ensures { result ≡ K.hash_of hashed.now.key seed % buckets }
 {
-    (key.hash_with(seed) % buckets as u64) as usize
+    (hashed.hash_under(seed) % buckets as u64) as usize
 }
 
 // Returns `count` slots without a pair.
@@ -130,8 +130,27 @@ impl<K: Key, V> LinkedTable<K, V> {
         ensures whichever { All (λ e. e.key ≡ key.now → result ≡ Some e.slot) self.now.entries }
         ensures absent { IsNone result ↔ HasNone self.now.entries key.now }
     {
+        self.find_hashed(&self.hashed(*key))
+    }
+
+    /// Returns the key with its hash: one hash serves `find_hashed` and `insert_hashed`.
+    pub fn hashed(&self, key: K) -> Hashed<K>
+        ensures { result.key ≡ key }
+    {
+        Hashed::under(key, self.seed)
+    }
+
+    /// Returns the slot of the entry with this key.
+    pub fn find_hashed(&self, hashed: &Hashed<K>) -> Option<Slot>
+        ensures found { IfSome result (IsIn self.now.entries) }
+        ensures same_key { IfSome result (λ slot. Wherever self.now.entries slot (λ e. e.key ≡ hashed.now.key)) }
+        ensures split { IfSome result (SplitAt self.now.entries) }
+        ensures whichever { All (λ e. e.key ≡ hashed.now.key → result ≡ Some e.slot) self.now.entries }
+        ensures absent { IsNone result ↔ HasNone self.now.entries hashed.now.key }
+    {
+        let key = &hashed.key;
         let slots = self.pairs.len();
-        let hub = slots + bucket_of(key, self.seed, self.chains.len() - slots);
+        let hub = slots + bucket_of(hashed, self.seed, self.chains.len() - slots);
         let mut node = self.chains.after(hub);
         for _ in 0..self.len {
             if node == hub {
@@ -220,16 +239,30 @@ impl<K: Key, V> LinkedTable<K, V> {
         ensures fresh { IfOk result (IsNotIn self.old.entries) }
         ensures added { IfOk result (λ slot. self.new ≡ record self.old { entries = self.old.entries ++ record { slot = slot; key = key; value = value } ∷ [] }) }
     {
+        let hashed = self.hashed(key);
+        self.insert_hashed(&hashed, value)
+    }
+
+    /// Adds an entry as the most recently touched one, or returns the pair if the table is full.
+    pub fn insert_hashed(&mut self, hashed: &Hashed<K>, value: V) -> Result<Slot, (K, V)>
+        requires { HasNone self.old.entries hashed.now.key }
+        ensures full { IsErr result ↔ (length self.old.entries ≡ self.old.max) }
+        ensures back { IfErr result (λ pair. pair ≡ (hashed.now.key, value)) }
+        ensures unchanged { OnErr result (self.new ≡ self.old) }
+        ensures below { IfOk result (λ slot. slot.0 < self.old.max) }
+        ensures fresh { IfOk result (IsNotIn self.old.entries) }
+        ensures added { IfOk result (λ slot. self.new ≡ record self.old { entries = self.old.entries ++ record { slot = slot; key = hashed.now.key; value = value } ∷ [] }) }
+    {
         let slots = self.pairs.len();
         if self.len as usize == slots {
-            return Err((key, value));
+            return Err((hashed.key, value));
         }
         let node = self.recency.before(slots + 1);
-        let hub = slots + bucket_of(&key, self.seed, self.chains.len() - slots);
+        let hub = slots + bucket_of(hashed, self.seed, self.chains.len() - slots);
         self.recency.unlink(node);
         self.recency.link_last(slots, node);
         self.chains.link_last(hub, node);
-        fill(&mut self.pairs[node], (key, value));
+        fill(&mut self.pairs[node], (hashed.key, value));
         self.len += 1;
         Ok(Slot(node as u32))
     }

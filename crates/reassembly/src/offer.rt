@@ -1,11 +1,12 @@
 //! Calls that offer a fragment.
 use crate::assembly::Assembly;
+use crate::id::DatagramId;
 use crate::odds::odds;
 use crate::piece::{Offered, Piece};
 use crate::progress::Progress;
 use crate::rows::own_row;
 use crate::take::take;
-use linked_table::Slot;
+use linked_table::{Hashed, Slot};
 use retain_store::{ChainId, blocks_touched};
 use rule_book::Rule;
 
@@ -95,8 +96,15 @@ impl Assembly {
     }
 
     // Takes the first fragment of a datagram.
-    fn begin(&mut self, now: u32, piece: &Piece<'_>, buf: &mut [u8]) -> Offered
+    fn begin(
+        &mut self,
+        now: u32,
+        id: &Hashed<DatagramId>,
+        piece: &Piece<'_>,
+        buf: &mut [u8],
+    ) -> Offered
         requires absent { HasNone self.old.table.entries (fragment_of piece.now).id }
+        requires keyed { id.now.key ≡ (fragment_of piece.now).id }
         requires piece { IsPiece (fragment_of piece.now) }
         requires own { first_row (own_rows (fragment_of piece.now)) ≡ None }
         requires buffer { 65515 ≤ length buf.old }
@@ -119,7 +127,7 @@ impl Assembly {
             return Offered::Drop(Rule::FRoom);
         }
         let progress = Progress::none(now);
-        let Ok(slot) = self.table.insert(piece.id(), progress) else {
+        let Ok(slot) = self.table.insert_hashed(id, progress) else {
             unreachable!()
         };
         let _count = self.table.len();
@@ -143,9 +151,10 @@ impl Assembly {
         }
         let _count = self.table.len();
         let _free = self.store.free();
-        match self.table.find(&piece.id()) {
+        let id = self.table.hashed(piece.id());
+        match self.table.find_hashed(&id) {
             Some(slot) => self.join(slot, piece, buf),
-            None => self.begin(now, piece, buf),
+            None => self.begin(now, &id, piece, buf),
         }
     }
 

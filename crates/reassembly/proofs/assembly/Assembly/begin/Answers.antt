@@ -3,7 +3,7 @@ use Rattle.std.specs.Prelude.{nat_lt, nat_le}
 use Rattle.std.specs.Coded.{le_prop}
 use Rattle.std.proofs.Math.Logic.{∥∥₁_map, ∥∥₁_elim}
 use Rattle.retain_store.specs.Maps.{chain_of, missing}
-use Rattle.linked_table.specs.Table.{IsIn}
+use Rattle.linked_table.specs.Table.{HasNone, IsIn}
 use Rattle.rule_book.specs.declared.rule.Rule.TheVariants.{FMany, FRoom}
 use Rattle.reassembly.specs.Pieces.{fragment_of, is_whole, missing_of, whole_of}
 use Rattle.reassembly.specs.Calls.{after, pieces_in}
@@ -88,15 +88,18 @@ returns-then-need-free-clause-holds c gs h =
 
 pub invariant_of-self : goal.invariant_of-self
 invariant_of-self c = record {
-  sized = c.args.self.now.sized ∙ sym (max_stays c.args.self.now.table c.insert.new.self c.id.result c.none-progress.result c.insert.result c.insert.ensures.unchanged c.insert.ensures.added);
-  sound = ∥∥₁_map c.args.self.now.sound (inserted c.args.self.now.table c.insert.new.self c.args.self.now.store c.id.result (fragment_of c.args.piece.now).id c.none-progress.result c.args.now
-      c.insert.result c.insert.ensures.unchanged c.insert.ensures.fresh c.insert.ensures.added c.id.ensures c.none-progress.ensures);
+  sized = c.args.self.now.sized ∙ sym (max_stays c.args.self.now.table c.insert_hashed.new.self c.args.id.now.key c.none-progress.result c.insert_hashed.result c.insert_hashed.ensures.unchanged c.insert_hashed.ensures.added);
+  sound = ∥∥₁_map c.args.self.now.sound (inserted c.args.self.now.table c.insert_hashed.new.self c.args.self.now.store c.args.id.now.key (fragment_of c.args.piece.now).id c.none-progress.result c.args.now
+      c.insert_hashed.result c.insert_hashed.ensures.unchanged c.insert_hashed.ensures.fresh c.insert_hashed.ensures.added c.requires.keyed c.none-progress.ensures);
 }
+
+pub insert_hashed-requires : goal.insert_hashed-requires
+insert_hashed-requires c = subst (λ d. HasNone c.args.self.now.table.entries d) (sym c.requires.keyed) c.requires.absent
 
 pub accept-requires-clause-inside : goal.accept-requires-clause-inside
 accept-requires-clause-inside c =
     let p = fragment_of c.args.piece.now in
-    let grown = entries_added c.args.self.now.table c.insert.new.self c.in-Ok.slot c.id.result p.id c.none-progress.result c.args.now c.in-Ok.ensures.added c.id.ensures c.none-progress.ensures in
+    let grown = entries_added c.args.self.now.table c.insert_hashed.new.self c.in-Ok.slot c.args.id.now.key p.id c.none-progress.result c.args.now c.in-Ok.ensures.added c.requires.keyed c.none-progress.ensures in
     subst (λ l. IsIn l c.in-Ok.slot) (sym grown) (in_added c.args.self.now.table.entries (fresh_entry c.in-Ok.slot p.id c.args.now))
 
 pub accept-requires-clause-room : goal.accept-requires-clause-room
@@ -128,8 +131,8 @@ returns-clause-answer c gs h =
     room_not store.free c.blocks_touched-need.result (missing_of ps p.offset (length p.octets)) wanted (omega (arith, c.if-need-free.false, c.free-free.ensures.value)) in
     let taken = none_drops v p c.requires.own odd many room in
     let gt = gs ++ fresh_datagram p.id c.args.now ∷ [] in
-    let grown = entries_added c.args.self.now.table c.insert.new.self c.in-Ok.slot c.id.result p.id c.none-progress.result c.args.now c.in-Ok.ensures.added c.id.ensures c.none-progress.ensures in
-    let ht : HoldsFor gt c.insert.new.self.entries store = subst (λ l. HoldsFor gt l store) (sym grown) (blank_holds gs entries store c.in-Ok.slot p.id c.args.now h c.in-Ok.ensures.fresh) in
+    let grown = entries_added c.args.self.now.table c.insert_hashed.new.self c.in-Ok.slot c.args.id.now.key p.id c.none-progress.result c.args.now c.in-Ok.ensures.added c.requires.keyed c.none-progress.ensures in
+    let ht : HoldsFor gt c.insert_hashed.new.self.entries store = subst (λ l. HoldsFor gt l store) (sym grown) (blank_holds gs entries store c.in-Ok.slot p.id c.args.now h c.in-Ok.ensures.fresh) in
     let same : pieces_in gt p.id ≡ ps = blank_pieces gs p.id c.args.now has in
     c.accept.ensures.answer gt ht
     ∙ (ap (λ l. offered (answer_by None (is_whole (p ∷ l))) (whole_of (p ∷ l))) same
@@ -155,8 +158,8 @@ returns-clause-holds c gs h =
     room_not store.free c.blocks_touched-need.result (missing_of ps p.offset (length p.octets)) wanted (omega (arith, c.if-need-free.false, c.free-free.ensures.value)) in
     let taken = none_drops v p c.requires.own odd many room in
     let gt = gs ++ fresh_datagram p.id c.args.now ∷ [] in
-    let grown = entries_added c.args.self.now.table c.insert.new.self c.in-Ok.slot c.id.result p.id c.none-progress.result c.args.now c.in-Ok.ensures.added c.id.ensures c.none-progress.ensures in
-    let ht : HoldsFor gt c.insert.new.self.entries store = subst (λ l. HoldsFor gt l store) (sym grown) (blank_holds gs entries store c.in-Ok.slot p.id c.args.now h c.in-Ok.ensures.fresh) in
+    let grown = entries_added c.args.self.now.table c.insert_hashed.new.self c.in-Ok.slot c.args.id.now.key p.id c.none-progress.result c.args.now c.in-Ok.ensures.added c.requires.keyed c.none-progress.ensures in
+    let ht : HoldsFor gt c.insert_hashed.new.self.entries store = subst (λ l. HoldsFor gt l store) (sym grown) (blank_holds gs entries store c.in-Ok.slot p.id c.args.now h c.in-Ok.ensures.fresh) in
     let same : pieces_in gt p.id ≡ ps = blank_pieces gs p.id c.args.now has in
     subst (λ a. HoldsFor (after c.args.now p a gs) c.accept.new.self.table.entries c.accept.new.self.store) (sym taken)
     (subst (λ l. HoldsFor l c.accept.new.self.table.entries c.accept.new.self.store) (blank_after gs p c.args.now (is_whole (p ∷ ps)) has)
@@ -171,12 +174,12 @@ returns-clause-octets c gs h =
     let ps = pieces_in gs p.id in
     let has = none_has gs entries store p.id h c.requires.absent in
     let gt = gs ++ fresh_datagram p.id c.args.now ∷ [] in
-    let grown = entries_added c.args.self.now.table c.insert.new.self c.in-Ok.slot c.id.result p.id c.none-progress.result c.args.now c.in-Ok.ensures.added c.id.ensures c.none-progress.ensures in
-    let ht : HoldsFor gt c.insert.new.self.entries store = subst (λ l. HoldsFor gt l store) (sym grown) (blank_holds gs entries store c.in-Ok.slot p.id c.args.now h c.in-Ok.ensures.fresh) in
+    let grown = entries_added c.args.self.now.table c.insert_hashed.new.self c.in-Ok.slot c.args.id.now.key p.id c.none-progress.result c.args.now c.in-Ok.ensures.added c.requires.keyed c.none-progress.ensures in
+    let ht : HoldsFor gt c.insert_hashed.new.self.entries store = subst (λ l. HoldsFor gt l store) (sym grown) (blank_holds gs entries store c.in-Ok.slot p.id c.args.now h c.in-Ok.ensures.fresh) in
     let same : pieces_in gt p.id ≡ ps = blank_pieces gs p.id c.args.now has in
     subst (λ l. Carries c.accept.result c.args.buf.now c.accept.new.buf (p ∷ l)) same (c.accept.ensures.octets gt ht)
 
 pub returns-clause-opened : goal.returns-clause-opened
 returns-clause-opened c settings o =
-    let max = max_stays c.args.self.now.table c.insert.new.self c.id.result c.none-progress.result c.insert.result c.insert.ensures.unchanged c.insert.ensures.added in
+    let max = max_stays c.args.self.now.table c.insert_hashed.new.self c.args.id.now.key c.none-progress.result c.insert_hashed.result c.insert_hashed.ensures.unchanged c.insert_hashed.ensures.added in
     c.accept.ensures.opened settings (record { datagrams = max ∙ o.datagrams; chains = o.chains; cells = o.cells; store = o.store; time = o.time })

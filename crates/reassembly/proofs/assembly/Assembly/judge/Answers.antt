@@ -29,33 +29,33 @@ returns-in-Some-clause-keeps c settings calls st late =
       order = order_after c.args.now p (answer_at (view_of settings calls p) p) gs (latest calls) st.order late;
     }
 
-pub returns-in-Some-find-clause-answer : goal.returns-in-Some-find-clause-answer
-returns-in-Some-find-clause-answer c settings calls st =
+pub returns-in-Some-find_hashed-clause-answer : goal.returns-in-Some-find_hashed-clause-answer
+returns-in-Some-find_hashed-clause-answer c settings calls st =
     let p = fragment_of c.args.piece.now in
     let entries = c.args.self.now.table.entries in
     let store = c.args.self.now.store in
     let gs = gathered settings.frag_time calls in
     let full = nat_le settings.frags (length gs) in
     let free = free_is c.args.self.now settings calls c.len-count.ensures.slots_below c.len-count.ensures.slots_apart c.free-free.ensures.total st in
-    let keyed : Wherever entries c.in-Some-find.slot (λ e. e.key ≡ p.id) = subst (λ d. Wherever entries c.in-Some-find.slot (λ e. e.key ≡ d)) c.id.ensures c.in-Some-find.ensures.same_key in
-    let f = found gs entries store c.in-Some-find.slot p.id st.holds c.in-Some-find.ensures.found c.len-count.ensures.slots_apart c.len-count.ensures.keys_apart keyed in
-    let some = some_found gs entries store c.in-Some-find.slot p.id f (some_gathered settings.frag_time calls) in
+    let keyed : Wherever entries c.in-Some-find_hashed.slot (λ e. e.key ≡ p.id) = subst (λ d. Wherever entries c.in-Some-find_hashed.slot (λ e. e.key ≡ d)) (c.hashed-id.ensures ∙ c.id.ensures) c.in-Some-find_hashed.ensures.same_key in
+    let f = found gs entries store c.in-Some-find_hashed.slot p.id st.holds c.in-Some-find_hashed.ensures.found c.len-count.ensures.slots_apart c.len-count.ensures.keys_apart keyed in
+    let some = some_found gs entries store c.in-Some-find_hashed.slot p.id f (some_gathered settings.frag_time calls) in
     c.join.ensures.answer gs full st.holds some ∙ ap (λ r. offered_at (view_in gs full r p) p) free
 
-pub returns-in-Some-find-clause-octets : goal.returns-in-Some-find-clause-octets
-returns-in-Some-find-clause-octets c settings calls st = c.join.ensures.octets (gathered settings.frag_time calls) st.holds
+pub returns-in-Some-find_hashed-clause-octets : goal.returns-in-Some-find_hashed-clause-octets
+returns-in-Some-find_hashed-clause-octets c settings calls st = c.join.ensures.octets (gathered settings.frag_time calls) st.holds
 
-pub returns-in-Some-find-clause-keeps : goal.returns-in-Some-find-clause-keeps
-returns-in-Some-find-clause-keeps c settings calls st late =
+pub returns-in-Some-find_hashed-clause-keeps : goal.returns-in-Some-find_hashed-clause-keeps
+returns-in-Some-find_hashed-clause-keeps c settings calls st late =
     let p = fragment_of c.args.piece.now in
     let entries = c.args.self.now.table.entries in
     let store = c.args.self.now.store in
     let gs = gathered settings.frag_time calls in
     let full = nat_le settings.frags (length gs) in
     let free = free_is c.args.self.now settings calls c.len-count.ensures.slots_below c.len-count.ensures.slots_apart c.free-free.ensures.total st in
-    let keyed : Wherever entries c.in-Some-find.slot (λ e. e.key ≡ p.id) = subst (λ d. Wherever entries c.in-Some-find.slot (λ e. e.key ≡ d)) c.id.ensures c.in-Some-find.ensures.same_key in
-    let f = found gs entries store c.in-Some-find.slot p.id st.holds c.in-Some-find.ensures.found c.len-count.ensures.slots_apart c.len-count.ensures.keys_apart keyed in
-    let some = some_found gs entries store c.in-Some-find.slot p.id f (some_gathered settings.frag_time calls) in
+    let keyed : Wherever entries c.in-Some-find_hashed.slot (λ e. e.key ≡ p.id) = subst (λ d. Wherever entries c.in-Some-find_hashed.slot (λ e. e.key ≡ d)) (c.hashed-id.ensures ∙ c.id.ensures) c.in-Some-find_hashed.ensures.same_key in
+    let f = found gs entries store c.in-Some-find_hashed.slot p.id st.holds c.in-Some-find_hashed.ensures.found c.len-count.ensures.slots_apart c.len-count.ensures.keys_apart keyed in
+    let some = some_found gs entries store c.in-Some-find_hashed.slot p.id f (some_gathered settings.frag_time calls) in
     record {
       opened = c.join.ensures.opened settings st.opened;
       holds = subst (λ r. HoldsFor (after c.args.now p (answer_at (view_in gs full r p) p) gs) c.join.new.self.table.entries c.join.new.self.store) free

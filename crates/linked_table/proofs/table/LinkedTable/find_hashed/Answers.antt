@@ -1,0 +1,60 @@
+use Rattle.std.proofs.Common.{◌≡◌, ◌+◌, ◌-◌, ◌%◌, None, length, refl, sym, ap, ◌∙◌, arith}
+use Rattle.linked_table.proofs.Parts.{split_at}
+use Rattle.linked_table.proofs.Tables.{slots_apart, keys_apart}
+use Rattle.linked_table.proofs.Searches.{begins, next_of, none_left, none_at_end, none_has, none_whichever, has_key, differs}
+use Rattle.linked_table.proofs.table.LinkedTable.find_hashed.Goals as goal
+use Rattle.linked_table.proofs.table.LinkedTable.find_hashed.Goals.{in-Some+else-eq, in_default}
+
+pub loop-init : goal.loop-init
+loop-init g c =
+    let count : c.len.result - c.len-slots.result ≡ length c.self.invariant.buckets = omega (arith, c.len.ensures, c.self.invariant.chain_nodes) in
+    let bucket : c.bucket_of.result ≡ g.K.Key.hash_of c.args.hashed.now.key c.self.inside.seed % length c.self.invariant.buckets = c.bucket_of.ensures ∙ ap (λ n. g.K.Key.hash_of c.args.hashed.now.key c.self.inside.seed % n) count in
+    let slots : c.len-slots.result ≡ length c.self.inside.pairs.items = omega arith in
+    let all : c.self.inside.len - 0 ≡ c.self.inside.len = omega arith in
+    rw all (begins _ _ _ _ _ c.self.invariant _ c.self.view_is c.args.hashed.now.key _ (omega (arith, bucket, slots)) _ c.after-node.ensures)
+
+pub returns-then-node-hub-clause-whichever : goal.returns-then-node-hub-clause-whichever
+returns-then-node-hub-clause-whichever g c = none_whichever _ _ _ _ _ c.self.invariant _ c.self.view_is c.args.hashed.now.key None (none_has _ _ _ _ _ c.self.invariant _ c.self.view_is c.args.hashed.now.key _ _ _ c.loop.invariant (none_left _ _ _ _ _ _ c.loop.invariant c.if-node-hub.true))
+
+pub returns-then-node-hub-clause-absent : goal.returns-then-node-hub-clause-absent
+returns-then-node-hub-clause-absent g c = ((λ t. (none_has _ _ _ _ _ c.self.invariant _ c.self.view_is c.args.hashed.now.key _ _ _ c.loop.invariant (none_left _ _ _ _ _ _ c.loop.invariant c.if-node-hub.true))), (λ none. refl))
+
+pub index-requires : goal.index-requires
+index-requires g c = omega (arith, (next_of _ _ _ _ _ _ c.loop.invariant c.if-node-hub.false).slot)
+
+pub overflow_cast-result : goal.overflow_cast-result
+overflow_cast-result g c = omega (arith, (has_key _ _ _ _ _ c.self.invariant _ c.self.view_is c.args.hashed.now.key _ _ _ (sym ((next_of _ _ _ _ _ _ c.loop.invariant c.if-node-hub.false).read _ c.index.ensures) ∙ c.in-Some.is) (g.met.K.Key.equal_is_same _ _ (sym c.eq.ensures ∙ c.if-eq.true))).small)
+
+pub returns-then-eq-clause-found : goal.returns-then-eq-clause-found
+returns-then-eq-clause-found g c = (has_key _ _ _ _ _ c.self.invariant _ c.self.view_is c.args.hashed.now.key _ _ _ (sym ((next_of _ _ _ _ _ _ c.loop.invariant c.if-node-hub.false).read _ c.index.ensures) ∙ c.in-Some.is) (g.met.K.Key.equal_is_same _ _ (sym c.eq.ensures ∙ c.if-eq.true))).listed
+
+pub returns-then-eq-clause-split : goal.returns-then-eq-clause-split
+returns-then-eq-clause-split g c =
+    split_at _ _ (has_key _ _ _ _ _ c.self.invariant _ c.self.view_is c.args.hashed.now.key _ _ _ (sym ((next_of _ _ _ _ _ _ c.loop.invariant c.if-node-hub.false).read _ c.index.ensures) ∙ c.in-Some.is) (g.met.K.Key.equal_is_same _ _ (sym c.eq.ensures ∙ c.if-eq.true))).listed
+    (slots_apart _ _ _ _ _ c.self.invariant _ c.self.view_is) (keys_apart _ _ _ _ _ c.self.invariant _ c.self.view_is)
+
+pub returns-then-eq-clause-same_key : goal.returns-then-eq-clause-same_key
+returns-then-eq-clause-same_key g c = (has_key _ _ _ _ _ c.self.invariant _ c.self.view_is c.args.hashed.now.key _ _ _ (sym ((next_of _ _ _ _ _ _ c.loop.invariant c.if-node-hub.false).read _ c.index.ensures) ∙ c.in-Some.is) (g.met.K.Key.equal_is_same _ _ (sym c.eq.ensures ∙ c.if-eq.true))).same
+
+pub returns-then-eq-clause-whichever : goal.returns-then-eq-clause-whichever
+returns-then-eq-clause-whichever g c = (has_key _ _ _ _ _ c.self.invariant _ c.self.view_is c.args.hashed.now.key _ _ _ (sym ((next_of _ _ _ _ _ _ c.loop.invariant c.if-node-hub.false).read _ c.index.ensures) ∙ c.in-Some.is) (g.met.K.Key.equal_is_same _ _ (sym c.eq.ensures ∙ c.if-eq.true))).whichever
+
+pub returns-then-eq-clause-absent : goal.returns-then-eq-clause-absent
+returns-then-eq-clause-absent g c = ((λ t. absurd cc), (λ none. absurd ((has_key _ _ _ _ _ c.self.invariant _ c.self.view_is c.args.hashed.now.key _ _ _ (sym ((next_of _ _ _ _ _ _ c.loop.invariant c.if-node-hub.false).read _ c.index.ensures) ∙ c.in-Some.is) (g.met.K.Key.equal_is_same _ _ (sym c.eq.ensures ∙ c.if-eq.true))).some none)))
+
+pub after-node-requires-in-loop : goal.after-node-requires-in-loop
+after-node-requires-in-loop g c = (next_of _ _ _ _ _ _ c.loop.invariant c.if-node-hub.false).within
+
+pub loop-preserved : goal.loop-preserved
+loop-preserved g c =
+    let one : c.self.inside.len - (c.loop.counter + 1) ≡ c.self.inside.len - c.loop.counter - 1 = omega arith in
+    rw (one, c.after-node-in-loop.ensures) (elim c.match-index.branch [
+      | in-Some+else-eq w ↦ (next_of _ _ _ _ _ _ c.loop.invariant c.if-node-hub.false).more _ _ (sym ((next_of _ _ _ _ _ _ c.loop.invariant c.if-node-hub.false).read _ c.index.ensures) ∙ w.in-Some.is) (differs g.K.PartialEq.eq g.met.K.Eq.laws _ _ (sym w.eq.ensures ∙ w.if-eq.false))
+      | in_default w ↦ absurd ((next_of _ _ _ _ _ _ c.loop.invariant c.if-node-hub.false).some (sym ((next_of _ _ _ _ _ _ c.loop.invariant c.if-node-hub.false).read _ c.index.ensures) ∙ w.in_default.is))
+    ])
+
+pub returns-clause-whichever : goal.returns-clause-whichever
+returns-clause-whichever g c = none_whichever _ _ _ _ _ c.self.invariant _ c.self.view_is c.args.hashed.now.key None (none_has _ _ _ _ _ c.self.invariant _ c.self.view_is c.args.hashed.now.key _ _ _ c.loop.invariant (none_at_end _ _ _ _ _ _ c.loop.invariant (omega (arith, c.loop-test.false))))
+
+pub returns-clause-absent : goal.returns-clause-absent
+returns-clause-absent g c = ((λ t. (none_has _ _ _ _ _ c.self.invariant _ c.self.view_is c.args.hashed.now.key _ _ _ c.loop.invariant (none_at_end _ _ _ _ _ _ c.loop.invariant (omega (arith, c.loop-test.false))))), (λ none. refl))
