@@ -1,6 +1,6 @@
 -- A chain that has the octets kept of an era has its blocks.
-use Rattle.std.proofs.Common.{◌≡◌, ℕ, ◌+◌, ◌*◌, ◌/◌, ◌%◌, ◌==◌, ◌<◌, ◌≤◌, Bool, true, false, cond, List, ◌∷◌, length, None, is_some, ◌∙◌, arith, pos}
-use Rattle.std.specs.Prelude.{◌||◌, nat_lt}
+use Rattle.std.proofs.Common.{◌≡◌, ℕ, ◌+◌, ◌*◌, ◌/◌, ◌<◌, Bool, true, false, cond, List, length, None, is_some, arith, pos}
+use Rattle.std.specs.Prelude.{nat_lt}
 use Rattle.std.specs.List.{count_by, range_with_len}
 use Rattle.wire_base.specs.Segments.{Written}
 use Rattle.era_state.specs.Quantities.{base_at, acked, first, top}

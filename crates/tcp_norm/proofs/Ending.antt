@@ -1,5 +1,5 @@
 -- After an era ended the table and the store represent the others.
-use Rattle.std.proofs.Common.{◌≡◌, ◌≢◌, ℕ, ◌==◌, List, [], ◌∷◌, ◌++◌, refl, sym, subst, ◌∙◌, arith}
+use Rattle.std.proofs.Common.{◌≡◌, ◌≢◌, ℕ, List, [], ◌∷◌, refl, sym, subst, arith}
 use Rattle.std.specs.List.{AllPairs}
 use Rattle.wire_base.specs.Segments.{Written}
 use Rattle.linked_table.specs.declared.table.Slot.{Slot}

@@ -1,5 +1,5 @@
 -- What the table finds is what the calls say.
-use Rattle.std.proofs.Common.{◌≡◌, ◌≢◌, true, false, is_some, List, ◌∷◌, ◌++◌, map, Option, Some, None, refl, sym, ap, ◌∙◌, arith}
+use Rattle.std.proofs.Common.{◌≡◌, ◌≢◌, true, false, is_some, List, ◌∷◌, map, Option, Some, None, refl, sym, ap, ◌∙◌, arith}
 use Rattle.std.specs.Prelude.{IfSome, IsNone, ◌↔◌}
 use Rattle.std.specs.List.{AllPairs, find}
 use Rattle.std.proofs.lemmas.List.Elements.{recursion_from_All}

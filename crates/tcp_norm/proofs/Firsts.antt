@@ -1,5 +1,5 @@
 -- The least recently touched era that holds nothing, as the table finds it.
-use Rattle.std.proofs.Common.{◌≡◌, ◌≢◌, ℕ, ◌==◌, Bool, true, false, cond, List, [], ◌∷◌, ◌++◌, length, map, filter, Option, Some, None, refl, sym, ap, subst, ◌∙◌, suc, arith}
+use Rattle.std.proofs.Common.{◌≡◌, ℕ, ◌==◌, Bool, true, false, cond, List, [], ◌∷◌, ◌++◌, length, map, filter, Option, Some, None, refl, sym, ap, subst, ◌∙◌, suc, arith}
 use Rattle.std.specs.List.{AllByRecursion}
 use Rattle.linked_table.specs.declared.table.Slot.{Slot}
 use Rattle.wire_base.specs.Segments.{Written}

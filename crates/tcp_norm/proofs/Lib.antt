@@ -64,3 +64,4 @@ pub mod HeldLaws
 pub mod Read
 pub mod Ruled
 pub mod OfLive
+pub mod Syns

@@ -1,5 +1,5 @@
 -- The numbers kept of each era stay in their bounds.
-use Rattle.std.proofs.Common.{not, ◌≡◌, ℕ, ◌==◌, ◌≤◌, Bool, true, false, cond, List, [], ◌∷◌, ◌++◌, filter, arith}
+use Rattle.std.proofs.Common.{not, ℕ, ◌==◌, ◌≤◌, Bool, true, false, cond, List, [], ◌∷◌, ◌++◌, filter, arith}
 use Rattle.std.specs.List.{AllByRecursion}
 use Rattle.linked_table.specs.declared.table.Slot.{Slot}
 use Rattle.linked_table.specs.Table.{Entry, with_value, revalued}

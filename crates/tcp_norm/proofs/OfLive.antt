@@ -43,8 +43,8 @@ pub record OfLive (settings : PlainSettings) (calls : List Call) (d : Datagram) 
 pub of_live : (settings : PlainSettings) (calls : List Call) (d : Datagram) (a : Arrival) (norm : TcpNorm) (here : Live)
     → StandsFor settings norm calls → IsDatagram a.packet.now a.link.now d → IsFound norm a here → OfLive settings calls d a norm here
 of_live settings calls d a norm here st is f =
-    let side = side_is a.packet.now a.link.now d a.side is in
-    let key_is = keyed a.packet.now a.link.now d here.key a.side is f.key_is in
+    let side = side_is a.packet.now a.link.now d f.keyed.side is in
+    let key_is = keyed a.packet.now a.link.now d here.key f.keyed.side is f.keyed.key_is in
     let h = held_live settings calls d norm here st f.held key_is in
     record {
       side = side;

@@ -15,7 +15,7 @@ use Rattle.tcp_norm.specs.Heads.{seen}
 use Rattle.tcp_codec.specs.Write.{segment_octets}
 use Rattle.era_state.specs.declared.probe.Probe.{Probe}
 use Rattle.reset_probe.specs.Write.{probe_octets, probe_segment}
-use Rattle.ip_rules.specs.Datagrams.{Datagram, goes_in, raised, head_sent, anew, frames_of, IsDatagram}
+use Rattle.ip_rules.specs.Datagrams.{Datagram, goes_in, raised, head_at, head_sent, anew, frames_of, IsDatagram}
 use Rattle.tcp_norm.specs.Emits.{packet_by, segment_sent, segment_anew, sum_mended, probe_packet}
 
 pub side_is : (packet : IpPacket) (link : List ℕ) (d : Datagram) → packet.side ≡ Inward → IsDatagram packet link d → goes_in d.side ≡ true
@@ -27,6 +27,10 @@ pub head_is : (settings : PlainSettings) (hops : ℕ) (packet : IpPacket) (link 
 head_is settings hops packet link d same side is =
     (λ k. raised (same k) ((sym is.head) k))
     ∙ ap (λ b. record d.head { ttl = cond (b && nat_le d.head.ttl settings.hops) (settings.hops + 1) d.head.ttl }) (sym (side_is packet link d side is))
+
+pub head_given : (settings : PlainSettings) (hops : ℕ) (packet : IpPacket) (link : List ℕ) (d : Datagram) → hops ≡ settings.hops → IsDatagram packet link d
+    → head_at packet.side hops packet.head ≡ head_sent settings d
+head_given settings hops packet link d same is = λ k. head_at ((sym is.side) k) (same k) ((sym is.head) k)
 
 -- the frame of a probe
 pub frame_probe : (settings : PlainSettings) (d : Datagram) (link : List ℕ) (ip : Ipv4) (source destination : ℕ) (probe : Probe) → ip ≡ head_sent settings d
@@ -61,7 +65,7 @@ frame_rewritten settings d ws packet link (rule ∷ more) s ip side head some an
     mended [] = refl
     mended (x ∷ xs) = refl
 
-not_empty : {X : Type 0} (x : X) (xs : List X) → (length (x ∷ xs) == 0) ≢ true
+pub not_empty : {X : Type 0} (x : X) (xs : List X) → (length (x ∷ xs) == 0) ≢ true
 not_empty x xs e = let none : length (x ∷ xs) ≡ 0 = grind arith in absurd (omega (arith, none))
 
 pub frame_headed : (settings : PlainSettings) (d : Datagram) (ws : List Written) (packet : IpPacket) (link : List ℕ) (rows : List Rule) (ip : Ipv4) → IsDatagram packet link d

@@ -1,5 +1,5 @@
 -- The rules of an inbound RST of a connection that has a live era, and the calls with it.
-use Rattle.std.proofs.Common.{◌≡◌, ◌≢◌, ℕ, ◌+◌, ◌&&◌, not, Bool, true, false, cond, List, ◌∷◌, ◌++◌, Option, Some, None, is_some, refl, sym, ap, ap₂, ◌∙◌}
+use Rattle.std.proofs.Common.{◌≡◌, ℕ, ◌+◌, ◌&&◌, not, Bool, true, false, cond, List, Option, Some, None, is_some, refl, sym, ap, ap₂, ◌∙◌}
 use Rattle.std.specs.Prelude.{nat_lt}
 use Rattle.wire_base.specs.Tcp as tcp
 use Rattle.wire_base.specs.Segments.{Written}
@@ -17,7 +17,7 @@ use Rattle.reset_probe.specs.declared.reset.ResetAnswer.TheVariants.{Pass, Refus
 use Rattle.reset_probe.specs.Answers.{reset_answer}
 use Rattle.reset_probe.specs.Rules.{era_probe, probe_with, awaited_number}
 use Rattle.ip_rules.specs.Datagrams.{Datagram, goes_in}
-use Rattle.tcp_norm.specs.Calls.{segments, segment_in}
+use Rattle.tcp_norm.specs.Calls.{segment_in}
 use Rattle.tcp_norm.specs.Held.{held_of}
 use Rattle.tcp_norm.specs.Views.{View}
 use Rattle.tcp_norm.specs.Rows.{is_live, holds_era, dropped_by, exceeds, wanted_of}

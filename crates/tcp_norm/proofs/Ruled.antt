@@ -1,19 +1,23 @@
 -- What is ruled of an inbound datagram, as it is reported and sent.
-use Rattle.std.proofs.Common.{◌≡◌, ◌∙◌, ℕ, true, cond, List, [], ◌∷◌, length, Option, Some, None, is_some, refl, sym, ap}
+use Rattle.std.proofs.Common.{◌≡◌, ◌∙◌, ℕ, Bool, true, false, cond, List, [], ◌∷◌, length, take, Option, Some, None, is_some, refl, sym, ap}
 use Rattle.wire_base.specs.Tcp as tcp
 use Rattle.wire_base.specs.Options.{cleaned}
 use Rattle.wire_base.specs.Segments.{Written}
-use Rattle.wire_base.specs.declared.address.Side.TheVariants.{Inward}
+use Rattle.wire_base.specs.declared.address.Side.{Side}
+use Rattle.wire_base.specs.declared.address.Side.TheVariants.{Inward, Outward}
 use Rattle.ipv4_codec.specs.declared.header.Ipv4.{Ipv4}
 use Rattle.tcp_codec.specs.declared.header.Tcp.{Tcp}
 use Rattle.norm_settings.specs.Settings.{PlainSettings}
 use Rattle.era_state.specs.declared.probe.Probe.{Probe}
 use Rattle.ip_rules.specs.declared.judged.IpPacket.{IpPacket}
-use Rattle.ip_rules.specs.Datagrams.{Datagram, Packet, raised, frames_of, IsDatagram}
+use Rattle.ip_rules.specs.Datagrams.{Datagram, Packet, goes_in, raised, frames_of, IsDatagram}
 use Rattle.tcp_norm.specs.Heads.{IsRead, seen}
 use Rattle.tcp_norm.specs.Anews.{anew_segment}
 use Rattle.tcp_norm.specs.Emits.{probe_packets, without_flag, segment_anew, bare_segment}
-use Rattle.tcp_norm.specs.Rulings.{probe_frames}
+use Rattle.tcp_norm.specs.Rulings.{probe_frames, IsRewritten}
+use Rattle.tcp_norm.specs.Passing.{given}
+use Rattle.tcp_norm.specs.declared.arrival.Arrival.{Arrival}
+use Rattle.tcp_norm.specs.declared.ruling.Passage.{Passage}
 use Rattle.tcp_norm.proofs.Probing.{probe_is}
 use Rattle.tcp_norm.proofs.Marked.{flags_are}
 
@@ -50,3 +54,19 @@ bare_carried ws d packet link head is h bare =
       options = (ap (λ (x : Tcp). cleaned (tcp.has_syn x.flags.0) (tcp.options packet.payload.now)) h.fields ∙ ap (λ o. cleaned (tcp.has_syn (tcp.flags o)) (tcp.options o)) m) k;
       octets = [];
     })
+
+-- of an inbound datagram
+pub rewritten_in : (ws : List Written) (d : Datagram) (a : Arrival) (scratch : List ℕ) (p : Passage) → goes_in d.side ≡ true
+    → segment_anew ws d ≡ anew_segment a.packet.now.head a.head.now p.seq p.fin (cleaned (tcp.has_syn a.head.now.flags.0) (tcp.options a.packet.now.payload.now)) (take p.size scratch)
+    → IsRewritten ws d a scratch p
+rewritten_in ws d a scratch p side is = record { anew = λ inward. is; alone = λ out. cc (sym side ∙ out) }
+
+-- the packet is the only one
+pub given_one : (as_read : Bool) (frame : List ℕ) (out : List (List ℕ)) → (as_read ≡ false → length out ≡ 1) → length (given as_read frame out) ≡ 1
+given_one true frame out one = refl
+given_one false frame out one = one refl
+
+-- a probe follows an inbound datagram alone
+pub inward_of : (side : Side) (probe : Option Probe) (some : Probe) → probe ≡ Some some → (goes_in side ≡ false → probe ≡ None) → side ≡ Inward
+inward_of Inward probe some is alone = refl
+inward_of Outward probe some is alone = cc (sym is ∙ alone refl)

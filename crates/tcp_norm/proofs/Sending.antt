@@ -1,59 +1,44 @@
--- The frame of an outbound datagram.
-use Rattle.std.proofs.Common.{◌≡◌, ◌==◌, ℕ, Bool, true, false, List, [], ◌∷◌, ◌++◌, length, sym, ap, ap₂, refl, ◌∙◌}
+-- The frame of a datagram that passes: an outbound one with its checksum corrected, and one that no rule rewrites.
+use Rattle.std.proofs.Common.{◌≡◌, ◌==◌, ℕ, true, false, cond, List, [], ◌∷◌, ◌++◌, length, sym, ap, refl, ◌∙◌}
 use Rattle.wire_base.specs.Segments.{Written}
 use Rattle.wire_base.specs.Sums.{pseudo_sum}
-use Rattle.wire_base.specs.declared.address.Side.TheVariants.{Outward}
 use Rattle.ipv4_codec.specs.declared.header.Ipv4.{Ipv4}
 use Rattle.ipv4_codec.specs.Write.{plain_header}
 use Rattle.ip_rules.specs.declared.judged.IpPacket.{IpPacket}
 use Rattle.rule_book.specs.declared.rule.Rule.{Rule}
-use Rattle.rule_book.specs.declared.rule.Rule.TheVariants as rules
 use Rattle.norm_settings.specs.Settings.{PlainSettings}
 use Rattle.tcp_codec.specs.Mending.{mended}
-use Rattle.ip_rules.specs.Datagrams.{Datagram, goes_in, anew, frames_of, IsDatagram}
-use Rattle.tcp_norm.specs.Emits.{packet_by, segment_sent, sum_mended}
-use Rattle.ip_rules.specs.Judged.{where_holds}
-use Rattle.tcp_norm.proofs.Sent.{out_head}
+use Rattle.tcp_codec.specs.Write.{segment_octets}
+use Rattle.ip_rules.specs.Datagrams.{Datagram, goes_in, head_sent, anew, frames_of, IsDatagram}
+use Rattle.tcp_norm.specs.Emits.{packet_by, segment_anew, segment_sent, sum_mended}
+use Rattle.tcp_norm.proofs.Probing.{not_empty}
 
-side_is : (packet : IpPacket) (link : List ℕ) (d : Datagram) → packet.side ≡ Outward → IsDatagram packet link d → goes_in d.side ≡ false
-side_is packet link d side is = ap goes_in (is.side ∙ side)
-
--- with its header rewritten
-by_anew : (settings : PlainSettings) (d : Datagram) (packet : IpPacket) (link : List ℕ) (m : List ℕ) → goes_in d.side ≡ false → IsDatagram packet link d
-    → frames_of link (anew settings d m ∷ []) ≡ (link ++ plain_header packet.head (length m) ++ m) ∷ []
-by_anew settings d packet link m side is =
-    ap (λ (h : Ipv4). (link ++ plain_header h (length m) ++ m) ∷ []) (out_head settings d side ∙ is.head)
-
-pub frame_mended : (settings : PlainSettings) (d : Datagram) (ws : List Written) (packet : IpPacket) (link : List ℕ) (wrong : Bool) → packet.side ≡ Outward → IsDatagram packet link d
-    → wrong ≡ true → (sent : List (List ℕ))
-    → (sent ≡ (link ++ plain_header packet.head (length (mended (pseudo_sum packet.head.src.0 packet.head.dst.0 6 (length packet.payload.now)) packet.payload.now))
-    ++ mended (pseudo_sum packet.head.src.0 packet.head.dst.0 6 (length packet.payload.now)) packet.payload.now) ∷ [])
-    → sent ≡ frames_of link (packet_by settings ws d d.fixes (where_holds wrong rules.TSumOut) ∷ [])
-frame_mended settings d ws packet link wrong out is some sent exact =
-    let side = side_is packet link d out is in
-    let here : sum_mended d ≡ mended (pseudo_sum packet.head.src.0 packet.head.dst.0 6 (length packet.payload.now)) packet.payload.now =
-    ap₂ (λ (h : Ipv4) m. mended (pseudo_sum h.src.0 h.dst.0 6 (length m)) m) is.head is.octets in
-    exact ∙ (sym (by_anew settings d packet link (mended (pseudo_sum packet.head.src.0 packet.head.dst.0 6 (length packet.payload.now)) packet.payload.now) side is)
-    ∙ (ap (λ m. frames_of link (anew settings d m ∷ [])) (sym here) ∙ (ap (λ m. frames_of link (anew settings d m ∷ [])) (sym (summed side))
-    ∙ (ap (λ p. frames_of link (p ∷ [])) (sym (rewritten d.fixes)) ∙ ap (λ b. frames_of link (packet_by settings ws d d.fixes (where_holds b rules.TSumOut) ∷ [])) (sym some)))))
+pub frame_mended : (settings : PlainSettings) (d : Datagram) (ws : List Written) (packet : IpPacket) (link : List ℕ) (rows : List Rule) (ip : Ipv4) → goes_in d.side ≡ false → IsDatagram packet link d
+    → ip ≡ head_sent settings d → (length rows == 0) ≡ false
+    → (link ++ plain_header ip (length (mended (pseudo_sum ip.src.0 ip.dst.0 6 (length packet.payload.now)) packet.payload.now)) ++ mended (pseudo_sum ip.src.0 ip.dst.0 6 (length packet.payload.now)) packet.payload.now) ∷ []
+    ≡ frames_of link (packet_by settings ws d d.fixes rows ∷ [])
+frame_mended settings d ws packet link [] ip side is head some = cc
+frame_mended settings d ws packet link (rule ∷ more) ip side is head some =
+    (λ k. (link ++ plain_header (head k) (length (same k)) ++ same k) ∷ [])
+    ∙ (ap (λ m. frames_of link (anew settings d m ∷ [])) (sym summed) ∙ ap (λ p. frames_of link (p ∷ [])) (sym (rewritten d.fixes)))
   where
-    summed : goes_in d.side ≡ false → segment_sent ws d (rules.TSumOut ∷ []) ≡ sum_mended d
-    summed side = rw side refl
+    same : mended (pseudo_sum ip.src.0 ip.dst.0 6 (length packet.payload.now)) packet.payload.now ≡ sum_mended d
+    same = λ k. mended (pseudo_sum (head k).src.0 (head k).dst.0 6 (length ((sym is.octets) k))) ((sym is.octets) k)
 
-    rewritten : (fixes : List Rule) → packet_by settings ws d fixes (rules.TSumOut ∷ []) ≡ anew settings d (segment_sent ws d (rules.TSumOut ∷ []))
+    summed : segment_sent ws d (rule ∷ more) ≡ sum_mended d
+    summed = ap (λ b. cond b (segment_octets (segment_anew ws d)) (sum_mended d)) side
+
+    rewritten : (fixes : List Rule) → packet_by settings ws d fixes (rule ∷ more) ≡ anew settings d (segment_sent ws d (rule ∷ more))
     rewritten [] = refl
     rewritten (x ∷ xs) = refl
 
-pub frame_anew : (settings : PlainSettings) (d : Datagram) (ws : List Written) (packet : IpPacket) (link : List ℕ) (wrong : Bool) → packet.side ≡ Outward → IsDatagram packet link d
-    → wrong ≡ false → (length packet.fixes.items == 0) ≡ false → (sent : List (List ℕ))
-    → sent ≡ (link ++ plain_header packet.head (length packet.payload.now) ++ packet.payload.now) ∷ []
-    → sent ≡ frames_of link (packet_by settings ws d d.fixes (where_holds wrong rules.TSumOut) ∷ [])
-frame_anew settings d ws packet link wrong out is none some sent exact =
-    let side = side_is packet link d out is in
-    exact ∙ (sym (by_anew settings d packet link packet.payload.now side is)
-    ∙ (ap (λ m. frames_of link (anew settings d m ∷ [])) (sym is.octets) ∙ (ap (λ p. frames_of link (p ∷ [])) (sym (rewritten d.fixes (ap (λ l. length l == 0) is.fixes ∙ some)))
-    ∙ ap (λ b. frames_of link (packet_by settings ws d d.fixes (where_holds b rules.TSumOut) ∷ [])) (sym none))))
+pub frame_read : (settings : PlainSettings) (d : Datagram) (ws : List Written) (packet : IpPacket) (link : List ℕ) (rows : List Rule) → IsDatagram packet link d
+    → (length rows == 0) ≡ true → (length packet.fixes.items == 0) ≡ true → packet.frame.now ∷ [] ≡ frames_of link (packet_by settings ws d d.fixes rows ∷ [])
+frame_read settings d ws packet link rows is none read =
+    let rows_none = empty rows none in
+    let none_fixed = empty packet.fixes.items read in
+    ap (λ f. f ∷ []) (is.frame none_fixed) ∙ sym (λ k. frames_of link (packet_by settings ws d ((is.fixes ∙ none_fixed) k) (rows_none k) ∷ []))
   where
-    rewritten : (fixes : List Rule) → (length fixes == 0) ≡ false → packet_by settings ws d fixes [] ≡ anew settings d d.octets
-    rewritten [] never = cc
-    rewritten (x ∷ xs) never = refl
+    empty : (rules : List Rule) → (length rules == 0) ≡ true → rules ≡ []
+    empty [] e = refl
+    empty (x ∷ xs) e = absurd (not_empty x xs e)

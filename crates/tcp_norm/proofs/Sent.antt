@@ -13,7 +13,7 @@ use Rattle.tcp_codec.specs.declared.header.Tcp.{Tcp}
 use Rattle.tcp_codec.specs.Header.{fields_of}
 use Rattle.era_state.specs.declared.segment.Seg.{Seg}
 use Rattle.era_state.specs.Read.{sent}
-use Rattle.ip_rules.specs.Datagrams.{Datagram, goes_in, head_sent, IsDatagram}
+use Rattle.ip_rules.specs.Datagrams.{Datagram, goes_in, IsDatagram}
 use Rattle.rule_book.specs.declared.rule.Rule.{Rule}
 use Rattle.rule_book.specs.declared.rule.Rule.TheVariants as rules
 use Rattle.rule_book.specs.Rules.{era_rows}
@@ -138,10 +138,6 @@ out_does law settings v d s wrong side sum is long words =
       packets_are = ap (λ w. w ∷ []) (ap (λ b. read b (packet_by settings v.segments d d.fixes (where_holds wrong rules.TSumOut)).octets) side
           ∙ (sent_segment law settings v.segments d wrong side long words ∙ ap (λ b. read b d.octets) (sym side)));
     })
-
--- the header that goes out is the one that was read
-pub out_head : (settings : PlainSettings) (d : Datagram) → goes_in d.side ≡ false → head_sent settings d ≡ d.head
-out_head settings d side = rw side refl
 
 -- the packet carries what is asked of the eras
 pub sends_it : (packet : IpPacket) (link : List ℕ) (d : Datagram) (s : Seg) (key : FlowKey) → packet.side ≡ Outward → IsDatagram packet link d

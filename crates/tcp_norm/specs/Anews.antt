@@ -1,5 +1,5 @@
 -- A segment that is rewritten, by the fields of the one that was read.
-use Rattle.std.specs.Prelude.{ℕ, Bool, List, if◌then◌else◌}
+use Rattle.std.specs.Prelude.{ℕ, ◌+◌, ◌≤◌, Bool, List, length, if◌then◌else◌}
 use Rattle.wire_base.specs.Segments.{Segment}
 use Rattle.ipv4_codec.specs.declared.header.Ipv4.{Ipv4}
 use Rattle.tcp_codec.specs.declared.header.Tcp.{Tcp}
@@ -20,3 +20,7 @@ anew_segment ip head sequence fin options octets =
       options = options;
       octets = octets;
     }
+
+-- with a header of 20 octets, these options and octets are no more than the longest segment
+abbrev pub FitsSegment : (options octets : List ℕ) → Type 0
+FitsSegment options octets = 20 + length options + length octets ≤ 65515

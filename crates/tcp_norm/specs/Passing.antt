@@ -1,5 +1,5 @@
 -- A packet that is handed over, and what its record's entry and the outbox say then.
-use Rattle.std.specs.Prelude.{◌≡◌, ◌++◌, length}
+use Rattle.std.specs.Prelude.{◌≡◌, ℕ, Bool, true, false, List, [], ◌∷◌, ◌++◌, ◌≤◌, length}
 use Rattle.rule_book.specs.declared.entry.Entry.{Entry}
 use Rattle.tcp_norm.specs.Calls.{Outcome}
 
@@ -13,3 +13,21 @@ pub record Reports (old new : Entry) (o : Outcome) : Type 0 where
   pub era : new.era ≡ o.era
   pub begun : new.begun ≡ o.begun
   pub ended : new.ended.items ≡ old.ended.items ++ o.ended
+
+-- two more eras can end in the entry
+abbrev pub HasRoom : Entry → Type 0
+HasRoom e = length e.ended.items ≤ 2
+
+-- nothing is in the outbox
+abbrev pub IsBlank : List (List ℕ) → Type 0
+IsBlank out = out ≡ []
+
+-- the frames of a datagram: the one that was read, or those of the outbox
+abbrev pub given : (as_read : Bool) → (frame : List ℕ) → (out : List (List ℕ)) → List (List ℕ)
+given true frame out = frame ∷ []
+given false frame out = out
+
+-- a frame that is sent as it was read is not in the outbox, and fits it
+abbrev pub IsUnsent : (as_read : Bool) → (frame : List ℕ) → (out : List (List ℕ)) → Type 0
+IsUnsent true frame out = (out ≡ []) × (length frame ≤ 65549)
+IsUnsent false frame out = Unit {0}

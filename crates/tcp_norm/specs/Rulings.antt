@@ -1,9 +1,10 @@
 -- Rulings on inbound segments: the outcome that each represents, what is rewritten, and what changes in the tables (this project's profile).
-use Rattle.std.specs.Prelude.{◌≡◌, ◌≢◌, ℕ, true, false, ◌+◌, ◌*◌, ◌^◌, ◌<◌, ◌≤◌, length, List, [], ◌∷◌, ◌++◌, take, Option, Some, None}
+use Rattle.std.specs.Prelude.{◌≡◌, ◌≢◌, ℕ, true, false, ◌+◌, ◌*◌, ◌^◌, ◌<◌, ◌≤◌, length, List, [], ◌∷◌, ◌++◌, take, Option, Some, None, if◌then◌else◌}
 use Rattle.std.specs.List.{All, AllByRecursion, AllPairs}
 use Rattle.wire_base.specs.Segments.{Written}
 use Rattle.ipv4_codec.specs.declared.header.Ipv4.{Ipv4}
 use Rattle.linked_table.specs.Table as table
+use Rattle.rule_book.specs.declared.rule.Rule.TheVariants as rules
 use Rattle.rule_book.specs.declared.entry.Verdict.TheVariants as verdicts
 use Rattle.norm_settings.specs.Settings.{PlainSettings}
 use Rattle.era_state.specs.declared.probe.Probe.{Probe}
@@ -12,9 +13,10 @@ use Rattle.era_state.specs.Intervals.{KeptOf}
 use Rattle.era_state.specs.Frames.{IsGiven, IsFrame}
 use Rattle.retain_store.specs.Maps.{Store, chain_of, missing}
 use Rattle.reset_probe.specs.Write.{probe_octets}
-use Rattle.ip_rules.specs.Datagrams.{Datagram, Packet, IsDatagram}
+use Rattle.ip_rules.specs.Datagrams.{Datagram, Packet, goes_in, IsDatagram}
 use Rattle.tcp_norm.specs.declared.arrival.Arrival.{Arrival}
 use Rattle.tcp_norm.specs.declared.state.TcpNorm.{TcpNorm}
+use Rattle.tcp_norm.specs.declared.ruling.Refusal.{Refusal}
 use Rattle.tcp_norm.specs.declared.ruling.Passage.{Passage}
 use Rattle.tcp_norm.specs.declared.ruling.Ruling.{Ruling}
 use Rattle.tcp_norm.specs.declared.ruling.Ruling.TheVariants.{Drop, Pass, Ask}
@@ -29,11 +31,17 @@ use Rattle.era_state.specs.declared.segment.Seg.{Seg}
 use Rattle.era_state.specs.declared.offered.Offered.{Offered}
 use Rattle.era_state.specs.Read.{came}
 use Rattle.era_state.specs.States.{is_acknowledged}
+use Rattle.era_state.specs.Rules.{t_state, t_syn}
+use Rattle.cold_start.specs.Rules.{cold_probe_of}
+use Rattle.reset_probe.specs.Rules.{era_probe}
 use Rattle.era_state.specs.Eras as eraspec
 use Rattle.era_state.specs.Standing as erastanding
 use Rattle.wire_base.specs.Tcp as tcp
 use Rattle.wire_base.specs.Options.{cleaned}
-use Rattle.wire_base.specs.declared.address.Side.TheVariants.{Inward}
+use Rattle.wire_base.specs.declared.address.FlowKey.{FlowKey}
+use Rattle.wire_base.specs.declared.address.Side.TheVariants.{Inward, Outward}
+use Rattle.wire_base.specs.Sums.{pseudo_sum}
+use Rattle.tcp_codec.specs.Header.{fields_of}
 use Rattle.rule_book.specs.declared.entry.Reason.TheVariants as reasons
 use Rattle.tcp_norm.specs.Steps.{Does}
 use Rattle.tcp_norm.specs.declared.ruling.Change.TheVariants.{Nothing, Touch, Take, Hear, Reopen}
@@ -60,22 +68,34 @@ outcome_of settings ws d (Drop r) =
 outcome_of settings ws d (Pass p) = passed p.step d.fixes p.rows.items (packets_of settings ws d p)
 outcome_of settings ws d (Ask q) = passed (record { era = None; begun = None; ended = None; full = false }) d.fixes q.rows.items (probe_packet settings d q.probe ∷ [])
 
--- the segment as it is rewritten: from the fields that were read, the ruling and the front of the scratch
-abbrev pub IsRewritten : List Written → Datagram → Arrival → (scratch : List ℕ) → Passage → Type 0
-IsRewritten ws d a scratch p =
-    segment_anew ws d
-    ≡ anew_segment a.packet.now.head a.head.now p.seq p.fin (cleaned (tcp.has_syn a.head.now.flags.0) (tcp.options a.packet.now.payload.now)) (take p.size scratch)
+-- an inbound segment is rewritten from the fields that were read, the ruling and the front of the scratch; no probe follows an outbound one
+pub record IsRewritten (ws : List Written) (d : Datagram) (a : Arrival) (scratch : List ℕ) (p : Passage) : Type 0 where
+  pub anew : goes_in d.side ≡ true → segment_anew ws d
+      ≡ anew_segment a.packet.now.head a.head.now p.seq p.fin (cleaned (tcp.has_syn a.head.now.flags.0) (tcp.options a.packet.now.payload.now)) (take p.size scratch)
+  pub alone : goes_in d.side ≡ false → p.probe ≡ None
 
+-- what is sent is that of the ruling: a probe only for an inbound segment
 abbrev pub IsCarried : List Written → Datagram → Arrival → (scratch : List ℕ) → Ruling → Type 0
-IsCarried ws d a scratch (Drop r) = Unit {0}
-IsCarried ws d a scratch (Ask q) = Unit {0}
+IsCarried ws d a scratch (Drop r) = a.packet.now.side ≡ Inward
+IsCarried ws d a scratch (Ask q) = a.packet.now.side ≡ Inward
 IsCarried ws d a scratch (Pass p) = IsRewritten ws d a scratch p
+
+-- the refusal of a SYN of the era of this number, with these segments, by T_STATE or T_SYN
+abbrev pub refused_by : List Written → Written → (number : ℕ) → Option Refusal
+refused_by ws w number =
+    if t_state ws w then Some (record { rule = rules.TState; era = Some number; probe = Some (cold_probe_of w) })
+    else if t_syn ws w then Some (record { rule = rules.TSyn; era = Some number; probe = era_probe ws w })
+    else None
+
+-- the header that was read and the octets of the passage are no more than the longest segment
+abbrev pub Fits : Arrival → Passage → Type 0
+Fits a p = a.head.now.header + p.size ≤ 65515
 
 -- a segment that is rewritten is no longer than the longest
 abbrev pub IsShort : Arrival → Ruling → Type 0
 IsShort a (Drop r) = Unit {0}
 IsShort a (Ask q) = Unit {0}
-IsShort a (Pass p) = a.head.now.header + p.size ≤ 65515
+IsShort a (Pass p) = Fits a p
 
 -- the ruling is that of the rule table
 pub record IsRuling (settings : PlainSettings) (v : View) (d : Datagram) (a : Arrival) (scratch : List ℕ) (r : Ruling) : Type 0 where
@@ -86,6 +106,11 @@ pub record IsRuling (settings : PlainSettings) (v : View) (d : Datagram) (a : Ar
 pub record IsJudged (settings : PlainSettings) (calls : List Call) (d : Datagram) (a : Arrival) (norm : TcpNorm) (r : Ruling) : Type 0 where
   pub stands : StandsFor settings norm (call_of settings calls a.time d ∷ calls)
   pub rules : IsRuling settings (view_of settings calls d) d a norm.scratch.items r
+
+-- a datagram of this outcome is counted at this time, and the scratch is as it was
+pub record IsCounted (settings : PlainSettings) (calls : List Call) (d : Datagram) (o : Outcome) (now : ℕ) (old new : TcpNorm) : Type 0 where
+  pub stands : StandsFor settings new (datagram now d o ∷ calls)
+  pub scratch_is : new.scratch ≡ old.scratch
 
 -- after any calls
 abbrev pub Judges : Arrival → (old new : TcpNorm) → Ruling → Type 0
@@ -103,11 +128,30 @@ pub record IsHeld (t : table.Table EraKey Flow) (live : Live) : Type 0 where
   pub slots_apart : AllPairs (λ e f. e.slot ≢ f.slot) t.entries
   pub keys_apart : AllPairs (λ e f. e.key ≢ f.key) t.entries
 
+-- the flags may be set together
+abbrev pub IsLegal : Seg → Type 0
+IsLegal s = tcp.are_legal s.flags.0 ≡ true
+
+-- the segment is neither a SYN nor a RST
+pub record IsPlain (a : Arrival) : Type 0 where
+  pub no_syn : tcp.has_syn a.head.now.flags.0 ≡ false
+  pub no_rst : tcp.has_rst a.head.now.flags.0 ≡ false
+
+-- the segment is inbound, and of the connection of this key
+pub record IsKeyed (a : Arrival) (key : FlowKey) : Type 0 where
+  pub side : a.packet.now.side ≡ Inward
+  pub key_is : key ≡ key_at Inward a.packet.now.head a.packet.now.payload.now
+
+-- the segment is outbound, and its header says whether its sum is right
+pub record IsOutward (a : Arrival) : Type 0 where
+  pub side : a.packet.now.side ≡ Outward
+  pub fields : a.head.now ≡ fields_of (pseudo_sum a.packet.now.head.src.0 a.packet.now.head.dst.0 6 (length a.packet.now.payload.now)) a.packet.now.payload.now
+
 -- and it is that of the segment's connection
 pub record IsFound (norm : TcpNorm) (a : Arrival) (live : Live) : Type 0 where
   pub held : IsHeld norm.table live
   pub near : IsNear norm.calls live.flow.era
-  pub key_is : live.key ≡ key_at Inward a.packet.now.head a.packet.now.payload.now
+  pub keyed : IsKeyed a live.key
 
 -- the era is in the state Warm or Closed, with these quantities
 pub record IsLast (era : Era) (warm : Warm) : Type 0 where
@@ -131,7 +175,7 @@ abbrev pub IsOpenTo : TcpNorm → Live → Change → Type 0
 IsOpenTo norm live Nothing = Unit {0}
 IsOpenTo norm live Touch = IsHeld norm.table live × IsNear norm.calls live.flow.era
 IsOpenTo norm live (Take t) = IsHeld norm.table live × CanTake (norm.calls + 1) norm.store norm.quota live t
-IsOpenTo norm live (Hear s) = IsHeld norm.table live × IsNear norm.calls live.flow.era × (tcp.are_legal s.flags.0 ≡ true) × (tcp.has_syn s.flags.0 ≡ true)
+IsOpenTo norm live (Hear s) = IsHeld norm.table live × IsNear norm.calls live.flow.era × IsLegal s × (tcp.has_syn s.flags.0 ≡ true)
 IsOpenTo norm live (Reopen o) = IsHeld norm.table live
 
 -- the outcome writes these octets in the era, after the segments before

@@ -1,9 +1,10 @@
 -- What the table of eras and the store of octets represent.
-use Rattle.std.specs.Prelude.{◌≡◌, ◌≢◌, ℕ, ◌<◌, ◌≤◌, List, [], ◌∷◌, length, map, None}
+use Rattle.std.specs.Prelude.{◌≡◌, ◌≢◌, ℕ, ◌+◌, ◌-◌, ◌^◌, ◌<◌, ◌≤◌, List, [], length, map, None}
 use Rattle.std.specs.List.{AllByRecursion}
 use Rattle.wire_base.specs.Segments.{Written}
+use Rattle.wire_base.specs.declared.address.FlowKey.{FlowKey}
 use Rattle.norm_settings.specs.Settings.{PlainSettings}
-use Rattle.linked_table.specs.Table.{Entry, Pairwise}
+use Rattle.linked_table.specs.Table.{Entry, HasNone, Pairwise}
 use Rattle.retain_store.specs.Maps.{Store, chain_of}
 use Rattle.era_state.specs.Eras as era
 use Rattle.tcp_norm.specs.declared.flow.Flow.{Flow}
@@ -12,6 +13,7 @@ use Rattle.era_state.specs.declared.era.Era.{Era}
 use Rattle.tcp_norm.specs.declared.state.TcpNorm.{TcpNorm}
 use Rattle.tcp_norm.specs.Calls.{Call, Alive, segments, eras, begun_in, asked_in, latest}
 use Rattle.tcp_norm.specs.Held.{kept_at, held_of}
+use Rattle.tcp_norm.specs.Near.{IsNear}
 use Rattle.tcp_norm.specs.Chains.{Keeps}
 
 -- an entry of the table as a live era
@@ -75,6 +77,21 @@ pub record Begins (e : Era) (number : ℕ) (segments later : ℕ → List Writte
   pub stands : era.StandsFor e (later number)
   pub none : (offset : ℕ) → kept_at (later number) offset ≡ None
   pub others : (m : ℕ) → m ≢ number → later m ≡ segments m
+
+-- one more datagram can be counted, which arrives at this time
+pub record IsReady (norm : TcpNorm) (now : ℕ) : Type 0 where
+  pub few : norm.calls < 2 ^ 32 - 1
+  pub later : norm.latest ≤ now
+
+-- the connection of this key has no era
+abbrev pub IsAbsent : TcpNorm → FlowKey → Type 0
+IsAbsent norm key = HasNone norm.table.entries (record { 0 = key })
+
+-- the connection of this key has no era, and this one can begin with the next number
+pub record IsNew (norm : TcpNorm) (key : FlowKey) (e : Era) : Type 0 where
+  pub absent : IsAbsent norm key
+  pub number : norm.begun + 1 ≤ norm.calls
+  pub near : IsNear norm.calls e
 
 -- only the tables have changed, and this is the number of eras that began
 pub record ChangesTables (old new : TcpNorm) (begun : ℕ) : Type 0 where

@@ -1,7 +1,7 @@
 //! What a segment changes in its live era.
-ghost use Rattle.std.specs.Prelude.{◌≡◌, ◌<◌, length};
+ghost use Rattle.std.specs.Prelude.{◌≡◌};
 ghost use Rattle.linked_table.specs.Table.{IsIn};
-ghost use Rattle.tcp_norm.specs.Spare.{settled, written_back};
+ghost use Rattle.tcp_norm.specs.Spare.{HasSlot, Lists, written_back};
 
 use crate::flow::{Flow, Live};
 use crate::key::EraKey;
@@ -14,23 +14,21 @@ use linked_table::{LinkedTable, Slot, SlotList};
 use retain_store::{ChainId, Retain};
 
 impl TcpNorm {
-    ghost use Rattle.std.specs.Prelude.{◌≡◌, ◌-◌, ◌<◌, ◌≤◌, ◌^◌, List, ◌∷◌, ◌+◌};
+    ghost use Rattle.std.specs.Prelude.{◌<◌, List, ◌+◌};
     ghost use Rattle.norm_settings.specs.Settings.{PlainSettings};
     ghost use Rattle.ip_rules.specs.Datagrams.{Datagram};
-    ghost use Rattle.tcp_norm.specs.Calls.{Call, Outcome, datagram};
-    ghost use Rattle.tcp_norm.specs.Standing.{StandsFor};
-    ghost use Rattle.tcp_norm.specs.Rulings.{IsOpenTo, Needs, IsHeld, Brings, CanTake, Extends};
+    ghost use Rattle.tcp_norm.specs.Calls.{Call, Outcome};
+    ghost use Rattle.tcp_norm.specs.Standing.{IsReady, StandsFor};
+    ghost use Rattle.tcp_norm.specs.Rulings.{IsCounted, IsOpenTo, Needs, IsHeld, Brings, CanTake, Extends};
     ghost use Rattle.wire_base.specs.Segments.{Written};
     ghost use Rattle.tcp_norm.specs.Near.{IsNear};
 
     /// Makes the change of a segment that arrives at this time.
     pub(crate) fn apply(&mut self, live: &Live, change: &Change<'_>, now: u32)
         requires fits { IsOpenTo self.old live.now change.now }
-        requires few { self.old.calls < 2 ^ 32 - 1 }
-        requires later { self.old.latest ≤ now }
-        ensures stands { (settings : PlainSettings) (calls : List Call) (d : Datagram) (o : Outcome) → StandsFor settings self.old calls →
-            Needs calls self.old d live.now change.now o → StandsFor settings self.new (datagram now d o ∷ calls) }
-        ensures scratch { self.new.scratch ≡ self.old.scratch }
+        requires ready { IsReady self.old now }
+        ensures { (settings : PlainSettings) (calls : List Call) (d : Datagram) (o : Outcome) → StandsFor settings self.old calls →
+            Needs calls self.old d live.now change.now o → IsCounted settings calls d o now self.old self.new }
     {
         match change {
             Change::Nothing => self.arrive(now),
@@ -41,7 +39,7 @@ impl TcpNorm {
                 self.keep_era(live, era, now);
             }
             Change::Reopen(era) => {
-                let _number = self.reopen(live, Era::Offered(*era), now);
+                self.reopen(live, Era::Offered(*era), now);
             }
         }
     }
@@ -50,17 +48,16 @@ impl TcpNorm {
     pub(crate) fn keep_era(&mut self, live: &Live, era: Era, now: u32)
         requires held { IsHeld self.old.table live.now }
         requires near { IsNear (self.old.calls + 1) era }
-        requires few { self.old.calls < 2 ^ 32 - 1 }
-        requires later { self.old.latest ≤ now }
-        ensures stands { (settings : PlainSettings) (calls : List Call) (d : Datagram) (ws : List Written) (o : Outcome) → StandsFor settings self.old calls →
-            Extends calls d live.now era ws o → StandsFor settings self.new (datagram now d o ∷ calls) }
-        ensures scratch { self.new.scratch ≡ self.old.scratch }
+        requires ready { IsReady self.old now }
+        ensures { (settings : PlainSettings) (calls : List Call) (d : Datagram) (ws : List Written) (o : Outcome) → StandsFor settings self.old calls →
+            Extends calls d live.now era ws o → IsCounted settings calls d o now self.old self.new }
     {
         first_stays();
         acked_never_falls();
         self.calls += 1;
         self.latest = now;
-        let chain = ChainId(live.slot.0);
+        let slot = live.slot;
+        let chain = ChainId(slot.0);
         chain_is_counted(&self.store, chain);
         self.store.forget_below(chain, era.acknowledged());
         let flow = Flow {
@@ -68,31 +65,24 @@ impl TcpNorm {
             number: live.flow.number,
             touched: now,
         };
-        write_back(
-            &mut self.table,
-            &mut self.spare,
-            &self.store,
-            live.slot,
-            flow,
-        );
+        write_back(&mut self.table, &mut self.spare, &self.store, slot, flow);
     }
 
     /// Takes the octets of a frame, at the front of the scratch, and its FIN into the live era, with a segment that arrives at this time.
     pub(crate) fn take_octets(&mut self, live: &Live, taking: &Taking<'_>, now: u32)
         requires held { IsHeld self.old.table live.now }
         requires can { CanTake (self.old.calls + 1) self.old.store self.old.quota live.now taking.now }
-        requires few { self.old.calls < 2 ^ 32 - 1 }
-        requires later { self.old.latest ≤ now }
-        ensures stands { (settings : PlainSettings) (calls : List Call) (d : Datagram) (o : Outcome) → StandsFor settings self.old calls →
-            Brings calls self.old.scratch.items d live.now taking.now o → StandsFor settings self.new (datagram now d o ∷ calls) }
-        ensures scratch { self.new.scratch ≡ self.old.scratch }
+        requires ready { IsReady self.old now }
+        ensures { (settings : PlainSettings) (calls : List Call) (d : Datagram) (o : Outcome) → StandsFor settings self.old calls →
+            Brings calls self.old.scratch.items d live.now taking.now o → IsCounted settings calls d o now self.old self.new }
     {
         first_stays();
         frame_octets();
         intervals_fit();
         self.calls += 1;
         self.latest = now;
-        let chain = ChainId(live.slot.0);
+        let slot = live.slot;
+        let chain = ChainId(slot.0);
         let kept = &taking.kept;
         let fresh = self
             .store
@@ -104,13 +94,7 @@ impl TcpNorm {
             number: live.flow.number,
             touched: now,
         };
-        write_back(
-            &mut self.table,
-            &mut self.spare,
-            &self.store,
-            live.slot,
-            flow,
-        );
+        write_back(&mut self.table, &mut self.spare, &self.store, slot, flow);
     }
 }
 
@@ -123,10 +107,9 @@ fn write_back(
     flow: Flow,
 )
     requires inside { IsIn table.old.entries slot }
-    requires below { slot.0 < spare.old.max }
-    requires chain { slot.0 < length store.now.chains }
+    requires listed { HasSlot spare.old store.now slot }
     ensures entries { table.new ≡ record table.old { entries = written_back table.old.entries slot flow } }
-    ensures spare { spare.new ≡ record spare.old { slots = settled store.now slot spare.old.slots } }
+    ensures spare { Lists spare.old spare.new store.now slot }
 {
     let _before = table.put(slot, flow);
     table.touch(slot);

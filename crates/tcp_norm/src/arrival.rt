@@ -1,35 +1,17 @@
 //! A datagram as it arrives, with the header of its segment read.
 ghost use Rattle.std.specs.Prelude.{◌≡◌, ◌≤◌, [], length};
-ghost use Rattle.wire_base.specs.declared.address.Side.TheVariants.{Inward, Outward};
 ghost use Rattle.tcp_norm.specs.Heads.{IsRead};
 
 use ip_rules::IpPacket;
 use tcp_codec::Tcp;
 
-/// An inbound datagram that arrives at this time behind these link octets.
+/// A datagram that arrives at this time behind these link octets.
 #[derive(Clone, Copy)]
 pub(crate) struct Arrival<'a> {
     pub(crate) time: u32,
     pub(crate) packet: &'a IpPacket<'a>,
     pub(crate) link: &'a [u8],
     pub(crate) head: &'a Tcp,
-    ghost side: { packet.now.side ≡ Inward },
-    ghost short: { length packet.now.payload.now ≤ 65515 },
-    ghost read: { IsRead packet.now.payload.now head.now },
-    ghost brief: { length link.now ≤ 14 },
-    ghost framed: { packet.now.fixes.items ≡ [] → length packet.now.frame.now ≤ 65549 },
-    ghost few: { length packet.now.fixes.items ≤ 6 },
-}
-
-/// An outbound datagram, and whether the checksum of its segment is wrong and is computed again.
-#[derive(Clone, Copy)]
-pub(crate) struct Departure<'a> {
-    pub(crate) time: u32,
-    pub(crate) packet: &'a IpPacket<'a>,
-    pub(crate) link: &'a [u8],
-    pub(crate) head: &'a Tcp,
-    pub(crate) wrong: bool,
-    ghost side: { packet.now.side ≡ Outward },
     ghost short: { length packet.now.payload.now ≤ 65515 },
     ghost read: { IsRead packet.now.payload.now head.now },
     ghost brief: { length link.now ≤ 14 },

@@ -11,7 +11,7 @@ use rule_book::{Ended, Reason};
 use wire_base::FlowKey;
 
 impl TcpNorm {
-    ghost use Rattle.std.specs.Prelude.{◌≡◌, ◌+◌, ◌-◌, ◌<◌, ◌≤◌, ◌^◌, ℕ, IfSome, IfNone, None, List, [], ◌∷◌, Option, Some, is_some, ◌++◌, length, if◌then◌else◌};
+    ghost use Rattle.std.specs.Prelude.{◌≡◌, ◌+◌, ◌-◌, ◌<◌, ℕ, IfSome, IfNone, None, List, [], ◌∷◌, Option, Some, is_some, ◌++◌, length, if◌then◌else◌};
     ghost use Rattle.wire_base.specs.Segments.{Written};
     ghost use Rattle.norm_settings.specs.Settings.{PlainSettings};
     ghost use Rattle.linked_table.specs.Table.{HasNone, IsIn, Wherever};
@@ -22,19 +22,18 @@ impl TcpNorm {
     ghost use Rattle.tcp_norm.specs.Held.{kept_at};
     ghost use Rattle.tcp_norm.specs.Near.{IsNear};
     ghost use Rattle.tcp_norm.specs.Steps.{Does, Evicts, Places, began, place_in, reopened_by};
-    ghost use Rattle.tcp_norm.specs.Standing.{StandsFor, Holds, Begins, ChangesTables};
+    ghost use Rattle.tcp_norm.specs.Standing.{IsAbsent, IsNew, IsReady, StandsFor, Holds, Begins, ChangesTables};
     ghost use Rattle.tcp_norm.specs.declared.key.EraKey.{EraKey};
     ghost use Rattle.tcp_norm.specs.declared.flow.Flow.{Flow};
-    ghost use Rattle.tcp_norm.specs.Rulings.{IsHeld};
+    ghost use Rattle.tcp_norm.specs.Rulings.{IsCounted, IsHeld};
     ghost use Rattle.era_state.specs.Eras as eras;
     ghost use Rattle.linked_table.specs.Table as table;
 
     /// Begins an era with a segment that arrives at this time, if there is a slot for it.
     pub(crate) fn admit(&mut self, key: FlowKey, era: Era, now: u32) -> Option<Place>
-        requires absent { HasNone self.old.table.entries (record { 0 = key }) }
+        requires absent { IsAbsent self.old key }
         requires near { IsNear (self.old.calls + 1) era }
-        requires few { self.old.calls < 2 ^ 32 - 1 }
-        requires later { self.old.latest ≤ now }
+        requires ready { IsReady self.old now }
         ensures answer { (settings : PlainSettings) (calls : List Call) (d : Datagram) → StandsFor settings self.old calls → result ≡ place_in (view_of settings calls d) }
         ensures some { IfSome result (λ p. (settings : PlainSettings) (calls : List Call) (d : Datagram) (w : Written) (o : Outcome) → StandsFor settings self.old calls →
             key_of d ≡ key → eras.StandsFor era (w ∷ []) → ((offset : ℕ) → kept_at (w ∷ []) offset ≡ None) → Does d w (began p) o → StandsFor settings self.new (datagram now d o ∷ calls)) }
@@ -70,36 +69,31 @@ impl TcpNorm {
 
     // Begins an era of a connection that has none: beside the others, or in the slot of one that holds no octet, or else not at all.
     pub(crate) fn place(&mut self, key: FlowKey, era: Era, now: u32) -> Option<Place>
-        requires absent { HasNone self.old.table.entries (record { 0 = key }) }
-        requires number { self.old.begun + 1 ≤ self.old.calls }
-        requires near { IsNear self.old.calls era }
+        requires fresh { IsNew self.old key era }
         ensures places { (lives : List Alive) (segments : ℕ → List Written) → Holds self.old lives segments → Places self.old self.new key era now lives segments result }
         ensures tables { ChangesTables self.old self.new (self.old.begun + (if is_some result then 1 else 0)) }
     {
         if self.table.len() < self.table.max() {
-            let begun = self.begin(key, era, now);
+            self.begin(key, era, now);
             return Some(Place {
-                begun,
+                begun: self.begun,
                 evicted: None,
             });
         }
         let ended = self.evict()?;
-        let begun = self.begin(key, era, now);
+        self.begin(key, era, now);
         Some(Place {
-            begun,
+            begun: self.begun,
             evicted: Some(ended),
         })
     }
 
-    // Begins an era of a connection that has none, where fewer are live than may be. It holds no octet. Returns its number.
-    pub(crate) fn begin(&mut self, key: FlowKey, era: Era, now: u32) -> u32
-        requires absent { HasNone self.old.table.entries (record { 0 = key }) }
+    // Begins an era of a connection that has none, where fewer are live than may be. It holds no octet.
+    pub(crate) fn begin(&mut self, key: FlowKey, era: Era, now: u32)
+        requires fresh { IsNew self.old key era }
         requires room { length self.old.table.entries < self.old.table.max }
-        requires number { self.old.begun + 1 ≤ self.old.calls }
-        requires near { IsNear self.old.calls era }
         ensures holds { (lives : List Alive) (segments later : ℕ → List Written) → Holds self.old lives segments → Begins era (self.old.begun + 1) segments later →
             Holds self.new (lives ++ record { number = self.old.begun + 1; key = key; touched = now } ∷ []) later }
-        ensures number { result ≡ self.old.begun + 1 }
         ensures tables { ChangesTables self.old self.new (self.old.begun + 1) }
     {
         let number = self.begun + 1;
@@ -113,25 +107,21 @@ impl TcpNorm {
             Err(_) => unreachable!(),
         }
         self.begun = number;
-        number
     }
 
-    /// Ends the live era and begins another of its connection with a segment that arrives at this time. Returns the number of the new era.
-    pub(crate) fn reopen(&mut self, live: &Live, era: Era, now: u32) -> u32
+    /// Ends the live era and begins another of its connection with a segment that arrives at this time.
+    pub(crate) fn reopen(&mut self, live: &Live, era: Era, now: u32)
         requires held { IsHeld self.old.table live.now }
         requires near { IsNear (self.old.calls + 1) era }
-        requires few { self.old.calls < 2 ^ 32 - 1 }
-        requires later { self.old.latest ≤ now }
-        ensures number { result ≡ self.old.begun + 1 }
-        ensures stands { (settings : PlainSettings) (calls : List Call) (d : Datagram) (w : Written) (octets : ℕ) (o : Outcome) → StandsFor settings self.old calls →
+        requires ready { IsReady self.old now }
+        ensures { (settings : PlainSettings) (calls : List Call) (d : Datagram) (w : Written) (octets : ℕ) (o : Outcome) → StandsFor settings self.old calls →
             live.now.key ≡ key_of d → eras.StandsFor era (w ∷ []) → ((offset : ℕ) → kept_at (w ∷ []) offset ≡ None) →
-            Does d w (reopened_by live.now.flow.number (self.old.begun + 1) octets) o → StandsFor settings self.new (datagram now d o ∷ calls) }
-        ensures scratch { self.new.scratch ≡ self.old.scratch }
+            Does d w (reopened_by live.now.flow.number (self.old.begun + 1) octets) o → IsCounted settings calls d o now self.old self.new }
     {
         self.calls += 1;
         self.latest = now;
         self.end(live.slot);
-        self.begin(live.key, era, now)
+        self.begin(live.key, era, now);
     }
 
     // Ends the era in this slot: its octets and its entry go, and the others stay.

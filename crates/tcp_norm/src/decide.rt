@@ -1,4 +1,4 @@
-//! Judges an inbound segment: its ruling, and the change of the eras that follows.
+//! Judges a segment: its ruling, and the change of the eras that follows.
 mod cold;
 mod early;
 mod reset;
@@ -12,19 +12,35 @@ use crate::reading::inward_key;
 use crate::ruling::{Change, Ruling};
 use crate::state::TcpNorm;
 use era_state::Era;
+use wire_base::Side;
 
 impl TcpNorm {
-    ghost use Rattle.std.specs.Prelude.{◌-◌, ◌<◌, ◌≤◌, ◌^◌};
-    ghost use Rattle.tcp_norm.specs.Rulings.{Decides, IsFound, IsOpenTo, IsSame, IsShort, Judges};
+    ghost use Rattle.std.specs.Prelude.{◌≡◌, ◌-◌, ◌<◌, ◌≤◌, ◌^◌};
+    ghost use Rattle.wire_base.specs.declared.address.Side.TheVariants.{Inward, Outward};
+    ghost use Rattle.tcp_norm.specs.Standing.{IsReady};
+    ghost use Rattle.tcp_norm.specs.Rulings.{Decides, IsFound, IsOpenTo, IsOutward, IsSame, IsShort, Judges};
 
-    /// Judges the segment and updates the eras.
+    /// Judges a segment and updates the eras.
     pub(crate) fn judge(&mut self, arrival: &Arrival<'_>, ruling: &mut Ruling)
-        requires few { self.old.calls < 2 ^ 32 - 1 }
-        requires later { self.old.latest ≤ arrival.now.time }
+        requires ready { IsReady self.old arrival.now.time }
+        requires outward { arrival.now.packet.now.side ≡ Outward → IsOutward arrival.now }
         ensures judges { Judges arrival.now self.old self.new ruling.new }
         ensures short { IsShort arrival.now ruling.new }
     {
-        let key = inward_key(&arrival.packet.head, arrival.packet.payload, arrival.head);
+        match arrival.packet.side {
+            Side::Inward => self.judge_inward(arrival, ruling),
+            Side::Outward => self.judge_outward(arrival, ruling),
+        }
+    }
+
+    // Judges an inbound segment and updates the eras.
+    fn judge_inward(&mut self, arrival: &Arrival<'_>, ruling: &mut Ruling)
+        requires ready { IsReady self.old arrival.now.time }
+        requires side { arrival.now.packet.now.side ≡ Inward }
+        ensures judges { Judges arrival.now self.old self.new ruling.new }
+        ensures short { IsShort arrival.now ruling.new }
+    {
+        let key = inward_key(arrival);
         match self.table.find(&EraKey(key)) {
             None => self.judge_cold(key, arrival, ruling),
             Some(slot) => {
@@ -37,8 +53,7 @@ impl TcpNorm {
     // Judges a segment of a live era and updates the era.
     fn judge_live(&mut self, live: &Live, arrival: &Arrival<'_>, ruling: &mut Ruling)
         requires found { IsFound self.old arrival.now live.now }
-        requires few { self.old.calls < 2 ^ 32 - 1 }
-        requires later { self.old.latest ≤ arrival.now.time }
+        requires ready { IsReady self.old arrival.now.time }
         ensures judges { Judges arrival.now self.old self.new ruling.new }
         ensures short { IsShort arrival.now ruling.new }
     {
@@ -54,7 +69,7 @@ impl TcpNorm {
         ruling: &mut Ruling,
     ) -> Change<'a>
         requires found { IsFound self.old arrival.now live.now }
-        requires few { self.old.calls < 2 ^ 32 - 1 }
+        requires ready { IsReady self.old arrival.now.time }
         ensures fits { IsOpenTo self.new live.now result }
         ensures short { IsShort arrival.now ruling.new }
         ensures same { IsSame self.old self.new }

@@ -1,11 +1,11 @@
 //! The packets that are sent for a segment.
 ghost use Rattle.std.specs.Prelude.{◌≡◌, ◌<◌, ◌≤◌, ◌++◌, length, ◌+◌, [], ◌∷◌, ◌-◌, ◌%◌, drop, false, if◌then◌else◌};
+ghost use Rattle.tcp_norm.specs.Passing.{given, IsBlank, IsUnsent};
 ghost use Rattle.tcp_norm.specs.Rulings.{probe_frames};
 ghost use Rattle.ipv4_codec.specs.Write.{plain_header};
 ghost use Rattle.tcp_codec.specs.Mending.{mended};
 ghost use Rattle.tcp_codec.specs.Write.{segment_octets};
-ghost use Rattle.reset_probe.specs.Write.{probe_octets};
-ghost use Rattle.tcp_norm.specs.Anews.{anew_segment};
+ghost use Rattle.tcp_norm.specs.Anews.{FitsSegment, anew_segment};
 ghost use Rattle.tcp_norm.specs.Emits.{without_flag};
 ghost use Rattle.ip_rules.specs.Datagrams as spec;
 ghost use Rattle.wire_base.specs.Sums as sums;
@@ -18,98 +18,129 @@ use crate::state::TcpNorm;
 use arrayvec::ArrayVec;
 use edge_io::Outbox;
 use era_state::Probe;
-use ip_rules::write::{put_anew, put_read, raised};
+use ip_rules::write::{head_sent, put_anew, put_read, raised};
 use ipv4_codec::Ipv4;
 use reset_probe::write_probe;
 use tcp_codec::laws::mended_say_the_same;
 use tcp_codec::{SegmentParts, Tcp, mend, write_segment};
-use wire_base::{Flags, protocol, pseudo_sum};
+use wire_base::{Flags, Side, protocol, pseudo_sum};
 
 impl TcpNorm {
-    ghost use Rattle.std.specs.Prelude.{List, [], ◌∷◌, ◌+◌};
+    ghost use Rattle.std.specs.Prelude.{List, [], ◌∷◌, ◌==◌, false};
     ghost use Rattle.wire_base.specs.Segments.{Written};
     ghost use Rattle.norm_settings.specs.Settings.{PlainSettings};
     ghost use Rattle.ip_rules.specs.Datagrams.{Datagram, frames_of, IsDatagram};
-    ghost use Rattle.tcp_norm.specs.Calls.{Call};
-    ghost use Rattle.tcp_norm.specs.Standing.{IsFor, StandsFor};
-    ghost use Rattle.tcp_norm.specs.Rulings.{outcome_of, IsCarried, IsShort, IsRewritten};
+    ghost use Rattle.tcp_norm.specs.Standing.{IsFor};
+    ghost use Rattle.tcp_norm.specs.Passing.{given, IsBlank, IsUnsent};
+    ghost use Rattle.tcp_norm.specs.Rulings.{Fits, outcome_of, IsCarried, IsSame, IsShort, IsRewritten};
     ghost use Rattle.tcp_norm.specs.Emits.{packet_by};
     ghost use Rattle.wire_base.specs.Tcp as tcp;
 
-    /// Puts the packets of a ruling into the empty outbox.
-    pub(crate) fn emit(&mut self, ruling: &Ruling, arrival: &Arrival<'_>, out: &mut Outbox)
-        requires empty { out.old ≡ [] }
+    /// Puts the packets of a ruling into the empty outbox; or returns true, with nothing in it, if there is one and it is the frame that was read.
+    pub(crate) fn emit(&mut self, ruling: &Ruling, arrival: &Arrival<'_>, out: &mut Outbox) -> bool
+        requires empty { IsBlank out.old }
         requires short { IsShort arrival.now ruling.now }
-        ensures stays { (settings : PlainSettings) (calls : List Call) → StandsFor settings self.old calls → StandsFor settings self.new calls }
+        ensures same { IsSame self.old self.new }
+        ensures unsent { IsUnsent result arrival.now.packet.now.frame.now out.new }
         ensures frames { (settings : PlainSettings) (ws : List Written) (d : Datagram) → IsFor settings self.old → IsDatagram arrival.now.packet.now arrival.now.link.now d →
-            IsCarried ws d arrival.now self.old.scratch.items ruling.now → out.new ≡ frames_of arrival.now.link.now (outcome_of settings ws d ruling.now).packets }
+            IsCarried ws d arrival.now self.old.scratch.items ruling.now →
+            given result arrival.now.packet.now.frame.now out.new ≡ frames_of arrival.now.link.now (outcome_of settings ws d ruling.now).packets }
     {
         let hops = self.hops;
         match ruling {
-            Ruling::Drop(refusal) => put_if_any(arrival, hops, refusal.probe, out),
-            Ruling::Pass(passage) => {
-                self.emit_own(passage, arrival, out);
-                put_if_any(arrival, hops, passage.probe, out);
+            Ruling::Drop(refusal) => {
+                put_probe(arrival, hops, refusal.probe, out);
+                false
             }
-            Ruling::Ask(question) => put_probe(arrival, hops, &question.probe, out),
+            Ruling::Ask(question) => {
+                put_probe(arrival, hops, Some(question.probe), out);
+                false
+            }
+            Ruling::Pass(passage) => match passage.probe {
+                None => self.emit_own(passage, arrival, out),
+                Some(probe) => {
+                    let as_read = self.emit_own(passage, arrival, out);
+                    put_given(as_read, arrival.packet.frame, out);
+                    put_probe(arrival, hops, Some(probe), out);
+                    false
+                }
+            },
         }
     }
 
-    // Puts the packet of a segment that passes, as read or rewritten.
-    fn emit_own(&mut self, passage: &Passage, arrival: &Arrival<'_>, out: &mut Outbox)
-        requires short { arrival.now.head.now.header + passage.now.size ≤ 65515 }
-        requires empty { out.old ≡ [] }
-        ensures stays { (settings : PlainSettings) (calls : List Call) → StandsFor settings self.old calls → StandsFor settings self.new calls }
+    // Puts the packet of a segment that passes into the empty outbox; or returns true, with nothing in it, if it is the frame that was read.
+    fn emit_own(&mut self, passage: &Passage, arrival: &Arrival<'_>, out: &mut Outbox) -> bool
+        requires short { Fits arrival.now passage.now }
+        requires empty { IsBlank out.old }
+        ensures same { IsSame self.old self.new }
+        ensures unsent { IsUnsent result arrival.now.packet.now.frame.now out.new }
+        ensures one { result ≡ false → length out.new ≡ 1 }
+        ensures frames { (settings : PlainSettings) (d : Datagram) (ws : List Written) → IsFor settings self.old → IsDatagram arrival.now.packet.now arrival.now.link.now d →
+            IsRewritten ws d arrival.now self.old.scratch.items passage.now →
+            given result arrival.now.packet.now.frame.now out.new ≡ frames_of arrival.now.link.now (packet_by settings ws d d.fixes passage.now.rows.items ∷ []) }
+    {
+        let packet = arrival.packet;
+        if !passage.rows.is_empty() {
+            self.emit_rewritten(passage, arrival, out);
+            return false;
+        }
+        if packet.fixes.is_empty() {
+            return true;
+        }
+        let head = head_sent(packet, self.hops);
+        put_anew(arrival.link, &head, packet.payload, out);
+        false
+    }
+
+    // Puts the packet of a segment that a rule rewrites: an inbound one with what its passage says, an outbound one with a correct checksum.
+    fn emit_rewritten(&mut self, passage: &Passage, arrival: &Arrival<'_>, out: &mut Outbox)
+        requires short { Fits arrival.now passage.now }
+        requires some { (length passage.now.rows.items == 0) ≡ false }
+        requires empty { IsBlank out.old }
+        ensures same { IsSame self.old self.new }
         ensures one { length out.new ≡ 1 }
         ensures frames { (settings : PlainSettings) (d : Datagram) (ws : List Written) → IsFor settings self.old → IsDatagram arrival.now.packet.now arrival.now.link.now d →
             IsRewritten ws d arrival.now self.old.scratch.items passage.now →
             out.new ≡ frames_of arrival.now.link.now (packet_by settings ws d d.fixes passage.now.rows.items ∷ []) }
     {
-        let octets = arrival.packet.payload;
-        if !passage.rows.is_empty() {
-            let ip = raised(&arrival.packet.head, self.hops);
-            let (options, _changed) = options_of(octets, arrival.head);
-            let anew = Anew {
-                seq: passage.seq,
-                fin: passage.fin,
-                options,
-            };
-            let sent = &self.scratch[..passage.size];
-            put_rewritten(arrival, &ip, anew, sent, &mut self.page, out);
-        } else if arrival.packet.fixes.is_empty() {
-            put_read(arrival.packet.frame, out);
-        } else {
-            let head = raised(&arrival.packet.head, self.hops);
-            put_anew(arrival.link, &head, octets, out);
+        let packet = arrival.packet;
+        let head = head_sent(packet, self.hops);
+        match packet.side {
+            Side::Inward => {
+                let (options, _changed) = options_of(arrival);
+                let anew = Anew {
+                    seq: passage.seq,
+                    fin: passage.fin,
+                    options,
+                };
+                let sent = &self.scratch[..passage.size];
+                put_rewritten(arrival, &head, anew, sent, &mut self.page, out);
+            }
+            Side::Outward => {
+                put_mended(arrival.link, &head, packet.payload, &mut self.scratch, out);
+            }
         }
     }
 }
 
-// Puts the packet of a probe, if there is one, into the outbox, behind at most one other.
-fn put_if_any(arrival: &Arrival<'_>, hops: u8, probe: Option<Probe>, out: &mut Outbox)
-    requires passes { hops ≤ 254 }
-    requires room { length out.old < 2 }
-    ensures { out.new ≡ out.old ++ probe_frames arrival.now.link.now (spec.raised hops arrival.now.packet.now.head) arrival.now.head.now.sport arrival.now.head.now.dport probe }
+/// Puts a frame into the empty outbox if it is sent as it was read.
+pub(crate) fn put_given(as_read: bool, frame: &[u8], out: &mut Outbox)
+    requires { IsUnsent as_read frame.now out.old }
+    ensures { out.new ≡ given as_read frame.now out.old }
 {
-    if let Some(probe) = probe {
-        put_probe(arrival, hops, &probe, out);
+    if as_read {
+        put_read(frame, out);
     }
 }
 
-/// Puts a packet with a plain header and a correct checksum of its segment into the empty outbox.
-pub(crate) fn put_mended(
-    link: &[u8],
-    head: &Ipv4,
-    segment: &[u8],
-    scratch: &mut [u8],
-    out: &mut Outbox,
-)
-    requires empty { out.old ≡ [] }
+// Puts a packet with a plain header and a correct checksum of its segment into the empty outbox.
+fn put_mended(link: &[u8], head: &Ipv4, segment: &[u8], scratch: &mut [u8], out: &mut Outbox)
+    requires empty { IsBlank out.old }
     requires link { length link.now ≤ 14 }
     requires short { length segment.now ≤ 65515 }
     requires long { 20 ≤ length segment.now }
     requires words { 20 ≤ tcp.header_length segment.now }
-    requires room { 65515 ≤ length scratch.old }
+    requires room { length segment.now ≤ length scratch.old }
     ensures { let m = mended (sums.pseudo_sum head.now.src.0 head.now.dst.0 6 (length segment.now)) segment.now in
         out.new ≡ (link.now ++ plain_header head.now (length m) ++ m) ∷ [] }
 {
@@ -123,8 +154,8 @@ pub(crate) fn put_mended(
     put_anew(link, head, copy, out);
 }
 
-/// Puts the packet of a segment that is rewritten into the empty outbox.
-pub(crate) fn put_rewritten(
+// Puts the packet of a segment that is rewritten into the empty outbox.
+fn put_rewritten(
     arrival: &Arrival<'_>,
     ip: &Ipv4,
     anew: Anew,
@@ -132,8 +163,8 @@ pub(crate) fn put_rewritten(
     page: &mut [u8],
     out: &mut Outbox,
 )
-    requires empty { out.old ≡ [] }
-    requires size { 20 + length anew.options.items + length octets.now ≤ 65515 }
+    requires empty { IsBlank out.old }
+    requires size { FitsSegment anew.options.items octets.now }
     requires room { 65515 ≤ length page.old }
     ensures { let m = segment_octets (anew_segment ip.now arrival.now.head.now anew.seq anew.fin anew.options.items octets.now) in
         out.new ≡ (arrival.now.link.now ++ plain_header ip.now (length m) ++ m) ∷ [] }
@@ -142,21 +173,19 @@ pub(crate) fn put_rewritten(
     put_anew(arrival.link, ip, &page[..size], out);
 }
 
-/// Puts the packet of a probe between the ends of an inbound segment into the outbox, behind at most one other.
-pub(crate) fn put_probe(arrival: &Arrival<'_>, hops: u8, probe: &Probe, out: &mut Outbox)
+// Puts the packet of a probe between the ends of an inbound segment, if there is one, into the outbox, behind at most one other.
+fn put_probe(arrival: &Arrival<'_>, hops: u8, probe: Option<Probe>, out: &mut Outbox)
     requires passes { hops ≤ 254 }
     requires room { length out.old < 2 }
-    ensures { out.new ≡ out.old ++ (arrival.now.link.now ++ probe_octets (spec.raised hops arrival.now.packet.now.head) arrival.now.head.now.sport arrival.now.head.now.dport probe.now) ∷ [] }
+    ensures { out.new ≡ out.old ++ probe_frames arrival.now.link.now (spec.raised hops arrival.now.packet.now.head) arrival.now.head.now.sport arrival.now.head.now.dport probe }
 {
+    let Some(probe) = probe else {
+        return;
+    };
+    let head = arrival.head;
     let ip = raised(&arrival.packet.head, hops);
     let mut packet = [0u8; 40];
-    let _size = write_probe(
-        &ip,
-        arrival.head.sport,
-        arrival.head.dport,
-        probe,
-        &mut packet,
-    );
+    let _size = write_probe(&ip, head.sport, head.dport, &probe, &mut packet);
     out.begin();
     out.append(arrival.link);
     out.append(&packet);
@@ -181,9 +210,9 @@ fn without_fin(flags: Flags) -> u8
     if flags.fin() { flags.0 - 1 } else { flags.0 }
 }
 
-/// Writes the rewritten segment with these octets. Returns its length.
-pub(crate) fn write_anew(ip: &Ipv4, head: &Tcp, anew: Anew, octets: &[u8], buf: &mut [u8]) -> usize
-    requires size { 20 + length anew.options.items + length octets.now ≤ 65515 }
+// Writes the rewritten segment with these octets. Returns its length.
+fn write_anew(ip: &Ipv4, head: &Tcp, anew: Anew, octets: &[u8], buf: &mut [u8]) -> usize
+    requires size { FitsSegment anew.options.items octets.now }
     requires room { 65515 ≤ length buf.old }
     ensures exact { buf.new ≡ segment_octets (anew_segment ip.now head.now anew.seq anew.fin anew.options.items octets.now) ++ drop result buf.old }
     ensures size { result ≡ 20 + length anew.options.items + length octets.now }

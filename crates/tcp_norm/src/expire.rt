@@ -66,11 +66,12 @@ impl TcpNorm {
 
 // Appends an era that ended.
 fn add_idle(entry: &mut Entry, ended: Ended)
-    requires { length entry.old.ended.items ≤ 2 }
+    requires { HasRoom entry.old }
     ensures ended { entry.new.ended.items ≡ entry.old.ended.items ++ ended ∷ [] }
     ensures rest { entry.new ≡ record entry.old { ended = entry.new.ended } }
 {
     entry.ended.push(ended);
 }
 
-ghost use Rattle.std.specs.Prelude.{◌≡◌, ◌≤◌, ◌++◌, [], ◌∷◌, length};
+ghost use Rattle.std.specs.Prelude.{◌≡◌, ◌++◌, [], ◌∷◌};
+ghost use Rattle.tcp_norm.specs.Passing.{HasRoom};

@@ -38,7 +38,5 @@ mod ruling;
 mod spare;
 mod state;
 mod step;
-#[cfg(test)]
-mod tests;
 
 pub use state::TcpNorm;

@@ -5,27 +5,28 @@ ghost use Rattle.wire_base.specs.Options.{cleaned};
 ghost use Rattle.era_state.specs.Read.{received, sent, came};
 ghost use Rattle.wire_base.specs.declared.address.Side.TheVariants.{Inward, Outward};
 ghost use Rattle.tcp_norm.specs.Calls.{key_at, read};
-ghost use Rattle.tcp_norm.specs.Heads.{IsRead, AreBits};
+ghost use Rattle.tcp_norm.specs.Heads.{AreBits};
 ghost use Rattle.tcp_norm.specs.Rows.{differ};
 ghost use Rattle.tcp_norm.specs.Inwards.{bare_read};
 
+use crate::arrival::Arrival;
 use crate::emit::flags_sent;
 use arrayvec::ArrayVec;
 use era_state::Seg;
 use ipv4_codec::Ipv4;
 use tcp_codec::laws::options_are_cleaned;
-use tcp_codec::{Tcp, clean_options, scale_of};
+use tcp_codec::{clean_options, scale_of};
 use wire_base::FlowKey;
 
 /// The segment of these octets, of which the header was read.
-pub(crate) fn seg_of(octets: &[u8], head: &Tcp) -> Seg
-    requires head { IsRead octets.now head.now }
-    requires short { length octets.now ≤ 65515 }
-    ensures inward { received result (tcp.payload octets.now) ≡ read true octets.now }
-    ensures outward { sent result (tcp.payload octets.now) ≡ read false octets.now }
-    ensures len { result.len ≡ length (tcp.payload octets.now) }
-    ensures flags { result.flags ≡ head.now.flags }
+pub(crate) fn seg_of(arrival: &Arrival<'_>) -> Seg
+    ensures inward { received result (tcp.payload arrival.now.packet.now.payload.now) ≡ read true arrival.now.packet.now.payload.now }
+    ensures outward { sent result (tcp.payload arrival.now.packet.now.payload.now) ≡ read false arrival.now.packet.now.payload.now }
+    ensures len { result.len ≡ length (tcp.payload arrival.now.packet.now.payload.now) }
+    ensures flags { result.flags ≡ arrival.now.head.now.flags }
 {
+    let octets = arrival.packet.payload;
+    let head = arrival.head;
     Seg {
         seq: head.seq,
         ack: head.ack,
@@ -37,10 +38,11 @@ pub(crate) fn seg_of(octets: &[u8], head: &Tcp) -> Seg
 }
 
 /// The four-tuple of an outbound segment.
-pub(crate) fn outward_key(ip: &Ipv4, octets: &[u8], head: &Tcp) -> FlowKey
-    requires { IsRead octets.now head.now }
-    ensures { result ≡ key_at Outward ip.now octets.now }
+pub(crate) fn outward_key(arrival: &Arrival<'_>) -> FlowKey
+    ensures { result ≡ key_at Outward arrival.now.packet.now.head arrival.now.packet.now.payload.now }
 {
+    let ip = &arrival.packet.head;
+    let head = arrival.head;
     FlowKey {
         outside: ip.dst,
         outside_port: head.dport,
@@ -50,10 +52,11 @@ pub(crate) fn outward_key(ip: &Ipv4, octets: &[u8], head: &Tcp) -> FlowKey
 }
 
 /// The four-tuple of an inbound segment.
-pub(crate) fn inward_key(ip: &Ipv4, octets: &[u8], head: &Tcp) -> FlowKey
-    requires { IsRead octets.now head.now }
-    ensures { result ≡ key_at Inward ip.now octets.now }
+pub(crate) fn inward_key(arrival: &Arrival<'_>) -> FlowKey
+    ensures { result ≡ key_at Inward arrival.now.packet.now.head arrival.now.packet.now.payload.now }
 {
+    let ip = &arrival.packet.head;
+    let head = arrival.head;
     FlowKey {
         outside: ip.src,
         outside_port: head.sport,
@@ -77,13 +80,14 @@ fn has_bits(number: u32)
 {}
 
 /// What goes inwards of a SYN or a RST: without octets and urgent marks, with cleaned options.
-pub(crate) fn bare_seg(octets: &[u8], head: &Tcp) -> Seg
-    requires head { IsRead octets.now head.now }
-    ensures read { came result ≡ bare_read octets.now }
+pub(crate) fn bare_seg(arrival: &Arrival<'_>) -> Seg
+    ensures read { came result ≡ bare_read arrival.now.packet.now.payload.now }
     ensures flags { tcp.are_legal result.flags.0 ≡ true }
 {
+    let octets = arrival.packet.payload;
+    let head = arrival.head;
     options_are_cleaned();
-    let (options, _changed) = options_of(octets, head);
+    let (options, _changed) = options_of(arrival);
     Seg {
         seq: head.seq,
         ack: head.ack,
@@ -95,21 +99,23 @@ pub(crate) fn bare_seg(octets: &[u8], head: &Tcp) -> Seg
 }
 
 /// What a segment carries.
-pub(crate) fn payload_of<'a>(octets: &'a [u8], head: &Tcp) -> &'a [u8]
-    requires { IsRead octets.now head.now }
-    ensures { result.now ≡ tcp.payload octets.now }
+pub(crate) fn payload_of<'a>(arrival: &Arrival<'a>) -> &'a [u8]
+    ensures { result.now ≡ tcp.payload arrival.now.packet.now.payload.now }
 {
+    let octets = arrival.packet.payload;
+    let head = arrival.head;
     &octets[head.header..]
 }
 
 /// The options of a segment as they go out, and whether that changes them.
-pub(crate) fn options_of(octets: &[u8], head: &Tcp) -> (ArrayVec<u8, 40>, bool)
-    requires { IsRead octets.now head.now }
-    ensures exact { result.0.items ≡ cleaned (tcp.has_syn head.now.flags.0) (tcp.options octets.now) }
-    ensures changed { result.1 ≡ differ (cleaned (tcp.has_syn head.now.flags.0) (tcp.options octets.now)) (tcp.options octets.now) }
+pub(crate) fn options_of(arrival: &Arrival<'_>) -> (ArrayVec<u8, 40>, bool)
+    ensures exact { result.0.items ≡ cleaned (tcp.has_syn arrival.now.head.now.flags.0) (tcp.options arrival.now.packet.now.payload.now) }
+    ensures changed { result.1 ≡ differ (cleaned (tcp.has_syn arrival.now.head.now.flags.0) (tcp.options arrival.now.packet.now.payload.now)) (tcp.options arrival.now.packet.now.payload.now) }
     ensures words { length result.0.items % 4 ≡ 0 }
-    ensures size { 20 + length result.0.items ≡ head.now.header }
+    ensures size { 20 + length result.0.items ≡ arrival.now.head.now.header }
 {
+    let octets = arrival.packet.payload;
+    let head = arrival.head;
     options_are_cleaned();
     let mut options = ArrayVec::new();
     let area = &octets[20..head.header];
@@ -124,15 +130,16 @@ pub(crate) fn options_of(octets: &[u8], head: &Tcp) -> (ArrayVec<u8, 40>, bool)
 }
 
 /// Returns whether the options of a segment change as it is sent.
-pub(crate) fn options_change(octets: &[u8], head: &Tcp) -> bool
-    requires { IsRead octets.now head.now }
-    ensures changed { result ≡ differ (cleaned (tcp.has_syn head.now.flags.0) (tcp.options octets.now)) (tcp.options octets.now) }
-    ensures words { length (cleaned (tcp.has_syn head.now.flags.0) (tcp.options octets.now)) % 4 ≡ 0 }
-    ensures size { 20 + length (cleaned (tcp.has_syn head.now.flags.0) (tcp.options octets.now)) ≡ head.now.header }
+pub(crate) fn options_change(arrival: &Arrival<'_>) -> bool
+    ensures changed { result ≡ differ (cleaned (tcp.has_syn arrival.now.head.now.flags.0) (tcp.options arrival.now.packet.now.payload.now)) (tcp.options arrival.now.packet.now.payload.now) }
+    ensures words { length (cleaned (tcp.has_syn arrival.now.head.now.flags.0) (tcp.options arrival.now.packet.now.payload.now)) % 4 ≡ 0 }
+    ensures size { 20 + length (cleaned (tcp.has_syn arrival.now.head.now.flags.0) (tcp.options arrival.now.packet.now.payload.now)) ≡ arrival.now.head.now.header }
 {
+    let octets = arrival.packet.payload;
+    let head = arrival.head;
     if octets[20..head.header].is_empty() {
         return false;
     }
-    let (_options, changed) = options_of(octets, head);
+    let (_options, changed) = options_of(arrival);
     changed
 }

@@ -3,16 +3,15 @@ ghost use Rattle.std.specs.Prelude.{◌≡◌, ◌≤◌, List, length, ◌+◌,
 ghost use Rattle.wire_base.specs.Segments.{Written};
 ghost use Rattle.norm_settings.specs.Settings.{PlainSettings};
 ghost use Rattle.ip_rules.specs.Datagrams.{Datagram, IsDatagram, Packet};
-ghost use Rattle.tcp_norm.specs.Passing.{Reports};
+ghost use Rattle.tcp_norm.specs.Passing.{HasRoom, Reports};
 ghost use Rattle.tcp_norm.specs.Rulings.{outcome_of};
-ghost use Rattle.ip_rules.specs.Judged.{where_holds};
 ghost use Rattle.tcp_norm.specs.Outcomes.{verdict_of};
 ghost use Rattle.tcp_norm.specs.Steps.{listed};
 ghost use Rattle.tcp_norm.specs.Inwards.{passed};
 ghost use Rattle.rule_book.specs.declared.rule.Rule.TheVariants as rules;
 ghost use Rattle.rule_book.specs.declared.entry.Verdict.TheVariants as verdicts;
 
-use crate::arrival::{Arrival, Departure};
+use crate::arrival::Arrival;
 use crate::rows::note;
 use crate::ruling::Ruling;
 use crate::step::Step;
@@ -23,10 +22,11 @@ use rule_book::{Ended, Entry, Rule, Verdict};
 
 /// Writes a ruling into the entry.
 pub(crate) fn report(ruling: &Ruling, arrival: &Arrival<'_>, entry: &mut Entry)
-    requires ended { length entry.old.ended.items ≤ 2 }
+    requires ended { HasRoom entry.old }
     ensures { (settings : PlainSettings) (ws : List Written) (d : Datagram) → IsDatagram arrival.now.packet.now arrival.now.link.now d →
         Reports entry.old entry.new (outcome_of settings ws d ruling.now) }
 {
+    let fixes = &arrival.packet.fixes;
     match ruling {
         Ruling::Drop(refusal) => {
             let packets = packets_in(refusal.probe);
@@ -34,22 +34,10 @@ pub(crate) fn report(ruling: &Ruling, arrival: &Arrival<'_>, entry: &mut Entry)
         }
         Ruling::Pass(passage) => {
             let packets = packets_with(passage.probe);
-            report_passed(
-                &passage.step,
-                &arrival.packet.fixes,
-                &passage.rows,
-                packets,
-                entry,
-            );
+            report_passed(&passage.step, fixes, &passage.rows, packets, entry);
         }
         Ruling::Ask(question) => {
-            report_passed(
-                &Step::outside(false),
-                &arrival.packet.fixes,
-                &question.rows,
-                1,
-                entry,
-            );
+            report_passed(&Step::outside(false), fixes, &question.rows, 1, entry);
         }
     }
 }
@@ -73,19 +61,6 @@ fn add_ended(ended: &mut ArrayVec<Ended, 4>, more: Option<Ended>)
     if let Some(more) = more {
         ended.push(more);
     }
-}
-
-// Returns the rules of a datagram.
-fn named_rules(full: bool, fixes: &Fixes, rows: &ArrayVec<Rule, 16>) -> ArrayVec<Rule, 16>
-    requires fixes { length fixes.now.items ≤ 6 }
-    requires rows { length rows.now.items ≤ 9 }
-    ensures { result.items ≡ where_holds full rules.TFull ++ fixes.now.items ++ rows.now.items }
-{
-    let mut named = ArrayVec::new();
-    note(&mut named, Rule::TFull, full);
-    extend(&mut named, fixes);
-    extend(&mut named, rows);
-    named
 }
 
 // Returns Fix if a rule rewrites the datagram.
@@ -112,26 +87,19 @@ pub(crate) fn report_passed(
 )
     requires fixes { length fixes.now.items ≤ 6 }
     requires rows { length rows.now.items ≤ 9 }
-    requires ended { length entry.old.ended.items ≤ 2 }
+    requires ended { HasRoom entry.old }
     ensures { (sent : List Packet) → length sent ≡ packets → Reports entry.old entry.new (passed step.now fixes.now.items rows.now.items sent) }
 {
     entry.verdict = passed_verdict(fixes, rows);
     entry.packets = packets;
-    entry.rules = named_rules(step.full, fixes, rows);
+    let mut named = ArrayVec::new();
+    note(&mut named, Rule::TFull, step.full);
+    extend(&mut named, fixes);
+    extend(&mut named, rows);
+    entry.rules = named;
     entry.era = step.era;
     entry.begun = step.begun;
     add_ended(&mut entry.ended, step.ended);
-}
-
-/// Reports an outbound datagram, of which one packet is sent.
-pub(crate) fn report_outward(step: &Step, departure: &Departure<'_>, entry: &mut Entry)
-    requires ended { length entry.old.ended.items ≤ 2 }
-    ensures { (sent : List Packet) → length sent ≡ 1 →
-        Reports entry.old entry.new (passed step.now departure.now.packet.now.fixes.items (where_holds departure.now.wrong rules.TSumOut) sent) }
-{
-    let mut rows = ArrayVec::new();
-    note(&mut rows, Rule::TSumOut, departure.wrong);
-    report_passed(step, &departure.packet.fixes, &rows, 1, entry);
 }
 
 /// Returns how many packets are sent for a datagram with this probe behind its own.

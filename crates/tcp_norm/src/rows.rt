@@ -4,6 +4,7 @@ ghost use Rattle.wire_base.specs.Tcp as tcp;
 ghost use Rattle.tcp_norm.specs.Streams.{stream_rows, bare_rows};
 ghost use Rattle.ip_rules.specs.Judged.{where_holds};
 
+use crate::arrival::Arrival;
 use crate::decide::stream::Stream;
 use arrayvec::ArrayVec;
 use rule_book::Rule;
@@ -49,32 +50,25 @@ pub(crate) fn rows_of(head: &Tcp, options: bool, stream: &Stream) -> ArrayVec<Ru
 }
 
 // Returns whether a SYN or a RST carries octets.
-fn is_loaded(octets: &[u8], head: &Tcp) -> bool
-    requires { head.now.header ≤ length octets.now }
-    ensures { result ≡ ((tcp.has_syn head.now.flags.0 || tcp.has_rst head.now.flags.0) && nat_lt 0 (length octets.now - head.now.header)) }
+fn is_loaded(arrival: &Arrival<'_>) -> bool
+    ensures { result ≡ ((tcp.has_syn arrival.now.head.now.flags.0 || tcp.has_rst arrival.now.head.now.flags.0) && nat_lt 0 (length arrival.now.packet.now.payload.now - arrival.now.head.now.header)) }
 {
-    let syn = head.flags.syn();
-    let rst = head.flags.rst();
-    let some = octets.len() > head.header;
+    let syn = arrival.head.flags.syn();
+    let rst = arrival.head.flags.rst();
+    let some = arrival.packet.payload.len() > arrival.head.header;
     (syn || rst) && some
 }
 
 /// Returns the rules that hold of a segment that brings no octet of the stream; `options` says whether options change, `probe` whether a probe is sent.
-pub(crate) fn rows_beside(
-    octets: &[u8],
-    head: &Tcp,
-    options: bool,
-    probe: bool,
-) -> ArrayVec<Rule, 16>
-    requires { head.now.header ≤ length octets.now }
+pub(crate) fn rows_beside(arrival: &Arrival<'_>, options: bool, probe: bool) -> ArrayVec<Rule, 16>
     ensures few { length result.items ≤ 5 }
-    ensures rows { result.items ≡ bare_rows (not (head.now.reserved == 0)) (tcp.has_urg head.now.flags.0 || not (head.now.urgent == 0)) options
-        ((tcp.has_syn head.now.flags.0 || tcp.has_rst head.now.flags.0) && nat_lt 0 (length octets.now - head.now.header)) probe }
+    ensures rows { result.items ≡ bare_rows (not (arrival.now.head.now.reserved == 0)) (tcp.has_urg arrival.now.head.now.flags.0 || not (arrival.now.head.now.urgent == 0)) options
+        ((tcp.has_syn arrival.now.head.now.flags.0 || tcp.has_rst arrival.now.head.now.flags.0) && nat_lt 0 (length arrival.now.packet.now.payload.now - arrival.now.head.now.header)) probe }
 {
     let mut rules = ArrayVec::new();
-    let reserved = head.reserved != 0;
-    let urgent = is_urgent(head);
-    let loaded = is_loaded(octets, head);
+    let reserved = arrival.head.reserved != 0;
+    let urgent = is_urgent(arrival.head);
+    let loaded = is_loaded(arrival);
     note(&mut rules, Rule::TRes, reserved);
     note(&mut rules, Rule::TUrg, urgent);
     note(&mut rules, Rule::TOpt, options);

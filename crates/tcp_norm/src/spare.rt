@@ -2,16 +2,15 @@
 ghost use Rattle.std.specs.Prelude.{◌≡◌, ◌+◌, ◌<◌, ◌*◌, ℕ, length};
 ghost use Rattle.std.specs.List.{count_by, range_with_len, sum_by};
 ghost use Rattle.retain_store.specs.Maps.{IsMap, IsWithin, chain_of, holds};
-ghost use Rattle.tcp_norm.specs.Spare.{settled};
+ghost use Rattle.tcp_norm.specs.Spare.{HasSlot, Lists};
 
 use linked_table::{Slot, SlotList};
 use retain_store::{ChainId, Retain};
 
 /// Lists a slot that was touched: as the last one, if it holds no octet, and otherwise not.
 pub(crate) fn list_spare(spare: &mut SlotList, store: &Retain, slot: Slot)
-    requires below { slot.0 < spare.old.max }
-    requires chain { slot.0 < length store.now.chains }
-    ensures { spare.new ≡ record spare.old { slots = settled store.now slot spare.old.slots } }
+    requires listed { HasSlot spare.old store.now slot }
+    ensures { Lists spare.old spare.new store.now slot }
 {
     if store.held(ChainId(slot.0)) == 0 {
         spare.put_last(slot);

@@ -52,19 +52,19 @@ pub struct TcpNorm {
 }
 
 impl TcpNorm {
-    ghost use Rattle.std.specs.Prelude.{ℕ, ◌≢◌, ◌*◌, ◌<◌, List, [], ◌∷◌, Some, is_some, IfOk, ◌≡◌, ◌+◌, ◌-◌, ◌≤◌, ◌^◌, length};
+    ghost use Rattle.std.specs.Prelude.{ℕ, ◌≢◌, ◌*◌, ◌<◌, List, [], Some, is_some, IfOk, ◌≡◌, ◌+◌, ◌-◌, ◌≤◌, length};
     ghost use Rattle.std.specs.List.{AllByRecursion, All, AllPairs};
     ghost use Rattle.norm_settings.specs.Settings.{PlainSettings, plain_settings, AreInRange};
     ghost use Rattle.ip_rules.specs.Datagrams.{Datagram};
-    ghost use Rattle.tcp_norm.specs.Calls.{Call, eras, live, Outcome, datagram};
+    ghost use Rattle.tcp_norm.specs.Calls.{Call, eras, live, Outcome};
     ghost use Rattle.tcp_norm.specs.Held.{held_all, held_in};
     ghost use Rattle.tcp_norm.specs.Near.{IsAtMost, IsNear};
     ghost use Rattle.tcp_norm.specs.Rows.{dropped_by};
     ghost use Rattle.tcp_norm.specs.Views.{view_of};
-    ghost use Rattle.tcp_norm.specs.Standing.{StandsFor};
+    ghost use Rattle.tcp_norm.specs.Standing.{IsReady, StandsFor};
     ghost use Rattle.linked_table.specs.Table.{IsIn, Wherever};
     ghost use Rattle.tcp_norm.specs.Colds.{IsUnheard};
-    ghost use Rattle.tcp_norm.specs.Rulings.{IsHeld};
+    ghost use Rattle.tcp_norm.specs.Rulings.{IsCounted, IsHeld};
     ghost use Rattle.rule_book.specs.declared.rule.Rule.TheVariants as rules;
 
     /// No era is live, and none began.
@@ -125,11 +125,9 @@ impl TcpNorm {
 
     // Counts a datagram of which no era hears, at this time.
     pub(crate) fn arrive(&mut self, now: u32)
-        requires few { self.old.calls < 2 ^ 32 - 1 }
-        requires later { self.old.latest ≤ now }
-        ensures unheard { (settings : PlainSettings) (calls : List Call) (d : Datagram) (o : Outcome) → StandsFor settings self.old calls →
-            IsUnheard o → StandsFor settings self.new (datagram now d o ∷ calls) }
-        ensures scratch { self.new.scratch ≡ self.old.scratch }
+        requires ready { IsReady self.old now }
+        ensures { (settings : PlainSettings) (calls : List Call) (d : Datagram) (o : Outcome) → StandsFor settings self.old calls →
+            IsUnheard o → IsCounted settings calls d o now self.old self.new }
     {
         self.calls += 1;
         self.latest = now;

@@ -12,26 +12,22 @@ use tcp_codec::laws::segments_are_read_back;
 use wire_base::FlowKey;
 
 impl TcpNorm {
-    ghost use Rattle.std.specs.Prelude.{◌≡◌, ◌-◌, ◌<◌, ◌≤◌, ◌^◌};
-    ghost use Rattle.wire_base.specs.declared.address.Side.TheVariants.{Inward};
-    ghost use Rattle.linked_table.specs.Table.{HasNone};
-    ghost use Rattle.tcp_norm.specs.Calls.{key_at};
-    ghost use Rattle.tcp_norm.specs.Rulings.{IsShort, Judges};
+    ghost use Rattle.std.specs.Prelude.{◌<◌};
+    ghost use Rattle.tcp_norm.specs.Standing.{IsAbsent, IsReady};
+    ghost use Rattle.tcp_norm.specs.Rulings.{IsKeyed, IsShort, Judges};
 
     // Begins an era, asks a host about the segment, or drops it by a rule.
     pub(super) fn judge_cold(&mut self, key: FlowKey, arrival: &Arrival<'_>, ruling: &mut Ruling)
-        requires absent { HasNone self.old.table.entries (record { 0 = key }) }
-        requires key { key ≡ key_at Inward arrival.now.packet.now.head arrival.now.packet.now.payload.now }
-        requires few { self.old.calls < 2 ^ 32 - 1 }
-        requires later { self.old.latest ≤ arrival.now.time }
+        requires absent { IsAbsent self.old key }
+        requires keyed { IsKeyed arrival.now key }
+        requires ready { IsReady self.old arrival.now.time }
         ensures judges { Judges arrival.now self.old self.new ruling.new }
         ensures short { IsShort arrival.now ruling.new }
     {
         segments_are_read_back();
         are_bits(&arrival.packet.head, arrival.packet.payload);
-        let octets = arrival.packet.payload;
-        let seg = bare_seg(octets, arrival.head);
-        let changed = options_change(octets, arrival.head);
+        let seg = bare_seg(arrival);
+        let changed = options_change(arrival);
         match cold(&seg) {
             ColdAnswer::Refuse => {
                 self.arrive(arrival.time);
@@ -43,7 +39,7 @@ impl TcpNorm {
             }
             ColdAnswer::Probe(probe) => {
                 self.arrive(arrival.time);
-                let rows = rows_beside(octets, arrival.head, changed, true);
+                let rows = rows_beside(arrival, changed, true);
                 *ruling = Ruling::Ask(Question { rows, probe });
             }
             ColdAnswer::Begin(era) => match self.admit(key, Era::Offered(era), arrival.time) {
@@ -55,7 +51,7 @@ impl TcpNorm {
                     });
                 }
                 Some(place) => {
-                    let rows = rows_beside(octets, arrival.head, changed, false);
+                    let rows = rows_beside(arrival, changed, false);
                     *ruling = Ruling::Pass(Passage {
                         step: Step::begun(place),
                         rows,

@@ -10,10 +10,9 @@ use rule_book::Rule;
 
 impl TcpNorm {
     ghost use Rattle.std.specs.Prelude.{◌≡◌, false};
-    ghost use Rattle.wire_base.specs.Tcp as tcp;
     ghost use Rattle.era_state.specs.States.{is_acknowledged};
     ghost use Rattle.era_state.specs.Eras.{state_in};
-    ghost use Rattle.tcp_norm.specs.Rulings.{Decides, IsFound, IsOpenTo, IsShort};
+    ghost use Rattle.tcp_norm.specs.Rulings.{Decides, IsFound, IsOpenTo, IsPlain, IsShort};
 
     pub(super) fn decide_early<'a>(
         &self,
@@ -22,15 +21,14 @@ impl TcpNorm {
         ruling: &mut Ruling,
     ) -> Change<'a>
         requires found { IsFound self.now arrival.now live.now }
-        requires no_syn { tcp.has_syn arrival.now.head.now.flags.0 ≡ false }
-        requires no_rst { tcp.has_rst arrival.now.head.now.flags.0 ≡ false }
+        requires plain { IsPlain arrival.now }
         requires early { is_acknowledged (state_in live.now.flow.era) ≡ false }
         ensures fits { IsOpenTo self.now live.now result }
         ensures short { IsShort arrival.now ruling.new }
         ensures decides { Decides arrival.now self.now self.now live.now ruling.new result }
     {
         states_are_the_lists();
-        let seg = bare_seg(arrival.packet.payload, arrival.head);
+        let seg = bare_seg(arrival);
         let probe = cold_probe(&seg);
         *ruling = Ruling::Drop(Refusal {
             rule: Rule::TState,

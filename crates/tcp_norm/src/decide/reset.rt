@@ -31,8 +31,7 @@ impl TcpNorm {
         segments_are_read_back();
         silence_stands();
         are_bits(&arrival.packet.head, arrival.packet.payload);
-        let octets = arrival.packet.payload;
-        let seg = bare_seg(octets, arrival.head);
+        let seg = bare_seg(arrival);
         let answer = judge_reset(&live.flow.era, &seg);
         match answer {
             ResetAnswer::Refuse => {
@@ -44,8 +43,8 @@ impl TcpNorm {
                 Change::Nothing
             }
             ResetAnswer::Pass(probe) => {
-                let changed = options_change(octets, arrival.head);
-                let rows = rows_beside(octets, arrival.head, changed, probe.is_some());
+                let changed = options_change(arrival);
+                let rows = rows_beside(arrival, changed, probe.is_some());
                 let step = Step::within(live.flow.number);
                 *ruling = Ruling::Pass(Passage {
                     step,

@@ -1,5 +1,5 @@
 //! A segment of the stream of an era: T_QUOTA or T_ROOM drops it, or it passes with the octets that were sent first.
-ghost use Rattle.std.specs.Prelude.{◌≡◌, ◌↔◌, ℕ, ◌+◌, ◌-◌, ◌<◌, ◌≤◌, ◌^◌, nat_lt, pos, ◌-ℤ◌, List, length, take, slice_index, true, false, Some, None, IfNone, if◌then◌else◌};
+ghost use Rattle.std.specs.Prelude.{◌≡◌, ◌↔◌, ℕ, ◌+◌, ◌-◌, ◌<◌, ◌≤◌, ◌^◌, nat_lt, pos, ◌-ℤ◌, List, length, take, slice_index, false, Some, None, IfNone, if◌then◌else◌};
 ghost use Rattle.wire_base.specs.Segments.{Written};
 ghost use Rattle.retain_store.specs.Maps.{Settles, chain_of, missing};
 ghost use Rattle.era_state.specs.Offsets.{off, nat_of};
@@ -8,6 +8,7 @@ ghost use Rattle.era_state.specs.Intervals.{Keeps, KeptOf};
 ghost use Rattle.tcp_norm.specs.Held.{held_of};
 ghost use Rattle.tcp_norm.specs.Rows.{exceeds, wanted_of};
 ghost use Rattle.tcp_norm.specs.Near.{IsAtMost};
+ghost use Rattle.tcp_norm.specs.Rulings.{IsLegal};
 ghost use Rattle.wire_base.specs.Tcp as tcp;
 ghost use Rattle.rule_book.specs.declared.rule.Rule.TheVariants as rules;
 ghost use Rattle.tcp_norm.specs.Chains as chains;
@@ -27,10 +28,7 @@ use retain_store::{ChainId, Retain};
 use rule_book::Rule;
 
 impl TcpNorm {
-    ghost use Rattle.std.specs.Prelude.{◌≡◌, List, true, false};
-    ghost use Rattle.wire_base.specs.Segments.{Written};
-    ghost use Rattle.tcp_norm.specs.Rulings.{Decides, IsFound, IsLast, IsOpenTo, IsSame, IsShort};
-    ghost use Rattle.wire_base.specs.Tcp as tcp;
+    ghost use Rattle.tcp_norm.specs.Rulings.{Decides, IsFound, IsLast, IsOpenTo, IsPlain, IsSame, IsShort};
 
     // `warm` is the state of the era. Only the scratch changes.
     pub(super) fn decide_stream<'a>(
@@ -41,8 +39,7 @@ impl TcpNorm {
         ruling: &mut Ruling,
     ) -> Change<'a>
         requires found { IsFound self.old arrival.now live.now }
-        requires no_syn { tcp.has_syn arrival.now.head.now.flags.0 ≡ false }
-        requires no_rst { tcp.has_rst arrival.now.head.now.flags.0 ≡ false }
+        requires plain { IsPlain arrival.now }
         requires last { IsLast live.now.flow.era warm.now }
         ensures fits { IsOpenTo self.new live.now result }
         ensures short { IsShort arrival.now ruling.new }
@@ -53,12 +50,16 @@ impl TcpNorm {
         states_are_the_lists();
         are_bits(&arrival.packet.head, arrival.packet.payload);
         cells_are_counted(&self.store);
-        let octets = arrival.packet.payload;
-        let seg = seg_of(octets, arrival.head);
-        let payload = payload_of(octets, arrival.head);
+        let seg = seg_of(arrival);
+        let payload = payload_of(arrival);
         let chain = ChainId(live.slot.0);
         let kept = warm.interval(&seg);
-        if let Some(rule) = refusal(&self.store, chain, &kept, self.quota) {
+        let piece = Piece {
+            store: &self.store,
+            chain,
+            kept: &kept,
+        };
+        if let Some(rule) = refusal(&piece, self.quota) {
             *ruling = Ruling::Drop(Refusal {
                 rule,
                 era: Some(live.flow.number),
@@ -66,11 +67,11 @@ impl TcpNorm {
             });
             return Change::Nothing;
         }
-        let own = own_octets(warm, &seg, &kept, payload);
-        let clash = fill_kept(&self.store, chain, &kept, own, &mut self.scratch);
-        let changed = options_change(octets, arrival.head);
+        let own = own_octets(&piece, warm, &seg, payload);
+        let clash = fill_kept(&piece, own, &mut self.scratch);
+        let changed = options_change(arrival);
         let rows = rows_of(arrival.head, changed, &Stream { kept, clash });
-        let size = size_of(&kept) as usize;
+        let size = piece.size() as usize;
         let seq = warm.frame_sequence(&seg, &kept);
         let step = Step::within(live.flow.number);
         *ruling = Ruling::Pass(Passage {
@@ -92,30 +93,41 @@ pub(crate) struct Stream {
     pub(crate) clash: bool,
 }
 
-/// Returns how many octets are sent inwards.
-pub(crate) fn size_of(kept: &Interval) -> u32
-    requires order { kept.now.lo ≤ kept.now.hi }
-    requires short { kept.now.hi ≤ kept.now.lo + 65515 }
-    ensures size { result ≡ kept.now.hi - kept.now.lo }
-    ensures end { kept.now.hi < 2 ^ 64 }
-{
-    (kept.hi - kept.lo) as u32
+/// An interval of a segment, no longer than the longest segment, and the chain of its era in the store.
+#[derive(Clone, Copy)]
+pub(crate) struct Piece<'a> {
+    pub(crate) store: &'a Retain,
+    pub(crate) chain: ChainId,
+    pub(crate) kept: &'a Interval,
+    ghost chain_in_range: { chain.0 < length store.now.chains },
+    ghost order: { kept.now.lo ≤ kept.now.hi },
+    ghost short: { kept.now.hi ≤ kept.now.lo + 65515 },
+}
+
+impl Piece<'_> {
+    ghost use Rattle.std.specs.Prelude.{◌-◌, ◌<◌, ◌^◌};
+
+    // Returns how many octets are sent inwards.
+    fn size(&self) -> u32
+        ensures size { result ≡ self.now.kept.now.hi - self.now.kept.now.lo }
+        ensures end { self.now.kept.now.hi < 2 ^ 64 }
+    {
+        (self.kept.hi - self.kept.lo) as u32
+    }
 }
 
 // Returns the segment's own octets at the offsets of the interval.
-fn own_octets<'a>(warm: &Warm, seg: &Seg, kept: &Interval, payload: &'a [u8]) -> &'a [u8]
-    requires legal { tcp.are_legal seg.now.flags.0 ≡ true }
-    requires kept { Keeps (bounds_in warm.now) (off warm.now.base warm.now.acked seg.now.seq) seg.now.len (tcp.has_fin seg.now.flags.0) kept.now }
+fn own_octets<'a>(piece: &Piece<'_>, warm: &Warm, seg: &Seg, payload: &'a [u8]) -> &'a [u8]
+    requires legal { IsLegal seg.now }
+    requires kept { Keeps (bounds_in warm.now) (off warm.now.base warm.now.acked seg.now.seq) seg.now.len (tcp.has_fin seg.now.flags.0) piece.now.kept.now }
     requires long { length payload.now ≡ seg.now.len }
-    requires order { kept.now.lo ≤ kept.now.hi }
-    requires short { kept.now.hi ≤ kept.now.lo + 65515 }
-    ensures long { length result.now ≡ kept.now.hi - kept.now.lo }
-    ensures own { (i : ℕ) → i < kept.now.hi - kept.now.lo →
-        slice_index result.now i ≡ slice_index payload.now (nat_of (pos (kept.now.lo + i) -ℤ off warm.now.base warm.now.acked seg.now.seq)) }
+    ensures long { length result.now ≡ piece.now.kept.now.hi - piece.now.kept.now.lo }
+    ensures own { (i : ℕ) → i < piece.now.kept.now.hi - piece.now.kept.now.lo →
+        slice_index result.now i ≡ slice_index payload.now (nat_of (pos (piece.now.kept.now.lo + i) -ℤ off warm.now.base warm.now.acked seg.now.seq)) }
 {
-    if kept.lo < kept.hi {
-        let start = warm.octets_before(seg, kept) as usize;
-        let size = size_of(kept) as usize;
+    if piece.kept.lo < piece.kept.hi {
+        let start = warm.octets_before(seg, piece.kept) as usize;
+        let size = piece.size() as usize;
         &payload[start..start + size]
     } else {
         &payload[..0]
@@ -123,40 +135,31 @@ fn own_octets<'a>(warm: &Warm, seg: &Seg, kept: &Interval, payload: &'a [u8]) ->
 }
 
 // Returns whether an era would hold more cells than the quota, if one is set, with the octets that are sent inwards.
-fn is_over(store: &Retain, chain: ChainId, kept: &Interval, quota: Option<u32>) -> bool
-    requires chain_in_range { chain.0 < length store.now.chains }
-    requires order { kept.now.lo ≤ kept.now.hi }
-    requires short { kept.now.hi ≤ kept.now.lo + 65515 }
-    ensures { result ≡ exceeds quota (length (chain_of store.now chain.0) + missing (chain_of store.now chain.0) kept.now.lo (kept.now.hi - kept.now.lo)) }
+fn is_over(piece: &Piece<'_>, quota: Option<u32>) -> bool
+    ensures { result ≡ exceeds quota (length (chain_of piece.now.store.now piece.now.chain.0) + missing (chain_of piece.now.store.now piece.now.chain.0) piece.now.kept.now.lo (piece.now.kept.now.hi - piece.now.kept.now.lo)) }
 {
     let Some(most) = quota else {
         return false;
     };
-    let wanted = store.need(chain, kept.lo, size_of(kept));
-    u64::from(most) < u64::from(store.held(chain)) + u64::from(wanted)
+    let wanted = piece.store.need(piece.chain, piece.kept.lo, piece.size());
+    u64::from(most) < u64::from(piece.store.held(piece.chain)) + u64::from(wanted)
 }
 
-/// Returns the rule that drops an inbound segment of the stream, if its octets need more cells than its era may take, or than are free.
-pub(crate) fn refusal(
-    store: &Retain,
-    chain: ChainId,
-    kept: &Interval,
-    quota: Option<u32>,
-) -> Option<Rule>
-    requires chain_in_range { chain.0 < length store.now.chains }
-    requires order { kept.now.lo ≤ kept.now.hi }
-    requires short { kept.now.hi ≤ kept.now.lo + 65515 }
-    ensures value { (ws : List Written) (w : Written) → chains.Keeps (chain_of store.now chain.0) ws → length (chain_of store.now chain.0) ≡ held_of ws → KeptOf ws w kept.now →
-        result ≡ (if exceeds quota (held_of ws + wanted_of ws w) then Some rules.TQuota else if nat_lt store.now.free (wanted_of ws w) then Some rules.TRoom else None) }
-    ensures free { IfNone result (missing (chain_of store.now chain.0) kept.now.lo (kept.now.hi - kept.now.lo) ≤ store.now.free) }
-    ensures within { IfNone result (IsAtMost quota (length (chain_of store.now chain.0) + missing (chain_of store.now chain.0) kept.now.lo (kept.now.hi - kept.now.lo))) }
+// Returns the rule that drops an inbound segment of the stream, if its octets need more cells than its era may take, or than are free.
+fn refusal(piece: &Piece<'_>, quota: Option<u32>) -> Option<Rule>
+    ensures value { (ws : List Written) (w : Written) → chains.Keeps (chain_of piece.now.store.now piece.now.chain.0) ws → length (chain_of piece.now.store.now piece.now.chain.0) ≡ held_of ws → KeptOf ws w piece.now.kept.now →
+        result ≡ (if exceeds quota (held_of ws + wanted_of ws w) then Some rules.TQuota else if nat_lt piece.now.store.now.free (wanted_of ws w) then Some rules.TRoom else None) }
+    ensures free { IfNone result (missing (chain_of piece.now.store.now piece.now.chain.0) piece.now.kept.now.lo (piece.now.kept.now.hi - piece.now.kept.now.lo) ≤ piece.now.store.now.free) }
+    ensures within { IfNone result (IsAtMost quota (length (chain_of piece.now.store.now piece.now.chain.0) + missing (chain_of piece.now.store.now piece.now.chain.0) piece.now.kept.now.lo (piece.now.kept.now.hi - piece.now.kept.now.lo))) }
 {
-    chain_is_counted(store, chain);
-    let over = is_over(store, chain, kept, quota);
+    chain_is_counted(piece.store, piece.chain);
+    let over = is_over(piece, quota);
     if over {
         return Some(Rule::TQuota);
     }
-    let fits = store.has_room(chain, kept.lo, size_of(kept));
+    let fits = piece
+        .store
+        .has_room(piece.chain, piece.kept.lo, piece.size());
     if !fits {
         return Some(Rule::TRoom);
     }
@@ -164,22 +167,13 @@ pub(crate) fn refusal(
 }
 
 // Fills the front of the scratch with the octets that were sent first, and where there is none with the segment's own. Returns whether one of them differs.
-fn fill_kept(
-    store: &Retain,
-    chain: ChainId,
-    kept: &Interval,
-    own: &[u8],
-    scratch: &mut [u8],
-) -> bool
-    requires chain_in_range { chain.0 < length store.now.chains }
-    requires order { kept.now.lo ≤ kept.now.hi }
-    requires short { kept.now.hi ≤ kept.now.lo + 65515 }
-    requires long { length own.now ≡ kept.now.hi - kept.now.lo }
+fn fill_kept(piece: &Piece<'_>, own: &[u8], scratch: &mut [u8]) -> bool
+    requires long { length own.now ≡ piece.now.kept.now.hi - piece.now.kept.now.lo }
     requires room { 65515 ≤ length scratch.old }
-    ensures settled { Settles (chain_of store.now chain.0) kept.now.lo own.now (take (length own.now) scratch.new) }
+    ensures settled { Settles (chain_of piece.now.store.now piece.now.chain.0) piece.now.kept.now.lo own.now (take (length own.now) scratch.new) }
     ensures same { (result ≡ false) ↔ (take (length own.now) scratch.new ≡ own.now) }
 {
-    let octets = &mut scratch[..size_of(kept) as usize];
+    let octets = &mut scratch[..piece.size() as usize];
     octets.copy_from_slice(own);
-    store.settle(chain, kept.lo, octets)
+    piece.store.settle(piece.chain, piece.kept.lo, octets)
 }

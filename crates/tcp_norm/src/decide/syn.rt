@@ -1,4 +1,14 @@
 //! A SYN of a live era: T_STATE or T_SYN drops it and a probe is sent, or it passes, in its era or as the first segment of another.
+ghost use Rattle.std.specs.Prelude.{◌≡◌, List, true, false, if◌then◌else◌};
+ghost use Rattle.wire_base.specs.Segments.{Written};
+ghost use Rattle.wire_base.specs.Tcp as tcp;
+ghost use Rattle.era_state.specs.Eras as eras;
+ghost use Rattle.era_state.specs.Quantities.{octets_of};
+ghost use Rattle.era_state.specs.Read.{came};
+ghost use Rattle.era_state.specs.Rules.{reopens_inward};
+ghost use Rattle.tcp_norm.specs.Rulings.{IsLegal, refused_by};
+ghost use Rattle.tcp_norm.specs.Steps.{continued_in, reopened_by};
+
 use crate::arrival::Arrival;
 use crate::flow::Live;
 use crate::reading::{are_bits, bare_seg, options_change};
@@ -7,14 +17,15 @@ use crate::ruling::{Change, Passage, Refusal, Ruling};
 use crate::state::TcpNorm;
 use crate::step::Step;
 use cold_start::cold_probe;
-use era_state::Offered;
+use era_state::{Era, Offered, Seg};
 use reset_probe::probe_of;
 use rule_book::Rule;
 use tcp_codec::laws::segments_are_read_back;
 
 impl TcpNorm {
-    ghost use Rattle.std.specs.Prelude.{◌≡◌, ◌-◌, ◌<◌, ◌^◌, true};
+    ghost use Rattle.std.specs.Prelude.{◌≡◌, ◌-◌, ◌<◌, true};
     ghost use Rattle.wire_base.specs.Tcp as tcp;
+    ghost use Rattle.tcp_norm.specs.Standing.{IsReady};
     ghost use Rattle.tcp_norm.specs.Rulings.{Decides, IsFound, IsOpenTo, IsShort};
 
     pub(super) fn decide_syn<'a>(
@@ -24,7 +35,7 @@ impl TcpNorm {
         ruling: &mut Ruling,
     ) -> Change<'a>
         requires found { IsFound self.now arrival.now live.now }
-        requires few { self.now.calls < 2 ^ 32 - 1 }
+        requires ready { IsReady self.now arrival.now.time }
         requires syn { tcp.has_syn arrival.now.head.now.flags.0 ≡ true }
         ensures fits { IsOpenTo self.now live.now result }
         ensures short { IsShort arrival.now ruling.new }
@@ -32,57 +43,76 @@ impl TcpNorm {
     {
         segments_are_read_back();
         are_bits(&arrival.packet.head, arrival.packet.payload);
-        let octets = arrival.packet.payload;
-        let seg = bare_seg(octets, arrival.head);
+        let seg = bare_seg(arrival);
         let era = &live.flow.era;
-        let number = live.flow.number;
-        let early = era.is_early(&seg);
-        let stray = era.is_stray_syn(&seg);
-        let again = era.is_reopened_by(&seg);
-        let answer = seg.flags.ack();
-        let count = era.octets();
-        if early {
-            let probe = cold_probe(&seg);
-            *ruling = Ruling::Drop(Refusal {
-                rule: Rule::TState,
-                era: Some(number),
-                probe: Some(probe),
-            });
+        if let Some(refusal) = refusal_of(era, live.flow.number, &seg) {
+            *ruling = Ruling::Drop(refusal);
             return Change::Nothing;
         }
-        if stray {
-            let probe = probe_of(era, &seg);
-            *ruling = Ruling::Drop(Refusal {
-                rule: Rule::TSyn,
-                era: Some(number),
-                probe,
-            });
-            return Change::Nothing;
-        }
-        let changed = options_change(octets, arrival.head);
-        let rows = rows_beside(octets, arrival.head, changed, false);
-        let seq = arrival.head.seq;
-        if again & !answer {
-            let step = Step::reopened(self.begun + 1, number, count);
-            *ruling = Ruling::Pass(Passage {
-                step,
-                rows,
-                seq,
-                fin: true,
-                size: 0,
-                probe: None,
-            });
-            return Change::Reopen(Offered::offer(&seg));
-        }
-        let step = Step::within(number);
+        let changed = options_change(arrival);
+        let rows = rows_beside(arrival, changed, false);
+        let again = is_reopened(era, &seg);
+        let step = step_of(era, live.flow.number, again, self.begun + 1);
         *ruling = Ruling::Pass(Passage {
             step,
             rows,
-            seq,
+            seq: arrival.head.seq,
             fin: true,
             size: 0,
             probe: None,
         });
+        if again {
+            return Change::Reopen(Offered::offer(&seg));
+        }
         Change::Hear(seg)
+    }
+}
+
+// Returns the refusal of a SYN of this era by T_STATE or T_SYN, if one of them holds.
+fn refusal_of(era: &Era, number: u32, seg: &Seg) -> Option<Refusal>
+    requires { IsLegal seg.now }
+    ensures { (ws : List Written) → eras.StandsFor era.now ws → result ≡ refused_by ws (came seg.now) number }
+{
+    let early = era.is_early(seg);
+    let stray = era.is_stray_syn(seg);
+    if early {
+        let probe = cold_probe(seg);
+        return Some(Refusal {
+            rule: Rule::TState,
+            era: Some(number),
+            probe: Some(probe),
+        });
+    }
+    if stray {
+        let probe = probe_of(era, seg);
+        return Some(Refusal {
+            rule: Rule::TSyn,
+            era: Some(number),
+            probe,
+        });
+    }
+    None
+}
+
+// Returns whether a SYN ends this era and begins another; it has no ACK then.
+fn is_reopened(era: &Era, seg: &Seg) -> bool
+    requires { IsLegal seg.now }
+    ensures reopens { (ws : List Written) → eras.StandsFor era.now ws → result ≡ reopens_inward ws (came seg.now) }
+    ensures alone { result ≡ true → tcp.has_ack seg.now.flags.0 ≡ false }
+{
+    let again = era.is_reopened_by(seg);
+    let answer = seg.flags.ack();
+    again & !answer
+}
+
+// Returns what a SYN that passes does to this era: it continues it, or ends it where the era of the next number begins.
+fn step_of(era: &Era, number: u32, again: bool, next: u32) -> Step
+    ensures { (ws : List Written) → eras.StandsFor era.now ws → result ≡ (if again then reopened_by number next (octets_of ws) else continued_in number) }
+{
+    let count = era.octets();
+    if again {
+        Step::reopened(next, number, count)
+    } else {
+        Step::within(number)
     }
 }

@@ -3,6 +3,8 @@ use Rattle.std.proofs.lemmas.List.{append-nil}
 use Rattle.std.proofs.lemmas.Grind.{common_steps}
 use Rattle.reset_probe.specs.Write.{probe_octets}
 use Rattle.edge_io.specs.Outboxes.{last_frame, extended}
+use Rattle.ip_rules.specs.Datagrams.{raised}
+use Rattle.tcp_norm.specs.Rulings.{probe_frames}
 use Rattle.tcp_norm.proofs.Probing.{extended_last, last_of}
 use Rattle.tcp_norm.proofs.emit.put_probe.Goals as goal
 
@@ -29,4 +31,5 @@ returns c =
     let written = c.write_probe-size.ensures.exact ∙ append-nil _ in
     c.append-2.ensures ∙ (ap (λ l. extended l c.write_probe-size.new.buf) is ∙ (extended_last c.args.out.now c.args.arrival.now.link.now c.write_probe-size.new.buf
     ∙ (ap (λ l. c.args.out.now ++ (c.args.arrival.now.link.now ++ l) ∷ []) written
-    ∙ ap (λ ip. c.args.out.now ++ (c.args.arrival.now.link.now ++ probe_octets ip c.args.arrival.now.head.now.sport c.args.arrival.now.head.now.dport c.args.probe.now) ∷ []) c.raised-ip.ensures)))
+    ∙ (ap (λ ip. c.args.out.now ++ (c.args.arrival.now.link.now ++ probe_octets ip c.args.arrival.now.head.now.sport c.args.arrival.now.head.now.dport c.in-Some.probe) ∷ []) c.raised-ip.ensures
+    ∙ ap (λ p. c.args.out.now ++ probe_frames c.args.arrival.now.link.now (raised c.args.hops c.args.arrival.now.packet.now.head) c.args.arrival.now.head.now.sport c.args.arrival.now.head.now.dport p) (sym c.in-Some.is)))))

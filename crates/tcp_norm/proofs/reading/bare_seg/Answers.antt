@@ -4,4 +4,4 @@ use Rattle.tcp_norm.proofs.Bares.{legal_without_32}
 use Rattle.tcp_norm.proofs.reading.bare_seg.Goals as goal
 
 pub returns-clause-flags : goal.returns-clause-flags
-returns-clause-flags c = ap tcp.are_legal c.flags_sent.ensures.exact ∙ (legal_without_32 c.args.head.now.flags.0 ∙ c.requires.head.legal)
+returns-clause-flags c = ap tcp.are_legal c.flags_sent.ensures.exact ∙ (legal_without_32 c.args.arrival.now.head.now.flags.0 ∙ c.args.arrival.now.read.legal)

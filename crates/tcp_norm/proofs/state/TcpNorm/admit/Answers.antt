@@ -20,7 +20,7 @@ pub returns-in-None-clause-none : goal.returns-in-None-clause-none
 returns-in-None-clause-none c settings calls d o st unheard =
     let self = c.args.self.now in
     stays_unheard settings self c.place.new.self calls c.args.now d o st
-    (tables_go_on settings self _ c.place.new.self c.args.now 0 _ c.in-None.ensures.tables refl (opened_kept settings self _ st.opened refl refl refl refl refl refl refl refl) refl refl c.requires.later)
+    (tables_go_on settings self _ c.place.new.self c.args.now 0 _ c.in-None.ensures.tables refl (opened_kept settings self _ st.opened refl refl refl refl refl refl refl refl) refl refl c.requires.ready.later)
     unheard (c.in-None.ensures.places (eras calls) (λ m. segments m calls) st.holds).none
 
 pub returns-in-Some-clause-answer : goal.returns-in-Some-clause-answer
@@ -37,7 +37,7 @@ returns-in-Some-clause-some c settings calls d w o st key stood none does =
     let named : (began p).era ≡ Some (self.begun + 1) = ap Some (begun_place _ _ _ p places.answer) in
     let later : ℕ → List Written = λ m. segments m (datagram c.args.now d o ∷ calls) in
     begins_then settings self c.place.new.self calls c.args.now d w o (began p) (number_ended p.evicted) st
-    (tables_go_on settings self _ c.place.new.self c.args.now 1 _ c.in-Some.ensures.tables refl (opened_kept settings self _ st.opened refl refl refl refl refl refl refl refl) refl refl c.requires.later)
+    (tables_go_on settings self _ c.place.new.self c.args.now 1 _ c.in-Some.ensures.tables refl (opened_kept settings self _ st.opened refl refl refl refl refl refl refl refl) refl refl c.requires.ready.later)
     places.given named named (ended_by_place p.evicted) does
     (subst (λ k. Holds c.place.new.self (without (one (number_ended p.evicted)) (eras calls) ++ record { number = self.begun + 1; key = k; touched = c.args.now } ∷ []) later) (sym key)
     (places.some later (begins_with settings self calls c.args.now d w o (began p) c.args.era st named does stood none)))

@@ -34,30 +34,30 @@ keep_era-requires-in-Hear-clause-near c =
     let near = (subst (IsOpenTo c.args.self.now c.args.live.now) c.in-Hear.is c.requires.fits).1 in
     (omega (arith, near.0, c.seen_syn-era.ensures.same), omega (arith, near.1, c.seen_syn-era.ensures.octets))
 
-pub returns-in-Nothing-clause-stands : goal.returns-in-Nothing-clause-stands
-returns-in-Nothing-clause-stands c settings calls d o st needs =
-    c.arrive.ensures.unheard settings calls d o st (subst (λ x. Needs calls c.args.self.now d c.args.live.now x o) c.in-Nothing.is needs)
+pub returns-in-Nothing : goal.returns-in-Nothing
+returns-in-Nothing c settings calls d o st needs =
+    c.arrive.ensures settings calls d o st (subst (λ x. Needs calls c.args.self.now d c.args.live.now x o) c.in-Nothing.is needs)
 
-pub returns-in-Touch-clause-stands : goal.returns-in-Touch-clause-stands
-returns-in-Touch-clause-stands c settings calls d o st needs =
+pub returns-in-Touch : goal.returns-in-Touch
+returns-in-Touch c settings calls d o st needs =
     let e = subst (λ x. Needs calls c.args.self.now d c.args.live.now x o) c.in-Touch.is needs in
-    c.keep_era.ensures.stands settings calls d e.0 o st e.1
+    c.keep_era.ensures settings calls d e.0 o st e.1
 
-pub returns-in-Take-clause-stands : goal.returns-in-Take-clause-stands
-returns-in-Take-clause-stands c settings calls d o st needs =
-    c.take_octets.ensures.stands settings calls d o st (subst (λ x. Needs calls c.args.self.now d c.args.live.now x o) c.in-Take.is needs)
+pub returns-in-Take : goal.returns-in-Take
+returns-in-Take c settings calls d o st needs =
+    c.take_octets.ensures settings calls d o st (subst (λ x. Needs calls c.args.self.now d c.args.live.now x o) c.in-Take.is needs)
 
-pub returns-in-Hear-clause-stands : goal.returns-in-Hear-clause-stands
-returns-in-Hear-clause-stands c settings calls d o st needs =
+pub returns-in-Hear : goal.returns-in-Hear
+returns-in-Hear c settings calls d o st needs =
     let live = c.args.live.now in
     let e = subst (λ x. Needs calls c.args.self.now d live x o) c.in-Hear.is needs in
-    c.keep_era-in-Hear.ensures.stands settings calls d (came c.in-Hear.seg ∷ []) o st
+    c.keep_era-in-Hear.ensures settings calls d (came c.in-Hear.seg ∷ []) o st
     (record { key_is = e.key_is; none = (came_brings_none c.in-Hear.seg, tt); stands = c.seen_syn-era.ensures.stands (segments live.flow.number calls) e.stood; writes = writes_one d live.flow.number (came c.in-Hear.seg) o e.does })
 
-pub reopen-number-requires-clause-held : goal.reopen-number-requires-clause-held
-reopen-number-requires-clause-held c = subst (IsOpenTo c.args.self.now c.args.live.now) c.in-Reopen.is c.requires.fits
+pub reopen-requires-clause-held : goal.reopen-requires-clause-held
+reopen-requires-clause-held c = subst (IsOpenTo c.args.self.now c.args.live.now) c.in-Reopen.is c.requires.fits
 
-pub returns-in-Reopen-clause-stands : goal.returns-in-Reopen-clause-stands
-returns-in-Reopen-clause-stands c settings calls d o st needs =
+pub returns-in-Reopen : goal.returns-in-Reopen
+returns-in-Reopen c settings calls d o st needs =
     let e = subst (λ x. Needs calls c.args.self.now d c.args.live.now x o) c.in-Reopen.is needs in
-    c.reopen-number.ensures.stands settings calls d (came e.first) e.octets o st e.key_is e.stands (none_came e.first) e.does
+    c.reopen.ensures settings calls d (came e.first) e.octets o st e.key_is e.stands (none_came e.first) e.does

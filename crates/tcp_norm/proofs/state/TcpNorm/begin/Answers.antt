@@ -1,4 +1,4 @@
-use Rattle.std.proofs.Common.{◌+◌, ◌∙◌, [], ◌∷◌, ◌++◌, sym, ap, subst, refl}
+use Rattle.std.proofs.Common.{◌+◌, [], ◌∷◌, ◌++◌, sym, ap, subst, refl}
 use Rattle.linked_table.specs.Table as table
 use Rattle.tcp_norm.specs.declared.flow.Flow.{Flow}
 use Rattle.tcp_norm.specs.declared.key.EraKey.{EraKey}
@@ -34,4 +34,4 @@ invariant_of-self-clause-spare_listed c =
 
 pub invariant_of-self-clause-near : goal.invariant_of-self-clause-near
 invariant_of-self-clause-near c =
-    subst (λ (t : table.Table EraKey Flow). AreNear c.args.self.now.calls t.entries) (sym c.in-Ok.ensures.added) (near_added c.args.self.now.calls _ c.args.self.now.table.entries c.requires.near c.args.self.now.near)
+    subst (λ (t : table.Table EraKey Flow). AreNear c.args.self.now.calls t.entries) (sym c.in-Ok.ensures.added) (near_added c.args.self.now.calls _ c.args.self.now.table.entries c.requires.fresh.near c.args.self.now.near)

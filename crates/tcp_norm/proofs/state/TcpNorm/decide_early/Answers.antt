@@ -16,13 +16,13 @@ returns-clause-decides c settings calls d st is =
     let l = of_live settings calls d c.args.arrival.now c.args.self.now here st is c.requires.found in
     let v = view_of settings calls d in
     let state = (c.states_are_the_lists.ensures here.flow.era (segments here.flow.number calls) l.stood).state_is ∙ ap state_of (sym l.live.segments_are) in
-    let early = early_now v.segments (segment_in d) _ state c.requires.early l.side (sym (ap tcp.has_syn l.flags) ∙ c.requires.no_syn) (sym (ap tcp.has_rst l.flags) ∙ c.requires.no_rst) in
+    let early = early_now v.segments (segment_in d) _ state c.requires.early l.side (sym (ap tcp.has_syn l.flags) ∙ c.requires.plain.no_syn) (sym (ap tcp.has_rst l.flags) ∙ c.requires.plain.no_rst) in
     let drops = early_dropped settings v d here.flow.number l.side l.live.era_is early in
     let probe = c.cold_probe-probe.ensures ∙ probe_same d _ c.bare_seg-seg.result (l.comes c.bare_seg-seg.result c.bare_seg-seg.ensures.read) in
     record {
       rules = record {
         outcome_is = in_dropped settings v d rules.TState (Some here.flow.number) _ drops l.live.era_is (ap (λ p. probe_packets settings d (Some p)) (sym probe));
-        carried = tt {0};
+        carried = c.requires.found.keyed.side;
       };
       needs = in_unheard settings v d rules.TState drops;
     }

@@ -22,7 +22,7 @@ use Rattle.tcp_norm.proofs.Beside.{beside_are}
 use Rattle.tcp_norm.proofs.Entering.{in_dropped, in_unheard, in_outcome, packets_reset}
 use Rattle.tcp_norm.proofs.Marked.{bare_writes, reset_stream, reset_probes, rst_marked, no_recall, reset_silent, probes_silent, first_is, writes_all}
 use Rattle.tcp_norm.proofs.OfLive.{of_live}
-use Rattle.tcp_norm.proofs.Ruled.{bare_carried}
+use Rattle.tcp_norm.proofs.Ruled.{bare_carried, rewritten_in}
 use Rattle.tcp_norm.proofs.state.TcpNorm.decide_reset.Goals as goal
 
 pub returns-in-Refuse-clause-decides : goal.returns-in-Refuse-clause-decides
@@ -41,7 +41,7 @@ returns-in-Refuse-clause-decides c settings calls d st is =
     let drops = reset_dropped settings v d n l.side l.live.era_is rst syn
     ∙ ap (λ b. cond b (Some rules.TRst) None) (asked ∙ refused_alone (segments n calls) (came seg) (answered ∙ c.in-Refuse.is)) in
     record {
-      rules = record { outcome_is = in_dropped settings v d rules.TRst (Some n) [] drops l.live.era_is refl; carried = tt {0} };
+      rules = record { outcome_is = in_dropped settings v d rules.TRst (Some n) [] drops l.live.era_is refl; carried = c.requires.found.keyed.side };
       needs = in_unheard settings v d rules.TRst drops;
     }
 
@@ -80,7 +80,7 @@ returns-in-Pass-clause-decides c settings calls d st is =
     record {
       rules = record {
         outcome_is = is_it;
-        carried = bare_carried v.segments d a.packet.now a.link.now a.head.now is a.read (bare_anew v.segments d marked);
+        carried = rewritten_in v.segments d a _ _ l.side (bare_carried v.segments d a.packet.now a.link.now a.head.now is a.read (bare_anew v.segments d marked));
       };
       needs = (
         written,

@@ -1,4 +1,4 @@
-use Rattle.std.proofs.Common.{◌≡◌, ℕ, ◌+◌, ◌-◌, ◌<◌, ◌≤◌, ◌^◌, ◌%◌, ◌&&◌, ◌∙◌, Bool, true, false, cond, Some, None, List, [], ◌∷◌, ◌++◌, length, map, take, drop, is_some, sym, ap, ap₂, subst, arith, refl}
+use Rattle.std.proofs.Common.{rules, ◌≡◌, ℕ, ◌+◌, ◌-◌, ◌<◌, ◌≤◌, ◌^◌, ◌%◌, ◌&&◌, ◌∙◌, Bool, true, false, cond, Some, None, List, [], ◌∷◌, ◌++◌, length, map, take, drop, is_some, sym, ap, ap₂, subst, arith, refl}
 use Rattle.std.specs.Prelude.{nat_lt}
 use Rattle.std.specs.List.{refill}
 use Rattle.std.proofs.Math.Seq.{take-append_seam}
@@ -10,7 +10,7 @@ use Rattle.ipv4_codec.specs.declared.header.Ipv4.{Ipv4}
 use Rattle.tcp_codec.specs.declared.header.Tcp.{Tcp}
 use Rattle.retain_store.specs.Maps.{chain_of, missing}
 use Rattle.tcp_norm.specs.Near.{IsAtMost}
-use Rattle.rule_book.specs.declared.rule.Rule.TheVariants as rules
+use Rattle.rule_book.specs.declared.rule.Rule.TheVariants as variants
 use Rattle.era_state.specs.States.{state_of}
 use Rattle.era_state.specs.Standing.{WarmFor}
 use Rattle.era_state.specs.Read.{received}
@@ -37,6 +37,7 @@ use Rattle.tcp_norm.proofs.Settling.{settled_is, own_is, clash_is}
 use Rattle.tcp_norm.proofs.Passes.{passes, rows_are}
 use Rattle.tcp_norm.proofs.Entering.{in_dropped, in_unheard, in_outcome, packets_live}
 use Rattle.tcp_norm.proofs.Marked.{no_probe_behind, stream_is, step_stream, stream_anew, writes_all}
+use Rattle.tcp_norm.proofs.Ruled.{rewritten_in}
 use Rattle.tcp_norm.proofs.state.TcpNorm.decide_stream.Goals as goal
 
 last_false : (a b t : Bool) → t ≡ false → (a && b && t) ≡ false
@@ -44,7 +45,7 @@ last_false true true t e = e
 last_false true false t e = refl
 last_false false b t e = refl
 
-none_dropped : (a b : Bool) → None ≡ cond a (Some rules.TQuota) (cond b (Some rules.TRoom) None) → (a ≡ false) × (b ≡ false)
+none_dropped : (a b : Bool) → None ≡ cond a (Some variants.TQuota) (cond b (Some variants.TRoom) None) → (a ≡ false) × (b ≡ false)
 none_dropped false false e = (refl, refl)
 none_dropped false true e = cc
 none_dropped true b e = cc
@@ -54,6 +55,15 @@ payload_long m head fields = ap (λ (h : Tcp). length (drop h.header m)) (sym fi
 
 refilled : (n : ℕ) (xs ws : List ℕ) → length ws ≡ n → refill n xs ws ≡ ws
 refilled n xs ws long = ap (λ m. take m (ws ++ drop (length ws) xs)) (sym long) ∙ take-append_seam ws (drop (length ws) xs)
+
+pub invariant_of-piece : goal.invariant_of-piece
+invariant_of-piece c =
+    let a = c.args.arrival.now in
+    record {
+      chain_in_range = search rules;
+      order = c.interval-kept.ensures.order;
+      short = omega (arith, a.short, a.read.inside, c.interval-kept.ensures.short, c.seg_of-seg.ensures.len, payload_long a.packet.now.payload.now a.head.now a.read.fields);
+    }
 
 pub returns-clause-fits : goal.returns-clause-fits
 returns-clause-fits c =
@@ -66,12 +76,12 @@ returns-clause-fits c =
       c.requires.found.held,
       record {
         given = record { sequence = seg.seq; len = seg.len; fin = tcp.has_fin seg.flags.0; keeps = c.interval-kept.ensures.value };
-        long = omega (arith, c.size_of-size.ensures.size, c.interval-kept.ensures.order);
-        fits = omega (arith, a.short, a.read.inside, c.interval-kept.ensures.short, c.size_of-size.ensures.size, c.seg_of-seg.ensures.len, payload_long a.packet.now.payload.now a.head.now a.read.fields);
+        long = omega (arith, c.size-size.ensures.size, c.interval-kept.ensures.order);
+        fits = omega (arith, a.short, a.read.inside, c.interval-kept.ensures.short, c.size-size.ensures.size, c.seg_of-seg.ensures.len, payload_long a.packet.now.payload.now a.head.now a.read.fields);
         acked = omega (arith, near.0, c.requires.last.acked_is);
         few = omega (arith, near.1, c.requires.last.octets_are);
-        room = subst (λ n. missing (chain_of store here.slot.0) kept.lo n ≤ store.free) (sym c.size_of-size.ensures.size) c.in_default.ensures.free;
-        quota = subst (λ n. IsAtMost c.args.self.now.quota (length (chain_of store here.slot.0) + missing (chain_of store here.slot.0) kept.lo n)) (sym c.size_of-size.ensures.size) c.in_default.ensures.within;
+        room = subst (λ n. missing (chain_of store here.slot.0) kept.lo n ≤ store.free) (sym c.size-size.ensures.size) c.in_default.ensures.free;
+        quota = subst (λ n. IsAtMost c.args.self.now.quota (length (chain_of store here.slot.0) + missing (chain_of store here.slot.0) kept.lo n)) (sym c.size-size.ensures.size) c.in_default.ensures.within;
       },
     )
 
@@ -88,8 +98,8 @@ returns-in-Some-clause-decides c settings calls d st is =
     let live = l.live in
     let stood = l.stood in
     let flags = l.flags in
-    let syn : tcp.has_syn w.flags ≡ false = sym (ap tcp.has_syn flags) ∙ c.requires.no_syn in
-    let rst : tcp.has_rst w.flags ≡ false = sym (ap tcp.has_rst flags) ∙ c.requires.no_rst in
+    let syn : tcp.has_syn w.flags ≡ false = sym (ap tcp.has_syn flags) ∙ c.requires.plain.no_syn in
+    let rst : tcp.has_rst w.flags ≡ false = sym (ap tcp.has_rst flags) ∙ c.requires.plain.no_rst in
     let stream = stream_is v.segments w _ ((c.states_are_the_lists.ensures here.flow.era (segments n calls) stood).state_is ∙ ap state_of (sym live.segments_are)) c.requires.last.acknowledged side syn rst in
     let f = of_stream v.segments w stream in
     let warm = subst (WarmFor c.args.warm.now) (sym live.segments_are) (c.requires.last.settled (segments n calls) stood) in
@@ -108,12 +118,12 @@ returns-in-Some-clause-decides c settings calls d st is =
     let long : length c.payload_of-payload.result.now ≡ c.seg_of-seg.result.len = ap length c.payload_of-payload.ensures ∙ sym c.seg_of-seg.ensures.len in
     let keptof : KeptOf v.segments w c.interval-kept.result = subst (λ (w : Written). KeptOf v.segments w c.interval-kept.result) w_is (c.interval-kept.ensures.list v.segments c.payload_of-payload.result.now long warm) in
     let drops = stream_dropped settings v d is_live' f
-    ∙ (ap₂ (λ a b. cond (a && b && exceeds settings.quota (held_of v.segments + wanted_of v.segments w)) (Some rules.TQuota)
-    (cond (a && b && nat_lt v.room (wanted_of v.segments w)) (Some rules.TRoom) None)) is_live' stream
-    ∙ (ap₂ (λ q f. cond (exceeds q (held_of v.segments + wanted_of v.segments w)) (Some rules.TQuota) (cond (nat_lt f (wanted_of v.segments w)) (Some rules.TRoom) None)) (sym bound) roomy
+    ∙ (ap₂ (λ a b. cond (a && b && exceeds settings.quota (held_of v.segments + wanted_of v.segments w)) (Some variants.TQuota)
+    (cond (a && b && nat_lt v.room (wanted_of v.segments w)) (Some variants.TRoom) None)) is_live' stream
+    ∙ (ap₂ (λ q f. cond (exceeds q (held_of v.segments + wanted_of v.segments w)) (Some variants.TQuota) (cond (nat_lt f (wanted_of v.segments w)) (Some variants.TRoom) None)) (sym bound) roomy
     ∙ sym (c.in-Some.ensures.value v.segments w keeps count keptof))) in
     record {
-      rules = record { outcome_is = in_dropped settings v d c.in-Some.rule (Some n) [] drops live.era_is (no_probe_behind settings v d c.in-Some.rule drops is_live' f); carried = tt {0} };
+      rules = record { outcome_is = in_dropped settings v d c.in-Some.rule (Some n) [] drops live.era_is (no_probe_behind settings v d c.in-Some.rule drops is_live' f); carried = c.requires.found.keyed.side };
       needs = in_unheard settings v d c.in-Some.rule drops;
     }
 
@@ -130,8 +140,8 @@ returns-clause-decides c settings calls d st is =
     let live = l.live in
     let stood = l.stood in
     let flags = l.flags in
-    let syn : tcp.has_syn w.flags ≡ false = sym (ap tcp.has_syn flags) ∙ c.requires.no_syn in
-    let rst : tcp.has_rst w.flags ≡ false = sym (ap tcp.has_rst flags) ∙ c.requires.no_rst in
+    let syn : tcp.has_syn w.flags ≡ false = sym (ap tcp.has_syn flags) ∙ c.requires.plain.no_syn in
+    let rst : tcp.has_rst w.flags ≡ false = sym (ap tcp.has_rst flags) ∙ c.requires.plain.no_rst in
     let stream = stream_is v.segments w _ ((c.states_are_the_lists.ensures here.flow.era (segments n calls) stood).state_is ∙ ap state_of (sym live.segments_are)) c.requires.last.acknowledged side syn rst in
     let f = of_stream v.segments w stream in
     let warm = subst (WarmFor c.args.warm.now) (sym live.segments_are) (c.requires.last.settled (segments n calls) stood) in
@@ -166,9 +176,9 @@ returns-clause-decides c settings calls d st is =
     let clash = clash_is v.segments seen_w own filled c.fill_kept-clash.result settled (own_is c.args.warm.now v.segments seen_w kept own warm kept_here owned.long owned.own) c.fill_kept-clash.ensures.same ∙ ap (clashes v.segments) w_is in
     let held = ap (λ n. take n c.fill_kept-clash.new.scratch) (sym owned.long) ∙ (settled ∙ ap (octets_sent v.segments) w_is) in
     let front = refilled c.args.self.now.scratch.len c.args.self.now.scratch.items c.fill_kept-clash.new.scratch (c.fill_kept-clash.auto.scratch ∙ c.deref_mut.ensures.len) in
-    let sent = take c.size_of-size.result (refill c.args.self.now.scratch.len c.args.self.now.scratch.items c.fill_kept-clash.new.scratch) in
-    let sent_are : sent ≡ octets_sent v.segments w = ap (take c.size_of-size.result) front ∙ (ap (λ m. take m c.fill_kept-clash.new.scratch) c.size_of-size.ensures.size ∙ held) in
-    let passed = stream_dropped settings v d is_live' f ∙ ap₂ (λ a b. cond a (Some rules.TQuota) (cond b (Some rules.TRoom) None)) quota room in
+    let sent = take c.size-size.result (refill c.args.self.now.scratch.len c.args.self.now.scratch.items c.fill_kept-clash.new.scratch) in
+    let sent_are : sent ≡ octets_sent v.segments w = ap (take c.size-size.result) front ∙ (ap (λ m. take m c.fill_kept-clash.new.scratch) c.size-size.ensures.size ∙ held) in
+    let passed = stream_dropped settings v d is_live' f ∙ ap₂ (λ a b. cond a (Some variants.TQuota) (cond b (Some variants.TRoom) None)) quota room in
     let rows = c.rows_of-rows.result.items in
     let mends = rows_are settings v d a.packet.now.payload.now a.head.now _ _ c.options_change-changed.result _ a.read.fields octets side is_live' f keptof clash c.options_change-changed.ensures.changed c.rows_of-rows.ensures.rows in
     let seq = c.frame_sequence-seq.ensures v.segments c.payload_of-payload.result.now long warm ∙ ap (frame_sequence_of v.segments) w_is in
@@ -185,13 +195,13 @@ returns-clause-decides c settings calls d st is =
     let number : w.seq < 2 ^ 32 =
     subst (λ m. tcp.sequence m < 2 ^ 32) (sym octets) (omega (arith, c.are_bits.ensures.each 4, c.are_bits.ensures.each 5, c.are_bits.ensures.each 6, c.are_bits.ensures.each 7)) in
     let sized = sent_long v.segments w in
-    let count_sent : length (octets_sent v.segments w) ≡ c.size_of-size.result = sized ∙ omega (arith, keptof.spans.lo_is, keptof.spans.hi_is, c.size_of-size.ensures.size) in
+    let count_sent : length (octets_sent v.segments w) ≡ c.size-size.result = sized ∙ omega (arith, keptof.spans.lo_is, keptof.spans.hi_is, c.size-size.ensures.size) in
     let fits = stream_fits v.segments d bits (ap (λ k. k % 4) (sym wide) ∙ c.options_change-changed.ensures.words)
-    (omega (arith, wide, c.options_change-changed.ensures.size, a.read.most)) (omega (arith, wide, count_sent, c.options_change-changed.ensures.size, a.short, a.read.inside, c.interval-kept.ensures.short, c.size_of-size.ensures.size, c.seg_of-seg.ensures.len, payload_long a.packet.now.payload.now a.head.now a.read.fields)) in
+    (omega (arith, wide, c.options_change-changed.ensures.size, a.read.most)) (omega (arith, wide, count_sent, c.options_change-changed.ensures.size, a.short, a.read.inside, c.interval-kept.ensures.short, c.size-size.ensures.size, c.seg_of-seg.ensures.len, payload_long a.packet.now.payload.now a.head.now a.read.fields)) in
     record {
       rules = record {
         outcome_is = is_it;
-        carried = stream_anew v.segments d a.packet.now a.link.now a.head.now c.frame_sequence-seq.result kept.fin sent is a.read syn rst seq keptof.spans.fin_is sent_are;
+        carried = rewritten_in v.segments d a _ _ side (stream_anew v.segments d a.packet.now a.link.now a.head.now c.frame_sequence-seq.result kept.fin sent is a.read syn rst seq keptof.spans.fin_is sent_are);
       };
       needs = passes c.streams_are_written.ensures settings v d c.args.warm.now kept n 0 (segments n calls) sent live.era_is live.segments_are warm stream keptof quota room number fits sent_are
           _

@@ -16,7 +16,7 @@ returns-then-rst c settings calls d octets long st sends =
     record {
       is_step = subst (IsStep v (segment_in d)) (sym c.outside.ensures)
           (subst (λ (w : Written). IsStep v w (record { era = None; begun = None; ended = None; full = false })) (sym sends.segment_is) (step_stray v c.args.seg.now octets none (sym c.if-rst.ensures)));
-      stands = λ o does. c.arrive.ensures.unheard settings calls d o st (outside_unheard d (segment_in d) o false (subst (λ x. Does d (segment_in d) x o) c.outside.ensures does));
+      stands = λ o does. (c.arrive.ensures settings calls d o st (outside_unheard d (segment_in d) o false (subst (λ x. Does d (segment_in d) x o) c.outside.ensures does))).stands;
     }
 
 pub returns-in-None : goal.returns-in-None

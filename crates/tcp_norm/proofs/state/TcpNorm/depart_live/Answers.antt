@@ -1,4 +1,4 @@
-use Rattle.std.proofs.Common.{◌≡◌, ◌∙◌, ◌+◌, false, [], ◌∷◌, ◌++◌, Some, None, refl, sym, ap, ap₂, subst, arith}
+use Rattle.std.proofs.Common.{◌≡◌, ◌+◌, ◌∙◌, false, [], ◌∷◌, ◌++◌, Some, None, refl, sym, ap, ap₂, subst, arith}
 use Rattle.wire_base.specs.Segments.{Written}
 use Rattle.rule_book.specs.declared.entry.Reason.TheVariants as reasons
 use Rattle.era_state.specs.Quantities.{octets_of}
@@ -31,13 +31,13 @@ returns-in-Next c settings calls d octets long st sends =
     record {
       is_step = subst (IsStep v w) (sym c.within.ensures)
           (subst (λ (w : Written). IsStep v w (continued_in n)) (sym sends.segment_is) (step_next v c.args.seg.now octets n l.live.era_is moves.0 none));
-      stands = λ o does. c.keep_era.ensures.stands settings calls d (w ∷ []) o st
+      stands = λ o does. (c.keep_era.ensures settings calls d (w ∷ []) o st
           (record {
             key_is = sym sends.key_is;
             none = (outbound_brings_none w sends.side, tt);
             stands = subst (λ x. era.StandsFor c.in-Next.era (segments n calls ++ x ∷ [])) (sym sends.segment_is) (moves.2 octets long);
             writes = writes_one d n w o (subst (λ x. Does d w x o) c.within.ensures does);
-          });
+          })).stands;
     }
 
 pub returns-in-Reset : goal.returns-in-Reset
@@ -56,7 +56,7 @@ returns-in-Reset c settings calls d octets long st sends =
           (subst (λ (w : Written). IsStep v w (record { era = Some n; begun = None; ended = Some (record { era = n; reason = reasons.Reset; octets = Some (octets_of v.segments) }); full = false })) (sym sends.segment_is)
           (step_reset v c.args.seg.now octets n l.live.era_is c.requires.legal rst));
       stands = λ o does. ends_within settings self c.end.new.self calls c.args.now n d w o reasons.Reset (Some c.octets-octets.result) st
-          (tables_go_on settings self _ c.end.new.self c.args.now 0 _ c.end.ensures.tables (omega arith) (opened_kept settings self _ st.opened refl refl refl refl refl refl refl refl) refl refl c.requires.later)
+          (tables_go_on settings self _ c.end.new.self c.args.now 0 _ c.end.ensures.tables (omega arith) (opened_kept settings self _ st.opened refl refl refl refl refl refl refl refl) refl refl c.requires.ready.later)
           l.at.given (subst (λ x. Does d w x o) c.reset.ensures does) (c.end.ensures.holds (eras calls) (λ m. segments m calls) here.flow st.holds held.entry);
     }
 
@@ -69,12 +69,12 @@ returns-in-Reopen c settings calls d octets long st sends =
     let l = held_live settings calls d c.args.self.now here st c.requires.held sends.key_is in
     let moves = c.in-Reopen.ensures.moves (segments n calls) l.at.era in
     let some = ap (λ ws. reopens_outward ws (sent c.args.seg.now [])) l.live.segments_are ∙ moves.1 in
-    let next : c.reopen-next.result ≡ v.next = omega (arith, c.reopen-next.ensures.number, st.begun_is) in
+    let next : c.args.self.now.begun + 1 ≡ v.next = omega (arith, st.begun_is) in
     let told = c.octets-octets.ensures.list (segments n calls) l.at.era ∙ sym (ap octets_of l.live.segments_are) in
     record {
       is_step = subst (IsStep v w) (sym (c.reopened.ensures ∙ ap₂ (reopened_by n) next told))
           (subst (λ (w : Written). IsStep v w (reopened_by n v.next (octets_of v.segments))) (sym sends.segment_is) (step_reopened v c.args.seg.now octets n l.live.era_is some));
-      stands = λ o does. c.reopen-next.ensures.stands settings calls d w c.octets-octets.result o st (sym sends.key_is)
+      stands = λ o does. (c.reopen.ensures settings calls d w c.octets-octets.result o st (sym sends.key_is)
           (subst (λ (x : Written). era.StandsFor c.era_of.result (x ∷ [])) (sym sends.segment_is) (c.era_of.ensures.stands octets long))
-          (none_kept w sends.side) (subst (λ x. Does d w x o) (c.reopened.ensures ∙ ap (λ k. reopened_by n k c.octets-octets.result) c.reopen-next.ensures.number) does);
+          (none_kept w sends.side) (subst (λ x. Does d w x o) c.reopened.ensures does)).stands;
     }

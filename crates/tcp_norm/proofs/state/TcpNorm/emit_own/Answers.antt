@@ -1,21 +1,19 @@
-use Rattle.std.proofs.Common.{◌≡◌, ◌+◌, ◌∙◌, take, sym}
-use Rattle.tcp_norm.specs.Anews.{anew_segment}
-use Rattle.tcp_norm.proofs.Probing.{side_is, head_is, frame_rewritten, frame_headed}
+use Rattle.std.proofs.Common.{◌∙◌, sym}
+use Rattle.tcp_norm.proofs.Probing.{head_given, frame_headed}
+use Rattle.tcp_norm.proofs.Sending.{frame_read}
 use Rattle.tcp_norm.proofs.state.TcpNorm.emit_own.Goals as goal
 
-pub returns-then-not-is_empty-clause-frames : goal.returns-then-not-is_empty-clause-frames
-returns-then-not-is_empty-clause-frames c settings d ws opened is anews =
-    let a = c.args.arrival.now in
-    let p = c.args.passage.now in
-    let ip = c.raised-ip.ensures ∙ head_is settings c.args.self.now.hops a.packet.now a.link.now d opened.hops a.side is in
-    c.put_rewritten.ensures
-    ∙ frame_rewritten settings d ws a.packet.now a.link.now p.rows.items (anew_segment c.raised-ip.result a.head.now p.seq p.fin c.options_of-options.result.0.items (take p.size c.deref.result.now)) c.raised-ip.result
-    (side_is a.packet.now a.link.now d a.side is) ip (sym c.if-not-is_empty.ensures)
-    (anews ∙ (λ k. anew_segment ((sym c.raised-ip.ensures) k) a.head.now p.seq p.fin ((sym c.options_of-options.ensures.exact) k) (take p.size ((sym c.deref.ensures.value) k))))
+pub emit_rewritten-requires-clause-some : goal.emit_rewritten-requires-clause-some
+emit_rewritten-requires-clause-some c = sym c.if-not-is_empty.ensures
 
-pub returns-else-is_empty-clause-frames : goal.returns-else-is_empty-clause-frames
-returns-else-is_empty-clause-frames c settings d ws opened is anews =
+pub returns-then-is_empty-clause-frames : goal.returns-then-is_empty-clause-frames
+returns-then-is_empty-clause-frames c settings d ws opened is anews =
+    let a = c.args.arrival.now in
+    frame_read settings d ws a.packet.now a.link.now c.args.passage.now.rows.items is (sym c.if-not-is_empty.ensures) (sym c.if-is_empty.ensures)
+
+pub returns-clause-frames : goal.returns-clause-frames
+returns-clause-frames c settings d ws opened is anews =
     let a = c.args.arrival.now in
     c.put_anew.ensures
-    ∙ frame_headed settings d ws a.packet.now a.link.now c.args.passage.now.rows.items c.raised-head.result is
-    (c.raised-head.ensures ∙ head_is settings c.args.self.now.hops a.packet.now a.link.now d opened.hops a.side is) (sym c.if-not-is_empty.ensures) (sym c.if-is_empty.ensures)
+    ∙ frame_headed settings d ws a.packet.now a.link.now c.args.passage.now.rows.items c.head_sent-head.result is
+    (c.head_sent-head.ensures ∙ head_given settings c.args.self.now.hops a.packet.now a.link.now d opened.hops is) (sym c.if-not-is_empty.ensures) (sym c.if-is_empty.ensures)

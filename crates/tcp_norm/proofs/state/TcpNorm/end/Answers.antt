@@ -1,4 +1,4 @@
-use Rattle.std.proofs.Common.{[], ◌∷◌, length, refl, sym, ap, subst, ◌∙◌, arith}
+use Rattle.std.proofs.Common.{[], ◌∷◌, length, refl, sym, ap, subst, arith}
 use Rattle.linked_table.specs.Table as table
 use Rattle.retain_store.specs.Maps.{Store}
 use Rattle.tcp_norm.specs.declared.flow.Flow.{Flow}

@@ -16,35 +16,35 @@ use Rattle.tcp_norm.proofs.Beside.{beside_are}
 use Rattle.tcp_norm.proofs.Entering.{in_dropped, in_unheard, in_outcome, in_does, keyed, asks, step_asked, packets_asked, packets_begun}
 use Rattle.tcp_norm.proofs.Probing.{side_is}
 use Rattle.tcp_norm.proofs.Marked.{bare_writes, called_marked, cold_probes, begun_probes, cold_stream}
-use Rattle.tcp_norm.proofs.Ruled.{bare_carried}
+use Rattle.tcp_norm.proofs.Ruled.{bare_carried, rewritten_in}
 use Rattle.tcp_norm.proofs.state.TcpNorm.judge_cold.Goals as goal
 
 pub returns-in-Refuse-clause-judges : goal.returns-in-Refuse-clause-judges
 returns-in-Refuse-clause-judges c settings calls d st is =
     let a = c.args.arrival.now in
     let v = view_of settings calls d in
-    let key_is = keyed a.packet.now a.link.now d _ a.side is c.requires.key in
-    let comes = comes_bare d _ c.bare_seg-seg.result (side_is a.packet.now a.link.now d a.side is) key_is (c.bare_seg-seg.ensures.read ∙ ap bare_read (sym is.octets)) in
+    let key_is = keyed a.packet.now a.link.now d _ c.requires.keyed.side is c.requires.keyed.key_is in
+    let comes = comes_bare d _ c.bare_seg-seg.result (side_is a.packet.now a.link.now d c.requires.keyed.side is) key_is (c.bare_seg-seg.ensures.read ∙ ap bare_read (sym is.octets)) in
     let none = view_cold settings calls _ _ _ _ d st.holds c.requires.absent key_is in
     let drops = cold_refused settings v d comes.side none (sym (cold_same d c.args.key c.bare_seg-seg.result comes) ∙ sym c.in-Refuse.ensures.refuses) in
     record {
-      stands = c.arrive.ensures.unheard settings calls d (outcome_at settings v d) st (in_unheard settings v d rules.TCold drops);
-      rules = record { outcome_is = in_dropped settings v d rules.TCold None [] drops none refl; carried = tt {0} };
+      stands = (c.arrive.ensures settings calls d (outcome_at settings v d) st (in_unheard settings v d rules.TCold drops)).stands;
+      rules = record { outcome_is = in_dropped settings v d rules.TCold None [] drops none refl; carried = c.requires.keyed.side };
     }
 
 pub returns-in-None-clause-judges : goal.returns-in-None-clause-judges
 returns-in-None-clause-judges c settings calls d st is =
     let a = c.args.arrival.now in
     let v = view_of settings calls d in
-    let key_is = keyed a.packet.now a.link.now d _ a.side is c.requires.key in
-    let comes = comes_bare d _ c.bare_seg-seg.result (side_is a.packet.now a.link.now d a.side is) key_is (c.bare_seg-seg.ensures.read ∙ ap bare_read (sym is.octets)) in
+    let key_is = keyed a.packet.now a.link.now d _ c.requires.keyed.side is c.requires.keyed.key_is in
+    let comes = comes_bare d _ c.bare_seg-seg.result (side_is a.packet.now a.link.now d c.requires.keyed.side is) key_is (c.bare_seg-seg.ensures.read ∙ ap bare_read (sym is.octets)) in
     let none = view_cold settings calls _ _ _ _ d st.holds c.requires.absent key_is in
     let call = sym (call_same d c.args.key c.bare_seg-seg.result comes) ∙ sym c.in-Begin.ensures.begins in
     let drops = cold_full settings v d comes.side none (sym (cold_same d c.args.key c.bare_seg-seg.result comes) ∙ sym c.in-Begin.ensures.refuses)
     (full_is v (segment_in d) none call (sym (c.in-None.ensures.answer settings calls d st))) in
     record {
       stands = c.in-None.ensures.none settings calls d (outcome_at settings v d) st (in_unheard settings v d rules.TFull drops);
-      rules = record { outcome_is = in_dropped settings v d rules.TFull None [] drops none refl; carried = tt {0} };
+      rules = record { outcome_is = in_dropped settings v d rules.TFull None [] drops none refl; carried = c.requires.keyed.side };
     }
 
 pub returns-in-Probe-clause-judges : goal.returns-in-Probe-clause-judges
@@ -52,8 +52,8 @@ returns-in-Probe-clause-judges c settings calls d st is =
     let a = c.args.arrival.now in
     let v = view_of settings calls d in
     let w = segment_in d in
-    let side = side_is a.packet.now a.link.now d a.side is in
-    let key_is = keyed a.packet.now a.link.now d _ a.side is c.requires.key in
+    let side = side_is a.packet.now a.link.now d c.requires.keyed.side is in
+    let key_is = keyed a.packet.now a.link.now d _ c.requires.keyed.side is c.requires.keyed.key_is in
     let comes = comes_bare d _ c.bare_seg-seg.result side key_is (c.bare_seg-seg.ensures.read ∙ ap bare_read (sym is.octets)) in
     let none = view_cold settings calls _ _ _ _ d st.holds c.requires.absent key_is in
     let call = sym (call_same d c.args.key c.bare_seg-seg.result comes) ∙ sym c.in-Probe.ensures.begins in
@@ -66,8 +66,8 @@ returns-in-Probe-clause-judges c settings calls d st is =
     let sends = packets_asked settings v d named none asked ∙ ap (λ p. probe_packet settings d p ∷ []) (sym probe) in
     let is_it = in_outcome settings v d _ d.fixes named _ side refl passes mends (step_asked v w none (asks w asked)) refl sends in
     record {
-      stands = c.arrive-in-Probe.ensures.unheard settings calls d (outcome_at settings v d) st (subst IsUnheard (sym is_it) (record { era = λ written. refl; begun = refl; ended = refl }));
-      rules = record { outcome_is = is_it; carried = tt {0} };
+      stands = (c.arrive-in-Probe.ensures settings calls d (outcome_at settings v d) st (subst IsUnheard (sym is_it) (record { era = λ written. refl; begun = refl; ended = refl }))).stands;
+      rules = record { outcome_is = is_it; carried = c.requires.keyed.side };
     }
 
 pub returns-in-Some-clause-judges : goal.returns-in-Some-clause-judges
@@ -76,8 +76,8 @@ returns-in-Some-clause-judges c settings calls d st is =
     let v = view_of settings calls d in
     let w = segment_in d in
     let seg = c.bare_seg-seg.result in
-    let side = side_is a.packet.now a.link.now d a.side is in
-    let key_is = keyed a.packet.now a.link.now d _ a.side is c.requires.key in
+    let side = side_is a.packet.now a.link.now d c.requires.keyed.side is in
+    let key_is = keyed a.packet.now a.link.now d _ c.requires.keyed.side is c.requires.keyed.key_is in
     let comes = comes_bare d _ seg side key_is (c.bare_seg-seg.ensures.read ∙ ap bare_read (sym is.octets)) in
     let none = view_cold settings calls _ _ _ _ d st.holds c.requires.absent key_is in
     let p = c.in-Some.place in
@@ -98,5 +98,5 @@ returns-in-Some-clause-judges c settings calls d st is =
     let does = subst (Does d (came seg) (began p)) (sym is_it) (subst (λ s. Does d (came seg) (began p) (passed s d.fixes named (packet_by settings v.segments d d.fixes named ∷ []))) (sym c.begun.ensures) (in_does d (came seg) (began p) d.fixes named _ writes)) in
     record {
       stands = c.in-Some.ensures.some settings calls d (came seg) (outcome_at settings v d) st key_is c.in-Begin.ensures.fields (none_came seg) does;
-      rules = record { outcome_is = is_it; carried = bare_carried v.segments d a.packet.now a.link.now a.head.now is a.read (bare_anew v.segments d marked) };
+      rules = record { outcome_is = is_it; carried = rewritten_in v.segments d a _ _ side (bare_carried v.segments d a.packet.now a.link.now a.head.now is a.read (bare_anew v.segments d marked)) };
     }

@@ -1,18 +1,28 @@
-use Rattle.std.proofs.Common.{sym, subst}
+use Rattle.std.proofs.Common.{ℕ, ◌≤◌, ◌∙◌, List, [], ◌∷◌, length, refl, sym, ap, subst, arith}
 use Rattle.wire_base.specs.Tcp as tcp
-use Rattle.tcp_norm.specs.Steps.{Sends}
-use Rattle.tcp_norm.proofs.Sent.{sends_it}
+use Rattle.tcp_codec.specs.declared.header.Tcp.{Tcp}
+use Rattle.ip_rules.specs.Datagrams.{goes_in}
+use Rattle.tcp_norm.specs.Views.{view_of}
+use Rattle.tcp_norm.specs.Emits.{packet_by}
+use Rattle.tcp_norm.specs.Inwards.{passed}
+use Rattle.tcp_norm.specs.Outcomes.{outcome_at}
+use Rattle.tcp_norm.proofs.Sent.{out_outcome, out_does, sum_wrong}
 use Rattle.tcp_norm.proofs.state.TcpNorm.judge_outward.Goals as goal
 
-pub returns-in-Some : goal.returns-in-Some
-returns-in-Some c settings calls d st is =
-    let a = c.args.departure.now in
-    let octets = tcp.payload a.packet.now.payload.now in
-    let sends = sends_it a.packet.now a.link.now d c.seg_of-parsed.result c.outward_key-key.result a.side is c.outward_key-key.ensures c.seg_of-parsed.ensures.outward in
-    c.depart_live.ensures settings calls d octets (sym c.seg_of-parsed.ensures.len) st (subst (λ k. Sends d k c.seg_of-parsed.result octets) (sym c.live_at-live.ensures.key) sends)
-
-pub returns-in-None : goal.returns-in-None
-returns-in-None c settings calls d st is =
-    let a = c.args.departure.now in
-    c.depart_cold.ensures settings calls d (tcp.payload a.packet.now.payload.now) (sym c.seg_of-parsed.ensures.len) st
-    (sends_it a.packet.now a.link.now d c.seg_of-parsed.result c.outward_key-key.result a.side is c.outward_key-key.ensures c.seg_of-parsed.ensures.outward)
+pub returns-clause-judges : goal.returns-clause-judges
+returns-clause-judges c settings calls d st is =
+    let a = c.args.arrival.now in
+    let v = view_of settings calls d in
+    let step = c.depart-step.result in
+    let made = c.depart-step.ensures settings calls d st is in
+    let side = ap goes_in (is.side ∙ c.requires.outward.side) in
+    let wrong = sum_wrong settings c.args.self.now.offload a.packet.now a.link.now d a.head.now st.opened.offload c.requires.outward.side is c.requires.outward.fields in
+    let inside : 20 ≤ length d.octets = subst (λ (m : List ℕ). 20 ≤ length m) (sym is.octets) (omega (arith, a.read.least, a.read.inside)) in
+    let words : 20 ≤ tcp.header_length d.octets = subst (λ (m : List ℕ). 20 ≤ tcp.header_length m) (sym is.octets) (subst (λ (h : Tcp). 20 ≤ h.header) a.read.fields a.read.least) in
+    record {
+      stands = made.stands (outcome_at settings v d) (out_does c.mended_say_the_same.ensures settings v d step _ side wrong made.is_step inside words);
+      rules = record {
+        outcome_is = out_outcome settings v d step _ side wrong made.is_step ∙ ap (λ rows. passed step d.fixes rows (packet_by settings v.segments d d.fixes rows ∷ [])) (sym c.summed-rows.ensures.rows);
+        carried = record { anew = λ inward. cc (sym side ∙ inward); alone = λ out. refl };
+      };
+    }

@@ -1,4 +1,4 @@
-use Rattle.std.proofs.Common.{◌+◌, ◌∙◌, ◌++◌, sym, ap, subst, refl, cond, None, arith}
+use Rattle.std.proofs.Common.{◌+◌, ◌∙◌, sym, ap, subst, refl, cond, None, arith}
 use Rattle.std.specs.Prelude.{nat_lt}
 use Rattle.linked_table.specs.Table as table
 use Rattle.retain_store.specs.Maps.{Store, chain_of, octet_at}
@@ -14,8 +14,8 @@ use Rattle.tcp_norm.proofs.Sparing.{touched_listed}
 use Rattle.tcp_norm.proofs.Writing.{stands_written}
 use Rattle.tcp_norm.proofs.state.TcpNorm.keep_era.Goals as goal
 
-pub returns-clause-stands : goal.returns-clause-stands
-returns-clause-stands c settings calls d ws o st e =
+pub returns : goal.returns
+returns c settings calls d ws o st e =
     let live = c.args.live.now in
     let held = c.requires.held in
     let store = c.args.self.now.store in
@@ -24,9 +24,12 @@ returns-clause-stands c settings calls d ws o st e =
     let at = at_slot (eras calls) (λ m. segments m calls) _ _ store live.slot live.flow st.holds held.inside held.slots_apart held.keys_apart held.entry in
     let keeps = keeps_behind c.first_stays.ensures c.acked_never_falls.ensures live.flow.era c.args.era (segments live.flow.number calls) ws (chain_of store slot) (chain_of c.forget_below.new.self slot)
     at.era e.stands e.none at.octets (λ o. forgets.octets o ∙ ap (λ a. cond (nat_lt o a) None (octet_at (chain_of store slot) o)) c.acknowledged.ensures) in
-    stands_written settings c.args.self.now _ calls c.args.now d live _ ws o st
-    (opened_kept settings c.args.self.now _ st.opened (ap (λ (t : table.Table EraKey Flow). t.max) c.write_back.ensures.entries) forgets.changed.number (ap (λ (s : Store). s.cells) forgets.changed.others) refl refl refl refl refl)
-    refl refl refl c.requires.later held e.key_is refl refl c.write_back.ensures.entries forgets.changed e.stands keeps forgets.map forgets.held e.writes
+    record {
+      stands = stands_written settings c.args.self.now _ calls c.args.now d live _ ws o st
+          (opened_kept settings c.args.self.now _ st.opened (ap (λ (t : table.Table EraKey Flow). t.max) c.write_back.ensures.entries) forgets.changed.number (ap (λ (s : Store). s.cells) forgets.changed.others) refl refl refl refl refl)
+          refl refl refl c.requires.ready.later held e.key_is refl refl c.write_back.ensures.entries forgets.changed e.stands keeps forgets.map forgets.held e.writes;
+      scratch_is = refl;
+    }
 
 pub invariant_of-self-clause-near : goal.invariant_of-self-clause-near
 invariant_of-self-clause-near c =

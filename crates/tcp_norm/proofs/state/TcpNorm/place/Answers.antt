@@ -16,10 +16,10 @@ returns-then-len-max-clause-places c lives segments h =
     let long : length lives ≡ length self.table.entries = sym (ap length h.eras_are) ∙ length-map self.table.entries alive_in in
     let full : nat_le self.table.max (length lives) ≡ false = grind (arith, nat_tests, long, c.if-len-max.true, c.len.ensures, c.max.ensures) in
     record {
-      answer = sym (ap (λ b. place_of b (first_empty lives segments) (self.begun + 1)) full ∙ ap (λ n. Some (record { begun = n; evicted = None })) (sym c.begin-begun.ensures.number));
+      answer = sym (ap (λ b. place_of b (first_empty lives segments) (self.begun + 1)) full ∙ ap (λ n. Some (record { begun = n; evicted = None })) (sym c.begin.ensures.tables.begun_is));
       given = λ number is. cc;
-      some = λ later begins. subst (λ (l : List Alive). Holds c.begin-begun.new.self (l ++ record { number = self.begun + 1; key = c.args.key; touched = c.args.now } ∷ []) later) (sym (without_none lives))
-          (c.begin-begun.ensures.holds lives segments later h begins);
+      some = λ later begins. subst (λ (l : List Alive). Holds c.begin.new.self (l ++ record { number = self.begun + 1; key = c.args.key; touched = c.args.now } ∷ []) later) (sym (without_none lives))
+          (c.begin.ensures.holds lives segments later h begins);
       none = tt;
     }
 
@@ -52,13 +52,13 @@ returns-clause-places c lives segments h =
     let next : c.evict.new.self.begun + 1 ≡ self.begun + 1 = ap (λ b. b + 1) c.evict.ensures.tables.begun_is in
     record {
       answer = sym (ap (λ b. place_of b (first_empty lives segments) (self.begun + 1)) full ∙ (ap (λ r. place_of true r (self.begun + 1)) (sym e.answer)
-          ∙ ap (λ n. Some (record { begun = n; evicted = Some c.in_ok-ended.ended })) (sym (c.begin-begun-2.ensures.number ∙ next))));
+          ∙ ap (λ n. Some (record { begun = n; evicted = Some c.in_ok-ended.ended })) (sym (c.begin-2.ensures.tables.begun_is ∙ next))));
       given = λ number is. e.given number is;
-      some = λ later begins. subst (λ n. Holds c.begin-begun-2.new.self (left ++ record { number = n; key = c.args.key; touched = c.args.now } ∷ []) later) next
-          (c.begin-begun-2.ensures.holds left segments later e.left (subst (λ n. Begins c.args.era n segments later) (sym next) begins));
+      some = λ later begins. subst (λ n. Holds c.begin-2.new.self (left ++ record { number = n; key = c.args.key; touched = c.args.now } ∷ []) later) next
+          (c.begin-2.ensures.holds left segments later e.left (subst (λ n. Begins c.args.era n segments later) (sym next) begins));
       none = tt;
     }
 
 pub returns-clause-tables : goal.returns-clause-tables
 returns-clause-tables c =
-    subst (ChangesTables c.args.self.now c.begin-begun-2.new.self) (ap (λ b. b + 1) c.evict.ensures.tables.begun_is) (then_changes _ _ _ _ _ c.evict.ensures.tables c.begin-begun-2.ensures.tables)
+    subst (ChangesTables c.args.self.now c.begin-2.new.self) (ap (λ b. b + 1) c.evict.ensures.tables.begun_is) (then_changes _ _ _ _ _ c.evict.ensures.tables c.begin-2.ensures.tables)

@@ -1,5 +1,4 @@
-use Rattle.std.proofs.Common.{◌≡◌, ◌+◌, ◌∙◌, ℕ, List, Some, length, [], ◌∷◌, ◌++◌, refl, sym, ap, subst, arith}
-use Rattle.linked_table.specs.Table as table
+use Rattle.std.proofs.Common.{◌+◌, ◌∙◌, ℕ, List, Some, length, [], ◌∷◌, ◌++◌, refl, sym, ap, subst, arith}
 use Rattle.wire_base.specs.Segments.{Written}
 use Rattle.tcp_norm.specs.Calls.{datagram, segments, eras, without}
 use Rattle.tcp_norm.specs.Near.{IsNear}
@@ -10,11 +9,15 @@ use Rattle.tcp_norm.proofs.Slots.{at_slot, opened_kept, then_changes}
 use Rattle.tcp_norm.proofs.Tables.{key_left, shorter}
 use Rattle.tcp_norm.proofs.state.TcpNorm.reopen.Goals as goal
 
-pub begin-requires-clause-absent : goal.begin-requires-clause-absent
-begin-requires-clause-absent c =
+pub begin-requires-clause-fresh : goal.begin-requires-clause-fresh
+begin-requires-clause-fresh c =
     let live = c.args.live.now in
     let held = c.requires.held in
-    rw c.end.ensures.left (key_left c.args.self.now.table.entries live.slot live.key held.inside held.slots_apart held.keys_apart held.keyed)
+    record {
+      absent = rw c.end.ensures.left (key_left c.args.self.now.table.entries live.slot live.key held.inside held.slots_apart held.keys_apart held.keyed);
+      number = omega (arith, c.args.self.now.few, c.end.ensures.tables.calls_are, c.end.ensures.tables.begun_is);
+      near = subst (λ k. IsNear k c.args.era) (sym c.end.ensures.tables.calls_are) c.requires.near;
+    }
 
 pub begin-requires-clause-room : goal.begin-requires-clause-room
 begin-requires-clause-room c =
@@ -22,14 +25,8 @@ begin-requires-clause-room c =
     let less = shorter c.args.self.now.table.entries c.args.live.now.slot held.inside held.slots_apart held.keys_apart in
     omega (arith, less, ap length c.end.ensures.left, held.bounded, c.end.ensures.max)
 
-pub begin-requires-clause-number : goal.begin-requires-clause-number
-begin-requires-clause-number c = omega (arith, c.args.self.now.few, c.end.ensures.tables.calls_are, c.end.ensures.tables.begun_is)
-
-pub begin-requires-clause-near : goal.begin-requires-clause-near
-begin-requires-clause-near c = subst (λ k. IsNear k c.args.era) (sym c.end.ensures.tables.calls_are) c.requires.near
-
-pub returns-clause-stands : goal.returns-clause-stands
-returns-clause-stands c settings calls d w octets o st key stood none does =
+pub returns : goal.returns
+returns c settings calls d w octets o st key stood none does =
     let live = c.args.live.now in
     let held = c.requires.held in
     let n = live.flow.number in
@@ -41,9 +38,12 @@ returns-clause-stands c settings calls d w octets o st key stood none does =
     let begins = begins_with settings c.args.self.now calls c.args.now d w o (reopened_by n next octets) c.args.era st refl does stood none in
     let then' = c.begin.ensures.holds (without (n ∷ []) (eras calls)) before later (c.end.ensures.holds (eras calls) before live.flow st.holds held.entry)
     (subst (λ b. Begins c.args.era (b + 1) before later) (sym was) begins) in
-    begins_then settings c.args.self.now c.begin.new.self calls c.args.now d w o (reopened_by n next octets) (Some n) st
-    (tables_go_on settings c.args.self.now _ c.begin.new.self c.args.now 1 _ (then_changes _ _ _ _ _ c.end.ensures.tables c.begin.ensures.tables) (ap (λ b. b + 1) was)
-    (opened_kept settings c.args.self.now _ st.opened refl refl refl refl refl refl refl refl) refl refl c.requires.later)
-    (λ k is. given_some n k at.given is) refl refl refl does
-    (subst (λ k. Holds c.begin.new.self (without (n ∷ []) (eras calls) ++ record { number = next; key = k; touched = c.args.now } ∷ []) later) key
-    (subst (λ b. Holds c.begin.new.self (without (n ∷ []) (eras calls) ++ record { number = b + 1; key = live.key; touched = c.args.now } ∷ []) later) was then'))
+    record {
+      stands = begins_then settings c.args.self.now c.begin.new.self calls c.args.now d w o (reopened_by n next octets) (Some n) st
+          (tables_go_on settings c.args.self.now _ c.begin.new.self c.args.now 1 _ (then_changes _ _ _ _ _ c.end.ensures.tables c.begin.ensures.tables) (ap (λ b. b + 1) was)
+          (opened_kept settings c.args.self.now _ st.opened refl refl refl refl refl refl refl refl) refl refl c.requires.ready.later)
+          (λ k is. given_some n k at.given is) refl refl refl does
+          (subst (λ k. Holds c.begin.new.self (without (n ∷ []) (eras calls) ++ record { number = next; key = k; touched = c.args.now } ∷ []) later) key
+          (subst (λ b. Holds c.begin.new.self (without (n ∷ []) (eras calls) ++ record { number = b + 1; key = live.key; touched = c.args.now } ∷ []) later) was then'));
+      scratch_is = c.begin.ensures.tables.scratch_is ∙ c.end.ensures.tables.scratch_is;
+    }

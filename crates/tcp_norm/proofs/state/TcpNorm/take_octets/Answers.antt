@@ -15,8 +15,8 @@ use Rattle.tcp_norm.proofs.Streams.{fresh_is, keeps_with}
 use Rattle.tcp_norm.proofs.Writing.{stands_written, wrote_these}
 use Rattle.tcp_norm.proofs.state.TcpNorm.take_octets.Goals as goal
 
-pub returns-clause-stands : goal.returns-clause-stands
-returns-clause-stands c settings calls d o st b =
+pub returns : goal.returns
+returns c settings calls d o st b =
     let live = c.args.live.now in
     let t = c.args.taking.now in
     let held = c.requires.held in
@@ -30,16 +30,19 @@ returns-clause-stands c settings calls d o st b =
     let next = c.forwarded-new.ensures.list ws w b.frame b.stood b.kept_is b.framed places in
     let keeps = keeps_with c.first_stays.ensures c.frame_octets.ensures c.intervals_fit.ensures c.place_counting-fresh.result t.warm.now c.forwarded-new.result ws w b.frame t.kept
     (chain_of store live.slot.0) (chain_of c.place_counting-fresh.new.self live.slot.0) _ b.stood next c.forwarded-new.ensures.value b.kept_is b.framed (b.octets_are ∙ ap (take t.size) (sym c.deref.ensures.value)) at.octets placed.octets in
-    stands_written settings c.args.self.now _ calls c.args.now d live _ (b.frame ∷ []) o st
-    (opened_kept settings c.args.self.now _ st.opened (ap (λ (x : table.Table EraKey Flow). x.max) c.write_back.ensures.entries) placed.changed.number (ap (λ (s : Store). s.cells) placed.changed.others) refl refl refl refl refl)
-    refl refl refl c.requires.later held b.key_is refl refl c.write_back.ensures.entries placed.changed (c.settled.ensures.stands (ws ++ b.frame ∷ []) next) keeps
-    c.chain_is_counted.ensures.map c.chain_is_counted.ensures.held (wrote_these 0 live.flow.number d b.more (b.frame ∷ []) o b.writes b.own)
+    record {
+      stands = stands_written settings c.args.self.now _ calls c.args.now d live _ (b.frame ∷ []) o st
+          (opened_kept settings c.args.self.now _ st.opened (ap (λ (x : table.Table EraKey Flow). x.max) c.write_back.ensures.entries) placed.changed.number (ap (λ (s : Store). s.cells) placed.changed.others) refl refl refl refl refl)
+          refl refl refl c.requires.ready.later held b.key_is refl refl c.write_back.ensures.entries placed.changed (c.settled.ensures.stands (ws ++ b.frame ∷ []) next) keeps
+          c.chain_is_counted.ensures.map c.chain_is_counted.ensures.held (wrote_these 0 live.flow.number d b.more (b.frame ∷ []) o b.writes b.own);
+      scratch_is = refl;
+    }
 
 pub forwarded-new-requires-clause-few : goal.forwarded-new-requires-clause-few
 forwarded-new-requires-clause-few c = omega (
   arith,
   c.requires.can.few,
-  c.requires.few,
+  c.requires.ready.few,
   c.place_counting-fresh.ensures.most,
   length-take-le c.args.taking.now.size c.deref.result.now (omega (arith, c.deref.ensures.len, c.args.self.now.room, c.requires.can.fits)),
   c.requires.can.fits,

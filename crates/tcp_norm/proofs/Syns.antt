@@ -1,0 +1,148 @@
+-- A SYN of a connection that has a live era: T_STATE or T_SYN drops it, or it is written.
+use Rattle.std.proofs.Common.{◌≡◌, ℕ, ◌+◌, ◌-◌, ◌%◌, ◌==◌, ◌&&◌, ◌||◌, not, Bool, true, false, cond, List, [], ◌∷◌, length, Option, Some, None, refl, sym, ap, ap₂, subst, ◌∙◌, arith}
+use Rattle.std.specs.Prelude.{nat_lt}
+use Rattle.wire_base.specs.Tcp as tcp
+use Rattle.wire_base.specs.Options.{cleaned}
+use Rattle.wire_base.specs.Segments.{Written}
+use Rattle.wire_base.specs.declared.address.FlowKey.{FlowKey}
+use Rattle.ip_rules.specs.Datagrams.{Datagram, goes_in, IsDatagram}
+use Rattle.rule_book.specs.declared.rule.Rule.{Rule}
+use Rattle.rule_book.specs.declared.rule.Rule.TheVariants as rules
+use Rattle.rule_book.specs.declared.entry.Verdict.TheVariants as verdicts
+use Rattle.norm_settings.specs.Settings.{PlainSettings}
+use Rattle.tcp_codec.specs.Write.{AreReadBack}
+use Rattle.era_state.specs.declared.segment.Seg.{Seg}
+use Rattle.era_state.specs.Read.{came}
+use Rattle.era_state.specs.Rules.{t_state, t_syn, reopens_inward}
+use Rattle.era_state.specs.Eras as eras
+use Rattle.era_state.specs.Quantities.{octets_of}
+use Rattle.cold_start.specs.Rules.{cold_probe_of}
+use Rattle.reset_probe.specs.Rules.{era_probe}
+use Rattle.tcp_norm.specs.declared.arrival.Arrival.{Arrival}
+use Rattle.tcp_norm.specs.declared.flow.Live.{Live}
+use Rattle.tcp_norm.specs.declared.ruling.Refusal.{Refusal}
+use Rattle.tcp_norm.specs.declared.state.TcpNorm.{TcpNorm}
+use Rattle.tcp_norm.specs.declared.step.Step.{Step}
+use Rattle.tcp_norm.specs.Anews.{anew_segment}
+use Rattle.tcp_norm.specs.Calls.{Call, segments, segment_in, key_of}
+use Rattle.tcp_norm.specs.Views.{View, view_of}
+use Rattle.tcp_norm.specs.Colds.{Comes}
+use Rattle.tcp_norm.specs.Heads.{AreBits}
+use Rattle.tcp_norm.specs.Rows.{dropped_by, differ}
+use Rattle.tcp_norm.specs.Emits.{packet_by, probe_packets, segment_anew}
+use Rattle.tcp_norm.specs.Inwards.{bare_read, passed}
+use Rattle.tcp_norm.specs.Outcomes.{outcome_at}
+use Rattle.tcp_norm.specs.Rulings.{refused_by, IsFound}
+use Rattle.tcp_norm.specs.Standing.{StandsFor}
+use Rattle.tcp_norm.specs.Steps.{IsStep, Does, continued_in, reopened_by}
+use Rattle.tcp_norm.specs.Streams.{bare_rows}
+use Rattle.tcp_norm.proofs.Bares.{bare_anew}
+use Rattle.tcp_norm.proofs.Beside.{beside_are}
+use Rattle.tcp_norm.proofs.Calleds.{state_same, syn_same, again_same, called_dropped, step_seen, step_recalled, no_reset}
+use Rattle.tcp_norm.proofs.Colding as colding
+use Rattle.tcp_norm.proofs.Entering.{in_dropped, in_outcome, in_does, packets_live}
+use Rattle.tcp_norm.proofs.Marked.{bare_writes, call_stream, call_probes, syn_marked}
+use Rattle.tcp_norm.proofs.OfLive.{of_live}
+use Rattle.tcp_norm.proofs.Resetting.{probe_same}
+use Rattle.tcp_norm.proofs.Ruled.{bare_carried}
+
+-- the rule table says the same of it as this refusal
+pub record Drops (settings : PlainSettings) (v : View) (d : Datagram) (r : Refusal) : Type 0 where
+  pub drops : dropped_by settings v d ≡ Some r.rule
+  pub outcome_is : outcome_at settings v d ≡ record { verdict = verdicts.Drop; rules = r.rule ∷ []; era = r.era; begun = None; ended = []; packets = probe_packets settings d r.probe }
+
+abbrev pub Refuses : PlainSettings → View → Datagram → Option Refusal → Type 0
+Refuses settings v d None = dropped_by settings v d ≡ None
+Refuses settings v d (Some r) = Drops settings v d r
+
+pub syn_refused : (settings : PlainSettings) (v : View) (d : Datagram) (n : ℕ) (ws : List Written) (key : FlowKey) (s : Seg) (r : Option Refusal)
+    → v.era ≡ Some n → v.segments ≡ ws → Comes d key s → tcp.has_syn (segment_in d).flags ≡ true → tcp.has_rst (segment_in d).flags ≡ false
+    → r ≡ refused_by ws (came s) n → Refuses settings v d r
+syn_refused settings v d n ws key s r live segments is syn rst found = subst (Refuses settings v d) (sym found) (cases (t_state ws (came s)) (t_syn ws (came s)) refl refl)
+  where
+    state : t_state v.segments (segment_in d) ≡ t_state ws (came s)
+    state = sym (state_same v.segments d key s is) ∙ ap (λ l. t_state l (came s)) segments
+
+    stray : t_syn v.segments (segment_in d) ≡ t_syn ws (came s)
+    stray = sym (syn_same v.segments d key s is) ∙ ap (λ l. t_syn l (came s)) segments
+
+    rule : (a b : Bool) → t_state ws (came s) ≡ a → t_syn ws (came s) ≡ b → dropped_by settings v d ≡ cond a (Some rules.TState) (cond b (Some rules.TSyn) None)
+    rule a b e t = called_dropped settings v d n is.side live syn rst ∙ ap₂ (λ x y. cond x (Some rules.TState) (cond y (Some rules.TSyn) None)) (state ∙ e) (stray ∙ t)
+
+    probe : era_probe v.segments (segment_in d) ≡ era_probe ws (came s)
+    probe = ap (λ l. era_probe l (segment_in d)) segments ∙ sym (probe_same ws d key s is)
+
+    cases : (a b : Bool) → t_state ws (came s) ≡ a → t_syn ws (came s) ≡ b
+        → Refuses settings v d (cond a (Some (record { rule = rules.TState; era = Some n; probe = Some (cold_probe_of (came s)) })) (cond b (Some (record { rule = rules.TSyn; era = Some n; probe = era_probe ws (came s) })) None))
+    cases true b e t = record {
+      drops = rule true b e t;
+      outcome_is = in_dropped settings v d rules.TState (Some n) _ (rule true b e t) live (ap (λ p. probe_packets settings d (Some p)) (sym (colding.probe_same d key s is)));
+    }
+    cases false true e t = record {
+      drops = rule false true e t;
+      outcome_is = in_dropped settings v d rules.TSyn (Some n) _ (rule false true e t) live (ap (probe_packets settings d) probe);
+    }
+    cases false false e t = rule false false e t
+
+-- one that passes continues the era, or ends it and begins the next
+step_by : (v : View) (w : Written) (n : ℕ) (again : Bool) → v.era ≡ Some n → w.inward ≡ true → reopens_inward v.segments w ≡ again
+    → IsStep v w (cond again (reopened_by n v.next (octets_of v.segments)) (continued_in n))
+step_by v w n true live inward is = step_recalled v w n live inward is
+step_by v w n false live inward is = step_seen v w n live inward is
+
+by_full : (again : Bool) (n next octets : ℕ) → (λ (x : Step). x.full) (cond again (reopened_by n next octets) (continued_in n)) ≡ false
+by_full true n next octets = refl
+by_full false n next octets = refl
+
+-- it is written, with these rules, as a segment without octets
+pub record OfSyn (settings : PlainSettings) (calls : List Call) (d : Datagram) (a : Arrival) (here : Live) (s : Seg) (named : List Rule) (step : Step) : Type 0 where
+  pub outcome_is : outcome_at settings (view_of settings calls d) d ≡ passed step d.fixes named (packet_by settings (view_of settings calls d).segments d d.fixes named ∷ [])
+  pub does : Does d (came s) step (outcome_at settings (view_of settings calls d) d)
+  pub carried : segment_anew (view_of settings calls d).segments d
+      ≡ anew_segment a.packet.now.head a.head.now a.head.now.seq true (cleaned (tcp.has_syn a.head.now.flags.0) (tcp.options a.packet.now.payload.now)) []
+  pub side : goes_in d.side ≡ true
+  pub key_is : here.key ≡ key_of d
+  pub stood : eras.StandsFor here.flow.era (segments here.flow.number calls)
+
+pub of_syn : AreReadBack → (settings : PlainSettings) (calls : List Call) (d : Datagram) (a : Arrival) (norm : TcpNorm) (here : Live) (s : Seg) (changed again : Bool) (named : List Rule) (step : Step)
+    → StandsFor settings norm calls → IsDatagram a.packet.now a.link.now d → IsFound norm a here → AreBits a.packet.now.head a.packet.now.payload.now
+    → tcp.has_syn a.head.now.flags.0 ≡ true → came s ≡ bare_read a.packet.now.payload.now
+    → changed ≡ differ (cleaned (tcp.has_syn a.head.now.flags.0) (tcp.options a.packet.now.payload.now)) (tcp.options a.packet.now.payload.now)
+    → length (cleaned (tcp.has_syn a.head.now.flags.0) (tcp.options a.packet.now.payload.now)) % 4 ≡ 0
+    → 20 + length (cleaned (tcp.has_syn a.head.now.flags.0) (tcp.options a.packet.now.payload.now)) ≡ a.head.now.header
+    → named ≡ bare_rows (not (a.head.now.reserved == 0)) (tcp.has_urg a.head.now.flags.0 || not (a.head.now.urgent == 0)) changed
+    ((tcp.has_syn a.head.now.flags.0 || tcp.has_rst a.head.now.flags.0) && nat_lt 0 (length a.packet.now.payload.now - a.head.now.header)) false
+    → ((ws : List Written) → eras.StandsFor here.flow.era ws → None ≡ refused_by ws (came s) here.flow.number)
+    → ((ws : List Written) → eras.StandsFor here.flow.era ws → again ≡ reopens_inward ws (came s))
+    → ((ws : List Written) → eras.StandsFor here.flow.era ws → step ≡ cond again (reopened_by here.flow.number (norm.begun + 1) (octets_of ws)) (continued_in here.flow.number))
+    → OfSyn settings calls d a here s named step
+of_syn back settings calls d a norm here s changed again named step st is found bits has reads cleans words size rows refuses reopens steps =
+    let n = here.flow.number in
+    let v = view_of settings calls d in
+    let w = segment_in d in
+    let l = of_live settings calls d a norm here st is found in
+    let ws = segments n calls in
+    let live = l.live.era_is in
+    let comes = l.comes s reads in
+    let syn : tcp.has_syn w.flags ≡ true = sym (ap tcp.has_syn l.flags) ∙ has in
+    let rst = no_reset w.flags (sym (ap tcp.are_legal l.flags) ∙ a.read.legal) syn in
+    let none = syn_refused settings v d n ws here.key s None live l.live.segments_are comes syn rst (refuses ws l.stood) in
+    let recalls = sym (again_same v.segments d here.key s comes) ∙ (ap (λ x. reopens_inward x (came s)) l.live.segments_are ∙ sym (reopens ws l.stood)) in
+    let next : norm.begun + 1 ≡ v.next = omega (arith, st.begun_is) in
+    let made : step ≡ cond again (reopened_by n v.next (octets_of v.segments)) (continued_in n) =
+    steps ws l.stood ∙ ap₂ (λ k o. cond again (reopened_by n k o) (continued_in n)) next (sym (ap octets_of l.live.segments_are)) in
+    let stream = call_stream v w n live l.side syn in
+    let probes = call_probes v w n live l.side rst in
+    let marked = syn_marked w syn in
+    let mends = beside_are settings v d a.packet.now.payload.now a.head.now changed false named a.read.fields is.octets l.side stream probes cleans rows in
+    let writes = bare_writes back settings v d a.packet.now a.link.now a.head.now false named s l.side is bits a.read _ refl words size marked stream probes mends reads in
+    let outcome = in_outcome settings v d step d.fixes named _ l.side refl none mends (subst (IsStep v w) (sym made) (step_by v w n again live l.side recalls))
+    (ap (λ (x : Step). x.full) made ∙ by_full again n v.next (octets_of v.segments)) (packets_live settings v d named n live rst) in
+    record {
+      outcome_is = outcome;
+      does = subst (Does d (came s) step) (sym outcome) (in_does d (came s) step d.fixes named _ writes);
+      carried = bare_carried v.segments d a.packet.now a.link.now a.head.now is a.read (bare_anew v.segments d marked);
+      side = l.side;
+      key_is = sym l.key_is;
+      stood = l.stood;
+    }
