@@ -15,7 +15,6 @@ abbrev pub EraIsSound : (hops : ℕ) → Option ℕ → (places : ℕ → List �
 EraIsSound hops (Some base) places packets = EraAgrees hops base (places base) packets
 EraIsSound hops None places packets = All IsSilentPacket packets
 
--- In each era any two receivers of the family behind at most `hops` routers deliver streams of which one is a prefix of the other, whichever packets sent
--- inwards reach them in time, how often and in which order.
+-- Each era is sound: with the base that its written segments fix, if any, and the offsets of the packets sent inwards from that base.
 abbrev pub Agree : (hops : ℕ) → List Sent → Type 0
 Agree hops sent = (era : ℕ) → EraIsSound hops (base_of (written_in era sent)) (λ base. inward_places era base sent) (inward_packets era sent)

@@ -5,8 +5,8 @@ use Rattle.wire_base.specs.Segments.{Segment, Written, segment_of, written_of}
 use Rattle.era_state.specs.Offsets.{off}
 use Rattle.era_state.specs.Quantities.{acked}
 
--- the packets sent for one record, in order: whether they went inwards, the era that they belong to, if any, and whether they are written segments of it; the
--- probe that is sent for a dropped record is not one
+-- The packets sent for one record, in order: whether they went inwards, the era that they belong to, if any, and whether they are written segments of it. The
+-- probe that is sent for a dropped record is not one: receivers read it, but neither the base nor Acked depends on it.
 pub record Sent : Type 0 where
   pub inward : Bool
   pub era : Option ℕ
@@ -51,8 +51,8 @@ placed_at base acked (Some s) = off base acked s.sequence
 abbrev pub place_of : (base acked : ℕ) → List ℕ → ℤ
 place_of base acked p = placed_at base acked (segment_of p)
 
--- The offsets of the packets that went inwards in an era, each read relative to Acked before its record. Before the base is fixed Acked is 0 if no ACK was sent
--- outwards, as in each era that norm tracks: a RST with ACK ends the era there.
+-- The offsets of the packets that went inwards in an era, each read relative to Acked before its record. Before the base is fixed Acked is 0, since no ACK was
+-- sent outwards in the era: the first one fixes the base, and a RST with ACK ends the era.
 abbrev pub inward_places : (era base : ℕ) → List Sent → List ℤ
 inward_places era base [] = []
 inward_places era base (s ∷ older) =

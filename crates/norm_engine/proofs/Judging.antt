@@ -418,6 +418,7 @@ module _ (settings : PlainSettings) (link : Link) (past : Past) (r : Packet) (d 
         is = stands.is;
         known = stands.known;
         told = told;
+        frame = stands.record_frame;
         protocol = eqb-true d.head.protocol 6 (and_parts (d.head.protocol == 6) (is_none (find (holds_tcp settings d) segment_rows)) follows.0).0;
         held = made.held;
         dropped = rows.dropped;

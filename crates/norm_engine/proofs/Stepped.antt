@@ -1,5 +1,5 @@
 -- What the engine represents after a record.
-use Rattle.std.proofs.Common.{◌≡◌, ℕ, ◌+◌, ◌≤◌, ◌==◌, Bool, true, List, [], ◌∷◌, ◌++◌, length, take, Some, None, refl, sym, ap, ap₂, subst, ◌∙◌, arith, if◌then◌else◌}
+use Rattle.std.proofs.Common.{◌≡◌, ℕ, ◌+◌, ◌≤◌, ◌==◌, Bool, true, false, List, [], ◌∷◌, ◌++◌, length, take, Some, None, refl, sym, ap, ap₂, subst, ◌∙◌, arith, if◌then◌else◌}
 use Rattle.std.proofs.Math.Logic.{∥∥₁_elim}
 use Rattle.std.specs.Coded.{le_prop}
 use Rattle.std.proofs.lemmas.Bool.{eqb-true}
@@ -35,7 +35,8 @@ use Rattle.norm_engine.specs.Fragments.{fragment_in, piece_calls, with_offered}
 use Rattle.norm_engine.specs.Calls.{Past, past_of, flow_calls}
 use Rattle.norm_engine.specs.Frames.{octets_sent, mended_frame, frame_by}
 use Rattle.norm_engine.specs.Trace.{Read, read_after, is_held, item_of, named_rows, frames_by, emits}
-use Rattle.norm_engine.specs.Engine.{Engaged, StandsFor, IsTaken, IsSent, Judges, Fits, is_as_read, frames_for, frame_for, frame_with, payload_for}
+use Rattle.norm_engine.specs.Engine.{Engaged, StandsFor, IsTaken, IsSent, Judges, Fits, is_as_read, frames_for, frame_for, frame_with, frames_given, payload_for}
+use Rattle.tcp_norm.specs.Passing.{given, IsUnsent}
 use Rattle.norm_engine.proofs.Stepping.{taken_rows, segment_calls, plain_calls, plain_frames}
 use Rattle.norm_engine.proofs.Lawfuls.{both_of, segment_known, long_enough}
 
@@ -181,3 +182,12 @@ pub other_stands : (old new : Engaged) (history : List Item) (r : records.Packet
     → StandsFor new (item_of old.settings old.link history r ∷ history)
 other_stands old new history r none stands settings link counted latest norm pieces =
     stands_with old new history r stands settings link counted latest (subst (flows.StandsFor old.settings new.norm) (sym (plain_calls old.settings old.link history r none)) norm) pieces
+
+-- the frames of a segment, of which the frame that was read is that of its record
+pub as_given : (as_read : Bool) (frame octets : List ℕ) (out : List (List ℕ)) → frame ≡ octets → frames_given as_read octets out ≡ given as_read frame out
+as_given true frame octets out is = ap (λ (xs : List ℕ). xs ∷ []) (sym is)
+as_given false frame octets out is = refl
+
+pub unsent_of : (as_read : Bool) (frame : List ℕ) (out : List (List ℕ)) → IsUnsent as_read frame out → as_read ≡ true → (out ≡ []) × (length frame ≤ 65549)
+unsent_of true frame out is read = is
+unsent_of false frame out is read = absurd (cc)

@@ -191,6 +191,7 @@ pub record IsTaken (settings : PlainSettings) (link : Link) (read : Read) (r : P
   pub is : IsDatagram packet (link_octets link r.octets) own
   pub known : IsKnown settings own
   pub told : side_of_record settings link r ≡ Some packet.side
+  pub frame : packet.frame.now ≡ r.octets
   pub protocol : own.head.protocol ≡ 6
   pub held : is_held read ≡ false
   pub dropped : dropped_by settings link read r ≡ era.dropped_by settings (view_of settings read.past.calls own) own

@@ -1,7 +1,6 @@
 //! The engine: each record of a capture is one step.
 use crate::entries::{blank_entry, renew, tell};
 use crate::judge::{Decision, Parsed, judge};
-use crate::segment::take;
 use crate::send::{MAX_PAYLOAD, send};
 use edge_io::{NoMemory, Outbox};
 use ip_rules::write::put_read;
@@ -200,16 +199,7 @@ impl Engine {
             Decision::Segment => {
                 entry.side = Some(parsed.packet.side);
                 let link = link_octets(self.link, input.bytes);
-                take(
-                    &mut self.norm,
-                    self.latest,
-                    &parsed.packet,
-                    link,
-                    &parsed.head,
-                    out,
-                    entry,
-                );
-                false
+                self.norm.take_into(self.latest, &parsed.packet, link, &parsed.head, out, entry)
             }
             decision => {
                 let as_read = send(

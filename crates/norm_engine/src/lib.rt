@@ -17,11 +17,7 @@ pub mod engine;
 mod entries;
 mod judge;
 pub mod laws;
-mod segment;
 mod send;
 
 pub use engine::Engine;
 pub use entries::blank_entry;
-
-#[cfg(test)]
-mod tests;

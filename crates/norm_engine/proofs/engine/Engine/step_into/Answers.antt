@@ -1,4 +1,4 @@
-use Rattle.std.proofs.Common.{rules, ◌≡◌, ◌<◌, ◌≤◌, ◌+◌, ◌-◌, ◌^◌, List, ◌∷◌, length, max, Some, refl, sym, ap, subst, ◌∙◌, arith}
+use Rattle.std.proofs.Common.{rules, ◌≡◌, ◌<◌, ◌≤◌, ◌+◌, ◌-◌, ◌^◌, ℕ, List, ◌∷◌, length, max, Some, refl, sym, ap, subst, ◌∙◌, arith}
 use Rattle.std.proofs.Math.Logic.{∥∥₁_map, ∥∥₁_elim}
 use Rattle.std.specs.Coded.{le_prop}
 use Rattle.std.proofs.Math.Nat.{ℕ_set}
@@ -27,7 +27,7 @@ use Rattle.norm_engine.specs.Calls.{past_of, flow_calls}
 use Rattle.norm_engine.specs.Trace.{item_of, read_after, outcome_of}
 use Rattle.norm_engine.specs.Engine.{Engaged, StandsFor, read_with, entry_for, frames_given}
 use Rattle.norm_engine.proofs.Stepping.{segment_entry, segment_frames, taken_rows, other_entry}
-use Rattle.norm_engine.proofs.Stepped.{past_with, few_idle, room_for, no_segment, no_segment_of, short_read, other_frames, pieces_stand, segment_stands, other_stands}
+use Rattle.norm_engine.proofs.Stepped.{past_with, as_given, unsent_of, few_idle, room_for, no_segment, no_segment_of, short_read, other_frames, pieces_stand, segment_stands, other_stands}
 use Rattle.norm_engine.proofs.engine.Engine.step_into.Goals as goal
 
 pub expire-requires-clause-later : goal.expire-requires-clause-later
@@ -36,37 +36,37 @@ expire-requires-clause-later c = ∥∥₁_elim c.self.invariant.2 le_prop (λ k
 pub expire-forgotten-requires : goal.expire-forgotten-requires
 expire-forgotten-requires c = ∥∥₁_elim c.self.invariant.2 le_prop (λ k. let now = c.max-self-inside.ensures in let passed = k.passed in omega (arith, now, passed))
 
-pub take-requires-clause-short : goal.take-requires-clause-short
-take-requires-clause-short c = ∥∥₁_elim c.self.invariant.2 le_prop (λ k. (c.in-Segment.ensures.rows (past_with (plain_settings c.self.inside.settings) c.max-self-inside.result k.calls k.offers) (c.expire.ensures.stands (plain_settings c.self.inside.settings) k.calls k.stands) (c.expire-forgotten.ensures.stands (plain_settings c.self.inside.settings) k.offers k.holds)).fits)
+pub take_into-requires-clause-short : goal.take_into-requires-clause-short
+take_into-requires-clause-short c = ∥∥₁_elim c.self.invariant.2 le_prop (λ k. (c.in-Segment.ensures.rows (past_with (plain_settings c.self.inside.settings) c.max-self-inside.result k.calls k.offers) (c.expire.ensures.stands (plain_settings c.self.inside.settings) k.calls k.stands) (c.expire-forgotten.ensures.stands (plain_settings c.self.inside.settings) k.offers k.holds)).fits)
 
-pub take-requires-clause-fields : goal.take-requires-clause-fields
-take-requires-clause-fields c =
+pub take_into-requires-clause-fields : goal.take_into-requires-clause-fields
+take_into-requires-clause-fields c = λ outward.
     let six : c.judge.new.parsed.packet.head.protocol ≡ 6 = ∥∥₁_elim c.self.invariant.2 (hlevel ℕ_set) (λ k.
     let t = (c.in-Segment.ensures.rows (past_with (plain_settings c.self.inside.settings) c.max-self-inside.result k.calls k.offers) (c.expire.ensures.stands (plain_settings c.self.inside.settings) k.calls k.stands) (c.expire-forgotten.ensures.stands (plain_settings c.self.inside.settings) k.offers k.holds)) in
     sym (ap (λ (h : Ipv4). h.protocol) t.is.head) ∙ t.protocol) in
     c.in-Segment.ensures.read.fields
     ∙ ap (λ n. fields_of (pseudo_sum c.judge.new.parsed.packet.head.src.0 c.judge.new.parsed.packet.head.dst.0 n (length c.judge.new.parsed.packet.payload.now)) c.judge.new.parsed.packet.payload.now) six
 
-pub take-requires-clause-frame : goal.take-requires-clause-frame
-take-requires-clause-frame c = λ none. ∥∥₁_elim c.self.invariant.2 le_prop (λ k. (c.in-Segment.ensures.rows (past_with (plain_settings c.self.inside.settings) c.max-self-inside.result k.calls k.offers) (c.expire.ensures.stands (plain_settings c.self.inside.settings) k.calls k.stands) (c.expire-forgotten.ensures.stands (plain_settings c.self.inside.settings) k.offers k.holds)).short none)
+pub take_into-requires-clause-frame : goal.take_into-requires-clause-frame
+take_into-requires-clause-frame c = λ none. ∥∥₁_elim c.self.invariant.2 le_prop (λ k. (c.in-Segment.ensures.rows (past_with (plain_settings c.self.inside.settings) c.max-self-inside.result k.calls k.offers) (c.expire.ensures.stands (plain_settings c.self.inside.settings) k.calls k.stands) (c.expire-forgotten.ensures.stands (plain_settings c.self.inside.settings) k.offers k.holds)).short none)
 
-pub take-requires-clause-fixes : goal.take-requires-clause-fixes
-take-requires-clause-fixes c = ∥∥₁_elim c.self.invariant.2 le_prop (λ k. (c.in-Segment.ensures.rows (past_with (plain_settings c.self.inside.settings) c.max-self-inside.result k.calls k.offers) (c.expire.ensures.stands (plain_settings c.self.inside.settings) k.calls k.stands) (c.expire-forgotten.ensures.stands (plain_settings c.self.inside.settings) k.offers k.holds)).few)
+pub take_into-requires-clause-fixes : goal.take_into-requires-clause-fixes
+take_into-requires-clause-fixes c = ∥∥₁_elim c.self.invariant.2 le_prop (λ k. (c.in-Segment.ensures.rows (past_with (plain_settings c.self.inside.settings) c.max-self-inside.result k.calls k.offers) (c.expire.ensures.stands (plain_settings c.self.inside.settings) k.calls k.stands) (c.expire-forgotten.ensures.stands (plain_settings c.self.inside.settings) k.offers k.holds)).few)
 
-pub take-requires-clause-ended : goal.take-requires-clause-ended
-take-requires-clause-ended c = ∥∥₁_elim c.self.invariant.2 le_prop (λ k.
+pub take_into-requires-clause-ended : goal.take_into-requires-clause-ended
+take_into-requires-clause-ended c = ∥∥₁_elim c.self.invariant.2 le_prop (λ k.
     subst (λ es. length es ≤ 2) (sym (c.expire.ensures.entry (plain_settings c.self.inside.settings) k.calls k.stands)) (few_idle (plain_settings c.self.inside.settings) c.max-self-inside.result k.calls (λ number. segments number k.calls)))
 
-pub take-requires-clause-few : goal.take-requires-clause-few
-take-requires-clause-few c = ∥∥₁_elim c.self.invariant.2 le_prop (λ k.
+pub take_into-requires-clause-few : goal.take_into-requires-clause-few
+take_into-requires-clause-few c = ∥∥₁_elim c.self.invariant.2 le_prop (λ k.
     let new = (c.expire.ensures.stands (plain_settings c.self.inside.settings) k.calls k.stands).calls_is in
     let old = k.stands.calls_is in
     let few = k.few in
     let records : c.self.inside.records < 2 ^ 32 - 1 = subst (λ (e : Engaged). e.records < 2 ^ 32 - 1) (sym c.self.view_is) c.requires in
     omega (arith, new, old, few, records))
 
-pub take-requires-clause-later : goal.take-requires-clause-later
-take-requires-clause-later c = ∥∥₁_elim c.self.invariant.2 le_prop (λ k.
+pub take_into-requires-clause-later : goal.take_into-requires-clause-later
+take_into-requires-clause-later c = ∥∥₁_elim c.self.invariant.2 le_prop (λ k.
     let new = (c.expire.ensures.stands (plain_settings c.self.inside.settings) k.calls k.stands).latest_is in
     let old = k.stands.latest_is in
     let later = k.later in
@@ -82,7 +82,7 @@ invariant_of-self c = (
       let before = (c.expire.ensures.stands (plain_settings c.self.inside.settings) k.calls k.stands) in
       let calls = expiry_of (plain_settings c.self.inside.settings) k.calls c.max-self-inside.result ∷ k.calls in
       let is = subst (λ link. IsDatagram c.judge.new.parsed.packet link t.own) (sym c.link_octets-link.ensures.octets) t.is in
-      let stands = c.take.ensures.stands (plain_settings c.self.inside.settings) calls t.own before is in
+      let stands = c.take_into.ensures.stands (plain_settings c.self.inside.settings) calls t.own before is in
       let latest = stands.latest_is in
       let asked = stands.calls_is in
       let old = k.stands.calls_is in
@@ -118,7 +118,7 @@ invariant_of-self-in_default c = (
 )
 
 pub returns-in-Segment-clause-entry : goal.returns-in-Segment-clause-entry
-returns-in-Segment-clause-entry c = subst (λ (e : Engaged). (history : List Item) → StandsFor e history → plain c.take.new.entry ≡ (item_of e.settings e.link history (shown c.args.input.now)).entry) c.self.view_is (λ history stands.
+returns-in-Segment-clause-entry c = subst (λ (e : Engaged). (history : List Item) → StandsFor e history → plain c.take_into.new.entry ≡ (item_of e.settings e.link history (shown c.args.input.now)).entry) c.self.view_is (λ history stands.
     let calls = flow_calls (plain_settings c.self.inside.settings) c.self.inside.link history in
     let now : c.max-self-inside.result ≡ now_with history (shown c.args.input.now) = c.max-self-inside.ensures ∙ ap (λ n. max n c.args.input.now.seconds) stands.latest in
     let before = subst (λ n. flows.StandsFor (plain_settings c.self.inside.settings) c.expire.new.self (expiry_of (plain_settings c.self.inside.settings) calls n ∷ calls)) now (c.expire.ensures.stands (plain_settings c.self.inside.settings) calls stands.flows) in
@@ -130,11 +130,19 @@ returns-in-Segment-clause-entry c = subst (λ (e : Engaged). (history : List Ite
     let is = subst (λ link. IsDatagram c.judge.new.parsed.packet link t.own) (sym c.link_octets-link.ensures.octets) t.is in
     let entry = c.expire.ensures.rest in
     let number : c.expire.new.entry.number ≡ length history + 1 = ap (λ (e : Entry). e.number) entry ∙ (ap (λ (e : PlainEntry). e.number) c.renew.ensures ∙ ap (λ n. n + 1) stands.counted) in
-    segment_entry (plain_settings c.self.inside.settings) c.self.inside.link read (shown c.args.input.now) c.judge.new.parsed.packet c.judge.new.parsed.head (length history + 1) (record c.expire.new.entry { side = Some c.judge.new.parsed.packet.side }) c.take.new.entry t number refl idle
-    (c.take.ensures.entry (plain_settings c.self.inside.settings) past.calls t.own before is))
+    segment_entry (plain_settings c.self.inside.settings) c.self.inside.link read (shown c.args.input.now) c.judge.new.parsed.packet c.judge.new.parsed.head (length history + 1) (record c.expire.new.entry { side = Some c.judge.new.parsed.packet.side }) c.take_into.new.entry t number refl idle
+    (c.take_into.ensures.entry (plain_settings c.self.inside.settings) past.calls t.own before is))
+
+pub returns-in-Segment-clause-empty : goal.returns-in-Segment-clause-empty
+returns-in-Segment-clause-empty c = λ read. (unsent_of c.take_into.result c.judge.new.parsed.packet.frame.now c.take_into.new.out c.take_into.ensures.unsent read).0
+
+pub returns-in-Segment-clause-short : goal.returns-in-Segment-clause-short
+returns-in-Segment-clause-short c = λ read. ∥∥₁_elim c.self.invariant.2 le_prop (λ k.
+    let t = (c.in-Segment.ensures.rows (past_with (plain_settings c.self.inside.settings) c.max-self-inside.result k.calls k.offers) (c.expire.ensures.stands (plain_settings c.self.inside.settings) k.calls k.stands) (c.expire-forgotten.ensures.stands (plain_settings c.self.inside.settings) k.offers k.holds)) in
+    subst (λ (xs : List ℕ). length xs ≤ 65549) t.frame (unsent_of c.take_into.result c.judge.new.parsed.packet.frame.now c.take_into.new.out c.take_into.ensures.unsent read).1)
 
 pub returns-in-Segment-clause-frames : goal.returns-in-Segment-clause-frames
-returns-in-Segment-clause-frames c = subst (λ (e : Engaged). (history : List Item) → StandsFor e history → c.take.new.out ≡ (item_of e.settings e.link history (shown c.args.input.now)).frames) c.self.view_is (λ history stands.
+returns-in-Segment-clause-frames c = subst (λ (e : Engaged). (history : List Item) → StandsFor e history → frames_given c.take_into.result c.args.input.now.bytes.now c.take_into.new.out ≡ (item_of e.settings e.link history (shown c.args.input.now)).frames) c.self.view_is (λ history stands.
     let calls = flow_calls (plain_settings c.self.inside.settings) c.self.inside.link history in
     let now : c.max-self-inside.result ≡ now_with history (shown c.args.input.now) = c.max-self-inside.ensures ∙ ap (λ n. max n c.args.input.now.seconds) stands.latest in
     let before = subst (λ n. flows.StandsFor (plain_settings c.self.inside.settings) c.expire.new.self (expiry_of (plain_settings c.self.inside.settings) calls n ∷ calls)) now (c.expire.ensures.stands (plain_settings c.self.inside.settings) calls stands.flows) in
@@ -144,13 +152,14 @@ returns-in-Segment-clause-frames c = subst (λ (e : Engaged). (history : List It
     let idle : c.expire.new.entry.ended.items ≡ past.idle = c.expire.ensures.entry (plain_settings c.self.inside.settings) calls stands.flows ∙ ap (λ n. idled (λ number. segments number calls) (idle_at (plain_settings c.self.inside.settings) n calls)) now in
     let t = c.in-Segment.ensures.rows past before gone in
     let is = subst (λ link. IsDatagram c.judge.new.parsed.packet link t.own) (sym c.link_octets-link.ensures.octets) t.is in
-    c.take.ensures.frames (plain_settings c.self.inside.settings) past.calls t.own before is
-    ∙ (ap (λ link. frames_of link (outcome_of (plain_settings c.self.inside.settings) read t.own).packets) c.link_octets-link.ensures.octets
+    as_given c.take_into.result c.judge.new.parsed.packet.frame.now c.args.input.now.bytes.now c.take_into.new.out t.frame
+    ∙ (c.take_into.ensures.frames (plain_settings c.self.inside.settings) past.calls t.own before is
+    ∙ ap (λ link. frames_of link (outcome_of (plain_settings c.self.inside.settings) read t.own).packets) c.link_octets-link.ensures.octets
     ∙ sym (segment_frames (plain_settings c.self.inside.settings) c.self.inside.link read (shown c.args.input.now) t.own (taken_rows (plain_settings c.self.inside.settings) c.self.inside.link read (shown c.args.input.now) c.judge.new.parsed.packet c.judge.new.parsed.head t))))
 
 pub returns-in-Segment-clause-stands : goal.returns-in-Segment-clause-stands
 returns-in-Segment-clause-stands c = subst (λ (e : Engaged). (history : List Item) → StandsFor e history
-    → StandsFor (record { settings = (plain_settings c.self.inside.settings); link = c.self.inside.link; records = c.self.inside.records + 1; latest = c.max-self-inside.result; norm = c.take.new.norm; pieces = c.judge.new.pieces }) (item_of e.settings e.link history (shown c.args.input.now) ∷ history)) c.self.view_is (λ history stands.
+    → StandsFor (record { settings = (plain_settings c.self.inside.settings); link = c.self.inside.link; records = c.self.inside.records + 1; latest = c.max-self-inside.result; norm = c.take_into.new.self; pieces = c.judge.new.pieces }) (item_of e.settings e.link history (shown c.args.input.now) ∷ history)) c.self.view_is (λ history stands.
     let calls = flow_calls (plain_settings c.self.inside.settings) c.self.inside.link history in
     let now : c.max-self-inside.result ≡ now_with history (shown c.args.input.now) = c.max-self-inside.ensures ∙ ap (λ n. max n c.args.input.now.seconds) stands.latest in
     let before = subst (λ n. flows.StandsFor (plain_settings c.self.inside.settings) c.expire.new.self (expiry_of (plain_settings c.self.inside.settings) calls n ∷ calls)) now (c.expire.ensures.stands (plain_settings c.self.inside.settings) calls stands.flows) in
@@ -161,9 +170,9 @@ returns-in-Segment-clause-stands c = subst (λ (e : Engaged). (history : List It
     let t = c.in-Segment.ensures.rows past before gone in
     let is = subst (λ link. IsDatagram c.judge.new.parsed.packet link t.own) (sym c.link_octets-link.ensures.octets) t.is in
     segment_stands c.packets_are_its_own.ensures (record { settings = (plain_settings c.self.inside.settings); link = c.self.inside.link; records = c.self.inside.records; latest = c.self.inside.latest; norm = c.self.inside.norm; pieces = c.self.inside.pieces })
-    (record { settings = (plain_settings c.self.inside.settings); link = c.self.inside.link; records = c.self.inside.records + 1; latest = c.max-self-inside.result; norm = c.take.new.norm; pieces = c.judge.new.pieces }) history (shown c.args.input.now) c.judge.new.parsed.packet c.judge.new.parsed.head
+    (record { settings = (plain_settings c.self.inside.settings); link = c.self.inside.link; records = c.self.inside.records + 1; latest = c.max-self-inside.result; norm = c.take_into.new.self; pieces = c.judge.new.pieces }) history (shown c.args.input.now) c.judge.new.parsed.packet c.judge.new.parsed.head
     c.self.invariant.0.hops t stands refl refl refl now
-    (subst (λ n. flows.StandsFor (plain_settings c.self.inside.settings) c.take.new.norm (call_of (plain_settings c.self.inside.settings) past.calls n t.own ∷ past.calls)) now (c.take.ensures.stands (plain_settings c.self.inside.settings) past.calls t.own before is))
+    (subst (λ n. flows.StandsFor (plain_settings c.self.inside.settings) c.take_into.new.self (call_of (plain_settings c.self.inside.settings) past.calls n t.own ∷ past.calls)) now (c.take_into.ensures.stands (plain_settings c.self.inside.settings) past.calls t.own before is))
     (pieces_stand (plain_settings c.self.inside.settings) c.self.inside.link history (shown c.args.input.now) c.judge.new.pieces c.max-self-inside.result now (c.judge.ensures.pieces (reassembly.expiry c.max-self-inside.result ∷ piece_calls (plain_settings c.self.inside.settings) c.self.inside.link history) (c.expire-forgotten.ensures.stands (plain_settings c.self.inside.settings) (piece_calls (plain_settings c.self.inside.settings) c.self.inside.link history) stands.pieces))))
 
 pub returns-in_default : goal.returns-in_default
