@@ -19,6 +19,3 @@ pub mod both;
 pub mod laws;
 
 pub use both::Both;
-
-#[cfg(test)]
-mod tests;

@@ -22,8 +22,15 @@ use Rattle.emit_mtu.specs.Streams.{frames_for, frames_of}
 use Rattle.wire_base.specs.Frames.{packet_in}
 use Rattle.record_relay.specs.declared.cut.Emitted.{Emitted}
 use Rattle.record_relay.specs.Frames.{frame_octets}
-use Rattle.record_relay.specs.Cut.{CutSoFar, TellsAll, TellsOne, frames_written}
+use Rattle.record_relay.specs.Cut.{TellsAll, TellsOne, frames_written}
 use Rattle.record_relay.proofs.Writing.{part_of_pieces}
+
+-- some first segments of a frame were written, `count` of them, and `left` remain
+pub record CutSoFar (order : Order) (r : Packet) (all left : List (List ℕ)) (count : ℕ) (before now : Option (List ℕ)) : Type 0 where
+  pub done : List (List ℕ)
+  pub are : all ≡ done ++ left
+  pub counted : count ≡ length done
+  pub octets : Appends before now (frame_octets order r done)
 
 -- an element of a list of which all satisfy `P`
 pub at : {X : Type 0} (P : X → Type 0) (xs : List X) (i : ℕ) (x : X) → All P xs → slice_get xs i ≡ Some x → P x

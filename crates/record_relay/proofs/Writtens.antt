@@ -35,7 +35,7 @@ use Rattle.emit_mtu.specs.Long.{e_cut, e_mtu, is_ip, is_long, is_marked, long_ki
 use Rattle.emit_mtu.specs.Streams.{CutTellsOneStream, NothingLongGoesOut, PacketsGoOutAlike, PlainHeadersAreWhole, frames_for, frames_of, packets_for, places_for}
 use Rattle.emit_mtu.proofs.Facts.{both, neither}
 use Rattle.emit_mtu.proofs.Sent.{octets_in}
-use Rattle.record_relay.specs.Cut.{AgreeAsWritten, CleanIsWritten, FramesHaveOctets, HaveFrameOctets, NoneIsLong, WritesPayload, WrittenWhole, cuts_some, frames_written, is_of_cuts, item_written, keeps_some_back, places_written, rules_cut, verdict_cut}
+use Rattle.record_relay.specs.Cut.{AgreeAsWritten, AgreesWhole, CleanIsWritten, FramesHaveOctets, HaveFrameOctets, NoneIsLong, WritesPayload, WrittenWhole, cuts_some, frames_written, is_of_cuts, item_written, keeps_some_back, places_written, rules_cut, verdict_cut}
 
 -- ---- without an MTU
 
@@ -45,6 +45,21 @@ same_trace link (item ∷ older) = ap (λ l. item ∷ l) (same_trace link older)
 
 pub written_whole : WrittenWhole
 written_whole settings link trace none = ap (λ m. map (item_written m link) trace) none ∙ same_trace link trace
+
+-- agreement on a trace, with the offsets of the packets written under this MTU
+abbrev AgreesUnder : (settings : PlainSettings) (link : Link) (trace : List Item) → (mtu : Option ℕ) (as_written : List Item) → Type 0
+AgreesUnder settings link trace mtu as_written =
+    (era : ℕ) → let sent = sent_in link trace in
+    EraIsSound settings.hops (base_of (written_in era sent)) (λ base. places_written mtu (inward_places era base sent) (inward_packets era sent))
+    (inward_packets era (sent_in link as_written))
+
+pub agrees_whole : AgreesWhole
+agrees_whole settings link trace none =
+    let same = written_whole settings link trace none in
+    let P = AgreesUnder settings link trace in (
+      (λ agree. subst (λ (m : Option ℕ). P m trace) none (subst (λ (t : List Item). P settings.mtu t) same agree)),
+      (λ agree. subst (λ (t : List Item). P settings.mtu t) (sym same) (subst (λ (m : Option ℕ). P m trace) (sym none) agree)),
+    )
 
 -- ---- the frames of an item are written
 

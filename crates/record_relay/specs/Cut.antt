@@ -1,10 +1,8 @@
 -- What is written with an MTU of the next link: the lawful trace, with each frame replaced by the frames written instead, and with its entries changed
 -- accordingly (this project's profile). Without an MTU it is the lawful trace itself.
-use Rattle.std.specs.Prelude.{◌≡◌, ℕ, ℤ, Bool, true, false, List, [], ◌∷◌, ◌++◌, length, map, All, Option, Some, None, if◌then◌else◌}
+use Rattle.std.specs.Prelude.{◌≡◌, ℕ, ℤ, Bool, true, false, List, [], ◌∷◌, ◌++◌, ◌≤◌, ◌<◌, length, map, All, Option, Some, None, IfSome, if◌then◌else◌}
 use Rattle.std.specs.List.{AllByRecursion, flat_map, list_any}
 use Rattle.wire_base.specs.declared.address.Link.{Link}
-use Rattle.std.specs.Io.KnownBytes.{Appends}
-use Rattle.pcap_file.specs.declared.order.Order.{Order}
 use Rattle.pcap_file.specs.Records.{Packet}
 use Rattle.rule_book.specs.declared.rule.Rule.{Rule}
 use Rattle.rule_book.specs.declared.rule.Rule.TheVariants as rules
@@ -17,15 +15,14 @@ use Rattle.era_agreement.specs.Sent.{inward_packets, inward_places, written_in}
 use Rattle.era_agreement.specs.Agreement.{EraIsSound}
 use Rattle.norm_engine.specs.Items.{Item}
 use Rattle.norm_engine.specs.Clean.{KeepsPayload, is_clean, payload_in}
-use Rattle.norm_engine.specs.Agreement.{sent_in}
+use Rattle.norm_engine.specs.Agreement.{Agree, sent_in}
 use Rattle.norm_engine.specs.Laws.{IsAlwaysWithin, IsSound}
 use Rattle.norm_engine.specs.Sending.{ArePlainInwards, HasShortFrames}
-use Rattle.emit_mtu.specs.Frames.{AreOctets}
+use Rattle.emit_mtu.specs.Frames.{AreOctets, IsSent}
 use Rattle.emit_mtu.specs.Laws as cuts
 use Rattle.emit_mtu.specs.Long.{e_cut, e_mtu, is_long}
 use Rattle.emit_mtu.specs.Streams.{frames_for, places_for}
 use Rattle.record_relay.specs.declared.cut.Emitted.{Emitted}
-use Rattle.record_relay.specs.Frames.{frame_octets}
 
 -- the frames that are written for these frames
 abbrev pub frames_written : (mtu : Option ℕ) → Link → (frames : List (List ℕ)) → List (List ℕ)
@@ -97,14 +94,19 @@ places_written None places packets = places
 places_written (Some mtu) places packets = places_for mtu places packets
 
 -- In each era whose base is fixed, the packets that are written inwards are plain, their SYNs have the number before the base, and any two receivers of the
--- family behind at most `hops` routers deliver streams of which one is a prefix of the other, and an ended one the longer, whichever packets reach them in
--- time, how often and in which order. An era without a base has no octet, no SYN and no FIN inwards. The base, whether it is fixed, and the offsets are those
--- of the lawful trace.
+-- family behind at most `hops` routers deliver streams of which one is a prefix of the other, and one that has ended is not the shorter, whichever packets reach
+-- them in time, how often and in which order. An era without a base has no octet, no SYN and no FIN inwards. The base, whether it is fixed, and the offsets are
+-- those of the lawful trace.
 abbrev pub AgreeAsWritten : PlainSettings → Link → List Item → Type 0
 AgreeAsWritten settings link trace =
     (era : ℕ) → let sent = sent_in link trace in
     EraIsSound settings.hops (base_of (written_in era sent)) (λ base. places_written settings.mtu (inward_places era base sent) (inward_packets era sent))
     (inward_packets era (sent_in link (written settings link trace)))
+
+-- without an MTU that is agreement on the trace itself
+abbrev pub AgreesWhole : Type 0
+AgreesWhole = (settings : PlainSettings) (link : Link) (trace : List Item) → settings.mtu ≡ None
+    → (AgreeAsWritten settings link trace → Agree settings.hops link trace) × (Agree settings.hops link trace → AgreeAsWritten settings link trace)
 
 -- no frame is longer than the MTU, if there is one
 abbrev pub NoneIsLong : (mtu : Option ℕ) → Link → List Item → Type 0
@@ -149,9 +151,8 @@ pub record TellsAll (mtu : ℕ) (link : Link) (frames : List (List ℕ)) (emitte
   pub cut : emitted.cut ≡ cuts_some (Some mtu) link frames
   pub kept_back : emitted.kept_back ≡ keeps_some_back (Some mtu) link frames
 
--- some first segments of a frame were written, `count` of them, and `left` remain
-pub record CutSoFar (order : Order) (r : Packet) (all left : List (List ℕ)) (count : ℕ) (before now : Option (List ℕ)) : Type 0 where
-  pub done : List (List ℕ)
-  pub are : all ≡ done ++ left
-  pub counted : count ≡ length done
-  pub octets : Appends before now (frame_octets order r done)
+-- Each frame can be written on this link, a bounded MTU is at least 576, and fewer than 256 frames are written.
+pub record CanWrite (mtu : Option ℕ) (link : Link) (frames : List (List ℕ)) : Type 0 where
+  pub sent : All (IsSent link) frames
+  pub least : IfSome mtu (λ most. 576 ≤ most)
+  pub few : length (frames_written mtu link frames) < 256

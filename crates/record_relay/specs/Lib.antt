@@ -5,5 +5,6 @@ pub mod Outputs
 pub mod Runs
 pub mod Puts
 pub mod Relays
+pub mod Steps
 pub mod Judged
 pub mod Laws

@@ -1,7 +1,9 @@
 -- The state of a relay: one engine or two, and the run that they represent (this project's profile).
-use Rattle.std.specs.Prelude.{◌≡◌, ℕ, ◌-◌, ◌^◌, ◌≤◌, nat_le, Bool, true, false, length, Option, None}
+use Rattle.std.specs.Prelude.{◌≡◌, ℕ, ◌-◌, ◌^◌, nat_le, Bool, true, false, List, length, Option, None}
 use Rattle.wire_base.specs.declared.address.Link.{Link}
 use Rattle.norm_settings.specs.Settings.{PlainSettings, AreInRange}
+use Rattle.norm_engine.specs.Items.{Item}
+use Rattle.norm_engine.specs.Clean.{HaveOctets}
 use Rattle.norm_engine.specs.Engine as single
 use Rattle.both_sides.specs.Both as double
 use Rattle.record_relay.specs.declared.engines.Engines.{Engines}
@@ -38,14 +40,23 @@ StandsForRun (One engine) (two trace mirror) = ⊥
 StandsForRun (Two both) (one trace) = ⊥
 StandsForRun (Two both) (two trace mirror) = double.StandsFor both trace mirror
 
--- one engine has this MTU, settings in their ranges, and a buffer for one segment; of two the second has read each frame of the first
-abbrev pub IsReady : Engines → (mtu : Option ℕ) → (room : ℕ) → Type 0
-IsReady (One engine) mtu room = (engine.settings.mtu ≡ mtu) × AreInRange engine.settings × (65549 ≤ room)
-IsReady (Two both) mtu room = length both.pending ≡ 0
+-- one engine has this MTU and settings in their ranges; of two the second has read each frame of the first
+abbrev pub IsReady : Engines → (mtu : Option ℕ) → Type 0
+IsReady (One engine) mtu = (engine.settings.mtu ≡ mtu) × AreInRange engine.settings
+IsReady (Two both) mtu = length both.pending ≡ 0
 
 -- The invariant of a relay: its engines are ready, and represent some run over records of octets.
-pub record IsKept (engines : Engines) (mtu : Option ℕ) (room : ℕ) : Type 0 where
-  pub ready : IsReady engines mtu room
+pub record IsKept (engines : Engines) (mtu : Option ℕ) : Type 0 where
+  pub ready : IsReady engines mtu
   pub run : RunTrace
   pub stands : StandsForRun engines run
   pub octets : RunHasOctets (settings_of engines) run
+
+-- One engine has this MTU and this link, settings in their ranges, and represents some history over records of octets.
+pub record CanRead (engine : single.Engaged) (mtu : Option ℕ) (link : Link) : Type 0 where
+  pub bound : engine.settings.mtu ≡ mtu
+  pub same : engine.link ≡ link
+  pub range : AreInRange engine.settings
+  pub history : List Item
+  pub stands : single.StandsFor engine history
+  pub octets : HaveOctets history

@@ -14,7 +14,8 @@ ghost use Rattle.emit_mtu.specs.declared.long.LongKind.TheVariants as kinds;
 ghost use Rattle.record_relay.specs.Frames.{frame_octets};
 ghost use Rattle.record_relay.specs.Cut as spec;
 
-use edge_io::{Failed, Outbox, Sink};
+use crate::room::Room;
+use edge_io::{Failed, MAX_FRAME, Outbox, Sink};
 use emit_mtu::laws::segments_fit;
 use emit_mtu::{Cutter, LongKind, long_kind};
 use ip_rules::write::put_read;
@@ -33,43 +34,34 @@ pub struct Emitted {
 }
 
 /// Writes the frames of a record, each with the record's time, and reports cuts and drops in its
-/// entry: the record itself if it is written as it was read, otherwise those of the outbox. `mtu` is
-/// the greatest length of a packet in octets, if it is bounded; `segment` has room for one frame.
+/// entry: the record itself if it is written as it was read, otherwise those of the outbox.
 pub fn write_item<K: Sink>(
     as_read: bool,
-    out: &mut Outbox,
+    room: &mut Room,
     head: &Head,
-    mtu: Option<u16>,
     input: &Record<'_>,
-    segment: &mut [u8],
     capture: &mut K,
-    entry: &mut Entry,
 ) -> Result<(), Failed>
-    requires sent { All (IsSent head.now.link) (frames_given as_read input.now.bytes.now out.old) }
-    requires least { IfSome mtu (λ most. 576 ≤ most) }
-    requires few { length (spec.frames_written mtu head.now.link (frames_given as_read input.now.bytes.now out.old)) < 256 }
-    requires named { length entry.old.rules.items ≤ 14 }
-    requires empty { as_read ≡ true → out.old ≡ [] }
+    requires ready { spec.CanWrite room.old.mtu head.now.link (frames_given as_read input.now.bytes.now room.old.out) }
+    requires named { length room.old.entry.rules.items ≤ 14 }
+    requires empty { as_read ≡ true → room.old.out ≡ [] }
     requires short { as_read ≡ true → length input.now.bytes.now ≤ 65549 }
-    requires room { 65549 ≤ length segment.old }
     ensures octets { Puts (K.held capture.old) (K.held capture.new) result
-        (frame_octets head.now.order (shown input.now) (spec.frames_written mtu head.now.link (frames_given as_read input.now.bytes.now out.old))) }
+        (frame_octets head.now.order (shown input.now) (spec.frames_written room.old.mtu head.now.link (frames_given as_read input.now.bytes.now room.old.out))) }
     ensures cause { HasCause (K.fault_count capture.old) (K.fault_count capture.new) result }
-    ensures some { OnErr result (0 < length (spec.frames_written mtu head.now.link (frames_given as_read input.now.bytes.now out.old))) }
-    ensures entry { OnOk result (plain entry.new ≡ spec.entry_written mtu head.now.link (frames_given as_read input.now.bytes.now out.old) (plain entry.old)) }
-    ensures room { length segment.new ≡ length segment.old }
+    ensures some { OnErr result (0 < length (spec.frames_written room.old.mtu head.now.link (frames_given as_read input.now.bytes.now room.old.out))) }
+    ensures entry { OnOk result (plain room.new.entry ≡ spec.entry_written room.old.mtu head.now.link (frames_given as_read input.now.bytes.now room.old.out) (plain room.old.entry)) }
+    ensures mtu { room.new.mtu ≡ room.old.mtu }
 {
-    match mtu {
-        None => write_whole(as_read, out, head, input, capture),
-        Some(mtu) => {
-            put_if(as_read, input.bytes, out);
-            let Ok(emitted) = write_cut(out, head, mtu, input, segment, capture) else {
-                return Err(Failed);
-            };
-            tell_cut(emitted, entry);
-            Ok(())
-        }
-    }
+    let Some(mtu) = room.mtu else {
+        return write_whole(as_read, &room.out, head, input, capture);
+    };
+    put_if(as_read, input.bytes, &mut room.out);
+    let Ok(emitted) = write_cut(&room.out, head, mtu, input, &mut room.segment, capture) else {
+        return Err(Failed);
+    };
+    tell_cut(emitted, &mut room.entry);
+    Ok(())
 }
 
 // Puts a frame that is written as it was read into the outbox, which is empty in that case.
@@ -143,19 +135,17 @@ fn write_cut<K: Sink>(
     head: &Head,
     mtu: u16,
     input: &Record<'_>,
-    segment: &mut [u8],
+    segment: &mut [u8; MAX_FRAME],
     capture: &mut K,
 ) -> Result<Emitted, Failed>
     requires sent { All (IsSent head.now.link) out.now }
     requires least { 576 ≤ mtu }
     requires few { length (spec.frames_written (Some mtu) head.now.link out.now) < 256 }
-    requires room { 65549 ≤ length segment.old }
     ensures octets { Puts (K.held capture.old) (K.held capture.new) result
         (frame_octets head.now.order (shown input.now) (spec.frames_written (Some mtu) head.now.link out.now)) }
     ensures cause { HasCause (K.fault_count capture.old) (K.fault_count capture.new) result }
     ensures some { OnErr result (0 < length (spec.frames_written (Some mtu) head.now.link out.now)) }
     ensures tells { IfOk result (spec.TellsAll mtu head.now.link out.now) }
-    ensures room { length segment.new ≡ length segment.old }
 {
     let mut emitted = Emitted {
         packets: 0,
@@ -198,19 +188,17 @@ fn write_one<K: Sink>(
     head: &Head,
     mtu: u16,
     input: &Record<'_>,
-    segment: &mut [u8],
+    segment: &mut [u8; MAX_FRAME],
     capture: &mut K,
 ) -> Result<Emitted, Failed>
     requires sent { IsSent head.now.link frame.now }
     requires short { length frame.now ≤ 65549 }
     requires least { 576 ≤ mtu }
-    requires room { 65549 ≤ length segment.old }
     ensures octets { Puts (K.held capture.old) (K.held capture.new) result
         (frame_octets head.now.order (shown input.now) (frames_for head.now.link mtu frame.now)) }
     ensures cause { HasCause (K.fault_count capture.old) (K.fault_count capture.new) result }
     ensures some { OnErr result (0 < length (frames_for head.now.link mtu frame.now)) }
     ensures tells { IfOk result (spec.TellsOne mtu head.now.link frame.now) }
-    ensures room { length segment.new ≡ length segment.old }
 {
     match long_kind(head.link, frame, mtu) {
         LongKind::Fits => {
@@ -247,25 +235,23 @@ fn write_segments<K: Sink>(
     head: &Head,
     mtu: u16,
     input: &Record<'_>,
-    segment: &mut [u8],
+    segment: &mut [u8; MAX_FRAME],
     capture: &mut K,
 ) -> Result<u8, Failed>
     requires sent { IsSent head.now.link frame.now }
     requires cut { long_kind head.now.link mtu frame.now ≡ kinds.Cut }
     requires least { 576 ≤ mtu }
-    requires room { 65549 ≤ length segment.old }
     ensures octets { Puts (K.held capture.old) (K.held capture.new) result
         (frame_octets head.now.order (shown input.now) (segments head.now.link mtu frame.now)) }
     ensures cause { HasCause (K.fault_count capture.old) (K.fault_count capture.new) result }
     ensures some { OnErr result (0 < length (segments head.now.link mtu frame.now)) }
     ensures count { IfOk result (λ count. count ≡ length (segments head.now.link mtu frame.now)) }
-    ensures room { length segment.new ≡ length segment.old }
 {
     segments_fit();
     have_octets(frame);
     let mut cutter = Cutter::new(head.link, mtu, frame);
     let mut count = 0u8;
-    while let Some(size) = cutter.next(segment) {
+    while let Some(size) = cutter.next(&mut segment[..]) {
         let octets = &segment[..size];
         if write_record(capture, head, input.seconds, input.fraction, octets).is_err() {
             return Err(Failed);

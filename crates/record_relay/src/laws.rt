@@ -1,5 +1,5 @@
 //! Laws of the traces of runs, and of the outputs for them.
-ghost use Rattle.record_relay.specs.Cut.{LawfulIsWrittenSoundly, WrittenWhole};
+ghost use Rattle.record_relay.specs.Cut.{AgreesWhole, LawfulIsWrittenSoundly, WrittenWhole};
 ghost use Rattle.record_relay.specs.Laws.{LawfulRunsAreOne, OnePutsItsTrace, RunsAreWrittenSoundly, RunsBegin, RunsGoOn, TwoPutTheirMirror};
 
 use both_sides::laws::{both_agree, frames_go_through};
@@ -38,9 +38,11 @@ pub fn lawful_runs_are_one()
     lawful_is_one();
 }
 
-/// Proves that without an MTU what is written of a trace is the trace.
+/// Proves that without an MTU what is written of a trace is the trace, so receivers agree on what is
+/// written exactly if they agree on the trace.
 pub fn unbounded_is_written_whole()
-    ensures { WrittenWhole }
+    ensures whole { WrittenWhole }
+    ensures agree { AgreesWhole }
 {}
 
 /// Proves of what is written of each sound trace: a clean record has its payload, in one frame or

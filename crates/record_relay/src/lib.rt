@@ -22,11 +22,9 @@ pub mod laws;
 mod lines;
 mod one;
 mod relay;
+mod room;
 mod two;
 
 pub use engines::Engines;
 pub use fault::RelayFault;
 pub use relay::Relay;
-
-#[cfg(test)]
-mod tests;

@@ -1,14 +1,12 @@
 //! The relay: each record of a capture is judged, and its output is written.
 use crate::RelayFault;
 use crate::engines::Engines;
-use crate::lines::LINE;
 use crate::one::relay_one;
+use crate::room::Room;
 use crate::two::relay_two;
-use edge_io::{MAX_FRAME, NoMemory, Outbox, Sink};
-use norm_engine::blank_entry;
+use edge_io::{NoMemory, Sink};
 use norm_settings::Settings;
 use pcap_file::{Head, Record};
-use rule_book::Entry;
 use std::alloc::Global;
 use std::marker::Model;
 use wire_base::Link;
@@ -18,23 +16,10 @@ use wire_base::Link;
 #[derive(Drop)]
 pub struct Relay {
     engines: Engines,
-    /// MTU of the next link, in octets, if it is bounded.
-    mtu: Option<u16>,
-    /// Frames of one record; with two engines those written for the first frame of the first
-    /// engine.
-    out: Outbox,
-    /// Frames written for its second frame.
-    behind: Outbox,
-    /// Octets of one segment of a frame that is cut.
-    segment: Vec<u8>,
-    /// Entry of one record, if there is one engine.
-    entry: Entry,
-    /// One line of the report.
-    line: [u8; LINE],
+    room: Room,
 }
 
 impl Model for Relay {
-    ghost use Rattle.std.specs.Prelude.{vec_len};
     ghost use Rattle.record_relay.specs.declared.engines.Engines.{Engines};
     ghost use Rattle.record_relay.specs.Relays.{IsKept};
 
@@ -42,19 +27,19 @@ impl Model for Relay {
 
     ghost view = { λ r. r.engines };
 
-    ghost invariant = { λ r. IsKept r.engines r.mtu (vec_len r.segment) };
+    ghost invariant = { λ r. IsKept r.engines r.room.mtu };
 }
 
 impl Relay {
-    ghost use Rattle.std.specs.Prelude.{◌≡◌, ◌≤◌, ◌<◌, false, [], IfOk, IfErr};
+    ghost use Rattle.std.specs.Prelude.{◌≡◌, ◌≤◌, false, IfOk};
     ghost use Rattle.wire_base.specs.declared.address.Link.TheVariants.{Raw};
     ghost use Rattle.pcap_file.specs.Reads.{shown};
     ghost use Rattle.norm_settings.specs.Settings.{plain_settings, AreInRange, GoTogether};
-    ghost use Rattle.record_relay.specs.Outputs.{BreaksOff};
-    ghost use Rattle.record_relay.specs.Puts.{IsPut, next_put, put_outputs};
+    ghost use Rattle.record_relay.specs.Puts.{next_put};
     ghost use Rattle.record_relay.specs.Relays.{StandsForRun, is_full_of, link_of, records_of, settings_of};
     ghost use Rattle.record_relay.specs.Runs.{RunHasOctets, RunTrace, empty_run, next_run};
-    ghost use Rattle.record_relay.specs.Sinks.{OnlyRose, sinks_of};
+    ghost use Rattle.record_relay.specs.Sinks.{sinks_of};
+    ghost use Rattle.record_relay.specs.Steps.{IsWritten};
 
     /// Creates a relay for records of a raw link, before the first of them, with one engine, or
     /// with two if both sides are protected.
@@ -65,20 +50,9 @@ impl Relay {
         ensures link { IfOk result (λ relay. link_of relay ≡ Raw) }
         ensures stands { IfOk result (λ relay. StandsForRun relay (empty_run settings.both)) }
     {
-        let mtu = settings.mtu;
-        let out = Outbox::open(alloc)?;
-        let behind = Outbox::open(alloc)?;
-        let segment = vec![in alloc; 0u8; MAX_FRAME]?;
+        let room = Room::open(alloc, settings.mtu)?;
         let engines = Engines::open(alloc, settings)?;
-        Ok(Relay {
-            engines,
-            mtu,
-            out,
-            behind,
-            segment,
-            entry: blank_entry(),
-            line: [0; LINE],
-        })
+        Ok(Relay { engines, room })
     }
 
     /// Sets the link type of the records. No record may precede this call.
@@ -126,50 +100,24 @@ impl Relay {
     ) -> Result<u64, RelayFault>
         requires room { is_full_of self.old ≡ false }
         requires link { link_of self.old ≡ head.now.link }
-        ensures relayed { (run : RunTrace) → StandsForRun self.old run →
-            IfOk result (λ frames. IsPut head.now.order (next_put (settings_of self.old) (link_of self.old) run (shown input.now)) frames
-            (sinks_of (K.held capture.old) (K.fault_count capture.old) (R.held report.old) (R.fault_count report.old))
-            (sinks_of (K.held capture.new) (K.fault_count capture.new) (R.held report.new) (R.fault_count report.new))) }
-        ensures broke { (run : RunTrace) → StandsForRun self.old run →
-            IfErr result (λ fault. BreaksOff [] (put_outputs head.now.order (next_put (settings_of self.old) (link_of self.old) run (shown input.now))) fault
-            (sinks_of (K.held capture.old) (K.fault_count capture.old) (R.held report.old) (R.fault_count report.old))
-            (sinks_of (K.held capture.new) (K.fault_count capture.new) (R.held report.new) (R.fault_count report.new))) }
-        ensures first { IfErr result (λ fault. OnlyRose fault
-            (sinks_of (K.held capture.old) (K.fault_count capture.old) (R.held report.old) (R.fault_count report.old))
-            (sinks_of (K.held capture.new) (K.fault_count capture.new) (R.held report.new) (R.fault_count report.new))) }
+        ensures written { (run : RunTrace) → StandsForRun self.old run →
+            let before = sinks_of (K.held capture.old) (K.fault_count capture.old) (R.held report.old) (R.fault_count report.old) in
+            let now = sinks_of (K.held capture.new) (K.fault_count capture.new) (R.held report.new) (R.fault_count report.new) in
+            IsWritten head.now.order (next_put (settings_of self.old) (link_of self.old) run (shown input.now)) result before now }
         ensures stands { (run : RunTrace) → StandsForRun self.old run →
             StandsForRun self.new (next_run (settings_of self.old) (link_of self.old) run (shown input.now)) }
         ensures octets { (run : RunTrace) → StandsForRun self.old run → RunHasOctets (settings_of self.old) run →
             RunHasOctets (settings_of self.old) (next_run (settings_of self.old) (link_of self.old) run (shown input.now)) }
         ensures settings { settings_of self.new ≡ settings_of self.old }
         ensures link { link_of self.new ≡ link_of self.old }
-        ensures short { IfOk result (λ frames. frames < 256) }
         ensures capture_later { K.fault_count capture.old ≤ K.fault_count capture.new }
         ensures report_later { R.fault_count report.old ≤ R.fault_count report.new }
     {
         match &mut self.engines {
-            Engines::One(engine) => relay_one(
-                engine,
-                &mut self.out,
-                head,
-                self.mtu,
-                input,
-                &mut self.segment,
-                &mut self.entry,
-                &mut self.line,
-                capture,
-                report,
-            ),
-            Engines::Two(both) => relay_two(
-                both,
-                &mut self.out,
-                &mut self.behind,
-                head,
-                input,
-                &mut self.line,
-                capture,
-                report,
-            ),
+            Engines::One(engine) => {
+                relay_one(engine, &mut self.room, head, input, capture, report)
+            }
+            Engines::Two(both) => relay_two(both, &mut self.room, head, input, capture, report),
         }
     }
 }

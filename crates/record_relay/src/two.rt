@@ -1,25 +1,21 @@
 //! One record by two engines in sequence.
-ghost use Rattle.std.specs.Prelude.{◌≡◌, ◌≤◌, ◌<◌, ◌-◌, ◌^◌, List, [], ◌∷◌, ◌++◌, length, option_map, IfOk, IfErr, IfSome, OnErr};
+ghost use Rattle.std.specs.Prelude.{◌≡◌, ◌≤◌, ◌<◌, ◌-◌, ◌^◌, List, ◌++◌, length, option_map, IfSome, OnErr};
 ghost use Rattle.edge_io.specs.Faults.{HasCause};
 ghost use Rattle.edge_io.specs.Octets.{Puts};
 ghost use Rattle.pcap_file.specs.Reads.{shown};
 ghost use Rattle.rule_book.specs.Entries.{plain, IsOfVersion};
 ghost use Rattle.rule_book.specs.Text.{entry_text};
 ghost use Rattle.norm_engine.specs.Items.{Item};
-ghost use Rattle.norm_engine.specs.Trace.{item_of};
-ghost use Rattle.norm_engine.specs.Clean.{HasOctets};
 ghost use Rattle.both_sides.specs.Both.{StandsFor};
-ghost use Rattle.both_sides.specs.Traces.{records_for};
 ghost use Rattle.record_relay.specs.Frames.{frame_octets};
 ghost use Rattle.record_relay.specs.Judged.{Answers, IsJudged, line_for};
-ghost use Rattle.record_relay.specs.Outputs.{BreaksOff};
-ghost use Rattle.record_relay.specs.Puts.{IsPut, put_by_two, put_outputs};
-ghost use Rattle.record_relay.specs.Runs.{answers};
-ghost use Rattle.record_relay.specs.Sinks.{OnlyRose, sinks_of};
+ghost use Rattle.record_relay.specs.Sinks.{sinks_of};
+ghost use Rattle.record_relay.specs.Steps.{HaveRead};
 
 use crate::RelayFault;
 use crate::cut::{have_octets, write_frames};
 use crate::lines::{LINE, write_answer, write_line};
+use crate::room::Room;
 use both_sides::Both;
 use edge_io::{Failed, Outbox, Sink};
 use norm_engine::laws::items_are_counted;
@@ -39,52 +35,34 @@ struct Told {
 /// and returns the number of frames written.
 pub fn relay_two<K: Sink, R: Sink>(
     both: &mut Both,
-    out: &mut Outbox,
-    behind: &mut Outbox,
+    room: &mut Room,
     head: &Head,
     input: &Record<'_>,
-    line: &mut [u8; LINE],
     capture: &mut K,
     report: &mut R,
 ) -> Result<u64, RelayFault>
     requires few { both.old.first.records < 2 ^ 31 - 1 }
     requires empty { length both.old.pending ≡ 0 }
     requires stood { (trace : List Item) × (mirror : List Item) × StandsFor both.old trace mirror }
-    ensures relayed { (trace mirror : List Item) → StandsFor both.old trace mirror →
-        IfOk result (λ frames. IsPut head.now.order
-        (put_by_two (item_of both.old.first.settings both.old.first.link trace (shown input.now))
-        (answers both.old.first.settings both.old.first.link mirror (records_for (item_of both.old.first.settings both.old.first.link trace (shown input.now))))) frames
-        (sinks_of (K.held capture.old) (K.fault_count capture.old) (R.held report.old) (R.fault_count report.old))
-        (sinks_of (K.held capture.new) (K.fault_count capture.new) (R.held report.new) (R.fault_count report.new))) }
-    ensures broke { (trace mirror : List Item) → StandsFor both.old trace mirror →
-        IfErr result (λ fault. BreaksOff [] (put_outputs head.now.order
-        (put_by_two (item_of both.old.first.settings both.old.first.link trace (shown input.now))
-        (answers both.old.first.settings both.old.first.link mirror (records_for (item_of both.old.first.settings both.old.first.link trace (shown input.now)))))) fault
-        (sinks_of (K.held capture.old) (K.fault_count capture.old) (R.held report.old) (R.fault_count report.old))
-        (sinks_of (K.held capture.new) (K.fault_count capture.new) (R.held report.new) (R.fault_count report.new))) }
-    ensures first { IfErr result (λ fault. OnlyRose fault
-        (sinks_of (K.held capture.old) (K.fault_count capture.old) (R.held report.old) (R.fault_count report.old))
-        (sinks_of (K.held capture.new) (K.fault_count capture.new) (R.held report.new) (R.fault_count report.new))) }
-    ensures stands { (trace mirror : List Item) → StandsFor both.old trace mirror →
-        StandsFor both.new (item_of both.old.first.settings both.old.first.link trace (shown input.now) ∷ trace)
-        (answers both.old.first.settings both.old.first.link mirror (records_for (item_of both.old.first.settings both.old.first.link trace (shown input.now))) ++ mirror) }
-    ensures octets { HasOctets (shown input.now) }
+    ensures read { (trace mirror : List Item) → StandsFor both.old trace mirror →
+        let before = sinks_of (K.held capture.old) (K.fault_count capture.old) (R.held report.old) (R.fault_count report.old) in
+        let now = sinks_of (K.held capture.new) (K.fault_count capture.new) (R.held report.new) (R.fault_count report.new) in
+        HaveRead head.now.order both.old both.new trace mirror (shown input.now) result before now }
     ensures empty { length both.new.pending ≡ 0 }
     ensures settings { both.new.first.settings ≡ both.old.first.settings }
     ensures link { both.new.first.link ≡ both.old.first.link }
-    ensures short { IfOk result (λ frames. frames < 256) }
     ensures capture_later { K.fault_count capture.old ≤ K.fault_count capture.new }
     ensures report_later { R.fault_count report.old ≤ R.fault_count report.new }
 {
     have_octets(input.bytes);
-    let told = judge_both(both, out, behind, input);
-    if write_both(out, behind, head, input, capture).is_err() {
+    let told = judge_both(both, &mut room.out, &mut room.behind, input);
+    if write_both(&room.out, &room.behind, head, input, capture).is_err() {
         return Err(RelayFault::Capture);
     }
-    if write_told(&told, line, report).is_err() {
+    if write_told(&told, &mut room.line, report).is_err() {
         return Err(RelayFault::Report);
     }
-    Ok((out.frames() + behind.frames()) as u64)
+    Ok((room.out.frames() + room.behind.frames()) as u64)
 }
 
 // Gives the record to the first engine, and each frame that it writes to the second.

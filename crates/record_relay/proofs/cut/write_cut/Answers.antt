@@ -26,5 +26,4 @@ loop-index-preserved g c = record {
       tells_more c.args.mtu c.args.head.now.link c.args.out.now c.loop-index.index c.frame-frame.result.now c.loop-index.emitted c.in-Ok.one c.joined-emitted.result
       c.frame-frame.ensures.octets c.loop-index.invariant.tells c.in-Ok.ensures.tells c.joined-emitted.ensures.packets c.joined-emitted.ensures.cut c.joined-emitted.ensures.kept_back;
   counted = search rules;
-  room = search rules;
 }

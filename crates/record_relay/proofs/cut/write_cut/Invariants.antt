@@ -1,4 +1,4 @@
-use Rattle.std.proofs.Common.{◌≡◌, length, take, Some}
+use Rattle.std.proofs.Common.{◌≡◌, take, Some}
 use Rattle.std.specs.Io.KnownBytes.{Appends}
 use Rattle.pcap_file.specs.Reads.{shown}
 use Rattle.record_relay.specs.Cut.{TellsAll, frames_written}
@@ -11,5 +11,4 @@ invariant-loop-index g l = record {
       (frame_octets l.fn.head.order (shown l.fn.input) (frames_written (Some l.fn.mtu) l.fn.head.link (take l.index l.fn.out)));
   tells : TellsAll l.fn.mtu l.fn.head.link (take l.index l.fn.out) l.emitted;
   counted : g.K.Sink.fault_count l.capture ≡ g.K.Sink.fault_count l.fn.capture;
-  room : length l.segment ≡ length l.fn.segment;
 }

@@ -5,7 +5,7 @@ use Rattle.record_relay.proofs.Cutting.{segment_counted, segment_more, segment_p
 use Rattle.record_relay.proofs.cut.write_segments.Goals as goal
 
 pub loop-size-init : goal.loop-size-init
-loop-size-init g c = record { so_far = record { done = []; are = sym c.new-cutter.ensures; counted = refl; octets = Appends-nil _ }; faults = refl; room = refl }
+loop-size-init g c = record { so_far = record { done = []; are = sym c.new-cutter.ensures; counted = refl; octets = Appends-nil _ }; faults = refl }
 
 pub returns-then-is_err-clause-octets : goal.returns-then-is_err-clause-octets
 returns-then-is_err-clause-octets g c =
@@ -25,5 +25,4 @@ loop-size-preserved g c = record {
       segment_more _ _ _ c.next.new.self c.loop-size.count _ _ _ _ c.loop-size.cutter c.loop-size.invariant.so_far c.in-Some.ensures.next
       (whole_of c.write_record.result _ _ _ c.if-is_err.ensures.value c.write_record.ensures.octets);
   faults = search rules;
-  room = search rules;
 }

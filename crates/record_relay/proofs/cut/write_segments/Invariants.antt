@@ -1,14 +1,13 @@
 use Rattle.std.proofs.Common.{◌≡◌, length}
 use Rattle.pcap_file.specs.Reads.{shown}
 use Rattle.emit_mtu.specs.Segments.{segments}
-use Rattle.record_relay.specs.Cut.{CutSoFar}
+use Rattle.record_relay.proofs.Cutting.{CutSoFar}
 use Rattle.record_relay.proofs.cut.write_segments.Given as goal
 
 abbrev pub invariant-loop-size : goal.invariant-loop-size
 invariant-loop-size g l = record {
   so_far : CutSoFar l.fn.head.order (shown l.fn.input) (segments l.fn.head.link l.fn.mtu l.fn.frame) l.cutter l.count (g.K.Sink.held l.fn.capture) (g.K.Sink.held l.capture);
   faults : g.K.Sink.fault_count l.capture ≡ g.K.Sink.fault_count l.fn.capture;
-  room : length l.segment ≡ length l.fn.segment;
 }
 
 abbrev pub decreases-loop-size : goal.decreases-loop-size

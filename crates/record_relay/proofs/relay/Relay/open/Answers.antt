@@ -1,5 +1,4 @@
-use Rattle.std.proofs.Common.{◌≤◌, refl, arith}
-use Rattle.std.specs.Prelude.{vec_len}
+use Rattle.std.proofs.Common.{sym, ◌∙◌}
 use Rattle.norm_settings.specs.Settings.{plain_settings}
 use Rattle.record_relay.specs.Relays.{settings_of}
 use Rattle.record_relay.specs.Runs.{empty_run}
@@ -8,11 +7,9 @@ use Rattle.record_relay.proofs.relay.Relay.open.Goals as goal
 
 pub invariant_of-result : goal.invariant_of-result
 invariant_of-result c =
-    let long = c.in_ok-segment.ensures.len in
-    let large : 65549 ≤ vec_len c.in_ok-segment.segment = omega (arith, long) in
     let opened = c.in_ok-engines.ensures in
     record {
-      ready = ready_first c.in_ok-engines.engines (plain_settings c.args.settings) c.args.settings.both c.args.settings.mtu (vec_len c.in_ok-segment.segment) opened.settings c.requires.range opened.stands refl large;
+      ready = ready_first c.in_ok-engines.engines (plain_settings c.args.settings) c.args.settings.both c.in_ok-room.room.mtu opened.settings c.requires.range opened.stands (sym c.in_ok-room.ensures);
       run = empty_run c.args.settings.both;
       stands = opened.stands;
       octets = no_octets (settings_of c.in_ok-engines.engines) c.args.settings.both;
