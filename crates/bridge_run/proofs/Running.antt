@@ -24,9 +24,10 @@ use Rattle.record_relay.specs.declared.fault.RelayFault.{RelayFault}
 use Rattle.record_relay.specs.Laws.{Begins, GoesOn, RunIsWrittenSoundly, RunsAreWrittenSoundly, RunsBegin, RunsGoOn}
 use Rattle.record_relay.specs.Outputs.{Given, heading}
 use Rattle.record_relay.specs.Outputs as relayed
-use Rattle.record_relay.specs.Puts.{IsPut, Put, count_put, next_put, puts, put_outputs, text_put}
+use Rattle.record_relay.specs.Puts.{Put, count_put, next_put, puts, put_outputs, text_put}
 use Rattle.record_relay.specs.Relays.{StandsForRun, is_full_of, link_of, most_records, records_of, settings_of}
 use Rattle.record_relay.specs.Runs.{LawfulRun, RunHasNoSide, RunHasOctets, RunTrace, empty_run, next_run, one, packets_of, trace_in, two}
+use Rattle.record_relay.specs.Steps.{IsWritten}
 use Rattle.bridge_run.specs.declared.stop.Stop.{Stop}
 use Rattle.bridge_run.specs.Moments.{Moment, NoneRose}
 use Rattle.bridge_run.specs.Outputs.{BreaksOff, end_outputs, outputs_of, stop_by}
@@ -152,7 +153,7 @@ module _ (settings : PlainSettings) (head : Head) (a b : Moment) (engines : Engi
 
   -- one more packet was taken
   module _ (c : Moment) (input' : Input) (given : Record) (gives : GivesPacket input input' settings.inside going.walk b.source.octets c.source.octets given) where
-    took_more : Took settings.inside a.source.octets c.source.octets head gives.farther
+    pub took_more : Took settings.inside a.source.octets c.source.octets head gives.farther
     took_more = took_on settings.inside a.source.octets b.source.octets c.source.octets (head_in input) head going.walk gives.farther going.input_head gives.continues going.so_far.took
 
     packets_more : packets_in gives.farther ≡ shown given ∷ packets_of going.run
@@ -196,7 +197,7 @@ module _ (settings : PlainSettings) (head : Head) (a b : Moment) (engines : Engi
 
       -- the output for it was written, and the run continues
       module _ (engines' : Engines) (n : ℕ) (counted_so : c.source.faults ≡ b.source.faults) (more : is_full_of engines ≡ false)
-          (put_out : (run : RunTrace) → StandsForRun engines run → IsPut head.order (next_put (settings_of engines) (link_of engines) run (shown given)) n b.sinks c.sinks) (short : n < 256)
+          (written : (run : RunTrace) → StandsForRun engines run → IsWritten head.order (next_put (settings_of engines) (link_of engines) run (shown given)) (Ok n) b.sinks c.sinks)
           (stands : (run : RunTrace) → StandsForRun engines run → StandsForRun engines' (next_run (settings_of engines) (link_of engines) run (shown given)))
           (octets : (run : RunTrace) → StandsForRun engines run → RunHasOctets (settings_of engines) run
           → RunHasOctets (settings_of engines) (next_run (settings_of engines) (link_of engines) run (shown given)))
@@ -208,7 +209,8 @@ module _ (settings : PlainSettings) (head : Head) (a b : Moment) (engines : Engi
             let p = shown given in
             let now = going.so_far in
             let put = next_put settings head.link run p in
-            let out : IsPut head.order put n b.sinks c.sinks = subst (λ (x : Put). IsPut head.order x n b.sinks c.sinks) (put_is p) (put_out run going.stands) in
+            let out : IsWritten head.order put (Ok n) b.sinks c.sinks = subst (λ (x : Put). IsWritten head.order x (Ok n) b.sinks c.sinks) (put_is p) (written run going.stands) in
+            let short = out.few in
             let has = octets run going.stands (subst (λ (s : PlainSettings). RunHasOctets s run) (sym going.engine_settings) now.octets) in
             let size = ap length step.taken in
             record {
@@ -223,28 +225,28 @@ module _ (settings : PlainSettings) (head : Head) (a b : Moment) (engines : Engi
                 took = took_more;
                 packets_are = packets_more ∙ sym step.taken;
                 given = subst (λ out. Given (outputs_of settings.both head out) a.sinks c.sinks) (sym step.put)
-                    (given_after (outputs_of settings.both head (puts settings head.link run)) (put_outputs head.order put) a.sinks b.sinks c.sinks now.given out.given);
-                none_rose = none_rose_after a b c now.none_rose (record { source = counted_so; sinks = out.none_rose });
+                    (given_after (outputs_of settings.both head (puts settings head.link run)) (put_outputs head.order put) a.sinks b.sinks c.sinks now.given out.whole.given);
+                none_rose = none_rose_after a b c now.none_rose (record { source = counted_so; sinks = out.whole.none_rose });
               };
               stands = subst (StandsForRun engines') (run_is p) (stands run going.stands);
               engine_settings = settled ∙ going.engine_settings;
               engine_link = linked ∙ going.engine_link;
               input_head = gives.head ∙ going.input_head;
               behind = gives.behind;
-              frames_are = ap₂ (λ x y. x + y) going.frames_are out.frames_are ∙ sym (ap count_put step.put);
+              frames_are = ap₂ (λ x y. x + y) going.frames_are out.whole.frames_are ∙ sym (ap count_put step.put);
               few = omega (arith, going.few, short, size);
             }
 
       -- an output for it failed
       pub stops_at_packet : is_full_of engines ≡ false → (fault : RelayFault)
-          → ((run : RunTrace) → StandsForRun engines run → relayed.BreaksOff [] (put_outputs head.order (next_put (settings_of engines) (link_of engines) run (shown given))) fault b.sinks c.sinks)
+          → ((run : RunTrace) → StandsForRun engines run → IsWritten head.order (next_put (settings_of engines) (link_of engines) run (shown given)) (Err fault) b.sinks c.sinks)
           → StopsAtPacket settings (stop_by fault given.offset) a c
-      stops_at_packet more fault broken =
+      stops_at_packet more fault written =
           let run = going.run in
           let p = shown given in
           let put = next_put settings head.link run p in
           let broke : relayed.BreaksOff [] (put_outputs head.order put) fault b.sinks c.sinks =
-          subst (λ (x : Put). relayed.BreaksOff [] (put_outputs head.order x) fault b.sinks c.sinks) (put_is p) (broken run going.stands) in
+          subst (λ (x : Put). relayed.BreaksOff [] (put_outputs head.order x) fault b.sinks c.sinks) (put_is p) (written run going.stands).broke in
           record {
             head = head;
             packet = p;
@@ -261,7 +263,7 @@ module _ (settings : PlainSettings) (head : Head) (a b : Moment) (engines : Engi
 
   -- no packet was left
   module _ (c : Moment) (input' : Input) (whole : WholeIsInput) (ends : ReachesEnd input input' settings.inside going.walk b.source.octets c.source.octets) (count : ℕ) (counts : count ≡ records_of engines) where
-    took_end : Took settings.inside a.source.octets c.source.octets head ends.farther
+    pub took_end : Took settings.inside a.source.octets c.source.octets head ends.farther
     took_end = took_on settings.inside a.source.octets b.source.octets c.source.octets (head_in input) head going.walk ends.farther going.input_head ends.continues going.so_far.took
 
     packets_end : packets_in ends.farther ≡ packets_of going.run

@@ -13,7 +13,7 @@ use Rattle.record_relay.specs.Runs.{packets_of}
 use Rattle.bridge_run.specs.declared.stop.Stop.{Stop}
 use Rattle.bridge_run.specs.declared.stop.Stop.TheVariants as stops
 use Rattle.bridge_run.specs.Moments.{Moment}
-use Rattle.bridge_run.specs.Stops.{AreFew, BeginsTooMany, Faulted, FirstFault, fault_kind, kind_status, status_of, is_faulty, IsFaulty, IsCutShort, IsWhole, WasFaulty, WasCut, WasTooMany, WereFew}
+use Rattle.bridge_run.specs.Stops.{AreFew, BeginsTooMany, Faulted, FirstFault, fault_kind, kind_status, status_of, stop_at_fault, is_faulty, IsFaulty, IsCutShort, IsWhole, WasFaulty, WasCut, WasTooMany, WereFew}
 use Rattle.bridge_run.specs.Theorem.{Normalized}
 use Rattle.bridge_run.specs.Stopped.{Faulty, Stands, StopsAtTooMany}
 
@@ -230,6 +230,17 @@ capture_of stop a b p s = subst (λ n. Faulted (n == 6) a.sinks.capture b.sinks.
 
 pub report_of : (stop : Stop) (a b : Moment) → FirstFault stop a b → status_of stop ≡ 7 → Rose a.sinks.report.faults b.sinks.report.faults
 report_of stop a b p s = subst (λ n. Faulted (n == 7) a.sinks.report b.sinks.report) s p.sinks.report
+
+-- 7 is not the status of a fault of the input
+pub input_is_not_7 : (fault : InputFault) (offset : ℕ) → status_of (stop_at_fault fault offset) ≡ 7 → ⊥
+input_is_not_7 faults.Cut offset seven = omega (arith, seven)
+input_is_not_7 faults.Magic offset seven = omega (arith, seven)
+input_is_not_7 faults.Version offset seven = omega (arith, seven)
+input_is_not_7 faults.Link offset seven = omega (arith, seven)
+input_is_not_7 faults.Block offset seven = omega (arith, seven)
+input_is_not_7 faults.Long offset seven = omega (arith, seven)
+input_is_not_7 faults.Many offset seven = omega (arith, seven)
+input_is_not_7 faults.ReadFault offset seven = omega (arith, seven)
 
 -- a finished run excludes faults
 

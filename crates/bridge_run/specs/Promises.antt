@@ -13,8 +13,8 @@ use Rattle.both_sides.specs.Traces.{mirrored}
 use Rattle.record_relay.specs.Cut.{AgreeAsWritten, CleanIsWritten, NoneIsLong, written}
 use Rattle.record_relay.specs.Runs.{RunTrace, one, two}
 
--- In each era any two receivers of the family, under any schedules of the frames written inwards, deliver streams of which one is a prefix of the other. If both
--- sides are protected, that holds of either side, since frames of the first engine to the inside pass the second unchanged.
+-- In each era any two receivers of the family deliver streams of which one is a prefix of the other, whichever of the frames written inwards reach them in time,
+-- how often and in which order. If both sides are protected, that holds of either side, since frames of the first engine to the inside pass the second unchanged.
 abbrev pub ReceiversAgree : PlainSettings → Link → RunTrace → Type 0
 ReceiversAgree settings link (one trace) = AgreeAsWritten settings link trace
 ReceiversAgree settings link (two trace mirror) = Agree settings.hops link trace × Agree settings.hops link mirror × InwardGoesThrough trace mirror
@@ -29,12 +29,12 @@ abbrev pub CleanKeepPayload : PlainSettings → Link → RunTrace → Type 0
 CleanKeepPayload settings link (one trace) = CleanIsWritten settings link trace
 CleanKeepPayload settings link (two trace mirror) = CleanIsKept settings link trace × CleanIsKept (mirrored settings) link mirror
 
--- Each frame written inwards is plain for the routers behind norm, except ARP.
+-- Each frame written inwards is plain for the routers behind norm, except ARP; if both sides are protected, also each frame written outwards.
 abbrev pub InwardArePlain : PlainSettings → Link → RunTrace → Type 0
 InwardArePlain settings link (one trace) = ArePlainInwards settings.hops link (written settings link trace)
 InwardArePlain settings link (two trace mirror) = ArePlainInwards settings.hops link trace × ArePlainInwards settings.hops link mirror
 
--- No frame written is longer than a capture may have, or than the MTU, if there is one.
+-- No frame written has more than 65,549 octets. With an MTU, which only one engine may have, no packet written is longer than it, except ARP.
 abbrev pub FramesFit : PlainSettings → Link → RunTrace → Type 0
 FramesFit settings link (one trace) = NoneIsLong settings.mtu link (written settings link trace) × AllByRecursion HasShortFrames (written settings link trace)
 FramesFit settings link (two trace mirror) = AllByRecursion HasShortFrames mirror

@@ -7,7 +7,7 @@ use Rattle.pcap_file.specs.declared.head.Head.{Head}
 use Rattle.pcap_file.specs.Records.{Packet}
 use Rattle.capture_input.specs.declared.fault.InputFault.{InputFault}
 use Rattle.capture_input.specs.declared.fault.InputFault.TheVariants as faults
-use Rattle.capture_input.specs.Inputs.{Walk, packets_in, newest_place, BeginsWith, EndsAtNewest, FailsAt, HasFaultAt, IsInput}
+use Rattle.capture_input.specs.Inputs.{Walk, packets_in, newest_place, BeginsWith, EndsAtNewest, FailsAt, HasFaultAt, IsInput, Took}
 use Rattle.rule_book.specs.declared.last.Last.TheVariants as last
 use Rattle.rule_book.specs.declared.last.StopKind.{StopKind}
 use Rattle.rule_book.specs.declared.last.StopKind.TheVariants as kinds
@@ -136,10 +136,9 @@ abbrev pub WasFaulty : PlainSettings → (source : Option (List ℕ)) → Type 0
 WasFaulty settings source =
     ((fault : InputFault) × (offset : ℕ) × (is_faulty fault ≡ true) × HasFaultAt settings.inside source fault offset) ⊎ ((offset : ℕ) × WasTooMany settings source offset)
 
--- If the octets of the source are known, they begin with a head that is accepted.
-abbrev pub HasHead : PlainSettings → (source : Option (List ℕ)) → Type 0
-HasHead settings None = Unit {0}
-HasHead settings (Some octets) = (head : Head) × (walk : Walk) × (rest : List ℕ) × BeginsWith settings.inside octets head walk rest
+-- If the octets of the source are known, they began with a head that is accepted, and at least its octets were taken.
+abbrev pub TookHead : PlainSettings → (source source' : Option (List ℕ)) → Type 0
+TookHead settings source source' = (head : Head) × (walk : Walk) × Took settings.inside source source' head walk
 
 -- A sink was at most flushed: its octets are unchanged, and so is its fault count if they are known.
 pub record Kept (before now : Seen) : Type 0 where

@@ -100,9 +100,9 @@ pub fn run<S: Source, K: Sink, R: Sink>(
     ensures complete { UnderWords (map string_bytes words.now) (λ settings. stops.IsWhole settings (S.left source.old))
         → (result ≡ 0) ⊎ (5 ≤ result) }
 
-    // At 7 the source is as it was, or it has a head: a run that found no head stops with 3, 4 or 5.
+    // At 7 the source is as it was, or a head was taken: a run that found no head stops with 3, 4 or 5.
     ensures untouched_or_opened { result ≡ 7 → (source.new ≡ source.old)
-        ⊎ UnderWords (map string_bytes words.now) (λ settings. stops.HasHead settings (S.left source.old)) }
+        ⊎ UnderWords (map string_bytes words.now) (λ settings. stops.TookHead settings (S.left source.old) (S.left source.new)) }
 
     ensures known { (result ≡ 0) ⊎ ((2 ≤ result) × (result ≤ 8)) }
     ensures source_later { S.fault_count source.old ≤ S.fault_count source.new }
@@ -163,7 +163,7 @@ pub fn run_capture<S: Source, K: Sink, R: Sink>(
     ensures faulty_exactly { stops.IsFaulty (plain_settings settings.now) (S.left source.old) → (result ≡ 3) ⊎ (5 ≤ result) }
     ensures cut_exactly { stops.IsCutShort (plain_settings settings.now) (S.left source.old) → (result ≡ 4) ⊎ (5 ≤ result) }
     ensures complete { stops.IsWhole (plain_settings settings.now) (S.left source.old) → (result ≡ 0) ⊎ (5 ≤ result) }
-    ensures untouched_or_opened { result ≡ 7 → (source.new ≡ source.old) ⊎ stops.HasHead (plain_settings settings.now) (S.left source.old) }
+    ensures untouched_or_opened { result ≡ 7 → (source.new ≡ source.old) ⊎ stops.TookHead (plain_settings settings.now) (S.left source.old) (S.left source.new) }
     ensures known { (result ≡ 0) ⊎ ((3 ≤ result) × (result ≤ 8)) }
     ensures source_later { S.fault_count source.old ≤ S.fault_count source.new }
     ensures capture_later { K.fault_count capture.old ≤ K.fault_count capture.new }
@@ -200,7 +200,7 @@ fn normalize_in_room<S: Source, K: Sink, R: Sink>(
         let now = moment_of (S.left source.new) (S.fault_count source.new) (K.held capture.new) (K.fault_count capture.new) (R.held report.new) (R.fault_count report.new) in
         IfOk result (λ ended. ends.Ends (plain_settings settings.now) ended before now) }
     ensures opened { IfOk result (λ ended. IfErr ended (λ stop. stops.status_of stop ≡ 7
-        → (source.new ≡ source.old) ⊎ stops.HasHead (plain_settings settings.now) (S.left source.old))) }
+        → (source.new ≡ source.old) ⊎ stops.TookHead (plain_settings settings.now) (S.left source.old) (S.left source.new))) }
     ensures source_stays { IfErr result (λ fault. source.new ≡ source.old) }
     ensures capture_stays { IfErr result (λ fault. capture.new ≡ capture.old) }
     ensures report_stays { IfErr result (λ fault. report.new ≡ report.old) }
@@ -244,7 +244,7 @@ fn normalize<S: Source, K: Sink, R: Sink>(
         let now = moment_of (S.left source.new) (S.fault_count source.new) (K.held capture.new) (K.fault_count capture.new) (R.held report.new) (R.fault_count report.new) in
         ends.Ends (plain_settings settings.now) result before now }
     ensures opened { IfErr result (λ stop. stops.status_of stop ≡ 7
-        → (source.new ≡ source.old) ⊎ stops.HasHead (plain_settings settings.now) (S.left source.old)) }
+        → (source.new ≡ source.old) ⊎ stops.TookHead (plain_settings settings.now) (S.left source.old) (S.left source.new)) }
     ensures source_later { S.fault_count source.old ≤ S.fault_count source.new }
     ensures capture_later { K.fault_count capture.old ≤ K.fault_count capture.new }
     ensures report_later { R.fault_count report.old ≤ R.fault_count report.new }

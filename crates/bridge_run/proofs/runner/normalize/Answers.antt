@@ -1,4 +1,4 @@
-use Rattle.std.proofs.Common.{◌≡◌, ℕ, ◌<◌, ◌^◌, rules, true, List, inl, inr, refl, sym, subst, ◌∙◌}
+use Rattle.std.proofs.Common.{◌≡◌, ℕ, ◌<◌, ◌^◌, rules, true, List, inl, inr, refl, sym, subst, ap, ◌∙◌}
 use Rattle.std.proofs.lemmas.Result.{on_ok_weaker}
 use Rattle.std.specs.declared.option.Option.{Option}
 use Rattle.capture_input.specs.Reading.{Behind}
@@ -7,8 +7,10 @@ use Rattle.record_relay.specs.Relays.{StandsForRun, is_full_of}
 use Rattle.record_relay.specs.Runs.{empty_run}
 use Rattle.bridge_run.specs.Moments.{Moment, moment_of}
 use Rattle.bridge_run.specs.Run.{Ended}
-use Rattle.bridge_run.proofs.Running.{begins, none_counted, fewer_left, goes_on, normalized, stops_at_packet, stops_at_end, stops_at_record, stops_at_too_many, if_err_weaker}
+use Rattle.bridge_run.specs.Stops.{status_of}
+use Rattle.bridge_run.proofs.Running.{begins, none_counted, fewer_left, goes_on, normalized, stops_at_packet, stops_at_end, stops_at_record, stops_at_too_many, took_end, took_more, if_err_weaker}
 use Rattle.bridge_run.proofs.Reading.{first_at_sink, stands_faulty, stands_unwritten}
+use Rattle.bridge_run.proofs.Statuses.{input_is_not_7}
 use Rattle.bridge_run.proofs.runner.normalize.Goals as goal
 
 pub set_link-requires : goal.set_link-requires
@@ -50,7 +52,7 @@ records-preserved g c =
       going =
           goes_on settings c.head-head.result _ _ c.records.relay c.records.input c.records.frames going _ c.next.new.self c.in-Ok-Some.record gives c.runs_go_on.ensures.next
           c.relay.new.self c.in-Ok.count (search rules) (sym c.is_full.ensures ∙ c.if-is_full.false)
-          c.in-Ok.ensures.relayed c.in-Ok.ensures.short c.relay.ensures.stands c.relay.ensures.octets c.relay.ensures.settings c.relay.ensures.link
+          c.in-Ok.ensures.written c.relay.ensures.stands c.relay.ensures.octets c.relay.ensures.settings c.relay.ensures.link
           (λ both. rw c.in-Ok-Some.field-0-is at (c.in-Ok-Some.ensures.sideless going.walk (subst (λ (inside : Option (List ℕ)). Behind c.records.input inside going.walk) (c.requires.together.inside both) going.behind)))
           seconds fraction;
     }
@@ -91,12 +93,12 @@ returns-in-Err-relay-clause-ends g c =
     let going = c.records.invariant.going in
     let gives = rw c.in-Ok-Some.field-0-is at (c.in-Ok-Some.ensures.octets settings.inside going.walk going.behind) in
     let at = stops_at_packet settings c.head-head.result _ _ c.records.relay c.records.input c.records.frames going now c.next.new.self c.in-Ok-Some.record gives c.runs_go_on.ensures.next
-    (sym c.is_full.ensures ∙ c.if-is_full.false) c.in-Err-relay.fault c.in-Err-relay.ensures.broke in
+    (sym c.is_full.ensures ∙ c.if-is_full.false) c.in-Err-relay.fault c.in-Err-relay.ensures.written in
     record {
       finished = tt;
       stopped = record {
         stands = rw c.stop_at_sink.ensures (stands_unwritten settings _ c.in-Err-relay.fault c.in-Ok-Some.record.offset _ now refl (inr (inr (inl at))));
-        first = rw c.stop_at_sink.ensures (first_at_sink c.in-Err-relay.fault c.in-Ok-Some.record.offset _ _ _ going.so_far.none_rose (search rules) c.in-Err-relay.ensures.first);
+        first = rw c.stop_at_sink.ensures (first_at_sink c.in-Err-relay.fault c.in-Ok-Some.record.offset _ _ _ going.so_far.none_rose (search rules) (c.in-Err-relay.ensures.written going.run going.stands).first);
       };
     }
 
@@ -122,3 +124,23 @@ returns-clause-ends g c =
           })
           c.finish.ensures.closes.stopped;
     }
+
+pub returns-in-Err-clause-opened : goal.returns-in-Err-clause-opened
+returns-in-Err-clause-opened g c = λ seven. absurd (input_is_not_7 c.in-Err.fault c.offset.result (sym (ap status_of c.stop_at_fault.ensures) ∙ seven))
+
+pub returns-in-Err-relay-clause-opened : goal.returns-in-Err-relay-clause-opened
+returns-in-Err-relay-clause-opened g c =
+    let settings = plain_settings c.args.settings.now in
+    let now : Moment = moment_of (g.S.Source.left c.next.new.source) (g.S.Source.fault_count c.next.new.source) (g.K.Sink.held c.relay.new.capture) (g.K.Sink.fault_count c.relay.new.capture) (g.R.Sink.held c.relay.new.report) (g.R.Sink.fault_count c.relay.new.report) in
+    let going = c.records.invariant.going in
+    let gives = rw c.in-Ok-Some.field-0-is at (c.in-Ok-Some.ensures.octets settings.inside going.walk going.behind) in
+    λ seven. inr (c.head-head.result, gives.farther, took_more settings c.head-head.result _ _ c.records.relay c.records.input c.records.frames going now c.next.new.self c.in-Ok-Some.record gives)
+
+pub returns-clause-opened : goal.returns-clause-opened
+returns-clause-opened g c =
+    let settings = plain_settings c.args.settings.now in
+    let now : Moment = moment_of (g.S.Source.left c.next.new.source) (g.S.Source.fault_count c.next.new.source) (g.K.Sink.held c.finish.new.capture) (g.K.Sink.fault_count c.finish.new.capture) (g.R.Sink.held c.finish.new.report) (g.R.Sink.fault_count c.finish.new.report) in
+    let going = c.records.invariant.going in
+    let ends = rw c.in-Ok-None.field-0-is at (c.in-Ok-None.ensures.octets settings.inside going.walk going.behind) in
+    let took = took_end settings c.head-head.result _ _ c.records.relay c.records.input c.records.frames going now c.next.new.self c.whole_is_input.ensures ends c.records-2.result c.records-2.ensures in
+    if_err_weaker c.finish.result (λ stop closes seven. inr (c.head-head.result, ends.farther, took)) c.finish.ensures.closes.stopped
