@@ -1,5 +1,5 @@
 -- How an audit proceeds from frame to frame, and how it ends.
-use Rattle.std.proofs.Common.{◌≡◌, ℕ, zero, suc, ◌+◌, ◌≤◌, List, [], ◌∷◌, length, drop, Option, Some, None, Ok, refl, sym, ap, ap₂, subst, ◌∙◌, arith}
+use Rattle.std.proofs.Common.{◌≡◌, ℕ, zero, suc, ◌+◌, ◌<◌, ◌≤◌, ◌^◌, List, [], ◌∷◌, length, drop, Option, Some, None, Ok, refl, sym, ap, ap₂, subst, ◌∙◌, arith}
 use Rattle.std.specs.Prelude.{IfSome, IsSome, slice_get, nat_eq}
 use Rattle.std.specs.List.{AllByRecursion}
 use Rattle.std.proofs.lemmas.Option.{slice_get_past}
@@ -8,7 +8,7 @@ use Rattle.wire_base.specs.Frames.{packet_in}
 use Rattle.pcap_file.specs.declared.head.Head.{Head}
 use Rattle.pcap_file.specs.declared.order.Order.{Order}
 use Rattle.pcap_file.specs.Records.{Packet, front_of}
-use Rattle.pcap_file.specs.Capture.{ReadsTo, Took}
+use Rattle.pcap_file.specs.Capture.{ReadsTo, Took, offset_of}
 use Rattle.pcap_file.specs.Reads.{Leaves, HasEnd, Advances}
 use Rattle.pcap_file.specs.Reading.{Reading}
 use Rattle.rule_book.specs.Entries.{PlainEntry}
@@ -16,12 +16,27 @@ use Rattle.indexmap.specs.IndexMap.{get}
 use Rattle.run_audit.specs.declared.answer.Reason.{Reason}
 use Rattle.run_audit.specs.declared.answer.Reason.TheVariants as reasons
 use Rattle.run_audit.specs.declared.owners.Owners.{Owners}
-use Rattle.run_audit.specs.Audits.{frames_of, SoundFrames, FaultyFrame, HasEra, GoesOn}
+use Rattle.run_audit.specs.Audits.{frames_of, SoundFrames, FaultyFrame, HasEra}
 use Rattle.run_audit.specs.Eras.{Eras, AllStandFor, AreThere, IsJudged, IsNoted, StandsForFew}
 use Rattle.run_audit.specs.Faults.{IsFirstReason}
 use Rattle.run_audit.specs.FirstFault.{AreFaultless, FailsNext, FirstFault}
 use Rattle.run_audit.specs.Frames.{Frame, frame_of, owners, with_frame, owned, sent}
 use Rattle.run_audit.specs.Owned.{left_of}
+
+-- The frames that were judged have no fault: the states of the eras, the entries that are left, and the position of the reader.
+pub record GoesOn (hops : ℕ) (head : Head) (entries : List PlainEntry) (old now : Option (List ℕ)) (eras : Eras) (left : Owners) (reader : Reading) (frames : ℕ) : Type 0 where
+  pub packets : List Packet
+  pub took : Took head.order old now packets
+  pub each_owned : length packets ≤ length (owners entries)
+  pub faultless : AreFaultless hops (owned head.link (owners entries) (frames_of packets))
+  pub left_is : left_of left ≡ drop (length packets) (owners entries)
+  pub stand : AllStandFor eras (sent (owned head.link (owners entries) (frames_of packets)))
+  pub named : AllByRecursion (HasEra eras) (left_of left)
+  pub frames_are : frames ≡ length packets
+  pub given_is : reader.given ≡ length packets
+  pub few : reader.given < 2 ^ 32
+  pub place_is : reader.place ≡ offset_of packets
+  pub head_is : reader.head ≡ head
 
 -- if nothing is left after n owners, there is no owner after n others
 left_none : (os : List PlainEntry) (n : ℕ) → drop n os ≡ [] → (slice_get os n ≡ None) × (length os ≤ n)

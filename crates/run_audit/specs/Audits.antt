@@ -1,24 +1,20 @@
 -- What an audit finds in the octets of a capture (this project's profile). Records are a list, newest first.
 use Rattle.std.specs.Prelude.{◌≡◌, ◌⊎◌, ℕ, ◌^◌, ◌<◌, ◌≤◌, List, [], length, drop, map, Option, option_map, Ok, Err, IfSome, IsSome, nat_eq}
-use Rattle.std.specs.List.{AllByRecursion}
 use Rattle.edge_io.specs.Faults.{Rose}
 use Rattle.pcap_file.specs.declared.head.Head.{Head}
 use Rattle.pcap_file.specs.Flaws as found
 use Rattle.pcap_file.specs.Heads.{head_of}
 use Rattle.pcap_file.specs.Records.{Packet, front_of}
-use Rattle.pcap_file.specs.Capture.{ReadsTo, Took, offset_of}
-use Rattle.pcap_file.specs.Reading.{Reading}
+use Rattle.pcap_file.specs.Capture.{ReadsTo, offset_of}
 use Rattle.rule_book.specs.Entries.{PlainEntry}
 use Rattle.indexmap.specs.IndexMap.{get}
 use Rattle.run_audit.specs.declared.answer.Answer.{Answer}
 use Rattle.run_audit.specs.declared.answer.Answer.TheVariants as answers
 use Rattle.run_audit.specs.declared.answer.Reason.{Reason}
-use Rattle.run_audit.specs.declared.owners.Owners.{Owners}
 use Rattle.run_audit.specs.Answers.{flaw_of}
-use Rattle.run_audit.specs.Frames.{owners, owned, sent}
+use Rattle.run_audit.specs.Frames.{owners, owned}
 use Rattle.run_audit.specs.FirstFault.{AreFaultless, FirstFault, NoFault}
-use Rattle.run_audit.specs.Eras.{Eras, AllStandFor}
-use Rattle.run_audit.specs.Owned.{left_of}
+use Rattle.run_audit.specs.Eras.{Eras}
 
 -- the octets of the frames
 abbrev pub frames_of : List Packet → List (List ℕ)
@@ -91,18 +87,3 @@ WhyUnsoundWhole hops entries capture before now _ = ⊥
 -- the era that the entry names, if it names one, is among the eras
 abbrev pub HasEra : Eras → PlainEntry → Type 0
 HasEra eras entry = IfSome entry.era (λ era. IsSome (get nat_eq eras era))
-
--- The frames that were judged have no fault: the states of the eras, the entries that are left, and the position of the reader.
-pub record GoesOn (hops : ℕ) (head : Head) (entries : List PlainEntry) (old now : Option (List ℕ)) (eras : Eras) (left : Owners) (reader : Reading) (frames : ℕ) : Type 0 where
-  pub packets : List Packet
-  pub took : Took head.order old now packets
-  pub each_owned : length packets ≤ length (owners entries)
-  pub faultless : AreFaultless hops (owned head.link (owners entries) (frames_of packets))
-  pub left_is : left_of left ≡ drop (length packets) (owners entries)
-  pub stand : AllStandFor eras (sent (owned head.link (owners entries) (frames_of packets)))
-  pub named : AllByRecursion (HasEra eras) (left_of left)
-  pub frames_are : frames ≡ length packets
-  pub given_is : reader.given ≡ length packets
-  pub few : reader.given < 2 ^ 32
-  pub place_is : reader.place ≡ offset_of packets
-  pub head_is : reader.head ≡ head

@@ -37,6 +37,3 @@ mod words;
 
 pub use answer::{Answer, Flaw, Reason};
 pub use examine::audit;
-
-#[cfg(test)]
-mod tests;

@@ -18,7 +18,7 @@ abbrev pub records_put : List Put → List Packet
 records_put [] = []
 records_put (put ∷ older) = reverse (map (record_of put) put.frames) ++ records_put older
 
--- After these records `rest` is left of all octets after the head. Each is read by the grammar of captures, as if it were the first, so their number has no limit.
+-- Behind the head stand these records, and then `rest`. Each is read by the grammar of captures as if it were the first, so the limit on their number is left out.
 abbrev pub ReadsOn : Order → (all : List ℕ) → List Packet → (rest : List ℕ) → Type 0
 ReadsOn order all [] rest = all ≡ rest
 ReadsOn order all (packet ∷ older) rest = (left : List ℕ) × ReadsOn order all older left × (front_of order 0 left ≡ Ok (Some (packet, rest)))

@@ -4,7 +4,7 @@ use Rattle.run_laws.proofs.laws.runs_are_audited_yes.Goals as goal
 pub returns : goal.returns
 returns c =
     runs_audited_yes (record {
-      whole = c.unbounded_is_written_whole.ensures;
+      whole = c.unbounded_is_written_whole.ensures.whole;
       puts = c.one_puts_its_trace.ensures;
       counted = c.items_are_counted.ensures;
       in_order = c.items_are_written_in_order.ensures;
