@@ -11,7 +11,7 @@ from norm_model.rule_names import RULES
 from norm_model.run import STATUS, read_input
 from norm_model.view_fields import changes_of, flow_of, length_of
 from norm_model.view_texts import VERDICTS, era_json, era_text, record_json, record_text, summary_text
-from norm_model.words import read_number
+from norm_model.words import read_number, take_option
 
 
 class Ended(Exception):
@@ -31,32 +31,14 @@ def read_value(name, text):
     return text if text in {"rule": RULES, "only": VERDICTS}[name] else None
 
 
-def take_option(words, asked, seen):
-    """Reads the option in front: the words behind it, or None where it is refused."""
-    name, equals, value = words[0][2:].partition("=")
-    rest = words[1:]
-    if not words[0].startswith("--") or name in seen or name not in ("json", "rule", "era", "only"):
-        return None
-    seen.append(name)
-    if name == "json":
-        asked.json = True
-        return rest if equals == "" else None
-    if equals == "":
-        if not rest:
-            return None
-        value, rest = rest[0], rest[1:]
-    read = read_value(name, value)
-    if read is None:
-        return None
-    setattr(asked, name, read)
-    return rest
+OPTIONS = SimpleNamespace(names=["json", "rule", "era", "only"], marks=["json"], read=read_value)
 
 
 def read_view_words(words):
     """What is asked, or None where the words are refused."""
     asked, seen = SimpleNamespace(json=False, rule=None, era=None, only=None), []
     while words and words[0].startswith("-"):
-        words = take_option(words, asked, seen)
+        words = take_option(words, OPTIONS, asked, seen)
         if words is None:
             return None
     if len(words) != 3 or any(word == "" or word.startswith("-") for word in words):

@@ -68,21 +68,22 @@ def read_value(name, text):
     return octets if low <= len(octets) <= high and not text.startswith("-") else None
 
 
-def take_option(words, settings, seen, built):
-    """Reads the option at the front of the words: the words after it, or None where it is refused."""
+def take_option(words, options, settings, seen):
+    """Reads the option at the front of the words into the settings: the words after it, or None where it is refused. `options` has its name, those that are
+    marks, and what reads a value."""
     name, equals, value = words[0][2:].partition("=")
     rest = words[1:]
-    if not words[0].startswith("--") or name not in built.options or name in seen:
+    if not words[0].startswith("--") or name not in options.names or name in seen:
         return None
     seen.append(name)
-    if name in MARKS:
+    if name in options.marks:
         setattr(settings, name, True)
         return rest if equals == "" else None
     if equals == "":
         if not rest:
             return None
         value, rest = rest[0], rest[1:]
-    read = read_value(name, value)
+    read = options.read(name, value)
     if read is None:
         return None
     setattr(settings, name.replace("-", "_"), read)
@@ -96,9 +97,10 @@ def go_together(settings):
 
 def read_run(words, built):
     settings = default_settings()
+    options = SimpleNamespace(names=built.options, marks=MARKS, read=read_value)
     seen = []
     while words and words[0].startswith("-"):
-        words = take_option(words, settings, seen, built)
+        words = take_option(words, options, settings, seen)
         if words is None:
             return REFUSED
     if len(words) < 3 or any(word == "" or word.startswith("-") for word in words) or not go_together(settings):

@@ -23,8 +23,6 @@ pub mod laws;
 mod parts;
 mod payload;
 mod reading;
-#[cfg(test)]
-mod tests;
 pub mod text;
 
 pub use change::{Change, PayloadChange, Replaced, add_changes};

@@ -19,20 +19,20 @@ each rule that was named with its number and a sentence, eras by their end; then
 line for each era. norm-report(5) explains the words of a report.
 
 Options go before IN, each at most once, as --name=VALUE or --name VALUE. With one
-of the first three a line for each record that fits all of them is printed, and no
-summary:
+or more of the first three, a line is printed for each record that fits all of them,
+and no summary:
 
   --rule NAME  records whose line names this rule
   --era E      records that belong to era E, begin it or end it: 1 to 4294967295
   --only WORD  records with this verdict: pass, fix, hold or drop
   --json       a JSON object for each of these records; without a choice for all records and eras
 
-The line of a record has these parts, those that it has not left out:
+The line of a record has these parts; what a record has not is left out:
 
   N TIME SIDE SRC:PORT > DST:PORT PROTO FLAGS seq S ack A len L VERDICT
     era E RULE (sentence) frames F; frame I FIELD FROM > TO, FIELD FROM > TO; ..
 
-N is the record's number, L the octets of its payload. Of the F frames those are
+N is the record's number, L the captured octets of its payload. Of the F frames those are
 listed that differ from the record: frame I in each FIELD, from its value in the
 record to that in the frame, - for none. Of the payload it says how many octets
 were cut in front and at the end, how many the frame has more, and which were
@@ -50,14 +50,14 @@ Status and last line:
   0  none: all three files were read to their end
   1  no record N: IN lacks record N of REPORT, or has one more than REPORT
   1  no frame N: OUT lacks frame N of REPORT, or has one more than REPORT
-  2  stop words: the words are no words of a view; nothing is read
-  3  stop in KIND O, stop out KIND O: IN or OUT is no such capture, by its octets at offset O
+  2  stop words: the words are no words of a view; files may have been opened, and nothing is read
+  3  stop in KIND O, stop out KIND O: IN or OUT is malformed at offset O
   3  stop out link 0: also where IN and OUT are not of the same network
   4  stop in cut O, stop out cut O: IN or OUT ends inside its head, a record or a block
   5  stop read: IN, OUT or REPORT could not be opened or read
   7  none: the output could not be written, or was cut off
   8  stop memory: memory could not be allocated
-  9  stop report N: REPORT is none of a finished run of one engine, by its line N
+  9  stop report N: line N of REPORT belongs to no report of a finished run of one engine
 
 KIND is magic, version, link, block, long or many, as in a report. What was printed
 before a last line stays.

@@ -1,6 +1,5 @@
 -- Counting the lines that name a rule.
-use Rattle.std.proofs.Common.{◌≡◌, ℕ, suc, ◌+◌, ◌<◌, ◌==◌, Bool, true, false, List, [], ◌∷◌, ◌++◌, drop, take, length, get_or, refl, sym, ap, subst, ◌∙◌, arith, add-one, drop-cons, append_assoc, append-nil, take-append-drop, if◌then◌else◌}
-use Rattle.std.specs.Prelude.{slice_set}
+use Rattle.std.proofs.Common.{◌≡◌, ℕ, suc, ◌+◌, ◌<◌, ◌==◌, true, false, List, [], ◌∷◌, ◌++◌, drop, take, length, get_or, sym, ap, ◌∙◌, arith, add-one, drop-cons, append_assoc, take-append-drop, if◌then◌else◌}
 use Rattle.std.proofs.lemmas.List.{drop-set, take-set}
 use Rattle.rule_book.specs.Rules.{rule_number}
 use Rattle.rule_book.specs.declared.rule.Rule.{Rule}

@@ -1,14 +1,12 @@
 -- The end of a view: what was read and what is printed then.
-use Rattle.std.proofs.Common.{◌≡◌, ℕ, ◌+◌, List, [], ◌∷◌, ◌++◌, length, Option, Some, None, refl, sym, ap, subst, ◌∙◌, append_assoc, append-nil, if◌then◌else◌}
+use Rattle.std.proofs.Common.{◌≡◌, ℕ, Bool, false, List, [], ◌++◌, length, Option, Some, None, sym, ap, subst, ◌∙◌, append_assoc, append-nil, if◌then◌else◌}
 use Rattle.std.specs.Prelude.{IfSome}
 use Rattle.std.specs.Io.KnownBytes.{Appends, Consumes, IsAtEnd}
 use Rattle.std.proofs.KnownBytes.{Appends-trans, Consumes-trans}
 use Rattle.pcap_file.specs.declared.head.Head.{Head}
 use Rattle.rule_book.specs.Reports.{IsVersion}
-use Rattle.rule_book.specs.Text.{first_line, last_text, lines_text, report_text}
-use Rattle.rule_book.specs.declared.last.Last.{Last}
+use Rattle.rule_book.specs.Text.{first_line, last_text, lines_text}
 use Rattle.rule_book.specs.declared.last.Last.TheVariants.{End}
-use Rattle.view_text.specs.Views.{PlainSummary}
 use Rattle.run_view.specs.declared.tally.Tally.{Tally}
 use Rattle.run_view.specs.declared.viewer.Viewer.{Viewer}
 use Rattle.run_view.specs.declared.words.Asked.{Asked}
@@ -17,7 +15,7 @@ use Rattle.run_view.specs.Printed.{summary_shown}
 use Rattle.run_view.specs.Rows.{table_of}
 use Rattle.run_view.specs.SoFar.{AreWhole, Counts, Ends, Going, SoFar, Whole, closing_shown}
 use Rattle.run_view.specs.Summary.{no_eras, with_eras}
-use Rattle.run_view.specs.View.{closing_text, eras_of, eras_text, has_choice, items_text, summary_line, summary_of, view_text_of}
+use Rattle.run_view.specs.View.{closing_text, eras_text, has_choice, items_text, summary_line, summary_of, view_text_of}
 use Rattle.run_view.specs.Viewed.{Reports, ViewedAs}
 
 -- what a source had left is what was taken to its end
@@ -39,7 +37,7 @@ summary_is records frames tally head items is_records is_frames counts =
     let sides = counts.sides in let rules = counts.rules_are in let eras = ap (λ t. with_eras t no_eras) counts.eras in cc
 
 -- what is printed at the end
-pub closing_is : (viewer : Viewer) (asked : Asked) (head : Head) (items : List Item) → viewer.asked ≡ asked → viewer.files.count ≡ length items
+closing_is : (viewer : Viewer) (asked : Asked) (head : Head) (items : List Item) → viewer.asked ≡ asked → viewer.files.count ≡ length items
     → viewer.files.frames.count ≡ length (frames_of items) → Counts viewer.tally head items → closing_shown viewer ≡ closing_text asked head items
 closing_is viewer asked head items is count frame_count counts =
     ap
@@ -50,12 +48,27 @@ closing_is viewer asked head items is count frame_count counts =
     (summary_is viewer.files.count viewer.files.frames.count viewer.tally head items count frame_count counts)
     ∙ ap (λ t. if has_choice asked then [] else (if asked.json then [] else summary_line (summary_of head items)) ++ eras_text asked.json t) counts.eras
 
+-- the same where neither a condition nor JSON is asked for
+pub closing_plain : (viewer : Viewer) → has_choice viewer.asked ≡ false → viewer.asked.json ≡ false
+    → closing_shown viewer ≡ summary_line (summary_shown viewer.files.count viewer.files.frames.count viewer.tally) ++ eras_text false (table_of viewer.tally.eras)
+closing_plain viewer none plain =
+    let summary = summary_line (summary_shown viewer.files.count viewer.files.frames.count viewer.tally) in
+    let table = table_of viewer.tally.eras in
+    ap (λ (b : Bool). if b then [] else (if viewer.asked.json then [] else summary) ++ eras_text viewer.asked.json table) none
+    ∙ ap (λ (b : Bool). (if b then [] else summary) ++ eras_text b table) plain
+
 -- how the view has changed since its last record
 pub record Closes (viewer last : Viewer) : Type 0 where
   pub asked : last.asked ≡ viewer.asked
   pub tally : last.tally ≡ viewer.tally
   pub count : last.files.count ≡ viewer.files.count
   pub frame_count : last.files.frames.count ≡ viewer.files.frames.count
+
+pub closing_now : (viewer last : Viewer) (items : List Item) → Closes viewer last → Counts viewer.tally viewer.files.head items → viewer.files.count ≡ length items
+    → viewer.files.frames.count ≡ length (frames_of items) → closing_shown last ≡ closing_text viewer.asked viewer.files.head items
+closing_now viewer last items closes counted count frame_count =
+    let T : Tally → Type 0 = λ t. Counts t viewer.files.head items in
+    closing_is last viewer.asked viewer.files.head items closes.asked (closes.count ∙ count) (closes.frame_count ∙ frame_count) (subst T (sym closes.tally) counted)
 
 -- the whole run was viewed
 pub whole_now : (viewer last : Viewer) (asked : Asked) (version : ℕ) (head written : Head) (before now : Ends) (report left ended printed : Option (List ℕ))
@@ -67,11 +80,7 @@ pub whole_now : (viewer last : Viewer) (asked : Asked) (version : ℕ) (head wri
 whole_now viewer last asked version head written before now report left ended printed is_asked is_version is_head closes told end ends prints going =
     let items = going.items in
     let so_far = going.so_far in
-    let counted : Counts viewer.tally viewer.files.head items = so_far.counts in
-    let T : Tally → Type 0 = λ t. Counts t viewer.files.head items in
-    let counts : Counts last.tally viewer.files.head items = subst T (sym closes.tally) counted in
-    let closing : closing_shown last ≡ closing_text viewer.asked viewer.files.head items =
-    closing_is last viewer.asked viewer.files.head items closes.asked (closes.count ∙ so_far.count) (closes.frame_count ∙ so_far.frame_count) counts in
+    let closing : closing_shown last ≡ closing_text viewer.asked viewer.files.head items = closing_now viewer last items closes so_far.counts so_far.count so_far.frame_count in
     let P : List ℕ → Type 0 = λ text. Appends now.printed printed text in
     let text : Appends before.printed printed (view_text_of viewer.asked viewer.files.head items) =
     Appends-trans before.printed now.printed printed (items_text viewer.asked viewer.files.head items) (closing_text viewer.asked viewer.files.head items) so_far.text (subst P closing prints) in

@@ -1,5 +1,5 @@
 -- One record more of a run: what is read, counted and printed of it.
-use Rattle.std.proofs.Common.{◌≡◌, ℕ, ◌+◌, List, [], ◌∷◌, ◌++◌, length, map, Option, Some, None, refl, sym, ap, subst, ◌∙◌, arith, length-append, if◌then◌else◌}
+use Rattle.std.proofs.Common.{◌≡◌, ℕ, ◌+◌, List, [], ◌∷◌, ◌++◌, length, Option, refl, sym, ap, subst, ◌∙◌, arith, length-append, if◌then◌else◌}
 use Rattle.std.specs.Io.KnownBytes.{Appends, Consumes}
 use Rattle.std.proofs.KnownBytes.{Appends-trans, Consumes-trans}
 use Rattle.pcap_file.specs.declared.head.Head.{Head}
@@ -14,7 +14,8 @@ use Rattle.run_view.specs.Eras.{with_entry}
 use Rattle.run_view.specs.Items.{AreItems, Item, entries_of, frames_of, if_inward, octets_in, packets_of, time_of}
 use Rattle.run_view.specs.Printed.{record_shown}
 use Rattle.run_view.specs.Rows.{table_of}
-use Rattle.run_view.specs.SoFar.{Counts, Ends, Going, SoFar, Taken, ToldNext}
+use Rattle.run_view.specs.SoFar.{Ends, Going, SoFar, Taken}
+use Rattle.run_view.specs.Causes.{HasNextLine, ToldNext}
 use Rattle.run_view.specs.Steps.{IsShown, ItemRead}
 use Rattle.run_view.specs.Summary.{all_counted, with_side}
 use Rattle.run_view.specs.declared.words.Asked.{Asked}
@@ -103,3 +104,9 @@ going_on old new head before mid now report left next entry version count is_ver
       so_far = taken.so_far;
       told = subst E (sym taken.entry_is) (Consumes-trans report left next (lines_text (entries_of going.items)) (entry_text entry) going.told told.taken);
     }
+
+-- the line of one more entry stands behind those of the items
+pub next_line_of : (viewer : Viewer) (items : List Item) (left next : Option (List ℕ)) (entry : PlainEntry) → viewer.files.count ≡ length items
+    → ToldNext viewer.version viewer.files.count left next entry → HasNextLine viewer.version items left entry
+next_line_of viewer items left next entry count told =
+    let C : ℕ → Type 0 = λ n. ToldNext viewer.version n left next entry in record { behind = next; told = subst C count told }

@@ -1,12 +1,15 @@
 -- The rows of the table of eras one by one.
-use Rattle.std.proofs.Common.{◌≡◌, ℕ, suc, ◌+◌, Bool, List, [], ◌∷◌, ◌++◌, drop, length, get_or, Option, Some, None, refl, sym, ap, subst, ◌∙◌, arith, add-one, drop-cons, append_assoc, append-nil}
+use Rattle.std.proofs.Common.{◌≡◌, ℕ, suc, ◌+◌, Bool, List, [], ◌∷◌, ◌++◌, drop, Option, Some, refl, sym, ap, subst, ◌∙◌, add-one, drop-cons, append_assoc, append-nil}
 use Rattle.std.specs.Prelude.{slice_get}
 use Rattle.std.specs.Io.KnownBytes.{Appends}
 use Rattle.std.proofs.KnownBytes.{Appends-trans, Appends-nil}
 use Rattle.std.proofs.lemmas.Option.{slice_get_within, get_or_from_slice_get}
 use Rattle.view_text.specs.declared.view.EraCounts.{EraCounts}
 use Rattle.run_view.specs.declared.eras.EraRow.{EraRow}
-use Rattle.run_view.specs.Printed.{AppendsSome, LeftToPrint}
+use Rattle.edge_io.specs.Faults.{Rose}
+use Rattle.run_view.specs.Printed.{LeftToPrint, PartStops, PrintStops, PrintsFront}
+use Rattle.run_view.specs.declared.stop.Stop.{Stop}
+use Rattle.run_view.specs.declared.stop.Stop.TheVariants as stops
 use Rattle.run_view.specs.Rows.{plain_pair, rows_of}
 use Rattle.run_view.specs.Summary.{with_era, with_eras}
 use Rattle.run_view.specs.View.{era_line, eras_text}
@@ -40,9 +43,57 @@ printed_more json es i e old mid now whole is prints left =
 pub printed_all : (old now : Option (List ℕ)) (rest whole : List ℕ) → rest ≡ [] → LeftToPrint old now rest whole → Appends old now whole
 printed_all old now rest whole none left = subst (Appends old now) (sym (left.whole_is ∙ ap (λ l. left.front ++ l) none ∙ append-nil left.front)) left.given
 
--- some octets were printed
-pub printed_some : (old mid now : Option (List ℕ)) (rest whole : List ℕ) → LeftToPrint old mid rest whole → AppendsSome mid now → AppendsSome old now
-printed_some old mid now rest whole left more = record { octets = left.front ++ more.octets; given = Appends-trans old mid now left.front more.octets left.given more.given }
+-- a front of all was printed
+pub printed_front : (old mid now : Option (List ℕ)) (rest whole : List ℕ) → LeftToPrint old mid rest whole → Appends mid now [] → PrintsFront old now whole
+printed_front old mid now rest whole left none =
+    let P : List ℕ → Type 0 = λ t. Appends old now t in
+    record { front = left.front; rest = rest; given = subst P (append-nil left.front) (Appends-trans old mid now left.front [] left.given none); text_is = left.whole_is }
+
+-- an era was not printed
+pub era_stops : (old mid now : Option (List ℕ)) (rest whole : List ℕ) (before then_ after : ℕ) (stop : Stop) → (Rose then_ after → Rose before after) → LeftToPrint old mid rest whole
+    → PrintStops mid now then_ after stop → PartStops old now before after whole stop
+era_stops old mid now rest whole before then_ after stops.Unwritten wider left why =
+    record { rose = wider why.rose; some = record { octets = left.front ++ why.some.octets; given = Appends-trans old mid now left.front why.some.octets left.given why.some.given } }
+era_stops old mid now rest whole before then_ after stops.Memory wider left why = printed_front old mid now rest whole left why
+era_stops old mid now rest whole before then_ after stops.Words wider left why = absurd why
+era_stops old mid now rest whole before then_ after (stops.Record n) wider left why = absurd why
+era_stops old mid now rest whole before then_ after (stops.Frame n) wider left why = absurd why
+era_stops old mid now rest whole before then_ after (stops.Input fault offset) wider left why = absurd why
+era_stops old mid now rest whole before then_ after (stops.Output fault offset) wider left why = absurd why
+era_stops old mid now rest whole before then_ after stops.Unread wider left why = absurd why
+era_stops old mid now rest whole before then_ after (stops.Report n) wider left why = absurd why
+
+-- the text behind another was not printed
+pub part_behind : (old mid now : Option (List ℕ)) (first second : List ℕ) (before then_ after : ℕ) (stop : Stop) → (Rose then_ after → Rose before after) → Appends old mid first
+    → PartStops mid now then_ after second stop → PartStops old now before after (first ++ second) stop
+part_behind old mid now first second before then_ after stops.Unwritten wider text why =
+    record { rose = wider why.rose; some = record { octets = first ++ why.some.octets; given = Appends-trans old mid now first why.some.octets text why.some.given } }
+part_behind old mid now first second before then_ after stops.Memory wider text why =
+    record {
+      front = first ++ why.front;
+      rest = why.rest;
+      given = Appends-trans old mid now first why.front text why.given;
+      text_is = ap (λ l. first ++ l) why.text_is ∙ sym (append_assoc first why.front why.rest);
+    }
+part_behind old mid now first second before then_ after stops.Words wider text why = absurd why
+part_behind old mid now first second before then_ after (stops.Record n) wider text why = absurd why
+part_behind old mid now first second before then_ after (stops.Frame n) wider text why = absurd why
+part_behind old mid now first second before then_ after (stops.Input fault offset) wider text why = absurd why
+part_behind old mid now first second before then_ after (stops.Output fault offset) wider text why = absurd why
+part_behind old mid now first second before then_ after stops.Unread wider text why = absurd why
+part_behind old mid now first second before then_ after (stops.Report n) wider text why = absurd why
+
+-- the text before another was not printed
+pub part_front : (old now : Option (List ℕ)) (first second : List ℕ) (before after : ℕ) (stop : Stop) → PrintStops old now before after stop → PartStops old now before after (first ++ second) stop
+part_front old now first second before after stops.Unwritten why = why
+part_front old now first second before after stops.Memory why = record { front = []; rest = first ++ second; given = why; text_is = refl }
+part_front old now first second before after stops.Words why = absurd why
+part_front old now first second before after (stops.Record n) why = absurd why
+part_front old now first second before after (stops.Frame n) why = absurd why
+part_front old now first second before after (stops.Input fault offset) why = absurd why
+part_front old now first second before after (stops.Output fault offset) why = absurd why
+part_front old now first second before after stops.Unread why = absurd why
+part_front old now first second before after (stops.Report n) why = absurd why
 
 -- nothing is printed yet
 pub printed_none : (old : Option (List ℕ)) (whole : List ℕ) → LeftToPrint old old whole whole

@@ -1,5 +1,5 @@
 -- Reading the records of the input.
-use Rattle.std.proofs.Common.{◌≡◌, ℕ, true, false, List, [], ◌∷◌, Option, Some, None, Result, Ok, Err, refl, sym, ap, subst, ◌∙◌}
+use Rattle.std.proofs.Common.{◌≡◌, ℕ, true, false, List, ◌∷◌, Option, Some, None, Ok, Err, refl, sym, ap, subst, ◌∙◌}
 use Rattle.edge_io.specs.Faults.{Rose}
 use Rattle.pcap_file.specs.declared.head.Head.{Head}
 use Rattle.pcap_file.specs.declared.record.Record.{Record}
@@ -9,10 +9,10 @@ use Rattle.capture_input.specs.declared.fault.InputFault.{InputFault}
 use Rattle.capture_input.specs.declared.fault.InputFault.TheVariants as faults
 use Rattle.capture_input.specs.declared.input.Input.{Input}
 use Rattle.capture_input.specs.Faults.{is_read_fault}
-use Rattle.capture_input.specs.Inputs.{Walk, HasFaultAt, Took, packets_in, place_behind}
+use Rattle.capture_input.specs.Inputs.{Walk, HasFaultAt, Took}
 use Rattle.capture_input.specs.Laws.{HeadStopsAreFaults, StopsAreFaults, WholeIsInput}
 use Rattle.capture_input.specs.Reading.{Behind, asked_in, head_in}
-use Rattle.capture_input.specs.Reads.{GivesPacket, ReachesEnd, Reads, StopsAt, StopsBehind, StopsInHead}
+use Rattle.capture_input.specs.Reads.{GivesPacket, ReachesEnd, Reads, StopsInHead}
 use Rattle.run_view.specs.SourceStops.{input_stop}
 use Rattle.run_view.specs.Standing.{InputAt, InputReads, InputStops}
 
@@ -20,13 +20,13 @@ use Rattle.run_view.specs.Standing.{InputAt, InputReads, InputStops}
 pub stops_so : (all : Option (List ℕ)) (before now : ℕ) (fault : InputFault) (offset : ℕ)
     → (is_read_fault fault ≡ false → HasFaultAt None all fault offset) → (is_read_fault fault ≡ true → Rose before now)
     → InputStops all before now (input_stop fault offset)
-stops_so all before now faults.Cut offset fails rose = fails refl
-stops_so all before now faults.Magic offset fails rose = fails refl
-stops_so all before now faults.Version offset fails rose = fails refl
-stops_so all before now faults.Link offset fails rose = fails refl
-stops_so all before now faults.Block offset fails rose = fails refl
-stops_so all before now faults.Long offset fails rose = fails refl
-stops_so all before now faults.Many offset fails rose = fails refl
+stops_so all before now faults.Cut offset fails rose = record { own = refl; has = fails refl }
+stops_so all before now faults.Magic offset fails rose = record { own = refl; has = fails refl }
+stops_so all before now faults.Version offset fails rose = record { own = refl; has = fails refl }
+stops_so all before now faults.Link offset fails rose = record { own = refl; has = fails refl }
+stops_so all before now faults.Block offset fails rose = record { own = refl; has = fails refl }
+stops_so all before now faults.Long offset fails rose = record { own = refl; has = fails refl }
+stops_so all before now faults.Many offset fails rose = record { own = refl; has = fails refl }
 stops_so all before now faults.ReadFault offset fails rose = rose refl
 
 -- the head

@@ -1,7 +1,7 @@
 -- The begin of a view.
-use Rattle.std.proofs.Common.{◌≡◌, ℕ, List, [], ◌++◌, Option, refl, sym, ap, subst, ◌∙◌}
-use Rattle.std.specs.Io.KnownBytes.{Appends, Consumes}
-use Rattle.std.proofs.KnownBytes.{Appends-nil, Appends-trans}
+use Rattle.std.proofs.Common.{◌≡◌, ℕ, List, [], Option, sym, subst, inl, inr}
+use Rattle.std.specs.Io.KnownBytes.{Consumes}
+use Rattle.std.proofs.KnownBytes.{Appends-nil}
 use Rattle.pcap_file.specs.declared.head.Head.{Head}
 use Rattle.pcap_file.specs.Reading.{Reading}
 use Rattle.capture_input.specs.declared.input.Input.{Input}
@@ -10,11 +10,14 @@ use Rattle.rule_book.specs.Reports.{IsVersion}
 use Rattle.rule_book.specs.Text.{first_line}
 use Rattle.run_view.specs.declared.viewer.Viewer.{Viewer}
 use Rattle.run_view.specs.declared.words.Asked.{Asked}
-use Rattle.run_view.specs.Printed.{AppendsSome}
-use Rattle.run_view.specs.SoFar.{Ends, IsFresh, SoFar, Whole, ends_of}
+use Rattle.run_view.specs.Causes.{EntriesStop, FaultCounts, SourceRose, StopWhy, StopsBehind, sources_of}
+use Rattle.run_view.specs.declared.stop.Stop.{Stop}
+use Rattle.edge_io.specs.Faults.{Rose}
+use Rattle.run_view.specs.SoFar.{IsFresh, SoFar, Whole, ends_of}
 use Rattle.run_view.specs.Standing.{InputAt, InputOpened, OutputAt}
 use Rattle.run_view.specs.Viewed.{ViewedAs}
 use Rattle.run_view.proofs.Ending.{viewed_as}
+use Rattle.run_view.proofs.Whys.{behind_wider}
 
 -- no record was read yet
 pub fresh_so_far : (viewer : Viewer) (asked : Asked) (version : ℕ) (input : Input) (reader : Reading) (read read_left written written_left printed : Option (List ℕ))
@@ -44,9 +47,29 @@ viewed_fresh viewer asked version input reader read written printed report behin
     let L : Head → Type 0 = λ h. reader.head.link ≡ h.link in
     viewed_as asked version viewer.files.head reader.head read written printed report behind now (subst L (sym fresh.head_is) same) known first (subst V fresh.version_is (subst A fresh.asked_is whole))
 
--- octets printed one after the other
-pub some_more : (a b c : Option (List ℕ)) → AppendsSome a b → AppendsSome b c → AppendsSome a c
-some_more a b c first second = record { octets = first.octets ++ second.octets; given = Appends-trans a b c first.octets second.octets first.given second.given }
-
-pub some_none : (a : Option (List ℕ)) → AppendsSome a a
-some_none a = record { octets = []; given = Appends-nil a }
+-- a view stops behind the first line of the report, or failed to print
+pub stops_within : (viewer : Viewer) (asked : Asked) (version : ℕ) (input : Input) (reader : Reading) (read written report behind printed printed_now : Option (List ℕ)) (first last : FaultCounts) (wide : FaultCounts) (stop : Stop)
+    → (SourceRose first last → SourceRose wide last) → first.out ≡ wide.out → IsFresh viewer asked version input reader → reader.head.link ≡ (head_in input).link → IsVersion version → Consumes report behind (first_line version)
+    → EntriesStop viewer.asked (sources_of read written behind) viewer.version viewer.files.head reader.head printed printed_now first last stop
+    → StopWhy asked (sources_of read written report) printed printed_now wide last stop
+stops_within viewer asked version input reader read written report behind printed printed_now first last wide stop wider same_out fresh same known taken (inl unwritten) =
+    let R : ℕ → Type 0 = λ n. Rose n last.out in
+    inl (record { stop_is = unwritten.stop_is; failed = record { rose = subst R same_out unwritten.failed.rose; some = unwritten.failed.some } })
+stops_within viewer asked version input reader read written report behind printed printed_now first last wide stop wider same_out fresh same known taken (inr stops) =
+    let A : Asked → Type 0 = λ a. StopsBehind a (sources_of read written behind) viewer.version viewer.files.head reader.head printed printed_now (SourceRose first last) stop in
+    let V : ℕ → Type 0 = λ v. StopsBehind asked (sources_of read written behind) v viewer.files.head reader.head printed printed_now (SourceRose first last) stop in
+    let L : Head → Type 0 = λ h. reader.head.link ≡ h.link in
+    inr
+    (inr
+    (record {
+      version = version;
+      head = viewer.files.head;
+      written = reader.head;
+      behind = behind;
+      known = known;
+      link_is = subst L (sym fresh.head_is) same;
+      first = taken;
+      stops =
+          behind_wider asked (sources_of read written behind) version viewer.files.head reader.head printed printed_now (SourceRose first last) (SourceRose wide last) stop wider
+          (subst V fresh.version_is (subst A fresh.asked_is stops));
+    }))

@@ -1,6 +1,6 @@
 -- The table of eras: a row that is changed in place, and an era that is named.
-use Rattle.std.proofs.Common.{◌≡◌, ℕ, ◌==◌, Bool, true, false, cond, List, [], ◌∷◌, map, Option, Some, None, Result, Ok, Err, refl, sym, ap, ◌∙◌, nat_eq, is_some, if◌then◌else◌, arith}
-use Rattle.std.specs.Prelude.{OnOk, IsSome}
+use Rattle.std.proofs.Common.{◌≡◌, ℕ, Bool, true, false, cond, List, [], ◌∷◌, Option, Some, None, Result, Ok, Err, refl, sym, ap, ◌∙◌, nat_eq, is_some, if◌then◌else◌, arith}
+use Rattle.std.specs.Prelude.{OnOk}
 use Rattle.std.specs.Map.{lookup, set_value}
 use Rattle.indexmap.specs.IndexMap.{insert_entry}
 use Rattle.run_view.specs.declared.eras.EraRow.{EraRow}

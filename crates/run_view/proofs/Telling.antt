@@ -1,15 +1,20 @@
 -- What is told at a stop.
-use Rattle.std.proofs.Common.{◌≡◌, ◌⊎◌, ℕ, List, [], ◌++◌, Option, None, refl, sym, ap, subst, ◌∙◌, inl, inr, append-nil, take}
+use Rattle.std.proofs.Common.{◌≡◌, ◌⊎◌, ℕ, List, [], Option, Some, refl, sym, subst, ◌∙◌, inl, inr, take}
 use Rattle.std.specs.Io.KnownBytes.{Appends}
-use Rattle.std.proofs.KnownBytes.{Appends-trans}
 use Rattle.edge_io.specs.Faults.{Rose}
 use Rattle.capture_input.specs.declared.fault.InputFault.{InputFault}
 use Rattle.capture_input.specs.declared.fault.InputFault.TheVariants as faults
 use Rattle.run_view.specs.declared.stop.Stop.{Stop}
 use Rattle.run_view.specs.declared.stop.Stop.TheVariants as stops
-use Rattle.run_view.specs.Printed.{AppendsSome}
-use Rattle.run_view.specs.Stops.{fault_status, line_of, status_of}
-use Rattle.run_view.specs.Viewed.{Cause, EndsIn, Moment, Stopped, Tells, TellsLine, TellsPart, TellsWhole, faults_of}
+use Rattle.run_view.specs.Printed.{AppendsSome, PrintsFront}
+use Rattle.run_view.specs.Causes.{FaultCounts, FilesStop, PrintedBefore, Sources, StopWhy, counts_of}
+use Rattle.run_view.specs.Items.{Item}
+use Rattle.run_view.specs.View.{closing_text, items_text, view_text_of}
+use Rattle.run_view.specs.Words.{asked_in}
+use Rattle.run_view.specs.declared.words.Asked.{Asked}
+use Rattle.pcap_file.specs.declared.head.Head.{Head}
+use Rattle.run_view.specs.Stops.{HasLine, fault_status, line_of, status_of}
+use Rattle.run_view.specs.Viewed.{Cause, Moment, PrintsLine, Stopped, Tells, TellsLine, faults_of, sources_at}
 
 fault_not_none : (fault : InputFault) → fault_status fault ≡ 0 → ⊥
 fault_not_none faults.Cut is = cc
@@ -39,34 +44,122 @@ line_not_none status answered line old new before now some (inr told) is = let s
 -- the status of a stop is not 0
 pub told_not_none : (stop : Stop) (answered : ℕ) (old new : Option (List ℕ)) (before now : ℕ) → Tells stop old new before now answered → answered ≡ 0 → ⊥
 told_not_none stop answered old new before now (inl told) is = line_not_none (status_of stop) answered (line_of stop) old new before now (not_none stop) told is
-told_not_none stop answered old new before now (inr told) is = line_not_none 8 answered (line_of stops.Memory) old new before now (not_none stops.Memory) told is
+told_not_none stop answered old new before now (inr memory) is = line_not_none 8 answered (line_of stops.Memory) old new before now (not_none stops.Memory) memory.told is
 
--- the line behind what was printed before
-ends_in : (old mid new : Option (List ℕ)) (line : List ℕ) → AppendsSome old mid → Appends mid new line → EndsIn line old new
-ends_in old mid new line some told = record { first = some.octets; text = Appends-trans old mid new some.octets line some.given told }
+-- the line of a stop was printed
+prints_line : (stop : Stop) (mid new : Option (List ℕ)) → Appends mid new (line_of stop) → PrintsLine stop mid new
+prints_line stops.Words mid new told = told
+prints_line (stops.Record n) mid new told = told
+prints_line (stops.Frame n) mid new told = told
+prints_line (stops.Input fault offset) mid new told = told
+prints_line (stops.Output fault offset) mid new told = told
+prints_line stops.Unread mid new told = told
+prints_line stops.Unwritten mid new told = record { octets = []; given = told }
+prints_line stops.Memory mid new told = told
+prints_line (stops.Report n) mid new told = told
 
-ends_anyhow : (old mid new : Option (List ℕ)) (line : List ℕ) → AppendsSome old mid → (count : ℕ) → Appends mid new (take count line) → EndsIn [] old new
-ends_anyhow old mid new line some count told =
-    let all = Appends-trans old mid new some.octets (take count line) some.given told in
-    let P : List ℕ → Type 0 = λ text. Appends old new text in
-    record { first = some.octets ++ take count line; text = subst P (sym (append-nil (some.octets ++ take count line))) all }
+-- what was printed before a stop
+some_text : (asked : Asked) (head : Head) (items : List Item) (old now : Option (List ℕ)) (stop : Stop) → PrintedBefore asked head items old now stop → AppendsSome old now
+some_text asked head items old now stops.Words text = record { octets = items_text asked head items; given = text }
+some_text asked head items old now (stops.Record n) text = record { octets = items_text asked head items; given = text }
+some_text asked head items old now (stops.Frame n) text = record { octets = items_text asked head items; given = text }
+some_text asked head items old now (stops.Input fault offset) text = record { octets = items_text asked head items; given = text }
+some_text asked head items old now (stops.Output fault offset) text = record { octets = items_text asked head items; given = text }
+some_text asked head items old now stops.Unread text = record { octets = items_text asked head items; given = text }
+some_text asked head items old now stops.Unwritten text = record { octets = items_text asked head items; given = text }
+some_text asked head items old now stops.Memory text = record { octets = text.front; given = text.given }
+some_text asked head items old now (stops.Report n) text = record { octets = items_text asked head items; given = text }
 
-stopped_line : (words : List (List ℕ)) (before after : Moment) (mid : Option (List ℕ)) (mid_faults : ℕ) (stop : Stop) (answered : ℕ) → AppendsSome before.out.octets mid
-    → (Rose mid_faults after.out.faults → Rose before.out.faults after.out.faults) → Cause words before after stop
+some_files : (asked : Asked) (s : Sources) (old now : Option (List ℕ)) (first last : FaultCounts) (stop : Stop) → FilesStop asked s old now first last stop → AppendsSome old now
+some_files asked s old now first last stop (inl before) = record { octets = []; given = before.text }
+some_files asked s old now first last stop (inr within) = some_text asked within.head within.stops.items old now stop within.stops.text
+
+some_before : (words : List (List ℕ)) (before after : Moment) (mid : Option (List ℕ)) (stop : Stop) → Cause words before after mid stop → AppendsSome before.out.octets mid
+some_before words before after mid stop (inl unwritten) = unwritten.failed.some
+some_before words before after mid stop (inr (inl refused)) = record { octets = []; given = refused.text }
+some_before words before after mid stop (inr (inr stopped)) = some_files stopped.asked (sources_at before) before.out.octets mid (faults_of before) (faults_of after) stop stopped.why
+
+-- the same where memory could not be allocated for the line of a stop
+memory_text : (asked : Asked) (head : Head) (items : List Item) (old now : Option (List ℕ)) (stop : Stop) → PrintedBefore asked head items old now stop → PrintsFront old now (view_text_of asked head items)
+memory_text asked head items old now stops.Words text = record { front = items_text asked head items; rest = closing_text asked head items; given = text; text_is = refl }
+memory_text asked head items old now (stops.Record n) text = record { front = items_text asked head items; rest = closing_text asked head items; given = text; text_is = refl }
+memory_text asked head items old now (stops.Frame n) text = record { front = items_text asked head items; rest = closing_text asked head items; given = text; text_is = refl }
+memory_text asked head items old now (stops.Input fault offset) text = record { front = items_text asked head items; rest = closing_text asked head items; given = text; text_is = refl }
+memory_text asked head items old now (stops.Output fault offset) text = record { front = items_text asked head items; rest = closing_text asked head items; given = text; text_is = refl }
+memory_text asked head items old now stops.Unread text = record { front = items_text asked head items; rest = closing_text asked head items; given = text; text_is = refl }
+memory_text asked head items old now stops.Unwritten text = record { front = items_text asked head items; rest = closing_text asked head items; given = text; text_is = refl }
+memory_text asked head items old now stops.Memory text = text
+memory_text asked head items old now (stops.Report n) text = record { front = items_text asked head items; rest = closing_text asked head items; given = text; text_is = refl }
+
+memory_files : (asked : Asked) (s : Sources) (old now : Option (List ℕ)) (first last : FaultCounts) (stop : Stop) → FilesStop asked s old now first last stop → FilesStop asked s old now first last stops.Memory
+memory_files asked s old now first last stop (inl before) = inl (record { why = tt; text = before.text })
+memory_files asked s old now first last stop (inr within) =
+    inr
+    (record {
+      version = within.version;
+      head = within.head;
+      written = within.written;
+      behind = within.behind;
+      known = within.known;
+      link_is = within.link_is;
+      first = within.first;
+      stops =
+          record {
+            items = within.stops.items;
+            left = within.stops.left;
+            give = within.stops.give;
+            why = tt;
+            text = memory_text asked within.head within.stops.items old now stop within.stops.text;
+          };
+    })
+
+memory_cause : (words : List (List ℕ)) (before after : Moment) (mid : Option (List ℕ)) (stop : Stop) → HasLine stop → Cause words before after mid stop → Cause words before after mid stops.Memory
+memory_cause words before after mid stop has (inl unwritten) = absurd (subst HasLine unwritten.stop_is has)
+memory_cause words before after mid stop has (inr (inl refused)) = inr (inl (record { none = refused.none; stop_is = inr refl; text = refused.text }))
+memory_cause words before after mid stop has (inr (inr stopped)) =
+    inr (inr (record { asked = stopped.asked; accepted = stopped.accepted; why = memory_files stopped.asked (sources_at before) before.out.octets mid (faults_of before) (faults_of after) stop stopped.why }))
+
+stopped_line : (words : List (List ℕ)) (before after : Moment) (mid : Option (List ℕ)) (mid_faults : ℕ) (stop : Stop) (answered : ℕ)
+    → (Rose mid_faults after.out.faults → Rose before.out.faults after.out.faults) → Cause words before after mid stop
     → TellsLine (status_of stop) (line_of stop) mid after.out.octets mid_faults after.out.faults answered → Stopped words before after answered
-stopped_line words before after mid mid_faults stop answered some wider cause (inl told) =
-    record { stop = stop; cause = cause; status_is = told.status_is; line = ends_in before.out.octets mid after.out.octets (line_of stop) some told.whole }
-stopped_line words before after mid mid_faults stop answered some wider cause (inr told) =
+stopped_line words before after mid mid_faults stop answered wider cause (inl told) =
+    record { stop = stop; printed = mid; cause = cause; status_is = told.status_is; line = prints_line stop mid after.out.octets told.whole }
+stopped_line words before after mid mid_faults stop answered wider cause (inr told) =
     record {
       stop = stops.Unwritten;
-      cause = inr (wider told.failed);
+      printed = mid;
+      cause = inl (record { stop_is = refl; failed = record { rose = wider told.failed; some = some_before words before after mid stop cause } });
       status_is = told.status_is;
-      line = ends_anyhow before.out.octets mid after.out.octets (line_of stop) some told.part.count told.part.part;
+      line = record { octets = take told.part.count (line_of stop); given = told.part.part };
     }
 
 -- a stop whose cause holds was told
-pub stopped_by : (words : List (List ℕ)) (before after : Moment) (mid : Option (List ℕ)) (mid_faults : ℕ) (stop : Stop) (answered : ℕ) → AppendsSome before.out.octets mid
-    → (Rose mid_faults after.out.faults → Rose before.out.faults after.out.faults) → Cause words before after stop
+pub stopped_by : (words : List (List ℕ)) (before after : Moment) (mid : Option (List ℕ)) (mid_faults : ℕ) (stop : Stop) (answered : ℕ)
+    → (Rose mid_faults after.out.faults → Rose before.out.faults after.out.faults) → Cause words before after mid stop
     → Tells stop mid after.out.octets mid_faults after.out.faults answered → Stopped words before after answered
-stopped_by words before after mid mid_faults stop answered some wider cause (inl told) = stopped_line words before after mid mid_faults stop answered some wider cause told
-stopped_by words before after mid mid_faults stop answered some wider cause (inr told) = stopped_line words before after mid mid_faults stops.Memory answered some wider (inr tt) told
+stopped_by words before after mid mid_faults stop answered wider cause (inl told) = stopped_line words before after mid mid_faults stop answered wider cause told
+stopped_by words before after mid mid_faults stop answered wider cause (inr memory) =
+    stopped_line words before after mid mid_faults stops.Memory answered wider (memory_cause words before after mid stop memory.has_line cause) memory.told
+
+-- the cause of a stop of a view whose words were accepted
+pub cause_of : (words : List (List ℕ)) (before after : Moment) (mid : Option (List ℕ)) (mid_faults : ℕ) (asked : Asked) (stop : Stop) → asked_in words ≡ Some asked
+    → (Rose before.out.faults mid_faults → Rose before.out.faults after.out.faults)
+    → StopWhy asked (sources_at before) before.out.octets mid (faults_of before) (counts_of after.input.faults after.output.faults after.report.faults mid_faults) stop → Cause words before after mid stop
+cause_of words before after mid mid_faults asked stop accepted wider (inl unwritten) =
+    inl (record { stop_is = unwritten.stop_is; failed = record { rose = wider unwritten.failed.rose; some = unwritten.failed.some } })
+cause_of words before after mid mid_faults asked stop accepted wider (inr files) = inr (inr (record { asked = asked; accepted = accepted; why = files }))
+
+line_told : (status answered : ℕ) (line : List ℕ) (old new : Option (List ℕ)) (before now : ℕ) → TellsLine status line old new before now answered → (answered ≡ status) ⊎ (answered ≡ 7)
+line_told status answered line old new before now (inl told) = inl told.status_is
+line_told status answered line old new before now (inr told) = inr told.status_is
+
+-- what is returned where the words are refused
+pub refused_told : (answered : ℕ) (old new : Option (List ℕ)) (before now : ℕ) → Tells stops.Words old new before now answered → (answered ≡ 2) ⊎ (answered ≡ 7) ⊎ (answered ≡ 8)
+refused_told answered old new before now (inl told) = elim (line_told 2 answered (line_of stops.Words) old new before now told) [
+  | inl e ↦ inl e
+  | inr e ↦ inr (inl e)
+]
+refused_told answered old new before now (inr memory) = elim (line_told 8 answered (line_of stops.Memory) old new before now memory.told) [
+  | inl e ↦ inr (inr e)
+  | inr e ↦ inr (inl e)
+]

@@ -1,5 +1,5 @@
 -- Reading the frames of the output.
-use Rattle.std.proofs.Common.{◌≡◌, ◌≢◌, ℕ, ◌+◌, true, false, List, [], ◌∷◌, length, drop, Option, Some, None, Result, Ok, Err, refl, sym, ap, subst, ◌∙◌, inl, inr, arith}
+use Rattle.std.proofs.Common.{◌≡◌, ◌≢◌, ℕ, List, [], ◌∷◌, length, drop, Option, Some, None, Ok, Err, refl, sym, ap, subst, ◌∙◌, inl, inr, arith}
 use Rattle.std.specs.Prelude.{IfSome}
 use Rattle.edge_io.specs.Faults.{Rose}
 use Rattle.wire_base.specs.declared.address.Link.{Link}
@@ -13,14 +13,14 @@ use Rattle.pcap_file.specs.Flaws as classic
 use Rattle.pcap_file.specs.Heads.{head_of}
 use Rattle.pcap_file.specs.Records.{Packet}
 use Rattle.pcap_file.specs.Capture.{IsCapture, FailsAt, ReadsTo, offset_of}
+use Rattle.pcap_file.specs.Capture as capture
 use Rattle.pcap_file.specs.Reading.{Reading}
 use Rattle.pcap_file.specs.Reads.{Advances, FailsWith, HasEnd, HasFlaw, IfRecord, Leaves, Reads, shown}
 use Rattle.pcap_file.specs.ReadsHead.{Begins, ReadsHead}
-use Rattle.capture_input.specs.declared.fault.InputFault.{InputFault}
 use Rattle.capture_input.specs.declared.fault.InputFault.TheVariants as faults
 use Rattle.capture_input.specs.Faults.{of_flaw}
 use Rattle.run_view.specs.SourceStops.{output_head_stop, output_stop}
-use Rattle.run_view.specs.Standing.{IsOfOtherLink, OutputAt, OutputFails, OutputHeadStops, OutputReads, OutputStops, TookFrames}
+use Rattle.run_view.specs.Standing.{OutputAt, OutputHeadStops, OutputReads, OutputStops, TookFrames}
 use Rattle.run_view.specs.declared.stop.Stop.TheVariants as stops
 
 -- the head was taken
@@ -29,18 +29,22 @@ head_taken None left head begins = tt
 head_taken (Some octets) None head begins = begins
 head_taken (Some octets) (Some rest) head begins = (begins.0, sym begins.1)
 
+-- the octets have this flaw, at this offset
+abbrev pub IsFlawed : Option (List ℕ) → classic.Flaw → (offset : ℕ) → Type 0
+IsFlawed output own offset = IfSome output (λ octets. (flaw : classic.Flaw) × (of_flaw own ≡ of_flaw flaw) × capture.FailsAt octets flaw offset)
+
 -- a flaw of the head
-head_fails : (all left : Option (List ℕ)) (flaw : classic.Flaw) → Begins all left (Err flaw) → OutputFails all (of_flaw flaw) 0
+head_fails : (all left : Option (List ℕ)) (flaw : classic.Flaw) → Begins all left (Err flaw) → IsFlawed all flaw 0
 head_fails None left flaw begins = tt
 head_fails (Some octets) None flaw begins = absurd begins
 head_fails (Some octets) (Some rest) flaw begins = (flaw, refl, inl (begins.0, refl))
 
 pub head_stops : (link : Link) (all left : Option (List ℕ)) (before now : ℕ) (fault : HeadFault) → ReadsHead all left (Err fault) → (fault ≡ heads.ReadFault → Rose before now)
     → OutputHeadStops link all before now (output_head_stop fault)
-head_stops link all left before now heads.Cut reads rose = inl (head_fails all left classic.cut_short reads)
-head_stops link all left before now heads.Magic reads rose = inl (head_fails all left classic.bad_magic reads)
-head_stops link all left before now heads.Version reads rose = inl (head_fails all left classic.bad_version reads)
-head_stops link all left before now heads.Link reads rose = inl (head_fails all left classic.bad_link reads)
+head_stops link all left before now heads.Cut reads rose = inl (record { own = refl; has = head_fails all left classic.cut_short reads })
+head_stops link all left before now heads.Magic reads rose = inl (record { own = refl; has = head_fails all left classic.bad_magic reads })
+head_stops link all left before now heads.Version reads rose = inl (record { own = refl; has = head_fails all left classic.bad_version reads })
+head_stops link all left before now heads.Link reads rose = inl (record { own = refl; has = head_fails all left classic.bad_link reads })
 head_stops link all left before now heads.ReadFault reads rose = rose refl
 
 -- the head has another link
@@ -73,7 +77,7 @@ took_all (Some xs) (Some ys) (Some zs) head frames took end =
 
 -- a flaw stands behind the frames
 took_flawed : (all before : Option (List ℕ)) (head : Head) (frames : List Packet) (flaw : classic.Flaw) (offset : ℕ) → TookFrames all before head frames
-    → HasFlaw head.order (length frames) before flaw → offset ≡ offset_of frames → OutputFails all (of_flaw flaw) offset
+    → HasFlaw head.order (length frames) before flaw → offset ≡ offset_of frames → IsFlawed all flaw offset
 took_flawed None before head frames flaw offset took flawed place = tt
 took_flawed (Some xs) None head frames flaw offset took flawed place = absurd took
 took_flawed (Some xs) (Some ys) head frames flaw offset took flawed place =
@@ -98,7 +102,7 @@ reads_frame old new head all before after frames (Some given) reads advances sam
     }
 
 flawed_in : (old : Reading) (head : Head) (all before : Option (List ℕ)) (frames : List Packet) (flaw : classic.Flaw)
-    → HasFlaw old.head.order old.given before flaw → OutputAt old head all before frames → OutputFails all (of_flaw flaw) old.place
+    → HasFlaw old.head.order old.given before flaw → OutputAt old head all before frames → IsFlawed all flaw old.place
 flawed_in old head all before frames flaw flawed at =
     let order : old.head.order ≡ head.order = ap (λ (h : Head). h.order) at.head_is in
     let flawed_so : HasFlaw head.order (length frames) before flaw = rw (← order, ← at.given_is) flawed in
@@ -108,7 +112,7 @@ flawed_in old head all before frames flaw flawed at =
 pub frame_stops : (old : Reading) (head : Head) (all before after : Option (List ℕ)) (frames : List Packet) (then_ now offset : ℕ) (fault : RecordFault)
     → FailsWith old.head.order old.given before after fault → (fault ≡ records.ReadFault → Rose then_ now) → offset ≡ old.place
     → OutputAt old head all before frames → OutputStops all then_ now (output_stop fault offset)
-frame_stops old head all before after frames then_ now offset records.Cut fails rose place at = rw place (flawed_in old head all before frames classic.cut_short fails.flawed at)
-frame_stops old head all before after frames then_ now offset records.Long fails rose place at = rw place (flawed_in old head all before frames classic.too_long fails.flawed at)
-frame_stops old head all before after frames then_ now offset records.TooMany fails rose place at = rw place (flawed_in old head all before frames classic.too_many fails.flawed at)
+frame_stops old head all before after frames then_ now offset records.Cut fails rose place at = rw place (record { own = refl; has = flawed_in old head all before frames classic.cut_short fails.flawed at })
+frame_stops old head all before after frames then_ now offset records.Long fails rose place at = rw place (record { own = refl; has = flawed_in old head all before frames classic.too_long fails.flawed at })
+frame_stops old head all before after frames then_ now offset records.TooMany fails rose place at = rw place (record { own = refl; has = flawed_in old head all before frames classic.too_many fails.flawed at })
 frame_stops old head all before after frames then_ now offset records.ReadFault fails rose place at = rose refl

@@ -1,5 +1,5 @@
 -- What the three files of a finished run have for each record (this project's profile). Lists have the newest at the head.
-use Rattle.std.specs.Prelude.{◌≡◌, ℕ, ◌+◌, ◌*◌, ◌==◌, Bool, List, [], ◌∷◌, ◌++◌, length, Option, Some, None, is_some, if◌then◌else◌}
+use Rattle.std.specs.Prelude.{◌≡◌, ℕ, ◌+◌, ◌*◌, ◌==◌, List, [], ◌∷◌, ◌++◌, length, Option, Some, None, is_some, if◌then◌else◌}
 use Rattle.wire_base.specs.declared.address.Link.{Link}
 use Rattle.wire_base.specs.declared.address.Side.{Side}
 use Rattle.wire_base.specs.declared.address.Side.TheVariants.{Inward, Outward}
@@ -74,7 +74,7 @@ begun_by link octets [] = flow_at link octets
 begun_by link octets (frame ∷ []) = flow_at link frame.octets
 begun_by link octets (frame ∷ next ∷ older) = begun_by link octets (next ∷ older)
 
--- the same, with one frame more behind so many others
+-- the same for one frame more, which has this number, counted from 0
 abbrev pub first_flow : (number : ℕ) → (flow before : Option Flow) → Option Flow
 first_flow number flow before = if number == 0 then flow else before
 

@@ -1,6 +1,7 @@
 pub mod Words
 pub mod WordsMet
 pub mod Lines
+pub mod Told
 pub mod Stops
 pub mod SourceStops
 pub mod Standing
@@ -10,7 +11,10 @@ pub mod Items
 pub mod Summary
 pub mod Steps
 pub mod View
+pub mod EraRows
 pub mod Printed
 pub mod SoFar
+pub mod Causes
 pub mod Why
 pub mod Viewed
+pub mod Laws

@@ -2,7 +2,6 @@
 use Rattle.std.specs.Prelude.{◌≡◌, ℕ, ◌++◌, List, [], false, map, Option, None}
 use Rattle.std.specs.Io.KnownBytes.{Appends}
 use Rattle.edge_io.specs.Faults.{Rose}
-use Rattle.edge_io.specs.Octets.{AppendsPart}
 use Rattle.frame_view.specs.Changes as changes
 use Rattle.rule_book.specs.Entries.{plain}
 use Rattle.rule_book.specs.declared.entry.Entry.{Entry}
@@ -41,16 +40,34 @@ summary_shown records frames tally =
       eras = with_eras (table_of tally.eras) no_eras;
     }
 
--- why a text was not printed: the output failed, and some octets may have been given to it, or memory could not be allocated
-abbrev pub CannotPrint : (before now : ℕ) → Stop → Type 0
-CannotPrint before now stops.Unwritten = Rose before now
-CannotPrint before now stops.Memory = Unit {0}
-CannotPrint before now _ = ⊥
-
 -- some octets were given to the output, where it tells them
 pub record AppendsSome (old new : Option (List ℕ)) : Type 0 where
   pub octets : List ℕ
   pub given : Appends old new octets
+
+-- the output failed, and some octets may have been given to it
+pub record Failed (old new : Option (List ℕ)) (before now : ℕ) : Type 0 where
+  pub rose : Rose before now
+  pub some : AppendsSome old new
+
+-- why a text was not printed: the output failed, or memory could not be allocated, and then nothing of it was
+abbrev pub PrintStops : (old new : Option (List ℕ)) (before now : ℕ) → Stop → Type 0
+PrintStops old new before now stops.Unwritten = Failed old new before now
+PrintStops old new before now stops.Memory = Appends old new []
+PrintStops old new before now _ = ⊥
+
+-- a front of this text was printed
+pub record PrintsFront (old now : Option (List ℕ)) (text : List ℕ) : Type 0 where
+  pub front : List ℕ
+  pub rest : List ℕ
+  pub given : Appends old now front
+  pub text_is : text ≡ front ++ rest
+
+-- why a text was not printed whole
+abbrev pub PartStops : (old new : Option (List ℕ)) (before now : ℕ) (text : List ℕ) → Stop → Type 0
+PartStops old new before now text stops.Unwritten = Failed old new before now
+PartStops old new before now text stops.Memory = PrintsFront old new text
+PartStops old new before now text _ = ⊥
 
 -- of this text the rest alone is left to be given to the output, where it tells its octets
 pub record LeftToPrint (old now : Option (List ℕ)) (rest whole : List ℕ) : Type 0 where

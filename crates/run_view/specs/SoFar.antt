@@ -1,14 +1,13 @@
 -- How far a view has come (this project's profile). Items are a list with the newest at the head. `read`, `written` and `printed` are what the input and the
 -- output had left and what was printed at first, and the same with `_now` what they have at the moment, where they tell it.
-use Rattle.std.specs.Prelude.{◌≡◌, ℕ, ◌+◌, List, [], ◌∷◌, ◌++◌, length, Option, None, IfSome, if◌then◌else◌}
+use Rattle.std.specs.Prelude.{◌≡◌, ℕ, ◌≤◌, ◌<◌, ◌^◌, ◌*◌, ◌+◌, List, [], ◌∷◌, ◌++◌, length, Option, None, IfSome, if◌then◌else◌}
 use Rattle.std.specs.Io.KnownBytes.{Appends, Consumes}
 use Rattle.pcap_file.specs.declared.head.Head.{Head}
 use Rattle.pcap_file.specs.Records.{Packet}
 use Rattle.pcap_file.specs.Capture.{IsCapture}
 use Rattle.capture_input.specs.Inputs.{TookAll}
 use Rattle.rule_book.specs.Entries.{PlainEntry}
-use Rattle.rule_book.specs.Reports.{IsEntryOf}
-use Rattle.rule_book.specs.Text.{entry_text, last_text, lines_text}
+use Rattle.rule_book.specs.Text.{last_text, lines_text}
 use Rattle.rule_book.specs.declared.last.Last.TheVariants.{End}
 use Rattle.run_view.specs.Items.{Item, AreItems, entries_of, frames_of, packets_of}
 use Rattle.run_view.specs.Rows.{table_of}
@@ -48,6 +47,21 @@ pub record SoFar (viewer : Viewer) (head : Head) (before now : Ends) (items : Li
   pub counts : Counts viewer.tally viewer.files.head items
   pub text : Appends before.printed now.printed (items_text viewer.asked viewer.files.head items)
 
+-- one more may be
+pub record MayTake (viewer : Viewer) : Type 0 where
+  pub ready : IsReady viewer.files
+  pub few : viewer.files.count < 2 ^ 32
+  pub few_frames : viewer.files.frames.count ≤ 255 * viewer.files.count
+
+-- one more was
+pub record WentOn (old new : Viewer) : Type 0 where
+  pub ready : IsReady new.files
+  pub count : new.files.count ≡ old.files.count + 1
+  pub few_frames : new.files.frames.count ≤ 255 * new.files.count
+  pub asked : new.asked ≡ old.asked
+  pub version : new.version ≡ old.version
+  pub head : new.files.head ≡ old.files.head
+
 -- one more was, with this entry
 pub record Taken (viewer : Viewer) (head : Head) (before now : Ends) (items : List Item) (entry : PlainEntry) : Type 0 where
   pub item : Item
@@ -58,12 +72,6 @@ pub record Taken (viewer : Viewer) (head : Head) (before now : Ends) (items : Li
 pub record AreWhole (head written_head : Head) (read written : Option (List ℕ)) (records frames : List Packet) : Type 0 where
   pub records_are : TookAll None read head records
   pub frames_are : IfSome written (λ octets. IsCapture octets written_head frames)
-
--- the next line of the report was taken, and is that of an entry with the next number
-pub record ToldNext (version count : ℕ) (report left : Option (List ℕ)) (entry : PlainEntry) : Type 0 where
-  pub taken : Consumes report left (entry_text entry)
-  pub fits : IsEntryOf version entry
-  pub number : entry.number ≡ count + 1
 
 -- a view before the first record
 pub record IsFresh (viewer : Viewer) (asked : Asked) (version : ℕ) (input : Input) (reader : Reading) : Type 0 where

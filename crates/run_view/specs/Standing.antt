@@ -1,6 +1,6 @@
 -- Where the readers of the input and of the output stand (this project's profile). Records and frames are lists with the newest at the head. `all` is what a
 -- source had left at first, and `left` what it has left now, where it tells them.
-use Rattle.std.specs.Prelude.{◌≡◌, ◌≢◌, ◌⊎◌, ℕ, true, List, [], ◌∷◌, length, drop, Option, Some, None, Result, Ok, Err, IfSome}
+use Rattle.std.specs.Prelude.{◌≡◌, ◌≢◌, ◌⊎◌, ℕ, true, false, List, [], ◌∷◌, length, drop, Option, Some, None, Ok, IfSome}
 use Rattle.edge_io.specs.Faults.{Rose}
 use Rattle.wire_base.specs.declared.address.Link.{Link}
 use Rattle.pcap_file.specs.declared.head.Head.{Head}
@@ -15,8 +15,8 @@ use Rattle.pcap_file.specs.Reads.{shown}
 use Rattle.capture_input.specs.declared.fault.InputFault.{InputFault}
 use Rattle.capture_input.specs.declared.fault.InputFault.TheVariants as faults
 use Rattle.capture_input.specs.declared.input.Input.{Input}
-use Rattle.capture_input.specs.Faults.{of_flaw}
-use Rattle.capture_input.specs.Inputs.{Walk, packets_in, BeginsWith, HasFaultAt, Took, TookAll, TakenWhole}
+use Rattle.capture_input.specs.Faults.{is_read_fault, of_flaw}
+use Rattle.capture_input.specs.Inputs.{Walk, packets_in, BeginsWith, HasFaultAt, Took, TookAll}
 use Rattle.capture_input.specs.Reading.{Behind, head_in, is_open_in}
 use Rattle.run_view.specs.declared.stop.Stop.{Stop}
 use Rattle.run_view.specs.declared.stop.Stop.TheVariants as stops
@@ -39,9 +39,14 @@ pub record InputOpened (input : Input) (all left : Option (List ℕ)) : Type 0 w
   pub goes_on : is_open_in input ≡ true
   pub stands : InputAt input (head_in input) all left []
 
+-- the input, where it is told, has this first fault, at this offset; a failure of the source is none
+pub record InputFails (input : Option (List ℕ)) (fault : InputFault) (offset : ℕ) : Type 0 where
+  pub own : is_read_fault fault ≡ false
+  pub has : HasFaultAt None input fault offset
+
 -- why no record was read of the input
 abbrev pub InputStops : (all : Option (List ℕ)) → (before now : ℕ) → Stop → Type 0
-InputStops all before now (stops.Input fault offset) = HasFaultAt None all fault offset
+InputStops all before now (stops.Input fault offset) = InputFails all fault offset
 InputStops all before now stops.Unread = Rose before now
 InputStops all before now _ = ⊥
 
@@ -63,9 +68,10 @@ pub record OutputAt (reader : Reading) (head : Head) (all left : Option (List �
   pub place_is : reader.place ≡ offset_of frames
   pub head_is : reader.head ≡ head
 
--- the output, where it is told, has this first fault, at this offset
-abbrev pub OutputFails : Option (List ℕ) → InputFault → (offset : ℕ) → Type 0
-OutputFails output fault offset = IfSome output (λ octets. (flaw : classic.Flaw) × (fault ≡ of_flaw flaw) × capture.FailsAt octets flaw offset)
+-- the same of the output
+pub record OutputFails (output : Option (List ℕ)) (fault : InputFault) (offset : ℕ) : Type 0 where
+  pub own : is_read_fault fault ≡ false
+  pub has : IfSome output (λ octets. (flaw : classic.Flaw) × (fault ≡ of_flaw flaw) × capture.FailsAt octets flaw offset)
 
 -- the octets begin with this head
 pub record HasHead (octets : List ℕ) (head : Head) : Type 0 where
@@ -103,3 +109,15 @@ OutputStops all before now _ = ⊥
 abbrev pub OutputReads : (reader : Reading) (head : Head) (all left : Option (List ℕ)) (frames : List Packet) → Option Record → Type 0
 OutputReads reader head all left frames None = IfSome all (λ octets. IsCapture octets head frames)
 OutputReads reader head all left frames (Some given) = OutputAt reader head all left (shown given ∷ frames)
+
+-- the input begins with this head and these records
+pub record BeginsWithRecords (input : Option (List ℕ)) (head : Head) (packets : List Packet) : Type 0 where
+  pub walk : Walk
+  pub left : Option (List ℕ)
+  pub took : Took None input left head walk
+  pub packets_are : packets_in walk ≡ packets
+
+-- the output begins with this head and these frames
+pub record BeginsWithFrames (output : Option (List ℕ)) (head : Head) (frames : List Packet) : Type 0 where
+  pub left : Option (List ℕ)
+  pub took : TookFrames output left head frames

@@ -1,5 +1,5 @@
 -- What reading a record and its frames gives (this project's profile). Records and frames are lists with the newest at the head.
-use Rattle.std.specs.Prelude.{◌≡◌, ◌⊎◌, ℕ, ◌+◌, ◌<◌, ◌≤◌, true, List, ◌∷◌, ◌++◌, length, map, Option, None, IfSome}
+use Rattle.std.specs.Prelude.{◌≡◌, ◌⊎◌, ◌^◌, ℕ, ◌+◌, ◌<◌, true, List, ◌∷◌, ◌++◌, length, map, Option, None, IfSome}
 use Rattle.wire_base.specs.declared.address.Link.{Link}
 use Rattle.pcap_file.specs.declared.head.Head.{Head}
 use Rattle.pcap_file.specs.Records.{Packet}
@@ -8,7 +8,7 @@ use Rattle.capture_input.specs.Inputs.{TookAll}
 use Rattle.capture_input.specs.Reading.{is_open_in}
 use Rattle.frame_view.specs.Changes.{plain}
 use Rattle.run_view.specs.Items.{begun_by, changes_in, flow_at, length_at, octets_in, time_of}
-use Rattle.run_view.specs.Standing.{InputAt, InputStops, IsBehind, OutputAt, OutputStops}
+use Rattle.run_view.specs.Standing.{BeginsWithRecords, InputAt, InputStops, IsBehind, OutputAt, OutputStops}
 use Rattle.run_view.specs.declared.item.Files.{Files}
 use Rattle.run_view.specs.declared.item.Frames.{Frames}
 use Rattle.run_view.specs.declared.item.Gathered.{Gathered}
@@ -25,6 +25,25 @@ pub record IsReady (files : Files) : Type 0 where
   pub goes_on : is_open_in files.input ≡ true
   pub behind : IsBehind files.input
   pub frames : MayRead files.frames
+
+-- a record and so many frames may be read
+pub record HasRoom (files : Files) : Type 0 where
+  pub ready : IsReady files
+  pub few : files.count < 2 ^ 33
+  pub few_frames : files.frames.count < 2 ^ 63
+
+-- a record and so many frames were read
+pub record ReadOn (old new : Files) (packets : ℕ) : Type 0 where
+  pub ready : IsReady new
+  pub head : new.head ≡ old.head
+  pub count : new.count ≡ old.count + 1
+  pub frame_count : new.frames.count ≡ old.frames.count + packets
+
+-- nothing was read
+pub record StayedAt (old new : Files) : Type 0 where
+  pub head : new.head ≡ old.head
+  pub count : new.count ≡ old.count
+  pub frame_count : new.frames.count ≡ old.frames.count
 
 -- this is gathered of these frames of a record
 pub record IsGathered (link : Link) (octets : List ℕ) (own : List Packet) (gathered : Gathered) : Type 0 where
@@ -89,8 +108,16 @@ pub record RecordMissing (files : Files) (read : Option (List ℕ)) (records : L
   pub whole : TookAll None read files.head records
   pub place : number ≡ files.count + 1
 
+-- the record was read behind these, and a frame of it is missing
+pub record FrameMissing (files : Files) (read written : Option (List ℕ)) (head : Head) (records frames : List Packet) (packets number : ℕ) : Type 0 where
+  pub packet : Packet
+  pub record_is : BeginsWithRecords read files.head (packet ∷ records)
+  pub missing : OwnMissing files.frames.count written head frames packets number
+
 -- why a record and its frames were not read
 abbrev pub ItemStops : (files : Files) (read written : Option (List ℕ)) (head : Head) (records frames : List Packet) (packets read_before read_now written_before written_now : ℕ) → Stop → Type 0
 ItemStops files read written head records frames packets read_before read_now written_before written_now (stops.Record number) = RecordMissing files read records number
+ItemStops files read written head records frames packets read_before read_now written_before written_now (stops.Frame number) =
+    FrameMissing files read written head records frames packets number
 ItemStops files read written head records frames packets read_before read_now written_before written_now stop =
     InputStops read read_before read_now stop ⊎ FramesStop files.frames written head frames packets written_before written_now stop

@@ -51,3 +51,8 @@ line_of stops.Unread = codes "stop read" ++ 10 ∷ []
 line_of stops.Unwritten = []
 line_of stops.Memory = codes "stop memory" ++ 10 ∷ []
 line_of (stops.Report line) = codes "stop report" ++ part (decimal line) ++ 10 ∷ []
+
+-- a stop has a line, but for that of the output
+abbrev pub HasLine : Stop → Type 0
+HasLine stops.Unwritten = ⊥
+HasLine stop = Unit {0}

@@ -1,6 +1,6 @@
 -- What `normview` prints of the items of a run (this project's profile). Lists of items have the newest at the head; the text has the oldest first.
 use Rattle.std.specs.Prelude.{ℕ, ◌==◌, ◌&&◌, ◌||◌, Bool, true, false, List, [], ◌∷◌, ◌++◌, length, Option, Some, None, is_some, if◌then◌else◌}
-use Rattle.std.specs.List.{flat_map, list_any}
+use Rattle.std.specs.List.{list_any}
 use Rattle.pcap_file.specs.declared.head.Head.{Head}
 use Rattle.rule_book.specs.Entries.{PlainEntry}
 use Rattle.rule_book.specs.Rules.{rule_number}
@@ -33,7 +33,7 @@ record_of head item =
       changes = changes_in head.link item.packet.octets item.frames;
     }
 
--- a rule is among these
+-- the rule is among these, or none is asked for
 abbrev pub names_rule : Option Rule → List Rule → Bool
 names_rule None rules = true
 names_rule (Some rule) rules = is_among rules (rule_number rule)
@@ -47,7 +47,7 @@ is_number (Some own) number = own == number
 abbrev pub has_ended : List Ended → (era : ℕ) → Bool
 has_ended ended era = list_any (λ (one : Ended). one.era == era) ended
 
--- the entry belongs to the era, began it or ended it
+-- the entry belongs to the era, began it or ended it, or none is asked for
 abbrev pub names_era : Option ℕ → PlainEntry → Bool
 names_era None entry = true
 names_era (Some era) entry = is_number entry.era era || is_number entry.begun era || has_ended entry.ended era

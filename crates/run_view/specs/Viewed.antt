@@ -1,6 +1,6 @@
--- What a status of `view` says of the words, of the three sources and of the output (this project's profile). None of a source or of the output says that it
--- tells no octets; then nothing is claimed of them.
-use Rattle.std.specs.Prelude.{◌≡◌, ◌⊎◌, ℕ, List, ◌++◌, length, Option, Some, None, IfSome}
+-- What a status of `view` says of the words, of the three sources and of the output (this project's profile). A source or an output that is None has no known
+-- octets; nothing is claimed of it.
+use Rattle.std.specs.Prelude.{◌≡◌, ◌⊎◌, ℕ, List, [], length, Option, Some, None, IfSome}
 use Rattle.std.specs.Io.KnownBytes.{Appends}
 use Rattle.edge_io.specs.Faults.{Rose}
 use Rattle.edge_io.specs.Octets.{AppendsPart}
@@ -14,8 +14,9 @@ use Rattle.run_view.specs.declared.stop.Stop as own
 use Rattle.run_view.specs.declared.stop.Stop.TheVariants as stops
 use Rattle.run_view.specs.declared.words.Asked.{Asked}
 use Rattle.run_view.specs.Items.{Item, AreItems, packets_of, entries_of, frames_of}
-use Rattle.run_view.specs.Stops.{line_of, status_of}
-use Rattle.run_view.specs.Why.{FaultCounts, StopWhy, counts_of}
+use Rattle.run_view.specs.Stops.{HasLine, line_of, status_of}
+use Rattle.run_view.specs.Causes.{FaultCounts, FilesStop, IsUnwritten, Sources, counts_of, sources_of}
+use Rattle.run_view.specs.Printed.{AppendsSome}
 use Rattle.run_view.specs.Words.{asked_in}
 use Rattle.run_view.specs.View.{view_text_of}
 
@@ -70,22 +71,40 @@ moment_of input input_faults output output_faults report report_faults out out_f
 abbrev pub faults_of : Moment → FaultCounts
 faults_of moment = counts_of moment.input.faults moment.output.faults moment.report.faults moment.out.faults
 
--- Why a run is not viewed to its end: the words are refused, or, where they are not, by the octets of the input and of the output, and by the counts of faults.
-abbrev pub Cause : (words : List (List ℕ)) → (before now : Moment) → own.Stop → Type 0
-Cause words before now stop =
-    ((stop ≡ stops.Words) × (asked_in words ≡ None)) ⊎ StopWhy before.input.octets before.output.octets (faults_of before) (faults_of now) stop
+-- the octets of the three sources
+abbrev pub sources_at : Moment → Sources
+sources_at moment = sources_of moment.input.octets moment.output.octets moment.report.octets
 
--- the last octets that were printed are this line
-pub record EndsIn (line : List ℕ) (old new : Option (List ℕ)) : Type 0 where
-  pub first : List ℕ
-  pub text : Appends old new (first ++ line)
+-- the words are refused, or memory could not be allocated for the line that says so; nothing was printed before it
+pub record IsRefused (words : List (List ℕ)) (before : Moment) (printed : Option (List ℕ)) (stop : own.Stop) : Type 0 where
+  pub none : asked_in words ≡ None
+  pub stop_is : (stop ≡ stops.Words) ⊎ (stop ≡ stops.Memory)
+  pub text : Appends before.out.octets printed []
+
+-- the words are accepted, and the three sources say why the view stops
+pub record IsStopped (words : List (List ℕ)) (before now : Moment) (printed : Option (List ℕ)) (stop : own.Stop) : Type 0 where
+  pub asked : Asked
+  pub accepted : asked_in words ≡ Some asked
+  pub why : FilesStop asked (sources_at before) before.out.octets printed (faults_of before) (faults_of now) stop
+
+-- Why a run is not viewed to its end, `printed` being what the output holds before the line of the stop: the output failed; or by the words; or, where they are
+-- accepted, by the octets of the three sources and the counts of faults.
+abbrev pub Cause : (words : List (List ℕ)) → (before now : Moment) → (printed : Option (List ℕ)) → own.Stop → Type 0
+Cause words before now printed stop =
+    IsUnwritten before.out.octets printed (faults_of before) (faults_of now) stop ⊎ IsRefused words before printed stop ⊎ IsStopped words before now printed stop
+
+-- the line of a stop was printed last; where the output failed, some octets of it may have been
+abbrev pub PrintsLine : own.Stop → (printed new : Option (List ℕ)) → Type 0
+PrintsLine stops.Unwritten printed new = AppendsSome printed new
+PrintsLine stop printed new = Appends printed new (line_of stop)
 
 -- there is a stop with this status whose cause holds, and its line was printed last, unless the output failed, which 7 tells
 pub record Stopped (words : List (List ℕ)) (before now : Moment) (status : ℕ) : Type 0 where
   pub stop : own.Stop
-  pub cause : Cause words before now stop
+  pub printed : Option (List ℕ)
+  pub cause : Cause words before now printed stop
   pub status_is : status ≡ status_of stop
-  pub line : EndsIn (line_of stop) before.out.octets now.out.octets
+  pub line : PrintsLine stop printed now.out.octets
 
 -- the line was printed whole, and its status is returned
 pub record TellsWhole (status : ℕ) (line : List ℕ) (old new : Option (List ℕ)) (answered : ℕ) : Type 0 where
@@ -101,7 +120,12 @@ pub record TellsPart (line : List ℕ) (old new : Option (List ℕ)) (before now
 abbrev pub TellsLine : (status : ℕ) → (line : List ℕ) → (old new : Option (List ℕ)) → (before now answered : ℕ) → Type 0
 TellsLine status line old new before now answered = TellsWhole status line old new answered ⊎ TellsPart line old new before now answered
 
+-- memory could not be allocated for the line of a stop that has one, which is told in its place
+pub record TellsMemory (stop : own.Stop) (old new : Option (List ℕ)) (before now answered : ℕ) : Type 0 where
+  pub has_line : HasLine stop
+  pub told : TellsLine 8 (line_of stops.Memory) old new before now answered
+
 -- the line of the stop was told, or that memory could not be allocated
 abbrev pub Tells : own.Stop → (old new : Option (List ℕ)) → (before now answered : ℕ) → Type 0
 Tells stop old new before now answered =
-    TellsLine (status_of stop) (line_of stop) old new before now answered ⊎ TellsLine 8 (line_of stops.Memory) old new before now answered
+    TellsLine (status_of stop) (line_of stop) old new before now answered ⊎ TellsMemory stop old new before now answered

@@ -81,7 +81,7 @@ abbrev pub next_word : (waiting : Option Choice) → Text → Word
 next_word (Some choice) word = joined choice word
 next_word None word = word_of word
 
--- what is asked by these words behind others, the last of which may wait for its value
+-- what words ask for, with what others before them asked for; if an option waits for its value, the first of them is that value
 abbrev pub asked_from : (waiting : Option Choice) → Asked → List Text → Option Asked
 asked_from waiting asked [] = None
 asked_from waiting asked (word ∷ words) =

@@ -5,7 +5,7 @@ ghost use Rattle.pcap_file.specs.Records.{Packet};
 ghost use Rattle.pcap_file.specs.declared.head.Head.{Head};
 ghost use Rattle.run_view.specs.Items as spec;
 ghost use Rattle.run_view.specs.Standing.{InputAt, OutputAt};
-ghost use Rattle.run_view.specs.Steps.{FrameAdded, FrameStops, FramesRead, FramesStop, IsGathered, IsReady, ItemRead, ItemStops, MayRead};
+ghost use Rattle.run_view.specs.Steps.{FrameAdded, FrameStops, FramesRead, FramesStop, HasRoom, IsGathered, ItemRead, ItemStops, MayRead, ReadOn};
 
 use crate::Stop;
 use crate::seen::{add_changes_at, flow_at, length_at};
@@ -79,16 +79,11 @@ pub(crate) fn read_item<I: Source, O: Source>(
     input: &mut I,
     output: &mut O,
 ) -> Result<Shown, Stop>
-    requires ready { IsReady files.old }
-    requires few { files.old.count < 2 ^ 33 }
-    requires few_frames { files.old.frames.count < 2 ^ 63 }
+    requires room { HasRoom files.old }
     ensures read { IfOk result (λ shown. (read written : Option (List ℕ)) (head : Head) (records frames : List Packet) →
         InputAt files.old.input files.old.head read (I.left input.old) records → OutputAt files.old.frames.reader head written (O.left output.old) frames →
         ItemRead files.new read written (I.left input.new) (O.left output.new) head records frames packets shown) }
-    ensures ready { OnOk result (IsReady files.new) }
-    ensures head { OnOk result (files.new.head ≡ files.old.head) }
-    ensures count { OnOk result (files.new.count ≡ files.old.count + 1) }
-    ensures frame_count { OnOk result (files.new.frames.count ≡ files.old.frames.count + packets) }
+    ensures went { OnOk result (ReadOn files.old files.new packets) }
     ensures stops { IfErr result (λ stop. (read written : Option (List ℕ)) (head : Head) (records frames : List Packet) →
         InputAt files.old.input files.old.head read (I.left input.old) records → OutputAt files.old.frames.reader head written (O.left output.old) frames →
         ItemStops files.old read written head records frames packets (I.fault_count input.old) (I.fault_count input.new) (O.fault_count output.old) (O.fault_count output.new) stop) }

@@ -2,7 +2,7 @@
 ghost use Rattle.std.specs.Prelude.{◌≡◌, ◌≤◌, ◌++◌, map, IfErr, IfOk, OnOk, string_bytes};
 ghost use Rattle.std.specs.Io.KnownBytes.{Appends};
 ghost use Rattle.rule_book.specs.Entries.{plain};
-ghost use Rattle.run_view.specs.Printed.{AppendsSome, CannotPrint, record_shown, summary_shown};
+ghost use Rattle.run_view.specs.Printed.{PartStops, PrintStops, record_shown, summary_shown};
 ghost use Rattle.run_view.specs.Rows.{plain_pair, table_of};
 ghost use Rattle.run_view.specs.View as spec;
 
@@ -18,8 +18,7 @@ use view_text::{EraView, RecordView, Summary, era_line, record_line, summary_lin
 /// Prints a text.
 fn print<K: Sink>(text: &[u8], out: &mut K) -> Result<(), Stop>
     ensures prints { OnOk result (Appends (K.held out.old) (K.held out.new) text.now) }
-    ensures stops { IfErr result (CannotPrint (K.fault_count out.old) (K.fault_count out.new)) }
-    ensures given { AppendsSome (K.held out.old) (K.held out.new) }
+    ensures stops { IfErr result (PrintStops (K.held out.old) (K.held out.new) (K.fault_count out.old) (K.fault_count out.new)) }
     ensures later { K.fault_count out.old ≤ K.fault_count out.new }
 {
     match out.put(text) {
@@ -38,8 +37,7 @@ pub(crate) fn print_record<K: Sink>(
     out: &mut K,
 ) -> Result<(), Stop>
     ensures prints { OnOk result (Appends (K.held out.old) (K.held out.new) (spec.record_line json (record_shown entry.now shown.now))) }
-    ensures stops { IfErr result (CannotPrint (K.fault_count out.old) (K.fault_count out.new)) }
-    ensures given { AppendsSome (K.held out.old) (K.held out.new) }
+    ensures stops { IfErr result (PrintStops (K.held out.old) (K.held out.new) (K.fault_count out.old) (K.fault_count out.new)) }
     ensures later { K.fault_count out.old ≤ K.fault_count out.new }
 {
     let view = RecordView {
@@ -69,8 +67,7 @@ pub(crate) fn print_summary<K: Sink>(
     out: &mut K,
 ) -> Result<(), Stop>
     ensures prints { OnOk result (Appends (K.held out.old) (K.held out.new) (spec.summary_line (summary_shown records frames tally.now))) }
-    ensures stops { IfErr result (CannotPrint (K.fault_count out.old) (K.fault_count out.new)) }
-    ensures given { AppendsSome (K.held out.old) (K.held out.new) }
+    ensures stops { IfErr result (PrintStops (K.held out.old) (K.held out.new) (K.fault_count out.old) (K.fault_count out.new)) }
     ensures later { K.fault_count out.old ≤ K.fault_count out.new }
 {
     let summary = Summary {
@@ -95,8 +92,7 @@ pub(crate) fn print_eras<K: Sink>(
     out: &mut K,
 ) -> Result<(), Stop>
     ensures prints { OnOk result (Appends (K.held out.old) (K.held out.new) (spec.eras_text json (table_of tally.now.eras))) }
-    ensures stops { IfErr result (CannotPrint (K.fault_count out.old) (K.fault_count out.new)) }
-    ensures given { AppendsSome (K.held out.old) (K.held out.new) }
+    ensures stops { IfErr result (PartStops (K.held out.old) (K.held out.new) (K.fault_count out.old) (K.fault_count out.new) (spec.eras_text json (table_of tally.now.eras))) }
     ensures later { K.fault_count out.old ≤ K.fault_count out.new }
 {
     for place in 0..tally.eras.len() {
@@ -118,8 +114,7 @@ fn print_era<K: Sink>(
     out: &mut K,
 ) -> Result<(), Stop>
     ensures prints { OnOk result (Appends (K.held out.old) (K.held out.new) (spec.era_line json (plain_pair (era, row.now)))) }
-    ensures stops { IfErr result (CannotPrint (K.fault_count out.old) (K.fault_count out.new)) }
-    ensures given { AppendsSome (K.held out.old) (K.held out.new) }
+    ensures stops { IfErr result (PrintStops (K.held out.old) (K.held out.new) (K.fault_count out.old) (K.fault_count out.new)) }
     ensures later { K.fault_count out.old ≤ K.fault_count out.new }
 {
     let view = EraView {

@@ -4,6 +4,7 @@ ghost use Rattle.frame_view.specs.Changes.{plain};
 ghost use Rattle.run_view.specs.Items as spec;
 
 use edge_io::NoMemory;
+use frame_view::laws::fields_determine_frames;
 use frame_view::{Change, Flow, add_changes, flow_of, length_of};
 use std::alloc::Global;
 use wire_base::Link;
@@ -24,7 +25,8 @@ pub(crate) fn length_at(link: Link, octets: &[u8]) -> u64
     length_of(link, octets)
 }
 
-/// Adds what differs between a record and the frame of this number.
+/// Adds what differs between a record and the frame of this number; nothing if they are equal, which
+/// costs one comparison.
 #[tactic(auto, unfolding(crate::specs::Items::changes_at))]
 pub(crate) fn add_changes_at(
     alloc: Global,
@@ -36,5 +38,9 @@ pub(crate) fn add_changes_at(
 ) -> Result<(), NoMemory>
     ensures { OnOk result (map plain changes.new.items ≡ map plain changes.old.items ++ spec.changes_at link number octets.now frame.now) }
 {
+    fields_determine_frames();
+    if octets == frame {
+        return Ok(());
+    }
     add_changes(alloc, link, octets, frame, number, changes)
 }

@@ -1,5 +1,5 @@
 //! Why a run is not viewed to its end, and the line that says so.
-ghost use Rattle.std.specs.Prelude.{◌≡◌, IfOk, string_bytes};
+ghost use Rattle.std.specs.Prelude.{◌≡◌, IfOk, OnErr, string_bytes};
 ghost use Rattle.run_view.specs.Stops as spec;
 
 use capture_input::InputFault;
@@ -103,7 +103,8 @@ impl Stop {
 
     /// Returns the line, with its line feed; none for an output that failed.
     pub(crate) fn line(self, alloc: Global) -> Result<String, AllocError>
-        ensures { IfOk result (λ line. string_bytes line ≡ spec.line_of self) }
+        ensures made { IfOk result (λ line. string_bytes line ≡ spec.line_of self) }
+        ensures unmade { OnErr result (spec.HasLine self) }
     {
         match self {
             Stop::Words => String::from_str(alloc, "stop words\n"),
@@ -118,7 +119,7 @@ impl Stop {
                 format!(in alloc; "stop out {word} {offset}\n")
             }
             Stop::Unread => String::from_str(alloc, "stop read\n"),
-            Stop::Unwritten => String::from_str(alloc, ""),
+            Stop::Unwritten => Ok(String::new(alloc)),
             Stop::Memory => String::from_str(alloc, "stop memory\n"),
             Stop::Report(line) => format!(in alloc; "stop report {line}\n"),
         }

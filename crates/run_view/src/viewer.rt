@@ -1,5 +1,5 @@
 //! The view of a finished run.
-ghost use Rattle.std.specs.Prelude.{◌≡◌, ◌⊎◌, ◌+◌, ◌*◌, ◌^◌, ◌<◌, ◌≤◌, ◌++◌, ℕ, List, [], ◌∷◌, length, map, string_bytes, if◌then◌else◌, true, IfErr, IfOk, IfSome, MatchOption, None, OnOk};
+ghost use Rattle.std.specs.Prelude.{◌≡◌, ◌⊎◌, ◌↔◌, IsTrue, ◌+◌, ◌*◌, ◌^◌, ◌<◌, ◌≤◌, ◌++◌, ℕ, List, [], ◌∷◌, length, map, string_bytes, if◌then◌else◌, true, IfErr, IfOk, IfSome, MatchOption, None, OnOk};
 ghost use Rattle.std.specs.Io.KnownBytes.{Appends, Consumes, IsAtEnd};
 ghost use Rattle.std.specs.declared.option.Option.{Option};
 ghost use Rattle.capture_input.specs.Reading.{is_open_in};
@@ -13,11 +13,13 @@ ghost use Rattle.rule_book.specs.Text.{entry_text, first_line, last_text};
 ghost use Rattle.rule_book.specs.declared.last.Last.TheVariants.{End};
 ghost use Rattle.run_view.specs.Items.{Item};
 ghost use Rattle.run_view.specs.Items as items_spec;
-ghost use Rattle.run_view.specs.Printed.{AppendsSome, CannotPrint, record_shown};
-ghost use Rattle.run_view.specs.SoFar.{AreWhole, Ends, IsFresh, SoFar, Taken, ToldNext, Whole, closing_shown, ends_of};
-ghost use Rattle.run_view.specs.Why.{ReportStops, StopWhy, counts_of};
+ghost use Rattle.run_view.specs.Printed.{Failed, PartStops, PrintStops, record_shown};
+ghost use Rattle.run_view.specs.declared.stop.Stop.TheVariants.{Unwritten};
+ghost use Rattle.run_view.specs.SoFar.{AreWhole, Ends, IsFresh, MayTake, SoFar, Taken, WentOn, Whole, closing_shown, ends_of};
+ghost use Rattle.run_view.specs.Causes.{EntriesStop, StopWhy, ToldNext, counts_of, sources_of};
+ghost use Rattle.run_view.specs.Why.{EndStops, FirstStops, FramesGoOn, NextStops, RecordsGoOn, TakeStops, taking_of};
 ghost use Rattle.run_view.specs.Standing.{InputAt, IsBehind, OutputAt};
-ghost use Rattle.run_view.specs.Steps.{IsReady, MayRead};
+ghost use Rattle.run_view.specs.Steps.{HasRoom, IsReady, MayRead, StayedAt};
 ghost use Rattle.run_view.specs.View as spec;
 ghost use Rattle.run_view.specs.Viewed as viewed;
 ghost use Rattle.run_view.specs.Words.{asked_in as words_ask};
@@ -29,11 +31,12 @@ use crate::line::{LINE_ROOM, next_line, next_octet};
 use crate::print::{print_eras, print_record, print_summary};
 use crate::sources::{next_frame, next_record, open_input, open_output};
 use crate::tally::{Noted, Tally};
+use crate::told::{Told, line_told};
 use crate::words::{Asked, asked_in};
 use capture_input::Input;
 use edge_io::{NoMemory, Sink, Source};
 use pcap_file::Reader;
-use rule_book::{Entry, Last, read_entry, read_last};
+use rule_book::Entry;
 use std::alloc::Global;
 use wire_base::Side;
 
@@ -77,7 +80,8 @@ pub fn view<I: Source, O: Source, R: Source, K: Sink>(
         (R.left report.old) (R.fault_count report.old) (K.held out.old) (K.fault_count out.old))
         (viewed.moment_of (I.left input.new) (I.fault_count input.new) (O.left output.new) (O.fault_count output.new)
         (R.left report.new) (R.fault_count report.new) (K.held out.new) (K.fault_count out.new)) result }
-    ensures refused { words_ask (map string_bytes words.now) ≡ None → (result ≡ 2) ⊎ (7 ≤ result) }
+    ensures refused { words_ask (map string_bytes words.now) ≡ None → (result ≡ 2) ⊎ (result ≡ 7) ⊎ (result ≡ 8) }
+    ensures unread { words_ask (map string_bytes words.now) ≡ None → (input.new ≡ input.old) × (output.new ≡ output.old) × (report.new ≡ report.old) }
     ensures known { (result ≤ 5) ⊎ ((7 ≤ result) × (result ≤ 9)) }
     ensures input_later { I.fault_count input.old ≤ I.fault_count input.new }
     ensures output_later { O.fault_count output.old ≤ O.fault_count output.new }
@@ -103,10 +107,9 @@ fn view_asked<I: Source, O: Source, R: Source, K: Sink>(
     out: &mut K,
 ) -> Result<(), Stop>
     ensures viewed { OnOk result (viewed.ViewedAs asked (I.left input.old) (O.left output.old) (R.left report.old) (K.held out.old) (K.held out.new)) }
-    ensures stops { IfErr result (StopWhy (I.left input.old) (O.left output.old)
+    ensures stops { IfErr result (StopWhy asked (sources_of (I.left input.old) (O.left output.old) (R.left report.old)) (K.held out.old) (K.held out.new)
         (counts_of (I.fault_count input.old) (O.fault_count output.old) (R.fault_count report.old) (K.fault_count out.old))
         (counts_of (I.fault_count input.new) (O.fault_count output.new) (R.fault_count report.new) (K.fault_count out.new))) }
-    ensures given { AppendsSome (K.held out.old) (K.held out.new) }
     ensures input_later { I.fault_count input.old ≤ I.fault_count input.new }
     ensures output_later { O.fault_count output.old ≤ O.fault_count output.new }
     ensures report_later { R.fault_count report.old ≤ R.fault_count report.new }
@@ -117,6 +120,15 @@ fn view_asked<I: Source, O: Source, R: Source, K: Sink>(
     let version = read_version(report)?;
     let mut viewer = new_viewer(alloc, asked, version, reader, frames)?;
     view_entries(alloc, &mut viewer, input, output, report, out)?;
+    flush(out)
+}
+
+// Flushes the output.
+fn flush<K: Sink>(out: &mut K) -> Result<(), Stop>
+    ensures flushed { OnOk result (K.held out.new ≡ K.held out.old) }
+    ensures stops { IfErr result (λ stop. (stop ≡ Unwritten) × Failed (K.held out.old) (K.held out.new) (K.fault_count out.old) (K.fault_count out.new)) }
+    ensures later { K.fault_count out.old ≤ K.fault_count out.new }
+{
     match out.flush() {
         Ok(()) => Ok(()),
         Err(_) => Err(Stop::Unwritten),
@@ -125,7 +137,7 @@ fn view_asked<I: Source, O: Source, R: Source, K: Sink>(
 
 // Reads the first line of the report, and returns its version.
 fn read_version<R: Source>(report: &mut R) -> Result<u8, Stop>
-    ensures stops { IfErr result (ReportStops (R.fault_count report.old) (R.fault_count report.new)) }
+    ensures stops { IfErr result (FirstStops (R.left report.old) (R.fault_count report.old) (R.fault_count report.new)) }
     ensures first { IfOk result (λ version. IsVersion version × Consumes (R.left report.old) (R.left report.new) (first_line version)) }
     ensures later { R.fault_count report.old ≤ R.fault_count report.new }
 {
@@ -187,18 +199,15 @@ fn view_entries<I: Source, O: Source, R: Source, K: Sink>(
     report: &mut R,
     out: &mut K,
 ) -> Result<(), Stop>
-    requires ready { IsReady viewer.old.files }
-    requires count { viewer.old.files.count ≡ 0 }
-    requires frame_count { viewer.old.files.frames.count ≡ 0 }
+    requires may { MayTake viewer.old }
     ensures viewed { OnOk result ((head : Head) (before : Ends) →
         SoFar viewer.old head before (ends_of (I.left input.old) (O.left output.old) (K.held out.old)) [] →
         Whole viewer.old.asked viewer.old.version viewer.old.files.head head before (K.held out.new) (R.left report.old)) }
     ensures stops { IfErr result (λ stop. (head : Head) (before : Ends) →
         SoFar viewer.old head before (ends_of (I.left input.old) (O.left output.old) (K.held out.old)) [] →
-        StopWhy before.read before.written
+        EntriesStop viewer.old.asked (sources_of before.read before.written (R.left report.old)) viewer.old.version viewer.old.files.head head before.printed (K.held out.new)
         (counts_of (I.fault_count input.old) (O.fault_count output.old) (R.fault_count report.old) (K.fault_count out.old))
         (counts_of (I.fault_count input.new) (O.fault_count output.new) (R.fault_count report.new) (K.fault_count out.new)) stop) }
-    ensures given { AppendsSome (K.held out.old) (K.held out.new) }
     ensures input_later { I.fault_count input.old ≤ I.fault_count input.new }
     ensures output_later { O.fault_count output.old ≤ O.fault_count output.new }
     ensures report_later { R.fault_count report.old ≤ R.fault_count report.new }
@@ -215,10 +224,12 @@ fn view_entries<I: Source, O: Source, R: Source, K: Sink>(
 // frames as were read.
 fn next_entry<R: Source>(viewer: &Viewer, report: &mut R) -> Result<Option<Entry>, Stop>
     requires few { viewer.now.files.count < 2 ^ 32 }
+    requires few_frames { viewer.now.files.frames.count ≤ 255 * viewer.now.files.count }
     ensures told { IfOk result (λ told. MatchOption told
         (Consumes (R.left report.old) (R.left report.new) (last_text (End viewer.now.files.count viewer.now.files.frames.count)))
         (λ entry. ToldNext viewer.now.version viewer.now.files.count (R.left report.old) (R.left report.new) (plain entry))) }
-    ensures stops { IfErr result (ReportStops (R.fault_count report.old) (R.fault_count report.new)) }
+    ensures stops { IfErr result (NextStops viewer.now.version viewer.now.files.count viewer.now.files.frames.count (R.left report.old)
+        (R.fault_count report.old) (R.fault_count report.new)) }
     ensures later { R.fault_count report.old ≤ R.fault_count report.new }
 {
     let records = viewer.files.count;
@@ -226,32 +237,15 @@ fn next_entry<R: Source>(viewer: &Viewer, report: &mut R) -> Result<Option<Entry
     let Ok(len) = next_line(report, &mut line) else {
         return Err(Stop::Unread);
     };
-    let text = &line[..len];
-    if let Some(last) = read_last(text) {
-        if is_end(last, records, viewer.files.frames.count) {
-            return Ok(None);
-        }
-        return Err(Stop::Report(records + 2));
-    }
-    let Some(entry) = read_entry(text, viewer.version) else {
-        return Err(Stop::Report(records + 2));
-    };
-    if u64::from(entry.number) != records + 1 {
-        return Err(Stop::Report(records + 2));
-    }
-    Ok(Some(entry))
-}
-
-// Returns whether a last line ends a run with so many records and frames.
-fn is_end(last: Last, records: u64, frames: u64) -> bool
-    ensures { result ≡ true → last ≡ End records frames }
-{
-    match last {
-        Last::End {
-            records: told,
-            packets,
-        } => u64::from(told) == records && packets == frames,
-        Last::Stop { .. } => false,
+    match line_told(
+        &line[..len],
+        viewer.version,
+        records,
+        viewer.files.frames.count,
+    ) {
+        Told::Entry(entry) => Ok(Some(entry)),
+        Told::End => Ok(None),
+        Told::Amiss => Err(Stop::Report(records + 2)),
     }
 }
 
@@ -264,25 +258,17 @@ fn take<I: Source, O: Source, K: Sink>(
     output: &mut O,
     out: &mut K,
 ) -> Result<(), Stop>
-    requires ready { IsReady viewer.old.files }
-    requires few { viewer.old.files.count < 2 ^ 32 }
-    requires few_frames { viewer.old.files.frames.count ≤ 255 * viewer.old.files.count }
+    requires may { MayTake viewer.old }
     ensures taken { OnOk result ((head : Head) (before : Ends) (items : List Item) →
         SoFar viewer.old head before (ends_of (I.left input.old) (O.left output.old) (K.held out.old)) items →
         IsEntryOf viewer.old.version (plain entry.now) → entry.now.number ≡ length items + 1 →
         Taken viewer.new head before (ends_of (I.left input.new) (O.left output.new) (K.held out.new)) items (plain entry.now)) }
-    ensures ready { OnOk result (IsReady viewer.new.files) }
-    ensures count { OnOk result (viewer.new.files.count ≡ viewer.old.files.count + 1) }
-    ensures few { OnOk result (viewer.new.files.frames.count ≤ 255 * viewer.new.files.count) }
-    ensures asked { OnOk result (viewer.new.asked ≡ viewer.old.asked) }
-    ensures version { OnOk result (viewer.new.version ≡ viewer.old.version) }
-    ensures head { OnOk result (viewer.new.files.head ≡ viewer.old.files.head) }
-    ensures stops { IfErr result (λ stop. (head : Head) (before : Ends) (items : List Item) (r : ℕ) →
-        SoFar viewer.old head before (ends_of (I.left input.old) (O.left output.old) (K.held out.old)) items →
-        StopWhy before.read before.written
-        (counts_of (I.fault_count input.old) (O.fault_count output.old) r (K.fault_count out.old))
-        (counts_of (I.fault_count input.new) (O.fault_count output.new) r (K.fault_count out.new)) stop) }
-    ensures given { AppendsSome (K.held out.old) (K.held out.new) }
+    ensures went { OnOk result (WentOn viewer.old viewer.new) }
+    ensures stops { IfErr result (λ stop. (read written : Option (List ℕ)) (head : Head) (records frames : List Packet) →
+        InputAt viewer.old.files.input viewer.old.files.head read (I.left input.old) records → OutputAt viewer.old.files.frames.reader head written (O.left output.old) frames →
+        TakeStops viewer.old.files read written head records frames entry.now.packets
+        (taking_of (I.fault_count input.old) (I.fault_count input.new) (O.fault_count output.old) (O.fault_count output.new)
+        (K.fault_count out.old) (K.fault_count out.new) (K.held out.old) (K.held out.new)) stop) }
     ensures input_later { I.fault_count input.old ≤ I.fault_count input.new }
     ensures output_later { O.fault_count output.old ≤ O.fault_count output.new }
     ensures out_later { K.fault_count out.old ≤ K.fault_count out.new }
@@ -317,8 +303,7 @@ fn print_chosen<K: Sink>(
 ) -> Result<(), Stop>
     ensures prints { OnOk result (Appends (K.held out.old) (K.held out.new)
         (if spec.is_printed asked (plain entry.now) then spec.record_line asked.json (record_shown entry.now shown.now) else [])) }
-    ensures stops { IfErr result (CannotPrint (K.fault_count out.old) (K.fault_count out.new)) }
-    ensures given { AppendsSome (K.held out.old) (K.held out.new) }
+    ensures stops { IfErr result (PrintStops (K.held out.old) (K.held out.new) (K.fault_count out.old) (K.fault_count out.new)) }
     ensures later { K.fault_count out.old ≤ K.fault_count out.new }
 {
     if is_printed(asked, entry) {
@@ -335,21 +320,17 @@ fn check_ends<I: Source, O: Source, R: Source>(
     output: &mut O,
     report: &mut R,
 ) -> Result<(), Stop>
-    requires ready { IsReady files.old }
-    requires few { files.old.count ≤ 2 ^ 32 }
-    requires few_frames { files.old.frames.count < 2 ^ 63 }
+    requires room { HasRoom files.old }
     ensures report { OnOk result (IsAtEnd (R.left report.old)) }
     ensures ends { OnOk result ((read written : Option (List ℕ)) (head : Head) (records frames : List Packet) →
         InputAt files.old.input files.old.head read (I.left input.old) records → OutputAt files.old.frames.reader head written (O.left output.old) frames →
         AreWhole files.old.head head read written records frames) }
     ensures stops { IfErr result (λ stop. (read written : Option (List ℕ)) (head : Head) (records frames : List Packet) (k : ℕ) →
         InputAt files.old.input files.old.head read (I.left input.old) records → OutputAt files.old.frames.reader head written (O.left output.old) frames →
-        StopWhy read written
+        EndStops files.old read written (R.left report.old) head records frames
         (counts_of (I.fault_count input.old) (O.fault_count output.old) (R.fault_count report.old) k)
         (counts_of (I.fault_count input.new) (O.fault_count output.new) (R.fault_count report.new) k) stop) }
-    ensures count { OnOk result (files.new.count ≡ files.old.count) }
-    ensures frame_count { OnOk result (files.new.frames.count ≡ files.old.frames.count) }
-    ensures head { OnOk result (files.new.head ≡ files.old.head) }
+    ensures same { OnOk result (StayedAt files.old files.new) }
     ensures input_later { I.fault_count input.old ≤ I.fault_count input.new }
     ensures output_later { O.fault_count output.old ≤ O.fault_count output.new }
     ensures report_later { R.fault_count report.old ≤ R.fault_count report.new }
@@ -367,12 +348,12 @@ fn check_ends<I: Source, O: Source, R: Source>(
 // Checks that no record is left of the input.
 fn end_records<I: Source>(files: &mut Files, input: &mut I) -> Result<(), Stop>
     requires ready { IsReady files.old }
-    requires few { files.old.count ≤ 2 ^ 32 }
+    requires few { files.old.count < 2 ^ 33 }
     ensures whole { OnOk result ((read : Option (List ℕ)) (records : List Packet) →
         InputAt files.old.input files.old.head read (I.left input.old) records → TookAll None read files.old.head records) }
-    ensures stops { IfErr result (λ stop. (read written : Option (List ℕ)) (records : List Packet) (o r k : ℕ) →
+    ensures stops { IfErr result (λ stop. (read : Option (List ℕ)) (records : List Packet) →
         InputAt files.old.input files.old.head read (I.left input.old) records →
-        StopWhy read written (counts_of (I.fault_count input.old) o r k) (counts_of (I.fault_count input.new) o r k) stop) }
+        RecordsGoOn files.old read records (I.fault_count input.old) (I.fault_count input.new) stop) }
     ensures count { files.new.count ≡ files.old.count }
     ensures frames { files.new.frames ≡ files.old.frames }
     ensures head { files.new.head ≡ files.old.head }
@@ -391,9 +372,9 @@ fn end_frames<O: Source>(frames: &mut Frames, output: &mut O) -> Result<(), Stop
     requires few { frames.old.count < 2 ^ 63 }
     ensures whole { OnOk result ((written : Option (List ℕ)) (head : Head) (own : List Packet) →
         OutputAt frames.old.reader head written (O.left output.old) own → IfSome written (λ octets. IsCapture octets head own)) }
-    ensures stops { IfErr result (λ stop. (read written : Option (List ℕ)) (head : Head) (own : List Packet) (i r k : ℕ) →
+    ensures stops { IfErr result (λ stop. (written : Option (List ℕ)) (head : Head) (own : List Packet) →
         OutputAt frames.old.reader head written (O.left output.old) own →
-        StopWhy read written (counts_of i (O.fault_count output.old) r k) (counts_of i (O.fault_count output.new) r k) stop) }
+        FramesGoOn frames.old written head own (O.fault_count output.old) (O.fault_count output.new) stop) }
     ensures count { frames.new.count ≡ frames.old.count }
     ensures later { O.fault_count output.old ≤ O.fault_count output.new }
 {
@@ -407,8 +388,7 @@ fn end_frames<O: Source>(frames: &mut Frames, output: &mut O) -> Result<(), Stop
 // Prints what is printed at the end if no condition is given.
 fn close<K: Sink>(alloc: Global, viewer: &Viewer, out: &mut K) -> Result<(), Stop>
     ensures prints { OnOk result (Appends (K.held out.old) (K.held out.new) (closing_shown viewer.now)) }
-    ensures stops { IfErr result (CannotPrint (K.fault_count out.old) (K.fault_count out.new)) }
-    ensures given { AppendsSome (K.held out.old) (K.held out.new) }
+    ensures stops { IfErr result (PartStops (K.held out.old) (K.held out.new) (K.fault_count out.old) (K.fault_count out.new) (closing_shown viewer.now)) }
     ensures later { K.fault_count out.old ≤ K.fault_count out.new }
 {
     if has_choice(viewer.asked) {

@@ -20,8 +20,6 @@ mod pieces;
 mod record;
 pub mod sentence;
 mod summary;
-#[cfg(test)]
-mod tests;
 mod time;
 pub mod view;
 

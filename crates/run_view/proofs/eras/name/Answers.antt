@@ -1,4 +1,4 @@
-use Rattle.std.proofs.Common.{nat_eq, sym, ap, ◌∙◌}
+use Rattle.std.proofs.Common.{sym, ap, ◌∙◌}
 use Rattle.run_view.specs.Rows.{rows_of}
 use Rattle.run_view.proofs.Tables.{named_new, named_there, none_of}
 use Rattle.run_view.proofs.eras.name.Goals as goal

@@ -1,5 +1,7 @@
 use Rattle.std.proofs.Common.{sym, arith}
-use Rattle.run_view.proofs.Listing.{printed_more, printed_some}
+use Rattle.std.proofs.lemmas.Result.{err_from_is_err_and}
+use Rattle.run_view.proofs.Listing.{era_stops, printed_more}
+use Rattle.run_view.proofs.Whys.{rose_within}
 use Rattle.run_view.proofs.print.print_eras.Goals as goal
 
 pub loop-place-preserved : goal.loop-place-preserved
@@ -8,5 +10,7 @@ loop-place-preserved g c = record {
   later = omega arith;
 }
 
-pub returns-in_err-print_era-clause-given : goal.returns-in_err-print_era-clause-given
-returns-in_err-print_era-clause-given g c = printed_some _ _ _ _ _ c.loop-place.invariant.printed c.in_err-print_era.ensures.given
+pub returns-in_err-print_era-clause-stops : goal.returns-in_err-print_era-clause-stops
+returns-in_err-print_era-clause-stops g c =
+    let p = err_from_is_err_and c.from_residual.result c.from_residual.ensures.1 in rw (p.1, p.2)
+    (era_stops _ _ _ _ _ _ _ _ _ (λ rose. rose_within _ _ _ _ c.loop-place.invariant.later (omega arith) rose) c.loop-place.invariant.printed c.in_err-print_era.ensures.stops)

@@ -1,4 +1,4 @@
-use Rattle.std.proofs.Common.{◌≡◌, ℕ, true, List, Option, Some, None, Result, Ok}
+use Rattle.std.proofs.Common.{◌≡◌, ℕ, true, List, Option, Some, None, Ok}
 use Rattle.std.specs.Prelude.{IfSome}
 use Rattle.pcap_file.specs.declared.record.Record.{Record}
 use Rattle.capture_input.specs.declared.input.Input.{Input}

@@ -1,5 +1,4 @@
 use Rattle.std.proofs.Common.{◌≡◌, ◌++◌, take, drop}
-use Rattle.rule_book.specs.Rules.{rule_number}
 use Rattle.run_view.specs.Summary.{counted}
 use Rattle.run_view.proofs.tally.count_rule.Given as goal
 

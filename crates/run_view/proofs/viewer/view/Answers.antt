@@ -1,8 +1,8 @@
-use Rattle.std.proofs.Common.{◌≡◌, map, string_bytes, sym, ◌∙◌, inl, inr, refl, rules, arith}
+use Rattle.std.proofs.Common.{sym, ◌∙◌, inl, inr, refl, rules, arith}
+use Rattle.std.proofs.KnownBytes.{Appends-nil}
 use Rattle.run_view.specs.declared.stop.Stop.TheVariants as stops
-use Rattle.run_view.proofs.Starting.{some_none}
-use Rattle.run_view.proofs.Telling.{stopped_by, told_not_none}
-use Rattle.run_view.proofs.Whys.{rose_within, why_within}
+use Rattle.run_view.proofs.Telling.{cause_of, refused_told, stopped_by, told_not_none}
+use Rattle.run_view.proofs.Whys.{rose_within}
 use Rattle.run_view.proofs.viewer.view.Goals as goal
 
 pub returns-in-Err-clause-viewed : goal.returns-in-Err-clause-viewed
@@ -10,8 +10,15 @@ returns-in-Err-clause-viewed g c is = absurd (told_not_none c.in-Err.stop _ _ _ 
 
 pub returns-in-Err-clause-stopped : goal.returns-in-Err-clause-stopped
 returns-in-Err-clause-stopped g c =
-    inr (stopped_by _ _ _ _ _ c.in-Err.stop _ c.in-Err.ensures.given (λ rose. rose_within _ _ _ _ c.in-Err.ensures.out_later (search rules) rose) (inr (why_within _ _ _ _ _ _ (record { input = omega arith; output = omega arith; report = omega arith; out = omega arith }) (record { input = omega arith; output = omega arith; report = omega arith; out = omega arith }) _ c.in-Err.ensures.stops)) c.tell-in-Err.ensures.told)
+    inr
+    (stopped_by _ _ _ _ _ c.in-Err.stop _ (λ rose. rose_within _ _ _ _ c.in-Err.ensures.out_later (search rules) rose)
+    (cause_of _ _ _ _ _ _ _ (sym c.asked_in.ensures ∙ c.in-Some.is) (λ rose. rose_within _ _ _ _ (omega arith) c.tell-in-Err.ensures.later rose) c.in-Err.ensures.stops) c.tell-in-Err.ensures.told)
 
 pub returns-in_default-clause-stopped : goal.returns-in_default-clause-stopped
 returns-in_default-clause-stopped g c =
-    inr (stopped_by _ _ _ _ _ stops.Words _ (some_none _) (λ rose. rose) (inl (refl, sym c.asked_in.ensures ∙ c.in_default.is)) c.tell.ensures.told)
+    inr
+    (stopped_by _ _ _ _ _ stops.Words _ (λ rose. rose)
+    (inr (inl (record { none = sym c.asked_in.ensures ∙ c.in_default.is; stop_is = inl refl; text = Appends-nil _ }))) c.tell.ensures.told)
+
+pub returns-in_default-clause-refused : goal.returns-in_default-clause-refused
+returns-in_default-clause-refused g c none = refused_told _ _ _ _ _ c.tell.ensures.told

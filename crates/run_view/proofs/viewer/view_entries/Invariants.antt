@@ -1,21 +1,16 @@
-use Rattle.std.proofs.Common.{◌≡◌, ◌<◌, ◌≤◌, ◌*◌, ◌-◌, ◌^◌, []}
+use Rattle.std.proofs.Common.{◌≡◌, ◌≤◌, ◌-◌, ◌^◌, []}
 use Rattle.pcap_file.specs.declared.head.Head.{Head}
-use Rattle.run_view.specs.Printed.{AppendsSome}
-use Rattle.run_view.specs.SoFar.{Ends, Going, SoFar, ends_of}
-use Rattle.run_view.specs.Steps.{IsReady}
+use Rattle.run_view.specs.SoFar.{Ends, Going, MayTake, SoFar, ends_of}
 use Rattle.run_view.proofs.viewer.view_entries.Given as goal
 
 abbrev pub invariant-entries : goal.invariant-entries
 invariant-entries g l = record {
-  ready : IsReady l.viewer.files;
-  few : l.viewer.files.count < 2 ^ 32;
-  few_frames : l.viewer.files.frames.count ≤ 255 * l.viewer.files.count;
+  may : MayTake l.viewer;
   asked : l.viewer.asked ≡ l.fn.viewer.asked;
   version : l.viewer.version ≡ l.fn.viewer.version;
   head : l.viewer.files.head ≡ l.fn.viewer.files.head;
   going : (head : Head) (before : Ends) → SoFar l.fn.viewer head before (ends_of (g.I.Source.left l.fn.input) (g.O.Source.left l.fn.output) (g.K.Sink.held l.fn.out)) []
       → Going l.viewer head before (ends_of (g.I.Source.left l.input) (g.O.Source.left l.output) (g.K.Sink.held l.out)) (g.R.Source.left l.fn.report) (g.R.Source.left l.report);
-  given : AppendsSome (g.K.Sink.held l.fn.out) (g.K.Sink.held l.out);
   input_later : g.I.Source.fault_count l.fn.input ≤ g.I.Source.fault_count l.input;
   output_later : g.O.Source.fault_count l.fn.output ≤ g.O.Source.fault_count l.output;
   report_later : g.R.Source.fault_count l.fn.report ≤ g.R.Source.fault_count l.report;

@@ -1,0 +1,107 @@
+-- The table of eras, each quantity over the whole list of items (this project's profile). Items are a list with the newest at the head.
+use Rattle.std.specs.Prelude.{◌≡◌, ℕ, ◌+◌, ◌-◌, ◌^◌, ◌==◌, List, [], ◌∷◌, ◌++◌, length, map, min, Option, Some, None, if◌then◌else◌}
+use Rattle.pcap_file.specs.declared.head.Head.{Head}
+use Rattle.rule_book.specs.Entries.{PlainEntry}
+use Rattle.rule_book.specs.declared.entry.Ended.{Ended}
+use Rattle.rule_book.specs.declared.entry.Reason.{Reason}
+use Rattle.rule_book.specs.declared.rule.Rule.{Rule}
+use Rattle.frame_view.specs.declared.flow.Flow.{Flow}
+use Rattle.run_view.specs.Eras.{PlainRow, with_rules}
+use Rattle.run_view.specs.Items.{Item, begun_by, if_inward, octets_in, time_of}
+use Rattle.run_view.specs.View.{eras_of, is_number}
+
+-- the items whose record belongs to an era
+abbrev pub own_of : (era : ℕ) → List Item → List Item
+own_of era [] = []
+own_of era (item ∷ older) = if is_number item.entry.era era then item ∷ own_of era older else own_of era older
+
+-- the time of the oldest of some items; 0 for none
+abbrev pub first_time : Head → List Item → ℕ
+first_time head [] = 0
+first_time head (item ∷ []) = time_of head item.packet
+first_time head (item ∷ next ∷ older) = first_time head (next ∷ older)
+
+-- the time of the newest
+abbrev pub last_time : Head → List Item → ℕ
+last_time head [] = 0
+last_time head (item ∷ older) = time_of head item.packet
+
+-- how many octets an item brings inwards
+abbrev pub inward_octets : Head → Item → ℕ
+inward_octets head item = if_inward item.entry.side (octets_in head.link item.frames)
+
+-- the sum of them
+abbrev pub octets_sum : Head → List Item → ℕ
+octets_sum head [] = 0
+octets_sum head (item ∷ older) = octets_sum head older + inward_octets head item
+
+-- a count where it fits into 64 bits, else their last value
+abbrev pub within : ℕ → ℕ
+within count = min count (2 ^ 64 - 1)
+
+-- all rules that are named, in order
+abbrev pub rules_named : List Item → List Rule
+rules_named [] = []
+rules_named (item ∷ older) = rules_named older ++ item.entry.rules
+
+-- the packet of the newest item that began an era
+abbrev pub flow_begun : (era : ℕ) → Head → List Item → Option Flow
+flow_begun era head [] = None
+flow_begun era head (item ∷ older) =
+    if is_number item.entry.begun era then begun_by head.link item.packet.octets item.frames else flow_begun era head older
+
+-- all eras that ended, in order
+abbrev pub all_ended : List Item → List Ended
+all_ended [] = []
+all_ended (item ∷ older) = all_ended older ++ item.entry.ended
+
+-- why an era ended: the last of these, `before` where none is
+abbrev pub last_reason : (era : ℕ) → (before : Option Reason) → List Ended → Option Reason
+last_reason era before [] = before
+last_reason era before (ended ∷ more) = last_reason era (if ended.era == era then Some ended.reason else before) more
+
+-- The row of an era: the packet that began it last; the times of the first and the last record that belong to it; how many do, and how many octets they brought
+-- inwards; the last reason why it ended; and each rule that their entries name, in the order of first naming.
+abbrev pub row_of : Head → List Item → (era : ℕ) → PlainRow
+row_of head items era =
+    record {
+      flow = flow_begun era head items;
+      first = first_time head (own_of era items);
+      last = last_time head (own_of era items);
+      records = within (length (own_of era items));
+      octets = within (octets_sum head (own_of era items));
+      end = last_reason era None (all_ended items);
+      rules = with_rules [] (rules_named (own_of era items));
+    }
+
+-- one more number, where it is not among these
+abbrev pub with_number : List ℕ → ℕ → List ℕ
+with_number [] number = number ∷ []
+with_number (n ∷ ns) number = if number == n then n ∷ ns else n ∷ with_number ns number
+
+abbrev pub with_numbers : List ℕ → List ℕ → List ℕ
+with_numbers numbers [] = numbers
+with_numbers numbers (n ∷ more) = with_numbers (with_number numbers n) more
+
+-- a number where there is one
+abbrev pub if_number : Option ℕ → List ℕ
+if_number None = []
+if_number (Some n) = n ∷ []
+
+-- the eras that an entry names: its own, the one that it began, and those that ended
+abbrev pub eras_in : PlainEntry → List ℕ
+eras_in entry = if_number entry.era ++ (if_number entry.begun ++ map (λ (ended : Ended). ended.era) entry.ended)
+
+-- all that are named, in order
+abbrev pub eras_named : List Item → List ℕ
+eras_named [] = []
+eras_named (item ∷ older) = eras_named older ++ eras_in item.entry
+
+-- eras with their rows
+abbrev pub rows_at : (ℕ → PlainRow) → List ℕ → List (ℕ × PlainRow)
+rows_at row [] = []
+rows_at row (n ∷ ns) = (n, row n) ∷ rows_at row ns
+
+-- The table of eras has each era that is named once, in the order of first naming, with its row over all items.
+abbrev pub ErasAreRows : Type 0
+ErasAreRows = (head : Head) (items : List Item) → eras_of head items ≡ rows_at (row_of head items) (with_numbers [] (eras_named items))

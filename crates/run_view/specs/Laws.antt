@@ -1,0 +1,41 @@
+-- Laws of the definitions of a view.
+use Rattle.std.specs.Prelude.{◌≡◌, ℕ, List, Some, None}
+use Rattle.edge_io.specs.Faults.{Rose}
+use Rattle.pcap_file.specs.declared.head.Head.{Head}
+use Rattle.pcap_file.specs.Capture.{IsCapture}
+use Rattle.capture_input.specs.Inputs.{IsInput}
+use Rattle.run_view.specs.Causes.{SourceRose}
+use Rattle.run_view.specs.Items.{Item, AreItems, frames_of, packets_of}
+use Rattle.run_view.specs.Standing.{HasHead}
+use Rattle.run_view.specs.Viewed.{Moment, Reports, Stopped, faults_of}
+use Rattle.run_view.specs.Words.{asked_in}
+use Rattle.run_view.specs.declared.words.Asked.{Asked}
+
+-- the three files are those of a finished run: a capture, another of the same link, and the report, of the same items
+pub record AreOfARun (input output report : List ℕ) : Type 0 where
+  pub head : Head
+  pub written : Head
+  pub version : ℕ
+  pub items : List Item
+  pub link_is : (own : Head) → HasHead input own → written.link ≡ own.link
+  pub are : AreItems version items
+  pub records : IsInput None input head (packets_of items)
+  pub frames : IsCapture output written (frames_of items)
+  pub entries : Reports report version items
+
+-- at a moment these are the octets of the three sources
+pub record HasFiles (moment : Moment) (input output report : List ℕ) : Type 0 where
+  pub input_is : moment.input.octets ≡ Some input
+  pub output_is : moment.output.octets ≡ Some output
+  pub report_is : moment.report.octets ≡ Some report
+
+-- no source fails, and the output does not
+pub record NothingFails (before now : Moment) : Type 0 where
+  pub sources : SourceRose (faults_of before) (faults_of now) → ⊥
+  pub out : Rose before.out.faults now.out.faults → ⊥
+
+-- Where the words are accepted, the three files are those of a finished run, and nothing fails, a view that stops does so for want of memory.
+abbrev pub RunsAreViewed : Type 0
+RunsAreViewed =
+    (words : List (List ℕ)) (before now : Moment) (status : ℕ) (input output report : List ℕ) (asked : Asked) → asked_in words ≡ Some asked → HasFiles before input output report
+    → AreOfARun input output report → NothingFails before now → Stopped words before now status → status ≡ 8

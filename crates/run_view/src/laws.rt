@@ -1,0 +1,15 @@
+//! Laws over definitions.
+ghost use Rattle.run_view.specs.EraRows.{ErasAreRows};
+ghost use Rattle.run_view.specs.Laws.{RunsAreViewed};
+
+/// States that the table of eras has each era that is named once, in the order of first naming, and
+/// that each of its quantities is a first, last, count or sum over all records and entries.
+pub fn eras_are_rows()
+    ensures { ErasAreRows }
+{}
+
+/// States that a view stops only for want of memory if its words are accepted, the three files are
+/// those of a finished run and nothing fails.
+pub fn runs_are_viewed()
+    ensures { RunsAreViewed }
+{}
