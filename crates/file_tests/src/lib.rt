@@ -1,0 +1,11 @@
+//! Tests of the audit and of the view of a finished run.
+#![tactic(auto)]
+
+#[cfg(test)]
+mod audits;
+#[cfg(test)]
+mod changes;
+#[cfg(test)]
+mod lines;
+#[cfg(test)]
+mod views;

@@ -1,0 +1,194 @@
+//! Views of short runs.
+use edge_io::{MemSink, MemSource};
+use run_view::view;
+use std::alloc::{AllocError, Global};
+use std::test::Fail;
+
+/// Little-endian, microseconds, raw IP.
+const HEAD: [u8; 24] = [
+    0xd4, 0xc3, 0xb2, 0xa1, 2, 0, 4, 0, 0, 0, 0, 0, 0, 0, 0, 0, 0, 0, 4, 0, 101, 0, 0, 0,
+];
+
+/// A SYN from 198.51.100.7:40000 to 10.0.0.1:80 with the sequence number 999, without checksums.
+const SYN: [u8; 40] = [
+    0x45, 0, 0, 40, 0, 1, 0, 0, 64, 6, 0, 0, 198, 51, 100, 7, 10, 0, 0, 1, 0x9c, 0x40, 0, 80, 0, 0,
+    3, 0xe7, 0, 0, 0, 0, 0x50, 2, 0x20, 0, 0, 0, 0, 0,
+];
+
+/// Three octets that are no packet.
+const SHORT: [u8; 3] = [1, 2, 3];
+
+/// The list of this one call, and no call for 0.
+fn only(alloc: Global, call: u32) -> Result<Vec<u32>, AllocError> {
+    let mut calls = Vec::new(alloc);
+    if call > 0 {
+        calls.push(call)?;
+    }
+    Ok(calls)
+}
+
+fn line(alloc: Global, words: &[&str]) -> Result<Vec<String>, AllocError> {
+    let mut line = Vec::new(alloc);
+    for word in words {
+        line.push(String::from_str(alloc, word)?)?;
+    }
+    Ok(line)
+}
+
+/// A capture of these records, the first at second 1 and each later one a second after.
+fn capture(alloc: Global, records: &[&[u8]]) -> Result<Vec<u8>, AllocError> {
+    let mut file = Vec::from_slice(alloc, &HEAD)?;
+    let mut second = 1u8;
+    for octets in records {
+        let size = octets.len().min(255) as u8;
+        file.extend_from_slice(&[second, 0, 0, 0, 7, 0, 0, 0, size, 0, 0, 0, size, 0, 0, 0])?;
+        file.extend_from_slice(octets)?;
+        second = second.saturating_add(1);
+    }
+    Ok(file)
+}
+
+/// The status and the text of the view of a run.
+fn viewed(
+    alloc: Global,
+    words: &[&str],
+    input: Vec<u8>,
+    output: Vec<u8>,
+    report: &str,
+    failing: [u32; 4],
+) -> Result<(u8, Vec<u8>), Fail> {
+    let words = line(alloc, words)?;
+    let mut input = MemSource::new(input, 7, only(alloc, failing[0])?);
+    let mut output = MemSource::new(output, 9, only(alloc, failing[1])?);
+    let report = Vec::from_slice(alloc, report.as_bytes())?;
+    let mut report = MemSource::new(report, 5, only(alloc, failing[2])?);
+    let mut out = MemSink::new(alloc, 4000, only(alloc, failing[3])?)?;
+    let status = view(
+        alloc,
+        &words,
+        &mut input,
+        &mut output,
+        &mut report,
+        &mut out,
+    );
+    Ok((status, Vec::from_slice(alloc, out.held())?))
+}
+
+const REPORT: &str =
+    "norm 2\n1 in pass 1 @1 +1\n2 - drop 0 I_SHORT\n3 in fix 1 T_CLASH @1 -1:idle:0\nend 3 2\n";
+
+const SUMMARY: &str = "records 3
+in pass 1 fix 1 hold 0 drop 0
+out pass 0 fix 0 hold 0 drop 0
+- pass 0 fix 0 hold 0 drop 1
+frames 2
+rule I_SHORT 1 (the packet has fewer than 20 octets)
+rule T_CLASH 1 (octets that differ from those first sent at their offsets are replaced)
+eras 1 live 0 reset 0 evicted 0 idle 1 reopened 0
+era 1 198.51.100.7:40000 > 10.0.0.1:80 1970-01-01T00:00:01.000007000Z 1970-01-01T00:00:03.000007000Z records 2 octets 0 idle T_CLASH
+";
+
+const DROPPED: &str =
+    "2 1970-01-01T00:00:02.000007000Z - - > - - len 3 drop I_SHORT (the packet has fewer than 20 octets) frames 0\n";
+
+/// The status and the text of the view of the run above, with this report.
+fn run_viewed(
+    alloc: Global,
+    words: &[&str],
+    report: &str,
+    failing: [u32; 4],
+) -> Result<(u8, Vec<u8>), Fail> {
+    let input = capture(alloc, &[&SYN, &SHORT, &SYN])?;
+    let output = capture(alloc, &[&SYN, &SYN])?;
+    viewed(alloc, words, input, output, report, failing)
+}
+
+const FILES: [&str; 3] = ["in", "out", "report"];
+
+#[test]
+fn run_is_viewed(rt: HostRuntime) -> Result<(), Fail> {
+    let (status, text) = run_viewed(rt.alloc(), &FILES, REPORT, [0; 4])?;
+    assert_eq!(rt; status, 0);
+    assert_eq!(rt; text.as_slice(), SUMMARY.as_bytes());
+    Ok(())
+}
+
+#[test]
+fn chosen_records_are_printed(rt: HostRuntime) -> Result<(), Fail> {
+    let words = ["--only=drop", "--rule", "I_SHORT", "in", "out", "report"];
+    let (status, text) = run_viewed(rt.alloc(), &words, REPORT, [0; 4])?;
+    assert_eq!(rt; status, 0);
+    assert_eq!(rt; text.as_slice(), DROPPED.as_bytes());
+    Ok(())
+}
+
+/// The line of a view that stops, and its status.
+#[test]
+fn views_stop(rt: HostRuntime) -> Result<(), Fail> {
+    let alloc = rt.alloc();
+    let rows: [(&[&str], &str, &str, u8); 7] = [
+        (&["in", "out"], REPORT, "stop words\n", 2),
+        (
+            &["--era", "0", "in", "out", "report"],
+            REPORT,
+            "stop words\n",
+            2,
+        ),
+        (&FILES, "norm 3\n", "stop report 1\n", 9),
+        (
+            &FILES,
+            "norm 2\n1 in pass 1\n3 in pass 1\n",
+            "stop report 3\n",
+            9,
+        ),
+        (&FILES, "norm 2\n1 in pass 1\nend 1 1\n", "no record 2\n", 1),
+        (
+            &FILES,
+            "norm 2\n1 in pass 1\n2 in pass 1\n3 in pass 1\n",
+            "no frame 3\n",
+            1,
+        ),
+        (
+            &FILES,
+            "norm 2\n1 in pass 1\nstop cut 24\n",
+            "stop report 3\n",
+            9,
+        ),
+    ];
+    for (words, report, line, status) in rows {
+        let (found, text) = run_viewed(alloc, words, report, [0; 4])?;
+        assert_eq!(rt; found, status);
+        assert_eq!(rt; text.as_slice(), line.as_bytes());
+    }
+    Ok(())
+}
+
+#[test]
+fn output_of_another_link_stops(rt: HostRuntime) -> Result<(), Fail> {
+    let alloc = rt.alloc();
+    let input = capture(alloc, &[&SYN])?;
+    let mut output = capture(alloc, &[&SYN])?;
+    if 20 < output.len() {
+        output[20] = 1;
+    }
+    let report = "norm 2\n1 in pass 1\nend 1 1\n";
+    let (status, text) = viewed(alloc, &FILES, input, output, report, [0; 4])?;
+    assert_eq!(rt; status, 3);
+    assert_eq!(rt; text.as_slice(), b"stop out link 0\n".as_slice());
+    Ok(())
+}
+
+#[test]
+fn failures_stop(rt: HostRuntime) -> Result<(), Fail> {
+    let alloc = rt.alloc();
+    for source in 0..3 {
+        let mut failing = [0; 4];
+        failing[source] = 3;
+        let (status, text) = run_viewed(alloc, &FILES, REPORT, failing)?;
+        assert_eq!(rt; status, 5);
+        assert_eq!(rt; text.as_slice(), b"stop read\n".as_slice());
+    }
+    let (status, _) = run_viewed(alloc, &FILES, REPORT, [0, 0, 0, 1])?;
+    assert_eq!(rt; status, 7);
+    Ok(())
+}

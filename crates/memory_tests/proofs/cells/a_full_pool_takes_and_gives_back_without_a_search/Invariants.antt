@@ -1,0 +1,9 @@
+use Rattle.std.proofs.Common.{◌-◌}
+use Rattle.cell_pool.proofs.Steps.{HasFirst, IsFilled}
+use Rattle.memory_tests.proofs.cells.a_full_pool_takes_and_gives_back_without_a_search.Given as goal
+
+abbrev pub invariant-loop-block : goal.invariant-loop-block
+invariant-loop-block g l = IsFilled l.pool (262144 - l.block) l.block l.last
+
+abbrev pub invariant-loop : goal.invariant-loop
+invariant-loop g l = HasFirst l.pool 1
