@@ -8,7 +8,7 @@ use Rattle.era_state.specs.Quantities.{first}
 use Rattle.era_state.proofs.Counts.{first_past}
 use Rattle.era_state.specs.Emission.{IsKeptFrame, AreEmitted}
 use Rattle.era_state.proofs.Emitting.{emitted_joins, emitted_is_told}
-use Rattle.era_state.specs.Worked.{segment, opening, abcd, abXd, fin, wxyz, Abcd, turning, SettledIsEmitted, ClashIsNotEmitted, TurnedIsEmitted}
+use Rattle.era_state.specs.Worked.{segment, opening, abcd, abXd, fin, wxyz, turning, SettledIsEmitted, ClashIsNotEmitted, TurnedIsEmitted}
 
 whole : Interval
 whole = record { lo = 0; hi = 4; fin = false; below = false; window = false; end = false }
@@ -99,6 +99,10 @@ kept_at_turn = record {
   framed = record { inward = refl; no_syn = refl; fin_is = refl; long = refl; sequence_is = refl };
   stays = λ index octet other has e. let gone = first_past 1000 before_turn (4294967294 + index) (omega arith) in absurd (cc (gone, e));
 }
+
+-- `Abcd` at 1000
+abbrev Abcd : Written
+Abcd = segment true 1000 5001 24 (65 ∷ 98 ∷ 99 ∷ 100 ∷ [])
 
 zcd : Written
 zcd = segment true 1001 5001 24 (122 ∷ 99 ∷ 100 ∷ [])

@@ -39,15 +39,12 @@ ClashIsNotEmitted = IsEmitted (opening ++ abcd ∷ []) abXd → ⊥
 abbrev pub wxyz : Written
 wxyz = segment true 998 5001 24 (119 ∷ 120 ∷ 121 ∷ 122 ∷ [])
 
--- `Abcd` at 1000, of which 1000 is acknowledged and `b` is at the offset of `z`
-abbrev pub Abcd : Written
-Abcd = segment true 1000 5001 24 (65 ∷ 98 ∷ 99 ∷ 100 ∷ [])
-
 -- the opening, ACKs of 2147484647 and 998, which are the offsets 2^31 - 1 and 2^32 - 2, and `wxyz` there
 abbrev pub turning : List Written
 turning = opening ++ segment false 5001 2147484647 16 [] ∷ segment false 5001 998 16 [] ∷ wxyz ∷ []
 
--- the same, an ACK of 1001, which is the offset 2^32 + 1; and `Abcd`, of which `zcd` is forwarded at 1001
+-- the same, an ACK of 1001, which is the offset 2^32 + 1; and `Abcd` at 1000, of which `zcd` is forwarded at 1001: the octet at 1000 is acknowledged, and `b`
+-- is at the offset of `z`
 abbrev pub turned : List Written
 turned = turning ++ segment false 5001 1001 16 [] ∷ segment true 1001 5001 24 (122 ∷ 99 ∷ 100 ∷ []) ∷ []
 

@@ -3,4 +3,3 @@ pub mod Beginnings
 pub mod Unique
 pub mod Ends
 pub mod Written
-pub mod Steps

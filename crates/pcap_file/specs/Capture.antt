@@ -1,5 +1,5 @@
 -- A capture file as a whole (classic pcap): a head, a list of records, and the end or a first flaw at an offset.
-use Rattle.std.specs.Prelude.{◌≡◌, ◌⊎◌, ℕ, ◌+◌, List, [], ◌∷◌, length, drop, Option, Some, None, Ok, Err}
+use Rattle.std.specs.Prelude.{◌≡◌, ◌⊎◌, ℕ, ◌+◌, List, [], ◌∷◌, length, drop, Some, Ok, Err}
 use Rattle.pcap_file.specs.declared.order.Order.{Order}
 use Rattle.pcap_file.specs.declared.head.Head.{Head}
 use Rattle.pcap_file.specs.Flaws.{Flaw}
@@ -51,19 +51,3 @@ pub record EndsBadly (octets : List ℕ) : Type 0 where
   pub flaw : Flaw
   pub offset : ℕ
   pub is : FailsAt octets flaw offset
-
--- If a source has known octets, these records, the newest first, were taken from those after the head.
-abbrev pub Took : Order → (old new : Option (List ℕ)) → List Packet → Type 0
-Took order None new packets = Unit {0}
-Took order (Some all) None packets = ⊥
-Took order (Some all) (Some rest) packets = ReadsTo order all packets rest
-
--- If a source has known octets, those after the head were exactly these records.
-abbrev pub TookAll : Order → (old : Option (List ℕ)) → List Packet → Type 0
-TookAll order None packets = Unit {0}
-TookAll order (Some all) packets = ReadsTo order all packets []
-
--- If a source has known octets, this flaw follows these records.
-abbrev pub HasFlawAfter : Order → (old : Option (List ℕ)) → List Packet → Flaw → Type 0
-HasFlawAfter order None packets flaw = Unit {0}
-HasFlawAfter order (Some all) packets flaw = (rest : List ℕ) × ReadsTo order all packets rest × (front_of order (length packets) rest ≡ Err flaw)

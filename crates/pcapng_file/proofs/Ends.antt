@@ -19,13 +19,14 @@ use Rattle.pcapng_file.specs.declared.content.Found.{Found}
 use Rattle.pcapng_file.specs.declared.content.Found.TheVariants as is
 use Rattle.pcapng_file.specs.Standing.{Sections, counted, no_section}
 use Rattle.pcapng_file.specs.Options.{options_of, described}
-use Rattle.pcapng_file.specs.Contents.{is_link, interface_found, found_of, content_of, IsPlaced}
+use Rattle.pcapng_file.specs.Contents.{is_link, interface_found, found_of, content_of}
 use Rattle.pcapng_file.proofs.Fields.{content_placed}
 use Rattle.pcapng_file.proofs.Walking.{blocks_after}
 use Rattle.pcapng_file.specs.Blocks.{Step, is_size, order_at, ordered_at, sized_at, block_at, end_by, told, before, after_found, step_of, whole_step}
 use Rattle.pcapng_file.specs.Sections.{Walks, behind, size_of, packets_of, with_given, EndsWell, EndsBadly}
 use Rattle.pcapng_file.specs.Laws.{EachFileEnds, LinkStays, WalksOn}
 use Rattle.pcapng_file.proofs.Wholes.{at_nothing, at_short, at_many, at_ordered, sized_cut, sized_open, sized_closed, is_big}
+use Rattle.pcapng_file.proofs.Placed.{IsPlaced}
 
 -- a link that may follow the first one is the same
 same_link : (first : Option Link) (link l : Link) → is_link first link ≡ true → first ≡ Some l → Some link ≡ Some l

@@ -16,8 +16,9 @@ use Rattle.pcapng_file.specs.declared.content.Content.{Content}
 use Rattle.pcapng_file.specs.declared.content.Content.TheVariants as says
 use Rattle.pcapng_file.specs.Options.{padded}
 use Rattle.pcapng_file.specs.Standing.{Sections}
-use Rattle.pcapng_file.specs.Contents.{section_type, interface_type, enhanced_type, simple_type, old_packet_type, section_says, interface_says, linked_says, enhanced_says, enhanced_of, timed_says, simple_says, simple_of, simple_sized, clipped, is_link, side_by, per_second, nanos_each, more_of, content_of, found_of, IsPlaced}
+use Rattle.pcapng_file.specs.Contents.{section_type, interface_type, enhanced_type, simple_type, old_packet_type, section_says, interface_says, linked_says, enhanced_says, enhanced_of, timed_says, simple_says, simple_of, simple_sized, clipped, is_link, side_by, per_second, nanos_each, more_of, content_of, found_of}
 use Rattle.pcapng_file.specs.Blocks.{bare}
+use Rattle.pcapng_file.proofs.Placed.{IsPlaced}
 
 section_small : (order : Order) (size : ℕ) (x : List ℕ) → size < 28 → section_says order size x ≡ says.Fails faults.Block
 section_small order size x s = grind (arith, nat_tests)

@@ -1,3 +1,4 @@
+pub mod Placed
 pub mod OptionLists
 pub mod Values
 pub mod Takings

@@ -7,7 +7,7 @@ use Rattle.pcap_file.specs.declared.order.Order.{Order}
 use Rattle.pcapng_file.specs.declared.interface.Interface.{Interface}
 use Rattle.pcapng_file.specs.declared.interface.Seen.{Seen}
 use Rattle.pcapng_file.specs.Options.{Entry, options_in, options_of, option_size, entry_at, is_end, is_named, nano_of, with_unit, described}
-use Rattle.pcapng_file.specs.Seen.{seen_behind, described_by, nothing_seen, nano_first, named_first, named_by, nano_by}
+use Rattle.pcapng_file.specs.Seen.{seen_behind, described_by, nano_first, named_first, named_by, nano_by}
 
 -- if the options do not end here, at least four octets are left
 not_end : (order : Order) (area : List ℕ) → is_end order area ≡ false → 4 ≤ length area
@@ -115,6 +115,10 @@ seen_first inside snap seen entry (Some entries) = elim (cases_Bool (entry.code 
   unit_is : (nano : Option Bool) → (entry.code == 9) ≡ true → nano_by nano (entry ∷ entries) ≡ elim nano [ None ↦ nano_of (Some entry.value) | Some n ↦ Some n ]
   unit_is (Some n) e = refl
   unit_is None e = rw e refl
+
+-- before the first option
+abbrev pub nothing_seen : Seen
+nothing_seen = record { named = None; nano = None }
 
 -- before the first option, the interface is the one that all options describe
 pub all_options : (inside : Option (List ℕ)) (snap : ℕ) (options : Option (List Entry)) → described inside snap options ≡ described_by inside snap nothing_seen options

@@ -13,9 +13,9 @@ use Rattle.pcapng_file.specs.declared.interface.Interface.{Interface}
 use Rattle.pcapng_file.specs.declared.interface.Seen.{Seen}
 use Rattle.pcapng_file.specs.declared.fault.NgFault.{NgFault}
 use Rattle.pcapng_file.specs.Options.{Entry, padded, options_of, option_size, entry_at, is_end, described}
-use Rattle.pcapng_file.specs.Seen.{seen_behind, described_by, nothing_seen}
+use Rattle.pcapng_file.specs.Seen.{seen_behind, described_by}
 use Rattle.pcapng_file.specs.Takes.{Short, TakesCount, TakesOptions, Passes, ReadsValue}
-use Rattle.pcapng_file.proofs.OptionLists.{no_option, past_area, one_option, seen_first, all_options, result_by}
+use Rattle.pcapng_file.proofs.OptionLists.{nothing_seen, no_option, past_area, one_option, seen_first, all_options, result_by}
 use Rattle.pcapng_file.proofs.Takings.{short_behind}
 
 short_area : (order : Order) (area : List ℕ) → length area < 4 → options_of order area ≡ Some []

@@ -23,11 +23,12 @@ use Rattle.pcapng_file.specs.declared.content.Found.{Found}
 use Rattle.pcapng_file.specs.declared.content.Found.TheVariants as is
 use Rattle.pcapng_file.specs.Standing.{Sections, counted}
 use Rattle.pcapng_file.specs.Options.{options_of, described}
-use Rattle.pcapng_file.specs.Contents.{section_type, interface_type, enhanced_type, simple_type, old_packet_type, more_of, content_of, found_of, interface_found, IsPlaced, IsSound, IsTold}
+use Rattle.pcapng_file.specs.Contents.{section_type, interface_type, enhanced_type, simple_type, old_packet_type, more_of, content_of, found_of, interface_found, IsSound, IsTold}
 use Rattle.pcapng_file.specs.Blocks.{is_size, order_at, size_at, front_in, ordered_at, sized_at, block_at, end_by, told, before, step_of, bare, IsFront, IsInterface, IsPacket}
 use Rattle.pcapng_file.specs.Takes.{Short, TakesSize, is_read_fault}
 use Rattle.pcapng_file.specs.Reads.{IsBody, HasRoom, IsKept, TakesBody, TakesRest, TakesBlock, EndsHere, IsCut, IsFaulty, TakesPart, Stops}
 use Rattle.pcapng_file.proofs.Fields.{content_front, content_placed, bare_found}
+use Rattle.pcapng_file.proofs.Placed.{IsPlaced}
 
 -- a number after the front `p`
 u16_behind : (order : Order) (p t : List ℕ) (n k : ℕ) → n ≡ length p + k → u16_at order (p ++ t) n ≡ u16_at order t k

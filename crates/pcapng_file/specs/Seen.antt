@@ -4,10 +4,6 @@ use Rattle.pcapng_file.specs.declared.interface.Interface.{Interface}
 use Rattle.pcapng_file.specs.declared.interface.Seen.{Seen}
 use Rattle.pcapng_file.specs.Options.{Entry, first_value, is_named, nano_of, with_unit}
 
--- before the first option
-abbrev pub nothing_seen : Seen
-nothing_seen = record { named = None; nano = None }
-
 -- whether the first name is that of the inside interface
 abbrev pub named_first : (seen : Option Bool) → (named : Bool) → Option Bool
 named_first (Some named) later = Some named

@@ -1,5 +1,5 @@
 -- A chain with a cell for a block.
-use Rattle.std.proofs.Common.{◌≡◌, ◌≢◌, ℕ, ◌+◌, ◌-◌, ◌<◌, ◌/◌, ◌%◌, inl, inr, false, List, [], ◌∷◌, ◌++◌, length, get_or, replicate, Option, None, is_some, refl, sym, ap, subst, ◌∙◌, arith, length-append}
+use Rattle.std.proofs.Common.{◌≡◌, ◌≢◌, ℕ, ◌+◌, ◌-◌, ◌<◌, ◌/◌, ◌%◌, inl, inr, false, List, [], ◌∷◌, ◌++◌, length, get_or, replicate, Option, None, is_some, refl, sym, ap, subst, ◌∙◌, arith, length-append, if◌then◌else◌}
 use Rattle.std.specs.List.{list_any}
 use Rattle.std.proofs.lemmas.Bool.{cases_eq, cases_lt}
 use Rattle.std.proofs.lemmas.List.{get_or-set_same, set-get_or, get_or-replicate, get_or_past, length-replicate}
@@ -8,10 +8,25 @@ use Rattle.std.proofs.lemmas.List.Elements.{All-replicate}
 use Rattle.cell_pool.specs.declared.cells.CellId.{CellId}
 use Rattle.cell_pool.specs.Lists.{Lists, Held, IsRising, HasPlaceFor, TakesAfter, chain_at, with_chain, empty_cell}
 use Rattle.cell_pool.proofs.Rising.{IsRising-more}
-use Rattle.retain_store.specs.Maps.{block_at, holds}
-use Rattle.retain_store.specs.Seats.{blocks_of, blocks_in, AllFull, IsCellOf, IsKept}
-use Rattle.retain_store.specs.Changes.{IsChanged, Opens}
+use Rattle.retain_store.specs.Maps.{block_at, holds, octet_at}
+use Rattle.retain_store.specs.Seats.{blocks_of, blocks_in, AllFull, IsAt, IsCellOf, IsKept}
+use Rattle.retain_store.specs.Changes.{IsChanged}
 use Rattle.retain_store.proofs.Blocks.{cell_full, found_at, full_less, holds_found, holds_missing, missing_at, other_in}
+
+-- There is a cell for this block, perhaps a new one without octets; the map is unchanged.
+pub record Opens (old new : Lists) (chain number : ℕ) (name : CellId) : Type 0 where
+  pub before : List Held
+  pub cell : Held
+  pub after : List Held
+  pub at : IsAt (chain_at new chain) name before cell after
+  pub numbered : cell.block ≡ number
+  pub places : length cell.octets ≡ 256
+  pub rising : IsRising (chain_at new chain)
+  pub full : AllFull (before ++ after)
+  pub changed : IsChanged old new chain
+  pub spent : new.free + (if holds (blocks_in old chain) number then 0 else 1) ≡ old.free
+  pub octets : (offset : ℕ) → octet_at (blocks_in new chain) offset ≡ octet_at (blocks_in old chain) offset
+  pub held : (n : ℕ) → holds (blocks_in new chain) n ≡ holds (blocks_in old chain) n
 
 -- the pool itself is the pool with this chain as it is
 pub with_itself : (pool : Lists) (c : ℕ) → pool ≡ with_chain pool c (chain_at pool c) pool.free

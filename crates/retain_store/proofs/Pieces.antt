@@ -12,11 +12,11 @@ use Rattle.cell_pool.specs.Lists.{Lists, Held, HasPlaceFor, IsBlank, IsRising, T
 use Rattle.cell_pool.proofs.Rising.{IsRising-octets}
 use Rattle.retain_store.specs.Maps.{IsFull, block_at, octet_at, octet_in, holds}
 use Rattle.retain_store.specs.Seats.{blocks_in, AllFull, IsCellOf, IsKept}
-use Rattle.retain_store.specs.Changes.{IsChanged, Opens, PlacesPiece, with_octets}
+use Rattle.retain_store.specs.Changes.{IsChanged, PlacesPiece, with_octets}
 use Rattle.retain_store.proofs.Walks.{stands}
 use Rattle.retain_store.proofs.Blocks.{found_in, full_more, other_in}
 use Rattle.retain_store.proofs.Segments.{got_with, length_with, octet_before, octet_past, or_none, with_blank}
-use Rattle.retain_store.proofs.Opens.{chain_is, changed_by, no_octet, opened_cell, opens_found, opens_taken}
+use Rattle.retain_store.proofs.Opens.{Opens, chain_is, changed_by, no_octet, opened_cell, opens_found, opens_taken}
 
 -- the chain is still one of the chains
 pub inside_then : {old new : Lists} {c : ℕ} → c < length old.chains → IsChanged old new c → c < length new.chains

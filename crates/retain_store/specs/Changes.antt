@@ -1,11 +1,11 @@
 -- How the steps of a change act on the pool (this project's profile).
-use Rattle.std.specs.Prelude.{◌≡◌, ℕ, ◌+◌, ◌<◌, ◌/◌, ◌==◌, nat_lt, Bool, false, ◌||◌, List, [], ◌++◌, ◌∷◌, length, map, Option, Some, None, slice_index_or, slice_set, if◌then◌else◌}
+use Rattle.std.specs.Prelude.{◌≡◌, ℕ, ◌+◌, ◌<◌, ◌/◌, ◌==◌, nat_lt, Bool, false, ◌||◌, List, [], ◌∷◌, length, map, Option, Some, None, slice_index_or, slice_set, if◌then◌else◌}
 use Rattle.std.specs.List.{range_with_len}
 use Rattle.std.specs.Option.{option_or}
 use Rattle.cell_pool.specs.declared.cells.CellId.{CellId}
-use Rattle.cell_pool.specs.Lists.{Lists, Held, IsRising, chain_at, with_chain}
-use Rattle.retain_store.specs.Maps.{octet_at, octet_in, holds, ForgetsBelow, Places}
-use Rattle.retain_store.specs.Seats.{blocks_in, AllFull, IsAt, IsKept, IsNear}
+use Rattle.cell_pool.specs.Lists.{Lists, Held, chain_at, with_chain}
+use Rattle.retain_store.specs.Maps.{octet_in, holds, ForgetsBelow, Places}
+use Rattle.retain_store.specs.Seats.{blocks_in, IsAt, IsKept, IsNear}
 
 -- The octets with one added at this offset, unless it has one.
 abbrev pub with_octet : List (Option ℕ) → ℕ → ℕ → List (Option ℕ)
@@ -20,21 +20,6 @@ with_octets octets at piece =
 pub record IsChanged (old new : Lists) (chain : ℕ) : Type 0 where
   pub others : new ≡ with_chain old chain (chain_at new chain) new.free
   pub cells : new.free + length (chain_at new chain) ≡ old.free + length (chain_at old chain)
-
--- There is a cell for this block, perhaps a new one without octets; the map is unchanged.
-pub record Opens (old new : Lists) (chain number : ℕ) (name : CellId) : Type 0 where
-  pub before : List Held
-  pub cell : Held
-  pub after : List Held
-  pub at : IsAt (chain_at new chain) name before cell after
-  pub numbered : cell.block ≡ number
-  pub places : length cell.octets ≡ 256
-  pub rising : IsRising (chain_at new chain)
-  pub full : AllFull (before ++ after)
-  pub changed : IsChanged old new chain
-  pub spent : new.free + (if holds (blocks_in old chain) number then 0 else 1) ≡ old.free
-  pub octets : (offset : ℕ) → octet_at (blocks_in new chain) offset ≡ octet_at (blocks_in old chain) offset
-  pub held : (n : ℕ) → holds (blocks_in new chain) n ≡ holds (blocks_in old chain) n
 
 -- Octets of one block were added at offsets that had none, and this is its cell.
 pub record PlacesPiece (old new : Lists) (chain from : ℕ) (piece : List ℕ) (name : CellId) : Type 0 where

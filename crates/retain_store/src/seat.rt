@@ -92,8 +92,8 @@ fn walk(
     Seat::After(after)
 }
 
-/// Returns whether `near` is the last cell of the chain and no offset from `from` on has an octet.
-/// No cell is walked past, so false says nothing of a chain whose last cell is another one.
+/// Returns true only if no offset from `from` on has an octet: if the chain is empty, or if `near`
+/// is its last cell and has none there. No cell is walked past, so false says nothing.
 pub(crate) fn ends_before(pool: &Pool, chain: ChainId, near: Option<CellId>, from: u64) -> bool
     requires chain_in_range { chain.0 < length pool.now.chains }
     requires near_in_chain { IsNear (chain_at pool.now chain.0) near }

@@ -4,7 +4,7 @@ use Rattle.std.proofs.KnownBytes.{Consumes-trans}
 use Rattle.std.proofs.lemmas.List.{length-append}
 use Rattle.pcapng_file.specs.declared.content.Content.{Content}
 use Rattle.pcapng_file.specs.Standing.{known}
-use Rattle.pcapng_file.specs.Contents.{IsPlaced}
+use Rattle.pcapng_file.proofs.Placed.{IsPlaced}
 use Rattle.pcapng_file.proofs.Fields.{content_placed, more_fits}
 use Rattle.pcapng_file.proofs.Takings.{short_behind}
 use Rattle.pcapng_file.proofs.Wholes.{is_bigger, room_is, rest_bare, rest_closed, rest_unclosed, content_read}
