@@ -1,167 +1,169 @@
--- The table of rules: the number and the name of each, and the order in which they are tested (this project's profile).
-use Rattle.std.specs.Prelude.{◌≡◌, ℕ, ◌==◌, List, [], ◌∷◌, ◌++◌, map, find, Option, Some, codes}
+-- The table of rules: a line for each rule, and the order in which they are tested and named (this project's profile).
+use Prim.Native.String.{String}
+use Rattle.std.specs.Prelude.{◌≡◌, ℕ, ◌==◌, ◌&&◌, not, nat_lt, Bool, true, false, List, [], ◌∷◌, ◌++◌, map, filter, find, Option, Some, codes}
 use Rattle.std.specs.List.Sorted.{IsStrictlyIncreasing}
 use Rattle.std.specs.Str.{bytes_eq}
 use Rattle.rule_book.specs.declared.rule.Rule.{Rule}
-use Rattle.rule_book.specs.declared.rule.Rule.TheVariants.{LSnap, LShort, LType, IShort, IVersion, IHlen, ILen, ISum, ISrc, IDst, ISide, IOptBad, IRoute, PProto, FDf, FEmpty, FAlign, FBig, FEnd, FClash, FMany, FRoom, UShort, ULen, USum, MShort, MSum, MType, MQuote, TShort, THlen, TSum, TFlags, TOptBad, TCold, TState, TSyn, TRst, TFull, TRoom, ITrail, IOpt, IRes, ITtl, FHeld, FDone, USumOut, TSumOut, TRes, TUrg, TOpt, TStrip, CProbe, TOld, TWindow, TTurn, TEnd, TClash, TQuota, ECut, EMtu}
+use Rattle.rule_book.specs.declared.rule.Rule.TheVariants as rules
+
+-- what a rule is on: the link, the IPv4 header, its protocol, a fragment, the time to live of a datagram, UDP or ICMP, the header of a TCP segment, the era of
+-- a segment, or a frame that is too long for the link
+pub data Layer : Type 0 where
+  link : Layer
+  header : Layer
+  protocol : Layer
+  fragment : Layer
+  lifetime : Layer
+  datagram : Layer
+  segment : Layer
+  era : Layer
+  cut : Layer
+
+-- what a rule does: it drops; it drops what is inbound, and is a note on what is outbound; it holds a fragment; or it rewrites what is written
+pub data Kind : Type 0 where
+  drops : Kind
+  drops_inbound : Kind
+  holds : Kind
+  rewrites : Kind
+
+-- a line of the table: the number of a rule, its name in the report, its layer and kind, whether it holds a payload, reassembles it from fragments, changes
+-- it, or writes a probe instead of it or after it, and what the rule says in one sentence
+pub record Line : Type 0 where
+  pub number : ℕ
+  pub name : List ℕ
+  pub layer : Layer
+  pub kind : Kind
+  pub touches : Bool
+  pub sentence : List ℕ
+
+-- the line with these values, in this order
+abbrev pub line : (number : ℕ) → (name : String) → Layer → Kind → (touches : Bool) → (sentence : String) → Line
+line number name layer kind touches sentence =
+    record { number = number; name = codes name; layer = layer; kind = kind; touches = touches; sentence = codes sentence }
+
+-- the line of a rule
+abbrev pub line_of : Rule → Line
+line_of rules.LSnap = line 1 "L_SNAP" link drops false "fewer octets were captured than the packet had"
+line_of rules.LShort = line 2 "L_SHORT" link drops false "an Ethernet frame has fewer than 14 octets"
+line_of rules.LType = line 3 "L_TYPE" link drops false "the EtherType is neither IPv4 nor ARP, or an ARP frame is too long"
+line_of rules.IShort = line 4 "I_SHORT" header drops false "the packet has fewer than 20 octets"
+line_of rules.IVersion = line 5 "I_VERSION" header drops false "the IP version is not 4"
+line_of rules.IHlen = line 6 "I_HLEN" header drops false "the header length is below 5 words or longer than the packet"
+line_of rules.ILen = line 7 "I_LEN" header drops false "the total length is below the header length or longer than the packet"
+line_of rules.ISum = line 8 "I_SUM" header drops false "the checksum of the IP header is wrong"
+line_of rules.ISrc = line 9 "I_SRC" header drops false "the source is an address that no host has, or equals the destination"
+line_of rules.IDst = line 10 "I_DST" header drops false "the destination is an address that no host has"
+line_of rules.ISide = line 11 "I_SIDE" header drops false "source and destination are both trusted, or neither is"
+line_of rules.IOptBad = line 12 "I_OPT_BAD" header drops false "an IP option is malformed"
+line_of rules.IRoute = line 13 "I_ROUTE" header drops false "the packet has a source route"
+line_of rules.PProto = line 14 "P_PROTO" protocol drops false "the protocol is not ICMP, TCP or UDP"
+line_of rules.FDf = line 15 "F_DF" fragment drops false "a fragment with an offset above 0 has DF set"
+line_of rules.FEmpty = line 16 "F_EMPTY" fragment drops false "a fragment has no payload"
+line_of rules.FAlign = line 17 "F_ALIGN" fragment drops false "a fragment with MF has a payload that is no multiple of 8 octets"
+line_of rules.FBig = line 18 "F_BIG" fragment drops false "a fragment ends after octet 65515 of its datagram"
+line_of rules.FEnd = line 19 "F_END" fragment drops false "a fragment contradicts the end of its datagram, which is forgotten"
+line_of rules.FClash = line 20 "F_CLASH" fragment drops false "an octet differs from the held one at its offset, and the datagram is forgotten"
+line_of rules.FMany = line 21 "F_MANY" fragment drops false "as many datagrams as --frags allows are held already"
+line_of rules.FRoom = line 22 "F_ROOM" fragment drops false "the fragment needs more cells than --frag-cells leaves free"
+line_of rules.UShort = line 23 "U_SHORT" datagram drops false "a UDP message has fewer than 8 octets"
+line_of rules.ULen = line 24 "U_LEN" datagram drops false "the UDP length is not the length of the message"
+line_of rules.USum = line 25 "U_SUM" datagram drops false "the UDP checksum is wrong"
+line_of rules.MShort = line 26 "M_SHORT" datagram drops false "an ICMP message has fewer than 8 octets"
+line_of rules.MSum = line 27 "M_SUM" datagram drops false "the ICMP checksum is wrong"
+line_of rules.MType = line 28 "M_TYPE" datagram drops false "the ICMP type is not 0, 3, 8, 11, 12, 13 or 14"
+line_of rules.MQuote = line 29 "M_QUOTE" datagram drops false "an inbound ICMP error quotes nothing that a trusted host sent"
+line_of rules.TShort = line 30 "T_SHORT" segment drops false "a segment has fewer than 20 octets"
+line_of rules.THlen = line 31 "T_HLEN" segment drops false "the data offset is below 5 words or longer than the segment"
+line_of rules.TSum = line 32 "T_SUM" segment drops false "the TCP checksum is wrong"
+line_of rules.TFlags = line 33 "T_FLAGS" segment drops false "the flags do not go together, as SYN with FIN"
+line_of rules.TOptBad = line 34 "T_OPT_BAD" segment drops false "a TCP option is malformed"
+line_of rules.TCold = line 35 "T_COLD" era drops false "an inbound RST, or SYN with ACK, arrives while no era is live"
+line_of rules.TState = line 36 "T_STATE" era drops false "an inbound segment does not fit an era that is not open yet"
+line_of rules.TSyn = line 37 "T_SYN" era drops false "an inbound SYN in an open era has another sequence number"
+line_of rules.TRst = line 38 "T_RST" era drops false "an inbound RST is outside of what its era takes"
+line_of rules.TFull = line 39 "T_FULL" era drops_inbound false "an era would begin while the table is full and none can be evicted"
+line_of rules.TQuota = line 60 "T_QUOTA" era drops false "the connection would hold more cells than --quota allows"
+line_of rules.TRoom = line 40 "T_ROOM" era drops false "the octets of the segment need more cells than --cells leaves free"
+line_of rules.ITrail = line 41 "I_TRAIL" header rewrites false "octets after the total length are cut off"
+line_of rules.IOpt = line 42 "I_OPT" header rewrites false "the IP options are removed"
+line_of rules.IRes = line 43 "I_RES" header rewrites false "the reserved flag of the IP header is cleared"
+line_of rules.ITtl = line 44 "I_TTL" lifetime rewrites false "a time to live that is too low for the routers behind norm is raised"
+line_of rules.FHeld = line 45 "F_HELD" fragment holds true "the fragment is held until its datagram is complete"
+line_of rules.FDone = line 46 "F_DONE" fragment rewrites true "the fragment completes its datagram, which is written as one packet"
+line_of rules.USumOut = line 47 "U_SUM_OUT" datagram rewrites false "the checksum of an outbound UDP message is computed again"
+line_of rules.TSumOut = line 48 "T_SUM_OUT" era rewrites false "the checksum of an outbound TCP segment is computed again"
+line_of rules.TRes = line 49 "T_RES" era rewrites false "reserved bits of the TCP header are cleared"
+line_of rules.TUrg = line 50 "T_URG" era rewrites false "URG and the urgent pointer are cleared"
+line_of rules.TOpt = line 51 "T_OPT" era rewrites false "TCP options are replaced by no-operations, or octets after their end are cleared"
+line_of rules.TStrip = line 52 "T_STRIP" era rewrites true "the payload of a SYN or RST is cut off"
+line_of rules.CProbe = line 53 "C_PROBE" era rewrites true "a keep-alive is sent, in place of the segment or after a RST"
+line_of rules.TOld = line 54 "T_OLD" era rewrites true "octets that the receiver has acknowledged are cut off"
+line_of rules.TWindow = line 55 "T_WINDOW" era rewrites true "octets after the window of the receiver are cut off"
+line_of rules.TTurn = line 56 "T_TURN" era rewrites true "not used any more, older reports may have it"
+line_of rules.TEnd = line 57 "T_END" era rewrites true "octets or a FIN after the end of the stream are cut off"
+line_of rules.TClash = line 58 "T_CLASH" era rewrites true "octets that differ from those first sent at their offsets are replaced"
+line_of rules.ECut = line 61 "E_CUT" cut rewrites false "the segment is too long for --mtu and is cut into segments that fit"
+line_of rules.EMtu = line 62 "E_MTU" cut drops false "the packet is too long for --mtu and cannot be cut, it is not written"
 
 -- the number of a rule
 abbrev pub rule_number : Rule → ℕ
-rule_number LSnap = 1
-rule_number LShort = 2
-rule_number LType = 3
-rule_number IShort = 4
-rule_number IVersion = 5
-rule_number IHlen = 6
-rule_number ILen = 7
-rule_number ISum = 8
-rule_number ISrc = 9
-rule_number IDst = 10
-rule_number ISide = 11
-rule_number IOptBad = 12
-rule_number IRoute = 13
-rule_number PProto = 14
-rule_number FDf = 15
-rule_number FEmpty = 16
-rule_number FAlign = 17
-rule_number FBig = 18
-rule_number FEnd = 19
-rule_number FClash = 20
-rule_number FMany = 21
-rule_number FRoom = 22
-rule_number UShort = 23
-rule_number ULen = 24
-rule_number USum = 25
-rule_number MShort = 26
-rule_number MSum = 27
-rule_number MType = 28
-rule_number MQuote = 29
-rule_number TShort = 30
-rule_number THlen = 31
-rule_number TSum = 32
-rule_number TFlags = 33
-rule_number TOptBad = 34
-rule_number TCold = 35
-rule_number TState = 36
-rule_number TSyn = 37
-rule_number TRst = 38
-rule_number TFull = 39
-rule_number TRoom = 40
-rule_number ITrail = 41
-rule_number IOpt = 42
-rule_number IRes = 43
-rule_number ITtl = 44
-rule_number FHeld = 45
-rule_number FDone = 46
-rule_number USumOut = 47
-rule_number TSumOut = 48
-rule_number TRes = 49
-rule_number TUrg = 50
-rule_number TOpt = 51
-rule_number TStrip = 52
-rule_number CProbe = 53
-rule_number TOld = 54
-rule_number TWindow = 55
-rule_number TTurn = 56
-rule_number TEnd = 57
-rule_number TClash = 58
-rule_number TQuota = 60
-rule_number ECut = 61
-rule_number EMtu = 62
+rule_number rule = (line_of rule).number
 
 -- the name of a rule in the report
 abbrev pub rule_name : Rule → List ℕ
-rule_name LSnap = codes "L_SNAP"
-rule_name LShort = codes "L_SHORT"
-rule_name LType = codes "L_TYPE"
-rule_name IShort = codes "I_SHORT"
-rule_name IVersion = codes "I_VERSION"
-rule_name IHlen = codes "I_HLEN"
-rule_name ILen = codes "I_LEN"
-rule_name ISum = codes "I_SUM"
-rule_name ISrc = codes "I_SRC"
-rule_name IDst = codes "I_DST"
-rule_name ISide = codes "I_SIDE"
-rule_name IOptBad = codes "I_OPT_BAD"
-rule_name IRoute = codes "I_ROUTE"
-rule_name PProto = codes "P_PROTO"
-rule_name FDf = codes "F_DF"
-rule_name FEmpty = codes "F_EMPTY"
-rule_name FAlign = codes "F_ALIGN"
-rule_name FBig = codes "F_BIG"
-rule_name FEnd = codes "F_END"
-rule_name FClash = codes "F_CLASH"
-rule_name FMany = codes "F_MANY"
-rule_name FRoom = codes "F_ROOM"
-rule_name UShort = codes "U_SHORT"
-rule_name ULen = codes "U_LEN"
-rule_name USum = codes "U_SUM"
-rule_name MShort = codes "M_SHORT"
-rule_name MSum = codes "M_SUM"
-rule_name MType = codes "M_TYPE"
-rule_name MQuote = codes "M_QUOTE"
-rule_name TShort = codes "T_SHORT"
-rule_name THlen = codes "T_HLEN"
-rule_name TSum = codes "T_SUM"
-rule_name TFlags = codes "T_FLAGS"
-rule_name TOptBad = codes "T_OPT_BAD"
-rule_name TCold = codes "T_COLD"
-rule_name TState = codes "T_STATE"
-rule_name TSyn = codes "T_SYN"
-rule_name TRst = codes "T_RST"
-rule_name TFull = codes "T_FULL"
-rule_name TRoom = codes "T_ROOM"
-rule_name ITrail = codes "I_TRAIL"
-rule_name IOpt = codes "I_OPT"
-rule_name IRes = codes "I_RES"
-rule_name ITtl = codes "I_TTL"
-rule_name FHeld = codes "F_HELD"
-rule_name FDone = codes "F_DONE"
-rule_name USumOut = codes "U_SUM_OUT"
-rule_name TSumOut = codes "T_SUM_OUT"
-rule_name TRes = codes "T_RES"
-rule_name TUrg = codes "T_URG"
-rule_name TOpt = codes "T_OPT"
-rule_name TStrip = codes "T_STRIP"
-rule_name CProbe = codes "C_PROBE"
-rule_name TOld = codes "T_OLD"
-rule_name TWindow = codes "T_WINDOW"
-rule_name TTurn = codes "T_TURN"
-rule_name TEnd = codes "T_END"
-rule_name TClash = codes "T_CLASH"
-rule_name TQuota = codes "T_QUOTA"
-rule_name ECut = codes "E_CUT"
-rule_name EMtu = codes "E_MTU"
+rule_name rule = (line_of rule).name
+
+-- what a rule says
+abbrev pub sentence : Rule → List ℕ
+sentence rule = (line_of rule).sentence
+
+-- the layer of a rule
+abbrev pub layer_of : Rule → Layer
+layer_of rule = (line_of rule).layer
+
+-- the rules that hold a payload, reassemble it from fragments, change it, or write a probe instead of it or after it
+abbrev pub touches_payload : Rule → Bool
+touches_payload rule = (line_of rule).touches
+
+-- a rule of this kind is a note on what is outbound
+abbrev pub is_noted : Kind → Bool
+is_noted drops_inbound = true
+is_noted _ = false
+
+-- a rule is a note on an outbound packet, which it does not drop
+abbrev pub notes_outbound : Rule → Bool
+notes_outbound rule = is_noted (line_of rule).kind
 
 -- The rules that drop a packet are in one list a layer, each in the order of testing.
 
 -- the drop rules on the link
 abbrev pub link_rows : List Rule
-link_rows = LSnap ∷ LShort ∷ LType ∷ []
+link_rows = rules.LSnap ∷ rules.LShort ∷ rules.LType ∷ []
 
 -- the drop rules on the IPv4 header
 abbrev pub header_rows : List Rule
-header_rows = IShort ∷ IVersion ∷ IHlen ∷ ILen ∷ ISum ∷ ISrc ∷ IDst ∷ ISide ∷ IOptBad ∷ IRoute ∷ []
+header_rows =
+    rules.IShort ∷ rules.IVersion ∷ rules.IHlen ∷ rules.ILen ∷ rules.ISum ∷ rules.ISrc ∷ rules.IDst ∷ rules.ISide ∷ rules.IOptBad ∷ rules.IRoute ∷ []
 
 -- the drop rule on the protocol
 abbrev pub protocol_rows : List Rule
-protocol_rows = PProto ∷ []
+protocol_rows = rules.PProto ∷ []
 
 -- the drop rules on fragments
 abbrev pub fragment_rows : List Rule
-fragment_rows = FDf ∷ FEmpty ∷ FAlign ∷ FBig ∷ FEnd ∷ FClash ∷ FMany ∷ FRoom ∷ []
+fragment_rows = rules.FDf ∷ rules.FEmpty ∷ rules.FAlign ∷ rules.FBig ∷ rules.FEnd ∷ rules.FClash ∷ rules.FMany ∷ rules.FRoom ∷ []
 
 -- the drop rules on UDP and ICMP
 abbrev pub datagram_rows : List Rule
-datagram_rows = UShort ∷ ULen ∷ USum ∷ MShort ∷ MSum ∷ MType ∷ MQuote ∷ []
+datagram_rows = rules.UShort ∷ rules.ULen ∷ rules.USum ∷ rules.MShort ∷ rules.MSum ∷ rules.MType ∷ rules.MQuote ∷ []
 
 -- the drop rules on the header of a TCP segment
 abbrev pub segment_rows : List Rule
-segment_rows = TShort ∷ THlen ∷ TSum ∷ TFlags ∷ TOptBad ∷ []
+segment_rows = rules.TShort ∷ rules.THlen ∷ rules.TSum ∷ rules.TFlags ∷ rules.TOptBad ∷ []
 
 -- the drop rules on eras; on an outbound packet T_FULL is a note, and drops nothing
 abbrev pub era_rows : List Rule
-era_rows = TCold ∷ TState ∷ TSyn ∷ TRst ∷ TFull ∷ TQuota ∷ TRoom ∷ []
+era_rows = rules.TCold ∷ rules.TState ∷ rules.TSyn ∷ rules.TRst ∷ rules.TFull ∷ rules.TQuota ∷ rules.TRoom ∷ []
 
 -- the rules that drop a packet, in the order of testing
 abbrev pub drop_rows : List Rule
@@ -169,24 +171,68 @@ drop_rows = link_rows ++ header_rows ++ protocol_rows ++ fragment_rows ++ datagr
 
 -- the rules that rewrite the IPv4 header of a packet, a fragment or not
 abbrev pub header_fix_rows : List Rule
-header_fix_rows = ITrail ∷ IOpt ∷ IRes ∷ []
+header_fix_rows = rules.ITrail ∷ rules.IOpt ∷ rules.IRes ∷ []
 
 -- the rules of a packet that is not dropped, before those of its TCP segment, in the order of the line
 abbrev pub fix_rows : List Rule
-fix_rows = header_fix_rows ++ ITtl ∷ FHeld ∷ FDone ∷ USumOut ∷ []
+fix_rows = header_fix_rows ++ rules.ITtl ∷ rules.FHeld ∷ rules.FDone ∷ rules.USumOut ∷ []
 
 -- the rules of a TCP segment that is not dropped, in the order of the line
 abbrev pub step_rows : List Rule
 step_rows =
-    TSumOut ∷ TRes ∷ TUrg ∷ TOpt ∷ TStrip ∷ CProbe ∷ TOld ∷ TWindow ∷ TTurn ∷ TEnd ∷ TClash ∷ []
+    rules.TSumOut ∷ rules.TRes ∷ rules.TUrg ∷ rules.TOpt ∷ rules.TStrip ∷ rules.CProbe ∷ rules.TOld ∷ rules.TWindow ∷ rules.TTurn ∷ rules.TEnd ∷
+    rules.TClash ∷ []
 
 -- the rules of a frame that is too long for the link, which are named behind all others
 abbrev pub cut_rows : List Rule
-cut_rows = ECut ∷ EMtu ∷ []
+cut_rows = rules.ECut ∷ rules.EMtu ∷ []
 
--- all rules
+-- all rules, in the order of testing and naming
 abbrev pub all_rules : List Rule
 all_rules = drop_rows ++ fix_rows ++ step_rows ++ cut_rows
+
+-- the layers, by numbers that differ
+abbrev pub number_of : Layer → ℕ
+number_of link = 1
+number_of header = 2
+number_of protocol = 3
+number_of fragment = 4
+number_of lifetime = 5
+number_of datagram = 6
+number_of segment = 7
+number_of era = 8
+number_of cut = 9
+
+-- a rule is of this layer
+abbrev pub is_of : Layer → Rule → Bool
+is_of layer rule = number_of (layer_of rule) == number_of layer
+
+-- a rule of this kind drops a packet, at least an inbound one
+abbrev pub is_drop : Kind → Bool
+is_drop drops = true
+is_drop kind = is_noted kind
+
+-- the drop rules of a layer by the table, in the order of testing
+abbrev pub drops_of : Layer → List Rule
+drops_of layer = filter (λ rule. is_of layer rule && is_drop (line_of rule).kind) all_rules
+
+-- the other rules of a layer by the table, in the order of the line
+abbrev pub fixes_of : Layer → List Rule
+fixes_of layer = filter (λ rule. is_of layer rule && not (is_drop (line_of rule).kind)) all_rules
+
+-- each list has the rules of its layer and kind in the table
+pub record ListsAreTheTable : Type 0 where
+  pub on_link : link_rows ≡ drops_of link
+  pub on_header : header_rows ≡ drops_of header
+  pub on_protocol : protocol_rows ≡ drops_of protocol
+  pub on_fragments : fragment_rows ≡ drops_of fragment
+  pub on_datagrams : datagram_rows ≡ drops_of datagram
+  pub on_segments : segment_rows ≡ drops_of segment
+  pub on_eras : era_rows ≡ drops_of era
+  pub header_fixes : header_fix_rows ≡ fixes_of header
+  pub fixes : fix_rows ≡ fixes_of header ++ fixes_of lifetime ++ fixes_of fragment ++ fixes_of datagram
+  pub steps : step_rows ≡ fixes_of era
+  pub cuts : cut_rows ≡ filter (is_of cut) all_rules
 
 -- the rule of this number; None if no rule has it
 abbrev pub rule_numbered : ℕ → Option Rule
@@ -216,9 +262,9 @@ NamesDiffer = (one other : Rule) → rule_name one ≡ rule_name other → one �
 abbrev pub Rises : List Rule → Type 0
 Rises rules = IsStrictlyIncreasing (map rule_number rules)
 
--- the numbers rise along the drop rules except at T_QUOTA, which is tested between T_FULL and T_ROOM
+-- the numbers up to 58 rise along the drop rules, and T_QUOTA (60) is tested between T_FULL and T_ROOM
 pub record RisesButForQuota (rows : List Rule) : Type 0 where
   pub before : List Rule
   pub behind : List Rule
-  pub whole : rows ≡ before ++ TFull ∷ TQuota ∷ TRoom ∷ behind
-  pub rises : Rises (before ++ TFull ∷ TRoom ∷ behind)
+  pub whole : rows ≡ before ++ rules.TFull ∷ rules.TQuota ∷ rules.TRoom ∷ behind
+  pub rises : Rises (filter (λ rule. nat_lt (rule_number rule) 59) rows)

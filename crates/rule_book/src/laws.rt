@@ -1,7 +1,7 @@
 //! Laws of the table of rules, and of the text of a report.
 ghost use Rattle.std.specs.Prelude.{◌++◌};
 ghost use Rattle.rule_book.specs.Reports.{EntriesDiffer, LastsDiffer, TextsAreInOrder, TextsDiffer};
-ghost use Rattle.rule_book.specs.Rules.{FoundByName, FoundByNumber, NamesDiffer, NumbersDiffer, Rises, RisesButForQuota, cut_rows, drop_rows, fix_rows, step_rows};
+ghost use Rattle.rule_book.specs.Rules.{FoundByName, FoundByNumber, ListsAreTheTable, NamesDiffer, NumbersDiffer, Rises, RisesButForQuota, cut_rows, drop_rows, fix_rows, step_rows};
 
 /// States that each rule is found by its number, and that no two rules have the same number.
 pub fn numbers_name_rules()
@@ -13,6 +13,11 @@ pub fn numbers_name_rules()
 pub fn names_name_rules()
     ensures found { FoundByName }
     ensures differ { NamesDiffer }
+{}
+
+/// States that the lists of rules are the table's, by layer and kind.
+pub fn lists_are_the_table()
+    ensures { ListsAreTheTable }
 {}
 
 /// States that rules are named in the order of their numbers, and that drop rules are tested in this order except for

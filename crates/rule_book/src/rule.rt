@@ -1,6 +1,6 @@
 //! The rules that an entry of the report may name.
 ghost use Rattle.std.specs.Prelude.{◌≡◌, ◌≤◌, ◌↔◌, length};
-ghost use Rattle.rule_book.specs.Rules.{rule_name, rule_number};
+ghost use Rattle.rule_book.specs.Rules.{rule_name, rule_number, sentence};
 ghost use Rattle.rule_book.specs.declared.rule.Rule.{Rule};
 
 /// A rule: the reason why a packet is dropped (those up to `TRoom`, and `TQuota`, `EMtu`), or what becomes of one that
@@ -134,7 +134,7 @@ pub enum Rule {
     EMtu,
 }
 
-/// All rules.
+/// All rules, in the order of testing and naming.
 const ALL: [Rule; 61] = [
     Rule::LSnap,
     Rule::LShort,
@@ -207,75 +207,93 @@ impl Rule {
         self as u8
     }
 
+    /// Returns the line of the rule in the table: its name in the report, and what it says in one sentence.
+    #[rattlefmt::skip]
+    fn line(self) -> (&'static str, &'static str)
+        ensures name { result.0.now ≡ rule_name self }
+        ensures bound { length result.0.now ≤ 9 }
+        ensures sentence { result.1.now ≡ sentence self }
+    {
+        match self {
+            Rule::LSnap => ("L_SNAP", "fewer octets were captured than the packet had"),
+            Rule::LShort => ("L_SHORT", "an Ethernet frame has fewer than 14 octets"),
+            Rule::LType => ("L_TYPE", "the EtherType is neither IPv4 nor ARP, or an ARP frame is too long"),
+            Rule::IShort => ("I_SHORT", "the packet has fewer than 20 octets"),
+            Rule::IVersion => ("I_VERSION", "the IP version is not 4"),
+            Rule::IHlen => ("I_HLEN", "the header length is below 5 words or longer than the packet"),
+            Rule::ILen => ("I_LEN", "the total length is below the header length or longer than the packet"),
+            Rule::ISum => ("I_SUM", "the checksum of the IP header is wrong"),
+            Rule::ISrc => ("I_SRC", "the source is an address that no host has, or equals the destination"),
+            Rule::IDst => ("I_DST", "the destination is an address that no host has"),
+            Rule::ISide => ("I_SIDE", "source and destination are both trusted, or neither is"),
+            Rule::IOptBad => ("I_OPT_BAD", "an IP option is malformed"),
+            Rule::IRoute => ("I_ROUTE", "the packet has a source route"),
+            Rule::PProto => ("P_PROTO", "the protocol is not ICMP, TCP or UDP"),
+            Rule::FDf => ("F_DF", "a fragment with an offset above 0 has DF set"),
+            Rule::FEmpty => ("F_EMPTY", "a fragment has no payload"),
+            Rule::FAlign => ("F_ALIGN", "a fragment with MF has a payload that is no multiple of 8 octets"),
+            Rule::FBig => ("F_BIG", "a fragment ends after octet 65515 of its datagram"),
+            Rule::FEnd => ("F_END", "a fragment contradicts the end of its datagram, which is forgotten"),
+            Rule::FClash => ("F_CLASH", "an octet differs from the held one at its offset, and the datagram is forgotten"),
+            Rule::FMany => ("F_MANY", "as many datagrams as --frags allows are held already"),
+            Rule::FRoom => ("F_ROOM", "the fragment needs more cells than --frag-cells leaves free"),
+            Rule::UShort => ("U_SHORT", "a UDP message has fewer than 8 octets"),
+            Rule::ULen => ("U_LEN", "the UDP length is not the length of the message"),
+            Rule::USum => ("U_SUM", "the UDP checksum is wrong"),
+            Rule::MShort => ("M_SHORT", "an ICMP message has fewer than 8 octets"),
+            Rule::MSum => ("M_SUM", "the ICMP checksum is wrong"),
+            Rule::MType => ("M_TYPE", "the ICMP type is not 0, 3, 8, 11, 12, 13 or 14"),
+            Rule::MQuote => ("M_QUOTE", "an inbound ICMP error quotes nothing that a trusted host sent"),
+            Rule::TShort => ("T_SHORT", "a segment has fewer than 20 octets"),
+            Rule::THlen => ("T_HLEN", "the data offset is below 5 words or longer than the segment"),
+            Rule::TSum => ("T_SUM", "the TCP checksum is wrong"),
+            Rule::TFlags => ("T_FLAGS", "the flags do not go together, as SYN with FIN"),
+            Rule::TOptBad => ("T_OPT_BAD", "a TCP option is malformed"),
+            Rule::TCold => ("T_COLD", "an inbound RST, or SYN with ACK, arrives while no era is live"),
+            Rule::TState => ("T_STATE", "an inbound segment does not fit an era that is not open yet"),
+            Rule::TSyn => ("T_SYN", "an inbound SYN in an open era has another sequence number"),
+            Rule::TRst => ("T_RST", "an inbound RST is outside of what its era takes"),
+            Rule::TFull => ("T_FULL", "an era would begin while the table is full and none can be evicted"),
+            Rule::TQuota => ("T_QUOTA", "the connection would hold more cells than --quota allows"),
+            Rule::TRoom => ("T_ROOM", "the octets of the segment need more cells than --cells leaves free"),
+            Rule::ITrail => ("I_TRAIL", "octets after the total length are cut off"),
+            Rule::IOpt => ("I_OPT", "the IP options are removed"),
+            Rule::IRes => ("I_RES", "the reserved flag of the IP header is cleared"),
+            Rule::ITtl => ("I_TTL", "a time to live that is too low for the routers behind norm is raised"),
+            Rule::FHeld => ("F_HELD", "the fragment is held until its datagram is complete"),
+            Rule::FDone => ("F_DONE", "the fragment completes its datagram, which is written as one packet"),
+            Rule::USumOut => ("U_SUM_OUT", "the checksum of an outbound UDP message is computed again"),
+            Rule::TSumOut => ("T_SUM_OUT", "the checksum of an outbound TCP segment is computed again"),
+            Rule::TRes => ("T_RES", "reserved bits of the TCP header are cleared"),
+            Rule::TUrg => ("T_URG", "URG and the urgent pointer are cleared"),
+            Rule::TOpt => ("T_OPT", "TCP options are replaced by no-operations, or octets after their end are cleared"),
+            Rule::TStrip => ("T_STRIP", "the payload of a SYN or RST is cut off"),
+            Rule::CProbe => ("C_PROBE", "a keep-alive is sent, in place of the segment or after a RST"),
+            Rule::TOld => ("T_OLD", "octets that the receiver has acknowledged are cut off"),
+            Rule::TWindow => ("T_WINDOW", "octets after the window of the receiver are cut off"),
+            Rule::TTurn => ("T_TURN", "not used any more, older reports may have it"),
+            Rule::TEnd => ("T_END", "octets or a FIN after the end of the stream are cut off"),
+            Rule::TClash => ("T_CLASH", "octets that differ from those first sent at their offsets are replaced"),
+            Rule::ECut => ("E_CUT", "the segment is too long for --mtu and is cut into segments that fit"),
+            Rule::EMtu => ("E_MTU", "the packet is too long for --mtu and cannot be cut, it is not written"),
+        }
+    }
+
     /// Returns the name of the rule in the report, of at most 9 octets.
     pub fn name(self) -> &'static str
         ensures text { result.now ≡ rule_name self }
         ensures bound { length result.now ≤ 9 }
     {
-        match self {
-            Rule::LSnap => "L_SNAP",
-            Rule::LShort => "L_SHORT",
-            Rule::LType => "L_TYPE",
-            Rule::IShort => "I_SHORT",
-            Rule::IVersion => "I_VERSION",
-            Rule::IHlen => "I_HLEN",
-            Rule::ILen => "I_LEN",
-            Rule::ISum => "I_SUM",
-            Rule::ISrc => "I_SRC",
-            Rule::IDst => "I_DST",
-            Rule::ISide => "I_SIDE",
-            Rule::IOptBad => "I_OPT_BAD",
-            Rule::IRoute => "I_ROUTE",
-            Rule::PProto => "P_PROTO",
-            Rule::FDf => "F_DF",
-            Rule::FEmpty => "F_EMPTY",
-            Rule::FAlign => "F_ALIGN",
-            Rule::FBig => "F_BIG",
-            Rule::FEnd => "F_END",
-            Rule::FClash => "F_CLASH",
-            Rule::FMany => "F_MANY",
-            Rule::FRoom => "F_ROOM",
-            Rule::UShort => "U_SHORT",
-            Rule::ULen => "U_LEN",
-            Rule::USum => "U_SUM",
-            Rule::MShort => "M_SHORT",
-            Rule::MSum => "M_SUM",
-            Rule::MType => "M_TYPE",
-            Rule::MQuote => "M_QUOTE",
-            Rule::TShort => "T_SHORT",
-            Rule::THlen => "T_HLEN",
-            Rule::TSum => "T_SUM",
-            Rule::TFlags => "T_FLAGS",
-            Rule::TOptBad => "T_OPT_BAD",
-            Rule::TCold => "T_COLD",
-            Rule::TState => "T_STATE",
-            Rule::TSyn => "T_SYN",
-            Rule::TRst => "T_RST",
-            Rule::TFull => "T_FULL",
-            Rule::TRoom => "T_ROOM",
-            Rule::ITrail => "I_TRAIL",
-            Rule::IOpt => "I_OPT",
-            Rule::IRes => "I_RES",
-            Rule::ITtl => "I_TTL",
-            Rule::FHeld => "F_HELD",
-            Rule::FDone => "F_DONE",
-            Rule::USumOut => "U_SUM_OUT",
-            Rule::TSumOut => "T_SUM_OUT",
-            Rule::TRes => "T_RES",
-            Rule::TUrg => "T_URG",
-            Rule::TOpt => "T_OPT",
-            Rule::TStrip => "T_STRIP",
-            Rule::CProbe => "C_PROBE",
-            Rule::TOld => "T_OLD",
-            Rule::TWindow => "T_WINDOW",
-            Rule::TTurn => "T_TURN",
-            Rule::TEnd => "T_END",
-            Rule::TClash => "T_CLASH",
-            Rule::TQuota => "T_QUOTA",
-            Rule::ECut => "E_CUT",
-            Rule::EMtu => "E_MTU",
-        }
+        self.line().0
     }
+
+    /// Returns what the rule says, in one sentence.
+    pub fn sentence(self) -> &'static str
+        ensures { result.now ≡ sentence self }
+    {
+        self.line().1
+    }
+
     /// Returns the rule of this name, or None if no rule has it.
     pub fn of_name(text: &[u8]) -> Option<Rule>
         ensures { (rule : Rule) → (result ≡ Some rule) ↔ (rule_name rule ≡ text.now) }
