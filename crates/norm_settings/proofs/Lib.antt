@@ -1,3 +1,8 @@
+pub mod Fronts
+pub mod Spelling
+pub mod Reading
+pub mod Grammar
+pub mod OptionNames
 pub mod Prefixes
 pub mod Runs
 pub mod Steps

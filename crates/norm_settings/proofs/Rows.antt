@@ -9,10 +9,10 @@ use Rattle.clap.specs.declared.builder.value_parser.Reading.{Reading}
 use Rattle.clap.specs.declared.parser.matches.ValueSource.TheVariants.{CommandLine}
 use Rattle.clap.specs.declared.parser.matches.ValueSource.{ValueSource}
 use Rattle.clap.specs.Walk.{Row, at_row, without, with_values, more_values, settled_rows, used, reading_by}
-use Rattle.command_line.specs.Options.{Text, name_of}
-use Rattle.command_line.specs.Line.{PlainUse, given}
-use Rattle.command_line.specs.declared.options.Choice.{Choice}
-use Rattle.command_line.specs.declared.options.Choice.TheVariants.{Hops, Flows, Cells, Frags, FragCells, Idle, FragTime, Seed, Quota, Mtu, Inside, Offload, Both}
+use Rattle.norm_settings.specs.Options.{Text, name_of}
+use Rattle.norm_settings.specs.Line.{PlainUse, given}
+use Rattle.norm_settings.specs.declared.options.Choice.{Choice}
+use Rattle.norm_settings.specs.declared.options.Choice.TheVariants.{Hops, Flows, Cells, Frags, FragCells, Idle, FragTime, Seed, Quota, Mtu, Inside, Offload, Both}
 use Rattle.norm_settings.proofs.Steps.{rules, rule}
 
 pub same_bytes : (a b : Text) → bytes_eq a b ≡ true → a ≡ b

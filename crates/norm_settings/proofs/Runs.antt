@@ -6,8 +6,8 @@ use Rattle.clap.specs.Matches.{found_of, first_value, matched_of, raw_values}
 use Rattle.clap.specs.declared.parser.matches.ArgMatches.{ArgMatches}
 use Rattle.wire_base.specs.declared.prefix.Prefix as wire
 use Rattle.norm_settings.specs.Settings.{PlainSettings, settings_of}
-use Rattle.command_line.specs.Options.{Text}
-use Rattle.command_line.specs.Line.{PlainUse, PlainLine, given, line_of}
+use Rattle.norm_settings.specs.Options.{Text}
+use Rattle.norm_settings.specs.Line.{PlainUse, PlainLine, given, line_of}
 use Rattle.norm_settings.specs.Asked.{run, run_of, asked_run, is_whole, prefixes_from}
 use Rattle.norm_settings.specs.Found.{NamesAre}
 use Rattle.norm_settings.specs.declared.fault.WordFault.TheVariants.{Refused}

@@ -5,10 +5,10 @@ use Rattle.clap.specs.Walk.{Row, Rule, Walk, Waiting, idle, option, positional, 
 use Rattle.clap.specs.Simple.{Shape, built, filled}
 use Rattle.clap.specs.Takes.{turn_passes, settle_passes}
 use Rattle.clap.proofs.OnLiterals.{clap_on_literals}
-use Rattle.command_line.specs.Options.{Text, name_of, kind_of, takes_value}
+use Rattle.norm_settings.specs.Options.{Text, name_of, kind_of, takes_value}
 use Rattle.norm_settings.specs.Found.{run_command, rule_for}
-use Rattle.command_line.specs.declared.options.Choice.{Choice}
-use Rattle.command_line.specs.declared.options.Choice.TheVariants.{Hops, Flows, Cells, Frags, FragCells, Idle, FragTime, Seed, Quota, Mtu, Inside, Offload, Both}
+use Rattle.norm_settings.specs.declared.options.Choice.{Choice}
+use Rattle.norm_settings.specs.declared.options.Choice.TheVariants.{Hops, Flows, Cells, Frags, FragCells, Idle, FragTime, Seed, Quota, Mtu, Inside, Offload, Both}
 
 abbrev pub shape : Shape
 shape = (built run_command).top

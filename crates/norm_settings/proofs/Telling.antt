@@ -13,14 +13,14 @@ use Rattle.clap.specs.declared.parser.matches.ArgMatches.{ArgMatches}
 use Rattle.clap.specs.declared.builder.value_parser.Reading.{Reading}
 use Rattle.clap.proofs.WalkLemmas.{first_value-rows, raw_values-rows}
 use Rattle.wire_base.specs.declared.prefix.Prefix as wire
-use Rattle.command_line.specs.Options.{Text, name_of, kind_of, takes_value, is_name}
-use Rattle.command_line.specs.Line.{PlainLine, given}
-use Rattle.command_line.specs.Grammar.{IsWrittenAs}
+use Rattle.norm_settings.specs.Options.{Text, name_of, kind_of, takes_value, is_name}
+use Rattle.norm_settings.specs.Line.{PlainLine, given}
+use Rattle.norm_settings.specs.Grammar.{IsWrittenAs}
 use Rattle.norm_settings.specs.Settings.{settings_of, is_told}
 use Rattle.norm_settings.specs.Asked.{is_whole, go_together}
 use Rattle.norm_settings.specs.Found.{run_command, value_in, TellsAs, NamesAre, ReadsAs}
-use Rattle.command_line.specs.declared.options.Choice.{Choice}
-use Rattle.command_line.specs.declared.options.Choice.TheVariants.{Hops, Flows, Cells, Frags, FragCells, Idle, FragTime, Seed, Quota, Mtu, Inside, Offload, Both}
+use Rattle.norm_settings.specs.declared.options.Choice.{Choice}
+use Rattle.norm_settings.specs.declared.options.Choice.TheVariants.{Hops, Flows, Cells, Frags, FragCells, Idle, FragTime, Seed, Quota, Mtu, Inside, Offload, Both}
 use Rattle.norm_settings.proofs.Steps.{shape, rules, at, rule}
 use Rattle.norm_settings.proofs.Rows.{found, found_same, at_absent, values_other, bytes_self}
 use Rattle.norm_settings.proofs.Walking.{HasNames, whole_ends, both_true}

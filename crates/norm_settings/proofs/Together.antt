@@ -6,9 +6,9 @@ use Rattle.std.specs.Prelude.{is_some}
 use Rattle.std.specs.declared.result.Result.{Result}
 use Rattle.std.specs.Str.{bytes_eq}
 use Rattle.wire_base.specs.declared.prefix.Prefix as wire
-use Rattle.command_line.specs.Options.{Text}
-use Rattle.command_line.specs.Line.{PlainUse, PlainLine, given}
-use Rattle.command_line.specs.declared.options.Choice.TheVariants.{Inside, Mtu, Both}
+use Rattle.norm_settings.specs.Options.{Text}
+use Rattle.norm_settings.specs.Line.{PlainUse, PlainLine, given}
+use Rattle.norm_settings.specs.declared.options.Choice.TheVariants.{Inside, Mtu, Both}
 use Rattle.norm_settings.specs.Settings.{plain_settings, settings_of, name_told, limit_told, is_told, GoTogether}
 use Rattle.norm_settings.specs.Asked.{PlainNames, run, run_of, run_by, prefixes_from, plain_command, go_together, SettingsGoTogether}
 use Rattle.norm_settings.specs.declared.command.Command.{Command}

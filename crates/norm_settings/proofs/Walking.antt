@@ -6,17 +6,17 @@ use Rattle.std.specs.declared.option.Option.{Option}
 use Rattle.clap.specs.Walk.{Row, Walk, idle, option, positional, walked, settled_rows, used, without}
 use Rattle.clap.specs.Takes.{turn_passes, walk_passes, settle_passes}
 use Rattle.clap.specs.declared.parser.matches.ValueSource.TheVariants.{CommandLine}
-use Rattle.command_line.specs.Options.{Text, name_of, kind_of, takes_value, is_name, is_value}
+use Rattle.norm_settings.specs.Options.{Text, name_of, kind_of, takes_value, is_name, is_value}
 use Rattle.wire_base.specs.Prefixes.{is_number, is_digit}
 use Rattle.norm_settings.specs.Asked.{is_whole, go_together}
-use Rattle.command_line.specs.Line.{PlainUse, PlainLine, given, may_use, are_fit}
-use Rattle.command_line.specs.declared.options.Choice.{Choice}
-use Rattle.command_line.specs.declared.options.Choice.TheVariants.{Hops, Flows, Cells, Frags, FragCells, Idle, FragTime, Seed, Quota, Mtu, Inside, Offload, Both}
-use Rattle.command_line.specs.declared.options.Kind.{Kind}
-use Rattle.command_line.specs.declared.options.Kind.TheVariants.{Number, Limit, Name, Alone}
+use Rattle.norm_settings.specs.Line.{PlainUse, PlainLine, given, may_use, are_fit}
+use Rattle.norm_settings.specs.declared.options.Choice.{Choice}
+use Rattle.norm_settings.specs.declared.options.Choice.TheVariants.{Hops, Flows, Cells, Frags, FragCells, Idle, FragTime, Seed, Quota, Mtu, Inside, Offload, Both}
+use Rattle.norm_settings.specs.declared.options.Kind.{Kind}
+use Rattle.norm_settings.specs.declared.options.Kind.TheVariants.{Number, Limit, Name, Alone}
 use Rattle.norm_settings.proofs.Steps.{shape, rules, at, rule, IsPlain, joined_step, name_step, value_step, alone_step, joined_passes, name_passes, value_passes, alone_passes, settles, input_step, output_step, prefix_step, prefix_more_step, input_passes, output_passes, prefix_passes, prefix_more_passes, input_settles, output_settles, prefix_settles}
 use Rattle.norm_settings.proofs.Rows.{found, Agrees, agrees_added, settled_use, values_other, without_other, in_apart, out_apart, prefix_apart, Fresh, fresh_use, values_here, values_new, values_more}
-use Rattle.command_line.specs.Grammar.{IsWritten, by_sign, by_word, by_name, IsLine, IsWrittenAs}
+use Rattle.norm_settings.specs.Grammar.{IsWritten, by_sign, by_word, by_name, IsLine, IsWrittenAs}
 
 -- the pending value is accepted
 abbrev pub Settles : List Row → Option (Text × List Text) → Type 0

@@ -4,9 +4,9 @@ use Rattle.std.specs.List.{list_all}
 use Rattle.std.specs.Str.{bytes_eq}
 use Rattle.wire_base.specs.declared.prefix.Prefix as wire
 use Rattle.wire_base.specs.Prefixes.{prefix_of}
-use Rattle.command_line.specs.Options.{Text, is_name, number_within}
-use Rattle.command_line.specs.Line.{PlainUse, PlainLine, given, line_of}
-use Rattle.command_line.specs.declared.options.Choice.TheVariants.{Inside, Mtu, Both}
+use Rattle.norm_settings.specs.Options.{Text, is_name, number_within}
+use Rattle.norm_settings.specs.Line.{PlainUse, PlainLine, given, line_of}
+use Rattle.norm_settings.specs.declared.options.Choice.TheVariants.{Inside, Mtu, Both}
 use Rattle.norm_settings.specs.Settings.{PlainSettings, plain_settings, settings_of, AreInRange, GoTogether}
 use Rattle.norm_settings.specs.declared.command.Names.{Names}
 use Rattle.norm_settings.specs.declared.command.Command.{Command}

@@ -6,12 +6,12 @@ use Rattle.clap.specs.Matches.{found_of, first_value, matched_of, raw_values}
 use Rattle.clap.specs.declared.builder.action.ArgAction.TheVariants.{SetTrue, Append}
 use Rattle.clap.specs.declared.parser.matches.ArgMatches.{ArgMatches}
 use Rattle.wire_base.specs.declared.prefix.Prefix.{Prefix}
-use Rattle.command_line.specs.Options.{Text, name_of, kind_of, all_choices}
-use Rattle.command_line.specs.Line.{PlainUse, PlainLine, given}
+use Rattle.norm_settings.specs.Options.{Text, name_of, kind_of, all_choices}
+use Rattle.norm_settings.specs.Line.{PlainUse, PlainLine, given}
 use Rattle.norm_settings.specs.Settings.{settings_of}
-use Rattle.command_line.specs.declared.options.Choice.{Choice}
-use Rattle.command_line.specs.declared.options.Kind.{Kind}
-use Rattle.command_line.specs.declared.options.Kind.TheVariants.{Alone}
+use Rattle.norm_settings.specs.declared.options.Choice.{Choice}
+use Rattle.norm_settings.specs.declared.options.Kind.{Kind}
+use Rattle.norm_settings.specs.declared.options.Kind.TheVariants.{Alone}
 
 -- the value found for an option
 abbrev pub value_in : ArgMatches → Choice → Option Text

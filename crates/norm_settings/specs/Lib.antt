@@ -1,3 +1,6 @@
+pub mod Options
+pub mod Line
+pub mod Grammar
 pub mod Settings
 pub mod Side
 pub mod Faults

@@ -2,10 +2,10 @@
 use Rattle.std.specs.Prelude.{ℕ, ◌≡◌, ◌≤◌, Bool, true, false, List, All, Option, Some, None, IfSome, option_map, option_and_then, unwrap_or, codes, if◌then◌else◌}
 use Rattle.std.specs.Str.{bytes_eq}
 use Rattle.wire_base.specs.declared.prefix.Prefix.{Prefix}
-use Rattle.command_line.specs.Options.{Text, kind_of, is_value, number_by, standard_of, IsWithin}
-use Rattle.command_line.specs.declared.options.Choice.{Choice}
-use Rattle.command_line.specs.declared.options.Choice.TheVariants.{Hops, Flows, Cells, Frags, FragCells, Idle, FragTime, Seed, Quota, Mtu, Inside, Offload, Both}
-use Rattle.command_line.specs.declared.options.Kind.TheVariants.{Name}
+use Rattle.norm_settings.specs.Options.{Text, kind_of, is_value, number_by, standard_of, IsWithin}
+use Rattle.norm_settings.specs.declared.options.Choice.{Choice}
+use Rattle.norm_settings.specs.declared.options.Choice.TheVariants.{Hops, Flows, Cells, Frags, FragCells, Idle, FragTime, Seed, Quota, Mtu, Inside, Offload, Both}
+use Rattle.norm_settings.specs.declared.options.Kind.TheVariants.{Name}
 use Rattle.norm_settings.specs.declared.settings.Settings.{Settings}
 
 -- settings with their prefixes as a list

@@ -3,15 +3,15 @@ ghost use Rattle.std.specs.Prelude.{◌≡◌, ◌++◌, ◌∷◌, [], IfOk, If
 ghost use Rattle.clap.specs.Values.{kind_of};
 ghost use Rattle.clap.specs.Walk.{rule_of};
 ghost use Rattle.clap.specs.Simple.{app_of, with_rule};
-ghost use Rattle.command_line.specs.Line.{PlainLine, line_of};
+ghost use Rattle.norm_settings.specs.Line.{PlainLine, line_of};
 ghost use Rattle.norm_settings.specs.Asked.{is_whole};
-ghost use Rattle.command_line.specs.Options.{all_choices};
+ghost use Rattle.norm_settings.specs.Options.{all_choices};
 ghost use Rattle.norm_settings.specs.Found as spec;
 
+use crate::laws::lines_are_those_written;
+use crate::{Choice, Kind};
 use clap::error::ErrorKind;
 use clap::{Arg, ArgAction, ArgMatches, Command, Error};
-use command_line::laws::lines_are_those_written;
-use command_line::{Choice, Kind};
 use std::alloc::{AllocError, Global};
 
 /// Parses the words after `run` with clap.

@@ -2,8 +2,8 @@
 ghost use Rattle.std.specs.Prelude.{◌≡◌, option_map};
 ghost use Rattle.norm_settings.specs.Settings.{plain_settings, standard};
 
+use crate::Choice;
 use arrayvec::ArrayVec;
-use command_line::Choice;
 use wire_base::Prefix;
 
 /// The settings of a run.

@@ -2,20 +2,20 @@
 ghost use Rattle.std.specs.Prelude.{◌≡◌, ◌≤◌, ◌⊎◌, All, ℕ, [], map, length, string_bytes, None, Some, Ok, Err, IfOk, IfErr};
 ghost use Rattle.std.specs.List.{list_all};
 ghost use Rattle.clap.specs.Values.{kind_of};
-ghost use Rattle.command_line.specs.Line.{PlainLine, plain_use, plain_line};
-ghost use Rattle.command_line.specs.Line as spec;
+ghost use Rattle.norm_settings.specs.Line.{PlainLine, plain_use, plain_line};
+ghost use Rattle.norm_settings.specs.Line as spec;
 ghost use Rattle.norm_settings.specs.Asked.{asked, asked_run, asked_load, run_of, prefixes_from, plain_command, SettingsAreInRange, SettingsGoTogether};
 ghost use Rattle.norm_settings.specs.Asked.{is_whole as is_whole_line, go_together as do_go_together};
-ghost use Rattle.command_line.specs.Options.{is_name as is_name_of};
+ghost use Rattle.norm_settings.specs.Options.{is_name as is_name_of};
 ghost use Rattle.norm_settings.specs.Found.{ReadsAs};
 
 use crate::found::settings_found;
+use crate::line::{Line, Use, is_given, line_of};
 use crate::parsed::run_matches;
-use crate::{Choice, Command, Names, WordFault};
+use crate::{Choice, Command, Names, WordFault, number_within};
 use arrayvec::ArrayVec;
 use clap::ArgMatches;
 use clap::error::ErrorKind;
-use command_line::{Line, Use, is_given, line_of, number_within};
 use std::alloc::Global;
 use wire_base::{Prefix, read_prefix};
 

@@ -1,6 +1,6 @@
 use Rattle.std.proofs.Common.{◌≡◌, map, drop, fold}
 use Rattle.clap.specs.Simple.{app_of, with_rule}
-use Rattle.command_line.specs.Options.{all_choices}
+use Rattle.norm_settings.specs.Options.{all_choices}
 use Rattle.norm_settings.specs.Found.{bare, rule_for}
 use Rattle.norm_settings.proofs.parsed.option_command.Given as goal
 

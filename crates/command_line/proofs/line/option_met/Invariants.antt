@@ -1,7 +1,0 @@
-use Rattle.std.proofs.Common.{◌≡◌, drop}
-use Rattle.command_line.specs.Options.{all_choices}
-use Rattle.command_line.specs.Line.{word_in}
-use Rattle.command_line.proofs.line.option_met.Given as goal
-
-abbrev pub invariant-loop-choice : goal.invariant-loop-choice
-invariant-loop-choice l = word_in all_choices l.text ≡ word_in (drop l.choice-index l.choice-items) l.text

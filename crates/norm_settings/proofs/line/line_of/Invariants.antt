@@ -1,0 +1,7 @@
+use Rattle.std.proofs.Common.{◌≡◌, map, drop, string_bytes}
+use Rattle.norm_settings.specs.Line.{plain_use, line_of}
+use Rattle.norm_settings.proofs.Reading.{line_from}
+use Rattle.norm_settings.proofs.line.line_of.Given as goal
+
+abbrev pub invariant-loop-place : goal.invariant-loop-place
+invariant-loop-place l = line_of (map string_bytes l.words) ≡ line_from (map plain_use l.uses.items) l.waiting (map string_bytes (drop l.place l.words))
