@@ -19,7 +19,7 @@ use Rattle.tcp_norm.specs.Rows.{t_res, t_urg, t_opt, t_strip, options_sent}
 use Rattle.tcp_norm.specs.Emits.{without_flag, packet_by, segment_sent, segment_anew, bare_segment, sum_mended}
 use Rattle.tcp_norm.specs.Streams.{bare_rows}
 use Rattle.ip_rules.specs.Judged.{where_holds}
-use Rattle.tcp_norm.specs.Colds.{Comes}
+use Rattle.tcp_norm.proofs.Coming.{Comes}
 use Rattle.tcp_norm.specs.Inwards.{bare_read}
 use Rattle.tcp_norm.proofs.Differing.{differ_not}
 use Rattle.tcp_norm.proofs.Rewritten.{syn_without_32, fin_without_32, is_one}

@@ -16,7 +16,7 @@ use Rattle.ip_rules.specs.Datagrams.{Datagram, goes_in}
 use Rattle.tcp_norm.specs.Calls.{segment_in}
 use Rattle.tcp_norm.specs.Views.{View}
 use Rattle.tcp_norm.specs.Rows.{dropped_by, reopens}
-use Rattle.tcp_norm.specs.Colds.{Comes}
+use Rattle.tcp_norm.proofs.Coming.{Comes}
 use Rattle.tcp_norm.specs.Steps.{IsStep}
 use Rattle.tcp_norm.specs.Writes.{BringsNone}
 use Rattle.tcp_norm.proofs.Colding.{get_none}

@@ -7,7 +7,7 @@ use Rattle.wire_base.specs.Tcp as tcp
 use Rattle.wire_base.specs.Segments.{Written}
 use Rattle.rule_book.specs.declared.rule.Rule.{Rule}
 use Rattle.rule_book.specs.declared.rule.Rule.TheVariants as rules
-use Rattle.rule_book.specs.Rules.{era_rows}
+use Rattle.rule_book.specs.Rules.{era_rows, touches_payload}
 use Rattle.norm_settings.specs.Settings.{PlainSettings}
 use Rattle.tcp_codec.specs.Cleaning.{CleansOctets}
 use Rattle.tcp_codec.specs.Mending.{MendedSayTheSame}
@@ -25,7 +25,7 @@ use Rattle.tcp_norm.specs.Views.{View}
 use Rattle.tcp_norm.specs.Rows.{is_live, holds_era, mends, dropped_by, mended_by, pseudo_of, clashes, c_probe}
 use Rattle.tcp_norm.specs.Emits.{packet_by, packets_passed, probe_packet, probe_packets, segment_sent, segment_anew, bare_segment, stream_segment, sum_mended}
 use Rattle.tcp_norm.specs.Outcomes.{outcome_at, outcome_by}
-use Rattle.tcp_norm.specs.Segments.{IsSegment, KeepsPayload, touches_payload}
+use Rattle.tcp_norm.specs.Segments.{IsSegment, KeepsPayload}
 use Rattle.tcp_norm.proofs.Verbatim.{Own, own, or_false}
 use Rattle.tcp_norm.proofs.Written.{own_octets}
 use Rattle.tcp_norm.proofs.OwnPackets.{bare_fits_here, stream_fits_here}

@@ -19,7 +19,7 @@ use Rattle.ip_rules.specs.Datagrams.{Datagram, goes_in}
 use Rattle.tcp_norm.specs.Calls.{segment_in}
 use Rattle.tcp_norm.specs.Views.{View}
 use Rattle.tcp_norm.specs.Rows.{dropped_by, t_full}
-use Rattle.tcp_norm.specs.Colds.{Comes}
+use Rattle.tcp_norm.proofs.Coming.{Comes}
 use Rattle.tcp_norm.specs.Steps.{IsStep, began, evicted, place_in}
 use Rattle.tcp_norm.proofs.Outwards.{got, placed}
 

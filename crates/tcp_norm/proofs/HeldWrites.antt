@@ -6,7 +6,7 @@ use Rattle.std.proofs.lemmas.Bool.{and_right}
 use Rattle.wire_base.specs.Tcp as tcp
 use Rattle.wire_base.specs.Segments.{Written}
 use Rattle.rule_book.specs.declared.rule.Rule.{Rule}
-use Rattle.rule_book.specs.Rules.{era_rows}
+use Rattle.rule_book.specs.Rules.{era_rows, touches_payload}
 use Rattle.norm_settings.specs.Settings.{PlainSettings}
 use Rattle.tcp_codec.specs.declared.header.Tcp.{Tcp}
 use Rattle.tcp_codec.specs.Write.{segment_octets}
@@ -23,7 +23,7 @@ use Rattle.tcp_norm.specs.Views.{View}
 use Rattle.tcp_norm.specs.Rows.{is_live, holds_era, dropped_by, mended_by, t_quota, t_room}
 use Rattle.tcp_norm.specs.Emits.{packet_by, packets_passed, probe_packets, segment_sent, segment_anew, bare_segment, stream_segment, sum_mended}
 use Rattle.tcp_norm.specs.Outcomes.{outcome_at, outcome_by, outcome_dropped, outcome_passed}
-use Rattle.tcp_norm.specs.Segments.{IsSegment, touches_payload}
+use Rattle.tcp_norm.specs.Segments.{IsSegment}
 use Rattle.tcp_norm.specs.Writes.{BringsNone}
 use Rattle.tcp_norm.proofs.Acks.{outbound_brings_none}
 use Rattle.tcp_norm.proofs.Verbatim.{or_false}

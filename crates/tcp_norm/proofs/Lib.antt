@@ -36,6 +36,7 @@ pub mod Sparing
 pub mod Firsts
 pub mod Sent
 pub mod Sending
+pub mod Coming
 pub mod Idle
 pub mod Unheard
 pub mod Colding

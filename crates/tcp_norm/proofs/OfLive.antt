@@ -9,7 +9,7 @@ use Rattle.tcp_norm.specs.declared.arrival.Arrival.{Arrival}
 use Rattle.tcp_norm.specs.declared.flow.Live.{Live}
 use Rattle.tcp_norm.specs.declared.state.TcpNorm.{TcpNorm}
 use Rattle.tcp_norm.specs.Calls.{Call, segment_in, segments, eras, key_of}
-use Rattle.tcp_norm.specs.Colds.{Comes}
+use Rattle.tcp_norm.proofs.Coming.{Comes}
 use Rattle.tcp_norm.specs.Inwards.{bare_read}
 use Rattle.tcp_norm.specs.Rulings.{IsFound, IsHeld}
 use Rattle.tcp_norm.specs.Standing.{StandsFor}

@@ -21,7 +21,7 @@ use Rattle.tcp_norm.specs.Calls.{segment_in}
 use Rattle.tcp_norm.specs.Held.{held_of}
 use Rattle.tcp_norm.specs.Views.{View}
 use Rattle.tcp_norm.specs.Rows.{is_live, holds_era, dropped_by, exceeds, wanted_of}
-use Rattle.tcp_norm.specs.Colds.{Comes}
+use Rattle.tcp_norm.proofs.Coming.{Comes}
 use Rattle.tcp_norm.proofs.Judging.{dropped_is}
 
 -- what is asked of it is asked of what goes inwards

@@ -26,7 +26,7 @@ use Rattle.tcp_norm.specs.declared.step.Step.{Step}
 use Rattle.tcp_norm.specs.Anews.{anew_segment}
 use Rattle.tcp_norm.specs.Calls.{Call, segments, segment_in, key_of}
 use Rattle.tcp_norm.specs.Views.{View, view_of}
-use Rattle.tcp_norm.specs.Colds.{Comes}
+use Rattle.tcp_norm.proofs.Coming.{Comes}
 use Rattle.tcp_norm.specs.Heads.{AreBits}
 use Rattle.tcp_norm.specs.Rows.{dropped_by, differ}
 use Rattle.tcp_norm.specs.Emits.{packet_by, probe_packets, segment_anew}

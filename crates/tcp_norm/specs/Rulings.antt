@@ -91,7 +91,7 @@ refused_by ws w number =
 abbrev pub Fits : Arrival → Passage → Type 0
 Fits a p = a.head.now.header + p.size ≤ 65515
 
--- a segment that is rewritten is no longer than the longest
+-- a segment that passes is no longer than the longest
 abbrev pub IsShort : Arrival → Ruling → Type 0
 IsShort a (Drop r) = Unit {0}
 IsShort a (Ask q) = Unit {0}
@@ -147,7 +147,7 @@ pub record IsOutward (a : Arrival) : Type 0 where
   pub side : a.packet.now.side ≡ Outward
   pub fields : a.head.now ≡ fields_of (pseudo_sum a.packet.now.head.src.0 a.packet.now.head.dst.0 6 (length a.packet.now.payload.now)) a.packet.now.payload.now
 
--- and it is that of the segment's connection
+-- the era is in the table, near the calls, and is that of the segment's connection
 pub record IsFound (norm : TcpNorm) (a : Arrival) (live : Live) : Type 0 where
   pub held : IsHeld norm.table live
   pub near : IsNear norm.calls live.flow.era

@@ -1,5 +1,5 @@
 -- Datagrams that the rules before those of connections leave, and what holds of the packets that are sent for them (this project's profile).
-use Rattle.std.specs.Prelude.{◌≡◌, ◌≢◌, ℕ, ◌*◌, ◌≤◌, Bool, true, false, List, [], ◌∷◌, ◌++◌, length, Some, None}
+use Rattle.std.specs.Prelude.{◌≡◌, ◌≢◌, ℕ, ◌*◌, ◌≤◌, true, false, List, [], ◌∷◌, ◌++◌, length, Some, None}
 use Rattle.std.specs.List.{AllByRecursion, list_any}
 use Rattle.wire_base.specs.Tcp as tcp
 use Rattle.wire_base.specs.Sums.{sum_is_right}
@@ -7,6 +7,7 @@ use Rattle.wire_base.specs.Options.{are_well_formed}
 use Rattle.wire_base.specs.Plain.{Plain}
 use Rattle.rule_book.specs.declared.rule.Rule.{Rule}
 use Rattle.rule_book.specs.declared.rule.Rule.TheVariants as rules
+use Rattle.rule_book.specs.Rules.{touches_payload}
 use Rattle.norm_settings.specs.Settings.{PlainSettings}
 use Rattle.era_state.specs.Emission.{AreEmitted}
 use Rattle.ip_rules.specs.Datagrams.{Datagram, Packet, goes_in, as_read, IsKnown, IsPacketOf}
@@ -66,16 +67,6 @@ abbrev pub ProbesAreSilent : Type 0
 ProbesAreSilent =
     (settings : PlainSettings) (v : View) (d : Datagram) → is_written (outcome_at settings v d).verdict ≡ false
     → AllByRecursion IsSilentPacket (outcome_at settings v d).packets
-
--- the rules that change what a segment carries, or send a probe instead of it or behind it
-abbrev pub touches_payload : Rule → Bool
-touches_payload rules.TStrip = true
-touches_payload rules.CProbe = true
-touches_payload rules.TOld = true
-touches_payload rules.TWindow = true
-touches_payload rules.TEnd = true
-touches_payload rules.TClash = true
-touches_payload _ = false
 
 -- exactly one packet is sent, which carries what the datagram's segment does; it is the datagram as it was read, where no rule rewrites it
 pub record KeepsPayload (d : Datagram) (mended : List Rule) (packets : List Packet) : Type 0 where

@@ -13,7 +13,7 @@ abbrev pub is_empty : Store → Slot → Bool
 is_empty store slot = length (chain_of store slot.0) == 0
 
 -- the slot can be listed, and has a chain
-pub record HasSlot (slots : Listing) (store : Store) (slot : Slot) : Type 0 where
+pub record CanList (slots : Listing) (store : Store) (slot : Slot) : Type 0 where
   pub below : slot.0 < slots.max
   pub chain : slot.0 < length store.chains
 
@@ -25,9 +25,9 @@ spares store entries = map (λ e. e.slot) (filter (λ e. is_empty store e.slot) 
 abbrev pub settled : Store → Slot → List Slot → List Slot
 settled store slot slots = if is_empty store slot then others slots slot ++ slot ∷ [] else others slots slot
 
--- the slot alone is listed anew
-abbrev pub Lists : (old new : Listing) → Store → Slot → Type 0
-Lists old new store slot = new ≡ record old { slots = settled store slot old.slots }
+-- of the list only this slot has changed: it is the last one where its chain has no block, and otherwise it is not listed
+abbrev pub Relists : (old new : Listing) → Store → Slot → Type 0
+Relists old new store slot = new ≡ record old { slots = settled store slot old.slots }
 
 -- the entries, where that of this slot has this value and is the last
 abbrev pub written_back : List (Entry EraKey Flow) → Slot → Flow → List (Entry EraKey Flow)

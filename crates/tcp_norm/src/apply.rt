@@ -1,7 +1,7 @@
 //! What a segment changes in its live era.
 ghost use Rattle.std.specs.Prelude.{◌≡◌};
 ghost use Rattle.linked_table.specs.Table.{IsIn};
-ghost use Rattle.tcp_norm.specs.Spare.{HasSlot, Lists, written_back};
+ghost use Rattle.tcp_norm.specs.Spare.{CanList, Relists, written_back};
 
 use crate::flow::{Flow, Live};
 use crate::key::EraKey;
@@ -107,9 +107,9 @@ fn write_back(
     flow: Flow,
 )
     requires inside { IsIn table.old.entries slot }
-    requires listed { HasSlot spare.old store.now slot }
+    requires listed { CanList spare.old store.now slot }
     ensures entries { table.new ≡ record table.old { entries = written_back table.old.entries slot flow } }
-    ensures spare { Lists spare.old spare.new store.now slot }
+    ensures spare { Relists spare.old spare.new store.now slot }
 {
     let _before = table.put(slot, flow);
     table.touch(slot);

@@ -36,7 +36,7 @@ impl TcpNorm {
     ghost use Rattle.tcp_norm.specs.Emits.{packet_by};
     ghost use Rattle.wire_base.specs.Tcp as tcp;
 
-    /// Puts the packets of a ruling into the empty outbox; or returns true, with nothing in it, if there is one and it is the frame that was read.
+    /// Puts the packets of a ruling into the empty outbox. Returns true, with nothing in it, only if there is one and it is the frame that was read.
     pub(crate) fn emit(&mut self, ruling: &Ruling, arrival: &Arrival<'_>, out: &mut Outbox) -> bool
         requires empty { IsBlank out.old }
         requires short { IsShort arrival.now ruling.now }
@@ -68,7 +68,7 @@ impl TcpNorm {
         }
     }
 
-    // Puts the packet of a segment that passes into the empty outbox; or returns true, with nothing in it, if it is the frame that was read.
+    // Puts the packet of a segment that passes into the empty outbox. Returns true, with nothing in it, only if it is the frame that was read.
     fn emit_own(&mut self, passage: &Passage, arrival: &Arrival<'_>, out: &mut Outbox) -> bool
         requires short { Fits arrival.now passage.now }
         requires empty { IsBlank out.old }

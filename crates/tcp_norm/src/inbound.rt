@@ -55,7 +55,8 @@ impl TcpNorm {
         put_given(as_read, packet.frame, out);
     }
 
-    /// Handles a datagram of either side, as `inbound` and `outbound` do; or returns true, with an empty outbox, if its one frame is the one that was read.
+    /// Handles a datagram of either side, as `inbound` and `outbound` do. Returns true only if its one frame is the one that was read; the outbox is then
+    /// empty, and otherwise it has the frames.
     pub fn take_into(
         &mut self,
         now: u32,

@@ -43,7 +43,7 @@ impl TcpNorm {
     ghost use Rattle.tcp_norm.specs.Near.{IsNear};
     ghost use Rattle.tcp_norm.specs.Rulings.{IsHeld, IsLegal, IsOutward, IsShort, Judges};
 
-    /// Takes an outbound datagram: it goes on in its era, or ends, reopens or begins one.
+    /// Handles an outbound datagram: it continues its era, or ends, reopens or begins one.
     pub fn outbound(
         &mut self,
         now: u32,

@@ -2,15 +2,15 @@
 ghost use Rattle.std.specs.Prelude.{◌≡◌, ◌+◌, ◌<◌, ◌*◌, ℕ, length};
 ghost use Rattle.std.specs.List.{count_by, range_with_len, sum_by};
 ghost use Rattle.retain_store.specs.Maps.{IsMap, IsWithin, chain_of, holds};
-ghost use Rattle.tcp_norm.specs.Spare.{HasSlot, Lists};
+ghost use Rattle.tcp_norm.specs.Spare.{CanList, Relists};
 
 use linked_table::{Slot, SlotList};
 use retain_store::{ChainId, Retain};
 
 /// Lists a slot that was touched: as the last one, if it holds no octet, and otherwise not.
 pub(crate) fn list_spare(spare: &mut SlotList, store: &Retain, slot: Slot)
-    requires listed { HasSlot spare.old store.now slot }
-    ensures { Lists spare.old spare.new store.now slot }
+    requires listed { CanList spare.old store.now slot }
+    ensures { Relists spare.old spare.new store.now slot }
 {
     if store.held(ChainId(slot.0)) == 0 {
         spare.put_last(slot);
