@@ -393,7 +393,7 @@ passes test (Some e) d h = by (test e) refl h
     by false is h = absurd (cc)
 
 -- the tests of a segment
-segment_tests : (settings : PlainSettings) (d : Datagram) → is_segment settings d ≡ true → (is_tcp d ≡ true) × (find (holds_tcp settings d) segment_rows ≡ None)
+pub segment_tests : (settings : PlainSettings) (d : Datagram) → is_segment settings d ≡ true → (is_tcp d ≡ true) × (find (holds_tcp settings d) segment_rows ≡ None)
 segment_tests settings d h = by (is_tcp d) (find (holds_tcp settings d) segment_rows) h
   where
     by : (six : Bool) (row : Option Rule) → (six && is_none row) ≡ true → (six ≡ true) × (row ≡ None)

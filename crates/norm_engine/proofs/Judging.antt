@@ -43,7 +43,7 @@ use Rattle.norm_engine.specs.Fragments.{Offering, fragment_with, fragment_in, wi
 use Rattle.norm_engine.specs.Calls.{Past, where_passes, datagram_by}
 use Rattle.norm_engine.specs.Trace.{Read, is_quoted_live, named_rows}
 use Rattle.norm_engine.specs.Engine.{IsArp, IsMadeWhole, IsPieceJudged, IsWholeJudged, Judges, Follows, HeadIsRead, SegmentIsRead, datagram_row, joined, read_with}
-use Rattle.norm_engine.proofs.Stepping.{found_of}
+use Rattle.norm_engine.proofs.Stepping.{found_passes}
 use Rattle.norm_engine.proofs.Joining.{IsMade, row_of_piece, named_of_piece, fragment_by, made_of, or_none, bare_row, bare_named, datagram_row_is, datagram_named_is, segment_rows_are}
 
 -- rules that do not hold
@@ -242,7 +242,7 @@ row_drops settings link past r side rule h told =
 -- the side is known of a record that a rule on fragments drops
 piece_is_told : (o : Offering) (rule : Rule) → row_of_piece (Some o) ≡ Some rule → tells_side rule ≡ true
 piece_is_told o rule h =
-    found_of (λ x. tells_side x ≡ true) (holds_fragment o.view o.piece) fragment_rows rule (refl, (refl, (refl, (refl, (refl, (refl, (refl, (refl, tt))))))))
+    found_passes tells_side (holds_fragment o.view o.piece) fragment_rows rule refl
     (sym (first_row_drops o.view o.piece) ∙ h)
 
 side_here : (settings : PlainSettings) (link : Link) (r : Packet) (side : Side) → IsKept settings link r → side_in settings r.side (packet_in link r.octets) ≡ Some side → side_of_record settings link r ≡ Some side
@@ -309,16 +309,12 @@ either : {A : Type 0} (P : A → Type 0) (x : A) (one other : Option A) → (one
 either P x None other f g h = g h
 either P x (Some y) other f g h = f h
 
--- a rule whose drop reports the side
-abbrev IsTold : Rule → Type 0
-IsTold rule = tells_side rule ≡ true
-
 side_is_told : (settings : PlainSettings) (live : Bool) (d : Datagram) (rule : Rule) → datagram_row settings live d ≡ Some rule → tells_side rule ≡ true
 unfolding dgram_dropped_by
 side_is_told settings live d rule h =
-    either IsTold rule (find (holds_dgram settings live d) datagram_rows) (find (holds_tcp settings d) segment_rows)
-    (found_of IsTold (holds_dgram settings live d) datagram_rows rule (refl, (refl, (refl, (refl, (refl, (refl, (refl, tt))))))))
-    (found_of IsTold (holds_tcp settings d) segment_rows rule (refl, (refl, (refl, (refl, (refl, tt))))))
+    either (λ x. tells_side x ≡ true) rule (find (holds_dgram settings live d) datagram_rows) (find (holds_tcp settings d) segment_rows)
+    (found_passes tells_side (holds_dgram settings live d) datagram_rows rule refl)
+    (found_passes tells_side (holds_tcp settings d) segment_rows rule refl)
     h
 
 -- a message whose checksum is corrected has a complete header

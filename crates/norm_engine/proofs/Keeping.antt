@@ -21,6 +21,7 @@ use Rattle.udp_codec.specs.Checksum.{mended}
 use Rattle.rule_book.specs.declared.rule.Rule.{Rule}
 use Rattle.rule_book.specs.declared.rule.Rule.TheVariants as rules
 use Rattle.rule_book.specs.declared.entry.Verdict.TheVariants as verdicts
+use Rattle.rule_book.specs.Rules.{touches_payload}
 use Rattle.norm_settings.specs.Settings.{PlainSettings}
 use Rattle.ip_rules.specs.Rows.{carries_ip, piece_fix_rows, ip_fixes}
 use Rattle.ip_rules.specs.Datagrams.{Datagram, Packet, IsPacketOf, DatagramsAreKnown, AnewIsPacket, datagram_in, frame_of, frames_of, anew}
@@ -28,7 +29,6 @@ use Rattle.dgram_rules.specs.Rows.{pseudo_of, holds_dgram, dgram_dropped_by, u_s
 use Rattle.tcp_norm.specs.Rows as era
 use Rattle.tcp_norm.specs.Views.{view_of}
 use Rattle.tcp_norm.specs.Outcomes.{verdict_of}
-use Rattle.tcp_norm.specs.Segments as segments
 use Rattle.tcp_norm.specs.Segments.{PacketsAreItsOwn, CleanKeepsPayload}
 use Rattle.reassembly.specs.Pieces.{is_whole}
 use Rattle.reassembly.specs.Rows as fragments
@@ -39,7 +39,7 @@ use Rattle.norm_engine.specs.Laws.{IsSound}
 use Rattle.norm_engine.specs.Frames.{octets_sent, mended_frame, frame_by}
 use Rattle.norm_engine.specs.Calls.{segment_after}
 use Rattle.norm_engine.specs.Trace.{Read, read_after, is_held, is_quoted_live, dropped_by, named_rows, outcome_of, frames_by, verdict_by, item_of}
-use Rattle.norm_engine.specs.Clean.{touches_payload, is_clean, payload_of, payload_in, KeepsPayload, CleanIsKept, HasOctets, HaveOctets}
+use Rattle.norm_engine.specs.Clean.{is_clean, payload_of, payload_in, KeepsPayload, CleanIsKept, HasOctets, HaveOctets}
 use Rattle.norm_engine.proofs.Reading.{behind}
 use Rattle.norm_engine.proofs.Stepping.{segment_frames, plain_frames}
 use Rattle.norm_engine.proofs.Joining.{IsCarried, carried_in, row_of_piece, row_of_datagram, mends_of_life, named_of_piece, dropped_by_layers, named_by_layers}
@@ -145,26 +145,9 @@ pub both_empty : (xs ys : List Rule) → xs ++ ys ≡ [] → (xs ≡ []) × (ys 
 both_empty [] ys e = (refl, e)
 both_empty (x ∷ xs) ys e = absurd (cc)
 
--- no rule that touches a payload, by the definition of connections
-era_touches : (rule : Rule) → touches_payload rule ≡ false → segments.touches_payload rule ≡ false
-era_touches rules.TStrip h = absurd (cc)
-era_touches rules.CProbe h = absurd (cc)
-era_touches rules.TOld h = absurd (cc)
-era_touches rules.TWindow h = absurd (cc)
-era_touches rules.TEnd h = absurd (cc)
-era_touches rules.TClash h = absurd (cc)
-era_touches _ h = refl
-
 none_left : (a b : Bool) → (a || b) ≡ false → (a ≡ false) × (b ≡ false)
 none_left false b h = (refl, h)
 none_left true b h = absurd (cc)
-
-none_touches : (xs ys : List Rule) → list_any touches_payload (xs ++ ys) ≡ false → list_any segments.touches_payload ys ≡ false
-none_touches [] [] h = refl
-none_touches [] (y ∷ ys) h =
-    let both = none_left (touches_payload y) (list_any touches_payload ys) h in
-    ap₂ (λ a b. a || b) (era_touches y both.0) (none_touches [] ys both.1)
-none_touches (x ∷ xs) ys h = none_touches xs ys (none_left (touches_payload x) (list_any touches_payload (xs ++ ys)) h).1
 
 clean_parts : (dropped : Option Rule) (touched : Bool) → (is_none dropped && not touched) ≡ true → (dropped ≡ None) × (touched ≡ false)
 clean_parts None false h = (refl, refl)
@@ -219,7 +202,7 @@ module _ (known : DatagramsAreKnown) (fresh : AnewIsPacket) (own : PacketsAreIts
       let made = sym (own_datagram bare) ∙ (both_of _ _ d h).0 in
       let c = carried_in settings link r d made in
       let s = segment_is known settings link older r d before octets h in
-      let kept = keeps settings v d s (sym t.dropped ∙ undropped) (none_touches d.fixes (era.mended_by settings v d) (sym (ap (list_any touches_payload) t.named) ∙ untouched)) in
+      let kept = keeps settings v d s (sym t.dropped ∙ undropped) (any_parts d.fixes (era.mended_by settings v d) (sym (ap (list_any touches_payload) t.named) ∙ untouched)).1 in
       let packets : List Packet = (outcome_of settings read d).packets in
       let is : IsPacketOf settings d kept.packet = (subst (AllByRecursion (IsPacketOf settings d)) kept.only (own settings v d hops s)).0 in
       let six = s.protocol in

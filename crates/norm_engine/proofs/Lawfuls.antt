@@ -1,5 +1,5 @@
 -- The calls of a lawful trace are those that the rules make of its segments.
-use Rattle.std.proofs.Common.{◌≡◌, ℕ, ◌≤◌, Bool, true, false, cond, ◌&&◌, ◌||◌, not, nat_lt, List, [], ◌∷◌, length, take, find, Option, Some, None, is_none, refl, sym, ap, subst, ◌∙◌, arith}
+use Rattle.std.proofs.Common.{◌≡◌, ℕ, ◌≤◌, Bool, true, false, cond, ◌&&◌, ◌||◌, not, nat_lt, List, [], ◌∷◌, length, take, Option, Some, None, refl, sym, ap, subst, ◌∙◌, arith}
 use Rattle.std.proofs.lemmas.Bool.{eqb-true}
 use Rattle.std.proofs.lemmas.Bool.Decides.{nat_tests}
 use Rattle.std.specs.List.{AllByRecursion}
@@ -18,6 +18,7 @@ use Rattle.wire_base.specs.Frames.{packet_in}
 use Rattle.ip_rules.specs.Rows.{l_snap, l_short, ip_dropped_by}
 use Rattle.ip_rules.specs.Datagrams.{Datagram, DatagramsAreKnown, IsKnown, datagram_in, goes_in}
 use Rattle.ip_rules.proofs.Known.{packet_octets, sizes}
+use Rattle.ip_rules.proofs.Undropped.{none_found}
 use Rattle.ip_rules.proofs.Octets.{taken, dropped}
 use Rattle.reassembly.specs.Pieces.{Fragment}
 use Rattle.reassembly.specs.Calls as reassembly
@@ -33,13 +34,14 @@ use Rattle.tcp_norm.specs.Lives.{AreMade}
 use Rattle.norm_engine.specs.Items.{Item, now_with}
 use Rattle.norm_engine.specs.Laws.{IsSound, IsWithin, IsAlwaysWithin}
 use Rattle.norm_engine.specs.Fragments.{fragment_in, with_offered, piece_calls, pieces_before, offering_in, joined_in}
-use Rattle.norm_engine.specs.Rows.{is_tcp, is_segment, holds_tcp, t_short, t_hlen, t_sum, t_flags, t_opt_bad}
+use Rattle.norm_engine.specs.Rows.{holds_header, is_segment}
 use Rattle.norm_engine.specs.Calls.{where_passes, segment_after, datagram_after, past_of, flow_calls}
 use Rattle.norm_engine.specs.Trace.{item_of, read_after}
 use Rattle.norm_engine.specs.Clean.{HasOctets, HaveOctets}
 use Rattle.norm_engine.proofs.Stepping.{AreOfEra, segment_calls, plain_calls}
-use Rattle.norm_engine.proofs.Joining.{IsJoined, fragment_is, joined_of, made_of}
+use Rattle.norm_engine.proofs.Joining.{IsJoined, fragment_is, joined_of, made_of, segment_tests}
 use Rattle.norm_engine.proofs.Judging.{kept_packet, not_nil}
+use Rattle.norm_engine.proofs.Segments.{header_row}
 
 -- the calls with that of a segment, if there is one
 abbrev pub called : PlainSettings → List Call → (now : ℕ) → Option Datagram → List Call
@@ -54,30 +56,6 @@ both_of test (Some y) x h = by (test y) refl h
     by : (b : Bool) → test y ≡ b → cond b (Some y) None ≡ Some x → (Some y ≡ Some x) × (test x ≡ true)
     by true is here = let same : y ≡ x = cc in (here, subst (λ z. test z ≡ true) same is)
     by false is here = absurd (cc)
-
-both : (a b : Bool) → (a && b) ≡ true → (a ≡ true) × (b ≡ true)
-both true true h = (refl, refl)
-both true false h = absurd (cc)
-both false b h = absurd (cc)
-
--- no rule on the header of a segment holds
-record NoFault (short hlen wrong flags opts : Bool) : Type 0 where
-  is_short : short ≡ false
-  is_hlen : hlen ≡ false
-  is_wrong : wrong ≡ false
-  is_flags : flags ≡ false
-  is_opts : opts ≡ false
-
-no_fault : (six short hlen wrong flags opts : Bool) → six ≡ true
-    → is_none (cond (six && short) (Some rules.TShort) (cond (six && hlen) (Some rules.THlen) (cond (six && wrong) (Some rules.TSum) (cond (six && flags) (Some rules.TFlags) (cond (six && opts) (Some rules.TOptBad) None))))) ≡ true
-    → NoFault short hlen wrong flags opts
-no_fault true true hlen wrong flags opts e h = absurd (cc)
-no_fault true false true wrong flags opts e h = absurd (cc)
-no_fault true false false true flags opts e h = absurd (cc)
-no_fault true false false false true opts e h = absurd (cc)
-no_fault true false false false false true e h = absurd (cc)
-no_fault true false false false false false e h = record { is_short = refl; is_hlen = refl; is_wrong = refl; is_flags = refl; is_opts = refl }
-no_fault false short hlen wrong flags opts e h = absurd (cc)
 
 header_fits : (header octets : ℕ) → (nat_lt header 20 || nat_lt octets header) ≡ false → (20 ≤ header) × (header ≤ octets)
 header_fits header octets h = (grind (arith, nat_tests), grind (arith, nat_tests))
@@ -94,19 +72,19 @@ right_inward true false offload e h = absurd (cc)
 -- a known datagram that no rule on the header of its segment drops
 pub segment_known : (settings : PlainSettings) (d : Datagram) → IsKnown settings d → is_segment settings d ≡ true → IsSegment settings d
 segment_known settings d known is =
-    let parts = both (is_tcp d) (is_none (find (holds_tcp settings d) segment_rows)) is in
-    let six : d.head.protocol ≡ 6 = eqb-true d.head.protocol 6 parts.0 in
-    let none = no_fault (is_tcp d) (t_short d) (t_hlen d) (t_sum settings d) (t_flags d) (t_opt_bad d) parts.0 parts.1 in
-    let sizes = header_fits (tcp.header_length d.octets) (length d.octets) none.is_hlen in
+    let tests = segment_tests settings d is in
+    let six : d.head.protocol ≡ 6 = eqb-true d.head.protocol 6 tests.0 in
+    let none = none_found (holds_header settings d) segment_rows (sym (header_row settings d tests.0) ∙ tests.1) in
+    let sizes = header_fits (tcp.header_length d.octets) (length d.octets) none.1.0 in
     record {
       known = known;
       protocol = six;
       least = sizes.0;
       inside = sizes.1;
-      legal = stands (tcp.are_legal (tcp.flags d.octets)) none.is_flags;
-      formed = stands (are_well_formed (tcp.options d.octets)) none.is_opts;
+      legal = stands (tcp.are_legal (tcp.flags d.octets)) none.1.1.1.0;
+      formed = stands (are_well_formed (tcp.options d.octets)) none.1.1.1.1.0;
       sum = λ inward.
-          let right = right_inward (tcp.has_wrong_sum (dgram.pseudo_of d) d.octets) (goes_in d.side) settings.offload inward none.is_wrong in
+          let right = right_inward (tcp.has_wrong_sum (dgram.pseudo_of d) d.octets) (goes_in d.side) settings.offload inward none.1.1.0 in
           subst (λ n. sum_is_right d.octets (pseudo_sum d.head.src.0 d.head.dst.0 n (length d.octets)) ≡ true) six (stands (sum_is_right d.octets (dgram.pseudo_of d)) right);
     }
 

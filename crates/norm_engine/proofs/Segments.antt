@@ -1,16 +1,8 @@
--- The rules on the header of a segment, by the fault of that header.
-use Rattle.std.proofs.Common.{◌≡◌, ◌≢◌, ℕ, ◌≤◌, ◌==◌, Bool, true, false, ◌&&◌, ◌||◌, not, length, find, Option, Some, None, Ok, Err, refl, sym, ap, subst, ◌∙◌, if◌then◌else◌}
-use Rattle.std.specs.Prelude.{option_map, is_none, slice_range}
+-- The judgment of a datagram by its protocol, and the rules on the header of its segment.
+use Rattle.std.proofs.Common.{◌≡◌, ◌≢◌, ℕ, ◌==◌, Bool, true, false, ◌&&◌, ◌||◌, find, Option, Some, None, refl, ap, subst, ◌∙◌, if◌then◌else◌}
+use Rattle.std.specs.Prelude.{is_none}
 use Rattle.std.specs.Option.{option_or}
 use Rattle.std.proofs.lemmas.Bool.{ne_eqb}
-use Rattle.wire_base.specs.Reading.{value_or_fault}
-use Rattle.wire_base.specs.Tcp as tcp
-use Rattle.wire_base.specs.Options.{are_well_formed}
-use Rattle.tcp_codec.specs.declared.header.Tcp.{Tcp}
-use Rattle.tcp_codec.specs.declared.header.SumRule.{SumRule}
-use Rattle.tcp_codec.specs.declared.header.TcpFault.{TcpFault}
-use Rattle.tcp_codec.specs.declared.header.TcpFault.TheVariants as faults
-use Rattle.tcp_codec.specs.Header.{is_judged, fields_of, fault_of, parsed}
 use Rattle.rule_book.specs.declared.rule.Rule.{Rule}
 use Rattle.rule_book.specs.declared.rule.Rule.TheVariants as rules
 use Rattle.rule_book.specs.Rules.{segment_rows}
@@ -18,78 +10,21 @@ use Rattle.norm_settings.specs.Settings.{PlainSettings}
 use Rattle.ip_rules.specs.Datagrams.{Datagram}
 use Rattle.dgram_rules.specs.declared.judged.DgramJudged.{DgramJudged}
 use Rattle.dgram_rules.specs.declared.judged.DgramJudged.TheVariants as dgram
-use Rattle.dgram_rules.specs.Rows.{pseudo_of, is_offloaded, holds_dgram, dgram_dropped_by}
+use Rattle.dgram_rules.specs.Rows.{holds_dgram, dgram_dropped_by}
 use Rattle.dgram_rules.specs.Judged.{dgram_judged, icmp_judged, udp_judged}
 use Rattle.dgram_rules.specs.Laws.{Tells}
 use Rattle.norm_engine.specs.Judged.{Judged}
 use Rattle.norm_engine.specs.Judged as judged
-use Rattle.norm_engine.specs.Rows.{is_tcp, t_short, t_hlen, t_sum, t_flags, t_opt_bad, holds_tcp, is_segment}
-use Rattle.norm_engine.specs.Engine.{rule_of, of_rows, segment_row, datagram_row, IsReadSegment, HeadIsRead, Follows}
-
--- the first rule that holds, by the tests
-abbrev by_tests : (short hlen wrong flags opts : Bool) → Option Rule
-by_tests short hlen wrong flags opts =
-    if short then Some rules.TShort else if hlen then Some rules.THlen else if wrong then Some rules.TSum else if flags then Some rules.TFlags
-    else if opts then Some rules.TOptBad else None
-
-by_faults : (short hlen wrong judged flags opts : Bool)
-    → option_map rule_of (if short then Some faults.Short else if hlen then Some faults.DataOffset else if judged && wrong then Some faults.Sum else if flags then Some faults.Flags else if opts then Some faults.Options else None)
-    ≡ by_tests short hlen (wrong && judged) flags opts
-by_faults true hlen wrong judged flags opts = refl
-by_faults false true wrong judged flags opts = refl
-by_faults false false true true flags opts = refl
-by_faults false false true false true opts = refl
-by_faults false false true false false true = refl
-by_faults false false true false false false = refl
-by_faults false false false true true opts = refl
-by_faults false false false true false true = refl
-by_faults false false false true false false = refl
-by_faults false false false false true opts = refl
-by_faults false false false false false true = refl
-by_faults false false false false false false = refl
-
-row_by_fault : (settings : PlainSettings) (d : Datagram) (rule : SumRule) (pseudo : ℕ) → is_judged rule ≡ not (is_offloaded settings d) → pseudo ≡ pseudo_of d
-    → option_map rule_of (fault_of rule pseudo d.octets) ≡ segment_row settings d
-row_by_fault settings d rule pseudo judged summed =
-    ap (λ n. option_map rule_of (fault_of rule n d.octets)) summed
-    ∙ (by_faults (t_short d) (t_hlen d) (tcp.has_wrong_sum (pseudo_of d) d.octets) (is_judged rule) (t_flags d) (t_opt_bad d)
-    ∙ ap (λ j. by_tests (t_short d) (t_hlen d) (tcp.has_wrong_sum (pseudo_of d) d.octets && j) (t_flags d) (t_opt_bad d)) judged)
-
-faultless : (fields head : Tcp) (fault : Option TcpFault) → value_or_fault fields fault ≡ Ok head → (option_map rule_of fault ≡ None) × (head ≡ fields)
-faultless fields head None h = (refl, cc)
-faultless fields head (Some fault) h = absurd (cc)
-
-refused : (fields : Tcp) (fault : Option TcpFault) (told : TcpFault) → value_or_fault fields fault ≡ Err told → option_map rule_of fault ≡ Some (rule_of told)
-refused fields None told h = absurd (cc)
-refused fields (Some fault) told h = let same : fault ≡ told = cc in ap (λ f. Some (rule_of f)) same
-
--- the header of a segment is read if no rule on it holds
-pub read_row : (settings : PlainSettings) (d : Datagram) (rule : SumRule) (pseudo : ℕ) (head : Tcp) → is_judged rule ≡ not (is_offloaded settings d) → pseudo ≡ pseudo_of d
-    → parsed rule pseudo d.octets ≡ Ok head → (20 ≤ head.header) × (head.header ≤ 60) → head.header ≤ length d.octets → tcp.are_legal head.flags.0 ≡ true
-    → are_well_formed (tcp.options d.octets) ≡ true → slice_range d.octets 20 head.header ≡ tcp.options d.octets → IsReadSegment settings d (judged.Segment head)
-read_row settings d rule pseudo head sums summed read sizes inside legal formed area =
-    let no = faultless (fields_of pseudo d.octets) head (fault_of rule pseudo d.octets) read in (
-      sym (row_by_fault settings d rule pseudo sums summed) ∙ no.0,
-      record {
-        fields = no.1 ∙ ap (λ n. fields_of n d.octets) summed;
-        whole = record { pseudo = pseudo; fields = no.1; least = sizes.0; most = sizes.1; inside = inside; legal = legal; formed = formed; area = area };
-      },
-    )
-
--- otherwise the first of them drops it
-pub refused_row : (settings : PlainSettings) (d : Datagram) (rule : SumRule) (pseudo : ℕ) (told : TcpFault) → is_judged rule ≡ not (is_offloaded settings d) → pseudo ≡ pseudo_of d
-    → parsed rule pseudo d.octets ≡ Err told → IsReadSegment settings d (judged.Drop (rule_of told))
-refused_row settings d rule pseudo told sums summed read =
-    sym (row_by_fault settings d rule pseudo sums summed) ∙ refused (fields_of pseudo d.octets) (fault_of rule pseudo d.octets) told read
+use Rattle.norm_engine.specs.Rows.{is_tcp, holds_header, holds_tcp, segment_row, is_segment}
+use Rattle.norm_engine.specs.Engine.{of_rows, datagram_row, IsReadSegment, HeadIsRead, Follows}
 
 -- the rules on the header hold of TCP alone
 
-abbrev tcp_row : (six short hlen wrong flags opts : Bool) → Option Rule
-tcp_row six short hlen wrong flags opts = by_tests (six && short) (six && hlen) (six && wrong) (six && flags) (six && opts)
+pub header_row : (settings : PlainSettings) (d : Datagram) → is_tcp d ≡ true → find (holds_tcp settings d) segment_rows ≡ segment_row settings d
+header_row settings d six = ap (λ b. find (λ rule. b && holds_header settings d rule) segment_rows) six
 
-of_tcp : (settings : PlainSettings) (d : Datagram) (six : Bool) → is_tcp d ≡ six
-    → find (holds_tcp settings d) segment_rows ≡ tcp_row six (t_short d) (t_hlen d) (t_sum settings d) (t_flags d) (t_opt_bad d)
-of_tcp settings d six is = ap (λ b. tcp_row b (t_short d) (t_hlen d) (t_sum settings d) (t_flags d) (t_opt_bad d)) is
+no_header_row : (settings : PlainSettings) (d : Datagram) → is_tcp d ≡ false → find (holds_tcp settings d) segment_rows ≡ None
+no_header_row settings d other = ap (λ b. find (λ rule. b && holds_header settings d rule) segment_rows) other
 
 -- only TCP remains besides UDP and ICMP
 pub six_is_left : (p : ℕ) → ((p == 1) || (p == 6) || (p == 17)) ≡ true → p ≢ 17 → p ≢ 1 → (p == 6) ≡ true
@@ -116,7 +51,7 @@ by_tells settings live d answer other tells = by answer tells
     no_segment = ap (λ b. b && is_none (find (holds_tcp settings d) segment_rows)) other
 
     row : (told : Option Rule) → dgram_dropped_by settings live d ≡ told → datagram_row settings live d ≡ option_or told None
-    row told is = λ i. option_or (is i) (of_tcp settings d false other i)
+    row told is = λ i. option_or (is i) (no_header_row settings d other i)
 
     by : (answer : DgramJudged) → Tells (dgram_dropped_by settings live d) (holds_dgram settings live d rules.USumOut) answer → Follows settings live d (of_rows answer)
     by (dgram.Drop rule) t = (no_segment, row (Some rule) t.drops)
@@ -129,7 +64,7 @@ pub by_header : (settings : PlainSettings) (live : Bool) (d : Datagram) (answer 
 by_header settings live d answer six none says = by answer says
   where
     row : find (holds_tcp settings d) segment_rows ≡ segment_row settings d
-    row = of_tcp settings d true six
+    row = header_row settings d six
 
     first : datagram_row settings live d ≡ segment_row settings d
     first = λ i. option_or (none i) (row i)

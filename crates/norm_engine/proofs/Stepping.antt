@@ -1,7 +1,7 @@
 -- The item of a record, as it was judged.
 use Rattle.std.proofs.Common.{◌≡◌, ℕ, ◌≤◌, Bool, true, false, cond, ◌&&◌, not, List, [], ◌∷◌, ◌++◌, length, map, find, filter, Option, Some, None, refl, sym, ap, ap₂, subst, ◌∙◌}
 use Rattle.std.specs.Prelude.{option_map}
-use Rattle.std.specs.List.{AllByRecursion}
+use Rattle.std.specs.List.{AllByRecursion, list_all}
 use Rattle.std.proofs.lemmas.List.{append-nil, length-map}
 use Rattle.std.proofs.lemmas.List.Elements.{filter-append}
 use Rattle.wire_base.specs.declared.address.Link.{Link}
@@ -46,12 +46,24 @@ found_of P f (y ∷ ys) x all h = by (found_of P f ys x all.1) (f y) h
     by rest true here = let same : y ≡ x = cc in subst P same all.0
     by rest false later = rest later
 
+-- an element that is found among those that pass a test passes it
+pub found_passes : {A : Type 0} (test f : A → Bool) (xs : List A) (x : A) → list_all test xs ≡ true → find f xs ≡ Some x → test x ≡ true
+found_passes {A} test f xs x all = found_of (λ y. test y ≡ true) f xs x (each xs all)
+  where
+    both : (a b : Bool) → (a && b) ≡ true → (a ≡ true) × (b ≡ true)
+    both true b h = (refl, h)
+    both false b h = absurd (cc)
+
+    each : (ys : List A) → list_all test ys ≡ true → AllByRecursion (λ y. test y ≡ true) ys
+    each [] h = tt
+    each (y ∷ ys) h = let parts = both (test y) (list_all test ys) h in (parts.0, each ys parts.1)
+
 -- the side is known of a record that a rule on eras drops
 pub era_told : (settings : PlainSettings) (calls : List Call) (d : Datagram) (rule : Rule) → era.dropped_by settings (view_of settings calls d) d ≡ Some rule → tells_side rule ≡ true
 era_told settings calls d rule h = by (goes_in d.side) h
   where
     by : (inward : Bool) → cond inward (find (era.holds_era settings (view_of settings calls d) d) era_rows) None ≡ Some rule → tells_side rule ≡ true
-    by true here = found_of (λ x. tells_side x ≡ true) (era.holds_era settings (view_of settings calls d) d) era_rows rule (refl, (refl, (refl, (refl, (refl, (refl, (refl, tt))))))) here
+    by true here = found_passes tells_side (era.holds_era settings (view_of settings calls d) d) era_rows rule refl here
     by false here = absurd (cc)
 
 pub sides : (dropped : Option Rule) (side : Option Side) → ((rule : Rule) → dropped ≡ Some rule → tells_side rule ≡ true) → side_by dropped side ≡ side

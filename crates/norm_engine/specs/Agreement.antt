@@ -23,7 +23,7 @@ abbrev pub sent_in : Link → List Item → List Sent
 sent_in link trace = map (sent_for link) trace
 
 -- In each era of the trace whose base is fixed, the packets written inwards are plain, their SYNs have the number before the base, and any two receivers of the
--- family behind at most `hops` routers deliver streams of which one is a prefix of the other, and one that has ended is not the shorter, whichever packets reach
--- them in time, how often and in which order. An era without a base has no octet, no SYN and no FIN inwards.
+-- family behind at most `hops` routers that start at the same offset deliver streams of which one is a prefix of the other, and one that has ended is not the
+-- shorter, whichever packets reach them in time, how often and in which order. An era without a base has no octet, no SYN and no FIN inwards.
 abbrev pub Agree : (hops : ℕ) → Link → List Item → Type 0
 Agree hops link trace = eras.Agree hops (sent_in link trace)

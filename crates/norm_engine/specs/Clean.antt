@@ -1,31 +1,17 @@
 -- Clean records, whose payload is written as it was read (this project's profile).
-use Rattle.std.specs.Prelude.{◌≡◌, ℕ, ◌<◌, ◌==◌, ◌&&◌, not, Bool, true, false, List, [], ◌∷◌, drop, slice_index, is_none, if◌then◌else◌}
+use Rattle.std.specs.Prelude.{◌≡◌, ℕ, ◌<◌, ◌==◌, ◌&&◌, not, Bool, true, List, [], ◌∷◌, drop, slice_index, is_none, if◌then◌else◌}
 use Rattle.std.specs.List.{list_any}
 use Rattle.wire_base.specs.declared.address.Link.{Link}
 use Rattle.wire_base.specs.Ipv4 as ip
 use Rattle.wire_base.specs.Tcp as tcp
 use Rattle.wire_base.specs.Frames.{packet_in}
 use Rattle.pcap_file.specs.Records.{Packet}
-use Rattle.rule_book.specs.declared.rule.Rule.{Rule}
-use Rattle.rule_book.specs.declared.rule.Rule.TheVariants as rules
 use Rattle.rule_book.specs.declared.entry.Verdict.TheVariants as verdicts
+use Rattle.rule_book.specs.Rules.{touches_payload}
 use Rattle.norm_settings.specs.Settings.{PlainSettings}
 use Rattle.ip_rules.specs.Rows.{carries_ip}
 use Rattle.norm_engine.specs.Items.{Item}
 use Rattle.norm_engine.specs.Trace.{dropped_by, named_rows, read_after}
-
--- the rules that hold a payload, reassemble it from fragments, change it, or write a probe instead of it or after it
-abbrev pub touches_payload : Rule → Bool
-touches_payload rules.FHeld = true
-touches_payload rules.FDone = true
-touches_payload rules.TStrip = true
-touches_payload rules.CProbe = true
-touches_payload rules.TOld = true
-touches_payload rules.TWindow = true
-touches_payload rules.TTurn = true
-touches_payload rules.TEnd = true
-touches_payload rules.TClash = true
-touches_payload _ = false
 
 -- no rule drops the record, and none that touches a payload holds
 abbrev pub is_clean : PlainSettings → Link → (history : List Item) → Packet → Bool

@@ -47,7 +47,7 @@ use Rattle.reassembly.specs.Calls as reassembly
 use Rattle.reassembly.specs.Assemblies as fragments
 use Rattle.norm_engine.specs.Items.{Item, now_at}
 use Rattle.norm_engine.specs.Fragments.{Offering, piece_calls, offering_in, pieces_with, head_of_whole}
-use Rattle.norm_engine.specs.Rows.{side_of_record, t_short, t_hlen, t_sum, t_flags, t_opt_bad, holds_tcp, is_segment}
+use Rattle.norm_engine.specs.Rows.{side_of_record, segment_row, holds_tcp, is_segment}
 use Rattle.norm_engine.specs.Calls.{Past, flow_calls, where_passes, datagram_by}
 use Rattle.norm_engine.specs.Trace.{Read, is_held, is_quoted_live, dropped_by, noted_rows, named_rows}
 
@@ -92,16 +92,6 @@ abbrev pub of_rows : DgramJudged → Judged
 of_rows dgram.Pass = judged.Pass
 of_rows dgram.Mend = judged.Mend
 of_rows (dgram.Drop rule) = judged.Drop rule
-
--- the first rule on the header of a segment that holds
-abbrev pub segment_row : PlainSettings → Datagram → Option Rule
-segment_row settings d =
-    if t_short d then Some rules.TShort
-    else if t_hlen d then Some rules.THlen
-    else if t_sum settings d then Some rules.TSum
-    else if t_flags d then Some rules.TFlags
-    else if t_opt_bad d then Some rules.TOptBad
-    else None
 
 -- the fields of a segment's header are those of its octets, and the header has no fault
 pub record IsHeaded (d : Datagram) (head : Tcp) : Type 0 where

@@ -42,14 +42,22 @@ t_flags d = tcp.has_illegal_flags d.octets
 abbrev pub t_opt_bad : Datagram → Bool
 t_opt_bad d = tcp.has_bad_options d.octets
 
--- whether the condition of a rule on the header of a segment holds of a datagram that is TCP; the rules of other layers hold of none
+-- whether the condition of a rule on the header of a segment holds of the octets of a datagram; the rules of other layers hold of none
+abbrev pub holds_header : PlainSettings → Datagram → Rule → Bool
+holds_header settings d rules.TShort = t_short d
+holds_header settings d rules.THlen = t_hlen d
+holds_header settings d rules.TSum = t_sum settings d
+holds_header settings d rules.TFlags = t_flags d
+holds_header settings d rules.TOptBad = t_opt_bad d
+holds_header settings d _ = false
+
+-- the same of a datagram that is TCP; of another one no rule holds
 abbrev pub holds_tcp : PlainSettings → Datagram → Rule → Bool
-holds_tcp settings d rules.TShort = is_tcp d && t_short d
-holds_tcp settings d rules.THlen = is_tcp d && t_hlen d
-holds_tcp settings d rules.TSum = is_tcp d && t_sum settings d
-holds_tcp settings d rules.TFlags = is_tcp d && t_flags d
-holds_tcp settings d rules.TOptBad = is_tcp d && t_opt_bad d
-holds_tcp settings d _ = false
+holds_tcp settings d rule = is_tcp d && holds_header settings d rule
+
+-- the first rule on the header of a segment that holds
+abbrev pub segment_row : PlainSettings → Datagram → Option Rule
+segment_row settings d = find (holds_header settings d) segment_rows
 
 -- the datagram is a TCP segment that no rule on its header drops
 abbrev pub is_segment : PlainSettings → Datagram → Bool

@@ -13,7 +13,7 @@ use Rattle.rule_book.specs.declared.rule.Rule.TheVariants as rules
 use Rattle.rule_book.specs.declared.entry.Ended.{Ended}
 use Rattle.rule_book.specs.declared.entry.Verdict.{Verdict}
 use Rattle.rule_book.specs.declared.entry.Verdict.TheVariants as verdicts
-use Rattle.rule_book.specs.Rules.{drop_rows, fix_rows, step_rows}
+use Rattle.rule_book.specs.Rules.{Layer, drop_rows, fix_rows, layer_of, notes_outbound, step_rows}
 use Rattle.norm_settings.specs.Settings.{PlainSettings}
 use Rattle.ip_rules.specs.Datagrams.{Datagram, goes_in, frames_of}
 use Rattle.ip_rules.specs.Rows.{holds_ip, tells_side}
@@ -59,99 +59,26 @@ abbrev pub holds_of : Option Datagram → (Datagram → Bool) → Bool
 holds_of None test = false
 holds_of (Some d) test = test d
 
--- the layers of the rule table
-pub data Layer : Type 0 where
-  link_and_header : Layer
-  fragments : Layer
-  lifetimes : Layer
-  datagrams : Layer
-  segment_headers : Layer
-  eras : Layer
-  cuts : Layer
-
--- the layer of a rule
-abbrev pub layer_of : Rule → Layer
-layer_of rules.LSnap = link_and_header
-layer_of rules.LShort = link_and_header
-layer_of rules.LType = link_and_header
-layer_of rules.IShort = link_and_header
-layer_of rules.IVersion = link_and_header
-layer_of rules.IHlen = link_and_header
-layer_of rules.ILen = link_and_header
-layer_of rules.ISum = link_and_header
-layer_of rules.ISrc = link_and_header
-layer_of rules.IDst = link_and_header
-layer_of rules.ISide = link_and_header
-layer_of rules.IOptBad = link_and_header
-layer_of rules.IRoute = link_and_header
-layer_of rules.PProto = link_and_header
-layer_of rules.FDf = fragments
-layer_of rules.FEmpty = fragments
-layer_of rules.FAlign = fragments
-layer_of rules.FBig = fragments
-layer_of rules.FEnd = fragments
-layer_of rules.FClash = fragments
-layer_of rules.FMany = fragments
-layer_of rules.FRoom = fragments
-layer_of rules.FHeld = fragments
-layer_of rules.FDone = fragments
-layer_of rules.ITrail = link_and_header
-layer_of rules.IOpt = link_and_header
-layer_of rules.IRes = link_and_header
-layer_of rules.ITtl = lifetimes
-layer_of rules.UShort = datagrams
-layer_of rules.ULen = datagrams
-layer_of rules.USum = datagrams
-layer_of rules.MShort = datagrams
-layer_of rules.MSum = datagrams
-layer_of rules.MType = datagrams
-layer_of rules.MQuote = datagrams
-layer_of rules.USumOut = datagrams
-layer_of rules.TShort = segment_headers
-layer_of rules.THlen = segment_headers
-layer_of rules.TSum = segment_headers
-layer_of rules.TFlags = segment_headers
-layer_of rules.TOptBad = segment_headers
-layer_of rules.TCold = eras
-layer_of rules.TState = eras
-layer_of rules.TSyn = eras
-layer_of rules.TRst = eras
-layer_of rules.TFull = eras
-layer_of rules.TQuota = eras
-layer_of rules.TRoom = eras
-layer_of rules.TSumOut = eras
-layer_of rules.TRes = eras
-layer_of rules.TUrg = eras
-layer_of rules.TOpt = eras
-layer_of rules.TStrip = eras
-layer_of rules.CProbe = eras
-layer_of rules.TOld = eras
-layer_of rules.TWindow = eras
-layer_of rules.TTurn = eras
-layer_of rules.TEnd = eras
-layer_of rules.TClash = eras
-layer_of rules.ECut = cuts
-layer_of rules.EMtu = cuts
-
 -- whether the rule of a layer holds of what was read
 abbrev pub holds_at : Layer → PlainSettings → Link → Read → Packet → Rule → Bool
-holds_at link_and_header settings link read r rule = holds_ip settings link r rule
-holds_at fragments settings link read r rule = holds_offered read.piece rule
-holds_at lifetimes settings link read r rule = holds_of read.datagram (i_ttl settings)
-holds_at datagrams settings link read r rule =
+holds_at Layer.link settings link read r rule = holds_ip settings link r rule
+holds_at Layer.header settings link read r rule = holds_ip settings link r rule
+holds_at Layer.protocol settings link read r rule = holds_ip settings link r rule
+holds_at Layer.fragment settings link read r rule = holds_offered read.piece rule
+holds_at Layer.lifetime settings link read r rule = holds_of read.datagram (i_ttl settings)
+holds_at Layer.datagram settings link read r rule =
     holds_of read.datagram (λ d. holds_dgram settings (is_quoted_live read.past.calls (quoted_in d.octets)) d rule)
-holds_at segment_headers settings link read r rule = holds_of read.datagram (λ d. holds_tcp settings d rule)
-holds_at eras settings link read r rule = holds_of read.segment (λ d. holds_era settings (view_of settings read.past.calls d) d rule)
-holds_at cuts settings link read r rule = false
+holds_at Layer.segment settings link read r rule = holds_of read.datagram (λ d. holds_tcp settings d rule)
+holds_at Layer.era settings link read r rule = holds_of read.segment (λ d. holds_era settings (view_of settings read.past.calls d) d rule)
+holds_at Layer.cut settings link read r rule = false
 
 -- whether the condition of a rule holds
 abbrev pub holds : PlainSettings → Link → Read → Packet → Rule → Bool
 holds settings link read r rule = holds_at (layer_of rule) settings link read r rule
 
--- the rule is T_FULL of an outbound segment: a note, which drops nothing
+-- the rule is a note on an outbound segment, which it does not drop
 abbrev pub is_note : Read → Rule → Bool
-is_note read rules.TFull = holds_of read.segment (λ d. not (goes_in d.side))
-is_note read _ = false
+is_note read rule = notes_outbound rule && holds_of read.segment (λ d. not (goes_in d.side))
 
 -- the rule drops the record: it holds, and is not a note
 abbrev pub drops : PlainSettings → Link → Read → Packet → Rule → Bool

@@ -154,8 +154,8 @@ impl Engine {
     }
 
     /// Fills the entry of this record after all before it, and replaces the frames in the outbox by
-    /// its frames; or returns true, with an empty outbox, if its one frame is the record as it was
-    /// read. Allocates no memory.
+    /// its frames. Returns true only if its one frame is the record as it was read; the outbox is
+    /// then empty. Allocates no memory.
     pub fn step_into(&mut self, input: &Record<'_>, out: &mut Outbox, entry: &mut Entry) -> bool
         requires { self.old.records < 2 ^ 32 - 1 }
         ensures settings { self.new.settings ≡ self.old.settings }
