@@ -3,3 +3,13 @@ pub mod Untouched
 pub mod Inwards
 pub mod Relaying
 pub mod Standing
+pub mod Outputs
+pub mod Writing
+pub mod Cutting
+pub mod Writtens
+pub mod RelayItems
+pub mod Answering
+pub mod Going
+pub mod RelayStanding
+pub mod Mirrors
+pub mod Sending

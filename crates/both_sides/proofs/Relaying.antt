@@ -6,10 +6,11 @@ use Rattle.wire_base.specs.declared.address.Link.{Link}
 use Rattle.pcap_file.specs.Records.{Packet}
 use Rattle.rule_book.specs.declared.entry.Verdict.{Verdict}
 use Rattle.rule_book.specs.declared.entry.Verdict.TheVariants as verdicts
+use Rattle.rule_book.specs.Rules.{touches_payload}
 use Rattle.norm_settings.specs.Settings.{PlainSettings}
 use Rattle.norm_engine.specs.Items.{Item, packets}
 use Rattle.norm_engine.specs.Trace.{Lawful, item_of, verdict_by}
-use Rattle.norm_engine.specs.Clean.{is_clean, touches_payload, KeepsPayload, CleanIsKept}
+use Rattle.norm_engine.specs.Clean.{is_clean, KeepsPayload, CleanIsKept}
 use Rattle.both_sides.specs.Traces.{mirrored, record_of, records_for, behind, records_of}
 use Rattle.both_sides.specs.Laws.{GoesThrough, InwardGoesThrough, is_outward}
 use Rattle.both_sides.proofs.Untouched.{IsUntouched, Relays, untouched}

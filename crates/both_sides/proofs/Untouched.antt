@@ -36,7 +36,7 @@ use Rattle.norm_engine.specs.Rows.{is_tcp, is_segment, holds_tcp, t_short, t_hle
 use Rattle.norm_engine.specs.Fragments.{fragment_in, offering_of, offering_in, pieces_before, joined_in, holds_offered}
 use Rattle.norm_engine.specs.Calls.{past_of, where_passes}
 use Rattle.norm_engine.specs.Trace.{Read, read_after, is_held, dropped_by, named_rows, is_quoted_live}
-use Rattle.norm_engine.specs.Clean.{is_clean, touches_payload}
+use Rattle.norm_engine.specs.Clean.{is_clean}
 use Rattle.norm_engine.proofs.Joining.{row_of_piece, row_of_datagram, row_of_header, row_of_era, mends_of_life, named_of_piece, mends_of_datagram, mends_of_era, dropped_by_layers, named_by_layers, carried_in, no_fragment}
 use Rattle.norm_engine.proofs.Judging.{arp_passes}
 use Rattle.both_sides.specs.Traces.{mirrored, record_of}

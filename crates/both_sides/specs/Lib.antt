@@ -1,3 +1,13 @@
 pub mod Traces
 pub mod Both
 pub mod Laws
+pub mod Frames
+pub mod Cut
+pub mod Sinks
+pub mod Outputs
+pub mod Runs
+pub mod Puts
+pub mod Relays
+pub mod Steps
+pub mod Judged
+pub mod RelayLaws

@@ -1,0 +1,6 @@
+use Rattle.emit_mtu.specs.Frames.{AreOctets}
+use Rattle.both_sides.proofs.Cutting.{all_more}
+use Rattle.both_sides.proofs.cut.frames_have_octets.Goals as goal
+
+pub loop-index-preserved : goal.loop-index-preserved
+loop-index-preserved c = all_more AreOctets c.args.out.now c.loop-index.index c.frame.result.now c.frame.ensures.octets c.loop-index.invariant c.have_octets.ensures

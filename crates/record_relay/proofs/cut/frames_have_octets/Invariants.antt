@@ -1,6 +1,0 @@
-use Rattle.std.proofs.Common.{take, All}
-use Rattle.emit_mtu.specs.Frames.{AreOctets}
-use Rattle.record_relay.proofs.cut.frames_have_octets.Given as goal
-
-abbrev pub invariant-loop-index : goal.invariant-loop-index
-invariant-loop-index l = All AreOctets (take l.index l.out)

@@ -1,5 +1,0 @@
-use Rattle.record_relay.proofs.Mirrors.{runs_one}
-use Rattle.record_relay.proofs.laws.lawful_runs_are_one.Goals as goal
-
-pub returns : goal.returns
-returns c = runs_one c.lawful_is_one.ensures
