@@ -5,8 +5,8 @@ use Rattle.std.specs.Io.KnownBytes.{Appends}
 use Rattle.rule_book.specs.declared.last.StopKind.TheVariants as kinds
 use Rattle.bridge_run.specs.declared.stop.Stop.{Stop}
 use Rattle.bridge_run.specs.declared.stop.Stop.TheVariants as stops
-use Rattle.record_relay.specs.Outputs.{Output, to_capture, to_report, capture_hands_on, report_hands_on, cut, CanFail, capture_part, report_part, Given, fault_at}
-use Rattle.record_relay.specs.Sinks.{Sinks}
+use Rattle.both_sides.specs.Outputs.{Output, to_capture, to_report, capture_hands_on, report_hands_on, cut, CanFail, capture_part, report_part, Given, fault_at}
+use Rattle.both_sides.specs.Sinks.{Sinks}
 use Rattle.bridge_run.specs.Outputs.{BreaksOff, stop_by}
 use Rattle.bridge_run.specs.Rows.{GivenUpTo}
 use Rattle.bridge_run.proofs.Outputs.{capture_part-append, report_part-append}

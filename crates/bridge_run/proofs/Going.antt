@@ -5,11 +5,11 @@ use Rattle.capture_input.specs.declared.input.Input.{Input}
 use Rattle.capture_input.specs.Inputs.{Walk, packets_in, Took}
 use Rattle.capture_input.specs.Reading.{Behind, head_in}
 use Rattle.norm_settings.specs.Settings.{PlainSettings}
-use Rattle.record_relay.specs.declared.engines.Engines.{Engines}
-use Rattle.record_relay.specs.Outputs.{Given}
-use Rattle.record_relay.specs.Puts.{count_put, puts}
-use Rattle.record_relay.specs.Relays.{StandsForRun, link_of, settings_of}
-use Rattle.record_relay.specs.Runs.{LawfulRun, RunHasNoSide, RunHasOctets, RunTrace, packets_of}
+use Rattle.both_sides.specs.declared.engines.Engines.{Engines}
+use Rattle.both_sides.specs.Outputs.{Given}
+use Rattle.both_sides.specs.Puts.{count_put, puts}
+use Rattle.both_sides.specs.Relays.{StandsForRun, link_of, settings_of}
+use Rattle.both_sides.specs.Runs.{LawfulRun, RunHasNoSide, RunHasOctets, RunTrace, packets_of}
 use Rattle.bridge_run.specs.Moments.{Moment, NoneRose}
 use Rattle.bridge_run.specs.Outputs.{outputs_of}
 use Rattle.bridge_run.specs.Run.{IsFew}

@@ -17,7 +17,7 @@ use Rattle.norm_engine.specs.Engine.{Engaged, StandsFor}
 use Rattle.load_make.specs.Generated.{Generated, record_at}
 use Rattle.load_make.specs.Loads.{Making}
 use Rattle.bridge_run.specs.declared.tally.Tally.{Tally}
-use Rattle.record_relay.specs.Frames.{frame_count}
+use Rattle.both_sides.specs.Frames.{frame_count}
 use Rattle.bridge_run.specs.Summary.{load_settings, eras_of, eras_begun, rules_named, rule_counts, rule_line}
 use Rattle.bridge_run.specs.Loads.{Counts, IsTallied, SumsUp, lines_of}
 

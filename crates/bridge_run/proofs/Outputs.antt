@@ -10,12 +10,12 @@ use Rattle.pcap_file.specs.declared.order.Order.TheVariants.{Little, Big}
 use Rattle.pcap_file.specs.Heads.{head_octets}
 use Rattle.wire_base.specs.declared.address.Link.{Link}
 use Rattle.rule_book.specs.declared.last.StopKind.TheVariants as kinds
-use Rattle.record_relay.specs.declared.fault.RelayFault.TheVariants as faults
-use Rattle.record_relay.specs.Outputs.{Output, to_capture, to_report, capture_hands_on, report_hands_on, cut, capture_part, report_part, Given, heading}
-use Rattle.record_relay.specs.Outputs as relayed
-use Rattle.record_relay.specs.Puts.{Put, octets_put, put_octets, text_put}
-use Rattle.record_relay.specs.Sinks.{Sinks}
-use Rattle.record_relay.proofs.Outputs as puts
+use Rattle.both_sides.specs.declared.fault.RelayFault.TheVariants as faults
+use Rattle.both_sides.specs.Outputs.{Output, to_capture, to_report, capture_hands_on, report_hands_on, cut, capture_part, report_part, Given, heading}
+use Rattle.both_sides.specs.Outputs as relayed
+use Rattle.both_sides.specs.Puts.{Put, octets_put, put_octets, text_put}
+use Rattle.both_sides.specs.Sinks.{Sinks}
+use Rattle.both_sides.proofs.Outputs as puts
 use Rattle.bridge_run.specs.declared.stop.Stop.{Stop}
 use Rattle.bridge_run.specs.declared.stop.Stop.TheVariants as stops
 use Rattle.bridge_run.specs.Outputs.{BreaksOff, outputs_of, stop_by}

@@ -6,9 +6,9 @@ use Rattle.capture_input.specs.declared.fault.InputFault.TheVariants as faults
 use Rattle.capture_input.specs.Faults.{is_read_fault}
 use Rattle.norm_settings.specs.Settings.{PlainSettings}
 use Rattle.bridge_run.specs.declared.stop.Stop.{Stop}
-use Rattle.record_relay.specs.declared.fault.RelayFault.{RelayFault}
-use Rattle.record_relay.specs.declared.fault.RelayFault.TheVariants as sinks
-use Rattle.record_relay.specs.Sinks.{NoSinkRose, OnlyRose}
+use Rattle.both_sides.specs.declared.fault.RelayFault.{RelayFault}
+use Rattle.both_sides.specs.declared.fault.RelayFault.TheVariants as sinks
+use Rattle.both_sides.specs.Sinks.{NoSinkRose, OnlyRose}
 use Rattle.bridge_run.specs.Moments.{Moment, NoneRose}
 use Rattle.bridge_run.specs.Outputs.{stop_by}
 use Rattle.bridge_run.specs.Stops.{Faulted, FirstFault, status_of, stop_at_fault}

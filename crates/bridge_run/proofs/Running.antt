@@ -18,16 +18,16 @@ use Rattle.rule_book.specs.declared.last.Last.TheVariants.{End}
 use Rattle.rule_book.specs.Text.{last_text}
 use Rattle.norm_settings.specs.Settings.{AreInRange, GoTogether, PlainSettings}
 use Rattle.norm_engine.specs.Items.{Item, packets}
-use Rattle.record_relay.specs.declared.engines.Engines.{Engines}
-use Rattle.record_relay.specs.declared.engines.Engines.TheVariants.{One, Two}
-use Rattle.record_relay.specs.declared.fault.RelayFault.{RelayFault}
-use Rattle.record_relay.specs.Laws.{Begins, GoesOn, RunIsWrittenSoundly, RunsAreWrittenSoundly, RunsBegin, RunsGoOn}
-use Rattle.record_relay.specs.Outputs.{Given, heading}
-use Rattle.record_relay.specs.Outputs as relayed
-use Rattle.record_relay.specs.Puts.{Put, count_put, next_put, puts, put_outputs, text_put}
-use Rattle.record_relay.specs.Relays.{StandsForRun, is_full_of, link_of, most_records, records_of, settings_of}
-use Rattle.record_relay.specs.Runs.{LawfulRun, RunHasNoSide, RunHasOctets, RunTrace, empty_run, next_run, one, packets_of, trace_in, two}
-use Rattle.record_relay.specs.Steps.{IsWritten}
+use Rattle.both_sides.specs.declared.engines.Engines.{Engines}
+use Rattle.both_sides.specs.declared.engines.Engines.TheVariants.{One, Two}
+use Rattle.both_sides.specs.declared.fault.RelayFault.{RelayFault}
+use Rattle.both_sides.specs.RelayLaws.{Begins, GoesOn, RunIsWrittenSoundly, RunsAreWrittenSoundly, RunsBegin, RunsGoOn}
+use Rattle.both_sides.specs.Outputs.{Given, heading}
+use Rattle.both_sides.specs.Outputs as relayed
+use Rattle.both_sides.specs.Puts.{Put, count_put, next_put, puts, put_outputs, text_put}
+use Rattle.both_sides.specs.Relays.{StandsForRun, is_full_of, link_of, most_records, records_of, settings_of}
+use Rattle.both_sides.specs.Runs.{LawfulRun, RunHasNoSide, RunHasOctets, RunTrace, empty_run, next_run, one, packets_of, trace_in, two}
+use Rattle.both_sides.specs.Steps.{IsWritten}
 use Rattle.bridge_run.specs.declared.stop.Stop.{Stop}
 use Rattle.bridge_run.specs.Moments.{Moment, NoneRose}
 use Rattle.bridge_run.specs.Outputs.{BreaksOff, end_outputs, outputs_of, stop_by}

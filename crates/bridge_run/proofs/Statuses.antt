@@ -9,7 +9,7 @@ use Rattle.capture_input.specs.Laws.{FaultExcludesEnd, FaultIsOne, HeadStopsAreF
 use Rattle.capture_input.specs.Reads.{StopsInHead}
 use Rattle.rule_book.specs.declared.last.StopKind.TheVariants as kinds
 use Rattle.norm_settings.specs.Settings.{PlainSettings}
-use Rattle.record_relay.specs.Runs.{packets_of}
+use Rattle.both_sides.specs.Runs.{packets_of}
 use Rattle.bridge_run.specs.declared.stop.Stop.{Stop}
 use Rattle.bridge_run.specs.declared.stop.Stop.TheVariants as stops
 use Rattle.bridge_run.specs.Moments.{Moment}

@@ -4,7 +4,7 @@ use Rattle.std.proofs.KnownBytes.{Appends-nil}
 use Rattle.edge_io.specs.Faults.{HasCause}
 use Rattle.edge_io.specs.Octets.{Flushes, AppendsPart}
 use Rattle.std.specs.Io.KnownBytes.{Appends}
-use Rattle.record_relay.specs.Sinks.{Seen}
+use Rattle.both_sides.specs.Sinks.{Seen}
 use Rattle.bridge_run.specs.Stops.{Kept, Told}
 
 -- a line that was given after the sink was flushed

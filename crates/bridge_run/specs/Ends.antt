@@ -2,7 +2,7 @@
 use Rattle.std.specs.Prelude.{ℕ, List, [], Result, OnOk, IfErr, IfOk}
 use Rattle.norm_settings.specs.Settings.{PlainSettings}
 use Rattle.capture_input.specs.declared.input.Input.{Input}
-use Rattle.record_relay.specs.Sinks.{Sinks}
+use Rattle.both_sides.specs.Sinks.{Sinks}
 use Rattle.bridge_run.specs.declared.stop.Stop.{Stop}
 use Rattle.bridge_run.specs.Moments.{Moment}
 use Rattle.bridge_run.specs.Outputs.{BreaksOff, end_outputs}

@@ -6,12 +6,12 @@ use Rattle.pcap_file.specs.Heads.{head_octets}
 use Rattle.rule_book.specs.declared.last.Last.TheVariants.{End}
 use Rattle.rule_book.specs.declared.last.StopKind.TheVariants as kinds
 use Rattle.rule_book.specs.Text.{last_text}
-use Rattle.record_relay.specs.declared.fault.RelayFault.{RelayFault}
-use Rattle.record_relay.specs.declared.fault.RelayFault.TheVariants as faults
-use Rattle.record_relay.specs.Outputs.{Output, to_capture, to_report, capture_hands_on, report_hands_on, heading}
-use Rattle.record_relay.specs.Outputs as relayed
-use Rattle.record_relay.specs.Puts.{Put, put_outputs}
-use Rattle.record_relay.specs.Sinks.{Sinks}
+use Rattle.both_sides.specs.declared.fault.RelayFault.{RelayFault}
+use Rattle.both_sides.specs.declared.fault.RelayFault.TheVariants as faults
+use Rattle.both_sides.specs.Outputs.{Output, to_capture, to_report, capture_hands_on, report_hands_on, heading}
+use Rattle.both_sides.specs.Outputs as relayed
+use Rattle.both_sides.specs.Puts.{Put, put_outputs}
+use Rattle.both_sides.specs.Sinks.{Sinks}
 use Rattle.bridge_run.specs.declared.stop.Stop.{Stop}
 use Rattle.bridge_run.specs.declared.stop.Stop.TheVariants as stops
 

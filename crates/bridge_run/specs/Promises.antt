@@ -10,11 +10,12 @@ use Rattle.norm_engine.specs.Laws.{IsAlwaysWithin}
 use Rattle.norm_engine.specs.Sending.{ArePlainInwards, HasShortFrames}
 use Rattle.both_sides.specs.Laws.{InwardGoesThrough}
 use Rattle.both_sides.specs.Traces.{mirrored}
-use Rattle.record_relay.specs.Cut.{AgreeAsWritten, CleanIsWritten, NoneIsLong, written}
-use Rattle.record_relay.specs.Runs.{RunTrace, one, two}
+use Rattle.both_sides.specs.Cut.{AgreeAsWritten, CleanIsWritten, NoneIsLong, written}
+use Rattle.both_sides.specs.Runs.{RunTrace, one, two}
 
--- In each era any two receivers of the family deliver streams of which one is a prefix of the other, whichever of the frames written inwards reach them in time,
--- how often and in which order. If both sides are protected, that holds of either side, since frames of the first engine to the inside pass the second unchanged.
+-- In each era any two receivers of the family that start at the same offset deliver streams of which one is a prefix of the other, whichever of the frames
+-- written inwards reach them in time, how often and in which order. If both sides are protected, that holds of either side, since frames of the first engine to
+-- the inside pass the second unchanged.
 abbrev pub ReceiversAgree : PlainSettings → Link → RunTrace → Type 0
 ReceiversAgree settings link (one trace) = AgreeAsWritten settings link trace
 ReceiversAgree settings link (two trace mirror) = Agree settings.hops link trace × Agree settings.hops link mirror × InwardGoesThrough trace mirror

@@ -18,10 +18,10 @@ use Rattle.norm_settings.specs.declared.fault.WordFault.{WordFault}
 use Rattle.norm_settings.specs.Settings.{PlainSettings}
 use Rattle.norm_settings.specs.Faults.{number_of}
 use Rattle.norm_settings.specs.Asked.{asked}
-use Rattle.record_relay.specs.Outputs.{heading}
-use Rattle.record_relay.specs.Puts.{Put, count_put, next_put, octets_put, put_octets, puts, text_put}
-use Rattle.record_relay.specs.Runs.{LawfulRun, RunTrace, next_run, packets_of}
-use Rattle.record_relay.specs.Sinks.{Seen}
+use Rattle.both_sides.specs.Outputs.{heading}
+use Rattle.both_sides.specs.Puts.{Put, count_put, next_put, octets_put, put_octets, puts, text_put}
+use Rattle.both_sides.specs.Runs.{LawfulRun, RunTrace, next_run, packets_of}
+use Rattle.both_sides.specs.Sinks.{Seen}
 use Rattle.bridge_run.specs.Moments.{Moment}
 use Rattle.bridge_run.specs.Run.{AsksRun, IsFew}
 use Rattle.bridge_run.specs.Stops.{fault_kind, is_faulty, words_line}

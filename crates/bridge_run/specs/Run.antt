@@ -8,9 +8,9 @@ use Rattle.norm_settings.specs.Settings.{PlainSettings}
 use Rattle.norm_settings.specs.Faults.{number_of}
 use Rattle.norm_settings.specs.Asked.{PlainNames, asked}
 use Rattle.norm_settings.specs.Asked as command
-use Rattle.record_relay.specs.Outputs.{Given}
-use Rattle.record_relay.specs.Runs.{RunTrace, packets_of}
-use Rattle.record_relay.specs.Sinks.{Sinks, NoSinkRose}
+use Rattle.both_sides.specs.Outputs.{Given}
+use Rattle.both_sides.specs.Runs.{RunTrace, packets_of}
+use Rattle.both_sides.specs.Sinks.{Sinks, NoSinkRose}
 use Rattle.bridge_run.specs.Moments.{Moment, NoneRose}
 use Rattle.bridge_run.specs.Outputs.{outputs_of, end_outputs}
 use Rattle.bridge_run.specs.Stops.{Told, words_line}

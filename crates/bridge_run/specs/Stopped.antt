@@ -13,9 +13,9 @@ use Rattle.norm_settings.specs.declared.fault.WordFault.{WordFault}
 use Rattle.norm_settings.specs.Settings.{PlainSettings}
 use Rattle.norm_settings.specs.Faults.{number_of}
 use Rattle.norm_settings.specs.Asked.{asked}
-use Rattle.record_relay.specs.Outputs.{Given}
-use Rattle.record_relay.specs.Puts.{count_put, next_put, put_outputs, puts}
-use Rattle.record_relay.specs.Runs.{LawfulRun, RunTrace, next_run, packets_of}
+use Rattle.both_sides.specs.Outputs.{Given}
+use Rattle.both_sides.specs.Puts.{count_put, next_put, put_outputs, puts}
+use Rattle.both_sides.specs.Runs.{LawfulRun, RunTrace, next_run, packets_of}
 use Rattle.bridge_run.specs.declared.stop.Stop.{Stop}
 use Rattle.bridge_run.specs.declared.stop.Stop.TheVariants as stops
 use Rattle.bridge_run.specs.Moments.{Moment, NoneRose}

@@ -13,7 +13,7 @@ use Rattle.rule_book.specs.declared.last.StopKind.{StopKind}
 use Rattle.rule_book.specs.declared.last.StopKind.TheVariants as kinds
 use Rattle.rule_book.specs.Text.{last_text}
 use Rattle.norm_settings.specs.Settings.{PlainSettings}
-use Rattle.record_relay.specs.Sinks.{Seen, Sinks}
+use Rattle.both_sides.specs.Sinks.{Seen, Sinks}
 use Rattle.bridge_run.specs.declared.stop.Stop.{Stop}
 use Rattle.bridge_run.specs.declared.stop.Stop.TheVariants as stops
 use Rattle.bridge_run.specs.Moments.{Moment}
@@ -136,7 +136,7 @@ abbrev pub WasFaulty : PlainSettings → (source : Option (List ℕ)) → Type 0
 WasFaulty settings source =
     ((fault : InputFault) × (offset : ℕ) × (is_faulty fault ≡ true) × HasFaultAt settings.inside source fault offset) ⊎ ((offset : ℕ) × WasTooMany settings source offset)
 
--- If the octets of the source are known, they began with a head that is accepted, and at least its octets were taken.
+-- If the octets of the source are known, those taken are an accepted head and whole records or blocks behind it.
 abbrev pub TookHead : PlainSettings → (source source' : Option (List ℕ)) → Type 0
 TookHead settings source source' = (head : Head) × (walk : Walk) × Took settings.inside source source' head walk
 

@@ -17,8 +17,8 @@ use Rattle.norm_settings.specs.Asked.{asked, load}
 use Rattle.norm_engine.specs.Items.{Item, packets}
 use Rattle.norm_engine.specs.Trace.{Lawful}
 use Rattle.load_make.specs.Generated.{Generated}
-use Rattle.record_relay.specs.Frames.{frame_count}
-use Rattle.record_relay.specs.Sinks.{Seen}
+use Rattle.both_sides.specs.Frames.{frame_count}
+use Rattle.both_sides.specs.Sinks.{Seen}
 use Rattle.bridge_run.specs.declared.tally.RuleCount.{RuleCount}
 use Rattle.bridge_run.specs.Stops.{Told, memory_line}
 

@@ -7,8 +7,8 @@ use Rattle.pcap_file.specs.Heads.{head_octets}
 use Rattle.capture_input.specs.Inputs.{TookAll, TakenWhole}
 use Rattle.rule_book.specs.declared.last.Last.TheVariants.{End}
 use Rattle.norm_settings.specs.Settings.{PlainSettings}
-use Rattle.record_relay.specs.Puts.{count_put, octets_put, puts, report_of}
-use Rattle.record_relay.specs.Runs.{LawfulRun, RunHasOctets, RunTrace, packets_of}
+use Rattle.both_sides.specs.Puts.{count_put, octets_put, puts, report_of}
+use Rattle.both_sides.specs.Runs.{LawfulRun, RunHasOctets, RunTrace, packets_of}
 use Rattle.bridge_run.specs.Promises.{CleanKeepPayload, FramesFit, HaveTimes, InwardArePlain, ReceiversAgree, StateIsBounded}
 
 -- A capture was normalized under these settings. Of the source there are the octets left before the run and after it (source'), of each sink the octets held
@@ -17,14 +17,15 @@ pub record Normalized (settings : PlainSettings) (source source' capture capture
   -- the head of the capture, and the trace of its records: by one engine, or by two if both sides are protected
   pub head : Head
   pub run : RunTrace
-  -- In each era any two receivers of the family deliver streams of which one is a prefix of the other, whichever of the frames written inwards reach them in
-  -- time, how often and in which order.
+  -- In each era any two receivers of the family that start at the same offset deliver streams of which one is a prefix of the other, whichever of the frames
+  -- written inwards reach them in time, how often and in which order.
   pub agree : ReceiversAgree settings head.link run
   -- The trace is the lawful one: each record has the entry and the frames that the rules require, and each drop and rewrite names a rule whose condition holds.
   pub lawful : LawfulRun settings head.link run
   -- Before the first record and after each, no more state is held than the settings allow, counted from the trace.
   pub within : StateIsBounded settings head.link run
-  -- Each record whose payload no rule touches (`is_clean` in norm_engine) keeps it.
+  -- Each record whose payload no rule of the engine touches (`is_clean` in norm_engine) keeps it, in one frame or in segments; with an MTU unless its frame is
+  -- too long and cannot be cut.
   pub clean : CleanKeepPayload settings head.link run
   -- Each frame written inwards is plain (`Plain` in receiver_model), except ARP.
   pub plain : InwardArePlain settings head.link run

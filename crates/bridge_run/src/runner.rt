@@ -2,10 +2,10 @@
 ghost use Rattle.std.specs.Prelude.{◌≡◌, ◌⊎◌, ◌≤◌, [], length, map, option_map, string_bytes, vec_len, IfOk, IfErr, IfSome, OnOk};
 ghost use Rattle.edge_io.specs.Faults.{Rose};
 ghost use Rattle.norm_settings.specs.Settings.{plain_settings, AreInRange, GoTogether};
-ghost use Rattle.record_relay.specs.Outputs.{heading};
-ghost use Rattle.record_relay.specs.Relays.{StandsForRun, settings_of};
-ghost use Rattle.record_relay.specs.Runs.{empty_run};
-ghost use Rattle.record_relay.specs.Sinks.{sinks_of};
+ghost use Rattle.both_sides.specs.Outputs.{heading};
+ghost use Rattle.both_sides.specs.Relays.{StandsForRun, settings_of};
+ghost use Rattle.both_sides.specs.Runs.{empty_run};
+ghost use Rattle.both_sides.specs.Sinks.{sinks_of};
 ghost use Rattle.bridge_run.specs.Moments.{moment_of};
 ghost use Rattle.bridge_run.specs.Moments as moments;
 ghost use Rattle.bridge_run.specs.Ends as ends;
@@ -19,6 +19,8 @@ use crate::stop::{
     Stop, stop_at_capture, stop_at_fault, stop_at_sink, stop_at_too_many, tell_memory, tell_stop,
     tell_words,
 };
+use both_sides::Relay;
+use both_sides::relay_laws::{runs_are_written_soundly, runs_go_on};
 use capture_input::Input;
 use capture_input::laws::{
     fault_excludes_end, fault_is_one, head_stops_are_faults, nothing_is_left, stops_are_faults,
@@ -27,8 +29,6 @@ use capture_input::laws::{
 use edge_io::{NoMemory, Sink, Source};
 use norm_settings::{Command, Settings, WordFault, read_words};
 use pcap_file::{MAX_CAPTURED, write_head};
-use record_relay::Relay;
-use record_relay::laws::{runs_are_written_soundly, runs_go_on};
 use rule_book::{Last, last_line};
 use std::alloc::Global;
 
@@ -39,10 +39,10 @@ use std::alloc::Global;
 /// - 2 if the words are refused;
 /// - 3 for a fault of the head or of a block, a captured length above 262,144 octets, a record or
 ///   block after 2^32 - 1 others, a record after 2^31 - 1 others if both sides are protected, or a
-///   classic file if the words name the interface on the inside;
+///   classic file with a head that is accepted, if the words name the interface on the inside;
 /// - 4 for a capture that ends inside its head, a record or a block;
 /// - 5, 6 and 7 for a fault of the source, of the capture sink and of the report sink;
-/// - 8 if memory could not be allocated at opening.
+/// - 8 if memory could not be allocated for the words or at opening.
 ///
 /// The words do not contain the program's own name. Nothing is read before they are accepted, a
 /// fault stops the run, and what was written before it stays. A load touches neither the source nor
@@ -100,7 +100,7 @@ pub fn run<S: Source, K: Sink, R: Sink>(
     ensures complete { UnderWords (map string_bytes words.now) (λ settings. stops.IsWhole settings (S.left source.old))
         → (result ≡ 0) ⊎ (5 ≤ result) }
 
-    // At 7 the source is as it was, or a head was taken: a run that found no head stops with 3, 4 or 5.
+    // At 7 the source is as it was, or, if its octets are known, a head was taken.
     ensures untouched_or_opened { result ≡ 7 → (source.new ≡ source.old)
         ⊎ UnderWords (map string_bytes words.now) (λ settings. stops.TookHead settings (S.left source.old) (S.left source.new)) }
 
@@ -130,8 +130,8 @@ pub fn run<S: Source, K: Sink, R: Sink>(
 }
 
 /// Normalizes a capture under these settings, writes the report, and returns the status as `run`
-/// does; 2 is not returned. If both sides are protected, the settings have no exchanged sides, no
-/// interface on the inside and no MTU. The memory of the run is allocated first: the buffer of one
+/// does; 2 is not returned. Each number of the settings is in the range of its option. If both sides
+/// are protected, the settings have no exchanged sides, no interface on the inside and no MTU. The memory of the run is allocated first: the buffer of one
 /// record and the relay.
 pub fn run_capture<S: Source, K: Sink, R: Sink>(
     alloc: Global,

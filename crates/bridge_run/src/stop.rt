@@ -7,10 +7,10 @@ ghost use Rattle.rule_book.specs.declared.last.StopKind.TheVariants as kinds;
 ghost use Rattle.bridge_run.specs.Outputs as outputs;
 ghost use Rattle.bridge_run.specs.Stops as spec;
 
+use both_sides::RelayFault;
 use capture_input::InputFault;
 use edge_io::Sink;
 use norm_settings::WordFault;
-use record_relay::RelayFault;
 use rule_book::{Last, StopKind, last_line};
 
 /// Reason why a run stops before it has finished.

@@ -13,7 +13,7 @@ use Rattle.rule_book.specs.declared.last.Last.TheVariants.{End}
 use Rattle.rule_book.specs.Entries.{PlainEntry}
 use Rattle.rule_book.specs.Text.{ended_part, entry_text, era_part, first_line, last_text, lines_text, part, report_text, rule_parts, side_word, verdict_word}
 use Rattle.rule_book.proofs.Texts.{all-append}
-use Rattle.command_line.specs.Options.{number_within}
+use Rattle.norm_settings.specs.Options.{number_within}
 use Rattle.wire_base.specs.Prefixes.{is_number, number_of}
 use Rattle.norm_settings.specs.Settings.{PlainSettings}
 use Rattle.norm_engine.specs.Items.{Item, entries, packets}
@@ -21,11 +21,11 @@ use Rattle.norm_engine.specs.Clean.{HaveOctets}
 use Rattle.norm_engine.specs.Laws.{ItemsAreCounted}
 use Rattle.norm_engine.specs.Sending.{HasShortFrames}
 use Rattle.norm_engine.specs.Trace.{Lawful}
-use Rattle.record_relay.specs.Cut.{WrittenWhole, written}
-use Rattle.record_relay.specs.Frames.{frame_count, frames_octets, item_octets}
-use Rattle.record_relay.specs.Laws.{OnePutsItsTrace}
-use Rattle.record_relay.specs.Puts.{Put, count_put, octets_put, puts, report_of}
-use Rattle.record_relay.specs.Runs.{LawfulRun, RunHasOctets, RunTrace, one, packets_of, two}
+use Rattle.both_sides.specs.Cut.{WrittenWhole, written}
+use Rattle.both_sides.specs.Frames.{frame_count, frames_octets, item_octets}
+use Rattle.both_sides.specs.RelayLaws.{OnePutsItsTrace}
+use Rattle.both_sides.specs.Puts.{Put, count_put, octets_put, puts, report_of}
+use Rattle.both_sides.specs.Runs.{LawfulRun, RunHasOctets, RunTrace, one, packets_of, two}
 use Rattle.bridge_run.specs.Promises.{FramesFit, HaveTimes}
 use Rattle.run_audit.specs.declared.answer.Answer.TheVariants as answers
 use Rattle.run_audit.specs.Audited.{AnswersAreOne, IsYes, Says, Seen, ToldUnless, seen}

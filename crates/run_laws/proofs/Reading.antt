@@ -14,9 +14,9 @@ use Rattle.rule_book.proofs.Texts.{all-append}
 use Rattle.norm_settings.specs.Settings.{PlainSettings}
 use Rattle.norm_engine.specs.Items.{Item, packets}
 use Rattle.norm_engine.specs.Sending.{HasShortFrames}
-use Rattle.record_relay.specs.Cut.{written}
-use Rattle.record_relay.specs.Puts.{Put, answers_frames, octets_put, puts, puts_by_two, put_octets}
-use Rattle.record_relay.specs.Runs.{RunTrace, one, packets_of, two}
+use Rattle.both_sides.specs.Cut.{written}
+use Rattle.both_sides.specs.Puts.{Put, answers_frames, octets_put, puts, puts_by_two, put_octets}
+use Rattle.both_sides.specs.Runs.{RunTrace, one, packets_of, two}
 use Rattle.bridge_run.specs.Promises.{FramesFit, HaveTimes}
 use Rattle.run_laws.specs.ReadBack.{IsReadBack, ReadsOn, RunsAreReadBack, record_of, records_put}
 

@@ -2,7 +2,7 @@
 use Rattle.std.specs.Prelude.{◌≡◌, ◌⊎◌, ℕ, ◌≤◌, false, List, ◌++◌, length, Option, Some, None}
 use Rattle.edge_io.specs.Faults.{Rose}
 use Rattle.norm_settings.specs.Settings.{PlainSettings}
-use Rattle.record_relay.specs.Puts.{count_put, puts}
+use Rattle.both_sides.specs.Puts.{count_put, puts}
 use Rattle.bridge_run.specs.Theorem.{Normalized}
 use Rattle.run_audit.specs.declared.answer.Answer.{Answer}
 use Rattle.run_audit.specs.declared.answer.Answer.TheVariants.{Yes}
@@ -25,8 +25,8 @@ pub record IsAuditedYes (words : List (List ℕ)) (capture report : Seen) (frame
   pub returns : (old new : Option (List ℕ)) (before now status : ℕ) → TellsExactly words capture report old new before now status → NoneRose capture report before now
       → (status ≡ 0) ⊎ (status ≡ 8)
 
--- This holds of the two files that a finished run by one engine without an MTU wrote, after what they held before. The audit is asked for as many routers as the
--- run, and the report has at most the octets that an audit reads. Nothing is asked of the run's own capture.
+-- This holds of the two files that a finished run by one engine without an MTU wrote, after what they held before. The audit is asked for as many routers as
+-- the run, and the report has at most the octets that an audit reads. Nothing is asked of the run's own capture.
 abbrev pub RunsAreAuditedYes : Type 0
 RunsAreAuditedYes =
     (settings : PlainSettings) (source source' : Option (List ℕ)) (held capture told report : List ℕ) → settings.both ≡ false → settings.mtu ≡ None

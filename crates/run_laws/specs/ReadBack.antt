@@ -6,7 +6,7 @@ use Rattle.pcap_file.specs.Heads.{head_of}
 use Rattle.pcap_file.specs.Records.{Packet, front_of}
 use Rattle.pcap_file.specs.Capture.{IsCapture}
 use Rattle.norm_settings.specs.Settings.{PlainSettings}
-use Rattle.record_relay.specs.Puts.{Put, puts}
+use Rattle.both_sides.specs.Puts.{Put, puts}
 use Rattle.bridge_run.specs.Theorem.{Normalized}
 
 -- the record as which a written frame is read: the time of its input record, the length of the frame as both lengths, and no side
@@ -18,7 +18,8 @@ abbrev pub records_put : List Put → List Packet
 records_put [] = []
 records_put (put ∷ older) = reverse (map (record_of put) put.frames) ++ records_put older
 
--- Behind the head stand these records, and then `rest`. Each is read by the grammar of captures as if it were the first, so the limit on their number is left out.
+-- Behind the head stand these records, and then `rest`. Each is read by the grammar of captures as if it were the first, so the limit on their number is left
+-- out.
 abbrev pub ReadsOn : Order → (all : List ℕ) → List Packet → (rest : List ℕ) → Type 0
 ReadsOn order all [] rest = all ≡ rest
 ReadsOn order all (packet ∷ older) rest = (left : List ℕ) × ReadsOn order all older left × (front_of order 0 left ≡ Ok (Some (packet, rest)))
@@ -29,8 +30,8 @@ pub record IsReadBack (head : Head) (capture : List ℕ) (packets : List Packet)
   pub reads : ReadsOn head.order (drop 24 capture) packets []
   pub whole : length packets ≤ 4294967295 → IsCapture capture head packets
 
--- What a finished run wrote to its capture, after what that held before, is read back as the head and one record for each frame of the run, in order. This holds
--- with an MTU, of the segments of frames that are cut, and if both sides are protected, of the frames of the second engine.
+-- What a finished run wrote to its capture, after what that held before, is read back as the head and one record for each frame of the run, in order. This
+-- holds with an MTU, of the segments of frames that are cut, and if both sides are protected, of the frames of the second engine.
 abbrev pub RunsAreReadBack : Type 0
 RunsAreReadBack =
     (settings : PlainSettings) (source source' report report' : Option (List ℕ)) (held capture : List ℕ)

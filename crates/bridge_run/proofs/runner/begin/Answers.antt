@@ -6,8 +6,8 @@ use Rattle.pcap_file.specs.Heads.{head_octets}
 use Rattle.capture_input.specs.Reading.{head_in}
 use Rattle.capture_input.specs.Reads.{OpensAt, StopsInHead}
 use Rattle.norm_settings.specs.Settings.{plain_settings}
-use Rattle.record_relay.specs.Sinks.{sinks_of}
-use Rattle.record_relay.proofs.Outputs.{part_of, whole_of}
+use Rattle.both_sides.specs.Sinks.{sinks_of}
+use Rattle.both_sides.proofs.Outputs.{part_of, whole_of}
 use Rattle.bridge_run.specs.Moments.{Moment, moment_of}
 use Rattle.bridge_run.specs.Outputs.{first_outputs}
 use Rattle.bridge_run.specs.Stopped.{StopsAtHead}

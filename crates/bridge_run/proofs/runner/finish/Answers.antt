@@ -1,5 +1,5 @@
 use Rattle.std.proofs.Common.{refl, rules}
-use Rattle.record_relay.proofs.Outputs.{part_of, whole_of}
+use Rattle.both_sides.proofs.Outputs.{part_of, whole_of}
 use Rattle.bridge_run.proofs.Outputs.{untold, handing_broke, last_broke, flush_broke}
 use Rattle.bridge_run.proofs.Telling.{flush_keeps}
 use Rattle.bridge_run.proofs.runner.finish.Goals as goal

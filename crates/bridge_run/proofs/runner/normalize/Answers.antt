@@ -3,8 +3,8 @@ use Rattle.std.proofs.lemmas.Result.{on_ok_weaker}
 use Rattle.std.specs.declared.option.Option.{Option}
 use Rattle.capture_input.specs.Reading.{Behind}
 use Rattle.norm_settings.specs.Settings.{PlainSettings, plain_settings}
-use Rattle.record_relay.specs.Relays.{StandsForRun, is_full_of}
-use Rattle.record_relay.specs.Runs.{empty_run}
+use Rattle.both_sides.specs.Relays.{StandsForRun, is_full_of}
+use Rattle.both_sides.specs.Runs.{empty_run}
 use Rattle.bridge_run.specs.Moments.{Moment, moment_of}
 use Rattle.bridge_run.specs.Run.{Ended}
 use Rattle.bridge_run.specs.Stops.{status_of}

@@ -1,7 +1,7 @@
 use Rattle.std.proofs.Common.{◌≡◌, ◌≤◌, ◌-◌, ◌^◌, true, length}
 use Rattle.capture_input.specs.Reading.{is_open_in}
 use Rattle.norm_settings.specs.Settings.{plain_settings}
-use Rattle.record_relay.specs.Relays.{records_of}
+use Rattle.both_sides.specs.Relays.{records_of}
 use Rattle.bridge_run.specs.Moments.{moment_of}
 use Rattle.bridge_run.proofs.Going.{Going}
 use Rattle.bridge_run.proofs.runner.normalize.Given as goal
