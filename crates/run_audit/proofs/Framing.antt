@@ -8,7 +8,7 @@ use Rattle.wire_base.specs.Frames.{packet_in}
 use Rattle.pcap_file.specs.declared.head.Head.{Head}
 use Rattle.pcap_file.specs.declared.order.Order.{Order}
 use Rattle.pcap_file.specs.Records.{Packet, front_of}
-use Rattle.pcap_file.specs.Capture.{ReadsTo, Took, offset_of}
+use Rattle.pcap_file.specs.Capture.{ReadsTo, offset_of}
 use Rattle.pcap_file.specs.Reads.{Leaves, HasEnd, Advances}
 use Rattle.pcap_file.specs.Reading.{Reading}
 use Rattle.rule_book.specs.Entries.{PlainEntry}
@@ -22,6 +22,12 @@ use Rattle.run_audit.specs.Faults.{IsFirstReason}
 use Rattle.run_audit.specs.FirstFault.{AreFaultless, FailsNext, FirstFault}
 use Rattle.run_audit.specs.Frames.{Frame, frame_of, owners, with_frame, owned, sent}
 use Rattle.run_audit.specs.Owned.{left_of}
+
+-- If a source has known octets, these records, the newest first, were taken from those after the head.
+abbrev pub Took : Order → (old new : Option (List ℕ)) → List Packet → Type 0
+Took order None new packets = Unit {0}
+Took order (Some all) None packets = ⊥
+Took order (Some all) (Some rest) packets = ReadsTo order all packets rest
 
 -- The frames that were judged have no fault: the states of the eras, the entries that are left, and the position of the reader.
 pub record GoesOn (hops : ℕ) (head : Head) (entries : List PlainEntry) (old now : Option (List ℕ)) (eras : Eras) (left : Owners) (reader : Reading) (frames : ℕ) : Type 0 where

@@ -1,6 +1,6 @@
 -- The words of an audit (this project's profile). A word is the list of its octets.
 use Rattle.std.specs.Prelude.{ℕ, ◌&&◌, nat_lt, nat_le, List, [], ◌∷◌, length, Option, None, if◌then◌else◌}
-use Rattle.command_line.specs.Options.{number_within}
+use Rattle.norm_settings.specs.Options.{number_within}
 
 -- the number of a word of 1 to 3 digits, at most 254
 abbrev pub hops_of : List ℕ → Option ℕ

@@ -53,13 +53,13 @@ pub fn audit<C: Source, R: Source, K: Sink>(
         (seen (R.left report.old) (R.fault_count report.old) (R.fault_count report.new))
         (K.held out.old) (K.held out.new) (K.fault_count out.old) (K.fault_count out.new) result }
 
-    // At 0 all receivers agree, whoever wrote the two files.
+    // At 0 all receivers agree, whoever wrote the two files, if the octets of both are known.
     ensures agreement { result ≡ 0 → WhereRead (map string_bytes words.now)
         (seen (C.left capture.old) (C.fault_count capture.old) (C.fault_count capture.new))
         (seen (R.left report.old) (R.fault_count report.old) (R.fault_count report.new))
         FramesAgree }
 
-    // The one answer that holds is written, unless memory could not be allocated or a source failed.
+    // The one answer that holds is written, unless memory could not be allocated, or a source or the output failed.
     ensures exactly { TellsExactly (map string_bytes words.now)
         (seen (C.left capture.old) (C.fault_count capture.old) (C.fault_count capture.new))
         (seen (R.left report.old) (R.fault_count report.old) (R.fault_count report.new))

@@ -2,7 +2,7 @@
 ghost use Rattle.std.specs.Prelude.{◌≡◌, map, string_bytes};
 ghost use Rattle.run_audit.specs.Words.{asked};
 
-use command_line::number_within;
+use norm_settings::number_within;
 
 /// Returns the number of routers behind the bridge, or None unless the words are two names that are not empty and a
 /// number of 1 to 3 digits, at most 254.
