@@ -1,17 +1,21 @@
--- What differs between a record and a frame that was written for it: the fields in which they say something else, in order, with what both say.
+-- What differs between a record and a frame that was written for it: the fields in which they say something else, in order, with what both say. A frame that
+-- norm made itself is not compared: it has one change of its own.
 use Rattle.std.specs.Prelude.{ℕ, suc, ◌+◌, ◌-◌, ◌^◌, ◌%◌, ◌==◌, nat_le, Bool, true, false, List, [], ◌∷◌, map, length, take, drop, Option, option_map, string_bytes, if◌then◌else◌}
 use Rattle.std.specs.List.{flat_map}
 use Rattle.std.specs.Str.{bytes_eq}
 use Rattle.hex.specs.Hex.{encode_lower}
 use Rattle.wire_base.specs.declared.address.Link.{Link}
+use Rattle.frame_view.specs.Flows.{flow_in, length_in}
 use Rattle.frame_view.specs.Parts.{payload_of}
 use Rattle.frame_view.specs.Readings.{fields, reading}
 use Rattle.frame_view.specs.declared.change.Change.{Change}
-use Rattle.frame_view.specs.declared.change.Change.TheVariants.{InField, InPayload}
+use Rattle.frame_view.specs.declared.change.Change.TheVariants.{InField, InPayload, Made as MadeFrame}
+use Rattle.frame_view.specs.declared.change.Made.{Made}
 use Rattle.frame_view.specs.declared.change.PayloadChange.{PayloadChange}
 use Rattle.frame_view.specs.declared.change.Replaced.{Replaced}
 use Rattle.frame_view.specs.declared.field.Field.{Field}
 use Rattle.frame_view.specs.declared.field.Field.TheVariants.{Sequence, Payload}
+use Rattle.frame_view.specs.declared.flow.Flow.{Flow}
 use Rattle.frame_view.specs.Texts.{reading_text}
 
 -- a run of octets that were replaced by as many others: the offset of the first, and both in hexadecimal digits
@@ -27,10 +31,12 @@ pub record PlainPayload : Type 0 where
   pub longer : ℕ
   pub replaced : List PlainReplaced
 
--- what differs in one field: the number of the frame, and the texts of both values, where there is one; the payload has a form of its own
+-- what differs in one field: the number of the frame, and the texts of both values, where there is one; the payload has a form of its own; or what a frame is
+-- that norm made itself: its number and kind, what its headers say, and the number of octets of its payload
 pub data PlainChange : Type 0 where
   in_field : (frame : ℕ) → Field → (from to : Option (List ℕ)) → PlainChange
   in_payload : (frame : ℕ) → PlainPayload → PlainChange
+  in_made : (frame : ℕ) → Made → Option Flow → (octets : ℕ) → PlainChange
 
 abbrev pub plain_replaced : Replaced → PlainReplaced
 plain_replaced run = record { at = run.at; from = string_bytes run.from; to = string_bytes run.to }
@@ -42,6 +48,7 @@ plain_payload change = record { front = change.front; end = change.end; longer =
 abbrev pub plain : Change → PlainChange
 plain (InField frame field from to) = in_field frame field (option_map string_bytes from) (option_map string_bytes to)
 plain (InPayload frame change) = in_payload frame (plain_payload change)
+plain (MadeFrame frame kind flow octets) = in_made frame kind flow octets
 
 -- how many octets at the front of two lists differ
 abbrev pub differing : List ℕ → List ℕ → ℕ
@@ -103,3 +110,7 @@ changes_in link number octets frame field =
 -- what differs between a record and the frame of this number: the fields in which they say something else, in order
 abbrev pub changes_of : Link → (number : ℕ) → (octets frame : List ℕ) → List PlainChange
 changes_of link number octets frame = flat_map (changes_in link number octets frame) fields
+
+-- the change of a frame of this number and kind that norm made itself: what its headers say, and how many octets its payload has
+abbrev pub made_of : Link → (number : ℕ) → (frame : List ℕ) → Made → PlainChange
+made_of link number frame kind = in_made number kind (flow_in link frame) (length_in link frame)

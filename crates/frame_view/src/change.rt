@@ -1,16 +1,16 @@
 //! What differs between a record and a frame that was written for it.
-ghost use Rattle.std.specs.Prelude.{◌≡◌, ◌++◌, map, OnOk, IfOk};
-ghost use Rattle.frame_view.specs.Changes.{changes_of, plain};
+ghost use Rattle.std.specs.Prelude.{◌≡◌, ◌++◌, ◌∷◌, [], map, OnOk, IfOk};
+ghost use Rattle.frame_view.specs.Changes.{changes_of, made_of, plain};
 ghost use Rattle.frame_view.specs.Changes as spec;
 ghost use Rattle.frame_view.specs.Readings.{reading};
 ghost use Rattle.frame_view.specs.Shapes.{AreAlike, plain_reading};
 ghost use Rattle.std.specs.Str.{bytes_eq};
 
-use crate::Field;
 use crate::field::FIELDS;
 use crate::payload::payload_change;
 use crate::reading::{Reading, read_field};
 use crate::text::text_of;
+use crate::{Field, Flow, flow_of, length_of};
 use edge_io::NoMemory;
 use std::alloc::Global;
 use wire_base::Link;
@@ -38,7 +38,17 @@ pub struct PayloadChange {
     pub replaced: Vec<Replaced>,
 }
 
-/// What differs in one field; `frame` is the number of the frame, from 1.
+/// The kinds of frames that norm makes itself, which are not compared with a record.
+#[derive(Clone, Copy, Debug, PartialEq, Eq)]
+pub enum Made {
+    /// A keep-alive, written instead of the record or behind a RST.
+    Probe,
+    /// A datagram that fragments were reassembled into, or a part of it.
+    Datagram,
+}
+
+/// What differs in one field, or what a frame is that norm made itself; `frame` is the number of
+/// the frame, from 1.
 #[derive(Debug, Drop)]
 pub enum Change {
     /// The texts of what the record and the frame say, None where they say nothing.
@@ -52,6 +62,14 @@ pub enum Change {
     InPayload {
         frame: u32,
         payload: PayloadChange,
+    },
+    /// Norm made the frame itself: what its headers say, None where no IPv4 header can be read, and
+    /// the number of octets behind the last header that can be read.
+    Made {
+        frame: u32,
+        kind: Made,
+        flow: Option<Flow>,
+        length: u64,
     },
 }
 
@@ -145,5 +163,25 @@ pub fn add_changes(
     for field in FIELDS {
         add_change(alloc, &pair, field, changes)?;
     }
+    Ok(())
+}
+
+/// Adds what the headers of a frame say that norm made itself, with its number and kind.
+pub fn add_made(
+    link: Link,
+    frame: &[u8],
+    number: u32,
+    kind: Made,
+    changes: &mut Vec<Change>,
+) -> Result<(), NoMemory>
+    ensures { OnOk result (map plain changes.new.items ≡ map plain changes.old.items ++ (made_of link number frame.now kind ∷ [])) }
+{
+    let made = Change::Made {
+        frame: number,
+        kind,
+        flow: flow_of(link, frame),
+        length: length_of(link, frame),
+    };
+    changes.push(made)?;
     Ok(())
 }

@@ -1,14 +1,14 @@
 -- No object of a line has a float.
-use Rattle.std.proofs.Common.{◌≡◌, ℕ, Bool, true, false, List, [], ◌∷◌, ◌++◌, Option, Some, None, option_map, refl}
-use Rattle.serde_json.specs.Data.{Data, string, no_members}
+use Rattle.std.proofs.Common.{◌≡◌, ℕ, false, List, [], ◌∷◌, ◌++◌, Option, Some, None, refl}
+use Rattle.serde_json.specs.Data.{Data, no_members}
 use Rattle.serde_json.specs.Written.{has_float, members_have_float}
 use Rattle.wire_base.specs.declared.address.Addr.{Addr}
 use Rattle.wire_base.specs.declared.address.Side.{Side}
 use Rattle.wire_base.specs.declared.flags.Flags.{Flags}
 use Rattle.rule_book.specs.Entries.{PlainEntry}
-use Rattle.frame_view.specs.Changes.{PlainChange, in_field, in_payload}
+use Rattle.frame_view.specs.Changes.{PlainChange, in_field, in_made, in_payload}
 use Rattle.frame_view.specs.declared.flow.Flow.{Flow}
-use Rattle.view_text.specs.Json.{address_or_null, array_of, change_data, change_members, count_members, ends_members, ended_data, entry_members, era_members, flags_or_null, flow_members, frames_members, front_members, name_members, number_or_null, protocol_or_null, record_members, replaced_data, rule_data, side_or_null, text_or_null, with_all}
+use Rattle.view_text.specs.Json.{address_or_null, change_data, change_members, count_members, ends_members, ended_data, entry_members, era_members, flags_or_null, flow_members, frames_members, front_members, name_members, number_or_null, protocol_or_null, record_members, replaced_data, rule_data, side_or_null, text_or_null, with_all}
 use Rattle.view_text.specs.Views.{PlainEra, PlainRecord}
 use Rattle.view_text.proofs.Lists.{AreWhole, array-no_float, with_all-no_float}
 
@@ -36,9 +36,13 @@ side-whole : (side : Option Side) → has_float (side_or_null side) ≡ false
 side-whole None = refl
 side-whole (Some side) = refl
 
+flow-whole : (flow : Option Flow) → AreWhole (flow_members flow)
+flow-whole flow = (protocol-whole _, (flags-whole _, (number-whole _, (number-whole _, tt))))
+
 members-whole : (change : PlainChange) → AreWhole (change_members change)
 members-whole (in_field frame field from to) = (refl, (refl, (text-whole from, (text-whole to, tt))))
 members-whole (in_payload frame change) = (refl, (refl, (refl, (refl, (refl, (array-no_float replaced_data (λ run. refl) change.replaced, tt))))))
+members-whole (in_made frame kind flow octets) = (refl, (refl, (refl, flow-whole flow)))
 
 change-whole : (change : PlainChange) → has_float (change_data change) ≡ false
 change-whole change = with_all-no_float (change_members change) no_members (members-whole change) refl
@@ -49,9 +53,6 @@ ends-whole flow = (address-whole _, (number-whole _, (address-whole _, (number-w
 append-whole : (one other : List (List ℕ × Data)) → AreWhole one → AreWhole other → AreWhole (one ++ other)
 append-whole [] other a b = b
 append-whole (m ∷ one) other a b = (a.0, append-whole one other a.1 b)
-
-flow-whole : (flow : Option Flow) → AreWhole (flow_members flow)
-flow-whole flow = (protocol-whole _, (flags-whole _, (number-whole _, (number-whole _, tt))))
 
 entry-whole : (entry : PlainEntry) → AreWhole (entry_members entry)
 entry-whole entry = (refl, (array-no_float rule_data (λ rule. refl) entry.rules, (number-whole _, (number-whole _, (array-no_float ended_data (λ ended. refl) entry.ended, tt)))))

@@ -11,13 +11,14 @@ use Rattle.rule_book.specs.declared.rule.Rule.{Rule}
 use Rattle.wire_base.specs.declared.address.Addr.{Addr}
 use Rattle.wire_base.specs.declared.address.Side.{Side}
 use Rattle.wire_base.specs.declared.flags.Flags.{Flags}
-use Rattle.frame_view.specs.Changes.{PlainChange, PlainPayload, PlainReplaced, in_field, in_payload}
+use Rattle.frame_view.specs.Changes.{PlainChange, PlainPayload, PlainReplaced, in_field, in_made, in_payload}
 use Rattle.frame_view.specs.Readings.{field_name}
 use Rattle.frame_view.specs.Texts.{dotted, flags_text}
+use Rattle.frame_view.specs.declared.change.Made.{Made}
 use Rattle.frame_view.specs.declared.flow.Flow.{Flow}
 use Rattle.frame_view.specs.declared.flow.Ports.{Ports}
 use Rattle.frame_view.specs.declared.flow.TcpMarks.{TcpMarks}
-use Rattle.view_text.specs.Lines.{end_word, line_end, protocol_text}
+use Rattle.view_text.specs.Lines.{end_word, line_end, made_word, protocol_text}
 use Rattle.view_text.specs.Times.{time_text}
 use Rattle.view_text.specs.Views.{PlainRecord, PlainEra}
 
@@ -136,7 +137,11 @@ payload_members change =
     ∷ (codes "replaced", array_of replaced_data change.replaced)
     ∷ []
 
--- what differs in a field
+-- what a frame is that norm made itself
+abbrev pub made_members : Made → Option Flow → (octets : ℕ) → List Member
+made_members kind flow octets = (codes "field", string (made_word kind)) ∷ (codes "len", count octets) ∷ flow_members flow
+
+-- what differs in a field, or what a frame is that norm made itself
 abbrev pub change_members : PlainChange → List Member
 change_members (in_field frame field from to) =
     (codes "frame", count frame)
@@ -145,6 +150,7 @@ change_members (in_field frame field from to) =
     ∷ (codes "to", text_or_null to)
     ∷ []
 change_members (in_payload frame change) = (codes "frame", count frame) ∷ payload_members change
+change_members (in_made frame kind flow octets) = (codes "frame", count frame) ∷ made_members kind flow octets
 
 abbrev pub change_data : PlainChange → Data
 change_data change = object_of (change_members change)

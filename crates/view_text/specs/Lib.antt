@@ -1,4 +1,3 @@
-pub mod Sentences
 pub mod Views
 pub mod Times
 pub mod Lines

@@ -2,17 +2,17 @@
 use Rattle.std.specs.Prelude.{ℕ, ◌==◌, Bool, true, false, List, [], ◌∷◌, ◌++◌, Option, Some, None, option_map, codes, decimal, if◌then◌else◌}
 use Rattle.std.specs.List.{flat_map}
 use Rattle.rule_book.specs.Entries.{PlainEntry}
-use Rattle.rule_book.specs.Rules.{rule_name}
+use Rattle.rule_book.specs.Rules.{rule_name, sentence}
 use Rattle.rule_book.specs.Text.{part, side_word, verdict_word, reason_word, rule_parts}
 use Rattle.rule_book.specs.declared.entry.Reason.{Reason}
 use Rattle.rule_book.specs.declared.rule.Rule.{Rule}
-use Rattle.frame_view.specs.Changes.{PlainChange, PlainPayload, PlainReplaced, in_field, in_payload}
+use Rattle.frame_view.specs.Changes.{PlainChange, PlainPayload, PlainReplaced, in_field, in_made, in_payload}
 use Rattle.frame_view.specs.Readings.{field_name}
 use Rattle.frame_view.specs.Texts.{dotted, flags_text}
+use Rattle.frame_view.specs.declared.change.Made.{Made}
+use Rattle.frame_view.specs.declared.change.Made.TheVariants.{Probe, Datagram}
 use Rattle.frame_view.specs.declared.flow.Flow.{Flow}
-use Rattle.frame_view.specs.declared.flow.Ports.{Ports}
 use Rattle.frame_view.specs.declared.flow.TcpMarks.{TcpMarks}
-use Rattle.view_text.specs.Sentences.{sentence}
 use Rattle.view_text.specs.Times.{time_text}
 use Rattle.view_text.specs.Views.{PlainRecord, PlainEra, PlainSummary}
 use Rattle.view_text.specs.declared.view.Counts.{Counts}
@@ -67,6 +67,11 @@ abbrev pub flow_text : Option Flow → List ℕ
 flow_text None = codes "- > - -"
 flow_text (Some flow) = ends_text (Some flow) ++ part (protocol_text flow.protocol) ++ marks_text flow.tcp
 
+-- protocol and marks alone, behind a space; nothing where no IPv4 header can be read
+abbrev pub protocol_parts : Option Flow → List ℕ
+protocol_parts None = []
+protocol_parts (Some flow) = part (protocol_text flow.protocol) ++ marks_text flow.tcp
+
 -- the era that a record belongs to, where there is one
 abbrev pub era_part : Option ℕ → List ℕ
 era_part None = []
@@ -99,15 +104,26 @@ payload_text change =
     codes "payload" ++ count_text (codes "front") change.front ++ count_text (codes "end") change.end ++ count_text (codes "longer") change.longer
     ++ flat_map replaced_text change.replaced
 
--- what differs in a field
+-- the word for a frame that norm made itself
+abbrev pub made_word : Made → List ℕ
+made_word Probe = codes "probe"
+made_word Datagram = codes "datagram"
+
+-- a frame that norm made itself: its word, what its headers say, and the number of octets of its payload
+abbrev pub made_text : Made → Option Flow → (octets : ℕ) → List ℕ
+made_text kind flow octets = made_word kind ++ protocol_parts flow ++ counted (codes "len") octets
+
+-- what differs in a field, or what a frame is that norm made itself
 abbrev pub change_text : PlainChange → List ℕ
 change_text (in_field frame field from to) = field_name field ++ part (value_text from) ++ codes " > " ++ value_text to
 change_text (in_payload frame change) = payload_text change
+change_text (in_made frame kind flow octets) = made_text kind flow octets
 
 -- the frame that a change is of
 abbrev pub frame_of : PlainChange → ℕ
 frame_of (in_field frame field from to) = frame
 frame_of (in_payload frame change) = frame
+frame_of (in_made frame kind flow octets) = frame
 
 -- what a change begins with: that it is one more of a frame, or the first of another
 abbrev pub lead_text : (before frame : ℕ) → List ℕ

@@ -1,12 +1,13 @@
-//! The text of what differs between a record and its frames.
+//! The text of what differs between a record and its frames, and of frames that norm made itself.
 ghost use Rattle.std.specs.Prelude.{◌≡◌, ◌++◌, map, OnOk, option_map, string_bytes};
 ghost use Rattle.std.specs.List.{flat_map};
 ghost use Rattle.frame_view.specs.Changes as changes;
 ghost use Rattle.view_text.specs.Lines as spec;
 
+use crate::flow::put_protocol_parts;
 use crate::pieces::{put_counted, put_number, put_part, put_text};
 use edge_io::NoMemory;
-use frame_view::{Change, PayloadChange, Replaced};
+use frame_view::{Change, Flow, Made, PayloadChange, Replaced};
 
 // Writes a value, where there is one.
 fn put_value(text: &mut String, value: &Option<String>) -> Result<(), NoMemory>
@@ -59,7 +60,26 @@ fn put_payload(text: &mut String, change: &PayloadChange) -> Result<(), NoMemory
     put_runs(text, change.replaced.as_slice())
 }
 
-// Writes what differs in a field.
+/// Returns the word for a frame that norm made itself.
+pub fn made_word(kind: Made) -> &'static str
+    ensures { result.now ≡ spec.made_word kind }
+{
+    match kind {
+        Made::Probe => "probe",
+        Made::Datagram => "datagram",
+    }
+}
+
+// Writes what a frame is that norm made itself.
+fn put_made(text: &mut String, kind: Made, flow: Option<Flow>, length: u64) -> Result<(), NoMemory>
+    ensures { OnOk result (string_bytes text.new ≡ string_bytes text.old ++ spec.made_text kind flow length) }
+{
+    put_text(text, made_word(kind))?;
+    put_protocol_parts(text, flow)?;
+    put_counted(text, "len", length)
+}
+
+// Writes what differs in a field, or what a frame is that norm made itself.
 fn put_change(text: &mut String, change: &Change) -> Result<(), NoMemory>
     ensures { OnOk result (string_bytes text.new ≡ string_bytes text.old ++ spec.change_text (changes.plain change.now)) }
 {
@@ -77,6 +97,12 @@ fn put_change(text: &mut String, change: &Change) -> Result<(), NoMemory>
             put_value(text, to)
         }
         Change::InPayload { payload, .. } => put_payload(text, payload),
+        Change::Made {
+            kind,
+            flow,
+            length,
+            ..
+        } => put_made(text, *kind, *flow, *length),
     }
 }
 
@@ -87,6 +113,7 @@ fn number_of(change: &Change) -> u32
     match change {
         Change::InField { frame, .. } => *frame,
         Change::InPayload { frame, .. } => *frame,
+        Change::Made { frame, .. } => *frame,
     }
 }
 

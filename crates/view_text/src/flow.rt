@@ -85,6 +85,18 @@ fn put_marks(text: &mut String, marks: Option<TcpMarks>) -> Result<(), NoMemory>
     put_counted(text, "ack", u64::from(marks.ack))
 }
 
+/// Writes a space, the protocol and the marks of a packet, where its IPv4 header can be read.
+pub fn put_protocol_parts(text: &mut String, flow: Option<Flow>) -> Result<(), NoMemory>
+    ensures { OnOk result (string_bytes text.new ≡ string_bytes text.old ++ spec.protocol_parts flow) }
+{
+    let Some(flow) = flow else {
+        return Ok(());
+    };
+    put_text(text, " ")?;
+    put_protocol(text, flow.protocol)?;
+    put_marks(text, flow.tcp)
+}
+
 // Writes what the headers of a packet say, where its IPv4 header can be read.
 fn put_flow(text: &mut String, flow: Option<Flow>) -> Result<(), NoMemory>
     ensures { OnOk result (string_bytes text.new ≡ string_bytes text.old ++ spec.flow_text flow) }
@@ -93,9 +105,7 @@ fn put_flow(text: &mut String, flow: Option<Flow>) -> Result<(), NoMemory>
         return put_text(text, "- > - -");
     };
     put_flow_ends(text, flow)?;
-    put_text(text, " ")?;
-    put_protocol(text, flow.protocol)?;
-    put_marks(text, flow.tcp)
+    put_protocol_parts(text, Some(flow))
 }
 
 /// Writes a space and the addresses and ports of a packet.

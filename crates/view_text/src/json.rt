@@ -10,13 +10,16 @@ ghost use Rattle.view_text.specs.Lines.{line_end};
 ghost use Rattle.view_text.specs.Times.{time_text};
 ghost use Rattle.view_text.specs.Views.{plain_era, plain_record};
 
+use crate::change::made_word;
 use crate::era::end_word;
 use crate::flow::put_protocol;
 use crate::record::{side_word, verdict_word};
 use crate::time::put_time;
 use crate::{EraView, RecordView};
 use edge_io::NoMemory;
-use frame_view::{Change, Flow, PayloadChange, Ports, Replaced, TcpMarks, put_address, put_flags};
+use frame_view::{
+    Change, Flow, Made, PayloadChange, Ports, Replaced, TcpMarks, put_address, put_flags,
+};
 use rule_book::{Ended, Entry, Rule};
 use serde_json::{Map, Value, put};
 use std::alloc::Global;
@@ -244,7 +247,22 @@ fn add_payload(alloc: Global, members: &mut Members, change: &PayloadChange) -> 
     Ok(())
 }
 
-// Returns what differs in a field.
+// Adds what a frame is that norm made itself.
+fn add_made(
+    alloc: Global,
+    members: &mut Members,
+    kind: Made,
+    flow: Option<Flow>,
+    length: u64,
+) -> Result<(), NoMemory>
+    ensures { OnOk result (members_view members.new.entries ≡ spec.with_all (spec.made_members kind flow length) (members_view members.old.entries)) }
+{
+    add_text(alloc, members, "field", made_word(kind))?;
+    add_number(alloc, members, "len", length)?;
+    add_flow(alloc, members, flow)
+}
+
+// Returns what differs in a field, or what a frame is that norm made itself.
 fn change_value(alloc: Global, change: &Change) -> Result<Value, NoMemory>
     ensures { IfOk result (λ value. view value ≡ spec.change_data (changes.plain change.now)) }
 {
@@ -264,6 +282,15 @@ fn change_value(alloc: Global, change: &Change) -> Result<Value, NoMemory>
         Change::InPayload { frame, payload } => {
             add_number(alloc, &mut members, "frame", u64::from(*frame))?;
             add_payload(alloc, &mut members, payload)?;
+        }
+        Change::Made {
+            frame,
+            kind,
+            flow,
+            length,
+        } => {
+            add_number(alloc, &mut members, "frame", u64::from(*frame))?;
+            add_made(alloc, &mut members, *kind, *flow, *length)?;
         }
     }
     Ok(Value::from(members))
