@@ -11,7 +11,7 @@ usage: normview [OPTION..] IN OUT REPORT
 
   IN      the capture that norm run read: classic pcap or pcapng
   OUT     the capture that it wrote
-  REPORT  its report, of version 1 or 2; one of a run with --both is refused
+  REPORT  its report, of version 1 or 2, also of a run with --both
 
 The files are those of a finished run. They are read in step, a record at a time:
 memory grows with the eras alone. A summary is printed: verdicts by side, frames,
@@ -36,7 +36,12 @@ N is the record's number, L the captured octets of its payload. Of the F frames 
 listed that differ from the record: frame I in each FIELD, from its value in the
 record to that in the frame, - for none. Of the payload it says how many octets
 were cut in front and at the end, how many the frame has more, and which were
-replaced, each with the offset in the record's.
+replaced, each with the offset in the record's. A frame that norm made itself is not
+compared: frame I probe or frame I datagram, with its protocol, marks and length.
+
+With --both a line of the second engine is N/K: its line /K, of record N. Its frames are
+those in OUT; a line of the first engine has no changes. Verdicts of the second engine
+have lines of their own in the summary, and its eras are named era second E.
 
 The line of an era has these:
 
@@ -57,7 +62,7 @@ Status and last line:
   5  stop read: IN, OUT or REPORT could not be opened or read
   7  none: the output could not be written, or was cut off
   8  stop memory: memory could not be allocated
-  9  stop report N: line N of REPORT belongs to no report of a finished run of one engine
+  9  stop report N: line N of REPORT belongs to no report of a finished run
 
 KIND is magic, version, link, block, long or many, as in a report. What was printed
 before a last line stays.

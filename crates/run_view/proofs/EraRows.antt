@@ -7,10 +7,10 @@ use Rattle.rule_book.specs.declared.entry.Ended.{Ended}
 use Rattle.rule_book.specs.declared.entry.Reason.{Reason}
 use Rattle.rule_book.specs.declared.rule.Rule.{Rule}
 use Rattle.frame_view.specs.declared.flow.Flow.{Flow}
-use Rattle.run_view.specs.EraRows.{ErasAreRows, all_ended, eras_in, eras_named, first_time, flow_begun, if_number, inward_octets, last_reason, last_time, octets_sum, own_of, row_of, rows_at, rules_named, with_number, with_numbers, within}
-use Rattle.run_view.specs.Eras.{PlainRow, changed, changed_if, no_row, plus, with_end, with_ended, with_entry, with_flow, with_record, with_rule, with_rules}
-use Rattle.run_view.specs.Items.{Item, begun_by, time_of}
-use Rattle.run_view.specs.View.{eras_of, is_number}
+use Rattle.run_view.specs.EraRows.{ErasAreRows, all_ended, brought_sum, eras_in, eras_named, first_named, first_row, first_time, flow_begun, if_number, inward_octets, last_reason, last_time, octets_sum, own_of, row_of, rows_at, rules_named, with_number, with_numbers, within}
+use Rattle.run_view.specs.Eras.{PlainRow, changed, changed_if, no_row, plus, with_end, with_ended, with_entry, with_flow, with_octets, with_record, with_rule, with_rules}
+use Rattle.run_view.specs.Items.{Item, begun_by, firsts, if_inward, octets_in, seconds, time_of}
+use Rattle.run_view.specs.View.{eras_of, first_eras, is_number, with_item}
 
 -- a number is among these
 abbrev pub among : (number : ℕ) → List ℕ → Bool
@@ -178,95 +178,157 @@ first_more head item [] = refl
 first_more head item (next ∷ own) =
     let some : (within (length (next ∷ own)) == 0) ≡ false = grind arith in ap (λ (b : Bool). if b then time_of head item.packet else first_time head (next ∷ own)) some
 
--- the row of an era with one more item
+-- the row of an era with one more line
 abbrev pub own_row : Head → Item → PlainRow → PlainRow
 own_row head item row = with_record (time_of head item.packet) (inward_octets head item) item.entry.rules row
 
--- the row of an era whose record this is, or is not
-own_at : (entry : PlainEntry) (f : PlainRow → PlainRow) (row : ℕ → PlainRow) (era : ℕ) → at_if entry.era f row era ≡ (if is_number entry.era era then f (row era) else row era)
-own_at entry f row era = by entry.era where
-  by : (own : Option ℕ) → at_if own f row era ≡ (if is_number own era then f (row era) else row era)
-  by None = refl
-  by (Some own) = refl
+-- the rows of eras where a change is one of one era, if there is one
+at_era : (era : Option ℕ) (f : PlainRow → PlainRow) (row : ℕ → PlainRow) (n : ℕ) → at_if era f row n ≡ (if is_number era n then f (row n) else row n)
+at_era None f row n = refl
+at_era (Some era) f row n = refl
 
-begun_at : (begun : Option ℕ) (f : PlainRow → PlainRow) (row : ℕ → PlainRow) (era : ℕ) → at_if begun f row era ≡ (if is_number begun era then f (row era) else row era)
-begun_at None f row era = refl
-begun_at (Some begun) f row era = refl
-
--- the quantities of the items that belong to an era, where others stand
-abbrev own_quantities : (head : Head) (own : List Item) (flow : Option Flow) (end : Option Reason) → PlainRow
-own_quantities head own flow end =
+-- the quantities of the lines that belong to an era, where others stand
+abbrev own_quantities : (head : Head) (own : List Item) (octets : ℕ) (flow : Option Flow) (end : Option Reason) → PlainRow
+own_quantities head own octets flow end =
     record {
       flow = flow;
       first = first_time head own;
       last = last_time head own;
       records = within (length own);
-      octets = within (octets_sum head own);
+      octets = within octets;
       end = end;
       rules = with_rules [] (rules_named own);
     }
 
-own_more : (head : Head) (item : Item) (own : List Item) (flow : Option Flow) (end : Option Reason)
-    → own_row head item (own_quantities head own flow end) ≡ own_quantities head (item ∷ own) flow end
-own_more head item own flow end = λ i.
+own_more : (head : Head) (item : Item) (own : List Item) (octets : ℕ) (flow : Option Flow) (end : Option Reason)
+    → own_row head item (own_quantities head own octets flow end) ≡ own_quantities head (item ∷ own) (octets + inward_octets head item) flow end
+own_more head item own octets flow end = λ i.
     record {
       flow = flow;
       first = first_more head item own i;
       last = time_of head item.packet;
       records = records_more i;
-      octets = within_more (octets_sum head own) (inward_octets head item) i;
+      octets = within_more octets (inward_octets head item) i;
       end = end;
       rules = sym (rules_append [] (rules_named own) item.entry.rules) i;
     } where
       records_more : plus (within (length own)) 1 ≡ within (length (item ∷ own))
       records_more = within_more (length own) 1 ∙ ap within (omega arith)
 
-row_more : (head : Head) (item : Item) (older : List Item) (era : ℕ)
-    → entry_rows item.entry (time_of head item.packet) (inward_octets head item) (begun_by head.link item.packet.octets item.frames) (row_of head older) era ≡ row_of head (item ∷ older) era
-row_more head item older era =
+-- the rows of these lines with so many octets
+abbrev pub rows_with : Head → List Item → (octets : ℕ → ℕ) → ℕ → PlainRow
+rows_with head items octets era = record (row_of head items era) { octets = within (octets era) }
+
+-- how many octets there are with one more line
+abbrev pub octets_with : Head → Item → (octets : ℕ → ℕ) → ℕ → ℕ
+octets_with head item octets era = if is_number item.entry.era era then octets era + inward_octets head item else octets era
+
+row_more : (head : Head) (item : Item) (older : List Item) (octets : ℕ → ℕ) (era : ℕ)
+    → entry_rows item.entry (time_of head item.packet) (inward_octets head item) (begun_by head.link item.packet.octets item.frames) (rows_with head older octets) era
+    ≡ rows_with head (item ∷ older) (octets_with head item octets) era
+row_more head item older octets era =
     let flow = begun_by head.link item.packet.octets item.frames in
-    let base = row_of head older in
+    let base = rows_with head older octets in
     let one = at_if item.entry.era (own_row head item) base in
     let two = at_if item.entry.begun (with_flow flow) one in
-    let own = own_of era older in
-    let reasons = reasons_append era None (all_ended older) item.entry.ended in
     ended_at item.entry.ended two era
-    ∙ ap (λ (r : PlainRow). record r { end = last_reason era r.end item.entry.ended }) (begun_at item.entry.begun (with_flow flow) one era ∙ ap (λ (r : PlainRow). if is_number item.entry.begun era then with_flow flow r else r) (own_at item.entry (own_row head item) base era))
+    ∙ ap (λ (r : PlainRow). record r { end = last_reason era r.end item.entry.ended }) (at_era item.entry.begun (with_flow flow) one era ∙ ap (λ (r : PlainRow). if is_number item.entry.begun era then with_flow flow r else r) (at_era item.entry.era (own_row head item) base era))
     ∙ by (is_number item.entry.era era) (is_number item.entry.begun era)
   where
     by : (mine begins : Bool)
-        → (let r : PlainRow = (let s : PlainRow = (if mine then own_row head item (row_of head older era) else row_of head older era) in if begins then with_flow (begun_by head.link item.packet.octets item.frames) s else s) in record r { end = last_reason era r.end item.entry.ended })
-        ≡ own_quantities head (if mine then item ∷ own_of era older else own_of era older) (if begins then begun_by head.link item.packet.octets item.frames else flow_begun era head older) (last_reason era None (all_ended older ++ item.entry.ended))
-    by true true = ap (λ (r : PlainRow). record r { flow = begun_by head.link item.packet.octets item.frames; end = last_reason era r.end item.entry.ended }) (own_more head item (own_of era older) (flow_begun era head older) (last_reason era None (all_ended older)))
-        ∙ ap (own_quantities head (item ∷ own_of era older) (begun_by head.link item.packet.octets item.frames)) (sym (reasons_append era None (all_ended older) item.entry.ended))
-    by true false = ap (λ (r : PlainRow). record r { end = last_reason era r.end item.entry.ended }) (own_more head item (own_of era older) (flow_begun era head older) (last_reason era None (all_ended older)))
-        ∙ ap (own_quantities head (item ∷ own_of era older) (flow_begun era head older)) (sym (reasons_append era None (all_ended older) item.entry.ended))
-    by false true = ap (own_quantities head (own_of era older) (begun_by head.link item.packet.octets item.frames)) (sym (reasons_append era None (all_ended older) item.entry.ended))
-    by false false = ap (own_quantities head (own_of era older) (flow_begun era head older)) (sym (reasons_append era None (all_ended older) item.entry.ended))
+        → (let r : PlainRow = (let s : PlainRow = (if mine then own_row head item (rows_with head older octets era) else rows_with head older octets era) in if begins then with_flow (begun_by head.link item.packet.octets item.frames) s else s) in record r { end = last_reason era r.end item.entry.ended })
+        ≡ own_quantities head (if mine then item ∷ own_of era older else own_of era older) (if mine then octets era + inward_octets head item else octets era) (if begins then begun_by head.link item.packet.octets item.frames else flow_begun era head older) (last_reason era None (all_ended older ++ item.entry.ended))
+    by true true = ap (λ (r : PlainRow). record r { flow = begun_by head.link item.packet.octets item.frames; end = last_reason era r.end item.entry.ended }) (own_more head item (own_of era older) (octets era) (flow_begun era head older) (last_reason era None (all_ended older)))
+        ∙ ap (own_quantities head (item ∷ own_of era older) (octets era + inward_octets head item) (begun_by head.link item.packet.octets item.frames)) (sym (reasons_append era None (all_ended older) item.entry.ended))
+    by true false = ap (λ (r : PlainRow). record r { end = last_reason era r.end item.entry.ended }) (own_more head item (own_of era older) (octets era) (flow_begun era head older) (last_reason era None (all_ended older)))
+        ∙ ap (own_quantities head (item ∷ own_of era older) (octets era + inward_octets head item) (flow_begun era head older)) (sym (reasons_append era None (all_ended older) item.entry.ended))
+    by false true = ap (own_quantities head (own_of era older) (octets era) (begun_by head.link item.packet.octets item.frames)) (sym (reasons_append era None (all_ended older) item.entry.ended))
+    by false false = ap (own_quantities head (own_of era older) (octets era) (flow_begun era head older)) (sym (reasons_append era None (all_ended older) item.entry.ended))
 
 -- rows that are equal one by one
 rows_same : (one two : ℕ → PlainRow) (ns : List ℕ) → ((era : ℕ) → one era ≡ two era) → rows_at one ns ≡ rows_at two ns
 rows_same one two [] same = refl
 rows_same one two (n ∷ ns) same = ap (λ r. (n, r) ∷ rows_at one ns) (same n) ∙ ap (λ l. (n, two n) ∷ l) (rows_same one two ns same)
 
--- the table of eras
-eras_is : (head : Head) (items : List Item) → IsRows (eras_of head items) (row_of head items) (with_numbers [] (eras_named items))
-eras_is head [] = record { is = refl; whole = record { once = tt; absent = λ era none. refl } }
-eras_is head (item ∷ older) =
-    let before = eras_is head older in
-    let flow = begun_by head.link item.packet.octets item.frames in
-    let ns = with_numbers [] (eras_named older) in
-    let row = entry_rows item.entry (time_of head item.packet) (inward_octets head item) flow (row_of head older) in
-    let more : IsRows (eras_of head (item ∷ older)) row (with_numbers ns (eras_in item.entry)) =
-    entry_is_rows (eras_of head older) (row_of head older) ns item.entry (time_of head item.packet) (inward_octets head item) flow before in
-    let same : (era : ℕ) → row era ≡ row_of head (item ∷ older) era = row_more head item older in
-    let mid : IsRows (eras_of head (item ∷ older)) (row_of head (item ∷ older)) (with_numbers ns (eras_in item.entry)) =
+rows_to : (table : List (ℕ × PlainRow)) (one two : ℕ → PlainRow) (ns : List ℕ) → ((era : ℕ) → one era ≡ two era) → IsRows table one ns → IsRows table two ns
+rows_to table one two ns same rows =
     record {
-      is = more.is ∙ rows_same row (row_of head (item ∷ older)) (with_numbers ns (eras_in item.entry)) same;
-      whole = record { once = more.whole.once; absent = λ era none. sym (same era) ∙ more.whole.absent era none };
-    } in
-    let N : List ℕ → Type 0 = λ l. IsRows (eras_of head (item ∷ older)) (row_of head (item ∷ older)) l in
-    subst N (sym (numbers_append [] (eras_named older) (eras_in item.entry))) mid
+      is = rows.is ∙ rows_same one two ns same;
+      whole = record { once = rows.whole.once; absent = λ era none. sym (same era) ∙ rows.whole.absent era none };
+    }
+
+-- the table with one more line of its engine
+line_is : (head : Head) (item : Item) (older : List Item) (octets : ℕ → ℕ) (table : List (ℕ × PlainRow)) (named : List ℕ) → IsRows table (rows_with head older octets) (with_numbers [] named)
+    → IsRows (with_item head item table) (rows_with head (item ∷ older) (octets_with head item octets)) (with_numbers [] (named ++ eras_in item.entry))
+line_is head item older octets table named before =
+    let flow = begun_by head.link item.packet.octets item.frames in
+    let ns = with_numbers [] named in
+    let row = entry_rows item.entry (time_of head item.packet) (inward_octets head item) flow (rows_with head older octets) in
+    let more : IsRows (with_item head item table) row (with_numbers ns (eras_in item.entry)) =
+    entry_is_rows table (rows_with head older octets) ns item.entry (time_of head item.packet) (inward_octets head item) flow before in
+    let N : List ℕ → Type 0 = λ l. IsRows (with_item head item table) (rows_with head (item ∷ older) (octets_with head item octets)) l in
+    subst N (sym (numbers_append [] named (eras_in item.entry))) (rows_to (with_item head item table) row (rows_with head (item ∷ older) (octets_with head item octets)) (with_numbers ns (eras_in item.entry)) (row_more head item older octets) more)
+
+no_rows : (octets : ℕ → ℕ) (head : Head) → ((era : ℕ) → octets era ≡ 0) → IsRows [] (rows_with head [] octets) []
+no_rows octets head none = record { is = refl; whole = record { once = tt; absent = λ era absent. ap (λ n. record no_row { octets = within n }) (none era) } }
+
+octets_same : (head : Head) (items : List Item) (one two : ℕ → ℕ) → ((era : ℕ) → one era ≡ two era) → (era : ℕ) → rows_with head items one era ≡ rows_with head items two era
+octets_same head items one two same era = ap (λ n. record (row_of head items era) { octets = within n }) (same era)
+
+own_octets_more : (head : Head) (item : Item) (older : List Item) (era : ℕ) → octets_with head item (λ n. octets_sum head (own_of n older)) era ≡ octets_sum head (own_of era (item ∷ older))
+own_octets_more head item older era = by (is_number item.entry.era era) where
+  by : (b : Bool) → (if b then octets_sum head (own_of era older) + inward_octets head item else octets_sum head (own_of era older)) ≡ octets_sum head (if b then item ∷ own_of era older else own_of era older)
+  by true = refl
+  by false = refl
+
+-- the table of lines of one engine
+eras_is : (head : Head) (items : List Item) → IsRows (eras_of head items) (row_of head items) (with_numbers [] (eras_named items))
+eras_is head [] = no_rows (λ n. 0) head (λ era. refl)
+eras_is head (item ∷ older) =
+    let octets : ℕ → ℕ = λ n. octets_sum head (own_of n older) in
+    let next : ℕ → ℕ = λ n. octets_sum head (own_of n (item ∷ older)) in
+    rows_to (eras_of head (item ∷ older)) (rows_with head (item ∷ older) (octets_with head item octets)) (row_of head (item ∷ older)) (with_numbers [] (eras_named (item ∷ older)))
+    (octets_same head (item ∷ older) (octets_with head item octets) next (own_octets_more head item older))
+    (line_is head item older octets (eras_of head older) (eras_named older) (eras_is head older))
+
+-- the table of the first engine with one more line of either
+brought_more : (own : Option ℕ) (era sum more : ℕ) → (if is_number own era then sum + more else sum) ≡ sum + (if is_number own era then more else 0)
+brought_more own era sum more = by (is_number own era) where
+  by : (b : Bool) → (if b then sum + more else sum) ≡ sum + (if b then more else 0)
+  by true = refl
+  by false = omega arith
+
+octets_row : (row : PlainRow) (own : Option ℕ) (era sum more : ℕ) → row.octets ≡ within sum
+    → (if is_number own era then with_octets more row else row) ≡ record row { octets = within (sum + (if is_number own era then more else 0)) }
+octets_row row own era sum more is = by (is_number own era) where
+  by : (b : Bool) → (if b then with_octets more row else row) ≡ record row { octets = within (sum + (if b then more else 0)) }
+  by true = ap (λ n. record row { octets = n }) (ap (λ n. plus n more) is ∙ within_more sum more)
+  by false = ap (λ n. record row { octets = n }) (is ∙ ap within (omega arith))
+
+first_step : (head : Head) (item : Item) (first : Option PlainEntry) (older : List Item) → IsRows (first_eras head older) (first_row head older) (with_numbers [] (first_named older))
+    → (let line : Item = record item { first = first } in IsRows (first_eras head (line ∷ older)) (first_row head (line ∷ older)) (with_numbers [] (first_named (line ∷ older))))
+first_step head item None older before =
+    let line : Item = record item { first = None } in
+    let octets : ℕ → ℕ = λ n. brought_sum n head older in
+    let next : ℕ → ℕ = λ n. brought_sum n head (line ∷ older) in
+    rows_to (with_item head line (first_eras head older)) (rows_with head (line ∷ firsts older) (octets_with head line octets)) (first_row head (line ∷ older)) (with_numbers [] (first_named (line ∷ older)))
+    (octets_same head (line ∷ firsts older) (octets_with head line octets) next (λ era. brought_more item.entry.era era (brought_sum era head older) (inward_octets head line)))
+    (line_is head line (firsts older) octets (first_eras head older) (first_named older) before)
+first_step head item (Some first) older before =
+    let line : Item = record item { first = Some first } in
+    let more : ℕ = if_inward first.side (octets_in head.link item.frames) in
+    let ns = with_numbers [] (first_named older) in
+    let table = changed_if first.era (with_octets more) (first_eras head older) in
+    let changed = change_if_rows (first_eras head older) (first_row head older) ns first.era (with_octets more) before in
+    let N : List ℕ → Type 0 = λ l. IsRows table (first_row head (line ∷ older)) l in
+    subst N (sym (numbers_append [] (first_named older) (if_number first.era)))
+    (rows_to table (at_if first.era (with_octets more) (first_row head older)) (first_row head (line ∷ older)) (with_numbers ns (if_number first.era))
+    (λ era. at_era first.era (with_octets more) (first_row head older) era ∙ octets_row (first_row head older era) first.era era (brought_sum era head older) more refl)
+    changed)
+
+first_is : (head : Head) (items : List Item) → IsRows (first_eras head items) (first_row head items) (with_numbers [] (first_named items))
+first_is head [] = no_rows (λ n. 0) head (λ era. refl)
+first_is head (item ∷ older) = first_step head item item.first older (first_is head older)
 
 pub eras_are_rows : ErasAreRows
-eras_are_rows head items = (eras_is head items).is
+eras_are_rows head items = record { first = (first_is head items).is; second = (eras_is head (seconds items)).is }

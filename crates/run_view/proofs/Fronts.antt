@@ -1,12 +1,12 @@
 -- The lines of a report are short, and the first of octets that begin with one is that line.
-use Rattle.std.proofs.Common.{◌≡◌, ℕ, zero, suc, ◌+◌, ◌<◌, ◌≤◌, ◌^◌, ◌*◌, nat_eq, cond, true, false, List, [], ◌∷◌, ◌++◌, length, Option, Some, None, IfSome, codes, decimal, refl, sym, ap, ◌∙◌, arith, rules, length-append}
+use Rattle.std.proofs.Common.{◌≡◌, ℕ, zero, suc, ◌+◌, ◌<◌, ◌≤◌, ◌^◌, ◌*◌, nat_eq, cond, Bool, true, false, get_or, inl, inr, List, [], ◌∷◌, ◌++◌, length, Option, Some, None, IfSome, codes, decimal, refl, sym, ap, ◌∙◌, arith, rules, length-append}
 use Rattle.std.specs.List.{AllByRecursion, flat_map}
 use Rattle.std.proofs.lemmas.Bool.Decides.{nat_tests}
 use Rattle.std.proofs.lemmas.Fmt.{length-decimal-le}
 use Rattle.rule_book.specs.Entries.{PlainEntry}
-use Rattle.rule_book.specs.Reports.{EndedFits, EntryFits, IsVersion}
+use Rattle.rule_book.specs.Reports.{EndedFits, EntryFits}
 use Rattle.rule_book.specs.Rules.{rule_name}
-use Rattle.rule_book.specs.Text.{ended_part, entry_text, era_part, first_line, last_text, octets_part, part, reason_word, rule_parts, side_word, verdict_word}
+use Rattle.rule_book.specs.Text.{ended_part, entry_text, era_part, last_text, octets_part, part, reason_word, rule_parts, side_word, verdict_word}
 use Rattle.rule_book.specs.declared.entry.Ended.{Ended}
 use Rattle.rule_book.specs.declared.entry.Reason.{Reason}
 use Rattle.rule_book.specs.declared.entry.Verdict.{Verdict}
@@ -19,6 +19,10 @@ use Rattle.rule_book.proofs.Lines.{IsLine}
 use Rattle.rule_book.proofs.Texts.{entry_text-joined, joined-no_feed, words-solid, words_of}
 use Rattle.rule_book.proofs.Versions.{first-line}
 use Rattle.rule_book.specs.Words.{joined}
+use Rattle.run_view.specs.declared.form.Form.{Form}
+use Rattle.run_view.specs.declared.form.Form.TheVariants.{Version1, Version2, Both}
+use Rattle.run_view.specs.Forms.{heading}
+use Rattle.run_view.specs.Items.{text_by}
 use Rattle.run_view.specs.Lines.{front_line}
 
 rule_short : (rule : Rule) → length (rule_name rule) ≤ 9
@@ -101,20 +105,52 @@ front_body (suc room) (x ∷ body) rest none within =
     ap (λ b. cond b (x ∷ []) (x ∷ front_line room ((body ++ 10 ∷ []) ++ rest))) other ∙ ap (λ l. x ∷ l) (front_body room body rest later (omega arith))
 
 -- octets that begin with a line have it in front
-pub front_is : (line rest : List ℕ) → IsLine line → length line ≤ 376 → front_line 400 (line ++ rest) ≡ line
+pub front_is : (line rest : List ℕ) → IsLine line → length line ≤ 399 → front_line 400 (line ++ rest) ≡ line
 front_is line rest l short =
     let fewer : length l.body < 400 = omega (arith, short, ap length l.whole, length-append l.body (10 ∷ [])) in
     ap (λ t. front_line 400 (t ++ rest)) l.whole ∙ front_body 400 l.body rest l.no_feed fewer ∙ sym l.whole
 
-pub entry_front : (octets rest : List ℕ) (entry : PlainEntry) → EntryFits entry → octets ≡ entry_text entry ++ rest → front_line 400 octets ≡ entry_text entry
-entry_front octets rest entry fits is =
-    let line : IsLine (entry_text entry) = record { body = joined (words_of entry); no_feed = joined-no_feed (words_of entry) (words-solid entry fits); whole = entry_text-joined entry } in
-    ap (front_line 400) is ∙ front_is (entry_text entry) rest line (entry_short entry fits)
+entry_is_line : (entry : PlainEntry) → EntryFits entry → IsLine (entry_text entry)
+entry_is_line entry fits = record { body = joined (words_of entry); no_feed = joined-no_feed (words_of entry) (words-solid entry fits); whole = entry_text-joined entry }
+
+-- a line with one octet more in front, which is no line feed
+behind_slash : (line : List ℕ) → IsLine line → IsLine (47 ∷ line)
+behind_slash line l = record { body = 47 ∷ l.body; no_feed = l.no_feed; whole = ap (λ t. 47 ∷ t) l.whole }
+
+pub line_front : (second : Bool) (octets rest : List ℕ) (entry : PlainEntry) → EntryFits entry → octets ≡ text_by second entry ++ rest → front_line 400 octets ≡ text_by second entry
+line_front false octets rest entry fits is =
+    ap (front_line 400) is ∙ front_is (entry_text entry) rest (entry_is_line entry fits) (let short = entry_short entry fits in omega (arith, short))
+line_front true octets rest entry fits is =
+    ap (front_line 400) is
+    ∙ front_is (47 ∷ entry_text entry) rest (behind_slash (entry_text entry) (entry_is_line entry fits)) (let short = entry_short entry fits in omega (arith, short))
 
 pub end_front : (octets rest : List ℕ) (records frames : ℕ) → records < 2 ^ 32 → frames < 2 ^ 64 → octets ≡ last_text (End records frames) ++ rest
     → front_line 400 octets ≡ last_text (End records frames)
 end_front octets rest records frames few few_frames is =
-    ap (front_line 400) is ∙ front_is (last_text (End records frames)) rest (last-line (End records frames) (few, few_frames)) (end_short records frames few few_frames)
+    ap (front_line 400) is
+    ∙ front_is (last_text (End records frames)) rest (last-line (End records frames) (few, few_frames)) (let short = end_short records frames few few_frames in omega (arith, short))
 
-pub first_front : (octets rest : List ℕ) (version : ℕ) → IsVersion version → octets ≡ first_line version ++ rest → front_line 400 octets ≡ first_line version
-first_front octets rest version known is = ap (front_line 400) is ∙ front_is (first_line version) rest (first-line version known) (omega arith)
+heading_is_line : (form : Form) → IsLine (heading form)
+heading_is_line Version1 = first-line 1 (inl refl)
+heading_is_line Version2 = first-line 2 (inr refl)
+heading_is_line Both = record { body = codes "norm 2 both"; no_feed = refl; whole = refl }
+
+heading_short : (form : Form) → length (heading form) ≤ 399
+heading_short Version1 = omega arith
+heading_short Version2 = omega arith
+heading_short Both = omega arith
+
+pub heading_front : (octets rest : List ℕ) (form : Form) → octets ≡ heading form ++ rest → front_line 400 octets ≡ heading form
+heading_front octets rest form is = ap (front_line 400) is ∙ front_is (heading form) rest (heading_is_line form) (heading_short form)
+
+-- first lines are lengths apart, or differ in the octet behind `norm `
+pub heading_one : (one other : Form) → heading one ≡ heading other → one ≡ other
+heading_one Version1 Version1 same = refl
+heading_one Version1 Version2 same = absurd (omega (arith, ap (λ (l : List ℕ). get_or l 5 0) same))
+heading_one Version1 Both same = absurd (omega (arith, ap length same))
+heading_one Version2 Version1 same = absurd (omega (arith, ap (λ (l : List ℕ). get_or l 5 0) same))
+heading_one Version2 Version2 same = refl
+heading_one Version2 Both same = absurd (omega (arith, ap length same))
+heading_one Both Version1 same = absurd (omega (arith, ap length same))
+heading_one Both Version2 same = absurd (omega (arith, ap length same))
+heading_one Both Both same = refl

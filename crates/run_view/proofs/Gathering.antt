@@ -7,6 +7,7 @@ use Rattle.pcap_file.specs.Records.{Packet}
 use Rattle.frame_view.specs.Changes.{plain}
 use Rattle.run_view.specs.declared.item.Frames.{Frames}
 use Rattle.run_view.specs.declared.item.Gathered.{Gathered}
+use Rattle.run_view.specs.declared.judged.Kinds.{Kinds}
 use Rattle.run_view.specs.Eras.{plus}
 use Rattle.run_view.specs.Items.{begun_by, changes_at, changes_in, first_flow, flow_at, octets_in, tcp_octets}
 use Rattle.run_view.specs.Standing.{OutputAt}
@@ -20,18 +21,18 @@ begun_so : (link : Link) (octets : List ℕ) (own : List Packet) (frame : Packet
 begun_so link octets [] frame = refl
 begun_so link octets (next ∷ own) frame = let some : (length (next ∷ own) == 0) ≡ false = grind arith in ap (λ b. if b then flow_at link frame.octets else begun_by link octets (next ∷ own)) some
 
-pub gathered_more : (link : Link) (octets : List ℕ) (own : List Packet) (packet : Packet) (old new : Gathered) (number : ℕ) (frame : List ℕ) → length own ≡ number → packet.octets ≡ frame
-    → map plain new.changes.items ≡ map plain old.changes.items ++ changes_at link (number + 1) octets frame
+pub gathered_more : (link : Link) (kinds : Kinds) (octets : List ℕ) (own : List Packet) (packet : Packet) (old new : Gathered) (number : ℕ) (frame : List ℕ) → length own ≡ number → packet.octets ≡ frame
+    → map plain new.changes.items ≡ map plain old.changes.items ++ changes_at link kinds (number + 1) octets frame
     → new.flow ≡ first_flow number (flow_at link frame) old.flow
     → new.octets ≡ plus old.octets (tcp_octets (flow_at link frame))
-    → IsGathered link octets own old → IsGathered link octets (packet ∷ own) new
-gathered_more link octets own packet old new number frame count same changes flow octets_are before =
+    → IsGathered link kinds octets own old → IsGathered link kinds octets (packet ∷ own) new
+gathered_more link kinds octets own packet old new number frame count same changes flow octets_are before =
     record {
       changes =
           changes
-          ∙ ap (λ cs. cs ++ changes_at link (number + 1) octets frame) before.changes
-          ∙ ap (λ n. changes_in link octets own ++ changes_at link (n + 1) octets frame) (sym count)
-          ∙ ap (λ f. changes_in link octets own ++ changes_at link (length own + 1) octets f) (sym same);
+          ∙ ap (λ cs. cs ++ changes_at link kinds (number + 1) octets frame) before.changes
+          ∙ ap (λ n. changes_in link kinds octets own ++ changes_at link kinds (n + 1) octets frame) (sym count)
+          ∙ ap (λ f. changes_in link kinds octets own ++ changes_at link kinds (length own + 1) octets f) (sym same);
       flow =
           flow
           ∙ ap (λ f. first_flow number (flow_at link frame) f) before.flow
@@ -45,29 +46,31 @@ gathered_more link octets own packet old new number frame count same changes flo
     }
 
 -- one frame more of those that were read
-pub read_more : (frames : Frames) (all left : Option (List ℕ)) (head : Head) (older own : List Packet) (link : Link) (octets : List ℕ) (number : ℕ) (gathered : Gathered)
-    → length own ≡ number → FrameAdded frames all left head own older link octets gathered → FramesRead frames all left head older link octets (number + 1) gathered
-read_more frames all left head older own link octets number gathered count added =
+pub read_more : (frames : Frames) (all left : Option (List ℕ)) (head : Head) (older own : List Packet) (link : Link) (kinds : Kinds) (octets : List ℕ) (number : ℕ) (gathered : Gathered)
+    → length own ≡ number → FrameAdded frames all left head own older link kinds octets gathered → FramesRead frames all left head older link kinds octets (number + 1) gathered
+read_more frames all left head older own link kinds octets number gathered count added =
     let counted : length (added.frame ∷ own) ≡ number + 1 = omega (arith, count) in
     record { own = added.frame ∷ own; count = counted; stands = added.stands; gathers = added.gathers }
 
 -- a frame of a record was not read, behind those of it that were
-pub own_stops : (first frames : Frames) (all left : Option (List ℕ)) (head : Head) (older : List Packet) (link : Link) (octets : List ℕ) (number packets : ℕ) (gathered : Gathered)
+pub own_stops : (first frames : Frames) (all left : Option (List ℕ)) (head : Head) (older : List Packet) (link : Link) (kinds : Kinds) (octets : List ℕ) (number packets : ℕ) (gathered : Gathered)
     (before mid now : ℕ) (stop : Stop) → frames.count ≡ first.count + number → number < packets → before ≤ mid
-    → FramesRead frames all left head older link octets number gathered
+    → FramesRead frames all left head older link kinds octets number gathered
     → ((behind : List Packet) → OutputAt frames.reader head all left behind → FrameStops frames all head behind mid now stop)
     → FramesStop first all head older packets before now stop
-own_stops first frames all left head older link octets number packets gathered before mid now (stops.Frame n) count fewer later read why =
+own_stops first frames all left head older link kinds octets number packets gathered before mid now (stops.Frame n) count fewer later read why =
     let missing = why (read.own ++ older) read.stands in
     let short : length read.own < packets = omega (arith, read.count, fewer) in
     let place : n ≡ (first.count + length read.own) + 1 = omega (arith, missing.place, count, read.count) in
     record { own = read.own; fewer = short; missing = record { whole = missing.whole; place = place } }
-own_stops first frames all left head older link octets number packets gathered before mid now stops.Memory count fewer later read why = tt
-own_stops first frames all left head older link octets number packets gathered before mid now (stops.Output fault offset) count fewer later read why = why (read.own ++ older) read.stands
-own_stops first frames all left head older link octets number packets gathered before mid now stops.Unread count fewer later read why =
+own_stops first frames all left head older link kinds octets number packets gathered before mid now stops.Memory count fewer later read why = tt
+own_stops first frames all left head older link kinds octets number packets gathered before mid now (stops.Output fault offset) count fewer later read why =
+    let short : length read.own < packets = omega (arith, read.count, fewer) in
+    record { own = read.own; fewer = short; fails = why (read.own ++ older) read.stands }
+own_stops first frames all left head older link kinds octets number packets gathered before mid now stops.Unread count fewer later read why =
     let rose : Rose mid now = why (read.own ++ older) read.stands in rose_within before mid now now later (omega arith) rose
-own_stops first frames all left head older link octets number packets gathered before mid now stops.Words count fewer later read why = absurd (why (read.own ++ older) read.stands)
-own_stops first frames all left head older link octets number packets gathered before mid now (stops.Record n) count fewer later read why = absurd (why (read.own ++ older) read.stands)
-own_stops first frames all left head older link octets number packets gathered before mid now (stops.Input fault offset) count fewer later read why = absurd (why (read.own ++ older) read.stands)
-own_stops first frames all left head older link octets number packets gathered before mid now stops.Unwritten count fewer later read why = absurd (why (read.own ++ older) read.stands)
-own_stops first frames all left head older link octets number packets gathered before mid now (stops.Report n) count fewer later read why = absurd (why (read.own ++ older) read.stands)
+own_stops first frames all left head older link kinds octets number packets gathered before mid now stops.Words count fewer later read why = absurd (why (read.own ++ older) read.stands)
+own_stops first frames all left head older link kinds octets number packets gathered before mid now (stops.Record n) count fewer later read why = absurd (why (read.own ++ older) read.stands)
+own_stops first frames all left head older link kinds octets number packets gathered before mid now (stops.Input fault offset) count fewer later read why = absurd (why (read.own ++ older) read.stands)
+own_stops first frames all left head older link kinds octets number packets gathered before mid now stops.Unwritten count fewer later read why = absurd (why (read.own ++ older) read.stands)
+own_stops first frames all left head older link kinds octets number packets gathered before mid now (stops.Report n) count fewer later read why = absurd (why (read.own ++ older) read.stands)

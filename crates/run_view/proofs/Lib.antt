@@ -9,6 +9,7 @@ pub mod Written
 pub mod Going
 pub mod Ending
 pub mod Whys
+pub mod Heads
 pub mod Gathering
 pub mod Listing
 pub mod Counting

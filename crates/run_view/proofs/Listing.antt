@@ -7,12 +7,18 @@ use Rattle.std.proofs.lemmas.Option.{slice_get_within, get_or_from_slice_get}
 use Rattle.view_text.specs.declared.view.EraCounts.{EraCounts}
 use Rattle.run_view.specs.declared.eras.EraRow.{EraRow}
 use Rattle.edge_io.specs.Faults.{Rose}
-use Rattle.run_view.specs.Printed.{LeftToPrint, PartStops, PrintStops, PrintsFront}
+use Rattle.run_view.specs.Printed.{PartStops, PrintStops, PrintsFront}
 use Rattle.run_view.specs.declared.stop.Stop.{Stop}
 use Rattle.run_view.specs.declared.stop.Stop.TheVariants as stops
 use Rattle.run_view.specs.Rows.{plain_pair, rows_of}
 use Rattle.run_view.specs.Summary.{with_era, with_eras}
-use Rattle.run_view.specs.View.{era_line, eras_text}
+use Rattle.run_view.specs.View.{era_line, table_text}
+
+-- of this text the rest alone is left to be given to the output, where it tells its octets
+pub record LeftToPrint (old now : Option (List ℕ)) (rest whole : List ℕ) : Type 0 where
+  pub front : List ℕ
+  pub given : Appends old now front
+  pub whole_is : whole ≡ front ++ rest
 
 -- the entry at an index is the first of those from there on
 pub first_of_rest : (es : List (ℕ × EraRow)) (i : ℕ) (e : ℕ × EraRow) → slice_get es i ≡ Some e → drop i es ≡ e ∷ drop (i + 1) es
@@ -26,17 +32,17 @@ pub counted_more : (es : List (ℕ × EraRow)) (i : ℕ) (e : ℕ × EraRow) (ol
 counted_more es i e old new is more = ap (with_eras (rows_of (drop (i + 1) es))) more ∙ sym (ap (λ l. with_eras (rows_of l) old) (first_of_rest es i e is))
 
 -- one era more is printed
-pub printed_more : (json : Bool) (es : List (ℕ × EraRow)) (i : ℕ) (e : ℕ × EraRow) (old mid now : Option (List ℕ)) (whole : List ℕ) → slice_get es i ≡ Some e
-    → Appends mid now (era_line json (plain_pair e)) → LeftToPrint old mid (eras_text json (rows_of (drop i es))) whole
-    → LeftToPrint old now (eras_text json (rows_of (drop (i + 1) es))) whole
-printed_more json es i e old mid now whole is prints left =
+pub printed_more : (json second : Bool) (es : List (ℕ × EraRow)) (i : ℕ) (e : ℕ × EraRow) (old mid now : Option (List ℕ)) (whole : List ℕ) → slice_get es i ≡ Some e
+    → Appends mid now (era_line json second (plain_pair e)) → LeftToPrint old mid (table_text json second (rows_of (drop i es))) whole
+    → LeftToPrint old now (table_text json second (rows_of (drop (i + 1) es))) whole
+printed_more json second es i e old mid now whole is prints left =
     record {
-      front = left.front ++ era_line json (plain_pair e);
-      given = Appends-trans old mid now left.front (era_line json (plain_pair e)) left.given prints;
+      front = left.front ++ era_line json second (plain_pair e);
+      given = Appends-trans old mid now left.front (era_line json second (plain_pair e)) left.given prints;
       whole_is =
           left.whole_is
-          ∙ ap (λ l. left.front ++ eras_text json (rows_of l)) (first_of_rest es i e is)
-          ∙ sym (append_assoc left.front (era_line json (plain_pair e)) (eras_text json (rows_of (drop (i + 1) es))));
+          ∙ ap (λ l. left.front ++ table_text json second (rows_of l)) (first_of_rest es i e is)
+          ∙ sym (append_assoc left.front (era_line json second (plain_pair e)) (table_text json second (rows_of (drop (i + 1) es))));
     }
 
 -- nothing is left to print
@@ -94,6 +100,19 @@ part_front old now first second before after (stops.Input fault offset) why = ab
 part_front old now first second before after (stops.Output fault offset) why = absurd why
 part_front old now first second before after stops.Unread why = absurd why
 part_front old now first second before after (stops.Report n) why = absurd why
+
+-- the text before another was not printed whole
+pub part_wider : (old now : Option (List ℕ)) (first second : List ℕ) (before after : ℕ) (stop : Stop) → PartStops old now before after first stop → PartStops old now before after (first ++ second) stop
+part_wider old now first second before after stops.Unwritten why = why
+part_wider old now first second before after stops.Memory why =
+    record { front = why.front; rest = why.rest ++ second; given = why.given; text_is = ap (λ t. t ++ second) why.text_is ∙ append_assoc why.front why.rest second }
+part_wider old now first second before after stops.Words why = absurd why
+part_wider old now first second before after (stops.Record n) why = absurd why
+part_wider old now first second before after (stops.Frame n) why = absurd why
+part_wider old now first second before after (stops.Input fault offset) why = absurd why
+part_wider old now first second before after (stops.Output fault offset) why = absurd why
+part_wider old now first second before after stops.Unread why = absurd why
+part_wider old now first second before after (stops.Report n) why = absurd why
 
 -- nothing is printed yet
 pub printed_none : (old : Option (List ℕ)) (whole : List ℕ) → LeftToPrint old old whole whole

@@ -6,8 +6,8 @@ use Rattle.pcap_file.specs.declared.head.Head.{Head}
 use Rattle.pcap_file.specs.Reading.{Reading}
 use Rattle.capture_input.specs.declared.input.Input.{Input}
 use Rattle.capture_input.specs.Reading.{head_in}
-use Rattle.rule_book.specs.Reports.{IsVersion}
-use Rattle.rule_book.specs.Text.{first_line}
+use Rattle.run_view.specs.declared.form.Form.{Form}
+use Rattle.run_view.specs.Forms.{heading}
 use Rattle.run_view.specs.declared.viewer.Viewer.{Viewer}
 use Rattle.run_view.specs.declared.words.Asked.{Asked}
 use Rattle.run_view.specs.Causes.{EntriesStop, FaultCounts, SourceRose, StopWhy, StopsBehind, sources_of}
@@ -20,10 +20,10 @@ use Rattle.run_view.proofs.Ending.{viewed_as}
 use Rattle.run_view.proofs.Whys.{behind_wider}
 
 -- no record was read yet
-pub fresh_so_far : (viewer : Viewer) (asked : Asked) (version : ℕ) (input : Input) (reader : Reading) (read read_left written written_left printed : Option (List ℕ))
-    → IsFresh viewer asked version input reader → InputOpened input read read_left → OutputAt reader reader.head written written_left []
+pub fresh_so_far : (viewer : Viewer) (asked : Asked) (form : Form) (input : Input) (reader : Reading) (read read_left written written_left printed : Option (List ℕ))
+    → IsFresh viewer asked form input reader → InputOpened input read read_left → OutputAt reader reader.head written written_left []
     → SoFar viewer reader.head (ends_of read written printed) (ends_of read_left written_left printed) []
-fresh_so_far viewer asked version input reader read read_left written written_left printed fresh opened at =
+fresh_so_far viewer asked form input reader read read_left written written_left printed fresh opened at =
     let H : Head → Type 0 = λ h. InputAt input h read read_left [] in
     let I : Input → Type 0 = λ i. InputAt i viewer.files.head read read_left [] in
     let R : Reading → Type 0 = λ r. OutputAt r reader.head written written_left [] in
@@ -32,44 +32,46 @@ fresh_so_far viewer asked version input reader read read_left written written_le
       input = subst I (sym fresh.input_is) (subst H (sym fresh.head_is) opened.stands);
       output = subst R (sym fresh.reader_is) at;
       count = fresh.count;
+      second_count = fresh.second_count;
       frame_count = fresh.frame_count;
+      owed = fresh.owed;
+      newest = tt;
       counts = fresh.counts;
       text = Appends-nil printed;
     }
 
 -- the whole run was viewed as the words ask
-pub viewed_fresh : (viewer : Viewer) (asked : Asked) (version : ℕ) (input : Input) (reader : Reading) (read written printed report behind now : Option (List ℕ))
-    → IsFresh viewer asked version input reader → reader.head.link ≡ (head_in input).link → IsVersion version → Consumes report behind (first_line version)
-    → Whole viewer.asked viewer.version viewer.files.head reader.head (ends_of read written printed) now behind → ViewedAs asked read written report printed now
-viewed_fresh viewer asked version input reader read written printed report behind now fresh same known first whole =
-    let A : Asked → Type 0 = λ a. Whole a viewer.version viewer.files.head reader.head (ends_of read written printed) now behind in
-    let V : ℕ → Type 0 = λ v. Whole asked v viewer.files.head reader.head (ends_of read written printed) now behind in
+pub viewed_fresh : (viewer : Viewer) (asked : Asked) (form : Form) (input : Input) (reader : Reading) (read written printed report behind now : Option (List ℕ))
+    → IsFresh viewer asked form input reader → reader.head.link ≡ (head_in input).link → Consumes report behind (heading form)
+    → Whole viewer.asked viewer.form viewer.files.head reader.head (ends_of read written printed) now behind → ViewedAs asked read written report printed now
+viewed_fresh viewer asked form input reader read written printed report behind now fresh same first whole =
+    let A : Asked → Type 0 = λ a. Whole a viewer.form viewer.files.head reader.head (ends_of read written printed) now behind in
+    let V : Form → Type 0 = λ f. Whole asked f viewer.files.head reader.head (ends_of read written printed) now behind in
     let L : Head → Type 0 = λ h. reader.head.link ≡ h.link in
-    viewed_as asked version viewer.files.head reader.head read written printed report behind now (subst L (sym fresh.head_is) same) known first (subst V fresh.version_is (subst A fresh.asked_is whole))
+    viewed_as asked form viewer.files.head reader.head read written printed report behind now (subst L (sym fresh.head_is) same) first (subst V fresh.form_is (subst A fresh.asked_is whole))
 
 -- a view stops behind the first line of the report, or failed to print
-pub stops_within : (viewer : Viewer) (asked : Asked) (version : ℕ) (input : Input) (reader : Reading) (read written report behind printed printed_now : Option (List ℕ)) (first last : FaultCounts) (wide : FaultCounts) (stop : Stop)
-    → (SourceRose first last → SourceRose wide last) → first.out ≡ wide.out → IsFresh viewer asked version input reader → reader.head.link ≡ (head_in input).link → IsVersion version → Consumes report behind (first_line version)
-    → EntriesStop viewer.asked (sources_of read written behind) viewer.version viewer.files.head reader.head printed printed_now first last stop
+pub stops_within : (viewer : Viewer) (asked : Asked) (form : Form) (input : Input) (reader : Reading) (read written report behind printed printed_now : Option (List ℕ)) (first last : FaultCounts) (wide : FaultCounts) (stop : Stop)
+    → (SourceRose first last → SourceRose wide last) → first.out ≡ wide.out → IsFresh viewer asked form input reader → reader.head.link ≡ (head_in input).link → Consumes report behind (heading form)
+    → EntriesStop viewer.asked (sources_of read written behind) viewer.form viewer.files.head reader.head printed printed_now first last stop
     → StopWhy asked (sources_of read written report) printed printed_now wide last stop
-stops_within viewer asked version input reader read written report behind printed printed_now first last wide stop wider same_out fresh same known taken (inl unwritten) =
+stops_within viewer asked form input reader read written report behind printed printed_now first last wide stop wider same_out fresh same taken (inl unwritten) =
     let R : ℕ → Type 0 = λ n. Rose n last.out in
     inl (record { stop_is = unwritten.stop_is; failed = record { rose = subst R same_out unwritten.failed.rose; some = unwritten.failed.some } })
-stops_within viewer asked version input reader read written report behind printed printed_now first last wide stop wider same_out fresh same known taken (inr stops) =
-    let A : Asked → Type 0 = λ a. StopsBehind a (sources_of read written behind) viewer.version viewer.files.head reader.head printed printed_now (SourceRose first last) stop in
-    let V : ℕ → Type 0 = λ v. StopsBehind asked (sources_of read written behind) v viewer.files.head reader.head printed printed_now (SourceRose first last) stop in
+stops_within viewer asked form input reader read written report behind printed printed_now first last wide stop wider same_out fresh same taken (inr stops) =
+    let A : Asked → Type 0 = λ a. StopsBehind a (sources_of read written behind) viewer.form viewer.files.head reader.head printed printed_now (SourceRose first last) stop in
+    let V : Form → Type 0 = λ f. StopsBehind asked (sources_of read written behind) f viewer.files.head reader.head printed printed_now (SourceRose first last) stop in
     let L : Head → Type 0 = λ h. reader.head.link ≡ h.link in
     inr
     (inr
     (record {
-      version = version;
+      form = form;
       head = viewer.files.head;
       written = reader.head;
       behind = behind;
-      known = known;
       link_is = subst L (sym fresh.head_is) same;
       first = taken;
       stops =
-          behind_wider asked (sources_of read written behind) version viewer.files.head reader.head printed printed_now (SourceRose first last) (SourceRose wide last) stop wider
-          (subst V fresh.version_is (subst A fresh.asked_is stops));
+          behind_wider asked (sources_of read written behind) form viewer.files.head reader.head printed printed_now (SourceRose first last) (SourceRose wide last) stop wider
+          (subst V fresh.form_is (subst A fresh.asked_is stops));
     }))

@@ -4,6 +4,7 @@ use Rattle.std.specs.Io.KnownBytes.{Appends}
 use Rattle.edge_io.specs.Faults.{Rose}
 use Rattle.capture_input.specs.declared.fault.InputFault.{InputFault}
 use Rattle.capture_input.specs.declared.fault.InputFault.TheVariants as faults
+use Rattle.run_view.specs.declared.form.Form.{Form}
 use Rattle.run_view.specs.declared.stop.Stop.{Stop}
 use Rattle.run_view.specs.declared.stop.Stop.TheVariants as stops
 use Rattle.run_view.specs.Printed.{AppendsSome, PrintsFront}
@@ -59,20 +60,20 @@ prints_line stops.Memory mid new told = told
 prints_line (stops.Report n) mid new told = told
 
 -- what was printed before a stop
-some_text : (asked : Asked) (head : Head) (items : List Item) (old now : Option (List ℕ)) (stop : Stop) → PrintedBefore asked head items old now stop → AppendsSome old now
-some_text asked head items old now stops.Words text = record { octets = items_text asked head items; given = text }
-some_text asked head items old now (stops.Record n) text = record { octets = items_text asked head items; given = text }
-some_text asked head items old now (stops.Frame n) text = record { octets = items_text asked head items; given = text }
-some_text asked head items old now (stops.Input fault offset) text = record { octets = items_text asked head items; given = text }
-some_text asked head items old now (stops.Output fault offset) text = record { octets = items_text asked head items; given = text }
-some_text asked head items old now stops.Unread text = record { octets = items_text asked head items; given = text }
-some_text asked head items old now stops.Unwritten text = record { octets = items_text asked head items; given = text }
-some_text asked head items old now stops.Memory text = record { octets = text.front; given = text.given }
-some_text asked head items old now (stops.Report n) text = record { octets = items_text asked head items; given = text }
+some_text : (asked : Asked) (form : Form) (head : Head) (items : List Item) (old now : Option (List ℕ)) (stop : Stop) → PrintedBefore asked form head items old now stop → AppendsSome old now
+some_text asked form head items old now stops.Words text = record { octets = items_text asked head items; given = text }
+some_text asked form head items old now (stops.Record n) text = record { octets = items_text asked head items; given = text }
+some_text asked form head items old now (stops.Frame n) text = record { octets = items_text asked head items; given = text }
+some_text asked form head items old now (stops.Input fault offset) text = record { octets = items_text asked head items; given = text }
+some_text asked form head items old now (stops.Output fault offset) text = record { octets = items_text asked head items; given = text }
+some_text asked form head items old now stops.Unread text = record { octets = items_text asked head items; given = text }
+some_text asked form head items old now stops.Unwritten text = record { octets = items_text asked head items; given = text }
+some_text asked form head items old now stops.Memory text = record { octets = text.front; given = text.given }
+some_text asked form head items old now (stops.Report n) text = record { octets = items_text asked head items; given = text }
 
 some_files : (asked : Asked) (s : Sources) (old now : Option (List ℕ)) (first last : FaultCounts) (stop : Stop) → FilesStop asked s old now first last stop → AppendsSome old now
 some_files asked s old now first last stop (inl before) = record { octets = []; given = before.text }
-some_files asked s old now first last stop (inr within) = some_text asked within.head within.stops.items old now stop within.stops.text
+some_files asked s old now first last stop (inr within) = some_text asked within.form within.head within.stops.items old now stop within.stops.text
 
 some_before : (words : List (List ℕ)) (before after : Moment) (mid : Option (List ℕ)) (stop : Stop) → Cause words before after mid stop → AppendsSome before.out.octets mid
 some_before words before after mid stop (inl unwritten) = unwritten.failed.some
@@ -80,27 +81,26 @@ some_before words before after mid stop (inr (inl refused)) = record { octets = 
 some_before words before after mid stop (inr (inr stopped)) = some_files stopped.asked (sources_at before) before.out.octets mid (faults_of before) (faults_of after) stop stopped.why
 
 -- the same where memory could not be allocated for the line of a stop
-memory_text : (asked : Asked) (head : Head) (items : List Item) (old now : Option (List ℕ)) (stop : Stop) → PrintedBefore asked head items old now stop → PrintsFront old now (view_text_of asked head items)
-memory_text asked head items old now stops.Words text = record { front = items_text asked head items; rest = closing_text asked head items; given = text; text_is = refl }
-memory_text asked head items old now (stops.Record n) text = record { front = items_text asked head items; rest = closing_text asked head items; given = text; text_is = refl }
-memory_text asked head items old now (stops.Frame n) text = record { front = items_text asked head items; rest = closing_text asked head items; given = text; text_is = refl }
-memory_text asked head items old now (stops.Input fault offset) text = record { front = items_text asked head items; rest = closing_text asked head items; given = text; text_is = refl }
-memory_text asked head items old now (stops.Output fault offset) text = record { front = items_text asked head items; rest = closing_text asked head items; given = text; text_is = refl }
-memory_text asked head items old now stops.Unread text = record { front = items_text asked head items; rest = closing_text asked head items; given = text; text_is = refl }
-memory_text asked head items old now stops.Unwritten text = record { front = items_text asked head items; rest = closing_text asked head items; given = text; text_is = refl }
-memory_text asked head items old now stops.Memory text = text
-memory_text asked head items old now (stops.Report n) text = record { front = items_text asked head items; rest = closing_text asked head items; given = text; text_is = refl }
+memory_text : (asked : Asked) (form : Form) (head : Head) (items : List Item) (old now : Option (List ℕ)) (stop : Stop) → PrintedBefore asked form head items old now stop → PrintsFront old now (view_text_of asked form head items)
+memory_text asked form head items old now stops.Words text = record { front = items_text asked head items; rest = closing_text asked form head items; given = text; text_is = refl }
+memory_text asked form head items old now (stops.Record n) text = record { front = items_text asked head items; rest = closing_text asked form head items; given = text; text_is = refl }
+memory_text asked form head items old now (stops.Frame n) text = record { front = items_text asked head items; rest = closing_text asked form head items; given = text; text_is = refl }
+memory_text asked form head items old now (stops.Input fault offset) text = record { front = items_text asked head items; rest = closing_text asked form head items; given = text; text_is = refl }
+memory_text asked form head items old now (stops.Output fault offset) text = record { front = items_text asked head items; rest = closing_text asked form head items; given = text; text_is = refl }
+memory_text asked form head items old now stops.Unread text = record { front = items_text asked head items; rest = closing_text asked form head items; given = text; text_is = refl }
+memory_text asked form head items old now stops.Unwritten text = record { front = items_text asked head items; rest = closing_text asked form head items; given = text; text_is = refl }
+memory_text asked form head items old now stops.Memory text = text
+memory_text asked form head items old now (stops.Report n) text = record { front = items_text asked head items; rest = closing_text asked form head items; given = text; text_is = refl }
 
 memory_files : (asked : Asked) (s : Sources) (old now : Option (List ℕ)) (first last : FaultCounts) (stop : Stop) → FilesStop asked s old now first last stop → FilesStop asked s old now first last stops.Memory
 memory_files asked s old now first last stop (inl before) = inl (record { why = tt; text = before.text })
 memory_files asked s old now first last stop (inr within) =
     inr
     (record {
-      version = within.version;
+      form = within.form;
       head = within.head;
       written = within.written;
       behind = within.behind;
-      known = within.known;
       link_is = within.link_is;
       first = within.first;
       stops =
@@ -109,7 +109,7 @@ memory_files asked s old now first last stop (inr within) =
             left = within.stops.left;
             give = within.stops.give;
             why = tt;
-            text = memory_text asked within.head within.stops.items old now stop within.stops.text;
+            text = memory_text asked within.form within.head within.stops.items old now stop within.stops.text;
           };
     })
 

@@ -1,32 +1,34 @@
 -- Why a view stops, from why its functions do.
-use Rattle.std.proofs.Common.{◌≡◌, ◌⊎◌, ℕ, ◌+◌, ◌≤◌, List, [], ◌∷◌, ◌++◌, length, Option, Some, None, refl, sym, ap, subst, ◌∙◌, inl, inr, arith, append-nil, append_assoc, length-append}
+use Rattle.std.proofs.Common.{◌≡◌, ◌⊎◌, ℕ, ◌+◌, ◌≤◌, ◌<◌, Bool, true, false, List, [], ◌∷◌, ◌++◌, length, Option, None, refl, sym, ap, subst, ◌∙◌, inl, inr, arith, append-nil, append_assoc, length-append, if◌then◌else◌}
 use Rattle.std.specs.Prelude.{IfSome}
 use Rattle.std.specs.Io.KnownBytes.{Appends, Consumes, IsAtEnd}
 use Rattle.std.proofs.KnownBytes.{Appends-trans}
 use Rattle.edge_io.specs.Faults.{Rose}
 use Rattle.pcap_file.specs.declared.head.Head.{Head}
 use Rattle.pcap_file.specs.Records.{Packet}
-use Rattle.wire_base.specs.declared.address.Link.{Link}
-use Rattle.capture_input.specs.declared.input.Input.{Input}
-use Rattle.capture_input.specs.Inputs.{Took, TookAll, Walk}
-use Rattle.capture_input.specs.Reading.{head_in}
+use Rattle.capture_input.specs.declared.fault.InputFault.{InputFault}
+use Rattle.capture_input.specs.Inputs.{TookAll}
 use Rattle.rule_book.specs.Entries.{PlainEntry}
-use Rattle.rule_book.specs.Text.{last_text}
-use Rattle.rule_book.specs.declared.last.Last.TheVariants.{End}
+use Rattle.run_view.specs.declared.form.Form.{Form}
 use Rattle.run_view.specs.declared.item.Files.{Files}
+use Rattle.run_view.specs.declared.item.Frames.{Frames}
 use Rattle.run_view.specs.declared.stop.Stop.{Stop}
 use Rattle.run_view.specs.declared.stop.Stop.TheVariants as stops
+use Rattle.run_view.specs.declared.told.Turn.{Turn}
 use Rattle.run_view.specs.declared.viewer.Viewer.{Viewer}
 use Rattle.run_view.specs.declared.words.Asked.{Asked}
-use Rattle.run_view.specs.Causes.{EntriesStop, FaultCounts, GiveItems, HasNextLine, IsNoNext, SourceRose, Sources, StopsBehind, WhyBefore, WhyBehind, sources_of}
-use Rattle.run_view.specs.Items.{Item, frames_of, packets_of}
+use Rattle.run_view.specs.Causes.{EntriesStop, FailsAtFrame, FaultCounts, GiveItems, HasNextLine, HasRecordOf, IsNoNext, LacksFrame, PrintedBefore, SourceRose, Sources, StopsBehind, TookLast, WhyBehind, frames_by, sources_of}
+use Rattle.run_view.specs.Forms.{version_of}
+use Rattle.run_view.specs.Items.{Item, firsts, frames_of, is_second, owed_of, packets_of, seconds, waits}
 use Rattle.run_view.specs.Printed.{AppendsSome, Failed, PartStops, PrintStops, PrintsFront}
-use Rattle.run_view.specs.SoFar.{Ends, Going}
-use Rattle.run_view.specs.Standing.{BeginsWithRecords, HasHead, InputOpened, InputStops, IsOfOtherLink, OutputHeadStops}
-use Rattle.run_view.specs.Steps.{FramesStop, ItemStops}
+use Rattle.run_view.specs.SoFar.{Ends, SoFar, lines_in, turn_in}
+use Rattle.run_view.specs.Standing.{BeginsWithRecords, InputStops, OutputAt}
+use Rattle.run_view.specs.Steps.{FramesStop, ItemStops, OwnFails, OwnMissing, RecordRead, RecordStops}
 use Rattle.run_view.specs.View.{closing_text, items_text, view_text_of}
-use Rattle.run_view.specs.Why.{EndStops, FirstStops, FramesGoOn, NextStops, RecordsGoOn, TakeStops, Taking, Unread}
-use Rattle.run_view.proofs.Ending.{all_taken}
+use Rattle.run_view.specs.Why.{EndStops, FramesGoOn, LineStops, NextStops, RecordsGoOn, TakeStops, Taking, ToldEnd, Unread}
+use Rattle.run_view.proofs.Ending.{all_taken, end_is, none_waits}
+use Rattle.run_view.proofs.Going.{Going, turn_is}
+use Rattle.run_view.proofs.Standings.{begins_at}
 
 pub rose_within : (a b c d : ℕ) → a ≤ b → c ≤ d → Rose b c → Rose a d
 rose_within a b c d ab cd rose = omega arith
@@ -54,12 +56,24 @@ pub failed_then : (a b c : Option (List ℕ)) (text : List ℕ) (before mid now 
 failed_then a b c text before mid now after first wider failed = record { rose = wider failed.rose; some = and_some a b c text first failed.some }
 
 -- the text of the items is a front of what is printed of them in the end
-items_front : (asked : Asked) (head : Head) (items : List Item) (old now : Option (List ℕ)) → Appends old now (items_text asked head items) → PrintsFront old now (view_text_of asked head items)
-items_front asked head items old now text = record { front = items_text asked head items; rest = closing_text asked head items; given = text; text_is = refl }
+items_front : (asked : Asked) (form : Form) (head : Head) (items : List Item) (old now : Option (List ℕ)) → Appends old now (items_text asked head items) → PrintsFront old now (view_text_of asked form head items)
+items_front asked form head items old now text = record { front = items_text asked head items; rest = closing_text asked form head items; given = text; text_is = refl }
+
+-- whatever stops a view behind the items, their text was printed
+printed_so : (asked : Asked) (form : Form) (head : Head) (items : List Item) (old now : Option (List ℕ)) (stop : Stop) → Appends old now (items_text asked head items) → PrintedBefore asked form head items old now stop
+printed_so asked form head items old now stops.Words text = text
+printed_so asked form head items old now (stops.Record n) text = text
+printed_so asked form head items old now (stops.Frame n) text = text
+printed_so asked form head items old now (stops.Input fault offset) text = text
+printed_so asked form head items old now (stops.Output fault offset) text = text
+printed_so asked form head items old now stops.Unread text = text
+printed_so asked form head items old now stops.Unwritten text = text
+printed_so asked form head items old now stops.Memory text = items_front asked form head items old now text
+printed_so asked form head items old now (stops.Report n) text = text
 
 -- what the three sources gave
 pub gives : (viewer : Viewer) (written : Head) (before now : Ends) (report left : Option (List ℕ)) → (going : Going viewer written before now report left)
-    → GiveItems (sources_of before.read before.written report) viewer.version viewer.files.head written going.items left
+    → GiveItems (sources_of before.read before.written report) viewer.form viewer.files.head written going.items left
 gives viewer written before now report left going =
     record {
       are = going.so_far.are;
@@ -68,36 +82,50 @@ gives viewer written before now report left going =
       lines = going.told;
     }
 
-no_next : (version count other frames more : ℕ) (left : Option (List ℕ)) → count ≡ other → frames ≡ more → IfSome left (IsNoNext version count frames) → IfSome left (IsNoNext version other more)
-no_next version count other frames more left is_count is_frames amiss =
-    let C : ℕ → Type 0 = λ n. IfSome left (IsNoNext version n frames) in
-    let F : ℕ → Type 0 = λ n. IfSome left (IsNoNext version other n) in
-    subst F is_frames (subst C is_count amiss)
+-- how many lines were read
+lines_length : (items : List Item) → length items ≡ length (firsts items) + length (seconds items)
+lines_length [] = refl
+lines_length (item ∷ older) = by (is_second item) (lines_length older) where
+  by : (second : Bool) → length older ≡ length (firsts older) + length (seconds older) → length (item ∷ older) ≡ length (if second then firsts older else item ∷ firsts older) + length (if second then item ∷ seconds older else seconds older)
+  by true before = omega (arith, before)
+  by false before = omega (arith, before)
 
--- the next line was not read
+lines_are : (viewer : Viewer) (written : Head) (before now : Ends) (items : List Item) → SoFar viewer written before now items → lines_in viewer ≡ length items
+lines_are viewer written before now items so_far = omega (arith, so_far.count, so_far.second_count, lines_length items)
+
+-- why the next line was not read
+next_why : (viewer : Viewer) (written : Head) (before now : Ends) (report left : Option (List ℕ)) (mid after : ℕ) (rose : Type 0) (stop : Stop) → (Rose mid after → rose)
+    → (going : Going viewer written before now report left) → NextStops (version_of viewer.form) (turn_in viewer) (lines_in viewer) left mid after stop
+    → WhyBehind (sources_of before.read before.written report) viewer.form viewer.files.head written going.items left rose stop
+next_why viewer written before now report left mid after rose stops.Words wider going why = absurd why
+next_why viewer written before now report left mid after rose (stops.Record n) wider going why = absurd why
+next_why viewer written before now report left mid after rose (stops.Frame n) wider going why = absurd why
+next_why viewer written before now report left mid after rose (stops.Input fault offset) wider going why = absurd why
+next_why viewer written before now report left mid after rose (stops.Output fault offset) wider going why = absurd why
+next_why viewer written before now report left mid after rose stops.Unread wider going why = wider why
+next_why viewer written before now report left mid after rose stops.Unwritten wider going why = absurd why
+next_why viewer written before now report left mid after rose stops.Memory wider going why = absurd why
+next_why viewer written before now report left mid after rose (stops.Report n) wider going why =
+    let T : Turn → Type 0 = λ t. IfSome left (IsNoNext (version_of viewer.form) t) in
+    inl
+    (record {
+      amiss = subst T (turn_is viewer written before now going.items going.so_far) why.amiss;
+      place = why.place ∙ ap (λ k. k + 2) (lines_are viewer written before now going.items going.so_far);
+    })
+
 pub next_stops : (viewer : Viewer) (written : Head) (before now : Ends) (report left : Option (List ℕ)) (mid after : ℕ) (rose : Type 0) (stop : Stop) → (Rose mid after → rose)
-    → Going viewer written before now report left → NextStops viewer.version viewer.files.count viewer.files.frames.count left mid after stop
-    → StopsBehind viewer.asked (sources_of before.read before.written report) viewer.version viewer.files.head written before.printed now.printed rose stop
-next_stops viewer written before now report left mid after rose stops.Words wider going why = absurd why
-next_stops viewer written before now report left mid after rose (stops.Record n) wider going why = absurd why
-next_stops viewer written before now report left mid after rose (stops.Frame n) wider going why = absurd why
-next_stops viewer written before now report left mid after rose (stops.Input fault offset) wider going why = absurd why
-next_stops viewer written before now report left mid after rose (stops.Output fault offset) wider going why = absurd why
-next_stops viewer written before now report left mid after rose stops.Unread wider going why = record { items = going.items; left = left; give = gives viewer written before now report left going; why = wider why; text = going.so_far.text }
-next_stops viewer written before now report left mid after rose stops.Unwritten wider going why = absurd why
-next_stops viewer written before now report left mid after rose stops.Memory wider going why = absurd why
-next_stops viewer written before now report left mid after rose (stops.Report n) wider going why =
-    let so_far = going.so_far in
-    let place : n ≡ length going.items + 2 = omega (arith, why.place, so_far.count) in
+    → Going viewer written before now report left → NextStops (version_of viewer.form) (turn_in viewer) (lines_in viewer) left mid after stop
+    → StopsBehind viewer.asked (sources_of before.read before.written report) viewer.form viewer.files.head written before.printed now.printed rose stop
+next_stops viewer written before now report left mid after rose stop wider going why =
     record {
       items = going.items;
       left = left;
       give = gives viewer written before now report left going;
-      why = inl (record { amiss = no_next viewer.version viewer.files.count (length going.items) viewer.files.frames.count (length (frames_of going.items)) left so_far.count so_far.frame_count why.amiss; place = place });
-      text = so_far.text;
+      why = next_why viewer written before now report left mid after rose stop wider going why;
+      text = printed_so viewer.asked viewer.form viewer.files.head going.items before.printed now.printed stop going.so_far.text;
     }
 
--- how many frames are given with those of a record
+-- how many frames are given with those of a line
 own_place : (own older : List Packet) (count number : ℕ) → count ≡ length older → number ≡ (count + length own) + 1 → number ≡ length (own ++ older) + 1
 own_place own older count number is place = omega (arith, is, place, length-append own older)
 
@@ -105,69 +133,85 @@ either : {P Q R : Type 0} → P ⊎ Q → (P → R) → (Q → R) → R
 either (inl p) f g = f p
 either (inr q) f g = g q
 
--- an item was not read
-unread_stops : (viewer : Viewer) (written : Head) (before now : Ends) (report left : Option (List ℕ)) (t : Taking) (rose : Type 0) (stop : Stop) (entry : PlainEntry)
+-- a frame of a line is missing
+frame_lacks : (viewer : Viewer) (written : Head) (before now : Ends) (report left : Option (List ℕ)) (second : Bool) (entry : PlainEntry) (n : ℕ) → (going : Going viewer written before now report left)
+    → waits (owed_of going.items) ≡ second → HasNextLine viewer.form going.items left entry → HasRecordOf second before.read viewer.files.head (packets_of going.items)
+    → OwnMissing viewer.files.frames.count before.written written (frames_of going.items) (frames_by second viewer.form entry) n
+    → LacksFrame (sources_of before.read before.written report) viewer.form viewer.files.head written going.items left n
+frame_lacks viewer written before now report left second entry n going same line record_is lost =
+    let R : Bool → Type 0 = λ b. HasRecordOf b before.read viewer.files.head (packets_of going.items) in
+    let F : Bool → Type 0 = λ b. length lost.own < frames_by b viewer.form entry in
+    record {
+      entry = entry;
+      line = line;
+      record_is = subst R (sym same) record_is;
+      own = lost.own;
+      fewer = subst F (sym same) lost.fewer;
+      whole = lost.missing.whole;
+      place = own_place lost.own (frames_of going.items) viewer.files.frames.count n going.so_far.frame_count lost.missing.place;
+    }
+
+-- the output has a fault in a frame of a line
+frame_fails : (viewer : Viewer) (written : Head) (before now : Ends) (report left : Option (List ℕ)) (second : Bool) (entry : PlainEntry) (fault : InputFault) (offset : ℕ) → (going : Going viewer written before now report left)
+    → waits (owed_of going.items) ≡ second → HasNextLine viewer.form going.items left entry → HasRecordOf second before.read viewer.files.head (packets_of going.items)
+    → OwnFails before.written written (frames_of going.items) (frames_by second viewer.form entry) fault offset
+    → FailsAtFrame (sources_of before.read before.written report) viewer.form viewer.files.head written going.items left fault offset
+frame_fails viewer written before now report left second entry fault offset going same line record_is own =
+    let R : Bool → Type 0 = λ b. HasRecordOf b before.read viewer.files.head (packets_of going.items) in
+    let F : Bool → Type 0 = λ b. length own.own < frames_by b viewer.form entry in
+    record { entry = entry; line = line; record_is = subst R (sym same) record_is; own = own.own; fewer = subst F (sym same) own.fewer; fails = own.fails }
+
+-- why a line was not read
+unread_why : (viewer : Viewer) (written : Head) (before now : Ends) (report left : Option (List ℕ)) (t : Taking) (rose : Type 0) (second : Bool) (stop : Stop) (entry : PlainEntry)
+    → (Rose t.read_before t.read_now → rose) → (Rose t.written_before t.written_now → rose)
+    → (going : Going viewer written before now report left) → waits (owed_of going.items) ≡ second → HasNextLine viewer.form going.items left entry
+    → LineStops second viewer.files before.read before.written written (packets_of going.items) (frames_of going.items) (frames_by second viewer.form entry) t stop
+    → WhyBehind (sources_of before.read before.written report) viewer.form viewer.files.head written going.items left rose stop
+unread_why viewer written before now report left t rose false stops.Words entry read_rose written_rose going same line why = absurd why
+unread_why viewer written before now report left t rose false (stops.Record n) entry read_rose written_rose going same line why =
+    inl (record { entry = entry; line = line; none_owed = none_waits (owed_of going.items) same; whole = why.whole; place = why.place ∙ ap (λ k. k + 1) going.so_far.count })
+unread_why viewer written before now report left t rose false (stops.Frame n) entry read_rose written_rose going same line why =
+    inl (frame_lacks viewer written before now report left false entry n going same line (record { packet = why.packet; more = why.record_is }) why.missing)
+unread_why viewer written before now report left t rose false (stops.Input fault offset) entry read_rose written_rose going same line why =
+    record { wanted = inl (record { entry = entry; line = line; none_owed = none_waits (owed_of going.items) same }); fails = why }
+unread_why viewer written before now report left t rose false (stops.Output fault offset) entry read_rose written_rose going same line why =
+    inl (frame_fails viewer written before now report left false entry fault offset going same line (record { packet = why.packet; more = why.record_is }) why.fails)
+unread_why viewer written before now report left t rose false stops.Unread entry read_rose written_rose going same line why = either why read_rose written_rose
+unread_why viewer written before now report left t rose false stops.Unwritten entry read_rose written_rose going same line why = absurd why
+unread_why viewer written before now report left t rose false stops.Memory entry read_rose written_rose going same line why = tt
+unread_why viewer written before now report left t rose false (stops.Report n) entry read_rose written_rose going same line why = absurd why
+unread_why viewer written before now report left t rose true stops.Words entry read_rose written_rose going same line why = absurd why
+unread_why viewer written before now report left t rose true (stops.Record n) entry read_rose written_rose going same line why = absurd why
+unread_why viewer written before now report left t rose true (stops.Frame n) entry read_rose written_rose going same line why =
+    inl (frame_lacks viewer written before now report left true entry n going same line tt why)
+unread_why viewer written before now report left t rose true (stops.Input fault offset) entry read_rose written_rose going same line why = absurd why
+unread_why viewer written before now report left t rose true (stops.Output fault offset) entry read_rose written_rose going same line why =
+    inl (frame_fails viewer written before now report left true entry fault offset going same line tt why)
+unread_why viewer written before now report left t rose true stops.Unread entry read_rose written_rose going same line why = written_rose why
+unread_why viewer written before now report left t rose true stops.Unwritten entry read_rose written_rose going same line why = absurd why
+unread_why viewer written before now report left t rose true stops.Memory entry read_rose written_rose going same line why = tt
+unread_why viewer written before now report left t rose true (stops.Report n) entry read_rose written_rose going same line why = absurd why
+
+unread_stops : (viewer : Viewer) (written : Head) (before now : Ends) (report left : Option (List ℕ)) (t : Taking) (rose : Type 0) (second : Bool) (stop : Stop) (entry : PlainEntry)
     → (Rose t.read_before t.read_now → rose) → (Rose t.written_before t.written_now → rose) → t.printed ≡ now.printed
-    → (going : Going viewer written before now report left) → HasNextLine viewer.version going.items left entry
-    → Unread viewer.files before.read before.written written (packets_of going.items) (frames_of going.items) entry.packets t stop
-    → StopsBehind viewer.asked (sources_of before.read before.written report) viewer.version viewer.files.head written before.printed t.printed_now rose stop
-unread_stops viewer written before now report left t rose stops.Words entry read_rose written_rose same going line unread = absurd (either unread.why (λ w. w) (λ w. w))
-unread_stops viewer written before now report left t rose (stops.Record n) entry read_rose written_rose same going line unread =
+    → (going : Going viewer written before now report left) → waits (owed_of going.items) ≡ second → HasNextLine viewer.form going.items left entry
+    → Unread second viewer.files before.read before.written written (packets_of going.items) (frames_of going.items) (frames_by second viewer.form entry) t stop
+    → StopsBehind viewer.asked (sources_of before.read before.written report) viewer.form viewer.files.head written before.printed t.printed_now rose stop
+unread_stops viewer written before now report left t rose second stop entry read_rose written_rose printed_is going same line unread =
     let P : Option (List ℕ) → Type 0 = λ p. Appends p t.printed_now [] in
-    let text = and_none before.printed now.printed t.printed_now (items_text viewer.asked viewer.files.head going.items) going.so_far.text (subst P same unread.text) in
-    let give = gives viewer written before now report left going in
-    let place : n ≡ length going.items + 1 = omega (arith, unread.why.place, going.so_far.count) in
-    record { items = going.items; left = left; give = give; why = inl (record { entry = entry; line = line; whole = unread.why.whole; place = place }); text = text }
-unread_stops viewer written before now report left t rose (stops.Frame n) entry read_rose written_rose same going line unread =
-    let P : Option (List ℕ) → Type 0 = λ p. Appends p t.printed_now [] in
-    let text = and_none before.printed now.printed t.printed_now (items_text viewer.asked viewer.files.head going.items) going.so_far.text (subst P same unread.text) in
-    let give = gives viewer written before now report left going in
-    let lost = unread.why.missing in
+    let text = and_none before.printed now.printed t.printed_now (items_text viewer.asked viewer.files.head going.items) going.so_far.text (subst P printed_is unread.text) in
     record {
       items = going.items;
       left = left;
-      give = give;
-      why =
-          inl
-          (record {
-            entry = entry;
-            line = line;
-            packet = unread.why.packet;
-            record_is = unread.why.record_is;
-            own = lost.own;
-            fewer = lost.fewer;
-            whole = lost.missing.whole;
-            place = own_place lost.own (frames_of going.items) viewer.files.frames.count n going.so_far.frame_count lost.missing.place;
-          });
-      text = text;
+      give = gives viewer written before now report left going;
+      why = unread_why viewer written before now report left t rose second stop entry read_rose written_rose going same line unread.why;
+      text = printed_so viewer.asked viewer.form viewer.files.head going.items before.printed t.printed_now stop text;
     }
-unread_stops viewer written before now report left t rose (stops.Input fault offset) entry read_rose written_rose same going line unread =
-    let P : Option (List ℕ) → Type 0 = λ p. Appends p t.printed_now [] in
-    let text = and_none before.printed now.printed t.printed_now (items_text viewer.asked viewer.files.head going.items) going.so_far.text (subst P same unread.text) in
-    let give = gives viewer written before now report left going in
-    record { items = going.items; left = left; give = give; why = (either unread.why (λ w. w) (λ w. absurd w)); text = text }
-unread_stops viewer written before now report left t rose (stops.Output fault offset) entry read_rose written_rose same going line unread =
-    let P : Option (List ℕ) → Type 0 = λ p. Appends p t.printed_now [] in
-    let text = and_none before.printed now.printed t.printed_now (items_text viewer.asked viewer.files.head going.items) going.so_far.text (subst P same unread.text) in
-    let give = gives viewer written before now report left going in
-    record { items = going.items; left = left; give = give; why = (either unread.why (λ w. absurd w) (λ w. w)); text = text }
-unread_stops viewer written before now report left t rose stops.Unread entry read_rose written_rose same going line unread =
-    let P : Option (List ℕ) → Type 0 = λ p. Appends p t.printed_now [] in
-    let text = and_none before.printed now.printed t.printed_now (items_text viewer.asked viewer.files.head going.items) going.so_far.text (subst P same unread.text) in
-    let give = gives viewer written before now report left going in
-    record { items = going.items; left = left; give = give; why = (either unread.why (read_rose) (written_rose)); text = text }
-unread_stops viewer written before now report left t rose stops.Unwritten entry read_rose written_rose same going line unread = absurd (either unread.why (λ w. w) (λ w. w))
-unread_stops viewer written before now report left t rose stops.Memory entry read_rose written_rose same going line unread =
-    let P : Option (List ℕ) → Type 0 = λ p. Appends p t.printed_now [] in
-    let text = and_none before.printed now.printed t.printed_now (items_text viewer.asked viewer.files.head going.items) going.so_far.text (subst P same unread.text) in
-    let give = gives viewer written before now report left going in
-    record { items = going.items; left = left; give = give; why = tt; text = items_front viewer.asked viewer.files.head going.items before.printed t.printed_now text }
-unread_stops viewer written before now report left t rose (stops.Report n) entry read_rose written_rose same going line unread = absurd (either unread.why (λ w. w) (λ w. w))
 
 printed_stops : (viewer : Viewer) (written : Head) (before now : Ends) (report left : Option (List ℕ)) (t : Taking) (first last : FaultCounts) (stop : Stop)
     → (Rose t.out_before t.out_now → Rose first.out last.out) → t.printed ≡ now.printed → (going : Going viewer written before now report left)
     → PrintStops t.printed t.printed_now t.out_before t.out_now stop
-    → EntriesStop viewer.asked (sources_of before.read before.written report) viewer.version viewer.files.head written before.printed t.printed_now first last stop
+    → EntriesStop viewer.asked (sources_of before.read before.written report) viewer.form viewer.files.head written before.printed t.printed_now first last stop
 printed_stops viewer written before now report left t first last stops.Words wider same going why = absurd why
 printed_stops viewer written before now report left t first last (stops.Record n) wider same going why = absurd why
 printed_stops viewer written before now report left t first last (stops.Frame n) wider same going why = absurd why
@@ -180,80 +224,87 @@ printed_stops viewer written before now report left t first last stops.Unwritten
 printed_stops viewer written before now report left t first last stops.Memory wider same going why =
     let P : Option (List ℕ) → Type 0 = λ p. Appends p t.printed_now [] in
     let text = and_none before.printed now.printed t.printed_now (items_text viewer.asked viewer.files.head going.items) going.so_far.text (subst P same why) in
-    inr (record { items = going.items; left = left; give = gives viewer written before now report left going; why = tt; text = items_front viewer.asked viewer.files.head going.items before.printed t.printed_now text })
+    inr (record { items = going.items; left = left; give = gives viewer written before now report left going; why = tt; text = items_front viewer.asked viewer.form viewer.files.head going.items before.printed t.printed_now text })
 printed_stops viewer written before now report left t first last (stops.Report n) wider same going why = absurd why
 
--- an item was not taken
+-- a line was not taken
 pub take_stops : (viewer : Viewer) (written : Head) (before now : Ends) (report left : Option (List ℕ)) (t : Taking) (first last : FaultCounts) (stop : Stop) (entry : PlainEntry)
     → (Rose t.read_before t.read_now → SourceRose first last) → (Rose t.written_before t.written_now → SourceRose first last) → (Rose t.out_before t.out_now → Rose first.out last.out)
-    → t.printed ≡ now.printed → (going : Going viewer written before now report left) → HasNextLine viewer.version going.items left entry
-    → TakeStops viewer.files before.read before.written written (packets_of going.items) (frames_of going.items) entry.packets t stop
-    → EntriesStop viewer.asked (sources_of before.read before.written report) viewer.version viewer.files.head written before.printed t.printed_now first last stop
+    → t.printed ≡ now.printed → (going : Going viewer written before now report left) → HasNextLine viewer.form going.items left entry
+    → TakeStops (waits viewer.owed) viewer.files before.read before.written written (packets_of going.items) (frames_of going.items) (frames_by (waits viewer.owed) viewer.form entry) t stop
+    → EntriesStop viewer.asked (sources_of before.read before.written report) viewer.form viewer.files.head written before.printed t.printed_now first last stop
 take_stops viewer written before now report left t first last stop entry read_rose written_rose wider same going line (inl unread) =
-    inr (unread_stops viewer written before now report left t (SourceRose first last) stop entry read_rose written_rose same going line unread)
+    inr (unread_stops viewer written before now report left t (SourceRose first last) (waits viewer.owed) stop entry read_rose written_rose same going (ap waits (sym going.so_far.owed)) line unread)
 take_stops viewer written before now report left t first last stop entry read_rose written_rose wider same going line (inr why) =
     printed_stops viewer written before now report left t first last stop wider same going why
 
 -- the report is over
-over : (left ended : Option (List ℕ)) (count other frames more : ℕ) → count ≡ other → frames ≡ more → Consumes left ended (last_text (End count frames)) → Consumes left ended (last_text (End other more))
-over left ended count other frames more is_count is_frames took =
-    let C : ℕ → Type 0 = λ n. Consumes left ended (last_text (End n frames)) in
-    let F : ℕ → Type 0 = λ n. Consumes left ended (last_text (End other n)) in
-    subst F is_frames (subst C is_count took)
+over : (viewer : Viewer) (written : Head) (before now : Ends) (items : List Item) (left ended : Option (List ℕ)) → SoFar viewer written before now items → ToldEnd (turn_in viewer) left ended → TookLast items left ended
+over viewer written before now items left ended so_far told =
+    let T : List ℕ → Type 0 = λ text. Consumes left ended text in
+    record { none_owed = sym so_far.owed ∙ none_waits viewer.owed told.first; taken = subst T (end_is viewer written before now items so_far told.first) told.taken }
 
--- the three files are not at their ends
+-- why the three files are not at their ends
+end_why : (viewer : Viewer) (written : Head) (before now : Ends) (report left ended : Option (List ℕ)) (first last mid after : FaultCounts) (stop : Stop)
+    → (SourceRose mid after → SourceRose first last) → ToldEnd (turn_in viewer) left ended → (going : Going viewer written before now report left)
+    → EndStops viewer.files (lines_in viewer) before.read before.written ended written (packets_of going.items) (frames_of going.items) mid after stop
+    → WhyBehind (sources_of before.read before.written report) viewer.form viewer.files.head written going.items left (SourceRose first last) stop
+end_why viewer written before now report left ended first last mid after stops.Words wider took going why = absurd why
+end_why viewer written before now report left ended first last mid after (stops.Record n) wider took going why =
+    let told = over viewer written before now going.items left ended going.so_far took in
+    inr
+    (record {
+      over = record { none_owed = told.none_owed; is = all_taken left ended _ told.taken why.over };
+      packet = why.found.packet;
+      more = why.found.more;
+      place = why.found.place ∙ ap (λ k. k + 1) going.so_far.count;
+    })
+end_why viewer written before now report left ended first last mid after (stops.Frame n) wider took going why =
+    let told = over viewer written before now going.items left ended going.so_far took in
+    inr
+    (record {
+      over = record { none_owed = told.none_owed; is = all_taken left ended _ told.taken why.over };
+      whole = why.whole;
+      frame = why.found.frame;
+      more = why.found.more;
+      place = why.found.place ∙ ap (λ k. k + 1) going.so_far.frame_count;
+    })
+end_why viewer written before now report left ended first last mid after (stops.Input fault offset) wider took going why =
+    let told = over viewer written before now going.items left ended going.so_far took in
+    record { wanted = inr (record { none_owed = told.none_owed; is = all_taken left ended _ told.taken why.over }); fails = why.fails }
+end_why viewer written before now report left ended first last mid after (stops.Output fault offset) wider took going why =
+    let told = over viewer written before now going.items left ended going.so_far took in
+    inr (record { over = record { none_owed = told.none_owed; is = all_taken left ended _ told.taken why.over }; whole = why.whole; fails = why.fails })
+end_why viewer written before now report left ended first last mid after stops.Unread wider took going why = wider why
+end_why viewer written before now report left ended first last mid after stops.Unwritten wider took going why = absurd why
+end_why viewer written before now report left ended first last mid after stops.Memory wider took going why = absurd why
+end_why viewer written before now report left ended first last mid after (stops.Report n) wider took going why =
+    inr
+    (record {
+      behind = ended;
+      last = over viewer written before now going.items left ended going.so_far took;
+      more = why.more;
+      place = why.place ∙ ap (λ k. k + 3) (lines_are viewer written before now going.items going.so_far);
+    })
+
 pub end_stops : (viewer : Viewer) (written : Head) (before now : Ends) (report left ended : Option (List ℕ)) (first last mid after : FaultCounts) (stop : Stop)
-    → (SourceRose mid after → SourceRose first last) → Consumes left ended (last_text (End viewer.files.count viewer.files.frames.count)) → (going : Going viewer written before now report left)
-    → EndStops viewer.files before.read before.written ended written (packets_of going.items) (frames_of going.items) mid after stop
-    → StopsBehind viewer.asked (sources_of before.read before.written report) viewer.version viewer.files.head written before.printed now.printed (SourceRose first last) stop
-end_stops viewer written before now report left ended first last mid after stops.Words wider took going why = absurd why
-end_stops viewer written before now report left ended first last mid after (stops.Record n) wider took going why =
-    let items = going.items in
-    let so_far = going.so_far in
-    let give = gives viewer written before now report left going in
-    let told : Consumes left ended (last_text (End (length items) (length (frames_of items)))) = over left ended viewer.files.count (length items) viewer.files.frames.count (length (frames_of items)) so_far.count so_far.frame_count took in
-    let place : n ≡ length items + 1 = omega (arith, why.found.place, so_far.count) in
-    record { items = items; left = left; give = give; why = inr (record { over = all_taken left ended _ told why.over; packet = why.found.packet; more = why.found.more; place = place }); text = so_far.text }
-end_stops viewer written before now report left ended first last mid after (stops.Frame n) wider took going why =
-    let items = going.items in
-    let so_far = going.so_far in
-    let give = gives viewer written before now report left going in
-    let told : Consumes left ended (last_text (End (length items) (length (frames_of items)))) = over left ended viewer.files.count (length items) viewer.files.frames.count (length (frames_of items)) so_far.count so_far.frame_count took in
-    let place : n ≡ length (frames_of items) + 1 = omega (arith, why.found.place, so_far.frame_count) in
-    record { items = items; left = left; give = give; why = inr (record { over = all_taken left ended _ told why.over; whole = why.whole; frame = why.found.frame; more = why.found.more; place = place }); text = so_far.text }
-end_stops viewer written before now report left ended first last mid after (stops.Input fault offset) wider took going why =
-    let items = going.items in
-    let so_far = going.so_far in
-    let give = gives viewer written before now report left going in
-    let told : Consumes left ended (last_text (End (length items) (length (frames_of items)))) = over left ended viewer.files.count (length items) viewer.files.frames.count (length (frames_of items)) so_far.count so_far.frame_count took in
-    record { items = items; left = left; give = give; why = why; text = so_far.text }
-end_stops viewer written before now report left ended first last mid after (stops.Output fault offset) wider took going why =
-    let items = going.items in
-    let so_far = going.so_far in
-    let give = gives viewer written before now report left going in
-    let told : Consumes left ended (last_text (End (length items) (length (frames_of items)))) = over left ended viewer.files.count (length items) viewer.files.frames.count (length (frames_of items)) so_far.count so_far.frame_count took in
-    record { items = items; left = left; give = give; why = why; text = so_far.text }
-end_stops viewer written before now report left ended first last mid after stops.Unread wider took going why =
-    let items = going.items in
-    let so_far = going.so_far in
-    let give = gives viewer written before now report left going in
-    let told : Consumes left ended (last_text (End (length items) (length (frames_of items)))) = over left ended viewer.files.count (length items) viewer.files.frames.count (length (frames_of items)) so_far.count so_far.frame_count took in
-    record { items = items; left = left; give = give; why = wider why; text = so_far.text }
-end_stops viewer written before now report left ended first last mid after stops.Unwritten wider took going why = absurd why
-end_stops viewer written before now report left ended first last mid after stops.Memory wider took going why = absurd why
-end_stops viewer written before now report left ended first last mid after (stops.Report n) wider took going why =
-    let items = going.items in
-    let so_far = going.so_far in
-    let give = gives viewer written before now report left going in
-    let told : Consumes left ended (last_text (End (length items) (length (frames_of items)))) = over left ended viewer.files.count (length items) viewer.files.frames.count (length (frames_of items)) so_far.count so_far.frame_count took in
-    let place : n ≡ length items + 3 = omega (arith, why.place, so_far.count) in
-    record { items = items; left = left; give = give; why = inr (record { behind = ended; last = told; more = why.more; place = place }); text = so_far.text }
+    → (SourceRose mid after → SourceRose first last) → ToldEnd (turn_in viewer) left ended → (going : Going viewer written before now report left)
+    → EndStops viewer.files (lines_in viewer) before.read before.written ended written (packets_of going.items) (frames_of going.items) mid after stop
+    → StopsBehind viewer.asked (sources_of before.read before.written report) viewer.form viewer.files.head written before.printed now.printed (SourceRose first last) stop
+end_stops viewer written before now report left ended first last mid after stop wider took going why =
+    record {
+      items = going.items;
+      left = left;
+      give = gives viewer written before now report left going;
+      why = end_why viewer written before now report left ended first last mid after stop wider took going why;
+      text = printed_so viewer.asked viewer.form viewer.files.head going.items before.printed now.printed stop going.so_far.text;
+    }
 
 -- the end was not printed
 pub close_stops : (viewer : Viewer) (written : Head) (before now : Ends) (report left printed : Option (List ℕ)) (text : List ℕ) (first last : FaultCounts) (mid after : ℕ) (stop : Stop)
-    → (Rose mid after → Rose first.out last.out) → (going : Going viewer written before now report left) → text ≡ closing_text viewer.asked viewer.files.head going.items
+    → (Rose mid after → Rose first.out last.out) → (going : Going viewer written before now report left) → text ≡ closing_text viewer.asked viewer.form viewer.files.head going.items
     → PartStops now.printed printed mid after text stop
-    → EntriesStop viewer.asked (sources_of before.read before.written report) viewer.version viewer.files.head written before.printed printed first last stop
+    → EntriesStop viewer.asked (sources_of before.read before.written report) viewer.form viewer.files.head written before.printed printed first last stop
 close_stops viewer written before now report left printed text first last mid after stops.Words wider going is why = absurd why
 close_stops viewer written before now report left printed text first last mid after (stops.Record n) wider going is why = absurd why
 close_stops viewer written before now report left printed text first last mid after (stops.Frame n) wider going is why = absurd why
@@ -264,7 +315,7 @@ close_stops viewer written before now report left printed text first last mid af
     inl (record { stop_is = refl; failed = failed_then before.printed now.printed printed (items_text viewer.asked viewer.files.head going.items) first.out mid after last.out going.so_far.text wider why })
 close_stops viewer written before now report left printed text first last mid after stops.Memory wider going is why =
     let items = items_text viewer.asked viewer.files.head going.items in
-    let whole : items ++ closing_text viewer.asked viewer.files.head going.items ≡ (items ++ why.front) ++ why.rest =
+    let whole : items ++ closing_text viewer.asked viewer.form viewer.files.head going.items ≡ (items ++ why.front) ++ why.rest =
     ap (λ l. items ++ l) (sym is ∙ why.text_is) ∙ sym (append_assoc items why.front why.rest) in
     inr
     (record {
@@ -277,61 +328,85 @@ close_stops viewer written before now report left printed text first last mid af
 close_stops viewer written before now report left printed text first last mid after (stops.Report n) wider going is why = absurd why
 
 -- the same where the view is that of other names
-pub behind_at : {asked other : Asked} {s : Sources} {version other_version : ℕ} {head other_head written : Head} {printed printed_now : Option (List ℕ)} {first last : FaultCounts} {stop : Stop}
-    → asked ≡ other → version ≡ other_version → head ≡ other_head → EntriesStop asked s version head written printed printed_now first last stop
-    → EntriesStop other s other_version other_head written printed printed_now first last stop
-behind_at {asked} {other} {s} {version} {other_version} {head} {other_head} {written} {printed} {printed_now} {first} {last} {stop} is_asked is_version is_head stops =
-    let A : Asked → Type 0 = λ a. EntriesStop a s version head written printed printed_now first last stop in
-    let V : ℕ → Type 0 = λ v. EntriesStop other s v head written printed printed_now first last stop in
-    let H : Head → Type 0 = λ h. EntriesStop other s other_version h written printed printed_now first last stop in
-    subst H is_head (subst V is_version (subst A is_asked stops))
+pub behind_at : {asked other : Asked} {s : Sources} {form other_form : Form} {head other_head written : Head} {printed printed_now : Option (List ℕ)} {first last : FaultCounts} {stop : Stop}
+    → asked ≡ other → form ≡ other_form → head ≡ other_head → EntriesStop asked s form head written printed printed_now first last stop
+    → EntriesStop other s other_form other_head written printed printed_now first last stop
+behind_at {asked} {other} {s} {form} {other_form} {head} {other_head} {written} {printed} {printed_now} {first} {last} {stop} is_asked is_form is_head stops =
+    let A : Asked → Type 0 = λ a. EntriesStop a s form head written printed printed_now first last stop in
+    let V : Form → Type 0 = λ f. EntriesStop other s f head written printed printed_now first last stop in
+    let H : Head → Type 0 = λ h. EntriesStop other s other_form h written printed printed_now first last stop in
+    subst H is_head (subst V is_form (subst A is_asked stops))
 
 -- where other counts are wider
-why_wider : (s : Sources) (version : ℕ) (head written : Head) (items : List Item) (left : Option (List ℕ)) (rose wide : Type 0) (stop : Stop) → (rose → wide)
-    → WhyBehind s version head written items left rose stop → WhyBehind s version head written items left wide stop
-why_wider s version head written items left rose wide stops.Words wider why = why
-why_wider s version head written items left rose wide (stops.Record n) wider why = why
-why_wider s version head written items left rose wide (stops.Frame n) wider why = why
-why_wider s version head written items left rose wide (stops.Input fault offset) wider why = why
-why_wider s version head written items left rose wide (stops.Output fault offset) wider why = why
-why_wider s version head written items left rose wide stops.Unread wider why = wider why
-why_wider s version head written items left rose wide stops.Unwritten wider why = why
-why_wider s version head written items left rose wide stops.Memory wider why = why
-why_wider s version head written items left rose wide (stops.Report n) wider why = why
+why_wider : (s : Sources) (form : Form) (head written : Head) (items : List Item) (left : Option (List ℕ)) (rose wide : Type 0) (stop : Stop) → (rose → wide)
+    → WhyBehind s form head written items left rose stop → WhyBehind s form head written items left wide stop
+why_wider s form head written items left rose wide stops.Words wider why = why
+why_wider s form head written items left rose wide (stops.Record n) wider why = why
+why_wider s form head written items left rose wide (stops.Frame n) wider why = why
+why_wider s form head written items left rose wide (stops.Input fault offset) wider why = why
+why_wider s form head written items left rose wide (stops.Output fault offset) wider why = why
+why_wider s form head written items left rose wide stops.Unread wider why = wider why
+why_wider s form head written items left rose wide stops.Unwritten wider why = why
+why_wider s form head written items left rose wide stops.Memory wider why = why
+why_wider s form head written items left rose wide (stops.Report n) wider why = why
 
-pub behind_wider : (asked : Asked) (s : Sources) (version : ℕ) (head written : Head) (printed printed_now : Option (List ℕ)) (rose wide : Type 0) (stop : Stop) → (rose → wide)
-    → StopsBehind asked s version head written printed printed_now rose stop → StopsBehind asked s version head written printed printed_now wide stop
-behind_wider asked s version head written printed printed_now rose wide stop wider stops =
-    record { items = stops.items; left = stops.left; give = stops.give; why = why_wider s version head written stops.items stops.left rose wide stop wider stops.why; text = stops.text }
+pub behind_wider : (asked : Asked) (s : Sources) (form : Form) (head written : Head) (printed printed_now : Option (List ℕ)) (rose wide : Type 0) (stop : Stop) → (rose → wide)
+    → StopsBehind asked s form head written printed printed_now rose stop → StopsBehind asked s form head written printed printed_now wide stop
+behind_wider asked s form head written printed printed_now rose wide stop wider stops =
+    record { items = stops.items; left = stops.left; give = stops.give; why = why_wider s form head written stops.items stops.left rose wide stop wider stops.why; text = stops.text }
+
+-- the next record
+pub record_by_input : (files : Files) (read : Option (List ℕ)) (records : List Packet) (before now : ℕ) (stop : Stop) → InputStops read files.head records before now stop → RecordStops files read records before now stop
+record_by_input files read records before now stops.Words why = why
+record_by_input files read records before now (stops.Record n) why = absurd why
+record_by_input files read records before now (stops.Frame n) why = why
+record_by_input files read records before now (stops.Input fault offset) why = why
+record_by_input files read records before now (stops.Output fault offset) why = why
+record_by_input files read records before now stops.Unread why = why
+record_by_input files read records before now stops.Unwritten why = why
+record_by_input files read records before now stops.Memory why = tt
+record_by_input files read records before now (stops.Report n) why = why
 
 -- a record and its frames
-pub item_by_input : (files : Files) (read written : Option (List ℕ)) (head : Head) (records frames : List Packet) (packets read_before read_now written_before written_now : ℕ) (stop : Stop)
-    → InputStops read read_before read_now stop → ItemStops files read written head records frames packets read_before read_now written_before written_now stop
-item_by_input files read written head records frames packets read_before read_now written_before written_now stops.Words why = inl why
-item_by_input files read written head records frames packets read_before read_now written_before written_now (stops.Record n) why = absurd why
-item_by_input files read written head records frames packets read_before read_now written_before written_now (stops.Frame n) why = absurd why
-item_by_input files read written head records frames packets read_before read_now written_before written_now (stops.Input fault offset) why = inl why
-item_by_input files read written head records frames packets read_before read_now written_before written_now (stops.Output fault offset) why = inl why
-item_by_input files read written head records frames packets read_before read_now written_before written_now stops.Unread why = inl why
-item_by_input files read written head records frames packets read_before read_now written_before written_now stops.Unwritten why = inl why
-item_by_input files read written head records frames packets read_before read_now written_before written_now stops.Memory why = inl why
-item_by_input files read written head records frames packets read_before read_now written_before written_now (stops.Report n) why = inl why
+pub item_by_record : (files : Files) (read written : Option (List ℕ)) (head : Head) (records frames : List Packet) (packets read_before read_now written_before written_now : ℕ) (stop : Stop)
+    → RecordStops files read records read_before read_now stop → ItemStops files read written head records frames packets read_before read_now written_before written_now stop
+item_by_record files read written head records frames packets read_before read_now written_before written_now stops.Words why = why
+item_by_record files read written head records frames packets read_before read_now written_before written_now (stops.Record n) why = why
+item_by_record files read written head records frames packets read_before read_now written_before written_now (stops.Frame n) why = absurd why
+item_by_record files read written head records frames packets read_before read_now written_before written_now (stops.Input fault offset) why = why
+item_by_record files read written head records frames packets read_before read_now written_before written_now (stops.Output fault offset) why = absurd why
+item_by_record files read written head records frames packets read_before read_now written_before written_now stops.Unread why = inl why
+item_by_record files read written head records frames packets read_before read_now written_before written_now stops.Unwritten why = why
+item_by_record files read written head records frames packets read_before read_now written_before written_now stops.Memory why = tt
+item_by_record files read written head records frames packets read_before read_now written_before written_now (stops.Report n) why = why
 
 pub item_by_frames : (files : Files) (read written : Option (List ℕ)) (head : Head) (records frames : List Packet) (packets read_before read_now written_before written_now : ℕ) (packet : Packet) (stop : Stop)
     → BeginsWithRecords read files.head (packet ∷ records) → FramesStop files.frames written head frames packets written_before written_now stop
     → ItemStops files read written head records frames packets read_before read_now written_before written_now stop
-item_by_frames files read written head records frames packets read_before read_now written_before written_now packet stops.Words begins why = inr why
+item_by_frames files read written head records frames packets read_before read_now written_before written_now packet stops.Words begins why = why
 item_by_frames files read written head records frames packets read_before read_now written_before written_now packet (stops.Record n) begins why = absurd why
 item_by_frames files read written head records frames packets read_before read_now written_before written_now packet (stops.Frame n) begins why = record { packet = packet; record_is = begins; missing = why }
-item_by_frames files read written head records frames packets read_before read_now written_before written_now packet (stops.Input fault offset) begins why = inr why
-item_by_frames files read written head records frames packets read_before read_now written_before written_now packet (stops.Output fault offset) begins why = inr why
+item_by_frames files read written head records frames packets read_before read_now written_before written_now packet (stops.Input fault offset) begins why = absurd why
+item_by_frames files read written head records frames packets read_before read_now written_before written_now packet (stops.Output fault offset) begins why = record { packet = packet; record_is = begins; fails = why }
 item_by_frames files read written head records frames packets read_before read_now written_before written_now packet stops.Unread begins why = inr why
-item_by_frames files read written head records frames packets read_before read_now written_before written_now packet stops.Unwritten begins why = inr why
-item_by_frames files read written head records frames packets read_before read_now written_before written_now packet stops.Memory begins why = inr why
-item_by_frames files read written head records frames packets read_before read_now written_before written_now packet (stops.Report n) begins why = inr why
+item_by_frames files read written head records frames packets read_before read_now written_before written_now packet stops.Unwritten begins why = why
+item_by_frames files read written head records frames packets read_before read_now written_before written_now packet stops.Memory begins why = tt
+item_by_frames files read written head records frames packets read_before read_now written_before written_now packet (stops.Report n) begins why = why
+
+-- the frames of a record that was read
+pub item_unread : (files between : Files) (read written read_left written_left : Option (List ℕ)) (head : Head) (records frames : List Packet) (packets others read_before read_now written_before written_now : ℕ) (stop : Stop)
+    → between.frames ≡ files.frames → packets ≡ others → RecordRead between read read_left files.head records → OutputAt files.frames.reader head written written_left frames
+    → (OutputAt between.frames.reader head written written_left frames → FramesStop between.frames written head frames packets written_before written_now stop)
+    → ItemStops files read written head records frames others read_before read_now written_before written_now stop
+item_unread files between read written read_left written_left head records frames packets others read_before read_now written_before written_now stop same counts given at why =
+    let O : Frames → Type 0 = λ f. OutputAt f.reader head written written_left frames in
+    let F : Frames → Type 0 = λ f. FramesStop f written head frames packets written_before written_now stop in
+    let P : ℕ → Type 0 = λ n. FramesStop files.frames written head frames n written_before written_now stop in
+    item_by_frames files read written head records frames others read_before read_now written_before written_now given.packet stop (begins_at _ _ _ _ _ given.input)
+    (subst P counts (subst F same (why (subst O (sym same) at))))
 
 -- the input, which has no record more
-pub records_by_input : (files : Files) (read : Option (List ℕ)) (records : List Packet) (before now : ℕ) (stop : Stop) → InputStops read before now stop → RecordsGoOn files read records before now stop
+pub records_by_input : (files : Files) (read : Option (List ℕ)) (records : List Packet) (before now : ℕ) (stop : Stop) → InputStops read files.head records before now stop → RecordsGoOn files read records before now stop
 records_by_input files read records before now stops.Words why = why
 records_by_input files read records before now (stops.Record n) why = absurd why
 records_by_input files read records before now (stops.Frame n) why = why
@@ -343,72 +418,27 @@ records_by_input files read records before now stops.Memory why = why
 records_by_input files read records before now (stops.Report n) why = why
 
 -- the ends of input and output
-pub ends_by_records : (files : Files) (read written report : Option (List ℕ)) (head : Head) (records frames : List Packet) (before now : FaultCounts) (then_ after : ℕ) (stop : Stop)
-    → (Rose then_ after → SourceRose before now) → IsAtEnd report → RecordsGoOn files read records then_ after stop → EndStops files read written report head records frames before now stop
-ends_by_records files read written report head records frames before now then_ after stops.Words wider end why = absurd why
-ends_by_records files read written report head records frames before now then_ after (stops.Record n) wider end why = record { over = end; found = why }
-ends_by_records files read written report head records frames before now then_ after (stops.Frame n) wider end why = absurd why
-ends_by_records files read written report head records frames before now then_ after (stops.Input fault offset) wider end why = why
-ends_by_records files read written report head records frames before now then_ after (stops.Output fault offset) wider end why = absurd why
-ends_by_records files read written report head records frames before now then_ after stops.Unread wider end why = wider why
-ends_by_records files read written report head records frames before now then_ after stops.Unwritten wider end why = absurd why
-ends_by_records files read written report head records frames before now then_ after stops.Memory wider end why = absurd why
-ends_by_records files read written report head records frames before now then_ after (stops.Report n) wider end why = absurd why
+pub ends_by_records : (files : Files) (lines : ℕ) (read written report : Option (List ℕ)) (head : Head) (records frames : List Packet) (before now : FaultCounts) (then_ after : ℕ) (stop : Stop)
+    → (Rose then_ after → SourceRose before now) → IsAtEnd report → RecordsGoOn files read records then_ after stop → EndStops files lines read written report head records frames before now stop
+ends_by_records files lines read written report head records frames before now then_ after stops.Words wider end why = absurd why
+ends_by_records files lines read written report head records frames before now then_ after (stops.Record n) wider end why = record { over = end; found = why }
+ends_by_records files lines read written report head records frames before now then_ after (stops.Frame n) wider end why = absurd why
+ends_by_records files lines read written report head records frames before now then_ after (stops.Input fault offset) wider end why = record { over = end; fails = why }
+ends_by_records files lines read written report head records frames before now then_ after (stops.Output fault offset) wider end why = absurd why
+ends_by_records files lines read written report head records frames before now then_ after stops.Unread wider end why = wider why
+ends_by_records files lines read written report head records frames before now then_ after stops.Unwritten wider end why = absurd why
+ends_by_records files lines read written report head records frames before now then_ after stops.Memory wider end why = absurd why
+ends_by_records files lines read written report head records frames before now then_ after (stops.Report n) wider end why = absurd why
 
-pub ends_by_frames : (files : Files) (read written report : Option (List ℕ)) (head : Head) (records frames : List Packet) (before now : FaultCounts) (then_ after : ℕ) (stop : Stop)
+pub ends_by_frames : (files : Files) (lines : ℕ) (read written report : Option (List ℕ)) (head : Head) (records frames : List Packet) (before now : FaultCounts) (then_ after : ℕ) (stop : Stop)
     → (Rose then_ after → SourceRose before now) → IsAtEnd report → TookAll None read files.head records → FramesGoOn files.frames written head frames then_ after stop
-    → EndStops files read written report head records frames before now stop
-ends_by_frames files read written report head records frames before now then_ after stops.Words wider end whole why = absurd why
-ends_by_frames files read written report head records frames before now then_ after (stops.Record n) wider end whole why = absurd why
-ends_by_frames files read written report head records frames before now then_ after (stops.Frame n) wider end whole why = record { over = end; whole = whole; found = why }
-ends_by_frames files read written report head records frames before now then_ after (stops.Input fault offset) wider end whole why = absurd why
-ends_by_frames files read written report head records frames before now then_ after (stops.Output fault offset) wider end whole why = why
-ends_by_frames files read written report head records frames before now then_ after stops.Unread wider end whole why = wider why
-ends_by_frames files read written report head records frames before now then_ after stops.Unwritten wider end whole why = absurd why
-ends_by_frames files read written report head records frames before now then_ after stops.Memory wider end whole why = absurd why
-ends_by_frames files read written report head records frames before now then_ after (stops.Report n) wider end whole why = absurd why
-
--- the first line of the report
-pub by_report : (s : Sources) (rose : Type 0) (then_ after : ℕ) (stop : Stop) → (Rose then_ after → rose) → FirstStops s.report then_ after stop → WhyBefore s rose stop
-by_report s rose then_ after stops.Words wider why = absurd why
-by_report s rose then_ after (stops.Record n) wider why = absurd why
-by_report s rose then_ after (stops.Frame n) wider why = absurd why
-by_report s rose then_ after (stops.Input fault offset) wider why = absurd why
-by_report s rose then_ after (stops.Output fault offset) wider why = absurd why
-by_report s rose then_ after stops.Unread wider why = wider why
-by_report s rose then_ after stops.Unwritten wider why = absurd why
-by_report s rose then_ after stops.Memory wider why = absurd why
-by_report s rose then_ after (stops.Report n) wider why = why
-
--- the head of the input
-pub by_input : (s : Sources) (rose : Type 0) (then_ after : ℕ) (stop : Stop) → (Rose then_ after → rose) → InputStops s.input then_ after stop → WhyBefore s rose stop
-by_input s rose then_ after stops.Words wider why = absurd why
-by_input s rose then_ after (stops.Record n) wider why = absurd why
-by_input s rose then_ after (stops.Frame n) wider why = absurd why
-by_input s rose then_ after (stops.Input fault offset) wider why = why
-by_input s rose then_ after (stops.Output fault offset) wider why = absurd why
-by_input s rose then_ after stops.Unread wider why = wider why
-by_input s rose then_ after stops.Unwritten wider why = absurd why
-by_input s rose then_ after stops.Memory wider why = absurd why
-by_input s rose then_ after (stops.Report n) wider why = absurd why
-
-has_head : (all left : Option (List ℕ)) (head : Head) (walk : Walk) → Took None all left head walk → IfSome all (λ octets. HasHead octets head)
-has_head None left head walk took = tt
-has_head (Some octets) None head walk took = absurd took
-has_head (Some octets) (Some rest) head walk took = record { walk = walk; rest = rest; begins = took }
-
--- the head of the output
-pub by_output_head : (input : Input) (link : Link) (s : Sources) (left : Option (List ℕ)) (rose : Type 0) (then_ after : ℕ) (stop : Stop) → (Rose then_ after → rose)
-    → link ≡ (head_in input).link → InputOpened input s.input left → OutputHeadStops link s.output then_ after stop → WhyBefore s rose stop
-by_output_head input link s left rose then_ after stops.Words wider same opened why = absurd why
-by_output_head input link s left rose then_ after (stops.Record n) wider same opened why = absurd why
-by_output_head input link s left rose then_ after (stops.Frame n) wider same opened why = absurd why
-by_output_head input link s left rose then_ after (stops.Input fault offset) wider same opened why = absurd why
-by_output_head input link s left rose then_ after (stops.Output fault offset) wider same opened (inl why) = inl why
-by_output_head input link s left rose then_ after (stops.Output fault offset) wider same opened (inr why) =
-    let O : Link → Type 0 = λ l. IsOfOtherLink l s.output fault offset in
-    inr (record { head = head_in input; begins = has_head s.input left (head_in input) opened.stands.walk opened.stands.took; written = subst O same why })
-by_output_head input link s left rose then_ after stops.Unread wider same opened why = wider why
-by_output_head input link s left rose then_ after stops.Unwritten wider same opened why = absurd why
-by_output_head input link s left rose then_ after stops.Memory wider same opened why = absurd why
-by_output_head input link s left rose then_ after (stops.Report n) wider same opened why = absurd why
+    → EndStops files lines read written report head records frames before now stop
+ends_by_frames files lines read written report head records frames before now then_ after stops.Words wider end whole why = absurd why
+ends_by_frames files lines read written report head records frames before now then_ after (stops.Record n) wider end whole why = absurd why
+ends_by_frames files lines read written report head records frames before now then_ after (stops.Frame n) wider end whole why = record { over = end; whole = whole; found = why }
+ends_by_frames files lines read written report head records frames before now then_ after (stops.Input fault offset) wider end whole why = absurd why
+ends_by_frames files lines read written report head records frames before now then_ after (stops.Output fault offset) wider end whole why = record { over = end; whole = whole; fails = why }
+ends_by_frames files lines read written report head records frames before now then_ after stops.Unread wider end whole why = wider why
+ends_by_frames files lines read written report head records frames before now then_ after stops.Unwritten wider end whole why = absurd why
+ends_by_frames files lines read written report head records frames before now then_ after stops.Memory wider end whole why = absurd why
+ends_by_frames files lines read written report head records frames before now then_ after (stops.Report n) wider end whole why = absurd why

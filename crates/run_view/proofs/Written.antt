@@ -1,5 +1,5 @@
 -- Reading the frames of the output.
-use Rattle.std.proofs.Common.{◌≡◌, ◌≢◌, ℕ, List, [], ◌∷◌, length, drop, Option, Some, None, Ok, Err, refl, sym, ap, subst, ◌∙◌, inl, inr, arith}
+use Rattle.std.proofs.Common.{◌≡◌, ◌≢◌, ℕ, List, [], ◌∷◌, length, drop, Option, Some, None, Ok, Err, false, refl, sym, ap, subst, ◌∙◌, inl, inr, arith}
 use Rattle.std.specs.Prelude.{IfSome}
 use Rattle.edge_io.specs.Faults.{Rose}
 use Rattle.wire_base.specs.declared.address.Link.{Link}
@@ -12,15 +12,14 @@ use Rattle.pcap_file.specs.declared.record.Record.{Record}
 use Rattle.pcap_file.specs.Flaws as classic
 use Rattle.pcap_file.specs.Heads.{head_of}
 use Rattle.pcap_file.specs.Records.{Packet}
-use Rattle.pcap_file.specs.Capture.{IsCapture, FailsAt, ReadsTo, offset_of}
-use Rattle.pcap_file.specs.Capture as capture
+use Rattle.pcap_file.specs.Capture.{IsCapture, ReadsTo, offset_of}
 use Rattle.pcap_file.specs.Reading.{Reading}
 use Rattle.pcap_file.specs.Reads.{Advances, FailsWith, HasEnd, HasFlaw, IfRecord, Leaves, Reads, shown}
 use Rattle.pcap_file.specs.ReadsHead.{Begins, ReadsHead}
 use Rattle.capture_input.specs.declared.fault.InputFault.TheVariants as faults
-use Rattle.capture_input.specs.Faults.{of_flaw}
+use Rattle.capture_input.specs.Faults.{is_read_fault, of_flaw}
 use Rattle.run_view.specs.SourceStops.{output_head_stop, output_stop}
-use Rattle.run_view.specs.Standing.{OutputAt, OutputHeadStops, OutputReads, OutputStops, TookFrames}
+use Rattle.run_view.specs.Standing.{OutputAt, OutputFailsBehind, OutputHeadStops, OutputReads, OutputStops, TookFrames}
 use Rattle.run_view.specs.declared.stop.Stop.TheVariants as stops
 
 -- the head was taken
@@ -29,22 +28,18 @@ head_taken None left head begins = tt
 head_taken (Some octets) None head begins = begins
 head_taken (Some octets) (Some rest) head begins = (begins.0, sym begins.1)
 
--- the octets have this flaw, at this offset
-abbrev pub IsFlawed : Option (List ℕ) → classic.Flaw → (offset : ℕ) → Type 0
-IsFlawed output own offset = IfSome output (λ octets. (flaw : classic.Flaw) × (of_flaw own ≡ of_flaw flaw) × capture.FailsAt octets flaw offset)
-
 -- a flaw of the head
-head_fails : (all left : Option (List ℕ)) (flaw : classic.Flaw) → Begins all left (Err flaw) → IsFlawed all flaw 0
+head_fails : (all left : Option (List ℕ)) (flaw : classic.Flaw) → Begins all left (Err flaw) → IfSome all (λ octets. (own : classic.Flaw) × (of_flaw flaw ≡ of_flaw own) × (head_of octets ≡ Err own))
 head_fails None left flaw begins = tt
 head_fails (Some octets) None flaw begins = absurd begins
-head_fails (Some octets) (Some rest) flaw begins = (flaw, refl, inl (begins.0, refl))
+head_fails (Some octets) (Some rest) flaw begins = (flaw, refl, begins.0)
 
 pub head_stops : (link : Link) (all left : Option (List ℕ)) (before now : ℕ) (fault : HeadFault) → ReadsHead all left (Err fault) → (fault ≡ heads.ReadFault → Rose before now)
     → OutputHeadStops link all before now (output_head_stop fault)
-head_stops link all left before now heads.Cut reads rose = inl (record { own = refl; has = head_fails all left classic.cut_short reads })
-head_stops link all left before now heads.Magic reads rose = inl (record { own = refl; has = head_fails all left classic.bad_magic reads })
-head_stops link all left before now heads.Version reads rose = inl (record { own = refl; has = head_fails all left classic.bad_version reads })
-head_stops link all left before now heads.Link reads rose = inl (record { own = refl; has = head_fails all left classic.bad_link reads })
+head_stops link all left before now heads.Cut reads rose = inl (record { own = refl; has = head_fails all left classic.cut_short reads; place = refl })
+head_stops link all left before now heads.Magic reads rose = inl (record { own = refl; has = head_fails all left classic.bad_magic reads; place = refl })
+head_stops link all left before now heads.Version reads rose = inl (record { own = refl; has = head_fails all left classic.bad_version reads; place = refl })
+head_stops link all left before now heads.Link reads rose = inl (record { own = refl; has = head_fails all left classic.bad_link reads; place = refl })
 head_stops link all left before now heads.ReadFault reads rose = rose refl
 
 -- the head has another link
@@ -75,14 +70,6 @@ took_all (Some xs) (Some ys) None head frames took end = absurd end
 took_all (Some xs) (Some ys) (Some zs) head frames took end =
     record { accepted = took.0; whole = subst (ReadsTo head.order (drop 24 xs) frames) end.0 took.1 }
 
--- a flaw stands behind the frames
-took_flawed : (all before : Option (List ℕ)) (head : Head) (frames : List Packet) (flaw : classic.Flaw) (offset : ℕ) → TookFrames all before head frames
-    → HasFlaw head.order (length frames) before flaw → offset ≡ offset_of frames → IsFlawed all flaw offset
-took_flawed None before head frames flaw offset took flawed place = tt
-took_flawed (Some xs) None head frames flaw offset took flawed place = absurd took
-took_flawed (Some xs) (Some ys) head frames flaw offset took flawed place =
-    (flaw, refl, inr (record { head = head; packets = frames; rest = ys; accepted = took.0; reads = took.1; flawed = flawed; place = place }))
-
 -- the next frame
 pub reads_frame : (old new : Reading) (head : Head) (all before after : Option (List ℕ)) (frames : List Packet) (given : Option Record)
     → Reads old.head.order old.given before after (Ok given) → IfRecord (Ok given) (λ r. Advances old new (length r.bytes.now)) → new.head ≡ old.head
@@ -101,18 +88,18 @@ reads_frame old new head all before after frames (Some given) reads advances sam
       head_is = same ∙ at.head_is;
     }
 
-flawed_in : (old : Reading) (head : Head) (all before : Option (List ℕ)) (frames : List Packet) (flaw : classic.Flaw)
-    → HasFlaw old.head.order old.given before flaw → OutputAt old head all before frames → IsFlawed all flaw old.place
-flawed_in old head all before frames flaw flawed at =
+flawed_in : (old : Reading) (head : Head) (all before : Option (List ℕ)) (frames : List Packet) (flaw : classic.Flaw) → is_read_fault (of_flaw flaw) ≡ false
+    → HasFlaw old.head.order old.given before flaw → OutputAt old head all before frames → OutputFailsBehind all head frames (of_flaw flaw) old.place
+flawed_in old head all before frames flaw own flawed at =
     let order : old.head.order ≡ head.order = ap (λ (h : Head). h.order) at.head_is in
     let flawed_so : HasFlaw head.order (length frames) before flaw = rw (← order, ← at.given_is) flawed in
-    took_flawed all before head frames flaw old.place at.took flawed_so at.place_is
+    record { own = own; flaw = flaw; fault_is = refl; left = before; took = at.took; flawed = flawed_so; place = at.place_is }
 
 -- a fault behind the frames
 pub frame_stops : (old : Reading) (head : Head) (all before after : Option (List ℕ)) (frames : List Packet) (then_ now offset : ℕ) (fault : RecordFault)
     → FailsWith old.head.order old.given before after fault → (fault ≡ records.ReadFault → Rose then_ now) → offset ≡ old.place
-    → OutputAt old head all before frames → OutputStops all then_ now (output_stop fault offset)
-frame_stops old head all before after frames then_ now offset records.Cut fails rose place at = rw place (record { own = refl; has = flawed_in old head all before frames classic.cut_short fails.flawed at })
-frame_stops old head all before after frames then_ now offset records.Long fails rose place at = rw place (record { own = refl; has = flawed_in old head all before frames classic.too_long fails.flawed at })
-frame_stops old head all before after frames then_ now offset records.TooMany fails rose place at = rw place (record { own = refl; has = flawed_in old head all before frames classic.too_many fails.flawed at })
+    → OutputAt old head all before frames → OutputStops all head frames then_ now (output_stop fault offset)
+frame_stops old head all before after frames then_ now offset records.Cut fails rose place at = rw place (flawed_in old head all before frames classic.cut_short refl fails.flawed at)
+frame_stops old head all before after frames then_ now offset records.Long fails rose place at = rw place (flawed_in old head all before frames classic.too_long refl fails.flawed at)
+frame_stops old head all before after frames then_ now offset records.TooMany fails rose place at = rw place (flawed_in old head all before frames classic.too_many refl fails.flawed at)
 frame_stops old head all before after frames then_ now offset records.ReadFault fails rose place at = rose refl

@@ -1,22 +1,26 @@
 -- Where a view stops, and why (this project's profile): the items that the three sources give up to there, and what is amiss behind them. Lists of items,
 -- records and frames have the newest at the head. A source without known octets (None) claims nothing of its own.
-use Rattle.std.specs.Prelude.{◌≡◌, ◌≢◌, ◌⊎◌, ℕ, ◌+◌, ◌<◌, List, [], ◌∷◌, ◌++◌, length, Option, None, IfSome}
+use Rattle.std.specs.Prelude.{◌≡◌, ◌≢◌, ◌⊎◌, ℕ, ◌+◌, ◌<◌, Bool, true, false, List, [], ◌∷◌, ◌++◌, length, Option, None, IfSome}
 use Rattle.std.specs.Io.KnownBytes.{Appends, Consumes}
 use Rattle.edge_io.specs.Faults.{Rose}
 use Rattle.pcap_file.specs.declared.head.Head.{Head}
 use Rattle.pcap_file.specs.Records.{Packet}
 use Rattle.pcap_file.specs.Capture.{IsCapture}
 use Rattle.capture_input.specs.Inputs.{TookAll}
+use Rattle.capture_input.specs.declared.fault.InputFault.{InputFault}
 use Rattle.rule_book.specs.Entries.{PlainEntry}
-use Rattle.rule_book.specs.Reports.{IsEntryOf, IsVersion}
-use Rattle.rule_book.specs.Text.{entry_text, first_line, last_text, lines_text}
+use Rattle.rule_book.specs.Reports.{IsEntryOf}
+use Rattle.rule_book.specs.Text.{last_text}
 use Rattle.rule_book.specs.declared.last.Last.TheVariants.{End}
-use Rattle.run_view.specs.Items.{Item, AreItems, entries_of, frames_of, packets_of}
+use Rattle.run_view.specs.Forms.{heading, own_frames, version_of}
+use Rattle.run_view.specs.Items.{AreItems, Item, end_text, firsts, frames_of, lines_of, lines_text, owed_of, packets_of, text_by, turn_of, waits}
 use Rattle.run_view.specs.Printed.{Failed, PrintsFront}
-use Rattle.run_view.specs.Standing.{AreOfOtherLinks, BeginsWithFrames, BeginsWithRecords, InputFails, OutputFails}
+use Rattle.run_view.specs.Standing.{BeginsWithFrames, BeginsWithRecords, HaveHeads, InputFailsBehind, InputHeadFails, OutputBeginsAmiss, OutputFailsBehind}
 use Rattle.run_view.specs.View.{items_text, view_text_of}
+use Rattle.run_view.specs.declared.form.Form.{Form}
 use Rattle.run_view.specs.declared.stop.Stop.{Stop}
 use Rattle.run_view.specs.declared.stop.Stop.TheVariants as stops
+use Rattle.run_view.specs.declared.told.Turn.{Turn}
 use Rattle.run_view.specs.declared.words.Asked.{Asked}
 
 -- the octets of the three sources, where they tell them
@@ -38,14 +42,14 @@ pub record FaultCounts : Type 0 where
 abbrev pub counts_of : (input output report out : ℕ) → FaultCounts
 counts_of input output report out = record { input = input; output = output; report = report; out = out }
 
--- one of the three sources failed
+-- one of the three sources failed: its count of faults rose, or is at its last value, as wherever it is said that a source or the output failed
 abbrev pub SourceRose : (before now : FaultCounts) → Type 0
 SourceRose before now = Rose before.input now.input ⊎ Rose before.output now.output ⊎ Rose before.report now.report
 
--- the octets begin neither with the line of an entry of this version with the next number nor with the last line of a run with so many records and frames
-pub record IsNoNext (version count frames : ℕ) (octets : List ℕ) : Type 0 where
-  pub entry : (entry : PlainEntry) → IsEntryOf version entry → entry.number ≡ count + 1 → (rest : List ℕ) → octets ≢ entry_text entry ++ rest
-  pub last : (rest : List ℕ) → octets ≢ last_text (End count frames) ++ rest
+-- the octets begin neither with the line of an entry of this version that may stand there nor, where no line of the second engine is wanting, with the last line
+pub record IsNoNext (version : ℕ) (turn : Turn) (octets : List ℕ) : Type 0 where
+  pub entry : (entry : PlainEntry) → IsEntryOf version entry → entry.number ≡ turn.done + 1 → (rest : List ℕ) → octets ≢ text_by turn.second entry ++ rest
+  pub last : turn.second ≡ false → (rest : List ℕ) → octets ≢ last_text (End turn.done turn.frames) ++ rest
 
 -- there is an octet
 pub record IsSomeOctet (octets : List ℕ) : Type 0 where
@@ -53,55 +57,72 @@ pub record IsSomeOctet (octets : List ℕ) : Type 0 where
   pub rest : List ℕ
   pub is : octets ≡ octet ∷ rest
 
--- the next line of the report was taken, and is that of an entry with the next number
-pub record ToldNext (version count : ℕ) (report left : Option (List ℕ)) (entry : PlainEntry) : Type 0 where
-  pub taken : Consumes report left (entry_text entry)
+-- the next line of the report was taken, and is that of the next entry of its engine
+pub record ToldNext (version : ℕ) (turn : Turn) (report left : Option (List ℕ)) (entry : PlainEntry) : Type 0 where
+  pub taken : Consumes report left (text_by turn.second entry)
   pub fits : IsEntryOf version entry
-  pub number : entry.number ≡ count + 1
+  pub number : entry.number ≡ turn.done + 1
 
 -- The three sources give these items: the input begins with their records, the output with their frames, and the report, behind its first line, with their
 -- lines; `left` is what the report has behind them.
-pub record GiveItems (s : Sources) (version : ℕ) (head written : Head) (items : List Item) (left : Option (List ℕ)) : Type 0 where
-  pub are : AreItems version items
+pub record GiveItems (s : Sources) (form : Form) (head written : Head) (items : List Item) (left : Option (List ℕ)) : Type 0 where
+  pub are : AreItems form items
   pub records : BeginsWithRecords s.input head (packets_of items)
   pub frames : BeginsWithFrames s.output written (frames_of items)
-  pub lines : Consumes s.report left (lines_text (entries_of items))
+  pub lines : Consumes s.report left (lines_text (lines_of items))
 
 -- the report has the line of one more entry
-pub record HasNextLine (version : ℕ) (items : List Item) (left : Option (List ℕ)) (entry : PlainEntry) : Type 0 where
+pub record HasNextLine (form : Form) (items : List Item) (left : Option (List ℕ)) (entry : PlainEntry) : Type 0 where
   pub behind : Option (List ℕ)
-  pub told : ToldNext version (length items) left behind entry
+  pub told : ToldNext (version_of form) (turn_of items) left behind entry
 
--- the last line of a run of these items was taken of the report
-abbrev pub TookLast : (items : List Item) → (left behind : Option (List ℕ)) → Type 0
-TookLast items left behind = Consumes left behind (last_text (End (length items) (length (frames_of items))))
+-- the input has one more record behind these
+pub record HasNextRecord (input : Option (List ℕ)) (head : Head) (records : List Packet) : Type 0 where
+  pub packet : Packet
+  pub more : BeginsWithRecords input head (packet ∷ records)
 
--- the report has the last line of a run of these items, and nothing behind it
-abbrev pub IsOver : (items : List Item) → (left : Option (List ℕ)) → Type 0
-IsOver items left = IfSome left (λ octets. octets ≡ last_text (End (length items) (length (frames_of items))))
+-- the input has the record of the next line: one more for a line of the first engine; that of a line of the second was read with the line before it
+abbrev pub HasRecordOf : (second : Bool) → (input : Option (List ℕ)) (head : Head) (records : List Packet) → Type 0
+HasRecordOf false input head records = HasNextRecord input head records
+HasRecordOf true input head records = Unit {0}
 
--- the report has one more entry, and the input no record for it
-pub record LacksRecord (s : Sources) (version : ℕ) (head : Head) (items : List Item) (left : Option (List ℕ)) (number : ℕ) : Type 0 where
+-- how many frames of the output the line of an entry counts
+abbrev pub frames_by : (second : Bool) → (form : Form) → PlainEntry → ℕ
+frames_by false form entry = own_frames form entry.packets
+frames_by true form entry = entry.packets
+
+-- the last line of a run of these items, of which none is wanting, was taken of the report
+pub record TookLast (items : List Item) (left behind : Option (List ℕ)) : Type 0 where
+  pub none_owed : owed_of items ≡ 0
+  pub taken : Consumes left behind (end_text items)
+
+-- the report has the last line of a run of these items, of which none is wanting, and nothing behind it
+pub record IsOver (items : List Item) (left : Option (List ℕ)) : Type 0 where
+  pub none_owed : owed_of items ≡ 0
+  pub is : IfSome left (λ octets. octets ≡ end_text items)
+
+-- the report has one more line of the first engine, and the input no record for it
+pub record LacksRecord (s : Sources) (form : Form) (head : Head) (items : List Item) (left : Option (List ℕ)) (number : ℕ) : Type 0 where
   pub entry : PlainEntry
-  pub line : HasNextLine version items left entry
+  pub line : HasNextLine form items left entry
+  pub none_owed : owed_of items ≡ 0
   pub whole : TookAll None s.input head (packets_of items)
-  pub place : number ≡ length items + 1
+  pub place : number ≡ length (firsts items) + 1
 
 -- the report is over, and the input has one more record
 pub record HasRecordMore (s : Sources) (head : Head) (items : List Item) (left : Option (List ℕ)) (number : ℕ) : Type 0 where
   pub over : IsOver items left
   pub packet : Packet
   pub more : BeginsWithRecords s.input head (packet ∷ packets_of items)
-  pub place : number ≡ length items + 1
+  pub place : number ≡ length (firsts items) + 1
 
--- report and input have one more entry and record, and the output fewer frames for them than the entry names
-pub record LacksFrame (s : Sources) (version : ℕ) (head written : Head) (items : List Item) (left : Option (List ℕ)) (number : ℕ) : Type 0 where
+-- the report has one more line, and the input its record, and the output fewer frames for it than it counts
+pub record LacksFrame (s : Sources) (form : Form) (head written : Head) (items : List Item) (left : Option (List ℕ)) (number : ℕ) : Type 0 where
   pub entry : PlainEntry
-  pub line : HasNextLine version items left entry
-  pub packet : Packet
-  pub record_is : BeginsWithRecords s.input head (packet ∷ packets_of items)
+  pub line : HasNextLine form items left entry
+  pub record_is : HasRecordOf (waits (owed_of items)) s.input head (packets_of items)
   pub own : List Packet
-  pub fewer : length own < entry.packets
+  pub fewer : length own < frames_by (waits (owed_of items)) form entry
   pub whole : IfSome s.output (λ octets. IsCapture octets written (own ++ frames_of items))
   pub place : number ≡ length (own ++ frames_of items) + 1
 
@@ -113,9 +134,35 @@ pub record HasFrameMore (s : Sources) (head written : Head) (items : List Item) 
   pub more : BeginsWithFrames s.output written (frame ∷ frames_of items)
   pub place : number ≡ length (frames_of items) + 1
 
+-- the report has one more line of the first engine
+pub record HasFirstLine (form : Form) (items : List Item) (left : Option (List ℕ)) : Type 0 where
+  pub entry : PlainEntry
+  pub line : HasNextLine form items left entry
+  pub none_owed : owed_of items ≡ 0
+
+-- the input has a fault right behind the records of the items, where the report has one more line of the first engine, or is over
+pub record FailsAtRecord (s : Sources) (form : Form) (head : Head) (items : List Item) (left : Option (List ℕ)) (fault : InputFault) (offset : ℕ) : Type 0 where
+  pub wanted : HasFirstLine form items left ⊎ IsOver items left
+  pub fails : InputFailsBehind s.input head (packets_of items) fault offset
+
+-- the report has one more line, and the input its record, and the output a fault in a frame that the line counts, right behind those before it
+pub record FailsAtFrame (s : Sources) (form : Form) (head written : Head) (items : List Item) (left : Option (List ℕ)) (fault : InputFault) (offset : ℕ) : Type 0 where
+  pub entry : PlainEntry
+  pub line : HasNextLine form items left entry
+  pub record_is : HasRecordOf (waits (owed_of items)) s.input head (packets_of items)
+  pub own : List Packet
+  pub fewer : length own < frames_by (waits (owed_of items)) form entry
+  pub fails : OutputFailsBehind s.output written (own ++ frames_of items) fault offset
+
+-- report and input are over, and the output has a fault right behind the frames of the items
+pub record FailsAtEnd (s : Sources) (head written : Head) (items : List Item) (left : Option (List ℕ)) (fault : InputFault) (offset : ℕ) : Type 0 where
+  pub over : IsOver items left
+  pub whole : TookAll None s.input head (packets_of items)
+  pub fails : OutputFailsBehind s.output written (frames_of items) fault offset
+
 -- the next line of the report is none that may stand there; the first line has the number 1
-pub record HasLineAmiss (version : ℕ) (items : List Item) (left : Option (List ℕ)) (line : ℕ) : Type 0 where
-  pub amiss : IfSome left (IsNoNext version (length items) (length (frames_of items)))
+pub record HasLineAmiss (form : Form) (items : List Item) (left : Option (List ℕ)) (line : ℕ) : Type 0 where
+  pub amiss : IfSome left (IsNoNext (version_of form) (turn_of items))
   pub place : line ≡ length items + 2
 
 -- the report has its last line, and octets behind it
@@ -126,33 +173,34 @@ pub record HasLineMore (items : List Item) (left : Option (List ℕ)) (line : �
   pub place : line ≡ length items + 3
 
 -- what was printed before a stop behind these items: their text; where memory was wanting, a front of the text of a run that has no others
-abbrev pub PrintedBefore : (asked : Asked) (head : Head) (items : List Item) (old now : Option (List ℕ)) → Stop → Type 0
-PrintedBefore asked head items old now stops.Memory = PrintsFront old now (view_text_of asked head items)
-PrintedBefore asked head items old now _ = Appends old now (items_text asked head items)
+abbrev pub PrintedBefore : (asked : Asked) (form : Form) (head : Head) (items : List Item) (old now : Option (List ℕ)) → Stop → Type 0
+PrintedBefore asked form head items old now stops.Memory = PrintsFront old now (view_text_of asked form head items)
+PrintedBefore asked form head items old now _ = Appends old now (items_text asked head items)
 
 -- why a view stops behind these items; `rose` says that a source failed. That memory could not be allocated has no cause in the files.
-abbrev pub WhyBehind : (s : Sources) (version : ℕ) (head written : Head) (items : List Item) (left : Option (List ℕ)) (rose : Type 0) → Stop → Type 0
-WhyBehind s version head written items left rose (stops.Record number) = LacksRecord s version head items left number ⊎ HasRecordMore s head items left number
-WhyBehind s version head written items left rose (stops.Frame number) =
-    LacksFrame s version head written items left number ⊎ HasFrameMore s head written items left number
-WhyBehind s version head written items left rose (stops.Report line) = HasLineAmiss version items left line ⊎ HasLineMore items left line
-WhyBehind s version head written items left rose (stops.Input fault offset) = InputFails s.input fault offset
-WhyBehind s version head written items left rose (stops.Output fault offset) = OutputFails s.output fault offset
-WhyBehind s version head written items left rose stops.Unread = rose
-WhyBehind s version head written items left rose stops.Memory = Unit {0}
-WhyBehind s version head written items left rose _ = ⊥
+abbrev pub WhyBehind : (s : Sources) (form : Form) (head written : Head) (items : List Item) (left : Option (List ℕ)) (rose : Type 0) → Stop → Type 0
+WhyBehind s form head written items left rose (stops.Record number) = LacksRecord s form head items left number ⊎ HasRecordMore s head items left number
+WhyBehind s form head written items left rose (stops.Frame number) =
+    LacksFrame s form head written items left number ⊎ HasFrameMore s head written items left number
+WhyBehind s form head written items left rose (stops.Report line) = HasLineAmiss form items left line ⊎ HasLineMore items left line
+WhyBehind s form head written items left rose (stops.Input fault offset) = FailsAtRecord s form head items left fault offset
+WhyBehind s form head written items left rose (stops.Output fault offset) =
+    FailsAtFrame s form head written items left fault offset ⊎ FailsAtEnd s head written items left fault offset
+WhyBehind s form head written items left rose stops.Unread = rose
+WhyBehind s form head written items left rose stops.Memory = Unit {0}
+WhyBehind s form head written items left rose _ = ⊥
 
 -- a view stops behind the items that the three sources give; the report is what stands behind its first line
-pub record StopsBehind (asked : Asked) (s : Sources) (version : ℕ) (head written : Head) (printed printed_now : Option (List ℕ)) (rose : Type 0) (stop : Stop) : Type 0 where
+pub record StopsBehind (asked : Asked) (s : Sources) (form : Form) (head written : Head) (printed printed_now : Option (List ℕ)) (rose : Type 0) (stop : Stop) : Type 0 where
   pub items : List Item
   pub left : Option (List ℕ)
-  pub give : GiveItems s version head written items left
-  pub why : WhyBehind s version head written items left rose stop
-  pub text : PrintedBefore asked head items printed printed_now stop
+  pub give : GiveItems s form head written items left
+  pub why : WhyBehind s form head written items left rose stop
+  pub text : PrintedBefore asked form head items printed printed_now stop
 
--- the octets do not begin with the first line of a report of one of the versions
+-- the octets do not begin with the first line of a report of one of the forms
 abbrev pub IsNoFirst : (octets : List ℕ) → Type 0
-IsNoFirst octets = (version : ℕ) → IsVersion version → (rest : List ℕ) → octets ≢ first_line version ++ rest
+IsNoFirst octets = (form : Form) → (rest : List ℕ) → octets ≢ heading form ++ rest
 
 -- the first line of the report is none that may stand there
 pub record BeginsAmiss (report : Option (List ℕ)) (line : ℕ) : Type 0 where
@@ -161,9 +209,9 @@ pub record BeginsAmiss (report : Option (List ℕ)) (line : ℕ) : Type 0 where
 
 -- why a view stops at the heads of input and output and the first line of the report; `rose` says that a source failed
 abbrev pub WhyBefore : (s : Sources) (rose : Type 0) → Stop → Type 0
-WhyBefore s rose (stops.Input fault offset) = InputFails s.input fault offset
-WhyBefore s rose (stops.Output fault offset) = OutputFails s.output fault offset ⊎ AreOfOtherLinks s.input s.output fault offset
-WhyBefore s rose (stops.Report line) = BeginsAmiss s.report line
+WhyBefore s rose (stops.Input fault offset) = InputHeadFails s.input fault offset
+WhyBefore s rose (stops.Output fault offset) = OutputBeginsAmiss s.input s.output fault offset
+WhyBefore s rose (stops.Report line) = HaveHeads s.input s.output × BeginsAmiss s.report line
 WhyBefore s rose stops.Unread = rose
 WhyBefore s rose stops.Memory = Unit {0}
 WhyBefore s rose _ = ⊥
@@ -175,24 +223,23 @@ pub record StopsBefore (s : Sources) (printed printed_now : Option (List ℕ)) (
 
 -- a view stops behind the first line of the report
 pub record StopsWithin (asked : Asked) (s : Sources) (printed printed_now : Option (List ℕ)) (rose : Type 0) (stop : Stop) : Type 0 where
-  pub version : ℕ
+  pub form : Form
   pub head : Head
   pub written : Head
   pub behind : Option (List ℕ)
-  pub known : IsVersion version
   pub link_is : written.link ≡ head.link
-  pub first : Consumes s.report behind (first_line version)
-  pub stops : StopsBehind asked (sources_of s.input s.output behind) version head written printed printed_now rose stop
+  pub first : Consumes s.report behind (heading form)
+  pub stops : StopsBehind asked (sources_of s.input s.output behind) form head written printed printed_now rose stop
 
--- the output failed
+-- the output failed; nothing is claimed of what was printed but that octets were appended
 pub record IsUnwritten (printed printed_now : Option (List ℕ)) (before now : FaultCounts) (stop : Stop) : Type 0 where
   pub stop_is : stop ≡ stops.Unwritten
   pub failed : Failed printed printed_now before.out now.out
 
 -- why a view stops behind the first line of the report, which is read so
-abbrev pub EntriesStop : (asked : Asked) (s : Sources) (version : ℕ) (head written : Head) (printed printed_now : Option (List ℕ)) (before now : FaultCounts) → Stop → Type 0
-EntriesStop asked s version head written printed printed_now before now stop =
-    IsUnwritten printed printed_now before now stop ⊎ StopsBehind asked s version head written printed printed_now (SourceRose before now) stop
+abbrev pub EntriesStop : (asked : Asked) (s : Sources) (form : Form) (head written : Head) (printed printed_now : Option (List ℕ)) (before now : FaultCounts) → Stop → Type 0
+EntriesStop asked s form head written printed printed_now before now stop =
+    IsUnwritten printed printed_now before now stop ⊎ StopsBehind asked s form head written printed printed_now (SourceRose before now) stop
 
 -- why a view whose words were accepted stops otherwise, and what was printed before
 abbrev pub FilesStop : (asked : Asked) (s : Sources) (printed printed_now : Option (List ℕ)) (before now : FaultCounts) → Stop → Type 0

@@ -7,8 +7,8 @@ use Rattle.rule_book.specs.declared.entry.Reason.{Reason}
 use Rattle.rule_book.specs.declared.rule.Rule.{Rule}
 use Rattle.frame_view.specs.declared.flow.Flow.{Flow}
 use Rattle.run_view.specs.Eras.{PlainRow, with_rules}
-use Rattle.run_view.specs.Items.{Item, begun_by, if_inward, octets_in, time_of}
-use Rattle.run_view.specs.View.{eras_of, is_number}
+use Rattle.run_view.specs.Items.{Item, begun_by, by_first, firsts, if_inward, octets_in, seconds, time_of}
+use Rattle.run_view.specs.View.{first_eras, is_number, second_eras}
 
 -- the items whose record belongs to an era
 abbrev pub own_of : (era : ℕ) → List Item → List Item
@@ -60,8 +60,9 @@ abbrev pub last_reason : (era : ℕ) → (before : Option Reason) → List Ended
 last_reason era before [] = before
 last_reason era before (ended ∷ more) = last_reason era (if ended.era == era then Some ended.reason else before) more
 
--- The row of an era: the packet that began it last; the times of the first and the last record that belong to it; how many do, and how many octets they brought
--- inwards; the last reason why it ended; and each rule that their entries name, in the order of first naming.
+-- The row of an era in the table of these lines of one engine: the packet that began it last; the times of the first and the last record that belong to it; how
+-- many do, and how many octets they brought inwards, both up to 2^64 - 1; the last reason why it ended; and each rule that their entries name, in the order of
+-- first naming.
 abbrev pub row_of : Head → List Item → (era : ℕ) → PlainRow
 row_of head items era =
     record {
@@ -73,6 +74,20 @@ row_of head items era =
       end = last_reason era None (all_ended items);
       rules = with_rules [] (rules_named (own_of era items));
     }
+
+-- how many octets the frames of a line, of either engine, bring inwards in an era of the first: it is that of the record, which goes inwards
+abbrev pub brought : (era : ℕ) → Head → Item → ℕ
+brought era head item =
+    if is_number (by_first item).era era then if_inward (by_first item).side (octets_in head.link item.frames) else 0
+
+-- the sum of them over all lines
+abbrev pub brought_sum : (era : ℕ) → Head → List Item → ℕ
+brought_sum era head [] = 0
+brought_sum era head (item ∷ older) = brought_sum era head older + brought era head item
+
+-- the row of an era of the first engine: that of its lines, and the octets that the frames of all lines brought inwards in it
+abbrev pub first_row : Head → List Item → (era : ℕ) → PlainRow
+first_row head items era = record (row_of head (firsts items) era) { octets = within (brought_sum era head items) }
 
 -- one more number, where it is not among these
 abbrev pub with_number : List ℕ → ℕ → List ℕ
@@ -97,11 +112,26 @@ abbrev pub eras_named : List Item → List ℕ
 eras_named [] = []
 eras_named (item ∷ older) = eras_named older ++ eras_in item.entry
 
+-- the eras of the first engine that a line is of: those that its entry names, or, of a line of the second engine, that of its record
+abbrev pub eras_at : PlainEntry → (first : Option PlainEntry) → List ℕ
+eras_at entry None = eras_in entry
+eras_at entry (Some first) = if_number first.era
+
+-- all of them, in order
+abbrev pub first_named : List Item → List ℕ
+first_named [] = []
+first_named (item ∷ older) = first_named older ++ eras_at item.entry item.first
+
 -- eras with their rows
 abbrev pub rows_at : (ℕ → PlainRow) → List ℕ → List (ℕ × PlainRow)
 rows_at row [] = []
 rows_at row (n ∷ ns) = (n, row n) ∷ rows_at row ns
 
--- The table of eras has each era that is named once, in the order of first naming, with its row over all items.
+-- Each table has each named era once, in the order of first naming, with its row: that of the first engine over all lines, that of the second over its
+-- own.
+pub record AreRows (head : Head) (items : List Item) : Type 0 where
+  pub first : first_eras head items ≡ rows_at (first_row head items) (with_numbers [] (first_named items))
+  pub second : second_eras head items ≡ rows_at (row_of head (seconds items)) (with_numbers [] (eras_named (seconds items)))
+
 abbrev pub ErasAreRows : Type 0
-ErasAreRows = (head : Head) (items : List Item) → eras_of head items ≡ rows_at (row_of head items) (with_numbers [] (eras_named items))
+ErasAreRows = (head : Head) (items : List Item) → AreRows head items

@@ -8,8 +8,8 @@ use Rattle.rule_book.specs.declared.entry.Reason.{Reason}
 use Rattle.rule_book.specs.declared.rule.Rule.{Rule}
 use Rattle.frame_view.specs.declared.flow.Flow.{Flow}
 
--- what is known of an era: the packet that began it, the times of its first and its last record, how many records and how many octets went inwards in it, why it
--- ended, and the rules that its entries name
+-- what is known of an era: the packet that began it, the times of its first and its last record, how many records it has, how many octets went inwards in it,
+-- why it ended, and the rules that its entries name
 pub record PlainRow : Type 0 where
   pub flow : Option Flow
   pub first : ℕ
@@ -50,6 +50,10 @@ with_record time octets rules row =
       octets = plus row.octets octets;
       rules = with_rules row.rules rules;
     }
+
+-- so many octets more went inwards in the era
+abbrev pub with_octets : ℕ → PlainRow → PlainRow
+with_octets octets row = record row { octets = plus row.octets octets }
 
 -- the table with the row of this era changed; a new era comes behind the others
 abbrev pub changed : ℕ → (PlainRow → PlainRow) → List (ℕ × PlainRow) → List (ℕ × PlainRow)

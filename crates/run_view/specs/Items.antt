@@ -1,5 +1,5 @@
--- What the three files of a finished run have for each record (this project's profile). Lists have the newest at the head.
-use Rattle.std.specs.Prelude.{◌≡◌, ℕ, ◌+◌, ◌*◌, ◌==◌, List, [], ◌∷◌, ◌++◌, length, Option, Some, None, is_some, if◌then◌else◌}
+-- What the three files of a finished run have for each line of its report (this project's profile). Lists have the newest at the head.
+use Rattle.std.specs.Prelude.{◌≡◌, ◌⊎◌, ℕ, zero, suc, ◌+◌, ◌*◌, ◌==◌, Bool, true, false, List, [], ◌∷◌, ◌++◌, length, Option, Some, None, is_some, if◌then◌else◌}
 use Rattle.wire_base.specs.declared.address.Link.{Link}
 use Rattle.wire_base.specs.declared.address.Side.{Side}
 use Rattle.wire_base.specs.declared.address.Side.TheVariants.{Inward, Outward}
@@ -7,42 +7,134 @@ use Rattle.pcap_file.specs.declared.head.Head.{Head}
 use Rattle.pcap_file.specs.Records.{Packet}
 use Rattle.rule_book.specs.Entries.{PlainEntry}
 use Rattle.rule_book.specs.Reports.{IsEntryOf}
-use Rattle.frame_view.specs.Changes.{PlainChange, changes_of}
+use Rattle.rule_book.specs.Text.{entry_text, last_text}
+use Rattle.rule_book.specs.declared.last.Last.TheVariants.{End}
+use Rattle.frame_view.specs.Changes.{PlainChange, changes_of, made_of}
 use Rattle.frame_view.specs.Flows.{flow_in, length_in}
 use Rattle.frame_view.specs.declared.flow.Flow.{Flow}
+use Rattle.run_view.specs.declared.form.Form.{Form}
+use Rattle.run_view.specs.declared.judged.Kinds.{Kinds}
+use Rattle.run_view.specs.declared.told.Turn.{Turn}
 use Rattle.run_view.specs.Eras.{plus}
+use Rattle.run_view.specs.Forms.{answers, own_frames, version_of}
+use Rattle.run_view.specs.Judged.{kinds_of, made_at}
 
--- a record of the input, its entry in the report, and the frames of the output that were written for it
+-- a line of the report: the record of the input that it is of, its entry, the frames of the output that it counts, the entry of the record by the first engine
+-- where the line is one of the second, and how many lines of the second engine are still to come for the record
 pub record Item : Type 0 where
   pub packet : Packet
   pub entry : PlainEntry
   pub frames : List Packet
+  pub first : Option PlainEntry
+  pub owed : ℕ
 
--- the records
+-- the line is one of the second engine
+abbrev pub is_second : Item → Bool
+is_second item = is_some item.first
+
+-- what the first engine said of the record
+abbrev pub by_first : Item → PlainEntry
+by_first item = elim item.first [ Some entry ↦ entry | None ↦ item.entry ]
+
+-- the lines of the first engine, and those of the second
+abbrev pub firsts : List Item → List Item
+firsts [] = []
+firsts (item ∷ older) = if is_second item then firsts older else item ∷ firsts older
+
+abbrev pub seconds : List Item → List Item
+seconds [] = []
+seconds (item ∷ older) = if is_second item then item ∷ seconds older else seconds older
+
+-- the records of lines
+abbrev pub packets_in : List Item → List Packet
+packets_in [] = []
+packets_in (item ∷ older) = item.packet ∷ packets_in older
+
+-- the records: each has one line of the first engine
 abbrev pub packets_of : List Item → List Packet
-packets_of [] = []
-packets_of (item ∷ older) = item.packet ∷ packets_of older
+packets_of items = packets_in (firsts items)
 
--- the entries
-abbrev pub entries_of : List Item → List PlainEntry
-entries_of [] = []
-entries_of (item ∷ older) = item.entry ∷ entries_of older
-
--- the frames of all records
+-- the frames of all lines
 abbrev pub frames_of : List Item → List Packet
 frames_of [] = []
 frames_of (item ∷ older) = item.frames ++ frames_of older
 
--- the item comes behind these: its entry is one of a report of this version and has the next number, and it has as many frames as its entry names
-pub record ComesBehind (version : ℕ) (older : List Item) (item : Item) : Type 0 where
-  pub fits : IsEntryOf version item.entry
-  pub number : item.entry.number ≡ length older + 1
+-- how many lines of the second engine are still to come for the newest record
+abbrev pub owed_of : List Item → ℕ
+owed_of [] = 0
+owed_of (item ∷ older) = item.owed
+
+-- the text of an entry by an engine: of the second behind `/` (47)
+abbrev pub text_by : (second : Bool) → PlainEntry → List ℕ
+text_by false entry = entry_text entry
+text_by true entry = 47 ∷ entry_text entry
+
+-- a line as the report has it: the engine and its entry
+pub record Line : Type 0 where
+  pub second : Bool
+  pub entry : PlainEntry
+
+abbrev pub line_by : (second : Bool) → PlainEntry → Line
+line_by second entry = record { second = second; entry = entry }
+
+abbrev pub line_of : Item → Line
+line_of item = line_by (is_second item) item.entry
+
+abbrev pub lines_of : List Item → List Line
+lines_of [] = []
+lines_of (item ∷ older) = line_of item ∷ lines_of older
+
+-- their text, the oldest first
+abbrev pub lines_text : List Line → List ℕ
+lines_text [] = []
+lines_text (line ∷ older) = lines_text older ++ text_by line.second line.entry
+
+-- lines of the second engine are wanting
+abbrev pub waits : (owed : ℕ) → Bool
+waits zero = false
+waits (suc n) = true
+
+-- where a line stands before which so many lines of the second engine are wanting, and so many lines of both engines and so many frames stand
+abbrev pub turn_at : (owed firsts seconds frames : ℕ) → Turn
+turn_at owed firsts seconds frames = record { second = waits owed; done = if waits owed then seconds else firsts; frames = frames }
+
+-- where the next line behind these stands
+abbrev pub turn_of : List Item → Turn
+turn_of items = turn_at (owed_of items) (length (firsts items)) (length (seconds items)) (length (frames_of items))
+
+-- the line is of the same record as the newest of these
+abbrev pub IsOfNewest : List Item → Item → Type 0
+IsOfNewest [] item = ⊥
+IsOfNewest (newest ∷ older) item = (item.packet ≡ newest.packet) × (item.first ≡ Some (by_first newest))
+
+-- a line of the first engine: no line of the second is wanting before it, and it has the next number
+pub record IsFirstLine (form : Form) (older : List Item) (item : Item) : Type 0 where
+  pub none_owed : owed_of older ≡ 0
+  pub alone : item.first ≡ None
+  pub number : item.entry.number ≡ length (firsts older) + 1
+  pub frames : length item.frames ≡ own_frames form item.entry.packets
+  pub owes : item.owed ≡ answers form item.entry.packets
+
+-- a line of the second engine: it is one of those that are wanting for the newest record, and has the next number
+pub record IsSecondLine (older : List Item) (item : Item) : Type 0 where
+  pub owes : owed_of older ≡ item.owed + 1
+  pub newest : IsOfNewest older item
+  pub number : item.entry.number ≡ length (seconds older) + 1
   pub frames : length item.frames ≡ item.entry.packets
 
--- each item comes behind those before it
-abbrev pub AreItems : (version : ℕ) → List Item → Type 0
-AreItems version [] = Unit {0}
-AreItems version (item ∷ older) = ComesBehind version older item × AreItems version older
+-- the line comes behind these: its entry is one of a report of this form, and it is the next of its engine
+pub record ComesBehind (form : Form) (older : List Item) (item : Item) : Type 0 where
+  pub fits : IsEntryOf (version_of form) item.entry
+  pub turn : IsFirstLine form older item ⊎ IsSecondLine older item
+
+-- each line comes behind those before it
+abbrev pub AreItems : (form : Form) → List Item → Type 0
+AreItems form [] = Unit {0}
+AreItems form (item ∷ older) = ComesBehind form older item × AreItems form older
+
+-- the last line of the report of a run with these lines
+abbrev pub end_text : List Item → List ℕ
+end_text items = last_text (End (length (firsts items)) (length (frames_of items)))
 
 -- a time in nanoseconds since 1970: the fraction counts nanoseconds or microseconds, as the head says, and may reach into the seconds
 abbrev pub nanoseconds : Head → (seconds fraction : ℕ) → ℕ
@@ -59,14 +151,19 @@ flow_at link octets = flow_in link octets
 unfoldable pub length_at : Link → (octets : List ℕ) → ℕ
 length_at link octets = length_in link octets
 
--- what differs between a record and the frame of this number
-unfoldable pub changes_at : Link → (number : ℕ) → (octets frame : List ℕ) → List PlainChange
-changes_at link number octets frame = changes_of link number octets frame
+-- what differs between a record and the frame of this number; or what the frame is, where norm made it itself
+unfoldable pub changes_at : Link → Kinds → (number : ℕ) → (octets frame : List ℕ) → List PlainChange
+changes_at link kinds number octets frame =
+    elim (made_at kinds number) [ Some kind ↦ made_of link number frame kind ∷ [] | None ↦ changes_of link number octets frame ]
 
--- what differs between a record and its frames, the frames numbered from 1
-abbrev pub changes_in : Link → (octets : List ℕ) → (frames : List Packet) → List PlainChange
-changes_in link octets [] = []
-changes_in link octets (frame ∷ older) = changes_in link octets older ++ changes_at link (length older + 1) octets frame.octets
+-- the same of all frames of a line, numbered from 1
+abbrev pub changes_in : Link → Kinds → (octets : List ℕ) → (frames : List Packet) → List PlainChange
+changes_in link kinds octets [] = []
+changes_in link kinds octets (frame ∷ older) = changes_in link kinds octets older ++ changes_at link kinds (length older + 1) octets frame.octets
+
+-- which frames of a line norm made itself
+abbrev pub kinds_in : Item → Kinds
+kinds_in item = kinds_of item.entry item.first item.owed
 
 -- the packet of the first frame, or of the record if it has no frame
 abbrev pub begun_by : Link → (octets : List ℕ) → (frames : List Packet) → Option Flow
@@ -74,7 +171,7 @@ begun_by link octets [] = flow_at link octets
 begun_by link octets (frame ∷ []) = flow_at link frame.octets
 begun_by link octets (frame ∷ next ∷ older) = begun_by link octets (next ∷ older)
 
--- the same for one frame more, which has this number, counted from 0
+-- the packet that is kept behind the frame with this number, counted from 0: that of the first frame
 abbrev pub first_flow : (number : ℕ) → (flow before : Option Flow) → Option Flow
 first_flow number flow before = if number == 0 then flow else before
 
@@ -83,7 +180,7 @@ abbrev pub tcp_octets : Option Flow → ℕ
 tcp_octets None = 0
 tcp_octets (Some flow) = if is_some flow.tcp then flow.length else 0
 
--- the same of all frames of a record
+-- the same of all frames of a record, up to 2^64 - 1
 abbrev pub octets_in : Link → (frames : List Packet) → ℕ
 octets_in link [] = 0
 octets_in link (frame ∷ older) = plus (octets_in link older) (tcp_octets (flow_at link frame.octets))

@@ -5,23 +5,25 @@ use Rattle.pcap_file.specs.declared.head.Head.{Head}
 use Rattle.pcap_file.specs.Capture.{IsCapture}
 use Rattle.capture_input.specs.Inputs.{IsInput}
 use Rattle.run_view.specs.Causes.{SourceRose}
-use Rattle.run_view.specs.Items.{Item, AreItems, frames_of, packets_of}
+use Rattle.run_view.specs.Items.{Item, AreItems, frames_of, owed_of, packets_of}
 use Rattle.run_view.specs.Standing.{HasHead}
-use Rattle.run_view.specs.Viewed.{Moment, Reports, Stopped, faults_of}
+use Rattle.run_view.specs.Viewed.{Moment, Stopped, faults_of, report_of}
 use Rattle.run_view.specs.Words.{asked_in}
+use Rattle.run_view.specs.declared.form.Form.{Form}
 use Rattle.run_view.specs.declared.words.Asked.{Asked}
 
 -- the three files are those of a finished run: a capture, another of the same link, and the report, of the same items
 pub record AreOfARun (input output report : List ℕ) : Type 0 where
   pub head : Head
   pub written : Head
-  pub version : ℕ
+  pub form : Form
   pub items : List Item
   pub link_is : (own : Head) → HasHead input own → written.link ≡ own.link
-  pub are : AreItems version items
+  pub are : AreItems form items
+  pub none_owed : owed_of items ≡ 0
   pub records : IsInput None input head (packets_of items)
   pub frames : IsCapture output written (frames_of items)
-  pub entries : Reports report version items
+  pub lines : report ≡ report_of form items
 
 -- at a moment these are the octets of the three sources
 pub record HasFiles (moment : Moment) (input output report : List ℕ) : Type 0 where
@@ -29,7 +31,7 @@ pub record HasFiles (moment : Moment) (input output report : List ℕ) : Type 0 
   pub output_is : moment.output.octets ≡ Some output
   pub report_is : moment.report.octets ≡ Some report
 
--- no source fails, and the output does not
+-- no source fails, and the output does not: no count of faults rises or is at its last value
 pub record NothingFails (before now : Moment) : Type 0 where
   pub sources : SourceRose (faults_of before) (faults_of now) → ⊥
   pub out : Rose before.out.faults now.out.faults → ⊥

@@ -1,13 +1,15 @@
 pub mod Words
 pub mod WordsMet
 pub mod Lines
-pub mod Told
 pub mod Stops
 pub mod SourceStops
 pub mod Standing
+pub mod Forms
 pub mod Eras
 pub mod Rows
+pub mod Judged
 pub mod Items
+pub mod Told
 pub mod Summary
 pub mod Steps
 pub mod View

@@ -6,14 +6,18 @@ use Rattle.pcap_file.specs.Records.{Packet}
 use Rattle.pcap_file.specs.Capture.{IsCapture}
 use Rattle.capture_input.specs.Inputs.{TookAll}
 use Rattle.capture_input.specs.Reading.{is_open_in}
+use Rattle.capture_input.specs.declared.fault.InputFault.{InputFault}
+use Rattle.edge_io.specs.Faults.{Rose}
 use Rattle.frame_view.specs.Changes.{plain}
 use Rattle.run_view.specs.Items.{begun_by, changes_in, flow_at, length_at, octets_in, time_of}
-use Rattle.run_view.specs.Standing.{BeginsWithRecords, InputAt, InputStops, IsBehind, OutputAt, OutputStops}
+use Rattle.run_view.specs.Standing.{BeginsWithRecords, InputAt, InputFailsBehind, InputStops, IsBehind, OutputAt, OutputFailsBehind, OutputStops}
 use Rattle.run_view.specs.declared.item.Files.{Files}
 use Rattle.run_view.specs.declared.item.Frames.{Frames}
 use Rattle.run_view.specs.declared.item.Gathered.{Gathered}
-use Rattle.run_view.specs.declared.item.Shown.{Shown}
+use Rattle.run_view.specs.declared.item.Held.{Held}
+use Rattle.run_view.specs.declared.judged.Kinds.{Kinds}
 use Rattle.run_view.specs.declared.stop.Stop.{Stop}
+use Rattle.run_view.specs.declared.tally.Noted.{Noted}
 use Rattle.run_view.specs.declared.stop.Stop.TheVariants as stops
 
 -- the next frame may be read
@@ -32,12 +36,22 @@ pub record HasRoom (files : Files) : Type 0 where
   pub few : files.count < 2 ^ 33
   pub few_frames : files.frames.count < 2 ^ 63
 
--- a record and so many frames were read
-pub record ReadOn (old new : Files) (packets : ℕ) : Type 0 where
-  pub ready : IsReady new
+-- a record was read
+pub record RecordOn (old new : Files) : Type 0 where
+  pub goes_on : is_open_in new.input ≡ true
+  pub behind : IsBehind new.input
   pub head : new.head ≡ old.head
   pub count : new.count ≡ old.count + 1
+  pub frames : new.frames ≡ old.frames
+
+-- so many frames were read, and no record
+pub record FramesOn (old new : Files) (packets : ℕ) : Type 0 where
+  pub ready : MayRead new.frames
   pub frame_count : new.frames.count ≡ old.frames.count + packets
+  pub input : new.input ≡ old.input
+  pub head : new.head ≡ old.head
+  pub held : new.held ≡ old.held
+  pub count : new.count ≡ old.count
 
 -- nothing was read
 pub record StayedAt (old new : Files) : Type 0 where
@@ -45,40 +59,41 @@ pub record StayedAt (old new : Files) : Type 0 where
   pub count : new.count ≡ old.count
   pub frame_count : new.frames.count ≡ old.frames.count
 
+-- what is counted of a line, beside its entry
+abbrev pub noted_from : Held → Gathered → Noted
+noted_from held gathered = record { time = held.time; flow = gathered.flow; octets = gathered.octets }
+
+-- this is held of a record
+pub record IsHeld (head : Head) (packet : Packet) (held : Held) : Type 0 where
+  pub octets : held.octets.items ≡ packet.octets
+  pub time : held.time ≡ time_of head packet
+  pub flow : held.flow ≡ flow_at head.link packet.octets
+  pub length_is : held.length ≡ length_at head.link packet.octets
+
+-- one more record was read
+pub record RecordRead (files : Files) (all left : Option (List ℕ)) (head : Head) (records : List Packet) : Type 0 where
+  pub packet : Packet
+  pub input : InputAt files.input head all left (packet ∷ records)
+  pub holds : IsHeld head packet files.held
+
 -- this is gathered of these frames of a record
-pub record IsGathered (link : Link) (octets : List ℕ) (own : List Packet) (gathered : Gathered) : Type 0 where
-  pub changes : map plain gathered.changes.items ≡ changes_in link octets own
+pub record IsGathered (link : Link) (kinds : Kinds) (octets : List ℕ) (own : List Packet) (gathered : Gathered) : Type 0 where
+  pub changes : map plain gathered.changes.items ≡ changes_in link kinds octets own
   pub flow : gathered.flow ≡ begun_by link octets own
   pub octets_are : gathered.octets ≡ octets_in link own
 
 -- one more frame of a record was read
-pub record FrameAdded (frames : Frames) (all left : Option (List ℕ)) (head : Head) (own older : List Packet) (link : Link) (octets : List ℕ) (gathered : Gathered) : Type 0 where
+pub record FrameAdded (frames : Frames) (all left : Option (List ℕ)) (head : Head) (own older : List Packet) (link : Link) (kinds : Kinds) (octets : List ℕ) (gathered : Gathered) : Type 0 where
   pub frame : Packet
   pub stands : OutputAt frames.reader head all left (frame ∷ (own ++ older))
-  pub gathers : IsGathered link octets (frame ∷ own) gathered
+  pub gathers : IsGathered link kinds octets (frame ∷ own) gathered
 
 -- so many frames of a record were read
-pub record FramesRead (frames : Frames) (all left : Option (List ℕ)) (head : Head) (older : List Packet) (link : Link) (octets : List ℕ) (packets : ℕ) (gathered : Gathered) : Type 0 where
+pub record FramesRead (frames : Frames) (all left : Option (List ℕ)) (head : Head) (older : List Packet) (link : Link) (kinds : Kinds) (octets : List ℕ) (packets : ℕ) (gathered : Gathered) : Type 0 where
   pub own : List Packet
   pub count : length own ≡ packets
   pub stands : OutputAt frames.reader head all left (own ++ older)
-  pub gathers : IsGathered link octets own gathered
-
--- this is shown of a record with these frames
-pub record IsShown (head : Head) (packet : Packet) (own : List Packet) (shown : Shown) : Type 0 where
-  pub time : shown.time ≡ time_of head packet
-  pub flow : shown.flow ≡ flow_at head.link packet.octets
-  pub length_is : shown.length ≡ length_at head.link packet.octets
-  pub gathers : IsGathered head.link packet.octets own shown.gathered
-
--- a record and so many frames were read
-pub record ItemRead (files : Files) (read written read_left written_left : Option (List ℕ)) (head : Head) (records frames : List Packet) (packets : ℕ) (shown : Shown) : Type 0 where
-  pub packet : Packet
-  pub own : List Packet
-  pub count : length own ≡ packets
-  pub input : InputAt files.input files.head read read_left (packet ∷ records)
-  pub output : OutputAt files.frames.reader head written written_left (own ++ frames)
-  pub shows : IsShown files.head packet own shown
+  pub gathers : IsGathered link kinds octets own gathered
 
 -- the output is a capture of these frames, and this is the number of the next
 pub record IsMissing (count : ℕ) (all : Option (List ℕ)) (head : Head) (behind : List Packet) (number : ℕ) : Type 0 where
@@ -89,7 +104,7 @@ pub record IsMissing (count : ℕ) (all : Option (List ℕ)) (head : Head) (behi
 abbrev pub FrameStops : (frames : Frames) (all : Option (List ℕ)) (head : Head) (behind : List Packet) (before now : ℕ) → Stop → Type 0
 FrameStops frames all head behind before now (stops.Frame number) = IsMissing frames.count all head behind number
 FrameStops frames all head behind before now stops.Memory = Unit {0}
-FrameStops frames all head behind before now stop = OutputStops all before now stop
+FrameStops frames all head behind before now stop = OutputStops all head behind before now stop
 
 -- a frame of a record is missing, behind these of its own
 pub record OwnMissing (count : ℕ) (all : Option (List ℕ)) (head : Head) (older : List Packet) (packets number : ℕ) : Type 0 where
@@ -97,16 +112,30 @@ pub record OwnMissing (count : ℕ) (all : Option (List ℕ)) (head : Head) (old
   pub fewer : length own < packets
   pub missing : IsMissing (count + length own) all head (own ++ older) number
 
+-- the output has a fault in a frame of a record, behind these of its own
+pub record OwnFails (all : Option (List ℕ)) (head : Head) (older : List Packet) (packets : ℕ) (fault : InputFault) (offset : ℕ) : Type 0 where
+  pub own : List Packet
+  pub fewer : length own < packets
+  pub fails : OutputFailsBehind all head (own ++ older) fault offset
+
 -- why the frames of a record were not read
 abbrev pub FramesStop : (frames : Frames) (all : Option (List ℕ)) (head : Head) (older : List Packet) (packets before now : ℕ) → Stop → Type 0
 FramesStop frames all head older packets before now (stops.Frame number) = OwnMissing frames.count all head older packets number
 FramesStop frames all head older packets before now stops.Memory = Unit {0}
-FramesStop frames all head older packets before now stop = OutputStops all before now stop
+FramesStop frames all head older packets before now (stops.Output fault offset) = OwnFails all head older packets fault offset
+FramesStop frames all head older packets before now stops.Unread = Rose before now
+FramesStop frames all head older packets before now _ = ⊥
 
 -- the input is a capture of these records, and this is the number of the next
 pub record RecordMissing (files : Files) (read : Option (List ℕ)) (records : List Packet) (number : ℕ) : Type 0 where
   pub whole : TookAll None read files.head records
   pub place : number ≡ files.count + 1
+
+-- why the next record was not read
+abbrev pub RecordStops : (files : Files) (read : Option (List ℕ)) (records : List Packet) (before now : ℕ) → Stop → Type 0
+RecordStops files read records before now (stops.Record number) = RecordMissing files read records number
+RecordStops files read records before now stops.Memory = Unit {0}
+RecordStops files read records before now stop = InputStops read files.head records before now stop
 
 -- the record was read behind these, and a frame of it is missing
 pub record FrameMissing (files : Files) (read written : Option (List ℕ)) (head : Head) (records frames : List Packet) (packets number : ℕ) : Type 0 where
@@ -114,10 +143,20 @@ pub record FrameMissing (files : Files) (read written : Option (List ℕ)) (head
   pub record_is : BeginsWithRecords read files.head (packet ∷ records)
   pub missing : OwnMissing files.frames.count written head frames packets number
 
+-- the record was read behind these, and the output has a fault in a frame of it
+pub record FrameFails (files : Files) (read written : Option (List ℕ)) (head : Head) (records frames : List Packet) (packets : ℕ) (fault : InputFault) (offset : ℕ) : Type 0 where
+  pub packet : Packet
+  pub record_is : BeginsWithRecords read files.head (packet ∷ records)
+  pub fails : OwnFails written head frames packets fault offset
+
 -- why a record and its frames were not read
 abbrev pub ItemStops : (files : Files) (read written : Option (List ℕ)) (head : Head) (records frames : List Packet) (packets read_before read_now written_before written_now : ℕ) → Stop → Type 0
 ItemStops files read written head records frames packets read_before read_now written_before written_now (stops.Record number) = RecordMissing files read records number
 ItemStops files read written head records frames packets read_before read_now written_before written_now (stops.Frame number) =
     FrameMissing files read written head records frames packets number
-ItemStops files read written head records frames packets read_before read_now written_before written_now stop =
-    InputStops read read_before read_now stop ⊎ FramesStop files.frames written head frames packets written_before written_now stop
+ItemStops files read written head records frames packets read_before read_now written_before written_now stops.Memory = Unit {0}
+ItemStops files read written head records frames packets read_before read_now written_before written_now (stops.Input fault offset) = InputFailsBehind read files.head records fault offset
+ItemStops files read written head records frames packets read_before read_now written_before written_now (stops.Output fault offset) =
+    FrameFails files read written head records frames packets fault offset
+ItemStops files read written head records frames packets read_before read_now written_before written_now stops.Unread = Rose read_before read_now ⊎ Rose written_before written_now
+ItemStops files read written head records frames packets read_before read_now written_before written_now _ = ⊥

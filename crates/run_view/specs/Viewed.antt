@@ -1,43 +1,42 @@
 -- What a status of `view` says of the words, of the three sources and of the output (this project's profile). A source or an output that is None has no known
 -- octets; nothing is claimed of it.
-use Rattle.std.specs.Prelude.{◌≡◌, ◌⊎◌, ℕ, List, [], length, Option, Some, None, IfSome}
+use Rattle.std.specs.Prelude.{◌≡◌, ◌⊎◌, ℕ, List, [], ◌++◌, Option, Some, None, IfSome}
 use Rattle.std.specs.Io.KnownBytes.{Appends}
 use Rattle.edge_io.specs.Faults.{Rose}
 use Rattle.edge_io.specs.Octets.{AppendsPart}
 use Rattle.pcap_file.specs.declared.head.Head.{Head}
 use Rattle.pcap_file.specs.Capture.{IsCapture}
 use Rattle.capture_input.specs.Inputs.{TookAll}
-use Rattle.rule_book.specs.Reports.{IsVersion}
-use Rattle.rule_book.specs.Text.{report_text}
-use Rattle.rule_book.specs.declared.last.Last.TheVariants.{End}
 use Rattle.run_view.specs.declared.stop.Stop as own
 use Rattle.run_view.specs.declared.stop.Stop.TheVariants as stops
 use Rattle.run_view.specs.declared.words.Asked.{Asked}
-use Rattle.run_view.specs.Items.{Item, AreItems, packets_of, entries_of, frames_of}
+use Rattle.run_view.specs.declared.form.Form.{Form}
+use Rattle.run_view.specs.Forms.{heading}
+use Rattle.run_view.specs.Items.{Item, AreItems, end_text, frames_of, lines_of, lines_text, owed_of, packets_of}
 use Rattle.run_view.specs.Stops.{HasLine, line_of, status_of}
 use Rattle.run_view.specs.Causes.{FaultCounts, FilesStop, IsUnwritten, Sources, counts_of, sources_of}
 use Rattle.run_view.specs.Printed.{AppendsSome}
 use Rattle.run_view.specs.Words.{asked_in}
 use Rattle.run_view.specs.View.{view_text_of}
 
--- the octets are the report of a finished run with these items
-pub record Reports (octets : List ℕ) (version : ℕ) (items : List Item) : Type 0 where
-  pub known : IsVersion version
-  pub text : octets ≡ report_text version (entries_of items) (End (length items) (length (frames_of items)))
+-- the text of the report of this form of a finished run with these items
+abbrev pub report_of : (form : Form) → (items : List Item) → List ℕ
+report_of form items = heading form ++ lines_text (lines_of items) ++ end_text items
 
--- The input is a capture of these records, the output a capture of these frames, and the report that of a finished run with these entries, each with the frames
--- that it names; and exactly the text of them was printed.
+-- The input is a capture of these records, the output a capture of these frames, and the report that of a finished run with these lines, each with the frames
+-- that it counts, and none of the second engine wanting; and exactly the text of them was printed.
 pub record ViewedAs (asked : Asked) (input output report old new : Option (List ℕ)) : Type 0 where
   pub head : Head
   pub written : Head
-  pub version : ℕ
+  pub form : Form
   pub items : List Item
   pub link_is : written.link ≡ head.link
-  pub are : AreItems version items
+  pub are : AreItems form items
+  pub none_owed : owed_of items ≡ 0
   pub records : TookAll None input head (packets_of items)
   pub frames : IfSome output (λ octets. IsCapture octets written (frames_of items))
-  pub entries : IfSome report (λ octets. Reports octets version items)
-  pub text : Appends old new (view_text_of asked head items)
+  pub lines : IfSome report (λ octets. octets ≡ report_of form items)
+  pub text : Appends old new (view_text_of asked form head items)
 
 -- Status 0: the words are accepted, and the run was viewed as they ask.
 pub record Viewed (words : List (List ℕ)) (input output report old new : Option (List ℕ)) : Type 0 where
@@ -75,7 +74,7 @@ faults_of moment = counts_of moment.input.faults moment.output.faults moment.rep
 abbrev pub sources_at : Moment → Sources
 sources_at moment = sources_of moment.input.octets moment.output.octets moment.report.octets
 
--- the words are refused, or memory could not be allocated for the line that says so; nothing was printed before it
+-- the words are refused; the line says so, or that memory for it could not be allocated; nothing was printed before it
 pub record IsRefused (words : List (List ℕ)) (before : Moment) (printed : Option (List ℕ)) (stop : own.Stop) : Type 0 where
   pub none : asked_in words ≡ None
   pub stop_is : (stop ≡ stops.Words) ⊎ (stop ≡ stops.Memory)
@@ -93,7 +92,7 @@ abbrev pub Cause : (words : List (List ℕ)) → (before now : Moment) → (prin
 Cause words before now printed stop =
     IsUnwritten before.out.octets printed (faults_of before) (faults_of now) stop ⊎ IsRefused words before printed stop ⊎ IsStopped words before now printed stop
 
--- the line of a stop was printed last; where the output failed, some octets of it may have been
+-- the line of a stop was printed last; of an output that failed nothing is claimed but that octets were appended
 abbrev pub PrintsLine : own.Stop → (printed new : Option (List ℕ)) → Type 0
 PrintsLine stops.Unwritten printed new = AppendsSome printed new
 PrintsLine stop printed new = Appends printed new (line_of stop)
@@ -106,10 +105,11 @@ pub record Stopped (words : List (List ℕ)) (before now : Moment) (status : ℕ
   pub status_is : status ≡ status_of stop
   pub line : PrintsLine stop printed now.out.octets
 
--- the line was printed whole, and its status is returned
-pub record TellsWhole (status : ℕ) (line : List ℕ) (old new : Option (List ℕ)) (answered : ℕ) : Type 0 where
+-- the line was printed whole without a fault, and its status is returned
+pub record TellsWhole (status : ℕ) (line : List ℕ) (old new : Option (List ℕ)) (before now answered : ℕ) : Type 0 where
   pub status_is : answered ≡ status
   pub whole : Appends old new line
+  pub no_fault : now ≡ before
 
 -- the output failed, which 7 tells; a prefix of the line was printed
 pub record TellsPart (line : List ℕ) (old new : Option (List ℕ)) (before now answered : ℕ) : Type 0 where
@@ -118,7 +118,7 @@ pub record TellsPart (line : List ℕ) (old new : Option (List ℕ)) (before now
   pub failed : Rose before now
 
 abbrev pub TellsLine : (status : ℕ) → (line : List ℕ) → (old new : Option (List ℕ)) → (before now answered : ℕ) → Type 0
-TellsLine status line old new before now answered = TellsWhole status line old new answered ⊎ TellsPart line old new before now answered
+TellsLine status line old new before now answered = TellsWhole status line old new before now answered ⊎ TellsPart line old new before now answered
 
 -- memory could not be allocated for the line of a stop that has one, which is told in its place
 pub record TellsMemory (stop : own.Stop) (old new : Option (List ℕ)) (before now answered : ℕ) : Type 0 where

@@ -1,18 +1,22 @@
 -- Why the functions of a view stop, each by what it reads and prints (this project's profile).
-use Rattle.std.specs.Prelude.{◌≡◌, ◌⊎◌, ℕ, ◌+◌, List, [], ◌∷◌, Option, None, IfSome}
-use Rattle.std.specs.Io.KnownBytes.{Appends, IsAtEnd}
+use Rattle.std.specs.Prelude.{◌≡◌, ◌⊎◌, ℕ, ◌+◌, Bool, true, false, List, [], ◌∷◌, Option, None, IfSome}
+use Rattle.std.specs.Io.KnownBytes.{Appends, Consumes, IsAtEnd}
 use Rattle.edge_io.specs.Faults.{Rose}
 use Rattle.pcap_file.specs.declared.head.Head.{Head}
 use Rattle.pcap_file.specs.Records.{Packet}
 use Rattle.capture_input.specs.Inputs.{TookAll}
+use Rattle.capture_input.specs.declared.fault.InputFault.{InputFault}
+use Rattle.rule_book.specs.Text.{last_text}
+use Rattle.rule_book.specs.declared.last.Last.TheVariants.{End}
 use Rattle.run_view.specs.Causes.{BeginsAmiss, FaultCounts, IsNoNext, IsSomeOctet, SourceRose}
 use Rattle.run_view.specs.Printed.{PrintStops}
-use Rattle.run_view.specs.Standing.{BeginsWithFrames, BeginsWithRecords, InputFails, InputStops, OutputFails, OutputStops}
-use Rattle.run_view.specs.Steps.{ItemStops}
+use Rattle.run_view.specs.Standing.{BeginsWithFrames, BeginsWithRecords, InputFailsBehind, InputStops, OutputFailsBehind, OutputStops}
+use Rattle.run_view.specs.Steps.{FramesStop, ItemStops}
 use Rattle.run_view.specs.declared.item.Files.{Files}
 use Rattle.run_view.specs.declared.item.Frames.{Frames}
 use Rattle.run_view.specs.declared.stop.Stop.{Stop}
 use Rattle.run_view.specs.declared.stop.Stop.TheVariants as stops
+use Rattle.run_view.specs.declared.told.Turn.{Turn}
 
 -- why the first line of the report was not read
 abbrev pub FirstStops : (report : Option (List ℕ)) → (before now : ℕ) → Stop → Type 0
@@ -20,16 +24,21 @@ FirstStops report before now stops.Unread = Rose before now
 FirstStops report before now (stops.Report line) = BeginsAmiss report line
 FirstStops report before now _ = ⊥
 
--- the next line is none that may stand behind so many entries with so many frames
-pub record IsAmiss (version count frames : ℕ) (left : Option (List ℕ)) (line : ℕ) : Type 0 where
-  pub amiss : IfSome left (IsNoNext version count frames)
-  pub place : line ≡ count + 2
+-- the next line is none that may stand there, behind so many lines of entries
+pub record IsAmiss (version : ℕ) (turn : Turn) (lines : ℕ) (left : Option (List ℕ)) (line : ℕ) : Type 0 where
+  pub amiss : IfSome left (IsNoNext version turn)
+  pub place : line ≡ lines + 2
 
 -- why the next line of the report was not read
-abbrev pub NextStops : (version count frames : ℕ) → (left : Option (List ℕ)) → (before now : ℕ) → Stop → Type 0
-NextStops version count frames left before now stops.Unread = Rose before now
-NextStops version count frames left before now (stops.Report line) = IsAmiss version count frames left line
-NextStops version count frames left before now _ = ⊥
+abbrev pub NextStops : (version : ℕ) (turn : Turn) (lines : ℕ) → (left : Option (List ℕ)) → (before now : ℕ) → Stop → Type 0
+NextStops version turn lines left before now stops.Unread = Rose before now
+NextStops version turn lines left before now (stops.Report line) = IsAmiss version turn lines left line
+NextStops version turn lines left before now _ = ⊥
+
+-- the last line of a run was taken of the report, where no line of the second engine is wanting
+pub record ToldEnd (turn : Turn) (report left : Option (List ℕ)) : Type 0 where
+  pub first : turn.second ≡ false
+  pub taken : Consumes report left (last_text (End turn.done turn.frames))
 
 -- how often input, output and the program's own output have failed while an item was taken, and what was printed
 pub record Taking : Type 0 where
@@ -55,20 +64,25 @@ taking_of read_before read_now written_before written_now out_before out_now pri
       printed_now = printed_now;
     }
 
--- the record and the frames of an item were not read, and nothing was printed
-pub record Unread (files : Files) (read written : Option (List ℕ)) (head : Head) (records frames : List Packet) (packets : ℕ) (t : Taking) (stop : Stop) : Type 0 where
-  pub why : ItemStops files read written head records frames packets t.read_before t.read_now t.written_before t.written_now stop
+-- why the record and the frames of a line were not read; the record of a line of the second engine was read before
+abbrev pub LineStops : (second : Bool) → (files : Files) (read written : Option (List ℕ)) (head : Head) (records frames : List Packet) (packets : ℕ) (t : Taking) → Stop → Type 0
+LineStops false files read written head records frames packets t stop = ItemStops files read written head records frames packets t.read_before t.read_now t.written_before t.written_now stop
+LineStops true files read written head records frames packets t stop = FramesStop files.frames written head frames packets t.written_before t.written_now stop
+
+-- the record and the frames of a line were not read, and nothing was printed
+pub record Unread (second : Bool) (files : Files) (read written : Option (List ℕ)) (head : Head) (records frames : List Packet) (packets : ℕ) (t : Taking) (stop : Stop) : Type 0 where
+  pub why : LineStops second files read written head records frames packets t stop
   pub text : Appends t.printed t.printed_now []
 
--- why an item was not taken
-abbrev pub TakeStops : (files : Files) (read written : Option (List ℕ)) (head : Head) (records frames : List Packet) (packets : ℕ) (t : Taking) (stop : Stop) → Type 0
-TakeStops files read written head records frames packets t stop =
-    Unread files read written head records frames packets t stop ⊎ PrintStops t.printed t.printed_now t.out_before t.out_now stop
+-- why a line was not taken
+abbrev pub TakeStops : (second : Bool) → (files : Files) (read written : Option (List ℕ)) (head : Head) (records frames : List Packet) (packets : ℕ) (t : Taking) (stop : Stop) → Type 0
+TakeStops second files read written head records frames packets t stop =
+    Unread second files read written head records frames packets t stop ⊎ PrintStops t.printed t.printed_now t.out_before t.out_now stop
 
 -- octets stand behind the last line of the report
-pub record FoundLine (count : ℕ) (report : Option (List ℕ)) (line : ℕ) : Type 0 where
+pub record FoundLine (lines : ℕ) (report : Option (List ℕ)) (line : ℕ) : Type 0 where
   pub more : IfSome report IsSomeOctet
-  pub place : line ≡ count + 3
+  pub place : line ≡ lines + 3
 
 -- a record stands behind these in the input
 pub record MoreRecords (files : Files) (read : Option (List ℕ)) (records : List Packet) (number : ℕ) : Type 0 where
@@ -96,19 +110,31 @@ pub record FoundFrame (files : Files) (read written report : Option (List ℕ)) 
 -- why the input is not at its end behind these records: a fault of its own, or one more record
 abbrev pub RecordsGoOn : (files : Files) (read : Option (List ℕ)) (records : List Packet) (before now : ℕ) → Stop → Type 0
 RecordsGoOn files read records before now (stops.Record number) = MoreRecords files read records number
-RecordsGoOn files read records before now stop = InputStops read before now stop
+RecordsGoOn files read records before now stop = InputStops read files.head records before now stop
 
 -- why the output is not at its end behind these frames
 abbrev pub FramesGoOn : (frames : Frames) (written : Option (List ℕ)) (head : Head) (own : List Packet) (before now : ℕ) → Stop → Type 0
 FramesGoOn frames written head own before now (stops.Frame number) = MoreFrames frames written head own number
-FramesGoOn frames written head own before now stop = OutputStops written before now stop
+FramesGoOn frames written head own before now stop = OutputStops written head own before now stop
+
+-- the report is at its end, and the input has a fault
+pub record EndFailsInput (files : Files) (read report : Option (List ℕ)) (records : List Packet) (fault : InputFault) (offset : ℕ) : Type 0 where
+  pub over : IsAtEnd report
+  pub fails : InputFailsBehind read files.head records fault offset
+
+-- report and input are at their ends, and the output has a fault
+pub record EndFailsOutput (files : Files) (read written report : Option (List ℕ)) (head : Head) (records frames : List Packet) (fault : InputFault) (offset : ℕ) : Type 0 where
+  pub over : IsAtEnd report
+  pub whole : TookAll None read files.head records
+  pub fails : OutputFailsBehind written head frames fault offset
 
 -- why the three files are not at their ends
-abbrev pub EndStops : (files : Files) (read written report : Option (List ℕ)) (head : Head) (records frames : List Packet) (before now : FaultCounts) → Stop → Type 0
-EndStops files read written report head records frames before now stops.Unread = SourceRose before now
-EndStops files read written report head records frames before now (stops.Input fault offset) = InputFails read fault offset
-EndStops files read written report head records frames before now (stops.Output fault offset) = OutputFails written fault offset
-EndStops files read written report head records frames before now (stops.Report line) = FoundLine files.count report line
-EndStops files read written report head records frames before now (stops.Record number) = FoundRecord files read report records number
-EndStops files read written report head records frames before now (stops.Frame number) = FoundFrame files read written report head records frames number
-EndStops files read written report head records frames before now _ = ⊥
+abbrev pub EndStops : (files : Files) (lines : ℕ) (read written report : Option (List ℕ)) (head : Head) (records frames : List Packet) (before now : FaultCounts) → Stop → Type 0
+EndStops files lines read written report head records frames before now stops.Unread = SourceRose before now
+EndStops files lines read written report head records frames before now (stops.Input fault offset) = EndFailsInput files read report records fault offset
+EndStops files lines read written report head records frames before now (stops.Output fault offset) =
+    EndFailsOutput files read written report head records frames fault offset
+EndStops files lines read written report head records frames before now (stops.Report line) = FoundLine lines report line
+EndStops files lines read written report head records frames before now (stops.Record number) = FoundRecord files read report records number
+EndStops files lines read written report head records frames before now (stops.Frame number) = FoundFrame files read written report head records frames number
+EndStops files lines read written report head records frames before now _ = ⊥

@@ -1,8 +1,8 @@
 -- The words of `normview` (this project's profile): options, each at most once, and then the names of three files. A word is the list of its octets.
 use Rattle.std.specs.Prelude.{ℕ, ◌&&◌, true, false, List, [], ◌∷◌, Option, Some, None, is_some, codes, if◌then◌else◌}
 use Rattle.std.specs.Str.{bytes_eq}
-use Rattle.command_line.specs.Options.{Text, is_name, number_within}
-use Rattle.command_line.specs.Line.{after_front, begins_with_dash}
+use Rattle.norm_settings.specs.Options.{Text, is_name, number_within}
+use Rattle.norm_settings.specs.Line.{after_front, begins_with_dash}
 use Rattle.rule_book.specs.Rules.{rule_named}
 use Rattle.rule_book.specs.declared.rule.Rule.{Rule}
 use Rattle.rule_book.specs.declared.entry.Verdict.{Verdict}

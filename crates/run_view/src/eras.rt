@@ -149,6 +149,34 @@ fn begin_named(eras: &mut Eras, era: u32, flow: Option<Flow>)
     }
 }
 
+/// Adds octets that went inwards in an era.
+pub(crate) fn bring(
+    alloc: Global,
+    eras: &mut Eras,
+    era: Option<u32>,
+    octets: u64,
+) -> Result<(), NoMemory>
+    ensures { OnOk result (table_of eras.new ≡ spec.changed_if era (spec.with_octets octets) (table_of eras.old)) }
+{
+    let Some(era) = era else {
+        return Ok(());
+    };
+    name(alloc, eras, era)?;
+    bring_named(eras, era, octets);
+    Ok(())
+}
+
+// Adds octets that went inwards in an era that is in the table.
+fn bring_named(eras: &mut Eras, era: u32, octets: u64)
+    requires there { IsSome (get nat_eq eras.old era) }
+    ensures { table_of eras.new ≡ spec.changed era (spec.with_octets octets) (table_of eras.old) }
+{
+    match eras.get_mut(&era) {
+        Some(row) => row.octets = row.octets.saturating_add(octets),
+        None => unreachable!(),
+    }
+}
+
 /// Notes the eras that ended.
 pub(crate) fn end_all(alloc: Global, eras: &mut Eras, ended: &[Ended]) -> Result<(), NoMemory>
     ensures { OnOk result (table_of eras.new ≡ spec.with_ended ended.now (table_of eras.old)) }

@@ -1,21 +1,22 @@
 //! A record of the input with the frames of the output that were written for it.
 ghost use Rattle.std.specs.Prelude.{◌≡◌, ◌+◌, ◌≤◌, ◌<◌, ◌^◌, ◌++◌, ◌∷◌, ℕ, List, length, IfErr, IfOk, OnOk, if◌then◌else◌};
 ghost use Rattle.std.specs.declared.option.Option.{Option};
+ghost use Rattle.pcap_file.specs.Reads.{shown};
 ghost use Rattle.pcap_file.specs.Records.{Packet};
 ghost use Rattle.pcap_file.specs.declared.head.Head.{Head};
 ghost use Rattle.run_view.specs.Items as spec;
 ghost use Rattle.run_view.specs.Standing.{InputAt, OutputAt};
-ghost use Rattle.run_view.specs.Steps.{FrameAdded, FrameStops, FramesRead, FramesStop, HasRoom, IsGathered, ItemRead, ItemStops, MayRead, ReadOn};
+ghost use Rattle.run_view.specs.Steps.{FrameAdded, FrameStops, FramesOn, FramesRead, FramesStop, IsGathered, IsHeld, IsReady, MayRead, RecordOn, RecordRead, RecordStops};
 
 use crate::Stop;
-use crate::seen::{add_changes_at, flow_at, length_at};
+use crate::judged::Kinds;
+use crate::seen::{Original, add_changes_at, flow_at, length_at};
 use crate::sources::{next_frame, next_record};
 use capture_input::Input;
 use edge_io::{NoMemory, Source};
 use frame_view::{Change, Flow};
-use pcap_file::{Head, Reader};
+use pcap_file::{Head, Reader, Record};
 use std::alloc::Global;
-use wire_base::Link;
 
 /// The room for the octets of a record, the most that a capture may have.
 pub(crate) const ROOM: usize = 262_144;
@@ -30,27 +31,31 @@ pub(crate) struct Frames {
     pub(crate) count: u64,
 }
 
+/// The newest record.
+#[derive(Drop)]
+pub(crate) struct Held {
+    pub(crate) octets: Vec<u8>,
+    /// Nanoseconds since 1970.
+    pub(crate) time: u64,
+    pub(crate) flow: Option<Flow>,
+    pub(crate) length: u64,
+}
+
 /// The records of the input and the frames of the output.
 #[derive(Drop)]
 pub(crate) struct Files {
     /// The head of the input.
     pub(crate) head: Head,
     pub(crate) input: Input,
-    /// The octets of one record.
+    /// The octets of one record, as they are read.
     pub(crate) buffer: Box<[u8; ROOM]>,
+    pub(crate) held: Held,
     /// How many records were read.
     pub(crate) count: u64,
     pub(crate) frames: Frames,
 }
 
-/// The octets of a record, and the link that they begin with.
-#[derive(Clone, Copy)]
-pub(crate) struct Original<'a> {
-    pub(crate) link: Link,
-    pub(crate) octets: &'a [u8],
-}
-
-/// What is known of the frames of a record.
+/// What is known of the frames of a line.
 #[derive(Drop)]
 pub(crate) struct Gathered {
     /// What differs between the record and its frames.
@@ -61,50 +66,65 @@ pub(crate) struct Gathered {
     pub(crate) octets: u64,
 }
 
-/// What is shown of a record.
-#[derive(Drop)]
-pub(crate) struct Shown {
-    /// Nanoseconds since 1970.
-    pub(crate) time: u64,
-    pub(crate) flow: Option<Flow>,
-    pub(crate) length: u64,
-    pub(crate) gathered: Gathered,
-}
-
-/// Reads the next record and as many frames.
-pub(crate) fn read_item<I: Source, O: Source>(
-    alloc: Global,
-    files: &mut Files,
-    packets: u8,
-    input: &mut I,
-    output: &mut O,
-) -> Result<Shown, Stop>
-    requires room { HasRoom files.old }
-    ensures read { IfOk result (λ shown. (read written : Option (List ℕ)) (head : Head) (records frames : List Packet) →
-        InputAt files.old.input files.old.head read (I.left input.old) records → OutputAt files.old.frames.reader head written (O.left output.old) frames →
-        ItemRead files.new read written (I.left input.new) (O.left output.new) head records frames packets shown) }
-    ensures went { OnOk result (ReadOn files.old files.new packets) }
-    ensures stops { IfErr result (λ stop. (read written : Option (List ℕ)) (head : Head) (records frames : List Packet) →
-        InputAt files.old.input files.old.head read (I.left input.old) records → OutputAt files.old.frames.reader head written (O.left output.old) frames →
-        ItemStops files.old read written head records frames packets (I.fault_count input.old) (I.fault_count input.new) (O.fault_count output.old) (O.fault_count output.new) stop) }
-    ensures input_later { I.fault_count input.old ≤ I.fault_count input.new }
-    ensures output_later { O.fault_count output.old ≤ O.fault_count output.new }
+/// Reads the next record, which is held then.
+pub(crate) fn read_record<I: Source>(files: &mut Files, input: &mut I) -> Result<(), Stop>
+    requires ready { IsReady files.old }
+    requires few { files.old.count < 2 ^ 33 }
+    ensures read { OnOk result ((read : Option (List ℕ)) (records : List Packet) →
+        InputAt files.old.input files.old.head read (I.left input.old) records → RecordRead files.new read (I.left input.new) files.old.head records) }
+    ensures went { OnOk result (RecordOn files.old files.new) }
+    ensures stops { IfErr result (λ stop. (read : Option (List ℕ)) (records : List Packet) →
+        InputAt files.old.input files.old.head read (I.left input.old) records →
+        RecordStops files.old read records (I.fault_count input.old) (I.fault_count input.new) stop) }
+    ensures later { I.fault_count input.old ≤ I.fault_count input.new }
+    ensures kept { OnOk result (I.fault_count input.new ≡ I.fault_count input.old) }
 {
     let Some(record) = next_record(&mut files.input, input, &mut files.buffer[..])? else {
         return Err(Stop::Record(files.count + 1));
     };
+    hold(files.head, record, &mut files.held)?;
     files.count += 1;
+    Ok(())
+}
+
+// Holds a record in the place of another.
+fn hold(head: Head, given: Record<'_>, held: &mut Held) -> Result<(), NoMemory>
+    ensures { OnOk result (IsHeld head (shown given.entry) held.new) }
+{
+    held.octets.clear();
+    held.octets.extend_from_slice(given.bytes)?;
+    held.time = time_of(head, given.seconds, given.fraction);
+    held.flow = flow_at(head.link, given.bytes);
+    held.length = length_at(head.link, given.bytes);
+    Ok(())
+}
+
+/// Reads the next frames, which belong to the record that is held.
+pub(crate) fn read_frames<O: Source>(
+    alloc: Global,
+    files: &mut Files,
+    packets: u8,
+    kinds: Kinds,
+    output: &mut O,
+) -> Result<Gathered, Stop>
+    requires ready { MayRead files.old.frames }
+    requires few { files.old.frames.count < 2 ^ 63 }
+    ensures read { IfOk result (λ gathered. (written : Option (List ℕ)) (head : Head) (frames : List Packet) →
+        OutputAt files.old.frames.reader head written (O.left output.old) frames →
+        FramesRead files.new.frames written (O.left output.new) head frames files.old.head.link kinds files.old.held.octets.items packets gathered) }
+    ensures went { OnOk result (FramesOn files.old files.new packets) }
+    ensures stops { IfErr result (λ stop. (written : Option (List ℕ)) (head : Head) (frames : List Packet) →
+        OutputAt files.old.frames.reader head written (O.left output.old) frames →
+        FramesStop files.old.frames written head frames packets (O.fault_count output.old) (O.fault_count output.new) stop) }
+    ensures later { O.fault_count output.old ≤ O.fault_count output.new }
+    ensures kept { OnOk result (O.fault_count output.new ≡ O.fault_count output.old) }
+{
     let original = Original {
         link: files.head.link,
-        octets: record.bytes,
+        kinds,
+        octets: files.held.octets.as_slice(),
     };
-    let gathered = gather(alloc, original, packets, &mut files.frames, output)?;
-    Ok(Shown {
-        time: time_of(files.head, record.seconds, record.fraction),
-        flow: flow_at(original.link, original.octets),
-        length: length_at(original.link, original.octets),
-        gathered,
-    })
+    gather(alloc, original, packets, &mut files.frames, output)
 }
 
 // Returns a time in nanoseconds since 1970.
@@ -127,13 +147,14 @@ fn gather<O: Source>(
     requires few { frames.old.count < 2 ^ 63 }
     ensures read { IfOk result (λ gathered. (all : Option (List ℕ)) (head : Head) (older : List Packet) →
         OutputAt frames.old.reader head all (O.left output.old) older →
-        FramesRead frames.new all (O.left output.new) head older original.entry.link original.entry.octets.now packets gathered) }
+        FramesRead frames.new all (O.left output.new) head older original.entry.link original.entry.kinds original.entry.octets.now packets gathered) }
     ensures ready { OnOk result (MayRead frames.new) }
     ensures count { OnOk result (frames.new.count ≡ frames.old.count + packets) }
     ensures stops { IfErr result (λ stop. (all : Option (List ℕ)) (head : Head) (older : List Packet) →
         OutputAt frames.old.reader head all (O.left output.old) older →
         FramesStop frames.old all head older packets (O.fault_count output.old) (O.fault_count output.new) stop) }
     ensures later { O.fault_count output.old ≤ O.fault_count output.new }
+    ensures kept { OnOk result (O.fault_count output.new ≡ O.fault_count output.old) }
 {
     let mut gathered = Gathered {
         changes: Vec::new(alloc),
@@ -158,14 +179,15 @@ fn add_frame<O: Source>(
     requires ready { MayRead frames.old }
     requires few { frames.old.count + 1 < 2 ^ 64 }
     ensures added { OnOk result ((all : Option (List ℕ)) (head : Head) (own older : List Packet) → length own ≡ number →
-        OutputAt frames.old.reader head all (O.left output.old) (own ++ older) → IsGathered original.entry.link original.entry.octets.now own gathered.old →
-        FrameAdded frames.new all (O.left output.new) head own older original.entry.link original.entry.octets.now gathered.new) }
+        OutputAt frames.old.reader head all (O.left output.old) (own ++ older) → IsGathered original.entry.link original.entry.kinds original.entry.octets.now own gathered.old →
+        FrameAdded frames.new all (O.left output.new) head own older original.entry.link original.entry.kinds original.entry.octets.now gathered.new) }
     ensures ready { OnOk result (MayRead frames.new) }
     ensures count { OnOk result (frames.new.count ≡ frames.old.count + 1) }
     ensures stops { IfErr result (λ stop. (all : Option (List ℕ)) (head : Head) (behind : List Packet) →
         OutputAt frames.old.reader head all (O.left output.old) behind →
         FrameStops frames.old all head behind (O.fault_count output.old) (O.fault_count output.new) stop) }
     ensures later { O.fault_count output.old ≤ O.fault_count output.new }
+    ensures kept { OnOk result (O.fault_count output.new ≡ O.fault_count output.old) }
 {
     let Some(frame) = next_frame(&mut frames.reader, output, &mut frames.buffer[..])? else {
         return Err(Stop::Frame(frames.count + 1));
@@ -184,18 +206,11 @@ fn note_frame(
     gathered: &mut Gathered,
 ) -> Result<(), NoMemory>
     ensures { OnOk result ((own : List Packet) (packet : Packet) → length own ≡ number → packet.octets ≡ frame.now →
-        IsGathered original.entry.link original.entry.octets.now own gathered.old →
-        IsGathered original.entry.link original.entry.octets.now (packet ∷ own) gathered.new) }
+        IsGathered original.entry.link original.entry.kinds original.entry.octets.now own gathered.old →
+        IsGathered original.entry.link original.entry.kinds original.entry.octets.now (packet ∷ own) gathered.new) }
 {
     let place = u32::from(number) + 1;
-    add_changes_at(
-        alloc,
-        original.link,
-        original.octets,
-        frame,
-        place,
-        &mut gathered.changes,
-    )?;
+    add_changes_at(alloc, original, frame, place, &mut gathered.changes)?;
     let flow = flow_at(original.link, frame);
     gathered.flow = first_flow(number, flow, gathered.flow);
     gathered.octets = gathered.octets.saturating_add(tcp_octets(flow));

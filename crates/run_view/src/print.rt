@@ -7,19 +7,21 @@ ghost use Rattle.run_view.specs.Rows.{plain_pair, table_of};
 ghost use Rattle.run_view.specs.View as spec;
 
 use crate::Stop;
-use crate::eras::EraRow;
-use crate::item::Shown;
+use crate::eras::{EraRow, Eras};
+use crate::item::{Gathered, Held};
+use crate::judged::Judged;
 use crate::tally::{Tally, era_counts};
 use edge_io::Sink;
 use rule_book::Entry;
 use std::alloc::Global;
-use view_text::{EraView, RecordView, Summary, era_line, record_line, summary_lines};
+use view_text::{EraView, RecordView, Sides, Summary, era_line, record_line, summary_lines};
 
 /// Prints a text.
 fn print<K: Sink>(text: &[u8], out: &mut K) -> Result<(), Stop>
     ensures prints { OnOk result (Appends (K.held out.old) (K.held out.new) text.now) }
     ensures stops { IfErr result (PrintStops (K.held out.old) (K.held out.new) (K.fault_count out.old) (K.fault_count out.new)) }
     ensures later { K.fault_count out.old ≤ K.fault_count out.new }
+    ensures kept { OnOk result (K.fault_count out.new ≡ K.fault_count out.old) }
 {
     match out.put(text) {
         Ok(()) => Ok(()),
@@ -27,28 +29,41 @@ fn print<K: Sink>(text: &[u8], out: &mut K) -> Result<(), Stop>
     }
 }
 
-/// Prints the line of a record.
+/// What is shown of a line.
+#[derive(Clone, Copy)]
+pub(crate) struct Shown<'a> {
+    /// It is one of the second engine.
+    pub(crate) second: bool,
+    /// What the first engine said of its record.
+    pub(crate) judged: Judged,
+    pub(crate) held: &'a Held,
+    pub(crate) entry: &'a Entry,
+    pub(crate) gathered: &'a Gathered,
+}
+
+/// Prints a line of the report.
 #[tactic(auto, unfolding(crate::specs::View::record_line))]
 pub(crate) fn print_record<K: Sink>(
     alloc: Global,
     json: bool,
-    entry: &Entry,
-    shown: &Shown,
+    shown: Shown<'_>,
     out: &mut K,
 ) -> Result<(), Stop>
-    ensures prints { OnOk result (Appends (K.held out.old) (K.held out.new) (spec.record_line json (record_shown entry.now shown.now))) }
+    ensures prints { OnOk result (Appends (K.held out.old) (K.held out.new) (spec.record_line json
+        (record_shown shown.entry.second shown.entry.judged shown.entry.held.now shown.entry.entry.now shown.entry.gathered.now))) }
     ensures stops { IfErr result (PrintStops (K.held out.old) (K.held out.new) (K.fault_count out.old) (K.fault_count out.new)) }
     ensures later { K.fault_count out.old ≤ K.fault_count out.new }
+    ensures kept { OnOk result (K.fault_count out.new ≡ K.fault_count out.old) }
 {
     let view = RecordView {
-        number: u64::from(entry.number),
-        second: false,
-        own: 0,
-        time: shown.time,
-        flow: shown.flow,
-        length: shown.length,
-        entry,
-        frames: u32::from(entry.packets),
+        number: u64::from(shown.judged.number),
+        second: shown.second,
+        own: shown.entry.number,
+        time: shown.held.time,
+        flow: shown.held.flow,
+        length: shown.held.length,
+        entry: shown.entry,
+        frames: u32::from(shown.entry.packets),
         changes: shown.gathered.changes.as_slice(),
     };
     match record_line(alloc, json, &view) {
@@ -57,26 +72,35 @@ pub(crate) fn print_record<K: Sink>(
     }
 }
 
+/// How much a whole run has.
+#[derive(Clone, Copy)]
+pub(crate) struct Size {
+    /// It has lines of a second engine.
+    pub(crate) both: bool,
+    pub(crate) records: u64,
+    pub(crate) frames: u64,
+}
+
 /// Prints the summary of a run.
 #[tactic(auto, unfolding(crate::specs::View::summary_line))]
 pub(crate) fn print_summary<K: Sink>(
     alloc: Global,
-    records: u64,
-    frames: u64,
+    size: Size,
     tally: &Tally,
     out: &mut K,
 ) -> Result<(), Stop>
-    ensures prints { OnOk result (Appends (K.held out.old) (K.held out.new) (spec.summary_line (summary_shown records frames tally.now))) }
+    ensures prints { OnOk result (Appends (K.held out.old) (K.held out.new) (spec.summary_line (summary_shown size.both size.records size.frames tally.now))) }
     ensures stops { IfErr result (PrintStops (K.held out.old) (K.held out.new) (K.fault_count out.old) (K.fault_count out.new)) }
     ensures later { K.fault_count out.old ≤ K.fault_count out.new }
+    ensures kept { OnOk result (K.fault_count out.new ≡ K.fault_count out.old) }
 {
     let summary = Summary {
-        records,
+        records: size.records,
         first: tally.sides,
-        second: None,
-        frames,
+        second: second_sides(size.both, tally.second_sides),
+        frames: size.frames,
         rules: tally.rules.as_slice(),
-        eras: era_counts(&tally.eras),
+        eras: era_counts(tally),
     };
     match summary_lines(alloc, &summary) {
         Ok(lines) => print(lines.as_bytes(), out),
@@ -84,22 +108,48 @@ pub(crate) fn print_summary<K: Sink>(
     }
 }
 
-/// Prints the lines of all eras.
+// Returns the lines of the second engine by side, where there is one.
+fn second_sides(both: bool, sides: Sides) -> Option<Sides>
+    ensures { result ≡ spec.second_sides both sides }
+{
+    if both { Some(sides) } else { None }
+}
+
+/// Prints the lines of all eras, those of the first engine before those of the second.
 pub(crate) fn print_eras<K: Sink>(
     alloc: Global,
     json: bool,
     tally: &Tally,
     out: &mut K,
 ) -> Result<(), Stop>
-    ensures prints { OnOk result (Appends (K.held out.old) (K.held out.new) (spec.eras_text json (table_of tally.now.eras))) }
-    ensures stops { IfErr result (PartStops (K.held out.old) (K.held out.new) (K.fault_count out.old) (K.fault_count out.new) (spec.eras_text json (table_of tally.now.eras))) }
+    ensures prints { OnOk result (Appends (K.held out.old) (K.held out.new) (spec.eras_text json (table_of tally.now.eras) (table_of tally.now.second_eras))) }
+    ensures stops { IfErr result (PartStops (K.held out.old) (K.held out.new) (K.fault_count out.old) (K.fault_count out.new)
+        (spec.eras_text json (table_of tally.now.eras) (table_of tally.now.second_eras))) }
     ensures later { K.fault_count out.old ≤ K.fault_count out.new }
+    ensures kept { OnOk result (K.fault_count out.new ≡ K.fault_count out.old) }
 {
-    for place in 0..tally.eras.len() {
-        let Some((era, row)) = tally.eras.get_index(place) else {
+    print_table(alloc, json, false, &tally.eras, out)?;
+    print_table(alloc, json, true, &tally.second_eras, out)
+}
+
+// Prints the lines of the eras of an engine.
+fn print_table<K: Sink>(
+    alloc: Global,
+    json: bool,
+    second: bool,
+    eras: &Eras,
+    out: &mut K,
+) -> Result<(), Stop>
+    ensures prints { OnOk result (Appends (K.held out.old) (K.held out.new) (spec.table_text json second (table_of eras.now))) }
+    ensures stops { IfErr result (PartStops (K.held out.old) (K.held out.new) (K.fault_count out.old) (K.fault_count out.new) (spec.table_text json second (table_of eras.now))) }
+    ensures later { K.fault_count out.old ≤ K.fault_count out.new }
+    ensures kept { OnOk result (K.fault_count out.new ≡ K.fault_count out.old) }
+{
+    for place in 0..eras.len() {
+        let Some((era, row)) = eras.get_index(place) else {
             unreachable!();
         };
-        print_era(alloc, json, *era, row, out)?;
+        print_era(alloc, json, second, *era, row, out)?;
     }
     Ok(())
 }
@@ -109,17 +159,19 @@ pub(crate) fn print_eras<K: Sink>(
 fn print_era<K: Sink>(
     alloc: Global,
     json: bool,
+    second: bool,
     era: u32,
     row: &EraRow,
     out: &mut K,
 ) -> Result<(), Stop>
-    ensures prints { OnOk result (Appends (K.held out.old) (K.held out.new) (spec.era_line json (plain_pair (era, row.now)))) }
+    ensures prints { OnOk result (Appends (K.held out.old) (K.held out.new) (spec.era_line json second (plain_pair (era, row.now)))) }
     ensures stops { IfErr result (PrintStops (K.held out.old) (K.held out.new) (K.fault_count out.old) (K.fault_count out.new)) }
     ensures later { K.fault_count out.old ≤ K.fault_count out.new }
+    ensures kept { OnOk result (K.fault_count out.new ≡ K.fault_count out.old) }
 {
     let view = EraView {
         era,
-        second: false,
+        second,
         flow: row.flow,
         first: row.first,
         last: row.last,

@@ -1,11 +1,12 @@
 //! What the headers of records and frames say, and what differs between them.
 ghost use Rattle.std.specs.Prelude.{◌≡◌, ◌++◌, map, OnOk};
-ghost use Rattle.frame_view.specs.Changes.{plain};
+ghost use Rattle.frame_view.specs.Changes.{changes_of, plain};
 ghost use Rattle.run_view.specs.Items as spec;
 
+use crate::judged::{Kinds, made_at};
 use edge_io::NoMemory;
 use frame_view::laws::fields_determine_frames;
-use frame_view::{Change, Flow, add_changes, flow_of, length_of};
+use frame_view::{Change, Flow, add_changes, add_made, flow_of, length_of};
 use std::alloc::Global;
 use wire_base::Link;
 
@@ -25,10 +26,43 @@ pub(crate) fn length_at(link: Link, octets: &[u8]) -> u64
     length_of(link, octets)
 }
 
+/// The octets of a record, the link that they begin with, and which frames of a line norm made
+/// itself.
+#[derive(Clone, Copy)]
+pub(crate) struct Original<'a> {
+    pub(crate) link: Link,
+    pub(crate) kinds: Kinds,
+    pub(crate) octets: &'a [u8],
+}
+
 /// Adds what differs between a record and the frame of this number; nothing if they are equal, which
-/// costs one comparison.
+/// costs one comparison. Of a frame that norm made itself it adds that.
 #[tactic(auto, unfolding(crate::specs::Items::changes_at))]
 pub(crate) fn add_changes_at(
+    alloc: Global,
+    original: Original<'_>,
+    frame: &[u8],
+    number: u32,
+    changes: &mut Vec<Change>,
+) -> Result<(), NoMemory>
+    ensures { OnOk result (map plain changes.new.items ≡ map plain changes.old.items
+        ++ spec.changes_at original.entry.link original.entry.kinds number original.entry.octets.now frame.now) }
+{
+    match made_at(original.kinds, number) {
+        Some(kind) => add_made(original.link, frame, number, kind, changes),
+        None => add_compared(
+            alloc,
+            original.link,
+            original.octets,
+            frame,
+            number,
+            changes,
+        ),
+    }
+}
+
+// Adds what differs between a record and the frame of this number.
+fn add_compared(
     alloc: Global,
     link: Link,
     octets: &[u8],
@@ -36,7 +70,7 @@ pub(crate) fn add_changes_at(
     number: u32,
     changes: &mut Vec<Change>,
 ) -> Result<(), NoMemory>
-    ensures { OnOk result (map plain changes.new.items ≡ map plain changes.old.items ++ spec.changes_at link number octets.now frame.now) }
+    ensures { OnOk result (map plain changes.new.items ≡ map plain changes.old.items ++ changes_of link number octets.now frame.now) }
 {
     fields_determine_frames();
     if octets == frame {

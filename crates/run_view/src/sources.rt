@@ -1,5 +1,5 @@
 //! The records of the input and the frames of the output, read one by one.
-ghost use Rattle.std.specs.Prelude.{◌≡◌, ◌+◌, ◌≤◌, ℕ, true, List, [], length, IfErr, IfOk, IfSome, IsSome, IsSomeAnd, vec_len};
+ghost use Rattle.std.specs.Prelude.{◌≡◌, ◌+◌, ◌≤◌, ℕ, true, List, [], length, IfErr, IfOk, IfSome, OnOk, IsSome, IsSomeAnd, vec_len};
 ghost use Rattle.std.specs.declared.option.Option.{Option};
 ghost use Rattle.edge_io.specs.Faults.{Rose};
 ghost use Rattle.pcap_file.specs.Reads.{IfRecord};
@@ -7,10 +7,10 @@ ghost use Rattle.pcap_file.specs.Records.{Packet};
 ghost use Rattle.pcap_file.specs.declared.head.Head.{Head};
 ghost use Rattle.capture_input.specs.Reading.{is_open_in};
 ghost use Rattle.run_view.specs.SourceStops as spec;
-ghost use Rattle.run_view.specs.Standing.{InputAt, InputOpened, IsBehind, InputReads, InputStops, OutputAt, OutputHeadStops, OutputReads, OutputStops};
+ghost use Rattle.run_view.specs.Standing.{InputAt, InputOpened, IsBehind, InputHeadStops, InputReads, InputStops, OutputAt, OutputHeadStops, OutputReads, OutputStops};
 
 use crate::Stop;
-use capture_input::laws::{head_stops_are_faults, stops_are_faults, whole_is_input};
+use capture_input::laws::whole_is_input;
 use capture_input::{Input, InputFault};
 use edge_io::Source;
 use pcap_file::{HeadFault, Reader, Record, RecordFault, read_head};
@@ -19,10 +19,10 @@ use wire_base::Link;
 /// Reads the head of the input.
 pub(crate) fn open_input<I: Source>(source: &mut I) -> Result<Input, Stop>
     ensures opened { IfOk result (λ input. InputOpened input (I.left source.old) (I.left source.new)) }
-    ensures stops { IfErr result (λ stop. InputStops (I.left source.old) (I.fault_count source.old) (I.fault_count source.new) stop) }
+    ensures stops { IfErr result (λ stop. InputHeadStops (I.left source.old) (I.fault_count source.old) (I.fault_count source.new) stop) }
     ensures later { I.fault_count source.old ≤ I.fault_count source.new }
+    ensures kept { OnOk result (I.fault_count source.new ≡ I.fault_count source.old) }
 {
-    head_stops_are_faults();
     match Input::open(None, source) {
         Ok(input) => Ok(input),
         Err(stop) => Err(input_stop(stop.fault, stop.offset)),
@@ -43,10 +43,10 @@ pub(crate) fn next_record<'a, I: Source>(
     ensures goes_on { IfOk result (λ given. IfSome given (λ _. is_open_in input.new ≡ true)) }
     ensures behind { IfOk result (λ given. IfSome given (λ _. IsBehind input.new)) }
     ensures stops { IfErr result (λ stop. (head : Head) (all : Option (List ℕ)) (packets : List Packet) →
-        InputAt input.old head all (I.left source.old) packets → InputStops all (I.fault_count source.old) (I.fault_count source.new) stop) }
+        InputAt input.old head all (I.left source.old) packets → InputStops all head packets (I.fault_count source.old) (I.fault_count source.new) stop) }
     ensures later { I.fault_count source.old ≤ I.fault_count source.new }
+    ensures kept { OnOk result (I.fault_count source.new ≡ I.fault_count source.old) }
 {
-    stops_are_faults();
     whole_is_input();
     match input.next(source, buffer) {
         Ok(given) => Ok(given),
@@ -77,6 +77,7 @@ pub(crate) fn open_output<O: Source>(link: Link, source: &mut O) -> Result<Reade
     ensures same { IfOk result (λ reader. reader.head.link ≡ link) }
     ensures stops { IfErr result (OutputHeadStops link (O.left source.old) (O.fault_count source.old) (O.fault_count source.new)) }
     ensures later { O.fault_count source.old ≤ O.fault_count source.new }
+    ensures kept { OnOk result (O.fault_count source.new ≡ O.fault_count source.old) }
 {
     match read_head(source) {
         Ok(head) => {
@@ -104,8 +105,9 @@ pub(crate) fn next_frame<'a, O: Source>(
         OutputAt reader.old head all (O.left source.old) frames → OutputReads reader.new head all (O.left source.new) frames given) }
     ensures goes_on { IfOk result (λ given. IfSome given (λ _. reader.new.is_open ≡ true)) }
     ensures stops { IfErr result (λ stop. (head : Head) (all : Option (List ℕ)) (frames : List Packet) →
-        OutputAt reader.old head all (O.left source.old) frames → OutputStops all (O.fault_count source.old) (O.fault_count source.new) stop) }
+        OutputAt reader.old head all (O.left source.old) frames → OutputStops all head frames (O.fault_count source.old) (O.fault_count source.new) stop) }
     ensures later { O.fault_count source.old ≤ O.fault_count source.new }
+    ensures kept { OnOk result (O.fault_count source.new ≡ O.fault_count source.old) }
 {
     match reader.next(source, buffer) {
         Ok(given) => Ok(given),

@@ -2,10 +2,12 @@
 ghost use Rattle.std.specs.Prelude.{◌≡◌, OnOk, [], map};
 ghost use Rattle.rule_book.specs.Entries.{plain};
 ghost use Rattle.run_view.specs.Eras as rows;
+ghost use Rattle.run_view.specs.Items.{if_inward as if_inward_of};
 ghost use Rattle.run_view.specs.Rows.{table_of};
 ghost use Rattle.run_view.specs.Summary as spec;
 
-use crate::eras::{Eras, Told, add_record, begin, end_all};
+use crate::eras::{Eras, Told, add_record, begin, bring, end_all};
+use crate::judged::Judged;
 use edge_io::NoMemory;
 use frame_view::Flow;
 use indexmap::IndexMap;
@@ -17,21 +19,26 @@ use wire_base::Side;
 /// What is known of a run so far.
 #[derive(Drop)]
 pub(crate) struct Tally {
-    /// How many entries have each verdict, by side.
+    /// How many entries of the first engine have each verdict, by side.
     pub(crate) sides: Sides,
+    /// The same of the second engine.
+    pub(crate) second_sides: Sides,
     /// How many entries name each rule, in the order in which they are named first.
     pub(crate) rules: Vec<RuleCount>,
+    /// The eras of the first engine.
     pub(crate) eras: Eras,
+    /// The eras of the second engine.
+    pub(crate) second_eras: Eras,
 }
 
-/// What is counted of a record, beside its entry.
+/// What is counted of a line, beside its entry.
 #[derive(Clone, Copy)]
 pub(crate) struct Noted {
-    /// Nanoseconds since 1970.
+    /// That of its record, in nanoseconds since 1970.
     pub(crate) time: u64,
-    /// The packet of its first frame, or its own if it has none.
+    /// The packet of its first frame, or that of its record if it has none.
     pub(crate) flow: Option<Flow>,
-    /// How many octets its frames bring inwards in TCP segments.
+    /// How many octets its frames have in TCP segments.
     pub(crate) octets: u64,
 }
 
@@ -39,17 +46,21 @@ impl Tally {
     /// Returns that nothing is known.
     pub(crate) fn new(alloc: Global) -> Tally
         ensures sides { result.sides ≡ spec.no_sides }
+        ensures second_sides { result.second_sides ≡ spec.no_sides }
         ensures rules { result.rules.items ≡ [] }
         ensures eras { table_of result.eras ≡ [] }
+        ensures second_eras { table_of result.second_eras ≡ [] }
     {
         Tally {
             sides: no_sides(),
+            second_sides: no_sides(),
             rules: Vec::new(alloc),
             eras: IndexMap::new(alloc),
+            second_eras: IndexMap::new(alloc),
         }
     }
 
-    /// Counts a record.
+    /// Counts a line of the first engine.
     pub(crate) fn note(
         &mut self,
         alloc: Global,
@@ -57,12 +68,45 @@ impl Tally {
         noted: Noted,
     ) -> Result<(), NoMemory>
         ensures sides { OnOk result (self.new.sides ≡ spec.with_side (plain entry.now).side (plain entry.now).verdict self.old.sides) }
+        ensures second_sides { OnOk result (self.new.second_sides ≡ self.old.second_sides) }
         ensures rules { OnOk result (self.new.rules.items ≡ spec.all_counted (plain entry.now).rules self.old.rules.items) }
-        ensures eras { OnOk result (table_of self.new.eras ≡ rows.with_entry (plain entry.now) noted.time noted.octets noted.flow (table_of self.old.eras)) }
+        ensures eras { OnOk result (table_of self.new.eras ≡ rows.with_entry (plain entry.now) noted.time (if_inward_of (plain entry.now).side noted.octets) noted.flow (table_of self.old.eras)) }
+        ensures second_eras { OnOk result (table_of self.new.second_eras ≡ table_of self.old.second_eras) }
     {
         self.sides = with_side(entry.side, entry.verdict, self.sides);
         count_rules(&mut self.rules, entry.rules.as_slice())?;
         note_eras(alloc, &mut self.eras, entry, noted)
+    }
+
+    /// Counts a line of the second engine, for a record of which the first said this.
+    pub(crate) fn note_second(
+        &mut self,
+        alloc: Global,
+        judged: Judged,
+        entry: &Entry,
+        noted: Noted,
+    ) -> Result<(), NoMemory>
+        ensures sides { OnOk result (self.new.sides ≡ self.old.sides) }
+        ensures second_sides { OnOk result (self.new.second_sides ≡ spec.with_side (plain entry.now).side (plain entry.now).verdict self.old.second_sides) }
+        ensures rules { OnOk result (self.new.rules.items ≡ spec.all_counted (plain entry.now).rules self.old.rules.items) }
+        ensures eras { OnOk result (table_of self.new.eras ≡ rows.changed_if judged.era (rows.with_octets (if_inward_of judged.side noted.octets)) (table_of self.old.eras)) }
+        ensures second_eras { OnOk result (table_of self.new.second_eras ≡ rows.with_entry (plain entry.now) noted.time (if_inward_of (plain entry.now).side noted.octets) noted.flow (table_of self.old.second_eras)) }
+    {
+        self.second_sides = with_side(entry.side, entry.verdict, self.second_sides);
+        count_rules(&mut self.rules, entry.rules.as_slice())?;
+        let octets = if_inward(judged.side, noted.octets);
+        bring(alloc, &mut self.eras, judged.era, octets)?;
+        note_eras(alloc, &mut self.second_eras, entry, noted)
+    }
+}
+
+// Returns a count of what goes inwards.
+fn if_inward(side: Option<Side>, count: u64) -> u64
+    ensures { result ≡ if_inward_of side count }
+{
+    match side {
+        Some(Side::Inward) => count,
+        Some(Side::Outward) | None => 0,
     }
 }
 
@@ -89,11 +133,11 @@ fn no_sides() -> Sides
 
 // Notes what an entry says of eras.
 fn note_eras(alloc: Global, eras: &mut Eras, entry: &Entry, noted: Noted) -> Result<(), NoMemory>
-    ensures { OnOk result (table_of eras.new ≡ rows.with_entry (plain entry.now) noted.time noted.octets noted.flow (table_of eras.old)) }
+    ensures { OnOk result (table_of eras.new ≡ rows.with_entry (plain entry.now) noted.time (if_inward_of (plain entry.now).side noted.octets) noted.flow (table_of eras.old)) }
 {
     let told = Told {
         time: noted.time,
-        octets: noted.octets,
+        octets: if_inward(entry.side, noted.octets),
         rules: entry.rules.as_slice(),
     };
     add_record(alloc, eras, entry.era, told)?;
@@ -181,11 +225,11 @@ fn with_line(count: RuleCount) -> RuleCount
     }
 }
 
-/// Counts the eras of a table by how they ended.
-pub(crate) fn era_counts(eras: &Eras) -> EraCounts
-    ensures { result ≡ spec.with_eras (table_of eras.now) spec.no_eras }
+/// Counts the eras of both engines by how they ended.
+pub(crate) fn era_counts(tally: &Tally) -> EraCounts
+    ensures { result ≡ spec.with_eras (table_of tally.now.second_eras) (spec.with_eras (table_of tally.now.eras) spec.no_eras) }
 {
-    let mut counts = EraCounts {
+    let none = EraCounts {
         all: 0,
         live: 0,
         reset: 0,
@@ -193,6 +237,15 @@ pub(crate) fn era_counts(eras: &Eras) -> EraCounts
         idle: 0,
         reopened: 0,
     };
+    let first = with_eras(&tally.eras, none);
+    with_eras(&tally.second_eras, first)
+}
+
+// Adds the eras of a table.
+fn with_eras(eras: &Eras, before: EraCounts) -> EraCounts
+    ensures { result ≡ spec.with_eras (table_of eras.now) before }
+{
+    let mut counts = before;
     for place in 0..eras.len() {
         let Some((_, row)) = eras.get_index(place) else {
             unreachable!();

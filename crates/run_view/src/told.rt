@@ -1,9 +1,20 @@
 //! What a line of a report tells behind others.
-ghost use Rattle.std.specs.Prelude.{◌≡◌, ◌↔◌, ◌^◌, ◌<◌, IsTrue};
+ghost use Rattle.std.specs.Prelude.{◌≡◌, ◌↔◌, ◌^◌, ◌<◌, true, false, IsTrue};
 ghost use Rattle.rule_book.specs.declared.last.Last.TheVariants.{End};
-ghost use Rattle.run_view.specs.Told.{IsTold};
+ghost use Rattle.run_view.specs.Told.{IsEntryTold, IsTold};
 
 use rule_book::{Entry, Last, read_entry, read_last};
+
+/// Where the next line of a report stands.
+#[derive(Clone, Copy)]
+pub(crate) struct Turn {
+    /// It is one of the second engine.
+    pub(crate) second: bool,
+    /// How many lines of its engine stand before it.
+    pub(crate) done: u64,
+    /// How many frames the lines before it count.
+    pub(crate) frames: u64,
+}
 
 /// What a line tells.
 #[derive(Drop)]
@@ -16,21 +27,43 @@ pub(crate) enum Told {
     Amiss,
 }
 
-/// Returns what a line tells behind the lines of so many records with so many frames.
-pub(crate) fn line_told(text: &[u8], version: u8, records: u64, frames: u64) -> Told
-    requires few { records < 2 ^ 32 }
-    ensures { IsTold version records frames text.now result }
+/// Returns what a line tells that stands there.
+pub(crate) fn line_told(text: &[u8], version: u8, turn: Turn) -> Told
+    requires few { turn.done < 2 ^ 32 }
+    ensures { IsTold version turn text.now result }
 {
+    if turn.second {
+        return second_told(text, version, turn.done);
+    }
     if let Some(last) = read_last(text) {
-        if is_end(last, records, frames) {
+        if is_end(last, turn.done, turn.frames) {
             return Told::End;
         }
         return Told::Amiss;
     }
+    entry_told(text, version, turn.done)
+}
+
+// Returns what a line of the second engine tells behind so many others of it.
+fn second_told(text: &[u8], version: u8, done: u64) -> Told
+    requires few { done < 2 ^ 32 }
+    ensures { IsEntryTold version true done text.now result }
+{
+    match text {
+        [b'/', rest @ ..] => entry_told(rest, version, done),
+        _ => Told::Amiss,
+    }
+}
+
+// Returns what the line of an entry tells behind so many others.
+fn entry_told(text: &[u8], version: u8, done: u64) -> Told
+    requires few { done < 2 ^ 32 }
+    ensures { IsEntryTold version false done text.now result }
+{
     let Some(entry) = read_entry(text, version) else {
         return Told::Amiss;
     };
-    if u64::from(entry.number) != records + 1 {
+    if u64::from(entry.number) != done + 1 {
         return Told::Amiss;
     }
     Told::Entry(entry)

@@ -1,12 +1,12 @@
 //! The words of a view.
 ghost use Rattle.std.specs.Prelude.{◌≡◌, ◌≤◌, map, option_map, string_bytes, true};
-ghost use Rattle.command_line.specs.Line.{after_front as behind};
-ghost use Rattle.command_line.specs.Options.{is_name as is_name_of, number_within as number_that_is_within};
+ghost use Rattle.norm_settings.specs.Line.{after_front as behind};
+ghost use Rattle.norm_settings.specs.Options.{is_name as is_name_of, number_within as number_that_is_within};
 ghost use Rattle.rule_book.specs.Rules.{rule_named as rule_of_name};
 ghost use Rattle.run_view.specs.Words as spec;
 ghost use Rattle.run_view.specs.WordsMet.{plain_word};
 
-use command_line::number_within;
+use norm_settings::number_within;
 use rule_book::{Rule, Verdict};
 
 /// What the words ask for.

@@ -11,6 +11,7 @@ invariant-loop-number g l = record {
   ready : MayRead l.frames;
   count : l.frames.count ≡ l.fn.frames.count + l.number;
   later : g.O.Source.fault_count l.fn.output ≤ g.O.Source.fault_count l.output;
+  kept : g.O.Source.fault_count l.output ≡ g.O.Source.fault_count l.fn.output;
   read : (all : Option (List ℕ)) (head : Head) (older : List Packet) → OutputAt l.fn.frames.reader head all (g.O.Source.left l.fn.output) older
-      → FramesRead l.frames all (g.O.Source.left l.output) head older l.original.link l.original.octets.now l.number l.gathered;
+      → FramesRead l.frames all (g.O.Source.left l.output) head older l.original.link l.original.kinds l.original.octets.now l.number l.gathered;
 }

@@ -1,16 +1,16 @@
-use Rattle.std.proofs.Common.{sym, arith}
+use Rattle.std.proofs.Common.{arith}
 use Rattle.std.proofs.lemmas.Result.{err_from_is_err_and}
-use Rattle.run_view.proofs.Listing.{era_stops, printed_more}
+use Rattle.run_view.proofs.Listing.{part_behind, part_wider}
+use Rattle.run_view.proofs.Ons.{if_err}
 use Rattle.run_view.proofs.Whys.{rose_within}
 use Rattle.run_view.proofs.print.print_eras.Goals as goal
 
-pub loop-place-preserved : goal.loop-place-preserved
-loop-place-preserved g c = record {
-  printed = printed_more c.args.json c.args.tally.now.eras.entries c.loop-place.place _ _ _ _ _ (sym c.in-Some.ensures.entry) c.in_ok-print_era.ensures.prints c.loop-place.invariant.printed;
-  later = omega arith;
-}
+pub returns-in_err-print_table-clause-stops : goal.returns-in_err-print_table-clause-stops
+returns-in_err-print_table-clause-stops g c =
+    let p = err_from_is_err_and c.from_residual.result c.from_residual.ensures.1 in rw (p.1, p.2) (part_wider _ _ _ _ _ _ _ c.in_err-print_table.ensures.stops)
 
-pub returns-in_err-print_era-clause-stops : goal.returns-in_err-print_era-clause-stops
-returns-in_err-print_era-clause-stops g c =
-    let p = err_from_is_err_and c.from_residual.result c.from_residual.ensures.1 in rw (p.1, p.2)
-    (era_stops _ _ _ _ _ _ _ _ _ (λ rose. rose_within _ _ _ _ c.loop-place.invariant.later (omega arith) rose) c.loop-place.invariant.printed c.in_err-print_era.ensures.stops)
+pub returns-clause-stops : goal.returns-clause-stops
+returns-clause-stops g c =
+    if_err c.print_table-2.result c.print_table-2.ensures.stops
+    (λ stop why.
+    part_behind _ _ _ _ _ _ _ _ stop (λ rose. rose_within _ _ _ _ c.in_ok-print_table.ensures.later (omega arith) rose) c.in_ok-print_table.ensures.prints why)

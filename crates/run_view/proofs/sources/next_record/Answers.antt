@@ -6,6 +6,7 @@ use Rattle.capture_input.specs.Inputs.{Walk}
 use Rattle.capture_input.specs.Reading.{is_open_in}
 use Rattle.capture_input.specs.Reads.{Reads}
 use Rattle.run_view.specs.Standing.{IsBehind}
+use Rattle.run_view.proofs.Records.{record_stops}
 use Rattle.run_view.proofs.sources.next_record.Goals as goal
 
 went_on : (old new : Input) (walk : Walk) (before after : Option (List ℕ)) (given : Option Record) → Reads old new None walk before after (Ok given) → IfSome given (λ _. is_open_in new ≡ true)
@@ -21,3 +22,7 @@ returns-in-Ok-clause-goes_on g c = went_on _ _ c.requires.behind.walk _ _ _ (c.i
 
 pub returns-in-Ok-clause-behind : goal.returns-in-Ok-clause-behind
 returns-in-Ok-clause-behind g c = stands _ _ c.requires.behind.walk _ _ _ (c.in-Ok.ensures.octets None c.requires.behind.walk c.requires.behind.behind)
+
+pub returns-in-Err-clause-stops : goal.returns-in-Err-clause-stops
+returns-in-Err-clause-stops g c head all packets at =
+    rw (c.input_stop.ensures, c.offset.ensures) (record_stops _ _ head all _ _ packets _ _ c.in-Err.fault c.in-Err.ensures.octets at c.in-Err.ensures.cause)

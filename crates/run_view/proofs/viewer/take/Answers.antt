@@ -1,45 +1,29 @@
-use Rattle.std.proofs.Common.{arith, ap, refl, inl, inr, ◌∙◌}
-use Rattle.std.proofs.KnownBytes.{Appends-nil}
-use Rattle.std.proofs.lemmas.Result.{err_from_is_err_and}
+use Rattle.std.proofs.Common.{◌≡◌, ◌+◌, Bool, true, sym, subst, if◌then◌else◌}
 use Rattle.rule_book.specs.Entries.{plain}
-use Rattle.run_view.specs.Eras.{with_entry}
-use Rattle.run_view.specs.Items.{frames_of, packets_of}
-use Rattle.run_view.specs.Rows.{table_of}
-use Rattle.run_view.proofs.Going.{taken_next}
+use Rattle.run_view.specs.Causes.{frames_by}
+use Rattle.run_view.specs.Items.{line_by, waits}
+use Rattle.run_view.specs.SoFar.{Taken, ends_of}
+use Rattle.run_view.specs.Why.{TakeStops, taking_of}
+use Rattle.run_view.proofs.Ending.{some_waits}
 use Rattle.run_view.proofs.Ons.{if_err, on_ok}
 use Rattle.run_view.proofs.viewer.take.Goals as goal
 
-pub returns-clause-taken : goal.returns-clause-taken
-returns-clause-taken g c =
-    on_ok c.print_chosen.result c.print_chosen.ensures.prints
-    (λ prints head before items so_far fits number.
-    taken_next c.args.viewer.now _ head before _ _ items c.args.entry.now c.in_ok-shown.shown
-    (record {
-      asked = refl;
-      version = refl;
-      head = c.in_ok-shown.ensures.went.head;
-      count = c.in_ok-shown.ensures.went.count;
-      frame_count = c.in_ok-shown.ensures.went.frame_count;
-      sides = c.in_ok-note.ensures.sides;
-      rules = c.in_ok-note.ensures.rules;
-      eras = c.in_ok-note.ensures.eras ∙ ap (λ n. with_entry (plain c.args.entry.now) c.in_ok-shown.shown.time n c.in_ok-shown.shown.gathered.flow (table_of c.args.viewer.now.tally.eras)) c.if_inward.ensures;
-    })
-    so_far fits number (c.in_ok-shown.ensures.read before.read before.written head (packets_of items) (frames_of items) so_far.input so_far.output) prints)
+pub returns-else-viewer-eq0-clause-taken : goal.returns-else-viewer-eq0-clause-taken
+returns-else-viewer-eq0-clause-taken g c =
+    let flag : waits c.args.viewer.now.owed ≡ true = some_waits c.args.viewer.now.owed c.if-viewer-eq0.false in
+    on_ok c.take_second.result c.take_second.ensures.taken
+    (λ taken head before items so_far fits number.
+    let L : Bool → Type 0 = λ b. Taken c.take_second.new.viewer head before (ends_of (g.I.Source.left c.args.input.now) (g.O.Source.left c.take_second.new.output) (g.K.Sink.held c.take_second.new.out)) items (line_by b (plain c.args.entry.now)) in
+    let D : Bool → Type 0 = λ b. c.args.entry.now.number ≡ (if b then c.args.viewer.now.second_count else c.args.viewer.now.files.count) + 1 in
+    subst L (sym flag) (taken (g.I.Source.left c.args.input.now) head before items so_far fits (subst D flag number)))
 
-pub returns-in_err-shown-clause-stops : goal.returns-in_err-shown-clause-stops
-returns-in_err-shown-clause-stops g c =
-    let p = err_from_is_err_and c.from_residual.result c.from_residual.ensures.1 in rw (p.1, p.2)
-    (λ read written head records frames input_at output_at. inl (record { why = c.in_err-shown.ensures.stops read written head records frames input_at output_at; text = Appends-nil _ }))
-
-pub returns-in_err-note-clause-stops : goal.returns-in_err-note-clause-stops
-returns-in_err-note-clause-stops g c =
-    let p = err_from_is_err_and c.from_residual-in_err-note.result c.from_residual-in_err-note.ensures.1 in rw (p.1, p.2) (λ read written head records frames input_at output_at. inr (Appends-nil _))
-
-pub returns-clause-stops : goal.returns-clause-stops
-returns-clause-stops g c = if_err c.print_chosen.result c.print_chosen.ensures.stops (λ stop why read written head records frames input_at output_at. inr why)
-
-pub returns-clause-went : goal.returns-clause-went
-returns-clause-went g c =
-    let went = c.in_ok-shown.ensures.went in
-    on_ok c.print_chosen.result c.print_chosen.ensures.prints
-    (λ prints. record { ready = went.ready; count = went.count; few_frames = omega (arith, went.count, went.frame_count, c.requires.may.few_frames); asked = refl; version = refl; head = went.head })
+pub returns-else-viewer-eq0-clause-stops : goal.returns-else-viewer-eq0-clause-stops
+returns-else-viewer-eq0-clause-stops g c =
+    let flag : waits c.args.viewer.now.owed ≡ true = some_waits c.args.viewer.now.owed c.if-viewer-eq0.false in
+    if_err c.take_second.result c.take_second.ensures.stops
+    (λ stop why read written head records frames input_at output_at.
+    let T : Bool → Type 0 = λ b.
+    TakeStops b c.args.viewer.now.files read written head records frames (frames_by b c.args.viewer.now.form (plain c.args.entry.now))
+    (taking_of (g.I.Source.fault_count c.args.input.now) (g.I.Source.fault_count c.args.input.now) (g.O.Source.fault_count c.args.output.now) (g.O.Source.fault_count c.take_second.new.output)
+    (g.K.Sink.fault_count c.args.out.now) (g.K.Sink.fault_count c.take_second.new.out) (g.K.Sink.held c.args.out.now) (g.K.Sink.held c.take_second.new.out)) stop in
+    subst T (sym flag) (why read written head records frames (g.I.Source.fault_count c.args.input.now) output_at))

@@ -1,13 +1,14 @@
 use Rattle.std.proofs.Common.{◌≡◌, ◌≤◌, ◌-◌, ◌^◌, []}
 use Rattle.pcap_file.specs.declared.head.Head.{Head}
-use Rattle.run_view.specs.SoFar.{Ends, Going, MayTake, SoFar, ends_of}
+use Rattle.run_view.specs.SoFar.{Ends, MayTake, SoFar, ends_of, lines_in}
+use Rattle.run_view.proofs.Going.{Going}
 use Rattle.run_view.proofs.viewer.view_entries.Given as goal
 
 abbrev pub invariant-entries : goal.invariant-entries
 invariant-entries g l = record {
   may : MayTake l.viewer;
   asked : l.viewer.asked ≡ l.fn.viewer.asked;
-  version : l.viewer.version ≡ l.fn.viewer.version;
+  form : l.viewer.form ≡ l.fn.viewer.form;
   head : l.viewer.files.head ≡ l.fn.viewer.files.head;
   going : (head : Head) (before : Ends) → SoFar l.fn.viewer head before (ends_of (g.I.Source.left l.fn.input) (g.O.Source.left l.fn.output) (g.K.Sink.held l.fn.out)) []
       → Going l.viewer head before (ends_of (g.I.Source.left l.input) (g.O.Source.left l.output) (g.K.Sink.held l.out)) (g.R.Source.left l.fn.report) (g.R.Source.left l.report);
@@ -15,7 +16,11 @@ invariant-entries g l = record {
   output_later : g.O.Source.fault_count l.fn.output ≤ g.O.Source.fault_count l.output;
   report_later : g.R.Source.fault_count l.fn.report ≤ g.R.Source.fault_count l.report;
   out_later : g.K.Sink.fault_count l.fn.out ≤ g.K.Sink.fault_count l.out;
+  input_kept : g.I.Source.fault_count l.input ≡ g.I.Source.fault_count l.fn.input;
+  output_kept : g.O.Source.fault_count l.output ≡ g.O.Source.fault_count l.fn.output;
+  report_kept : g.R.Source.fault_count l.report ≡ g.R.Source.fault_count l.fn.report;
+  out_kept : g.K.Sink.fault_count l.out ≡ g.K.Sink.fault_count l.fn.out;
 }
 
 abbrev pub decreases-entries : goal.decreases-entries
-decreases-entries g l = 2 ^ 32 - l.viewer.files.count
+decreases-entries g l = 2 ^ 33 - lines_in l.viewer

@@ -2,7 +2,7 @@ use Rattle.pcap_file.specs.Reads.{shown}
 use Rattle.std.proofs.Common.{refl}
 use Rattle.run_view.proofs.Standings.{begins_at}
 use Rattle.run_view.proofs.Whys.{records_by_input}
-use Rattle.run_view.proofs.viewer.end_records.Goals as goal
+use Rattle.run_view.proofs.ends.end_records.Goals as goal
 
 pub returns-in-Ok-None-clause-whole : goal.returns-in-Ok-None-clause-whole
 returns-in-Ok-None-clause-whole g c read records at = rw c.in-Ok-None.field-0-is at (c.in-Ok-None.ensures.reads c.args.files.now.head read records at)

@@ -8,7 +8,7 @@ use Rattle.run_view.specs.declared.item.Frames.{Frames}
 use Rattle.run_view.proofs.Lining.{none_left}
 use Rattle.run_view.proofs.Ons.{if_err, on_ok}
 use Rattle.run_view.proofs.Whys.{ends_by_frames, ends_by_records}
-use Rattle.run_view.proofs.viewer.check_ends.Goals as goal
+use Rattle.run_view.proofs.ends.check_ends.Goals as goal
 
 pub returns-in_err-end_records-clause-stops : goal.returns-in_err-end_records-clause-stops
 returns-in_err-end_records-clause-stops g c =
@@ -16,7 +16,7 @@ returns-in_err-end_records-clause-stops g c =
     let over : IsAtEnd (g.R.Source.left c.args.report.now) = none_left c.in-Ok.more _ (g.R.Source.left c.next_octet.new.source) none c.in-Ok.ensures.octets in
     let p = err_from_is_err_and c.from_residual.result c.from_residual.ensures.1 in rw (p.1, p.2)
     (λ read written head records frames k input_at output_at.
-    ends_by_records c.args.files.now read written (g.R.Source.left c.args.report.now) head records frames
+    ends_by_records c.args.files.now c.args.lines read written (g.R.Source.left c.args.report.now) head records frames
     (counts_of (g.I.Source.fault_count c.args.input.now) (g.O.Source.fault_count c.args.output.now) (g.R.Source.fault_count c.args.report.now) k)
     (counts_of (g.I.Source.fault_count c.end_records.new.input) (g.O.Source.fault_count c.args.output.now) (g.R.Source.fault_count c.next_octet.new.source) k)
     (g.I.Source.fault_count c.args.input.now) (g.I.Source.fault_count c.end_records.new.input) _ (λ rose. inl rose) over (c.in_err-end_records.ensures.stops read records input_at))
@@ -29,7 +29,7 @@ returns-clause-stops g c =
     (λ stop why read written head records frames k input_at output_at.
     let P : Frames → Type 0 = λ f. OutputAt f.reader head written (g.O.Source.left c.args.output.now) frames in
     let W : Frames → Type 0 = λ f. FramesGoOn f written head frames (g.O.Source.fault_count c.args.output.now) (g.O.Source.fault_count c.end_frames.new.output) stop in
-    ends_by_frames c.args.files.now read written (g.R.Source.left c.args.report.now) head records frames
+    ends_by_frames c.args.files.now c.args.lines read written (g.R.Source.left c.args.report.now) head records frames
     (counts_of (g.I.Source.fault_count c.args.input.now) (g.O.Source.fault_count c.args.output.now) (g.R.Source.fault_count c.args.report.now) k)
     (counts_of (g.I.Source.fault_count c.end_records.new.input) (g.O.Source.fault_count c.end_frames.new.output) (g.R.Source.fault_count c.next_octet.new.source) k)
     (g.O.Source.fault_count c.args.output.now) (g.O.Source.fault_count c.end_frames.new.output) stop (λ rose. inr (inl rose)) over (c.in_ok-end_records.ensures.whole read records input_at)

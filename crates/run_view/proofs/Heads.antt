@@ -1,0 +1,80 @@
+-- Why a view stops at the heads of input and output and the first line of the report, from why its functions do.
+use Rattle.std.proofs.Common.{◌≡◌, ℕ, List, [], Option, Some, None, Ok, subst, inl, inr}
+use Rattle.std.specs.Prelude.{IfSome}
+use Rattle.edge_io.specs.Faults.{Rose}
+use Rattle.pcap_file.specs.declared.head.Head.{Head}
+use Rattle.pcap_file.specs.Heads.{head_of}
+use Rattle.pcap_file.specs.Reading.{Reading}
+use Rattle.pcap_file.specs.Records.{Packet}
+use Rattle.wire_base.specs.declared.address.Link.{Link}
+use Rattle.capture_input.specs.declared.input.Input.{Input}
+use Rattle.capture_input.specs.Inputs.{Took, Walk}
+use Rattle.capture_input.specs.Reading.{head_in}
+use Rattle.run_view.specs.declared.stop.Stop.{Stop}
+use Rattle.run_view.specs.declared.stop.Stop.TheVariants as stops
+use Rattle.run_view.specs.Causes.{Sources, WhyBefore}
+use Rattle.run_view.specs.Standing.{HasHead, HaveHeads, InputHeadStops, InputOpened, IsOfOtherLink, OutputAt, OutputHeadStops, TookFrames}
+use Rattle.run_view.specs.Why.{FirstStops}
+
+-- the first line of the report
+pub by_report : (s : Sources) (rose : Type 0) (then_ after : ℕ) (stop : Stop) → (Rose then_ after → rose) → HaveHeads s.input s.output → FirstStops s.report then_ after stop → WhyBefore s rose stop
+by_report s rose then_ after stops.Words wider heads why = absurd why
+by_report s rose then_ after (stops.Record n) wider heads why = absurd why
+by_report s rose then_ after (stops.Frame n) wider heads why = absurd why
+by_report s rose then_ after (stops.Input fault offset) wider heads why = absurd why
+by_report s rose then_ after (stops.Output fault offset) wider heads why = absurd why
+by_report s rose then_ after stops.Unread wider heads why = wider why
+by_report s rose then_ after stops.Unwritten wider heads why = absurd why
+by_report s rose then_ after stops.Memory wider heads why = absurd why
+by_report s rose then_ after (stops.Report n) wider heads why = (heads, why)
+
+-- the head of the input
+pub by_input : (s : Sources) (rose : Type 0) (then_ after : ℕ) (stop : Stop) → (Rose then_ after → rose) → InputHeadStops s.input then_ after stop → WhyBefore s rose stop
+by_input s rose then_ after stops.Words wider why = absurd why
+by_input s rose then_ after (stops.Record n) wider why = absurd why
+by_input s rose then_ after (stops.Frame n) wider why = absurd why
+by_input s rose then_ after (stops.Input fault offset) wider why = why
+by_input s rose then_ after (stops.Output fault offset) wider why = absurd why
+by_input s rose then_ after stops.Unread wider why = wider why
+by_input s rose then_ after stops.Unwritten wider why = absurd why
+by_input s rose then_ after stops.Memory wider why = absurd why
+by_input s rose then_ after (stops.Report n) wider why = absurd why
+
+has_head : (all left : Option (List ℕ)) (head : Head) (walk : Walk) → Took None all left head walk → IfSome all (λ octets. HasHead octets head)
+has_head None left head walk took = tt
+has_head (Some octets) None head walk took = absurd took
+has_head (Some octets) (Some rest) head walk took = record { walk = walk; rest = rest; begins = took }
+
+took_head : (all left : Option (List ℕ)) (head : Head) (frames : List Packet) → TookFrames all left head frames → IfSome all (λ octets. head_of octets ≡ Ok head)
+took_head None left head frames took = tt
+took_head (Some octets) None head frames took = absurd took
+took_head (Some octets) (Some rest) head frames took = took.0
+
+-- both heads were taken
+pub heads_are : (input : Input) (reader : Reading) (read read_left written written_left : Option (List ℕ)) → InputOpened input read read_left → OutputAt reader reader.head written written_left []
+    → reader.head.link ≡ (head_in input).link → HaveHeads read written
+heads_are input reader read read_left written written_left opened at same =
+    record {
+      head = head_in input;
+      written = reader.head;
+      begins = has_head read read_left (head_in input) opened.stands.walk opened.stands.took;
+      accepted = took_head written written_left reader.head [] at.took;
+      link_is = same;
+    }
+
+-- the head of the output
+pub by_output_head : (input : Input) (link : Link) (s : Sources) (left : Option (List ℕ)) (rose : Type 0) (then_ after : ℕ) (stop : Stop) → (Rose then_ after → rose)
+    → link ≡ (head_in input).link → InputOpened input s.input left → OutputHeadStops link s.output then_ after stop → WhyBefore s rose stop
+by_output_head input link s left rose then_ after stops.Words wider same opened why = absurd why
+by_output_head input link s left rose then_ after (stops.Record n) wider same opened why = absurd why
+by_output_head input link s left rose then_ after (stops.Frame n) wider same opened why = absurd why
+by_output_head input link s left rose then_ after (stops.Input fault offset) wider same opened why = absurd why
+by_output_head input link s left rose then_ after (stops.Output fault offset) wider same opened (inl why) =
+    record { head = head_in input; begins = has_head s.input left (head_in input) opened.stands.walk opened.stands.took; amiss = inl why }
+by_output_head input link s left rose then_ after (stops.Output fault offset) wider same opened (inr why) =
+    let O : Link → Type 0 = λ l. IsOfOtherLink l s.output fault offset in
+    record { head = head_in input; begins = has_head s.input left (head_in input) opened.stands.walk opened.stands.took; amiss = inr (subst O same why) }
+by_output_head input link s left rose then_ after stops.Unread wider same opened why = wider why
+by_output_head input link s left rose then_ after stops.Unwritten wider same opened why = absurd why
+by_output_head input link s left rose then_ after stops.Memory wider same opened why = absurd why
+by_output_head input link s left rose then_ after (stops.Report n) wider same opened why = absurd why

@@ -1,0 +1,44 @@
+-- What a line of the report says of the record and of its frames (this project's profile).
+use Rattle.std.specs.Prelude.{ℕ, ◌==◌, ◌&&◌, ◌||◌, Bool, true, false, Option, Some, None, if◌then◌else◌}
+use Rattle.rule_book.specs.Entries.{PlainEntry}
+use Rattle.rule_book.specs.Rules.{rule_number}
+use Rattle.rule_book.specs.declared.entry.Verdict.{Verdict}
+use Rattle.rule_book.specs.declared.entry.Verdict.TheVariants.{Drop}
+use Rattle.rule_book.specs.declared.rule.Rule.{Rule}
+use Rattle.rule_book.specs.declared.rule.Rule.TheVariants.{CProbe, FDone}
+use Rattle.frame_view.specs.declared.change.Made.{Made}
+use Rattle.frame_view.specs.declared.change.Made.TheVariants.{Probe, Datagram}
+use Rattle.run_view.specs.Eras.{is_among}
+use Rattle.run_view.specs.declared.judged.Judged.{Judged}
+use Rattle.run_view.specs.declared.judged.Kinds.{Kinds}
+
+-- the entry names the rule
+abbrev pub names : Rule → PlainEntry → Bool
+names rule entry = is_among entry.rules (rule_number rule)
+
+abbrev pub is_drop : Verdict → Bool
+is_drop Drop = true
+is_drop _ = false
+
+-- what the first engine said of a record, as far as it is kept
+abbrev pub judged_by : PlainEntry → Judged
+judged_by entry =
+    record { number = entry.number; side = entry.side; era = entry.era; dropped = is_drop entry.verdict; probe = names CProbe entry; datagram = names FDone entry }
+
+-- Which frames of a line norm made itself: what is written for a dropped record is a probe in its place; where the line names C_PROBE, the last one is a probe,
+-- since a probe is written last; where it names F_DONE, a datagram, or parts of it, was written in place of the record. `probe` and `datagram` say so of each
+-- of them already.
+abbrev pub kinds_by : PlainEntry → (probe datagram : Bool) → Kinds
+kinds_by entry probe datagram =
+    record { packets = entry.packets; probe_last = names CProbe entry; probe = probe || is_drop entry.verdict; datagram = datagram || names FDone entry }
+
+-- The same with what the first engine said of the record of a line of the second: each frame was a probe where it dropped the record, its last frame, which has
+-- the last line, was one where it names C_PROBE, and each was a datagram where it names F_DONE.
+abbrev pub kinds_of : PlainEntry → (first : Option PlainEntry) → (owed : ℕ) → Kinds
+kinds_of entry None owed = kinds_by entry false false
+kinds_of entry (Some first) owed = kinds_by entry (is_drop first.verdict || (names CProbe first && (owed == 0))) (names FDone first)
+
+-- what the frame of this number is, counted from 1, where norm made it itself
+abbrev pub made_at : Kinds → (number : ℕ) → Option Made
+made_at kinds number =
+    if kinds.probe || (kinds.probe_last && (number == kinds.packets)) then Some Probe else if kinds.datagram then Some Datagram else None
