@@ -1,18 +1,13 @@
 //! Steps of an engine over TCP segments: the rules on their header, a segment in fragments, and an
 //! engine with the greatest number of connections.
-ghost use Rattle.norm_settings.specs.Settings.{plain_settings, AreInRange};
-
 use crate::packets::SYN;
-use arrayvec::ArrayVec;
-use edge_io::Outbox;
+use crate::settings::{Chosen, STANDARD, settings};
+use edge_io::{NoMemory, Outbox};
 use norm_engine::Engine;
-use norm_settings::Settings;
 use pcap_file::Record;
 use rule_book::{Entry, Rule, Verdict};
 use std::alloc::Global;
-use std::process::Abort;
-use std::test::Fail;
-use wire_base::{Addr, Link, Prefix, protocol, pseudo_sum, put_u16, sum_for};
+use wire_base::{Addr, protocol, pseudo_sum, put_u16, sum_for};
 
 /// Octets at some indices of the SYN, and whether checksums are left to the interface; the verdict,
 /// and its rules.
@@ -48,28 +43,6 @@ const ROWS: &[Row] = &[
     Row { changes: &[(32, 0x60)], offload: false, verdict: Verdict::Drop, rules: &[Rule::THlen] },
 ];
 
-fn settings(offload: bool) -> Settings
-    ensures { AreInRange (plain_settings result) }
-{
-    let mut prefixes = ArrayVec::new();
-    prefixes.push(Prefix {
-        addr: Addr(0x0a00_0000),
-        len: 8,
-    });
-    let mut settings = Settings::standard(prefixes);
-    settings.offload = offload;
-    settings
-}
-
-/// Returns settings with memory for the greatest number of eras.
-fn widest() -> Settings
-    ensures { AreInRange (plain_settings result) }
-{
-    let mut settings = settings(false);
-    settings.flows = 65_536;
-    settings
-}
-
 /// Returns the entry of this packet, captured completely at time 0.
 fn step(engine: &mut Engine, packet: &[u8; 40], out: &mut Outbox) -> Option<Entry> {
     if engine.records() == u32::MAX {
@@ -91,10 +64,15 @@ fn step(engine: &mut Engine, packet: &[u8; 40], out: &mut Outbox) -> Option<Entr
 fn is_first(entry: &Entry, row: &Row) -> bool {
     let frames = u8::from(row.verdict != Verdict::Drop);
     let era = if frames == 1 { Some(1) } else { None };
-    let told = entry.number == 1 && entry.verdict == row.verdict && entry.packets == frames;
-    let rules = entry.rules.as_slice() == row.rules;
-    let eras = entry.era == era && entry.begun == era && entry.ended.is_empty();
-    told && rules && eras
+    let own = (
+        entry.number,
+        entry.verdict,
+        entry.packets,
+        entry.era,
+        entry.begun,
+    );
+    let same = own == (1, row.verdict, frames, era, era);
+    same && entry.rules.as_slice() == row.rules && entry.ended.is_empty()
 }
 
 /// Writes these octets at their indices.
@@ -107,29 +85,42 @@ fn change(packet: &mut [u8; 40], changes: &[(usize, u8)]) {
 }
 
 /// Returns whether a new engine judges the SYN as in this case.
-fn judges(alloc: Global, row: &Row) -> Result<bool, Fail> {
+fn judges(engine: &mut Engine, out: &mut Outbox, row: &Row) -> bool {
     let mut packet = SYN;
     change(&mut packet, row.changes);
-    let mut out = Outbox::open(alloc).ok().ok_or("no memory")?;
-    let mut engine = Engine::open(alloc, settings(row.offload))
-        .ok()
-        .ok_or("no memory")?;
-    let entry = step(&mut engine, &packet, &mut out).ok_or("no record")?;
     let frames = usize::from(row.verdict != Verdict::Drop);
-    Ok(is_first(&entry, row) && out.frames() == frames)
+    match step(engine, &packet, out) {
+        Some(entry) => is_first(&entry, row) && out.frames() == frames,
+        None => false,
+    }
 }
 
-/// Checks this of each case.
-fn each_is_judged(rt: &impl Abort, alloc: Global, rows: &[Row]) -> Result<(), Fail> {
-    for (number, row) in rows.iter().enumerate() {
-        assert!(rt; judges(alloc, row)?, "row {number}");
+// This function and the two like it below do no more with their engines, since a function that owns
+// one is slow to prove.
+fn is_judged(alloc: Global, row: &Row) -> Result<bool, NoMemory> {
+    let mut out = Outbox::open(alloc)?;
+    let chosen = Chosen {
+        offload: row.offload,
+        ..STANDARD
+    };
+    let mut engine = Engine::open(alloc, settings(chosen))?;
+    Ok(judges(&mut engine, &mut out, row))
+}
+
+/// Returns the index of the first case that is judged otherwise.
+fn first_other(alloc: Global, rows: &[Row]) -> Result<Option<usize>, NoMemory> {
+    for (index, row) in rows.iter().enumerate() {
+        if !is_judged(alloc, row)? {
+            return Ok(Some(index));
+        }
     }
-    Ok(())
+    Ok(None)
 }
 
 #[test]
-fn segments_are_judged_by_their_header(rt: HostRuntime) -> Result<(), Fail> {
-    each_is_judged(&rt, rt.alloc(), ROWS)
+fn segments_are_judged_by_their_header(rt: HostRuntime) -> Result<(), NoMemory> {
+    assert_eq!(rt; first_other(rt.alloc(), ROWS)?, None);
+    Ok(())
 }
 
 /// The SYN in two fragments with identification 7: 16 octets of its segment, and the last four.
@@ -167,34 +158,32 @@ fn becomes(
     entry.verdict == told.0 && entry.rules.as_slice() == [told.1].as_slice() && entry.era == told.2
 }
 
+/// Numbers of datagrams, of cells for fragments and of connections, and of frames written.
+type Counts = (u32, u32, u32, usize);
+
+fn counts_of(engine: &Engine, out: &Outbox) -> Counts {
+    let datagrams = engine.datagrams();
+    (datagrams, engine.frag_cells(), engine.flows(), out.frames())
+}
+
+/// Returns whether both fragments become what they should, and the numbers after each of them.
+fn reassembles(engine: &mut Engine, out: &mut Outbox) -> (bool, Counts, Counts) {
+    let held = becomes(engine, &FRONT, (Verdict::Hold, Rule::FHeld, None), out);
+    let between = counts_of(engine, out);
+    let done = becomes(engine, &BACK, (Verdict::Fix, Rule::FDone, Some(1)), out);
+    (held && done, between, counts_of(engine, out))
+}
+
+fn reassembled(alloc: Global) -> Result<(bool, Counts, Counts), NoMemory> {
+    let mut out = Outbox::open(alloc)?;
+    let mut engine = Engine::open(alloc, settings(STANDARD))?;
+    Ok(reassembles(&mut engine, &mut out))
+}
+
 #[test]
-fn a_fragment_is_held_until_its_datagram_is_whole(rt: HostRuntime) -> Result<(), Fail> {
-    let mut out = Outbox::open(rt.alloc()).ok().ok_or("no memory")?;
-    let mut engine = Engine::open(rt.alloc(), settings(false))
-        .ok()
-        .ok_or("no memory")?;
-    let held = (Verdict::Hold, Rule::FHeld, None);
-    assert!(rt; becomes(&mut engine, &FRONT, held, &mut out));
-    assert_eq!(rt;
-        (
-            engine.datagrams(),
-            engine.frag_cells(),
-            engine.flows(),
-            out.frames()
-        ),
-        (1, 1, 0, 0)
-    );
-    let done = (Verdict::Fix, Rule::FDone, Some(1));
-    assert!(rt; becomes(&mut engine, &BACK, done, &mut out));
-    assert_eq!(rt;
-        (
-            engine.datagrams(),
-            engine.frag_cells(),
-            engine.flows(),
-            out.frames()
-        ),
-        (0, 0, 1, 1)
-    );
+fn a_fragment_is_held_until_its_datagram_is_whole(rt: HostRuntime) -> Result<(), NoMemory> {
+    let expected = (true, (1, 1, 0, 0), (0, 0, 1, 1));
+    assert_eq!(rt; reassembled(rt.alloc())?, expected);
     Ok(())
 }
 
@@ -223,22 +212,49 @@ fn passes(engine: &mut Engine, port: u16, begins: bool, out: &mut Outbox) -> boo
     told && entry.era == era && entry.begun == begun && entry.ended.is_empty()
 }
 
-// Each step does work that does not grow with the number of eras.
-#[test]
-fn a_full_engine_finds_each_era(rt: HostRuntime) -> Result<(), Fail> {
-    let mut out = Outbox::open(rt.alloc()).ok().ok_or("no memory")?;
-    let mut engine = Engine::open(rt.alloc(), widest()).ok().ok_or("no memory")?;
+/// Begins an era from each port, and returns the first port whose SYN does not pass.
+fn first_refused(engine: &mut Engine, out: &mut Outbox) -> Option<u16> {
     for port in 0..=65_535u16 {
-        assert!(rt; passes(&mut engine, port, true, &mut out), "{port}");
+        if !passes(engine, port, true, out) {
+            return Some(port);
+        }
     }
+    None
+}
+
+/// Finds the era of a pseudorandom port four million times, and returns the first port whose SYN
+/// does not pass or changes the number of eras.
+fn first_lost(engine: &mut Engine, out: &mut Outbox) -> Option<u16> {
     let mut state = 7u64;
     for _ in 0..4_000_000 {
         state = state
             .wrapping_mul(6_364_136_223_846_793_005)
             .wrapping_add(1_442_695_040_888_963_407);
         let port = ((state >> 33) % 65_536) as u16;
-        assert!(rt; passes(&mut engine, port, false, &mut out), "{port}");
-        assert_eq!(rt; engine.flows(), 65_536);
+        if !passes(engine, port, false, out) || engine.flows() != 65_536 {
+            return Some(port);
+        }
     }
+    None
+}
+
+fn fills(engine: &mut Engine, out: &mut Outbox) -> (Option<u16>, Option<u16>) {
+    (first_refused(engine, out), first_lost(engine, out))
+}
+
+fn filled(alloc: Global) -> Result<(Option<u16>, Option<u16>), NoMemory> {
+    let mut out = Outbox::open(alloc)?;
+    let wide = Chosen {
+        wide: true,
+        ..STANDARD
+    };
+    let mut engine = Engine::open(alloc, settings(wide))?;
+    Ok(fills(&mut engine, &mut out))
+}
+
+// Each step does work that does not grow with the number of eras.
+#[test]
+fn a_full_engine_finds_each_era(rt: HostRuntime) -> Result<(), NoMemory> {
+    assert_eq!(rt; filled(rt.alloc())?, (None, None));
     Ok(())
 }

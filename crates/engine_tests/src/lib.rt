@@ -10,3 +10,5 @@ mod engine;
 mod packets;
 #[cfg(test)]
 mod relay;
+#[cfg(test)]
+mod settings;

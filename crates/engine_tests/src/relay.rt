@@ -1,23 +1,20 @@
 //! Records by one engine and by two, in worked cases: the frames written, and the lines.
 ghost use Rattle.std.specs.Prelude.{◌≡◌};
 ghost use Rattle.wire_base.specs.declared.address.Link.TheVariants.{Raw};
-ghost use Rattle.norm_settings.specs.Settings.{plain_settings, AreInRange, GoTogether};
-ghost use Rattle.record_relay.specs.Relays.{link_of};
+ghost use Rattle.both_sides.specs.Relays.{link_of};
 
 use crate::packets::{ABCD, ABXD, ACK, PROBE, RESET, SYN, SYN_ACK};
-use arrayvec::ArrayVec;
+use crate::settings::{Chosen, STANDARD, settings};
+use both_sides::{Relay, RelayFault};
 use edge_io::{MemSink, NoMemory};
-use norm_settings::Settings;
 use pcap_file::{Head, Order, Record};
-use record_relay::{Relay, RelayFault};
-use std::alloc::{AllocError, Global};
-use std::test::Fail;
-use wire_base::{Addr, Link, Prefix};
+use std::alloc::Global;
+use wire_base::Link;
 
 /// Head of a written record of 40 octets and of one of 44, at second 7 and 9 microseconds.
-const FRONT: [u8; 16] = [7, 0, 0, 0, 9, 0, 0, 0, 40, 0, 0, 0, 40, 0, 0, 0];
+const FRONT: &[u8] = &[7, 0, 0, 0, 9, 0, 0, 0, 40, 0, 0, 0, 40, 0, 0, 0];
 
-const FRONT_44: [u8; 16] = [7, 0, 0, 0, 9, 0, 0, 0, 44, 0, 0, 0, 44, 0, 0, 0];
+const FRONT_44: &[u8] = &[7, 0, 0, 0, 9, 0, 0, 0, 44, 0, 0, 0, 44, 0, 0, 0];
 
 const RAW: Head = Head {
     order: Order::Little,
@@ -25,18 +22,16 @@ const RAW: Head = Head {
     link: Link::Raw,
 };
 
-fn settings(both: bool) -> Settings
-    ensures range { AreInRange (plain_settings result) }
-    ensures together { GoTogether (plain_settings result) }
-{
-    let mut prefixes = ArrayVec::new();
-    prefixes.push(Prefix {
-        addr: Addr(0x0a00_0000),
-        len: 8,
-    });
-    let mut settings = Settings::standard(prefixes);
-    settings.both = both;
-    settings
+/// Five packets, which one engine relays or two, to sinks of which the call with the given number
+/// fails, 0 for none. The number of frames written for the last packet, or the first fault; the
+/// octets written, in parts.
+struct Row {
+    both: bool,
+    packets: [&'static [u8]; 5],
+    failing: (u32, u32),
+    answer: Result<u64, RelayFault>,
+    report: &'static [&'static [u8]],
+    capture: &'static [&'static [u8]],
 }
 
 /// Relays the record of this packet, and returns the number of frames written.
@@ -77,51 +72,47 @@ fn give_all(
 // The only function that owns a relay, since a function that owns one is slow to prove.
 fn answer_to(
     alloc: Global,
-    both: bool,
-    packets: [&[u8]; 5],
+    row: &Row,
     capture: &mut MemSink,
     report: &mut MemSink,
 ) -> Result<Result<u64, RelayFault>, NoMemory> {
-    let mut relay = Relay::open(alloc, settings(both))?;
-    let answer = give_all(&mut relay, packets, capture, report);
+    let chosen = Chosen {
+        both: row.both,
+        ..STANDARD
+    };
+    let mut relay = Relay::open(alloc, settings(chosen))?;
+    let answer = give_all(&mut relay, row.packets, capture, report);
     Ok(answer)
 }
 
-/// Number of frames written for the last packet, or the first fault; and what the sinks hold.
-#[derive(Drop)]
-struct Outcome {
-    answer: Result<u64, RelayFault>,
-    capture: MemSink,
-    report: MemSink,
-}
-
-/// Relays five packets by one engine or by two, to sinks of which the call with the given number
-/// fails; 0 is none.
-fn relayed(
-    alloc: Global,
-    both: bool,
-    packets: [&[u8]; 5],
-    failing: (u32, u32),
-) -> Result<Outcome, Fail> {
-    let mut capture = MemSink::new(alloc, 4096, only(alloc, failing.0)?)?;
-    let mut report = MemSink::new(alloc, 4096, only(alloc, failing.1)?)?;
-    let answer = answer_to(alloc, both, packets, &mut capture, &mut report)
-        .ok()
-        .ok_or("no memory")?;
-    Ok(Outcome {
-        answer,
-        capture,
-        report,
-    })
-}
-
-/// Returns the list of this one call, or an empty list for 0.
-fn only(alloc: Global, call: u32) -> Result<Vec<u32>, AllocError> {
+/// Returns a sink of which the call with this number fails; 0 is none.
+fn sink(alloc: Global, failing: u32) -> Result<MemSink, NoMemory> {
     let mut calls = Vec::new(alloc);
-    if call > 0 {
-        calls.push(call)?;
+    if failing > 0 {
+        calls.push(failing)?;
     }
-    Ok(calls)
+    MemSink::new(alloc, 4096, calls)
+}
+
+/// Returns whether the octets are these parts, one after another.
+fn is_made_of(octets: &[u8], parts: &[&[u8]]) -> bool {
+    let mut left = octets;
+    for part in parts {
+        match left.strip_prefix(part) {
+            Some(rest) => left = rest,
+            None => return false,
+        }
+    }
+    left.is_empty()
+}
+
+/// Returns whether the relay of a case gives its answer and writes its octets.
+fn is_relayed(alloc: Global, row: &Row) -> Result<bool, NoMemory> {
+    let mut capture = sink(alloc, row.failing.0)?;
+    let mut report = sink(alloc, row.failing.1)?;
+    let answer = answer_to(alloc, row, &mut capture, &mut report)?;
+    let frames = is_made_of(capture.held(), row.capture);
+    Ok(answer == row.answer && frames && is_made_of(report.held(), row.report))
 }
 
 /// The lines of a connection whose other side sends `abcd`, and then `abXd` at the same sequence
@@ -131,88 +122,84 @@ const MENDED: &[u8] =
 
 // Two engines: the second compares what the first passes outwards with the octets sent first, and
 // reports it.
-#[test]
-fn octets_sent_outwards_again_are_mended(rt: HostRuntime) -> Result<(), Fail> {
-    let packets: [&[u8]; 5] = [&SYN, &SYN_ACK, &ACK, &ABCD, &ABXD];
-    let out = relayed(rt.alloc(), true, packets, (0, 0))?;
-    assert_eq!(rt; out.answer, Ok(1));
-    assert_eq!(rt; out.report.held(), MENDED);
-    let mut written = Vec::from_slice(rt.alloc(), &FRONT)?;
-    written.extend_from_slice(&SYN)?;
-    written.extend_from_slice(&FRONT)?;
-    written.extend_from_slice(&SYN_ACK)?;
-    written.extend_from_slice(&FRONT)?;
-    written.extend_from_slice(&ACK)?;
-    written.extend_from_slice(&FRONT_44)?;
-    written.extend_from_slice(&ABCD)?;
-    written.extend_from_slice(&FRONT_44)?;
-    written.extend_from_slice(&ABCD)?;
-    assert_eq!(rt; out.capture.held(), written.as_slice());
-    Ok(())
-}
+const CLASH: Row = Row {
+    both: true,
+    packets: [&SYN, &SYN_ACK, &ACK, &ABCD, &ABXD],
+    failing: (0, 0),
+    answer: Ok(1),
+    report: &[MENDED],
+    capture: &[
+        FRONT, &SYN, FRONT, &SYN_ACK, FRONT, &ACK, FRONT_44, &ABCD, FRONT_44, &ABCD,
+    ],
+};
 
-/// Relays a reset of no connection, the opening of one, and a reset of it, which a probe follows;
-/// with the calls that fail.
-fn reset(alloc: Global, both: bool, failing: (u32, u32)) -> Result<Outcome, Fail> {
-    let packets: [&[u8]; 5] = [&RESET, &SYN, &SYN_ACK, &ACK, &RESET];
-    relayed(alloc, both, packets, failing)
-}
-
-/// The lines of all but the last of these records; the second engine counts frames.
+/// The lines of two engines of a reset of no connection and of the opening of one; the second engine
+/// counts frames.
 const LINES: &[u8] =
     b"1 in drop 0 T_COLD\n2 in pass 1 @1 +1\n/1 out pass 1 @1 +1\n3 out pass 1 @1\n/2 in pass 1 @1\n4 in pass 1 @1\n/3 out pass 1 @1\n";
 
-// Two engines: a record without frames has one line, and one with two has three, after both frames.
-#[test]
-fn lines_stand_behind_all_frames(rt: HostRuntime) -> Result<(), Fail> {
-    let out = reset(rt.alloc(), true, (0, 0))?;
-    assert_eq!(rt; out.answer, Ok(2));
-    let mut lines = Vec::from_slice(rt.alloc(), LINES)?;
-    lines.extend_from_slice(
-        b"5 in fix 2 C_PROBE @1\n/4 out pass 1 @1 -1:reset:0\n/5 out pass 1 @2 +2\n",
-    )?;
-    assert_eq!(rt; out.report.held(), lines.as_slice());
-    let mut probe = Vec::from_slice(rt.alloc(), &FRONT)?;
-    probe.extend_from_slice(&PROBE)?;
-    let written = out.capture.held();
-    assert_eq!(rt; written.len(), 280);
-    let behind = written.split_at_checked(224).ok_or("no second frame")?;
-    assert_eq!(rt; behind.1, probe.as_slice());
-    Ok(())
-}
+/// The lines of the reset of the connection: of the first engine, and of the second.
+const RESETTING: &[u8] = b"5 in fix 2 C_PROBE @1\n";
 
-// A fault at the second frame of a record leaves none of its lines.
-#[test]
-fn a_fault_at_a_frame_leaves_no_line(rt: HostRuntime) -> Result<(), Fail> {
-    let out = reset(rt.alloc(), true, (10, 0))?;
-    assert_eq!(rt; out.answer, Err(RelayFault::Capture));
-    assert_eq!(rt; out.report.held(), LINES);
-    assert_eq!(rt; out.capture.held().len(), 240);
-    Ok(())
-}
+const ENDED: &[u8] = b"/4 out pass 1 @1 -1:reset:0\n/5 out pass 1 @2 +2\n";
 
-// A fault at a line of the second engine leaves the lines before it, and all frames.
-#[test]
-fn a_fault_at_a_line_leaves_all_frames(rt: HostRuntime) -> Result<(), Fail> {
-    let out = reset(rt.alloc(), true, (0, 9))?;
-    assert_eq!(rt; out.answer, Err(RelayFault::Report));
-    let mut lines = Vec::from_slice(rt.alloc(), LINES)?;
-    lines.extend_from_slice(b"5 in fix 2 C_PROBE @1\n")?;
-    assert_eq!(rt; out.report.held(), lines.as_slice());
-    assert_eq!(rt; out.capture.held().len(), 280);
-    Ok(())
-}
+// A reset of no connection, the opening of one, and a reset of it, which a probe follows. Two
+// engines: a record without frames has one line, and one with two has three, after both frames.
+const RESETS: Row = Row {
+    both: true,
+    packets: [&RESET, &SYN, &SYN_ACK, &ACK, &RESET],
+    failing: (0, 0),
+    answer: Ok(2),
+    report: &[LINES, RESETTING, ENDED],
+    capture: &[
+        FRONT, &SYN, FRONT, &SYN_ACK, FRONT, &ACK, FRONT, &RESET, FRONT, &PROBE,
+    ],
+};
 
 /// The lines of one engine for them.
 const ALONE: &[u8] =
     b"1 in drop 0 T_COLD\n2 in pass 1 @1 +1\n3 out pass 1 @1\n4 in pass 1 @1\n5 in fix 2 C_PROBE @1\n";
 
-// One engine: a line for each record.
+const ROWS: &[Row] = &[
+    CLASH,
+    RESETS,
+    // A fault at the second frame of a record leaves none of its lines.
+    Row {
+        failing: (10, 0),
+        answer: Err(RelayFault::Capture),
+        report: &[LINES],
+        capture: &[
+            FRONT, &SYN, FRONT, &SYN_ACK, FRONT, &ACK, FRONT, &RESET, FRONT,
+        ],
+        ..RESETS
+    },
+    // A fault at a line of the second engine leaves the lines before it, and all frames.
+    Row {
+        failing: (0, 9),
+        answer: Err(RelayFault::Report),
+        report: &[LINES, RESETTING],
+        ..RESETS
+    },
+    // One engine: a line for each record.
+    Row {
+        both: false,
+        report: &[ALONE],
+        ..RESETS
+    },
+];
+
+/// Returns the index of the first case that is relayed otherwise.
+fn first_other(alloc: Global, rows: &[Row]) -> Result<Option<usize>, NoMemory> {
+    for (index, row) in rows.iter().enumerate() {
+        if !is_relayed(alloc, row)? {
+            return Ok(Some(index));
+        }
+    }
+    Ok(None)
+}
+
 #[test]
-fn one_engine_tells_one_line(rt: HostRuntime) -> Result<(), Fail> {
-    let out = reset(rt.alloc(), false, (0, 0))?;
-    assert_eq!(rt; out.answer, Ok(2));
-    assert_eq!(rt; out.report.held(), ALONE);
-    assert_eq!(rt; out.capture.held().len(), 280);
+fn frames_are_written_before_their_lines(rt: HostRuntime) -> Result<(), NoMemory> {
+    assert_eq!(rt; first_other(rt.alloc(), ROWS)?, None);
     Ok(())
 }

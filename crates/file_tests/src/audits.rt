@@ -131,21 +131,46 @@ fn line(alloc: Global, words: &[&str]) -> Result<Vec<String>, AllocError> {
     Ok(line)
 }
 
-/// Audits a capture and a report whose sources return at most 7 octets a call. Returns the status and the octets of the
-/// output. `failing` has the numbers of the calls that fail of the capture, the report and the output, 0 for none.
-fn audited(
+/// Returns a source of which a call returns at most 7 octets and the call `failing` fails, 0 for none.
+fn source_of(alloc: Global, octets: &[u8], failing: u32) -> Result<MemSource, AllocError> {
+    let calls = only(alloc, failing)?;
+    Ok(MemSource::new(Vec::from_slice(alloc, octets)?, 7, calls))
+}
+
+/// The words of an audit for 30 routers.
+const WORDS: &[&str] = &["a", "b", "30"];
+
+/// No call fails.
+const NONE: (u32, u32, u32) = (0, 0, 0);
+
+// A function that owns sources and sinks is slow to prove at each `?`, so this one does no more.
+fn answers_by(
+    alloc: Global,
+    words: &[String],
+    capture: &mut MemSource,
+    report: &mut MemSource,
+    failing: u32,
+    (text, status): (&str, u8),
+) -> Result<bool, Fail> {
+    let mut out = MemSink::new(alloc, 100, only(alloc, failing)?)?;
+    let answer = audit(alloc, words, capture, report, &mut out);
+    Ok(answer == status && out.held() == text.as_bytes())
+}
+
+/// Returns whether the audit of a capture and a report has this line and this status. `failing` has the numbers of the
+/// calls that fail of the capture, the report and the output, 0 for none.
+fn answers(
     alloc: Global,
     words: &[&str],
-    capture: Vec<u8>,
-    report: &[u8],
+    capture: &[u8],
+    report: &str,
     failing: (u32, u32, u32),
-) -> Result<(u8, Vec<u8>), Fail> {
+    answer: (&str, u8),
+) -> Result<bool, Fail> {
     let words = line(alloc, words)?;
-    let mut capture = MemSource::new(capture, 7, only(alloc, failing.0)?);
-    let mut report = MemSource::new(Vec::from_slice(alloc, report)?, 7, only(alloc, failing.1)?);
-    let mut out = MemSink::new(alloc, 100, only(alloc, failing.2)?)?;
-    let status = audit(alloc, &words, &mut capture, &mut report, &mut out);
-    Ok((status, Vec::from_slice(alloc, out.held())?))
+    let mut capture = source_of(alloc, capture, failing.0)?;
+    let mut report = source_of(alloc, report.as_bytes(), failing.1)?;
+    answers_by(alloc, &words, &mut capture, &mut report, failing.2, answer)
 }
 
 /// A test case: the packets of a capture, its report, and the line and the status of their audit for 30 routers.
@@ -268,41 +293,53 @@ const ROWS: [Row; 21] = [
     ),
 ];
 
+/// Returns the index of the first case with another answer.
+fn first_other_reason(alloc: Global, rows: &[Row]) -> Result<Option<usize>, Fail> {
+    for (index, (packets, report, text, status)) in rows.iter().enumerate() {
+        let capture = capture_file(alloc, packets)?;
+        if !answers(alloc, WORDS, &capture, report, NONE, (text, *status))? {
+            return Ok(Some(index));
+        }
+    }
+    Ok(None)
+}
+
 #[test]
 fn each_reason_is_told(rt: HostRuntime) -> Result<(), Fail> {
-    for (packets, report, expected, status) in ROWS {
-        let capture = capture_file(rt.alloc(), packets)?;
-        let (answer, text) = audited(
-            rt.alloc(),
-            &["a", "b", "30"],
-            capture,
-            report.as_bytes(),
-            (0, 0, 0),
-        )?;
-        assert_eq!(rt; text.as_slice(), expected.as_bytes(), "{report}");
-        assert_eq!(rt; answer, status, "{report}");
-    }
+    assert_eq!(rt; first_other_reason(rt.alloc(), &ROWS)?, None);
     Ok(())
+}
+
+const FAR: &[Packet] = &[
+    CALL,
+    ANSWER,
+    ABCD,
+    (false, 5001, 2147484647, ACK, b""),
+    (false, 5001, 998, ACK, b""),
+    WXYZ,
+    ABCD,
+];
+
+const FAR_REPORT: &str =
+    "norm 2\n1 in pass 1 @1\n2 out pass 1 @1\n3 in pass 1 @1\n4 out pass 1 @1\n5 out pass 1 @1\n6 in pass 1 @1\n7 in pass 1 @1\nend 7 7\n";
+
+fn tells_far(alloc: Global) -> Result<bool, Fail> {
+    let capture = capture_file(alloc, FAR)?;
+    let words = ["a", "b", "0"];
+    answers(
+        alloc,
+        &words,
+        &capture,
+        FAR_REPORT,
+        NONE,
+        ("no 7 octet\n", 1),
+    )
 }
 
 // ACKs of 2^31 - 1 and of 2^32 - 2 octets from 1000 on: the same numbers are then read as offsets 2^32 higher.
 #[test]
 fn numbers_are_read_from_what_is_acknowledged(rt: HostRuntime) -> Result<(), Fail> {
-    let packets = [
-        CALL,
-        ANSWER,
-        ABCD,
-        (false, 5001, 2147484647, ACK, b"".as_slice()),
-        (false, 5001, 998, ACK, b"".as_slice()),
-        (true, 998, 5001, PSH | ACK, b"wxyz".as_slice()),
-        ABCD,
-    ];
-    let report =
-        b"norm 2\n1 in pass 1 @1\n2 out pass 1 @1\n3 in pass 1 @1\n4 out pass 1 @1\n5 out pass 1 @1\n6 in pass 1 @1\n7 in pass 1 @1\nend 7 7\n";
-    let capture = capture_file(rt.alloc(), &packets)?;
-    let (answer, text) = audited(rt.alloc(), &["a", "b", "0"], capture, report, (0, 0, 0))?;
-    assert_eq!(rt; text.as_slice(), b"no 7 octet\n".as_slice());
-    assert_eq!(rt; answer, 1);
+    assert!(rt; tells_far(rt.alloc())?);
     Ok(())
 }
 
@@ -333,15 +370,22 @@ const STOPS: [Stop; 14] = [
     (&["a", "b", "30"], 24, (0, 0, 1), "", 7),
 ];
 
+/// Returns the index of the first case with another answer.
+fn first_other_stop(alloc: Global, rows: &[Stop]) -> Result<Option<usize>, Fail> {
+    let capture = capture_file(alloc, &[CALL, ANSWER])?;
+    for (index, (words, size, failing, text, status)) in rows.iter().enumerate() {
+        let capture = capture.get(..*size).unwrap_or(&[]);
+        let answer = (*text, *status);
+        if !answers(alloc, words, capture, "norm 2\nend 0 0\n", *failing, answer)? {
+            return Ok(Some(index));
+        }
+    }
+    Ok(None)
+}
+
 #[test]
 fn each_stop_is_told(rt: HostRuntime) -> Result<(), Fail> {
-    for (words, size, failing, expected, status) in STOPS {
-        let mut capture = capture_file(rt.alloc(), &[CALL, ANSWER])?;
-        capture.truncate(size);
-        let (answer, text) = audited(rt.alloc(), words, capture, b"norm 2\nend 0 0\n", failing)?;
-        assert_eq!(rt; text.as_slice(), expected.as_bytes(), "{words:?} {size}");
-        assert_eq!(rt; answer, status, "{words:?} {size}");
-    }
+    assert_eq!(rt; first_other_stop(rt.alloc(), &STOPS)?, None);
     Ok(())
 }
 
@@ -349,15 +393,9 @@ fn each_stop_is_told(rt: HostRuntime) -> Result<(), Fail> {
 fn another_file_is_no_capture(rt: HostRuntime) -> Result<(), Fail> {
     let mut head = HEAD;
     head[0] = 0;
-    let (answer, text) = audited(
-        rt.alloc(),
-        &["a", "b", "30"],
-        Vec::from_slice(rt.alloc(), &head)?,
-        b"norm 2\nend 0 0\n",
-        (0, 0, 0),
-    )?;
-    assert_eq!(rt; text.as_slice(), b"stop magic 0\n".as_slice());
-    assert_eq!(rt; answer, 3);
+    let report = "norm 2\nend 0 0\n";
+    let answer = ("stop magic 0\n", 3);
+    assert!(rt; answers(rt.alloc(), WORDS, &head, report, NONE, answer)?);
     Ok(())
 }
 
@@ -381,13 +419,17 @@ impl Source for Endless {
     }
 }
 
+/// Returns whether an audit of a report that never ends stops.
+fn stops_endless(alloc: Global) -> Result<bool, Fail> {
+    let words = line(alloc, WORDS)?;
+    let mut capture = source_of(alloc, &[], 0)?;
+    let mut out = MemSink::new(alloc, 100, Vec::new(alloc))?;
+    let answer = audit(alloc, &words, &mut capture, &mut Endless, &mut out);
+    Ok(answer == 9 && out.held() == b"stop report 0\n".as_slice())
+}
+
 #[test]
 fn report_of_too_many_octets_is_not_read(rt: HostRuntime) -> Result<(), Fail> {
-    let words = line(rt.alloc(), &["a", "b", "30"])?;
-    let mut capture = MemSource::new(Vec::new(rt.alloc()), 7, Vec::new(rt.alloc()));
-    let mut out = MemSink::new(rt.alloc(), 100, Vec::new(rt.alloc()))?;
-    let answer = audit(rt.alloc(), &words, &mut capture, &mut Endless, &mut out);
-    assert_eq!(rt; out.held(), b"stop report 0\n".as_slice());
-    assert_eq!(rt; answer, 9);
+    assert!(rt; stops_endless(rt.alloc())?);
     Ok(())
 }

@@ -1,6 +1,8 @@
 //! Frames compared by hand.
 use edge_io::NoMemory;
-use frame_view::{Change, Flow, Ports, TcpMarks, add_changes, flow_of, length_of};
+use frame_view::{
+    Change, Flow, Made, PayloadChange, Ports, TcpMarks, add_changes, add_made, flow_of, length_of,
+};
 use hex::FromHexError;
 use std::alloc::Global;
 use wire_base::{Addr, Flags, Link};
@@ -20,6 +22,10 @@ const ABCD: &str =
 // Other octets at the same offset.
 const ABXD: &str =
     "4500002c0001000040064690c63364070a0000019c400050000003e80000138950182000edc4000061625864";
+
+// 24 octets at the same offset.
+const WHOLE: &str = "45000040000100004006467cc63364070a000001\
+    9c400050000003e80000138950182000925600006162636465666768696a6b6c6d6e6f707172737475767778";
 
 // An acknowledgment alone, with the sequence number 999.
 const PROBE: &str =
@@ -58,6 +64,40 @@ fn put_value(text: &mut String, value: &Option<String>) -> Result<(), NoMemory> 
     Ok(())
 }
 
+fn put_payload(alloc: Global, text: &mut String, payload: &PayloadChange) -> Result<(), NoMemory> {
+    let front = payload.front;
+    let end = payload.end;
+    let longer = payload.longer;
+    text.push_str(format!(in alloc; "payload front {front} end {end} longer {longer}")?.as_str())?;
+    for run in payload.replaced.as_slice() {
+        let at = run.at;
+        let from = run.from.as_str();
+        let to = run.to.as_str();
+        text.push_str(format!(in alloc; " at {at} {from} > {to}")?.as_str())?;
+    }
+    Ok(())
+}
+
+// Writes the number of a protocol, and those of a segment where there is one.
+fn put_flow(alloc: Global, text: &mut String, flow: Flow) -> Result<(), NoMemory> {
+    let protocol = flow.protocol;
+    text.push_str(format!(in alloc; " protocol {protocol}")?.as_str())?;
+    if let Some(marks) = flow.tcp {
+        let flags = marks.flags.0;
+        let seq = marks.seq;
+        let ack = marks.ack;
+        text.push_str(format!(in alloc; " flags {flags} seq {seq} ack {ack}")?.as_str())?;
+    }
+    Ok(())
+}
+
+fn made_word(kind: Made) -> &'static str {
+    match kind {
+        Made::Probe => "probe",
+        Made::Datagram => "datagram",
+    }
+}
+
 fn put_change(alloc: Global, text: &mut String, change: &Change) -> Result<(), NoMemory> {
     match change {
         Change::InField {
@@ -73,22 +113,33 @@ fn put_change(alloc: Global, text: &mut String, change: &Change) -> Result<(), N
             put_value(text, to)?;
         }
         Change::InPayload { frame, payload } => {
-            let front = payload.front;
-            let end = payload.end;
-            let longer = payload.longer;
-            text.push_str(format!(in alloc;
-                "{frame} payload front {front} end {end} longer {longer}"
-            )?.as_str())?;
-            for run in payload.replaced.as_slice() {
-                let at = run.at;
-                let from = run.from.as_str();
-                let to = run.to.as_str();
-                text.push_str(format!(in alloc; " at {at} {from} > {to}")?.as_str())?;
+            text.push_str(format!(in alloc; "{frame} ")?.as_str())?;
+            put_payload(alloc, text, payload)?;
+        }
+        Change::Made {
+            frame,
+            kind,
+            flow,
+            length,
+        } => {
+            let word = made_word(*kind);
+            text.push_str(format!(in alloc; "{frame} {word} length {length}")?.as_str())?;
+            if let Some(flow) = flow {
+                put_flow(alloc, text, *flow)?;
             }
         }
     }
     text.push_str("\n")?;
     Ok(())
+}
+
+// Writes each change.
+fn text_of(alloc: Global, changes: &[Change]) -> Result<String, NoMemory> {
+    let mut text = String::new(alloc);
+    for change in changes {
+        put_change(alloc, &mut text, change)?;
+    }
+    Ok(text)
 }
 
 fn changes_text(
@@ -99,11 +150,7 @@ fn changes_text(
 ) -> Result<String, NoMemory> {
     let mut changes = Vec::new(alloc);
     add_changes(alloc, link, record, frame, 1, &mut changes)?;
-    let mut text = String::new(alloc);
-    for change in changes.as_slice() {
-        put_change(alloc, &mut text, change)?;
-    }
-    Ok(text)
+    text_of(alloc, changes.as_slice())
 }
 
 fn raw_changes(alloc: Global, record: &str, frame: &str) -> Result<String, NoMemory> {
@@ -292,6 +339,26 @@ fn a_total_length_that_cannot_be_ends_nothing(rt: HostRuntime) -> Result<(), NoM
         .as_str(),
         "1 total_length 30 > 20\n1 source_port 40000 > -\n1 destination_port 53 > -\n1 checksum 0xc6bf > -\n1 udp_length 10 > -\n\
          1 payload front 0 end 2 longer 0\n1 trailer - > 9c400035000ac6bf6869\n"
+    );
+    Ok(())
+}
+
+// A datagram, a probe behind it, a UDP datagram, and an IPv4 header that is cut off.
+#[test]
+fn frames_that_norm_made_have_their_headers(rt: HostRuntime) -> Result<(), NoMemory> {
+    let whole = octets(rt.alloc(), WHOLE)?;
+    let probe = octets(rt.alloc(), PROBE)?;
+    let hi = octets(rt.alloc(), HI)?;
+    let cut = front(hi.as_slice(), 19);
+    let mut changes = Vec::new(rt.alloc());
+    add_made(Link::Raw, whole.as_slice(), 1, Made::Datagram, &mut changes)?;
+    add_made(Link::Raw, probe.as_slice(), 2, Made::Probe, &mut changes)?;
+    add_made(Link::Raw, hi.as_slice(), 3, Made::Datagram, &mut changes)?;
+    add_made(Link::Raw, cut, 4, Made::Datagram, &mut changes)?;
+    assert_eq!(rt;
+        text_of(rt.alloc(), changes.as_slice())?.as_str(),
+        "1 datagram length 24 protocol 6 flags 24 seq 1000 ack 5001\n2 probe length 0 protocol 6 flags 16 seq 999 ack 5001\n\
+         3 datagram length 2 protocol 17\n4 datagram length 19\n"
     );
     Ok(())
 }

@@ -1,7 +1,7 @@
 //! Lines of records, eras and runs, written by hand.
 use arrayvec::ArrayVec;
 use edge_io::NoMemory;
-use frame_view::{Change, Field, Flow, PayloadChange, Ports, Replaced, TcpMarks};
+use frame_view::{Change, Field, Flow, Made, PayloadChange, Ports, Replaced, TcpMarks};
 use rule_book::{Ended, Entry, Reason, Rule, Verdict};
 use std::alloc::Global;
 use view_text::{
@@ -96,6 +96,43 @@ fn changes(alloc: Global) -> Result<Vec<Change>, NoMemory> {
     Ok(changes)
 }
 
+// A segment of the same connection.
+fn segment(flags: u8, seq: u32) -> Flow {
+    Flow {
+        tcp: Some(TcpMarks {
+            flags: Flags(flags),
+            seq,
+            ack: 5001,
+        }),
+        ..syn()
+    }
+}
+
+// A frame that norm made.
+fn made(frame: u32, kind: Made, flow: Option<Flow>, length: u64) -> Change {
+    Change::Made {
+        frame,
+        kind,
+        flow,
+        length,
+    }
+}
+
+// A datagram, a probe, a UDP datagram, and a frame without a header that can be read.
+fn made_frames(alloc: Global) -> Result<Vec<Change>, NoMemory> {
+    let udp = Flow {
+        protocol: 17,
+        tcp: None,
+        ..syn()
+    };
+    let mut changes = Vec::new(alloc);
+    changes.push(made(1, Made::Datagram, Some(segment(24, 1000)), 24))?;
+    changes.push(made(2, Made::Probe, Some(segment(16, 999)), 0))?;
+    changes.push(made(3, Made::Datagram, Some(udp), 4))?;
+    changes.push(made(4, Made::Datagram, None, 19))?;
+    Ok(changes)
+}
+
 #[test]
 fn a_record_that_passes_has_a_line(rt: HostRuntime) -> Result<(), NoMemory> {
     let mut first = entry(Some(Side::Inward), Verdict::Pass, 1);
@@ -143,6 +180,28 @@ fn what_differs_stands_behind_its_frame(rt: HostRuntime) -> Result<(), NoMemory>
          {\"field\":\"trailer\",\"frame\":3,\"from\":\"ab\",\"to\":null}],\"dest_ip\":\"10.0.0.1\",\"dest_port\":80,\"ended\":[],\"era\":null,\
          \"event\":\"record\",\"flags\":null,\"frames\":3,\"length\":4,\"number\":1,\"proto\":\"udp\",\"record\":1,\"rules\":[\"I_TTL\"],\
          \"seq\":null,\"side\":\"in\",\"src_ip\":\"198.51.100.7\",\"src_port\":40000,\"time\":\"2026-01-02T03:04:05.000000000Z\",\"verdict\":\"fix\"}\n"
+    );
+    Ok(())
+}
+
+#[test]
+fn frames_that_norm_made_have_their_words(rt: HostRuntime) -> Result<(), NoMemory> {
+    let fixed = entry(Some(Side::Inward), Verdict::Fix, 4);
+    let list = made_frames(rt.alloc())?;
+    let view = view(&fixed, Some(syn()), list.as_slice());
+    assert_eq!(rt;
+        record_line(rt.alloc(), false, &view)?.as_str(),
+        "1 2026-01-02T03:04:05.000000000Z in 198.51.100.7:40000 > 10.0.0.1:80 tcp S seq 999 ack 0 len 0 fix frames 4; \
+         frame 1 datagram tcp PA seq 1000 ack 5001 len 24; frame 2 probe tcp A seq 999 ack 5001 len 0; frame 3 datagram udp len 4; frame 4 datagram len 19\n"
+    );
+    assert_eq!(rt;
+        record_line(rt.alloc(), true, &view)?.as_str(),
+        "{\"ack\":0,\"begun\":null,\"by\":\"first\",\"changes\":[{\"ack\":5001,\"field\":\"datagram\",\"flags\":\"PA\",\"frame\":1,\"len\":24,\"proto\":\"tcp\",\"seq\":1000},\
+         {\"ack\":5001,\"field\":\"probe\",\"flags\":\"A\",\"frame\":2,\"len\":0,\"proto\":\"tcp\",\"seq\":999},\
+         {\"ack\":null,\"field\":\"datagram\",\"flags\":null,\"frame\":3,\"len\":4,\"proto\":\"udp\",\"seq\":null},\
+         {\"ack\":null,\"field\":\"datagram\",\"flags\":null,\"frame\":4,\"len\":19,\"proto\":null,\"seq\":null}],\
+         \"dest_ip\":\"10.0.0.1\",\"dest_port\":80,\"ended\":[],\"era\":null,\"event\":\"record\",\"flags\":\"S\",\"frames\":4,\"length\":0,\"number\":1,\"proto\":\"tcp\",\
+         \"record\":1,\"rules\":[],\"seq\":999,\"side\":\"in\",\"src_ip\":\"198.51.100.7\",\"src_port\":40000,\"time\":\"2026-01-02T03:04:05.000000000Z\",\"verdict\":\"fix\"}\n"
     );
     Ok(())
 }

@@ -15,6 +15,17 @@ const SYN: [u8; 40] = [
     3, 0xe7, 0, 0, 0, 0, 0x50, 2, 0x20, 0, 0, 0, 0, 0,
 ];
 
+/// A segment of the same connection with the octets `abcd`, and one of the other side with `xyz`.
+const DATA: [u8; 44] = [
+    0x45, 0, 0, 44, 0, 1, 0, 0, 64, 6, 0, 0, 198, 51, 100, 7, 10, 0, 0, 1, 0x9c, 0x40, 0, 80, 0, 0,
+    3, 0xe8, 0, 0, 0x13, 0x89, 0x50, 0x18, 0x20, 0, 0, 0, 0, 0, b'a', b'b', b'c', b'd',
+];
+
+const ANSWER: [u8; 43] = [
+    0x45, 0, 0, 43, 0, 1, 0, 0, 64, 6, 0, 0, 10, 0, 0, 1, 198, 51, 100, 7, 0, 80, 0x9c, 0x40, 0, 0,
+    0x13, 0x88, 0, 0, 3, 0xe8, 0x50, 0x10, 0x20, 0, 0, 0, 0, 0, b'x', b'y', b'z',
+];
+
 /// Three octets that are no packet.
 const SHORT: [u8; 3] = [1, 2, 3];
 
@@ -158,6 +169,182 @@ fn views_stop(rt: HostRuntime) -> Result<(), Fail> {
     for (words, report, line, status) in rows {
         let (found, text) = run_viewed(alloc, words, report, [0; 4])?;
         assert_eq!(rt; found, status);
+        assert_eq!(rt; text.as_slice(), line.as_bytes());
+    }
+    Ok(())
+}
+
+/// A report of two engines: the second passes two frames, drops two and rewrites one.
+const BOTH: &str = "norm 2 both
+1 in pass 1 @1 +1
+/1 out pass 1 @1 +1
+2 - drop 0 I_SHORT
+3 in fix 3 T_CLASH @1
+/2 out pass 1 @1
+/3 out drop 0 T_OLD @1
+/4 - drop 0 I_SHORT
+4 out pass 1 @1
+/5 in fix 1 T_OLD @1 -1:idle:0
+end 4 3
+";
+
+const BOTH_SUMMARY: &str = "records 4
+in pass 1 fix 1 hold 0 drop 0
+out pass 1 fix 0 hold 0 drop 0
+- pass 0 fix 0 hold 0 drop 1
+second in pass 0 fix 1 hold 0 drop 0
+second out pass 2 fix 0 hold 0 drop 1
+second - pass 0 fix 0 hold 0 drop 1
+frames 3
+rule I_SHORT 2 (the packet has fewer than 20 octets)
+rule T_CLASH 1 (octets that differ from those first sent at their offsets are replaced)
+rule T_OLD 2 (octets that the receiver has acknowledged are cut off)
+eras 2 live 1 reset 0 evicted 0 idle 1 reopened 0
+era 1 198.51.100.7:40000 > 10.0.0.1:80 1970-01-01T00:00:01.000007000Z 1970-01-01T00:00:04.000007000Z records 3 octets 4 live T_CLASH
+era second 1 198.51.100.7:40000 > 10.0.0.1:80 1970-01-01T00:00:01.000007000Z 1970-01-01T00:00:04.000007000Z records 4 octets 3 idle T_OLD
+";
+
+const BOTH_FIXED: &str =
+    "3 1970-01-01T00:00:03.000007000Z in 198.51.100.7:40000 > 10.0.0.1:80 tcp PA seq 1000 ack 5001 len 4 fix era 1 T_CLASH (octets that differ from those first sent at their offsets are replaced) frames 3
+4/5 1970-01-01T00:00:04.000007000Z in 10.0.0.1:80 > 198.51.100.7:40000 tcp A seq 5000 ack 1000 len 3 fix era 1 T_OLD (octets that the receiver has acknowledged are cut off) frames 1; frame 1 payload at 2 7a > 77
+";
+
+const BOTH_DROPPED: &str =
+    "3/3 1970-01-01T00:00:03.000007000Z out 198.51.100.7:40000 > 10.0.0.1:80 tcp PA seq 1000 ack 5001 len 4 drop era 1 T_OLD (octets that the receiver has acknowledged are cut off) frames 0\n";
+
+const BOTH_JSON: &str =
+    "{\"ack\":1000,\"begun\":null,\"by\":\"second\",\"changes\":[{\"end\":0,\"field\":\"payload\",\"frame\":1,\"front\":0,\"longer\":0,\"replaced\":[{\"at\":2,\"from\":\"7a\",\"to\":\"77\"}]}],\"dest_ip\":\"198.51.100.7\",\"dest_port\":40000,\"ended\":[{\"era\":1,\"reason\":\"idle\"}],\"era\":1,\"event\":\"record\",\"flags\":\"A\",\"frames\":1,\"length\":3,\"number\":5,\"proto\":\"tcp\",\"record\":4,\"rules\":[\"T_OLD\"],\"seq\":5000,\"side\":\"in\",\"src_ip\":\"10.0.0.1\",\"src_port\":80,\"time\":\"1970-01-01T00:00:04.000007000Z\",\"verdict\":\"fix\"}\n";
+
+/// The status and the text of the view of that run.
+fn both_viewed(alloc: Global, words: &[&str]) -> Result<(u8, Vec<u8>), Fail> {
+    let mut rewritten = ANSWER;
+    rewritten[42] = b'w';
+    let input = capture(alloc, &[&SYN, &SHORT, &DATA, &ANSWER])?;
+    let output = capture(alloc, &[&SYN, &DATA, &rewritten])?;
+    viewed(alloc, words, input, output, BOTH, [0; 4])
+}
+
+#[test]
+fn run_of_two_engines_is_viewed(rt: HostRuntime) -> Result<(), Fail> {
+    let alloc = rt.alloc();
+    let rows: [(&[&str], &str); 4] = [
+        (&FILES, BOTH_SUMMARY),
+        (&["--only=fix", "in", "out", "report"], BOTH_FIXED),
+        (
+            &["--rule=T_OLD", "--only=drop", "in", "out", "report"],
+            BOTH_DROPPED,
+        ),
+        (
+            &[
+                "--json",
+                "--rule=T_OLD",
+                "--only=fix",
+                "in",
+                "out",
+                "report",
+            ],
+            BOTH_JSON,
+        ),
+    ];
+    for (words, expected) in rows {
+        let (status, text) = both_viewed(alloc, words)?;
+        assert_eq!(rt; status, 0);
+        assert_eq!(rt; text.as_slice(), expected.as_bytes());
+    }
+    Ok(())
+}
+
+/// A report in which frames are probes and datagrams that norm made, of one engine and of two.
+const MADE: &str =
+    "norm 2\n1 in fix 2 C_PROBE @1 +1\n2 in fix 1 F_DONE @1\n3 in pass 1 @1\nend 3 4\n";
+
+const MADE_BOTH: &str = "norm 2 both
+1 in fix 2 C_PROBE @1 +1
+/1 out pass 1 @1 +1
+/2 out pass 1 @1
+2 in fix 1 F_DONE @1
+/3 out fix 1 T_OLD @1
+3 in pass 1 @1
+/4 out fix 2 C_PROBE @1
+end 3 5
+";
+
+const MADE_LINES: &str =
+    "1 1970-01-01T00:00:01.000007000Z in 198.51.100.7:40000 > 10.0.0.1:80 tcp PA seq 1000 ack 5001 len 4 fix era 1 C_PROBE (a keep-alive is sent, in place of the segment or after a RST) frames 2; frame 2 probe tcp S seq 999 ack 0 len 0
+2 1970-01-01T00:00:02.000007000Z in 198.51.100.7:40000 > 10.0.0.1:80 tcp PA seq 1000 ack 5001 len 4 fix era 1 F_DONE (the fragment completes its datagram, which is written as one packet) frames 1; frame 1 datagram tcp PA seq 1000 ack 5001 len 4
+3 1970-01-01T00:00:03.000007000Z in 198.51.100.7:40000 > 10.0.0.1:80 tcp PA seq 1000 ack 5001 len 4 pass era 1 frames 1
+";
+
+const MADE_BOTH_LINES: &str =
+    "1 1970-01-01T00:00:01.000007000Z in 198.51.100.7:40000 > 10.0.0.1:80 tcp PA seq 1000 ack 5001 len 4 fix era 1 C_PROBE (a keep-alive is sent, in place of the segment or after a RST) frames 2
+1/1 1970-01-01T00:00:01.000007000Z out 198.51.100.7:40000 > 10.0.0.1:80 tcp PA seq 1000 ack 5001 len 4 pass era 1 frames 1
+1/2 1970-01-01T00:00:01.000007000Z out 198.51.100.7:40000 > 10.0.0.1:80 tcp PA seq 1000 ack 5001 len 4 pass era 1 frames 1; frame 1 probe tcp S seq 999 ack 0 len 0
+2 1970-01-01T00:00:02.000007000Z in 198.51.100.7:40000 > 10.0.0.1:80 tcp PA seq 1000 ack 5001 len 4 fix era 1 F_DONE (the fragment completes its datagram, which is written as one packet) frames 1
+2/3 1970-01-01T00:00:02.000007000Z out 198.51.100.7:40000 > 10.0.0.1:80 tcp PA seq 1000 ack 5001 len 4 fix era 1 T_OLD (octets that the receiver has acknowledged are cut off) frames 1; frame 1 datagram tcp PA seq 1000 ack 5001 len 4
+3 1970-01-01T00:00:03.000007000Z in 198.51.100.7:40000 > 10.0.0.1:80 tcp PA seq 1000 ack 5001 len 4 pass era 1 frames 1
+3/4 1970-01-01T00:00:03.000007000Z out 198.51.100.7:40000 > 10.0.0.1:80 tcp PA seq 1000 ack 5001 len 4 fix era 1 C_PROBE (a keep-alive is sent, in place of the segment or after a RST) frames 2; frame 2 probe tcp S seq 999 ack 0 len 0
+";
+
+#[test]
+fn frames_that_norm_made_are_named(rt: HostRuntime) -> Result<(), Fail> {
+    let alloc = rt.alloc();
+    let words = ["--era=1", "in", "out", "report"];
+    let input = capture(alloc, &[&DATA, &DATA, &DATA])?;
+    let output = capture(alloc, &[&DATA, &SYN, &DATA, &DATA])?;
+    let (status, text) = viewed(alloc, &words, input, output, MADE, [0; 4])?;
+    assert_eq!(rt; status, 0);
+    assert_eq!(rt; text.as_slice(), MADE_LINES.as_bytes());
+    Ok(())
+}
+
+#[test]
+fn frames_that_the_first_engine_made_are_named(rt: HostRuntime) -> Result<(), Fail> {
+    let alloc = rt.alloc();
+    let words = ["--era=1", "in", "out", "report"];
+    let input = capture(alloc, &[&DATA, &DATA, &DATA])?;
+    let output = capture(alloc, &[&DATA, &SYN, &DATA, &DATA, &SYN])?;
+    let (status, text) = viewed(alloc, &words, input, output, MADE_BOTH, [0; 4])?;
+    assert_eq!(rt; status, 0);
+    assert_eq!(rt; text.as_slice(), MADE_BOTH_LINES.as_bytes());
+    Ok(())
+}
+
+/// The last line of a view of a report of two engines, or of one with a line of a second.
+#[test]
+fn views_of_two_engines_stop(rt: HostRuntime) -> Result<(), Fail> {
+    let alloc = rt.alloc();
+    let rows = [
+        ("norm 2 both\n1 in pass 1\n2 in pass 1\n", "stop report 3\n"),
+        ("norm 2 both\n1 in pass 1\nend 1 0\n", "stop report 3\n"),
+        (
+            "norm 2 both\n1 in pass 1\n/2 in pass 1\n",
+            "stop report 3\n",
+        ),
+        (
+            "norm 2 both\n1 in drop 0\n/1 in pass 1\n",
+            "stop report 3\n",
+        ),
+        ("norm 2\n1 in pass 1\n/1 in pass 1\n", "stop report 3\n"),
+        (
+            "norm 2 both\n1 in drop 0\n2 - drop 0\n3 in pass 2\n/1 in pass 1\n/2 in pass 1\nend 3 2\nx",
+            "stop report 8\n",
+        ),
+        (
+            "norm 2 both\n1 in drop 0\n2 in drop 0\n3 in drop 0\n4 in drop 0\n",
+            "no record 4\n",
+        ),
+        (
+            "norm 2 both\n1 in drop 0\n2 in drop 0\nend 2 0\n",
+            "no record 3\n",
+        ),
+        ("norm 2 both\n1 in pass 3\n/1 in pass 3\n", "no frame 3\n"),
+        (
+            "norm 2 both\n1 in drop 0\n2 in pass 1\n/1 out pass 1\n3 in drop 0\nend 3 1\n",
+            "no frame 2\n",
+        ),
+    ];
+    for (report, line) in rows {
+        let (_, text) = run_viewed(alloc, &FILES, report, [0; 4])?;
         assert_eq!(rt; text.as_slice(), line.as_bytes());
     }
     Ok(())

@@ -1,11 +1,12 @@
 //! Captures of both kinds, read in parts.
-ghost use Rattle.std.specs.Prelude.{◌<◌};
+ghost use Rattle.std.specs.Prelude.{◌≡◌, ◌≤◌, true, length};
+ghost use Rattle.capture_input.specs.Reading.{is_open_in};
 
 use crate::pcapng::joined;
 use capture_input::{Input, InputFault};
 use edge_io::{MemSource, Source};
 use pcap_file::Order;
-use std::test::Fail;
+use std::alloc::{AllocError, Global};
 use wire_base::{Link, Side};
 
 // A section, least significant octet first, with the interfaces `in` and `ex`, both of raw IP.
@@ -40,7 +41,7 @@ const CLASSIC: [u8; 43] = [
 ];
 
 // The fields of a record that was read.
-#[derive(Clone, Copy, Debug, PartialEq, Eq)]
+#[derive(Clone, Copy, PartialEq)]
 struct Found {
     time: (u32, u32),
     original: u32,
@@ -49,240 +50,304 @@ struct Found {
     side: Option<Side>,
 }
 
-// The result of reading a capture: its head, its records, at most four, the fault at its end, and
-// the offset of that.
-#[derive(Clone, Copy, Debug, PartialEq, Eq)]
+// The result of reading a capture: its head, the fault at its end, and the offset of that.
+#[derive(Clone, Copy, PartialEq)]
 struct Outcome {
     head: Option<(Order, bool, Link)>,
-    packets: [Option<Found>; 4],
     fault: Option<InputFault>,
     offset: u64,
 }
 
-// Reads a capture to its end, in parts of `piece` octets.
-fn read_all(
-    rt: HostRuntime,
-    inside: Option<&[u8]>,
-    octets: Vec<u8>,
-    piece: usize,
-) -> Result<Outcome, Fail>
-    requires { 0 < piece }
+// Returns the fields of the next record.
+fn next_of(
+    input: &mut Input,
+    source: &mut MemSource,
+    buf: &mut [u8],
+) -> Result<Option<Found>, InputFault>
+    requires open { is_open_in input.old ≡ true }
+    requires room { 262144 ≤ length buf.old }
 {
-    let mut source = MemSource::new(octets, piece, Vec::new(rt.alloc()));
-    let mut outcome = Outcome {
-        head: None,
-        packets: [None; 4],
-        fault: None,
-        offset: 0,
-    };
-    if inside.is_some_and(|name| name.len() > 64) {
-        return Err("a name of more than 64 octets".into());
+    match input.next(source, buf)? {
+        Some(record) => Ok(Some(Found {
+            time: (record.seconds, record.fraction),
+            original: record.original,
+            size: record.bytes.len(),
+            offset: record.offset,
+            side: record.side,
+        })),
+        None => Ok(None),
     }
-    let mut input = match Input::open(inside, &mut source) {
-        Ok(input) => input,
-        Err(stop) => {
-            outcome.fault = Some(stop.fault);
-            outcome.offset = stop.offset;
-            return Ok(outcome);
-        }
-    };
-    let head = input.head();
-    outcome.head = Some((head.order, head.nano, head.link));
-    let mut buf = vec![in rt.alloc(); 0u8; 262144]?;
-    for place in 0..4usize {
+}
+
+// Reads at most four records, and returns whether they are these.
+fn are_read(
+    input: &mut Input,
+    source: &mut MemSource,
+    buf: &mut [u8],
+    wanted: &[Found],
+    outcome: &mut Outcome,
+) -> bool
+    requires { 262144 ≤ length buf.old }
+{
+    let mut count = 0usize;
+    for _ in 0..4 {
         if !input.is_open() {
             break;
         }
-        if buf.len() < 262144 {
-            return Err("too small a buffer".into());
-        }
-        match input.next(&mut source, &mut buf) {
-            Ok(Some(record)) => {
-                outcome.packets[place] = Some(Found {
-                    time: (record.seconds, record.fraction),
-                    original: record.original,
-                    size: record.bytes.len(),
-                    offset: record.offset,
-                    side: record.side,
-                });
-            }
+        match next_of(input, source, buf) {
+            Ok(Some(found)) if wanted.get(count) == Some(&found) => count = count.saturating_add(1),
+            Ok(Some(_)) => return false,
             Ok(None) => {}
             Err(fault) => outcome.fault = Some(fault),
         }
         outcome.offset = input.offset();
     }
-    Ok(outcome)
+    count == wanted.len()
 }
 
-#[test]
-fn packets_of_a_pcapng_file_have_the_sides_of_their_interfaces(
-    rt: HostRuntime,
-) -> Result<(), Fail> {
-    let rows: [(Option<&[u8]>, u8, Option<Side>); 4] = [
-        (Some(b"in"), 1, Some(Side::Inward)),
-        (Some(b"in"), 0, Some(Side::Outward)),
-        (Some(b"ex"), 1, Some(Side::Outward)),
-        (None, 1, None),
-    ];
-    for (inside, interface, side) in rows {
-        for piece in [1, 7, 65536] {
-            let mut octets = joined(rt, &[&SECTION, &PACKET])?;
-            *octets.get_mut(100).ok_or("no such place")? = interface;
-            let found = Found {
-                time: (0, 0),
-                original: 30,
-                size: 30,
-                offset: 92,
-                side,
-            };
-            let wanted = Outcome {
-                head: Some((Order::Little, true, Link::Raw)),
-                packets: [Some(found), None, None, None],
-                fault: None,
-                offset: 156,
-            };
-            assert_eq!(rt; read_all(rt, inside, octets, piece)?, wanted);
-        }
+// Reads a capture to its end, and returns its outcome, or None if its records are not these.
+fn outcome_of(
+    inside: Option<&[u8]>,
+    source: &mut MemSource,
+    buf: &mut [u8],
+    wanted: &[Found],
+) -> Option<Outcome>
+    requires { 262144 ≤ length buf.old }
+{
+    if inside.is_some_and(|name| name.len() > 64) {
+        return None;
     }
-    Ok(())
+    match Input::open(inside, source) {
+        Ok(mut input) => {
+            let head = input.head();
+            let mut outcome = Outcome {
+                head: Some((head.order, head.nano, head.link)),
+                ..UNREAD
+            };
+            let right = are_read(&mut input, source, buf, wanted, &mut outcome);
+            if right { Some(outcome) } else { None }
+        }
+        Err(stop) if wanted.is_empty() => Some(Outcome {
+            fault: Some(stop.fault),
+            offset: stop.offset,
+            ..UNREAD
+        }),
+        Err(_) => None,
+    }
 }
 
-#[test]
-fn an_interface_that_is_not_described_is_a_fault_at_its_packet(
-    rt: HostRuntime,
-) -> Result<(), Fail> {
-    let mut octets = joined(rt, &[&SECTION, &PACKET])?;
-    *octets.get_mut(100).ok_or("no such place")? = 2;
-    let wanted = Outcome {
-        head: Some((Order::Little, true, Link::Raw)),
-        packets: [None; 4],
-        fault: Some(InputFault::Block),
-        offset: 92,
+const UNREAD: Outcome = Outcome {
+    head: None,
+    fault: None,
+    offset: 0,
+};
+
+// The packet of the section, if its interface has no side.
+const DATAGRAM: Found = Found {
+    time: (0, 0),
+    original: 30,
+    size: 30,
+    offset: 92,
+    side: None,
+};
+
+const INWARD: Found = Found {
+    side: Some(Side::Inward),
+    ..DATAGRAM
+};
+
+const OUTWARD: Found = Found {
+    side: Some(Side::Outward),
+    ..DATAGRAM
+};
+
+// The packet of the section after it.
+const NEXT: Found = Found {
+    time: (2, 1000),
+    original: 3,
+    size: 3,
+    offset: 204,
+    side: Some(Side::Inward),
+};
+
+// The packet of the classic file.
+const PLAIN: Found = Found {
+    time: (5, 6),
+    original: 9,
+    size: 3,
+    offset: 24,
+    side: None,
+};
+
+/// The parts of a capture, an octet that is changed, and its number of octets; the name of the interface inside; the
+/// records that are read, the head, the fault at the end, and its offset.
+struct Row {
+    parts: &'static [&'static [u8]],
+    change: (usize, u8),
+    size: usize,
+    inside: Option<&'static [u8]>,
+    found: &'static [Found],
+    head: Option<(Order, bool, Link)>,
+    fault: Option<InputFault>,
+    offset: u64,
+}
+
+const BLOCKS: Row = Row {
+    parts: &[&SECTION, &PACKET],
+    change: (100, 1),
+    size: 156,
+    inside: None,
+    found: &[DATAGRAM],
+    head: Some((Order::Little, true, Link::Raw)),
+    fault: None,
+    offset: 156,
+};
+
+const FILE: Row = Row {
+    parts: &[&CLASSIC],
+    change: (0, 0xa1),
+    size: 43,
+    inside: None,
+    found: &[PLAIN],
+    head: Some((Order::Big, false, Link::Ethernet)),
+    fault: None,
+    offset: 43,
+};
+
+// They have no head, so no record is read.
+const NO_BLOCKS: Row = Row {
+    found: &[],
+    head: None,
+    fault: Some(InputFault::Cut),
+    offset: 0,
+    ..BLOCKS
+};
+
+const NO_FILE: Row = Row {
+    found: &[],
+    head: None,
+    fault: Some(InputFault::Cut),
+    offset: 0,
+    ..FILE
+};
+
+#[rattlefmt::skip]
+const ROWS: &[Row] = &[
+    // Packets of a pcapng file have the sides of their interfaces.
+    Row { inside: Some(b"in"), found: &[INWARD], ..BLOCKS },
+    Row { inside: Some(b"in"), change: (100, 0), found: &[OUTWARD], ..BLOCKS },
+    Row { inside: Some(b"ex"), found: &[OUTWARD], ..BLOCKS },
+    BLOCKS,
+    // An interface that is not described is a fault at its packet.
+    Row { inside: Some(b"in"), change: (100, 2), found: &[], fault: Some(InputFault::Block), offset: 92, ..BLOCKS },
+    // A section of the other order may follow.
+    Row { parts: &[&SECTION, &PACKET, &BIG], size: 240, inside: Some(b"in"), found: &[INWARD, NEXT], offset: 240, ..BLOCKS },
+    // A classic file is read as before.
+    FILE,
+    // A classic file without faults is refused where an interface is asked for.
+    Row { inside: Some(b"in"), fault: Some(InputFault::Block), ..NO_FILE },
+    Row { inside: Some(b"in"), change: (0, 0), fault: Some(InputFault::Magic), ..NO_FILE },
+    Row { inside: Some(b"in"), change: (7, 3), fault: Some(InputFault::Version), ..NO_FILE },
+    Row { inside: Some(b"in"), change: (23, 2), fault: Some(InputFault::Link), ..NO_FILE },
+    // A capture that is cut short is told at its head, record or block.
+    Row { size: 0, ..NO_FILE },
+    Row { size: 3, ..NO_FILE },
+    Row { size: 23, ..NO_FILE },
+    Row { size: 25, found: &[], fault: Some(InputFault::Cut), offset: 24, ..FILE },
+    Row { size: 42, found: &[], fault: Some(InputFault::Cut), offset: 24, ..FILE },
+    Row { size: 3, ..NO_BLOCKS },
+    Row { size: 27, ..NO_BLOCKS },
+    Row { size: 28, offset: 28, ..NO_BLOCKS },
+    Row { size: 59, offset: 28, ..NO_BLOCKS },
+    Row { size: 155, found: &[], fault: Some(InputFault::Cut), offset: 92, ..BLOCKS },
+];
+
+// Returns the octets of a capture, or None where it has fewer.
+fn octets_of(alloc: Global, row: &Row) -> Result<Option<Vec<u8>>, AllocError> {
+    let mut octets = joined(alloc, row.parts)?;
+    match octets.get_mut(row.change.0) {
+        Some(target) => *target = row.change.1,
+        None => return Ok(None),
+    }
+    if octets.len() < row.size {
+        return Ok(None);
+    }
+    octets.truncate(row.size);
+    Ok(Some(octets))
+}
+
+// Returns whether a capture is read so, in parts of `piece` octets.
+fn is_read(alloc: Global, row: &Row, piece: usize) -> Result<bool, AllocError> {
+    let mut buf = vec![in alloc; 0u8; 262144]?;
+    let Some(octets) = octets_of(alloc, row)? else {
+        return Ok(false);
     };
-    assert_eq!(rt; read_all(rt, Some(b"in"), octets, 1)?, wanted);
-    Ok(())
+    let mut source = MemSource::new(octets, piece.max(1), Vec::new(alloc));
+    let wanted = Outcome {
+        head: row.head,
+        fault: row.fault,
+        offset: row.offset,
+    };
+    Ok(outcome_of(row.inside, &mut source, &mut buf, row.found) == Some(wanted))
 }
 
-#[test]
-fn a_section_of_the_other_order_may_follow(rt: HostRuntime) -> Result<(), Fail> {
-    for piece in [1, 7, 65536] {
-        let octets = joined(rt, &[&SECTION, &PACKET, &BIG])?;
-        let result = read_all(rt, Some(b"in"), octets, piece)?;
-        let first = result.packets[0].ok_or("a packet")?;
-        assert_eq!(rt; (first.offset, first.side), (92, Some(Side::Inward)));
-        let second = result.packets[1].ok_or("a second packet")?;
-        assert_eq!(rt; second.time, (2, 1000));
-        assert_eq!(rt;
-            (second.size, second.offset, second.side),
-            (3, 204, Some(Side::Inward))
-        );
-        assert_eq!(rt; (result.fault, result.offset), (None, 240));
-    }
-    Ok(())
-}
-
-#[test]
-fn a_classic_file_is_read_as_before(rt: HostRuntime) -> Result<(), Fail> {
-    for piece in [1, 7, 65536] {
-        let found = Found {
-            time: (5, 6),
-            original: 9,
-            size: 3,
-            offset: 24,
-            side: None,
-        };
-        let wanted = Outcome {
-            head: Some((Order::Big, false, Link::Ethernet)),
-            packets: [Some(found), None, None, None],
-            fault: None,
-            offset: 43,
-        };
-        let octets = joined(rt, &[&CLASSIC])?;
-        assert_eq!(rt; read_all(rt, None, octets, piece)?, wanted);
-    }
-    Ok(())
-}
-
-#[test]
-fn a_classic_file_without_faults_is_refused_where_an_interface_is_asked_for(
-    rt: HostRuntime,
-) -> Result<(), Fail> {
-    // The offset of the changed octet, its new value, and the fault.
-    let rows: [(usize, u8, InputFault); 4] = [
-        (24, 0, InputFault::Block),
-        (0, 0, InputFault::Magic),
-        (7, 3, InputFault::Version),
-        (23, 2, InputFault::Link),
-    ];
-    for (place, octet, fault) in rows {
-        let mut octets = joined(rt, &[&CLASSIC])?;
-        *octets.get_mut(place).ok_or("no such place")? = octet;
-        let result = read_all(rt, Some(b"in"), octets, 7)?;
-        assert_eq!(rt; (result.fault, result.offset), (Some(fault), 0));
-        assert_eq!(rt; result.head, None);
-    }
-    Ok(())
-}
-
-#[test]
-fn a_capture_that_is_cut_short_is_told_at_its_head_record_or_block(
-    rt: HostRuntime,
-) -> Result<(), Fail> {
-    let rows: [(usize, bool, u64); 10] = [
-        (0, false, 0),
-        (3, false, 0),
-        (23, false, 0),
-        (25, false, 24),
-        (42, false, 24),
-        (3, true, 0),
-        (27, true, 0),
-        (28, true, 28),
-        (59, true, 28),
-        (155, true, 92),
-    ];
-    for (length, sections, offset) in rows {
-        for piece in [1, 7, 65536] {
-            let mut octets = if sections {
-                joined(rt, &[&SECTION, &PACKET])?
-            } else {
-                joined(rt, &[&CLASSIC])?
-            };
-            octets.truncate(length);
-            let result = read_all(rt, None, octets, piece)?;
-            assert_eq!(rt;
-                (result.fault, result.offset),
-                (Some(InputFault::Cut), offset),
-                "{length}"
-            );
+// Returns the index of the first capture that is read otherwise.
+fn first_other(alloc: Global, rows: &[Row], piece: usize) -> Result<Option<usize>, AllocError> {
+    for (index, row) in rows.iter().enumerate() {
+        if !is_read(alloc, row, piece)? {
+            return Ok(Some(index));
         }
     }
-    Ok(())
+    Ok(None)
 }
 
 #[test]
-fn a_source_that_fails_is_told(rt: HostRuntime) -> Result<(), Fail> {
-    // The call that fails, where each call returns at most four octets, and the offset of the
-    // fault.
-    let rows: [(u32, u64); 6] = [(1, 0), (2, 0), (9, 28), (24, 60), (26, 92), (39, 92)];
-    for (call, offset) in rows {
-        let octets = joined(rt, &[&SECTION, &PACKET])?;
-        let mut source = MemSource::new(octets, 4, vec![in rt.alloc(); call]?);
-        let (fault, place) = match Input::open(None, &mut source) {
-            Err(stop) => (Some(stop.fault), stop.offset),
-            Ok(mut input) => {
-                let mut buf = vec![in rt.alloc(); 0u8; 262144]?;
-                if !input.is_open() {
-                    return Err("closed".into());
-                }
-                (input.next(&mut source, &mut buf).err(), input.offset())
-            }
-        };
-        assert_eq!(rt;
-            (fault, place),
-            (Some(InputFault::ReadFault), offset),
-            "{call}"
-        );
-        assert_eq!(rt; source.faults(), 1);
+fn captures_of_both_kinds_are_read(rt: HostRuntime) -> Result<(), AllocError> {
+    for piece in [1, 7, 65536] {
+        assert_eq!(rt; first_other(rt.alloc(), ROWS, piece)?, None);
     }
+    Ok(())
+}
+
+// The call that fails, where each call returns at most four octets, and the offset of the fault.
+const FAILING: &[(u32, u64)] = &[(1, 0), (2, 0), (9, 28), (24, 60), (26, 92), (39, 92)];
+
+// Returns the fault of reading a first record, its offset, and the number of faults of the source.
+fn fault_of(source: &mut MemSource, buf: &mut [u8]) -> (Option<InputFault>, u64, u64)
+    requires { 262144 ≤ length buf.old }
+{
+    match Input::open(None, source) {
+        Err(stop) => (Some(stop.fault), stop.offset, source.faults()),
+        Ok(mut input) => {
+            let fault = if input.is_open() {
+                next_of(&mut input, source, buf).err()
+            } else {
+                None
+            };
+            (fault, input.offset(), source.faults())
+        }
+    }
+}
+
+fn failing_at(alloc: Global, call: u32) -> Result<(Option<InputFault>, u64, u64), AllocError> {
+    let mut buf = vec![in alloc; 0u8; 262144]?;
+    let octets = joined(alloc, &[&SECTION, &PACKET])?;
+    let mut source = MemSource::new(octets, 4, vec![in alloc; call]?);
+    Ok(fault_of(&mut source, &mut buf))
+}
+
+// Returns the first call that fails otherwise.
+fn first_other_call(alloc: Global, rows: &[(u32, u64)]) -> Result<Option<u32>, AllocError> {
+    for (call, offset) in rows {
+        if failing_at(alloc, *call)? != (Some(InputFault::ReadFault), *offset, 1) {
+            return Ok(Some(*call));
+        }
+    }
+    Ok(None)
+}
+
+#[test]
+fn a_source_that_fails_is_told(rt: HostRuntime) -> Result<(), AllocError> {
+    assert_eq!(rt; first_other_call(rt.alloc(), FAILING)?, None);
     Ok(())
 }

@@ -1,7 +1,10 @@
 //! Heads and records in both byte orders, from sources that return few octets a call.
+ghost use Rattle.std.specs.Prelude.{◌≤◌, length};
+
+use crate::pcapng::{Packet, is_packet};
 use edge_io::{Failed, MemSource, Sink, Source};
 use pcap_file::{Head, HeadFault, Order, Reader, RecordFault, read_head, write_head, write_record};
-use std::test::Fail;
+use std::alloc::{AllocError, Global};
 use wire_base::Link;
 
 // A source that returns at most `piece` octets a call.
@@ -121,159 +124,222 @@ const HEADS: [(Order, bool, Link, [u8; 24]); 8] = [
     (Order::Big, true, Link::Ethernet, BIG),
 ];
 
+// Returns whether the octets of a head, of which a call returns at most `piece`, are read as it, and
+// no octet behind it is.
+fn is_read(head: &Head, octets: &[u8; 24], piece: usize) -> bool {
+    let mut file = [7u8; 27];
+    file[..24].copy_from_slice(octets);
+    let mut source = Pieces { left: &file, piece };
+    read_head(&mut source) == Ok(*head) && source.left.len() == 3
+}
+
+fn is_written(sink: &mut Held, head: &Head, octets: &[u8; 24]) -> bool {
+    sink.octets.clear();
+    write_head(sink, head).is_ok() && sink.octets.as_slice() == octets.as_slice()
+}
+
+// Returns the index of the first head that is read or written otherwise.
+fn first_other(sink: &mut Held, heads: &[(Order, bool, Link, [u8; 24])]) -> Option<usize> {
+    for (index, (order, nano, link, octets)) in heads.iter().enumerate() {
+        let head = Head {
+            order: *order,
+            nano: *nano,
+            link: *link,
+        };
+        let read = is_read(&head, octets, 1) && is_read(&head, octets, 23);
+        if !read || !is_read(&head, octets, 27) || !is_written(sink, &head, octets) {
+            return Some(index);
+        }
+    }
+    None
+}
+
 #[test]
-fn a_head_of_each_form_is_read_and_written_alike(rt: HostRuntime) -> Result<(), Fail> {
+fn a_head_of_each_form_is_read_and_written_alike(rt: HostRuntime) {
     let mut sink = Held {
         octets: Vec::new(rt.alloc()),
         faults: 0,
     };
-    for (order, nano, link, octets) in HEADS {
-        let head = Head { order, nano, link };
-        let mut file = [7u8; 27];
-        file[..24].copy_from_slice(&octets);
-        for piece in [1, 23, 27] {
-            let mut source = Pieces { left: &file, piece };
-            assert_eq!(rt; read_head(&mut source), Ok(head));
-            assert_eq!(rt; source.left.len(), 3);
+    assert_eq!(rt; first_other(&mut sink, &HEADS), None);
+}
+
+// A head, pairs of an offset and the octet written there, and the result.
+type Faulty = (
+    &'static [u8; 24],
+    &'static [(usize, u8)],
+    Result<Head, HeadFault>,
+);
+
+const RAW: Head = Head {
+    order: Order::Little,
+    nano: false,
+    link: Link::Raw,
+};
+
+#[rattlefmt::skip]
+const FAULTS: &[Faulty] = &[
+    (&LITTLE, &[(8, 9), (12, 7), (16, 255)], Ok(RAW)),
+    (&LITTLE, &[(0, 0), (1, 0), (2, 0), (3, 0)], Err(HeadFault::Magic)),
+    (&LITTLE, &[(0, 0x4d)], Err(HeadFault::Magic)),
+    (&LITTLE, &[(0, 0), (6, 3), (20, 113)], Err(HeadFault::Magic)),
+    (&LITTLE, &[(4, 1)], Err(HeadFault::Version)),
+    (&LITTLE, &[(6, 3)], Err(HeadFault::Version)),
+    (&LITTLE, &[(7, 1)], Err(HeadFault::Version)),
+    (&LITTLE, &[(6, 3), (20, 113)], Err(HeadFault::Version)),
+    (&LITTLE, &[(4, 0), (5, 2), (6, 0), (7, 4)], Err(HeadFault::Version)),
+    (&LITTLE, &[(20, 113)], Err(HeadFault::Link)),
+    (&LITTLE, &[(20, 0), (23, 101)], Err(HeadFault::Link)),
+    (&LITTLE, &[(22, 1)], Err(HeadFault::Link)),
+    (&BIG, &[(3, 0)], Err(HeadFault::Magic)),
+    (&BIG, &[(7, 3)], Err(HeadFault::Version)),
+    (&BIG, &[(4, 2), (5, 0), (6, 4), (7, 0)], Err(HeadFault::Version)),
+    (&BIG, &[(23, 113)], Err(HeadFault::Link)),
+    (&BIG, &[(20, 1), (23, 0)], Err(HeadFault::Link)),
+];
+
+// Returns whether the octets are read to their end with this result.
+fn ends(octets: &[u8], head: Result<Head, HeadFault>) -> bool {
+    let mut source = Pieces {
+        left: octets,
+        piece: 24,
+    };
+    read_head(&mut source) == head && source.left.is_empty()
+}
+
+fn is_changed(row: &Faulty) -> bool {
+    let (head, changes, wanted) = *row;
+    let mut octets = *head;
+    for (place, octet) in changes {
+        match octets.get_mut(*place) {
+            Some(target) => *target = *octet,
+            None => return false,
         }
-        sink.octets.clear();
-        write_head(&mut sink, &head)?;
-        assert_eq!(rt; sink.octets.as_slice(), octets.as_slice());
     }
-    Ok(())
+    ends(&octets, wanted)
+}
+
+// Returns the index of the first row with another result.
+fn first_other_result(rows: &[Faulty]) -> Option<usize> {
+    rows.iter().position(|row| !is_changed(row))
 }
 
 #[test]
 fn a_head_is_refused_by_its_first_fault(rt: HostRuntime) {
-    let raw = Head {
-        order: Order::Little,
-        nano: false,
-        link: Link::Raw,
-    };
-    // A head, pairs of an offset and the octet written there, and the result.
-    let rows: [(&[u8; 24], &[(usize, u8)], Result<Head, HeadFault>); 17] = [
-        (&LITTLE, &[(8, 9), (12, 7), (16, 255)], Ok(raw)),
-        (
-            &LITTLE,
-            &[(0, 0), (1, 0), (2, 0), (3, 0)],
-            Err(HeadFault::Magic),
-        ),
-        (&LITTLE, &[(0, 0x4d)], Err(HeadFault::Magic)),
-        (&LITTLE, &[(0, 0), (6, 3), (20, 113)], Err(HeadFault::Magic)),
-        (&LITTLE, &[(4, 1)], Err(HeadFault::Version)),
-        (&LITTLE, &[(6, 3)], Err(HeadFault::Version)),
-        (&LITTLE, &[(7, 1)], Err(HeadFault::Version)),
-        (&LITTLE, &[(6, 3), (20, 113)], Err(HeadFault::Version)),
-        (
-            &LITTLE,
-            &[(4, 0), (5, 2), (6, 0), (7, 4)],
-            Err(HeadFault::Version),
-        ),
-        (&LITTLE, &[(20, 113)], Err(HeadFault::Link)),
-        (&LITTLE, &[(20, 0), (23, 101)], Err(HeadFault::Link)),
-        (&LITTLE, &[(22, 1)], Err(HeadFault::Link)),
-        (&BIG, &[(3, 0)], Err(HeadFault::Magic)),
-        (&BIG, &[(7, 3)], Err(HeadFault::Version)),
-        (
-            &BIG,
-            &[(4, 2), (5, 0), (6, 4), (7, 0)],
-            Err(HeadFault::Version),
-        ),
-        (&BIG, &[(23, 113)], Err(HeadFault::Link)),
-        (&BIG, &[(20, 1), (23, 0)], Err(HeadFault::Link)),
-    ];
-    for (head, changes, want) in rows {
-        let mut octets = *head;
-        for &(place, octet) in changes {
-            assert!(rt; place < 24);
-            octets[place] = octet;
-        }
-        let mut source = Pieces {
-            left: &octets,
-            piece: 24,
-        };
-        assert_eq!(rt; read_head(&mut source), want, "{octets:?}");
-        assert_eq!(rt; source.left.len(), 0);
-    }
+    assert_eq!(rt; first_other_result(FAULTS), None);
     for short in [&LITTLE[..23], &BIG[..23], &[0; 23], &[]] {
-        let mut source = Pieces {
-            left: short,
-            piece: 24,
-        };
-        assert_eq!(rt; read_head(&mut source), Err(HeadFault::Cut));
-        assert_eq!(rt; source.left.len(), 0);
+        assert!(rt; ends(short, Err(HeadFault::Cut)));
     }
 }
 
-#[test]
-fn a_source_that_fails_keeps_the_rest_of_the_head(rt: HostRuntime) -> Result<(), Fail> {
-    let octets = Vec::from_array(rt.alloc(), LITTLE)?;
-    let mut source = MemSource::new(octets, 10, vec![in rt.alloc(); 3]?);
-    assert_eq!(rt; read_head(&mut source), Err(HeadFault::ReadFault));
-    assert_eq!(rt; source.fetch(&mut [0; 24]), Ok(4));
-    Ok(())
+// Returns the result of a head whose source fails, and the number of octets that are left.
+fn failing(alloc: Global) -> Result<(Result<Head, HeadFault>, Result<usize, Failed>), AllocError> {
+    let octets = Vec::from_array(alloc, LITTLE)?;
+    let mut source = MemSource::new(octets, 10, vec![in alloc; 3]?);
+    let head = read_head(&mut source);
+    Ok((head, source.fetch(&mut [0; 24])))
 }
 
 #[test]
-fn a_record_is_written_in_the_order_of_its_head(rt: HostRuntime) -> Result<(), Fail> {
-    let little: [u8; 16] = [4, 3, 2, 1, 8, 7, 6, 5, 30, 0, 0, 0, 30, 0, 0, 0];
-    let big: [u8; 16] = [1, 2, 3, 4, 5, 6, 7, 8, 0, 0, 0, 30, 0, 0, 0, 30];
-    for (order, front) in [(Order::Little, little), (Order::Big, big)] {
-        let head = Head {
-            order,
-            nano: true,
-            link: Link::Ethernet,
-        };
-        let mut sink = Held {
-            octets: Vec::new(rt.alloc()),
-            faults: 0,
-        };
-        write_record(&mut sink, &head, 0x0102_0304, 0x0506_0708, &[9; 30])?;
-        assert_eq!(rt; sink.octets.len(), 46);
-        assert_eq!(rt; &sink.octets[..16], front.as_slice());
-        assert_eq!(rt; &sink.octets[16..], [9u8; 30].as_slice());
+fn a_source_that_fails_keeps_the_rest_of_the_head(rt: HostRuntime) -> Result<(), AllocError> {
+    assert_eq!(rt; failing(rt.alloc())?, (Err(HeadFault::ReadFault), Ok(4)));
+    Ok(())
+}
+
+// Returns whether a record of 30 octets is written with this front.
+fn fronts(sink: &mut Held, order: Order, front: &[u8; 16]) -> bool {
+    let head = Head {
+        order,
+        nano: true,
+        link: Link::Ethernet,
+    };
+    let written = write_record(sink, &head, 0x0102_0304, 0x0506_0708, &[9; 30]);
+    let Some((own, octets)) = sink.octets.split_at_checked(16) else {
+        return false;
+    };
+    written.is_ok() && own == front.as_slice() && octets == [9u8; 30].as_slice()
+}
+
+fn is_fronted(alloc: Global, order: Order, front: &[u8; 16]) -> bool {
+    let mut sink = Held {
+        octets: Vec::new(alloc),
+        faults: 0,
+    };
+    fronts(&mut sink, order, front)
+}
+
+#[test]
+fn a_record_is_written_in_the_order_of_its_head(rt: HostRuntime) {
+    let little = [4, 3, 2, 1, 8, 7, 6, 5, 30, 0, 0, 0, 30, 0, 0, 0];
+    let big = [1, 2, 3, 4, 5, 6, 7, 8, 0, 0, 0, 30, 0, 0, 0, 30];
+    assert!(rt; is_fronted(rt.alloc(), Order::Little, &little));
+    assert!(rt; is_fronted(rt.alloc(), Order::Big, &big));
+}
+
+#[rattlefmt::skip]
+const RECORDS: &[u8] = &[
+    0, 0, 0, 1, 0, 0, 0, 2, 0, 0, 0, 3, 0, 0, 0, 60, 7, 8, 9, // three octets of 60
+    0, 0, 0, 4, 0, 0, 0, 5, 0, 0, 0, 0, 0, 0, 0, 0, // none
+    0, 0, 0, 0, 0, 0, 0, 0, 0, 0, 0, 3, 0, 0, 0, 3, 7, 8, // three, of which one lacks
+];
+
+// Returns whether the reader is open and this record is the next.
+fn is_next(
+    reader: &mut Reader,
+    source: &mut Pieces<'_>,
+    buf: &mut [u8],
+    packet: &Packet<'_>,
+) -> bool
+    requires { 262144 ≤ length buf.old }
+{
+    if !reader.is_open() {
+        return false;
     }
-    Ok(())
+    match reader.next(source, buf) {
+        Ok(Some(record)) => is_packet(&record, packet),
+        _ => false,
+    }
 }
 
-#[test]
-fn records_are_read_from_pieces_of_one_octet(rt: HostRuntime) -> Result<(), Fail> {
-    let file: [u8; 53] = [
-        0, 0, 0, 1, 0, 0, 0, 2, 0, 0, 0, 3, 0, 0, 0, 60, 7, 8, 9, // three octets of 60
-        0, 0, 0, 4, 0, 0, 0, 5, 0, 0, 0, 0, 0, 0, 0, 0, // none
-        0, 0, 0, 0, 0, 0, 0, 0, 0, 0, 0, 3, 0, 0, 0, 3, 7, 8, // three, of which one lacks
-    ];
+// Returns whether the two records and the fault are read in parts of `piece` octets.
+fn are_read(buf: &mut [u8], piece: usize) -> bool
+    requires { 262144 ≤ length buf.old }
+{
+    let mut source = Pieces {
+        left: RECORDS,
+        piece,
+    };
+    let mut reader = Reader::new(Head {
+        order: Order::Big,
+        nano: true,
+        link: Link::Ethernet,
+    });
+    let first = is_next(
+        &mut reader,
+        &mut source,
+        buf,
+        &(1, 2, 60, 24, None, &[7, 8, 9]),
+    );
+    let second = is_next(&mut reader, &mut source, buf, &(4, 5, 0, 43, None, &[]));
+    if !reader.is_open() {
+        return false;
+    }
+    let cut = matches!(reader.next(&mut source, buf), Err(RecordFault::Cut));
+    first && second && cut && reader.offset() == 59 && !reader.is_open()
+}
+
+// Returns the first number of octets a call with which they are not.
+fn first_other_piece(alloc: Global) -> Result<Option<usize>, AllocError> {
+    let mut buf = vec![in alloc; 0u8; 262144]?;
     for piece in [1, 7, 64] {
-        let mut source = Pieces { left: &file, piece };
-        let mut reader = Reader::new(Head {
-            order: Order::Big,
-            nano: true,
-            link: Link::Ethernet,
-        });
-        let mut buf = vec![in rt.alloc(); 0u8; 262144]?;
-        let first = reader.next(&mut source, &mut buf)?.ok_or("a record")?;
-        assert_eq!(rt;
-            (first.seconds, first.fraction, first.original, first.offset),
-            (1, 2, 60, 24)
-        );
-        assert_eq!(rt; first.bytes, [7, 8, 9].as_slice());
-        assert!(rt; reader.is_open());
-        let second = reader.next(&mut source, &mut buf)?.ok_or("a record")?;
-        assert_eq!(rt;
-            (
-                second.seconds,
-                second.fraction,
-                second.original,
-                second.offset
-            ),
-            (4, 5, 0, 43)
-        );
-        assert_eq!(rt; second.bytes.len(), 0);
-        assert!(rt; reader.is_open());
-        let third = reader.next(&mut source, &mut buf);
-        assert!(rt; matches!(third, Err(RecordFault::Cut)));
-        assert_eq!(rt; reader.offset(), 59);
-        assert!(rt; !reader.is_open());
+        if !are_read(&mut buf, piece) {
+            return Ok(Some(piece));
+        }
     }
+    Ok(None)
+}
+
+#[test]
+fn records_are_read_from_pieces_of_one_octet(rt: HostRuntime) -> Result<(), AllocError> {
+    assert_eq!(rt; first_other_piece(rt.alloc())?, None);
     Ok(())
 }

@@ -1,10 +1,10 @@
 //! Worked example files, read in parts, and a file for each fault.
-ghost use Rattle.std.specs.Prelude.{◌≡◌, ◌<◌, ◌≤◌, IfSome, true, length};
+ghost use Rattle.std.specs.Prelude.{◌≡◌, ◌≤◌, true, length};
 
 use edge_io::{MemSource, Source};
 use pcap_file::{Order, Record};
 use pcapng_file::{NgFault, NgReader};
-use std::test::Fail;
+use std::alloc::{AllocError, Global};
 use wire_base::{Link, Side};
 
 // A section, least significant octet first.
@@ -101,8 +101,8 @@ type Outcome = (u32, Option<NgFault>, u64);
 // records between them are the expected ones.
 type Reading = ((Order, bool, Link), (u64, u64), bool);
 
-pub fn joined(rt: HostRuntime, parts: &[&[u8]]) -> Result<Vec<u8>, Fail> {
-    let mut octets = Vec::new(rt.alloc());
+pub fn joined(alloc: Global, parts: &[&[u8]]) -> Result<Vec<u8>, AllocError> {
+    let mut octets = Vec::new(alloc);
     for part in parts {
         octets.extend_from_slice(part)?;
     }
@@ -134,17 +134,11 @@ fn outcome_of(source: &mut MemSource, buf: &mut [u8]) -> Outcome
     }
 }
 
-fn outcome(rt: HostRuntime, octets: Vec<u8>) -> Result<Outcome, Fail> {
-    let mut buf = vec![in rt.alloc(); 0u8; 262144]?;
-    let mut source = MemSource::new(octets, 65536, Vec::new(rt.alloc()));
+fn outcome(alloc: Global, octets: &[u8]) -> Result<Outcome, AllocError> {
+    let mut buf = vec![in alloc; 0u8; 262144]?;
+    let octets = Vec::from_slice(alloc, octets)?;
+    let mut source = MemSource::new(octets, 65536, Vec::new(alloc));
     Ok(outcome_of(&mut source, &mut buf))
-}
-
-// Returns the outcome of blocks with one octet changed.
-fn changed(rt: HostRuntime, blocks: &[&[u8]], place: usize, octet: u8) -> Result<Outcome, Fail> {
-    let mut octets = joined(rt, blocks)?;
-    *octets.get_mut(place).ok_or("no such place")? = octet;
-    outcome(rt, octets)
 }
 
 pub fn is_packet(record: &Record<'_>, packet: &Packet<'_>) -> bool {
@@ -223,211 +217,207 @@ fn reading_of(
     buf: &mut [u8],
     packets: &[Packet<'_>],
 ) -> Result<Reading, NgFault>
-    requires small { IfSome inside (λ name. length name.now ≤ 64) }
-    requires room { 262144 ≤ length buf.old }
+    requires { 262144 ≤ length buf.old }
 {
+    // No name in a case is so long.
+    if inside.is_some_and(|name| name.len() > 64) {
+        return Err(NgFault::Block);
+    }
     match NgReader::open(inside, source) {
         Ok(mut reader) => Ok(reading_behind(&mut reader, source, buf, packets)),
         Err(fault) => Err(fault),
     }
 }
 
-// Returns the result of reading these blocks in parts, where these records are expected.
-fn reading(
-    rt: HostRuntime,
-    inside: Option<&[u8]>,
-    blocks: &[&[u8]],
+/// A file that is read to its end: the name of the interface inside, its blocks, its records, its link, and the offsets
+/// of the first interface and of the end.
+struct Whole {
+    inside: Option<&'static [u8]>,
+    blocks: &'static [&'static [u8]],
+    packets: &'static [Packet<'static>],
+    link: Link,
+    offsets: (u64, u64),
+}
+
+// A packet block of three octets at 2,000,001 microseconds, most significant octet first.
+const BIG_PACKET: [u8; 36] = [
+    0, 0, 0, 6, 0, 0, 0, 36, 0, 0, 0, 0, 0, 0, 0, 0, 0, 0x1e, 0x84, 0x81, 0, 0, 0, 3, 0, 0, 0, 3,
+    7, 8, 9, 0, 0, 0, 0, 36,
+];
+
+// One datagram on the second interface of two, and on the first.
+const ON_EX: &[&[u8]] = &[&SECTION, &IN, &EX, &BEFORE, &DATAGRAM, &BEHIND];
+
+const ON_IN: &[&[u8]] = &[&SECTION, &IN, &EX, &BEFORE_0, &DATAGRAM, &BEHIND];
+
+const INWARD: &[Packet<'static>] = &[(0, 0, 30, 92, Some(Side::Inward), &DATAGRAM)];
+
+const OUTWARD: &[Packet<'static>] = &[(0, 0, 30, 92, Some(Side::Outward), &DATAGRAM)];
+
+const SIDELESS: &[Packet<'static>] = &[(0, 0, 30, 92, None, &DATAGRAM)];
+
+#[rattlefmt::skip]
+const WHOLES: &[Whole] = &[
+    // A packet has the side of its interface.
+    Whole { inside: Some(b"in"), blocks: ON_EX, packets: INWARD, link: Link::Raw, offsets: (28, 156) },
+    Whole { inside: Some(b"in"), blocks: ON_IN, packets: OUTWARD, link: Link::Raw, offsets: (28, 156) },
+    Whole { inside: Some(b"ex"), blocks: ON_EX, packets: OUTWARD, link: Link::Raw, offsets: (28, 156) },
+    Whole { inside: Some(b"i"), blocks: ON_IN, packets: INWARD, link: Link::Raw, offsets: (28, 156) },
+    Whole { inside: None, blocks: ON_EX, packets: SIDELESS, link: Link::Raw, offsets: (28, 156) },
+    // Times and lengths are those of the interface: 4,294,967,301 microseconds, and as many nanoseconds.
+    Whole { inside: None, blocks: &[&SECTION, &OTHER, &PLAIN, &LEAST, &STAMPED, &SIMPLE, &OTHER],
+        packets: &[(4294, 967_301_000, 4, 76, None, &[7, 8, 9]), (4294, 967_301_000, 5, 120, None, &[1, 2, 3, 4, 5])],
+        link: Link::Raw, offsets: (44, 160) },
+    Whole { inside: None, blocks: &[&SECTION, &OTHER, &NANO, &LEAST, &STAMPED, &SIMPLE, &OTHER],
+        packets: &[(4, 294_967_301, 4, 88, None, &[7, 8, 9]), (4, 294_967_301, 5, 132, None, &[1, 2, 3, 4, 5])],
+        link: Link::Raw, offsets: (44, 172) },
+    // A simple packet is clipped to the snap length.
+    Whole { inside: None, blocks: &[&SECTION, &NANO, &CLIPPED], packets: &[(0, 0, 9, 60, None, &[1, 2, 3, 4, 5, 6])],
+        link: Link::Raw, offsets: (28, 84) },
+    // A section may have the highest octet first.
+    Whole { inside: None, blocks: &[&BIG_SECTION, &BIG_ETHERNET, &BIG_PACKET], packets: &[(2, 1000, 3, 48, None, &[7, 8, 9])],
+        link: Link::Ethernet, offsets: (28, 84) },
+];
+
+// Returns whether a file is read so in parts of `piece` octets.
+fn is_whole(alloc: Global, row: &Whole, piece: usize) -> Result<bool, AllocError> {
+    let mut buf = vec![in alloc; 0u8; 262144]?;
+    let octets = joined(alloc, row.blocks)?;
+    let mut source = MemSource::new(octets, piece.max(1), Vec::new(alloc));
+    let wanted = ((Order::Little, true, row.link), row.offsets, true);
+    Ok(reading_of(row.inside, &mut source, &mut buf, row.packets) == Ok(wanted))
+}
+
+// Returns the index of the first file that is read otherwise in parts of `piece` octets.
+fn first_other_whole(
+    alloc: Global,
+    rows: &[Whole],
     piece: usize,
-    packets: &[Packet<'_>],
-) -> Result<Result<Reading, NgFault>, Fail>
-    requires small { IfSome inside (λ name. length name.now ≤ 64) }
-    requires some { 0 < piece }
-{
-    let octets = joined(rt, blocks)?;
-    let mut buf = vec![in rt.alloc(); 0u8; 262144]?;
-    let mut source = MemSource::new(octets, piece, Vec::new(rt.alloc()));
-    Ok(reading_of(inside, &mut source, &mut buf, packets))
+) -> Result<Option<usize>, AllocError> {
+    for (index, row) in rows.iter().enumerate() {
+        if !is_whole(alloc, row, piece)? {
+            return Ok(Some(index));
+        }
+    }
+    Ok(None)
 }
 
 #[test]
-fn a_packet_has_the_side_of_its_interface(rt: HostRuntime) -> Result<(), Fail> {
-    let rows: [(Option<&[u8]>, &[u8], Option<Side>); 5] = [
-        (Some(b"in"), &BEFORE, Some(Side::Inward)),
-        (Some(b"in"), &BEFORE_0, Some(Side::Outward)),
-        (Some(b"ex"), &BEFORE, Some(Side::Outward)),
-        (Some(b"i"), &BEFORE_0, Some(Side::Inward)),
-        (None, &BEFORE, None),
-    ];
-    for (inside, before, side) in rows {
-        let blocks: [&[u8]; 6] = [&SECTION, &IN, &EX, before, &DATAGRAM, &BEHIND];
-        let packets: [Packet<'_>; 1] = [(0, 0, 30, 92, side, &DATAGRAM)];
-        for piece in [1, 7, 65536] {
-            assert_eq!(rt;
-                reading(rt, inside, &blocks, piece, &packets)??,
-                ((Order::Little, true, Link::Raw), (28, 156), true)
-            );
-        }
+fn files_are_read_to_their_end(rt: HostRuntime) -> Result<(), AllocError> {
+    for piece in [1, 7, 65536] {
+        assert_eq!(rt; first_other_whole(rt.alloc(), WHOLES, piece)?, None);
     }
     Ok(())
 }
 
-#[test]
-fn an_interface_that_is_not_described_is_a_fault_at_its_packet(
-    rt: HostRuntime,
-) -> Result<(), Fail> {
-    let parts: [&[u8]; 6] = [&SECTION, &IN, &EX, &BEFORE_2, &DATAGRAM, &BEHIND];
-    assert_eq!(rt;
-        outcome(rt, joined(rt, &parts)?)?,
-        (0, Some(NgFault::Block), 92)
-    );
-    Ok(())
-}
+/// Blocks, and what becomes of them if the octet at an offset has a value.
+type Faults = (&'static [&'static [u8]], &'static [(usize, u8, Outcome)]);
 
-#[test]
-fn times_and_lengths_are_those_of_the_interface(rt: HostRuntime) -> Result<(), Fail> {
-    // 4,294,967,301 microseconds, and as many nanoseconds. The offsets are those of the two records
-    // and of the end.
-    let rows: [(&[u8], u32, u32, [u64; 3]); 2] = [
-        (&PLAIN, 4294, 967_301_000, [76, 120, 160]),
-        (&NANO, 4, 294_967_301, [88, 132, 172]),
-    ];
-    for (interface, seconds, fraction, [stamped, simple, end]) in rows {
-        let blocks: [&[u8]; 7] = [
-            &SECTION, &OTHER, interface, &LEAST, &STAMPED, &SIMPLE, &OTHER,
-        ];
-        let packets: [Packet<'_>; 2] = [
-            (seconds, fraction, 4, stamped, None, &[7, 8, 9]),
-            (seconds, fraction, 5, simple, None, &[1, 2, 3, 4, 5]),
-        ];
-        for piece in [1, 7, 65536] {
-            assert_eq!(rt;
-                reading(rt, None, &blocks, piece, &packets)??,
-                ((Order::Little, true, Link::Raw), (44, end), true)
-            );
-        }
-    }
-    Ok(())
-}
-
-#[test]
-fn a_simple_packet_is_clipped_to_the_snap_length(rt: HostRuntime) -> Result<(), Fail> {
-    let packets: [Packet<'_>; 1] = [(0, 0, 9, 60, None, &[1, 2, 3, 4, 5, 6])];
-    assert_eq!(rt;
-        reading(rt, None, &[&SECTION, &NANO, &CLIPPED], 7, &packets)??,
-        ((Order::Little, true, Link::Raw), (28, 84), true)
-    );
-    Ok(())
-}
-
-#[test]
-fn a_section_may_have_the_highest_octet_first(rt: HostRuntime) -> Result<(), Fail> {
-    let packet: [u8; 36] = [
-        0, 0, 0, 6, 0, 0, 0, 36, 0, 0, 0, 0, 0, 0, 0, 0, 0, 0x1e, 0x84, 0x81, 0, 0, 0, 3, 0, 0, 0,
-        3, 7, 8, 9, 0, 0, 0, 0, 36,
-    ];
-    let packets: [Packet<'_>; 1] = [(2, 1000, 3, 48, None, &[7, 8, 9])];
-    assert_eq!(rt;
-        reading(
-            rt,
-            None,
-            &[&BIG_SECTION, &BIG_ETHERNET, &packet],
-            7,
-            &packets
-        )??,
-        ((Order::Little, true, Link::Ethernet), (28, 84), true)
-    );
+// The sections begin at 0, the first interface at 28 and a packet at 60.
+#[rattlefmt::skip]
+const FAULTS: &[Faults] = &[
+    (&[&SECTION, &IN, &STAMPED], &[
+        // No octet is changed.
+        (0, 0x0a, (1, None, 104)),
+        (8, 0x4e, (0, Some(NgFault::Magic), 0)),
+        (0, 1, (0, Some(NgFault::Magic), 0)),
+        (12, 2, (0, Some(NgFault::Version), 0)),
+        (4, 8, (0, Some(NgFault::Block), 0)),
+        (4, 30, (0, Some(NgFault::Block), 0)),
+        (24, 27, (0, Some(NgFault::Block), 0)),
+        (36, 113, (0, Some(NgFault::Link), 28)),
+        (32, 31, (0, Some(NgFault::Block), 28)),
+        // An option that reaches past the options, and a packet block before the first interface.
+        (46, 9, (0, Some(NgFault::Block), 28)),
+        (28, 3, (0, Some(NgFault::Block), 28)),
+        // A packet block of the old type, and one of an interface that the section does not have.
+        (60, 2, (0, Some(NgFault::Block), 60)),
+        (68, 1, (0, Some(NgFault::Block), 60)),
+        // A captured length that does not fit the block, one above 262,144 octets, 2^32 seconds, and another size at the
+        // end.
+        (80, 13, (0, Some(NgFault::Block), 60)),
+        (82, 5, (0, Some(NgFault::Long), 60)),
+        (74, 255, (0, Some(NgFault::Block), 60)),
+        (100, 40, (0, Some(NgFault::Block), 60)),
+    ]),
+    // Timestamps in units that are not supported.
+    (&[&SECTION, &NANO, &STAMPED], &[
+        (48, 3, (0, Some(NgFault::Block), 28)),
+        (46, 2, (0, Some(NgFault::Block), 28)),
+    ]),
+    // Simple packet blocks of too many octets, and a second interface of another link.
+    (&[&SECTION, &IN, &SIMPLE], &[
+        (70, 5, (0, Some(NgFault::Long), 60)),
+        (68, 9, (0, Some(NgFault::Block), 60)),
+    ]),
+    (&[&SECTION, &IN, &IN], &[(68, 1, (0, Some(NgFault::Link), 60))]),
+    // An interface that is not described is a fault at its packet.
+    (&[&SECTION, &IN, &EX, &BEFORE_2, &DATAGRAM, &BEHIND], &[(0, 0x0a, (0, Some(NgFault::Block), 92))]),
     // A section in the other order, whose first interface has another link.
-    let parts: [&[u8]; 4] = [&BIG_SECTION, &BIG_ETHERNET, &SECTION, &PLAIN];
-    assert_eq!(rt;
-        outcome(rt, joined(rt, &parts)?)?,
-        (0, Some(NgFault::Link), 76)
-    );
-    Ok(())
+    (&[&BIG_SECTION, &BIG_ETHERNET, &SECTION, &PLAIN], &[(0, 0x0a, (0, Some(NgFault::Link), 76))]),
+];
+
+// Returns the outcome of blocks with one octet changed.
+fn changed(
+    alloc: Global,
+    blocks: &[&[u8]],
+    place: usize,
+    octet: u8,
+) -> Result<Option<Outcome>, AllocError> {
+    let mut octets = joined(alloc, blocks)?;
+    match octets.get_mut(place) {
+        Some(target) => *target = octet,
+        None => return Ok(None),
+    }
+    Ok(Some(outcome(alloc, &octets)?))
 }
 
-#[test]
-fn a_file_has_its_first_fault(rt: HostRuntime) -> Result<(), Fail> {
-    // The sections begin at 0, the interface at 28 and the packet at 60.
-    let files: [([&[u8]; 3], &[(usize, u8, Outcome)]); 4] = [
-        (
-            [&SECTION, &IN, &STAMPED],
-            &[
-                // No octet is changed.
-                (0, 0x0a, (1, None, 104)),
-                (8, 0x4e, (0, Some(NgFault::Magic), 0)),
-                (0, 1, (0, Some(NgFault::Magic), 0)),
-                (12, 2, (0, Some(NgFault::Version), 0)),
-                (4, 8, (0, Some(NgFault::Block), 0)),
-                (4, 30, (0, Some(NgFault::Block), 0)),
-                (24, 27, (0, Some(NgFault::Block), 0)),
-                (36, 113, (0, Some(NgFault::Link), 28)),
-                (32, 31, (0, Some(NgFault::Block), 28)),
-                // An option that reaches past the options, and a packet block before the first
-                // interface.
-                (46, 9, (0, Some(NgFault::Block), 28)),
-                (28, 3, (0, Some(NgFault::Block), 28)),
-                // A packet block of the old type, and one of an interface that the section does not
-                // have.
-                (60, 2, (0, Some(NgFault::Block), 60)),
-                (68, 1, (0, Some(NgFault::Block), 60)),
-                // A captured length that does not fit the block, one above 262,144 octets, 2^32
-                // seconds, and another size at the end.
-                (80, 13, (0, Some(NgFault::Block), 60)),
-                (82, 5, (0, Some(NgFault::Long), 60)),
-                (74, 255, (0, Some(NgFault::Block), 60)),
-                (100, 40, (0, Some(NgFault::Block), 60)),
-            ],
-        ),
-        // Timestamps in units that are not supported.
-        (
-            [&SECTION, &NANO, &STAMPED],
-            &[
-                (48, 3, (0, Some(NgFault::Block), 28)),
-                (46, 2, (0, Some(NgFault::Block), 28)),
-            ],
-        ),
-        // Simple packet blocks of too many octets, and a second interface of another link.
-        (
-            [&SECTION, &IN, &SIMPLE],
-            &[
-                (70, 5, (0, Some(NgFault::Long), 60)),
-                (68, 9, (0, Some(NgFault::Block), 60)),
-            ],
-        ),
-        (
-            [&SECTION, &IN, &IN],
-            &[(68, 1, (0, Some(NgFault::Link), 60))],
-        ),
-    ];
-    for (blocks, rows) in files {
-        for (place, octet, wanted) in rows {
-            assert_eq!(rt; changed(rt, &blocks, *place, *octet)?, *wanted, "{place}");
+// Returns the offset of the first changed octet with another outcome.
+fn first_other_change(alloc: Global, faults: &Faults) -> Result<Option<usize>, AllocError> {
+    let (blocks, rows) = *faults;
+    for (place, octet, wanted) in rows {
+        if changed(alloc, blocks, *place, *octet)? != Some(*wanted) {
+            return Ok(Some(*place));
         }
     }
-    Ok(())
+    Ok(None)
 }
 
 #[test]
-fn a_file_that_is_cut_short_is_told(rt: HostRuntime) -> Result<(), Fail> {
-    let rows: [(usize, u64); 8] = [
-        (0, 0),
-        (11, 0),
-        (27, 0),
-        (28, 28),
-        (59, 28),
-        (61, 60),
-        (71, 60),
-        (103, 60),
-    ];
-    for (length, offset) in rows {
-        let mut octets = joined(rt, &[&SECTION, &IN, &STAMPED])?;
-        octets.truncate(length);
-        assert_eq!(rt;
-            outcome(rt, octets)?,
-            (0, Some(NgFault::Cut), offset),
-            "{length}"
-        );
+fn a_file_has_its_first_fault(rt: HostRuntime) -> Result<(), AllocError> {
+    for faults in FAULTS {
+        assert_eq!(rt; first_other_change(rt.alloc(), faults)?, None);
     }
+    Ok(())
+}
+
+// Numbers of octets of a file, and the offset at which it is cut short.
+const CUTS: &[(usize, u64)] = &[
+    (0, 0),
+    (11, 0),
+    (27, 0),
+    (28, 28),
+    (59, 28),
+    (61, 60),
+    (71, 60),
+    (103, 60),
+];
+
+// Returns the first number of octets with another fault.
+fn first_other_cut(alloc: Global, rows: &[(usize, u64)]) -> Result<Option<usize>, AllocError> {
+    let octets = joined(alloc, &[&SECTION, &IN, &STAMPED])?;
+    for (size, offset) in rows {
+        let cut = octets.get(..*size).unwrap_or(&[]);
+        if outcome(alloc, cut)? != (0, Some(NgFault::Cut), *offset) {
+            return Ok(Some(*size));
+        }
+    }
+    Ok(None)
+}
+
+#[test]
+fn a_file_that_is_cut_short_is_told(rt: HostRuntime) -> Result<(), AllocError> {
+    assert_eq!(rt; first_other_cut(rt.alloc(), CUTS)?, None);
     Ok(())
 }
 
@@ -449,16 +439,16 @@ fn is_failed(reader: &mut NgReader, source: &mut MemSource, buf: &mut [u8]) -> b
 }
 
 // Reads from a source whose calls return at most ten octets each, and whose fifteenth call fails.
-fn failing(rt: HostRuntime) -> Result<(Result<bool, NgFault>, u64), Fail> {
-    let octets = joined(rt, &[&SECTION, &IN, &SIMPLE, &OTHER])?;
-    let mut buf = vec![in rt.alloc(); 0u8; 262144]?;
-    let mut source = MemSource::new(octets, 10, vec![in rt.alloc(); 15]?);
+fn failing(alloc: Global) -> Result<(Result<bool, NgFault>, u64), AllocError> {
+    let mut buf = vec![in alloc; 0u8; 262144]?;
+    let octets = joined(alloc, &[&SECTION, &IN, &SIMPLE, &OTHER])?;
+    let mut source = MemSource::new(octets, 10, vec![in alloc; 15]?);
     let failed = fails(&mut source, &mut buf);
     Ok((failed, source.faults()))
 }
 
 #[test]
-fn a_source_that_fails_is_told(rt: HostRuntime) -> Result<(), Fail> {
-    assert_eq!(rt; failing(rt)?, (Ok(true), 1));
+fn a_source_that_fails_is_told(rt: HostRuntime) -> Result<(), AllocError> {
+    assert_eq!(rt; failing(rt.alloc())?, (Ok(true), 1));
     Ok(())
 }

@@ -7,22 +7,31 @@ use std::collections::BTreeMap;
 use std::process::Abort;
 use std::test::Fail;
 
+// Returns the octets after two pieces that overlap, or None if a call answers otherwise.
+fn overlapped(store: &mut Retain) -> Option<[u8; 5]>
+    requires { length store.old.chains ≡ 2 }
+{
+    let chain = ChainId(1);
+    let from = (1 << 62) + 254;
+    if store.need(chain, from, 3) != 2 || store.free() != 3 || store.fresh(chain, from, 3) != 3 {
+        return None;
+    }
+    store.place(chain, from, b"abc");
+    if store.need(chain, from + 1, 4) != 0 || store.fresh(chain, from + 1, 4) != 2 {
+        return None;
+    }
+    if store.place_counting(chain, from + 1, b"XYZW") != 2 || !store.covers(chain, from, 5) {
+        return None;
+    }
+    let mut octets = [0; 5];
+    store.copy_out(chain, from, &mut octets);
+    Some(octets)
+}
+
 #[test]
 fn the_octet_that_came_first_stays(rt: HostRuntime) -> Result<(), Fail> {
     let mut store = Retain::open(rt.alloc(), 3, 2)?;
-    let chain = ChainId(1);
-    let from = (1 << 62) + 254;
-    assert_eq!(rt; store.need(chain, from, 3), 2);
-    assert_eq!(rt; store.free(), 3);
-    assert_eq!(rt; store.fresh(chain, from, 3), 3);
-    store.place(chain, from, b"abc");
-    assert_eq!(rt; store.need(chain, from + 1, 4), 0);
-    assert_eq!(rt; store.fresh(chain, from + 1, 4), 2);
-    assert_eq!(rt; store.place_counting(chain, from + 1, b"XYZW"), 2);
-    let mut octets = [0; 5];
-    assert!(rt; store.covers(chain, from, 5));
-    store.copy_out(chain, from, &mut octets);
-    assert_eq!(rt; &octets, b"abcZW");
+    assert!(rt; overlapped(&mut store) == Some(*b"abcZW"));
     Ok(())
 }
 

@@ -103,137 +103,169 @@ mod tests {
     use super::*;
     use norm_settings::{Choice, Kind, read_words};
     use std::alloc::{AllocError, Global};
-    use std::test::Fail;
 
-    // Returns the front of an option's line in the help text, and the text of its range and default in it.
-    fn parts_of(alloc: Global, choice: Choice) -> Result<(String, String), AllocError> {
-        let row = choice.row();
-        match row.kind {
+    // Returns the text of an option's range and default.
+    fn range_of(alloc: Global, kind: &Kind) -> Result<String, AllocError> {
+        match kind {
             Kind::Number {
                 least,
                 greatest,
                 standard,
-            } => Ok((
-                format!(in alloc; "  --{} N ", row.name)?,
-                format!(in alloc; " {least} to {greatest}, default {standard}: ")?,
-            )),
-            Kind::Limit { least, greatest } => Ok((
-                format!(in alloc; "  --{} N ", row.name)?,
-                format!(in alloc; " {least} to {greatest}, default none: ")?,
-            )),
-            Kind::Name => Ok((
-                format!(in alloc; "  --{} NAME ", row.name)?,
-                format!(in alloc; " default none: ")?,
-            )),
-            Kind::Alone => Ok((
-                format!(in alloc; "  --{} ", row.name)?,
-                format!(in alloc; " default off: ")?,
-            )),
+            } => format!(in alloc; " {least} to {greatest}, default {standard}: "),
+            Kind::Limit { least, greatest } => {
+                format!(in alloc; " {least} to {greatest}, default none: ")
+            }
+            Kind::Name => String::from_str(alloc, " default none: "),
+            Kind::Alone => String::from_str(alloc, " default off: "),
         }
+    }
+
+    // Returns the text between an option's name and its range.
+    fn value_of(kind: &Kind) -> &'static str {
+        match kind {
+            Kind::Number { .. } | Kind::Limit { .. } => " N ",
+            Kind::Name => " NAME ",
+            Kind::Alone => " ",
+        }
+    }
+
+    // Returns whether the line has the option with this name, value and range.
+    fn is_of(line: &str, name: &str, value: &str, range: &str) -> bool {
+        let Some(rest) = line.strip_prefix("  --") else {
+            return false;
+        };
+        let Some(rest) = rest.strip_prefix(name) else {
+            return false;
+        };
+        rest.starts_with(value) && line.contains(range)
+    }
+
+    fn is_listed(alloc: Global, help: &str, choice: Choice) -> Result<bool, AllocError> {
+        let row = choice.row();
+        let range = range_of(alloc, &row.kind)?;
+        for line in help.lines() {
+            if is_of(line, row.name, value_of(&row.kind), &range) {
+                return Ok(true);
+            }
+        }
+        Ok(false)
+    }
+
+    // Returns the name of the first option without a line.
+    fn first_unlisted(alloc: Global, help: &str) -> Result<Option<&'static str>, AllocError> {
+        for choice in Choice::all() {
+            if !is_listed(alloc, help, choice)? {
+                return Ok(Some(choice.row().name));
+            }
+        }
+        Ok(None)
     }
 
     // The help text has a line for each option, with its range and its default.
     #[test]
-    fn help_lists_each_option_with_its_range(rt: HostRuntime) -> Result<(), Fail> {
-        for choice in Choice::all() {
-            let (front, range) = parts_of(rt.alloc(), choice)?;
-            let row = choice.row();
-            let mut is_found = false;
-            for line in HELP.lines() {
-                if line.starts_with(front.as_str()) && line.contains(range.as_str()) {
-                    is_found = true;
-                }
-            }
-            assert!(rt; is_found, "{}", row.name);
-        }
+    fn help_lists_each_option_with_its_range(rt: HostRuntime) -> Result<(), AllocError> {
+        assert_eq!(rt; first_unlisted(rt.alloc(), HELP)?, None);
         Ok(())
+    }
+
+    fn option_lines(help: &str) -> usize {
+        help.lines().filter(|line| line.starts_with("  --")).count()
     }
 
     // The help text has no option twice, and no other option.
     #[test]
     fn help_lists_no_other_option(rt: HostRuntime) {
-        let lines = HELP.lines().filter(|line| line.starts_with("  --")).count();
-        assert_eq!(rt; lines, Choice::all().len());
+        assert_eq!(rt; option_lines(HELP), Choice::all().len());
     }
 
-    // Returns the words after `norm`; 17 words for one with `{0..16}`, as a shell makes them.
-    fn words_of(alloc: Global, text: &str) -> Result<Vec<String>, AllocError> {
-        let mut words = Vec::new(alloc);
-        for word in text.split_whitespace() {
-            match word.split_once("{0..16}") {
-                Some((front, back)) => {
-                    for number in 0..17_u32 {
-                        words.push(format!(in alloc; "{front}{number}{back}")?)?;
-                    }
-                }
-                None => words.push(String::from_str(alloc, word)?)?,
-            }
+    // Appends a word; 17 words for one with `{0..16}`, as a shell makes them.
+    fn add_word(words: &mut Vec<String>, alloc: Global, word: &str) -> Result<(), AllocError> {
+        let Some((front, back)) = word.split_once("{0..16}") else {
+            words.push(String::from_str(alloc, word)?)?;
+            return Ok(());
+        };
+        for number in 0..17_u32 {
+            words.push(format!(in alloc; "{front}{number}{back}")?)?;
         }
-        Ok(words)
+        Ok(())
+    }
+
+    fn add_words(words: &mut Vec<String>, alloc: Global, text: &str) -> Result<(), AllocError> {
+        for word in text.split_whitespace() {
+            add_word(words, alloc, word)?;
+        }
+        Ok(())
     }
 
     // Returns the number by which the words of the example are refused.
     fn fault_of(alloc: Global, example: &str) -> Result<Option<u8>, AllocError> {
-        let words = words_of(alloc, example)?;
+        let mut words = Vec::new(alloc);
+        add_words(&mut words, alloc, example)?;
         match read_words(alloc, words.as_slice()) {
             Ok(_) => Ok(None),
             Err(fault) => Ok(Some(fault.number())),
         }
     }
 
+    // Returns the number of examples, behind `mark` in lines that begin with `front`, or 0 if one of
+    // them has another fault.
+    fn examples(
+        alloc: Global,
+        help: &str,
+        front: &str,
+        mark: &str,
+        fault: Option<u8>,
+    ) -> Result<u32, AllocError> {
+        let mut count = 0u32;
+        for line in help.lines().filter(|line| line.starts_with(front)) {
+            if let Some((_, example)) = line.split_once(mark) {
+                if fault_of(alloc, example)? != fault {
+                    return Ok(0);
+                }
+                count = count.saturating_add(1);
+            }
+        }
+        Ok(count)
+    }
+
     // Each example of refused words is refused by the number before it.
     #[test]
-    fn examples_are_refused_by_their_numbers(rt: HostRuntime) -> Result<(), Fail> {
-        let rows = [("  1  ", 1), ("  5  ", 5), ("  3  ", 3), ("  2  ", 2)];
-        for (front, number) in rows {
-            let mut is_found = false;
-            for line in HELP.lines() {
-                if let Some((text, example)) = line.split_once(": norm ") {
-                    if text.starts_with(front) {
-                        assert_eq!(rt; fault_of(rt.alloc(), example)?, Some(number), "{line}");
-                        is_found = true;
-                    }
-                }
-            }
-            assert!(rt; is_found, "{number}");
+    fn examples_are_refused_by_their_numbers(rt: HostRuntime) -> Result<(), AllocError> {
+        for (front, number) in [("  1  ", 1), ("  5  ", 5), ("  3  ", 3), ("  2  ", 2)] {
+            let count = examples(rt.alloc(), HELP, front, ": norm ", Some(number))?;
+            assert!(rt; count > 0, "{number}");
         }
         Ok(())
     }
 
+    // Returns whether the example of a usual mistake has the word that is named as wrong.
+    fn has_wrong(line: &str) -> bool {
+        let (text, example) = line.split_once(": norm ").unwrap_or(("", ""));
+        let wrong = text.split_whitespace().next();
+        example.split_whitespace().any(|word| Some(word) == wrong)
+    }
+
+    // Returns the first usual mistake whose example has another word.
+    fn first_other_word(help: &str) -> Option<&str> {
+        let mut lines = help.lines().filter(|line| line.starts_with("     "));
+        lines.find(|line| line.contains(": norm ") && !has_wrong(line))
+    }
+
     // Each usual mistake is refused by 1, and its example has the word that is named as wrong.
     #[test]
-    fn usual_mistakes_are_refused_by_1(rt: HostRuntime) -> Result<(), Fail> {
-        let mut mistakes = 0_u32;
-        for line in HELP.lines() {
-            if let Some((text, example)) = line.split_once(": norm ") {
-                if let Some(text) = text.strip_prefix("     ") {
-                    let wrong = text.split_whitespace().next();
-                    let words = example
-                        .split_whitespace()
-                        .filter(|word| Some(*word) == wrong);
-                    assert!(rt; words.count() > 0, "{line}");
-                    assert_eq!(rt; fault_of(rt.alloc(), example)?, Some(1), "{line}");
-                    mistakes = mistakes.saturating_add(1);
-                }
-            }
-        }
-        assert!(rt; mistakes >= 10);
+    fn usual_mistakes_are_refused_by_1(rt: HostRuntime) -> Result<(), AllocError> {
+        assert_eq!(rt; first_other_word(HELP), None);
+        assert!(rt; examples(rt.alloc(), HELP, "     ", ": norm ", Some(1))? >= 10);
         Ok(())
     }
 
     // The examples of a run and of a load are accepted.
     #[test]
-    fn the_examples_are_accepted(rt: HostRuntime) -> Result<(), Fail> {
-        let mut has_run = false;
-        let mut has_load = false;
-        for line in HELP.lines() {
-            if let Some(example) = line.strip_prefix("  norm ") {
-                assert_eq!(rt; fault_of(rt.alloc(), example)?, None, "{line}");
-                has_run = has_run || example.starts_with("run ");
-                has_load = has_load || example.starts_with("load ");
-            }
+    fn the_examples_are_accepted(rt: HostRuntime) -> Result<(), AllocError> {
+        for front in ["  norm ", "  norm run ", "  norm load "] {
+            let count = examples(rt.alloc(), HELP, front, "  norm ", None)?;
+            assert!(rt; count > 0, "{front}");
         }
-        assert!(rt; has_run && has_load);
         Ok(())
     }
 }

@@ -1,17 +1,17 @@
 //! Whole runs, with expected octets from the formats' standards and worked captures.
-ghost use Rattle.std.specs.Prelude.{◌<◌};
-
 use bridge_run::run;
-use edge_io::{Failed, MemSink, MemSource, Sink};
+use edge_io::{Failed, Sink};
 use run_rows::rows::{SEEDS, words_of};
 use run_rows::runs::{
-    Changes, HEAD, NONE, RECORD_HEADER, UDP_MESSAGE, capture_file, change, ended_run, line, only,
-    words_in,
+    Changes, HEAD, NONE, Outcome, RECORD_HEADER, UDP_MESSAGE, capture_file, change, ends, line,
+    sink_of, source_of, words_in,
 };
 use std::alloc::{AllocError, Global};
-use std::process::Abort;
 use std::test::Fail;
 
+mod both;
+mod connections;
+mod cut;
 mod expected;
 mod forms;
 mod loads;
@@ -54,42 +54,46 @@ const ENDINGS: &[Ending] = &[
 /// The words of a run without options.
 const WORDS: &[&str] = &["run", "a", "b", "10.0.0.0/8"];
 
-/// Tests a case in a run whose source returns at most `piece` octets a call.
-fn ends(rt: &impl Abort, alloc: Global, row: &Ending, seed: &str, piece: usize) -> Result<(), Fail>
-    requires { 0 < piece }
-{
-    let words = words_of(alloc, "", seed)?;
+/// Returns whether a run with these words ends as in this case, where a call of the source returns at most `piece` octets.
+fn is_ended(alloc: Global, row: &Ending, words: &[&str], piece: usize) -> Result<bool, Fail> {
     let mut file = capture_file(alloc, row.head, row.records, row.last)?;
     file.truncate(row.size);
-    let ended = ended_run(alloc, &words, &file, piece, row.failing)?;
-    let report = row.report;
-    assert_eq!(rt; ended.status, row.status, "{report}");
-    assert_eq!(rt; ended.report.held(), report.as_bytes(), "{report}");
-    assert_eq!(rt;
-        Some(ended.capture.held()),
-        file.get(..row.written),
-        "{report}"
-    );
-    Ok(())
+    let Some(written) = file.get(..row.written) else {
+        return Ok(false);
+    };
+    let outcome = Outcome {
+        status: row.status,
+        report: &[row.report],
+        capture: written,
+    };
+    ends(alloc, words, &file, piece, row.failing, &outcome)
 }
 
-/// Tests each case with each seed.
-fn each_ends(rt: &impl Abort, alloc: Global, rows: &[Ending], piece: usize) -> Result<(), Fail>
-    requires { 0 < piece }
-{
-    for row in rows {
-        for seed in SEEDS {
-            ends(rt, alloc, row, seed, piece)?;
+/// Returns whether a case ends so with this seed and pieces of any length.
+fn is_ended_by(alloc: Global, row: &Ending, seed: &str) -> Result<bool, Fail> {
+    let words = words_of(alloc, "", seed)?;
+    for piece in [1, 7, 65536] {
+        if !is_ended(alloc, row, &words, piece)? {
+            return Ok(false);
         }
     }
-    Ok(())
+    Ok(true)
+}
+
+/// Returns the index of the first case that ends otherwise.
+fn first_other_end(alloc: Global, rows: &[Ending]) -> Result<Option<usize>, Fail> {
+    for (index, row) in rows.iter().enumerate() {
+        if !is_ended_by(alloc, row, SEEDS[0])? || !is_ended_by(alloc, row, SEEDS[1])? {
+            return Ok(Some(index));
+        }
+    }
+    Ok(None)
 }
 
 #[test]
 fn runs_say_how_they_end(rt: HostRuntime) -> Result<(), Fail> {
-    each_ends(&rt, rt.alloc(), ENDINGS, 1)?;
-    each_ends(&rt, rt.alloc(), ENDINGS, 7)?;
-    each_ends(&rt, rt.alloc(), ENDINGS, 65536)
+    assert_eq!(rt; first_other_end(rt.alloc(), ENDINGS)?, None);
+    Ok(())
 }
 
 #[rattlefmt::skip]
@@ -108,36 +112,33 @@ const REFUSED: &[(&str, &str)] = &[
     ("load 1 0", "stop words 1\n"),
 ];
 
-/// Tests words that are refused, with a seed as their first option.
-fn is_refused(
-    rt: &impl Abort,
-    alloc: Global,
-    line: &str,
-    seed: &str,
-    report: &str,
-) -> Result<(), Fail> {
+/// Returns whether words with this seed as their first option are refused with this report.
+fn is_refused(alloc: Global, line: &str, seed: &str, report: &str) -> Result<bool, Fail> {
     let (command, rest) = line.split_once(' ').unwrap_or((line, ""));
     let words = words_in(alloc, &[command, seed, rest])?;
-    let ended = ended_run(alloc, &words, &HEAD, 7, (1, 1, 0))?;
-    assert_eq!(rt; ended.status, 2, "{line}");
-    assert_eq!(rt; ended.report.held(), report.as_bytes(), "{line}");
-    assert!(rt; ended.capture.held().is_empty(), "{line}");
-    Ok(())
+    let outcome = Outcome {
+        status: 2,
+        report: &[report],
+        capture: &[],
+    };
+    ends(alloc, &words, &HEAD, 7, (1, 1, 0), &outcome)
 }
 
-/// Tests each case with each seed.
-fn each_is_refused(rt: &impl Abort, alloc: Global, rows: &[(&str, &str)]) -> Result<(), Fail> {
-    for (line, report) in rows {
-        for seed in SEEDS {
-            is_refused(rt, alloc, line, seed, report)?;
+/// Returns the index of the first words that are not refused so with each seed.
+fn first_accepted(alloc: Global, rows: &[(&str, &str)]) -> Result<Option<usize>, Fail> {
+    for (index, (line, report)) in rows.iter().enumerate() {
+        let first = is_refused(alloc, line, SEEDS[0], report)?;
+        if !first || !is_refused(alloc, line, SEEDS[1], report)? {
+            return Ok(Some(index));
         }
     }
-    Ok(())
+    Ok(None)
 }
 
 #[test]
 fn refused_words_leave_one_line(rt: HostRuntime) -> Result<(), Fail> {
-    each_is_refused(&rt, rt.alloc(), REFUSED)
+    assert_eq!(rt; first_accepted(rt.alloc(), REFUSED)?, None);
+    Ok(())
 }
 
 /// The output for one UDP message.
@@ -236,51 +237,48 @@ fn written_file(alloc: Global, octets: &[u8], written: Written) -> Result<Vec<u8
     }
 }
 
-/// Returns the report of a run over one record with this line.
-fn report_of(alloc: Global, line: &str, written: Written) -> Result<String, AllocError> {
-    let frames = match written {
-        Nothing => 0,
-        AsRead | Rewritten(_) => 1,
-    };
-    format!(in alloc; "norm 2\n1 {line}\nend 1 {frames}\n")
-}
-
-/// Tests the line and the output of a run over one record.
+/// Returns whether a run over one record has this line and this output.
 fn judges(
-    rt: &impl Abort,
     alloc: Global,
     words: &[&str],
     record: (&[u8], u8),
     line: &str,
     written: Written,
-) -> Result<(), Fail> {
+) -> Result<bool, Fail> {
     let (octets, original) = record;
+    let end = match written {
+        Nothing => "\nend 1 0\n",
+        AsRead | Rewritten(_) => "\nend 1 1\n",
+    };
     let file = one_record(alloc, octets, original)?;
-    let ended = ended_run(alloc, words, &file, 65536, NONE)?;
-    let report = report_of(alloc, line, written)?;
     let written = written_file(alloc, octets, written)?;
-    assert_eq!(rt; ended.status, 0, "{line}");
-    assert_eq!(rt; ended.report.held(), report.as_bytes(), "{line}");
-    assert_eq!(rt; ended.capture.held(), written.as_slice(), "{line}");
-    Ok(())
+    let outcome = Outcome {
+        status: 0,
+        report: &["norm 2\n1 ", line, end],
+        capture: &written,
+    };
+    ends(alloc, words, &file, 65536, NONE, &outcome)
 }
 
-/// Tests each case.
-fn each_is_judged(rt: &impl Abort, alloc: Global, rows: &[Judged]) -> Result<(), Fail> {
-    for row in rows {
+/// Returns the index of the first case that is judged otherwise.
+fn first_misjudged(alloc: Global, rows: &[Judged]) -> Result<Option<usize>, Fail> {
+    for (index, row) in rows.iter().enumerate() {
         let packet = message_with(alloc, row.changes)?;
         let Some(octets) = packet.get(..usize::from(row.captured)) else {
-            return Err(Fail::new("more octets than there are"));
+            return Ok(Some(index));
         };
         let record = (octets, row.original);
-        judges(rt, alloc, WORDS, record, row.line, row.written)?;
+        if !judges(alloc, WORDS, record, row.line, row.written)? {
+            return Ok(Some(index));
+        }
     }
-    Ok(())
+    Ok(None)
 }
 
 #[test]
 fn messages_are_judged(rt: HostRuntime) -> Result<(), Fail> {
-    each_is_judged(&rt, rt.alloc(), JUDGED)
+    assert_eq!(rt; first_misjudged(rt.alloc(), JUDGED)?, None);
+    Ok(())
 }
 
 /// A test case: the words of a run, changes of the UDP message, its line and its output.
@@ -315,20 +313,23 @@ const SETS: &[Set] = &[
 
 const WRONG_OUTWARD: Changes = "12:0x0a000001c6336407 27:0xbe";
 
-/// Tests each case.
-fn each_counts(rt: &impl Abort, alloc: Global, rows: &[Set]) -> Result<(), Fail> {
-    for row in rows {
-        let words = words_in(alloc, &[row.words])?;
+/// Returns the index of the first case that is judged otherwise.
+fn first_miscounted(alloc: Global, rows: &[Set]) -> Result<Option<usize>, Fail> {
+    for (index, row) in rows.iter().enumerate() {
         let packet = message_with(alloc, row.changes)?;
+        let words = words_in(alloc, &[row.words])?;
         let record = (message_in(&packet), 30);
-        judges(rt, alloc, &words, record, row.line, row.written)?;
+        if !judges(alloc, &words, record, row.line, row.written)? {
+            return Ok(Some(index));
+        }
     }
-    Ok(())
+    Ok(None)
 }
 
 #[test]
 fn options_and_prefixes_count(rt: HostRuntime) -> Result<(), Fail> {
-    each_counts(&rt, rt.alloc(), SETS)
+    assert_eq!(rt; first_miscounted(rt.alloc(), SETS)?, None);
+    Ok(())
 }
 
 /// A sink that takes all octets and fails at each flush.
@@ -358,24 +359,34 @@ impl Sink for Stuck {
     }
 }
 
+/// Returns whether a run to this capture sink has the status 6 and its report.
+fn stops_capture(alloc: Global, words: &[String], stuck: &mut Stuck) -> Result<bool, Fail> {
+    let file = capture_file(alloc, "", 1, "")?;
+    let mut source = source_of(alloc, &file, 65536, 0)?;
+    let mut report = sink_of(alloc, 4096, 0)?;
+    let status = run(alloc, words, &mut source, stuck, &mut report);
+    let expected = b"norm 2\n1 in pass 1\nstop capture 70\n".as_slice();
+    Ok(status == 6 && report.held() == expected)
+}
+
+/// Returns whether a run to this report sink has the status 7 and writes its capture.
+fn stops_report(alloc: Global, words: &[String], stuck: &mut Stuck) -> Result<bool, Fail> {
+    let file = capture_file(alloc, "", 1, "")?;
+    let mut source = source_of(alloc, &file, 65536, 0)?;
+    let mut capture = sink_of(alloc, 4096, 0)?;
+    let status = run(alloc, words, &mut source, &mut capture, stuck);
+    Ok(status == 7 && capture.held().len() == 70)
+}
+
+fn stops_each(alloc: Global) -> Result<(bool, bool), Fail> {
+    let words = line(alloc, WORDS)?;
+    let mut stuck = Stuck { faults: 0 };
+    let capture = stops_capture(alloc, &words, &mut stuck)?;
+    Ok((capture, stops_report(alloc, &words, &mut stuck)?))
+}
+
 #[test]
 fn a_capture_sink_that_cannot_flush_stops_a_run(rt: HostRuntime) -> Result<(), Fail> {
-    let words = line(rt.alloc(), WORDS)?;
-    let file = capture_file(rt.alloc(), "", 1, "")?;
-    let mut source = MemSource::new(file, 65536, only(rt.alloc(), 0)?);
-    let mut report = MemSink::new(rt.alloc(), 4096, only(rt.alloc(), 0)?)?;
-    let mut stuck = Stuck { faults: 0 };
-    let status = run(rt.alloc(), &words, &mut source, &mut stuck, &mut report);
-    assert_eq!(rt; status, 6);
-    assert_eq!(rt;
-        report.held(),
-        b"norm 2\n1 in pass 1\nstop capture 70\n".as_slice()
-    );
-    let file = capture_file(rt.alloc(), "", 1, "")?;
-    let mut source = MemSource::new(file, 65536, only(rt.alloc(), 0)?);
-    let mut capture = MemSink::new(rt.alloc(), 4096, only(rt.alloc(), 0)?)?;
-    let status = run(rt.alloc(), &words, &mut source, &mut capture, &mut stuck);
-    assert_eq!(rt; status, 7);
-    assert_eq!(rt; capture.held().len(), 70);
+    assert_eq!(rt; stops_each(rt.alloc())?, (true, true));
     Ok(())
 }

@@ -1,14 +1,11 @@
 //! Test cases of whole runs in a text notation: packets, captures of them, and the outputs of a run
-//! over a capture. The tests compare `run` with worked captures: connections, both sides, segments
-//! that are cut.
+//! over a capture.
 //!
-//! Only tests use this crate. `line` and `only` have contracts; of the other functions it is proved
-//! only that they are safe and return.
+//! Only `run_evasions` and `run_ends` use this crate, and have its tests. `line` and `only` have
+//! contracts; of the other functions it is proved only that they are safe and return.
 #![tactic(auto)]
 
 pub mod notation;
 pub mod packets;
 pub mod rows;
 pub mod runs;
-#[cfg(test)]
-mod tests;

@@ -1,7 +1,7 @@
 //! Test cases of whole runs: the input packets, the report, and the output packets.
 use crate::notation::add_octets;
 use crate::packets::{capture_of, packet_octets};
-use crate::runs::{NONE, ended_run, words_in};
+use crate::runs::{NONE, Outcome, ends, words_in};
 use std::alloc::Global;
 use std::test::Fail;
 
@@ -53,24 +53,54 @@ pub fn words_of<'a>(alloc: Global, options: &'a str, seed: &'a str) -> Result<Ve
     words_in(alloc, &["run", options, seed, "a b 10.0.0.0/8"])
 }
 
+/// Returns whether a run with these words ends with status 0 and gives the report and the output packets of the case.
+fn holds_by(alloc: Global, words: &[&str], row: &Row) -> Result<bool, Fail> {
+    let before = row.before;
+    let first = if row.options.contains("--both") {
+        "norm 2 both\n"
+    } else {
+        "norm 2\n"
+    };
+    let file = capture_of(alloc, before.packets, row.packets)?;
+    let written = capture_of(alloc, before.packets, row.written)?;
+    let outcome = Outcome {
+        status: 0,
+        report: &[first, before.lines, row.report],
+        capture: &written,
+    };
+    ends(alloc, words, &file, 65536, NONE, &outcome)
+}
+
 /// Returns whether a run with this seed ends with status 0 and gives the report and the output packets of the case.
 pub fn holds(alloc: Global, row: &Row, seed: &str) -> Result<bool, Fail> {
     let words = words_of(alloc, row.options, seed)?;
-    let before = row.before;
-    let file = capture_of(alloc, before.packets, row.packets)?;
-    let ended = ended_run(alloc, &words, &file, 65536, NONE)?;
-    let written = capture_of(alloc, before.packets, row.written)?;
-    let (lines, rest) = (before.lines, row.report);
-    let report = format!(in alloc; "norm 2\n{lines}{rest}")?;
-    let same_report = ended.report.held() == report.as_bytes();
-    let same_capture = ended.capture.held() == written.as_slice();
-    Ok(ended.status == 0 && same_report && same_capture)
+    holds_by(alloc, &words, row)
+}
+
+/// Returns the index of the first case that does not hold with each seed.
+pub fn first_other(alloc: Global, rows: &[Row]) -> Result<Option<usize>, Fail> {
+    for (index, row) in rows.iter().enumerate() {
+        if !holds(alloc, row, SEEDS[0])? || !holds(alloc, row, SEEDS[1])? {
+            return Ok(Some(index));
+        }
+    }
+    Ok(None)
 }
 
 /// Returns whether the packet has the octets that `spelled` spells.
-pub fn is_spelled(alloc: Global, packet: &str, spelled: &str) -> Result<bool, Fail> {
+fn is_spelled(alloc: Global, packet: &str, spelled: &str) -> Result<bool, Fail> {
+    let packet = packet_octets(alloc, packet)?;
     let mut octets = Vec::new(alloc);
     add_octets(&mut octets, spelled)?;
-    let packet = packet_octets(alloc, packet)?;
     Ok(packet.as_slice() == octets.as_slice())
+}
+
+/// Returns the index of the first packet with other octets than those that its text spells.
+pub fn first_misspelled(alloc: Global, rows: &[(&str, &str)]) -> Result<Option<usize>, Fail> {
+    for (index, (packet, spelled)) in rows.iter().enumerate() {
+        if !is_spelled(alloc, packet, spelled)? {
+            return Ok(Some(index));
+        }
+    }
+    Ok(None)
 }

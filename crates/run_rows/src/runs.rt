@@ -39,6 +39,20 @@ pub fn change(alloc: Global, octets: &mut [u8], changes: Changes) -> Result<(), 
     Ok(())
 }
 
+/// Appends UDP messages, of which the last has this record header.
+fn add_messages(file: &mut Vec<u8>, records: u8, last: &[u8; 16]) -> Result<(), AllocError> {
+    for number in 1..=records {
+        let header = if number == records {
+            last
+        } else {
+            &RECORD_HEADER
+        };
+        file.extend_from_slice(header)?;
+        file.extend_from_slice(&UDP_MESSAGE[..30])?;
+    }
+    Ok(())
+}
+
 /// Returns a capture of UDP messages, with changes in the file header and in the last record header.
 pub fn capture_file(
     alloc: Global,
@@ -46,17 +60,11 @@ pub fn capture_file(
     records: u8,
     last: Changes,
 ) -> Result<Vec<u8>, Fail> {
-    let mut octets = HEAD;
+    let (mut octets, mut header) = (HEAD, RECORD_HEADER);
     change(alloc, &mut octets, head)?;
+    change(alloc, &mut header, last)?;
     let mut file = Vec::from_slice(alloc, &octets)?;
-    for number in 1..=records {
-        let mut header = RECORD_HEADER;
-        if number == records {
-            change(alloc, &mut header, last)?;
-        }
-        file.extend_from_slice(&header)?;
-        file.extend_from_slice(&UDP_MESSAGE[..30])?;
-    }
+    add_messages(&mut file, records, &header)?;
     Ok(file)
 }
 
@@ -93,39 +101,81 @@ pub fn only(alloc: Global, call: u32) -> Result<Vec<u32>, AllocError>
     Ok(calls)
 }
 
-/// The status of a run, and its sinks.
-#[derive(Drop)]
-pub struct Outcome {
-    pub status: u8,
-    pub capture: MemSink,
-    pub report: MemSink,
+/// Returns a source of which a call returns at most `piece` octets and the call `failing` fails, 0 for none.
+pub fn source_of(
+    alloc: Global,
+    file: &[u8],
+    piece: usize,
+    failing: u32,
+) -> Result<MemSource, AllocError> {
+    let calls = only(alloc, failing)?;
+    Ok(MemSource::new(Vec::from_slice(alloc, file)?, piece.max(1), calls))
 }
 
-/// Runs over a file of which a call of the source returns at most `piece` octets. `failing` has the number of the call
-/// that fails of the source, of the capture sink and of the report sink, 0 for none.
-pub fn ended_run(
+/// Returns a sink for at most `room` octets of which the call `failing` fails, 0 for none.
+pub fn sink_of(alloc: Global, room: usize, failing: u32) -> Result<MemSink, Fail> {
+    Ok(MemSink::new(alloc, room, only(alloc, failing)?)?)
+}
+
+/// Returns the status of a run.
+pub fn status_of(
+    alloc: Global,
+    words: &[String],
+    source: &mut MemSource,
+    capture: &mut MemSink,
+    report: &mut MemSink,
+) -> u8 {
+    run(alloc, words, source, capture, report)
+}
+
+/// The end of a run: its status, the texts of its report, and the octets of its output capture.
+#[derive(Clone, Copy)]
+pub struct Outcome<'a> {
+    pub status: u8,
+    pub report: &'a [&'a str],
+    pub capture: &'a [u8],
+}
+
+/// Returns whether the octets are these texts, one after another.
+fn is_text(octets: &[u8], texts: &[&str]) -> bool {
+    let mut left = octets;
+    for text in texts {
+        match left.strip_prefix(text.as_bytes()) {
+            Some(rest) => left = rest,
+            None => return false,
+        }
+    }
+    left.is_empty()
+}
+
+// A function that owns a source or a sink is slow to prove at each `?`, so this one does no more.
+fn ends_by(
+    alloc: Global,
+    words: &[String],
+    source: &mut MemSource,
+    failing: (u32, u32, u32),
+    outcome: &Outcome<'_>,
+) -> Result<bool, Fail> {
+    let mut capture = sink_of(alloc, 131_072, failing.1)?;
+    let mut report = sink_of(alloc, 4096, failing.2)?;
+    let status = status_of(alloc, words, source, &mut capture, &mut report);
+    let same = status == outcome.status && capture.held() == outcome.capture;
+    Ok(same && is_text(report.held(), outcome.report))
+}
+
+/// Returns whether a run over a file, of which a call of the source returns at most `piece` octets, has this outcome.
+/// `failing` has the number of the call that fails of the source, of the capture sink and of the report sink, 0 for none.
+pub fn ends(
     alloc: Global,
     words: &[&str],
     file: &[u8],
     piece: usize,
     failing: (u32, u32, u32),
-) -> Result<Outcome, Fail>
-    requires { 0 < piece }
-{
+    outcome: &Outcome<'_>,
+) -> Result<bool, Fail> {
     let words = line(alloc, words)?;
-    let mut source = MemSource::new(
-        Vec::from_slice(alloc, file)?,
-        piece,
-        only(alloc, failing.0)?,
-    );
-    let mut capture = MemSink::new(alloc, 131_072, only(alloc, failing.1)?)?;
-    let mut report = MemSink::new(alloc, 4096, only(alloc, failing.2)?)?;
-    let status = run(alloc, &words, &mut source, &mut capture, &mut report);
-    Ok(Outcome {
-        status,
-        capture,
-        report,
-    })
+    let mut source = source_of(alloc, file, piece, failing.0)?;
+    ends_by(alloc, &words, &mut source, failing, outcome)
 }
 
 /// No call fails.

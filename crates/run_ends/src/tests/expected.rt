@@ -1,7 +1,7 @@
 //! The expected outputs of a disturbed run, computed from the outputs of the undisturbed run.
 use run_rows::packets::capture_of;
 use run_rows::rows::{Before, words_of};
-use run_rows::runs::{NONE, ended_run, line};
+use run_rows::runs::{line, sink_of, source_of, status_of};
 use std::alloc::Global;
 use std::test::Fail;
 
@@ -73,9 +73,9 @@ fn frames_in(line: &str) -> Result<u32, Fail> {
     Ok(word.parse()?)
 }
 
-/// Returns the marks of a run. A line that begins with `/` is one of the second engine; with two engines only the
-/// frames of the second are written.
-fn marks_of(alloc: Global, file: &[u8], capture: &[u8], report: &str) -> Result<Vec<Mark>, Fail> {
+/// Appends the marks after each record to the first two. A line that begins with `/` is one of the second engine; with
+/// two engines only the frames of the second are written.
+fn add_marks(marks: &mut Vec<Mark>, file: &[u8], capture: &[u8], report: &str) -> Result<(), Fail> {
     let mut lines = report.split_inclusive('\n');
     let first = lines.next().unwrap_or("");
     let both = first.contains("both");
@@ -84,14 +84,13 @@ fn marks_of(alloc: Global, file: &[u8], capture: &[u8], report: &str) -> Result<
         written: 0,
         told: first.len(),
     };
-    let mut marks = Vec::new(alloc);
     marks.push(mark)?;
     mark.taken = 24;
     mark.written = 24;
     marks.push(mark)?;
     for line in lines {
         if line.starts_with("end") {
-            return Ok(marks);
+            return Ok(());
         }
         let second = line.starts_with("/");
         if second {
@@ -108,24 +107,38 @@ fn marks_of(alloc: Global, file: &[u8], capture: &[u8], report: &str) -> Result<
     Err(Fail::new("the report has no last line"))
 }
 
+/// Returns the marks of a run.
+fn marks_of(alloc: Global, file: &[u8], capture: &[u8], report: &[u8]) -> Result<Vec<Mark>, Fail> {
+    let report = str::from_utf8(report).ok().ok_or("the report is not text")?;
+    let mut marks = Vec::new(alloc);
+    add_marks(&mut marks, file, capture, report)?;
+    Ok(marks)
+}
+
 /// Returns the undisturbed run of a case.
 pub(super) fn undisturbed_run(alloc: Global, case: &Case) -> Result<Undisturbed, Fail> {
     let words = words_of(alloc, case.options, "")?;
+    let words = line(alloc, &words)?;
     let file = capture_of(alloc, case.before.packets, case.packets)?;
-    let ended = ended_run(alloc, &words, &file, 65536, NONE)?;
-    let capture = Vec::from_slice(alloc, ended.capture.held())?;
-    let report = Vec::from_slice(alloc, ended.report.held())?;
-    let Ok(text) = str::from_utf8(&report) else {
-        return Err(Fail::new("the report is not text"));
-    };
-    let marks = marks_of(alloc, &file, &capture, text)?;
+    let (capture, report) = outputs_of(alloc, &words, &file)?;
+    let marks = marks_of(alloc, &file, &capture, &report)?;
     Ok(Undisturbed {
-        words: line(alloc, &words)?,
+        words,
         file,
         capture,
         report,
         marks,
     })
+}
+
+/// Returns what a run over a file writes to its capture and to its report.
+fn outputs_of(alloc: Global, words: &[String], file: &[u8]) -> Result<(Vec<u8>, Vec<u8>), Fail> {
+    let mut source = source_of(alloc, file, 65536, 0)?;
+    let mut capture = sink_of(alloc, 131_072, 0)?;
+    let mut report = sink_of(alloc, 4096, 0)?;
+    status_of(alloc, words, &mut source, &mut capture, &mut report);
+    let capture = Vec::from_slice(alloc, capture.held())?;
+    Ok((capture, Vec::from_slice(alloc, report.held())?))
 }
 
 /// The expected end of a run: its status, the octets taken from the source and held by the sinks, and the kind and the

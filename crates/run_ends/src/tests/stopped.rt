@@ -1,14 +1,11 @@
 //! Runs that stop because a call of the source or of a sink fails, or because the capture sink is full.
-ghost use Rattle.std.specs.Prelude.{◌≡◌, ◌<◌};
-
 use super::expected::{Case, End, Expected, Undisturbed, undisturbed_run};
 use super::{Stuck, WORDS};
 use bridge_run::run;
-use edge_io::{MemSink, MemSource, Sink, Source, read_full};
+use edge_io::{Sink, Source, read_full};
 use run_rows::rows::{OPENED, REQUEST};
-use run_rows::runs::{NONE, capture_file, ended_run, line, only};
-use std::alloc::Global;
-use std::process::Abort;
+use run_rows::runs::{NONE, Outcome, capture_file, ends, line, sink_of, source_of, status_of};
+use std::alloc::{AllocError, Global};
 use std::test::Fail;
 
 /// A whole connection.
@@ -36,9 +33,7 @@ struct Disturbance {
 }
 
 /// Returns the disturbance in which this call of an object fails.
-fn failing_at(end: End, call: u32, piece: usize) -> Disturbance
-    ensures { result.piece ≡ piece }
-{
+fn failing_at(end: End, call: u32, piece: usize) -> Disturbance {
     let failing = match end {
         End::Source => (call, 0, 0),
         End::Capture => (0, call, 0),
@@ -51,52 +46,26 @@ fn failing_at(end: End, call: u32, piece: usize) -> Disturbance
     }
 }
 
-/// A disturbed run: its status, the number of failed calls of each object, the octets taken from the source, and the
-/// sinks.
-#[derive(Drop)]
-struct Disturbed {
+/// What a disturbed run leaves: its status, the number of failed calls of each object, the number of octets taken from
+/// the source, and the octets of the sinks.
+#[derive(Clone, Copy)]
+struct Left<'a> {
     status: u8,
     faults: (u64, u64, u64),
     taken: usize,
-    capture: MemSink,
-    report: MemSink,
+    capture: &'a [u8],
+    report: &'a [u8],
 }
 
-impl Disturbed {
+impl Left<'_> {
     /// Returns the number of octets taken from the source or held by a sink.
     fn octets_at(&self, end: End) -> usize {
         match end {
             End::Source => self.taken,
-            End::Capture => self.capture.held().len(),
-            End::Report => self.report.held().len(),
+            End::Capture => self.capture.len(),
+            End::Report => self.report.len(),
         }
     }
-}
-
-/// Runs again with a disturbance.
-fn disturbed_run(
-    alloc: Global,
-    run: &Undisturbed,
-    disturbance: Disturbance,
-) -> Result<Disturbed, Fail>
-    requires { 0 < disturbance.piece }
-{
-    let failing = disturbance.failing;
-    let file = Vec::from_slice(alloc, &run.file)?;
-    let mut source = MemSource::new(file, disturbance.piece, only(alloc, failing.0)?);
-    let mut capture = MemSink::new(alloc, disturbance.room, only(alloc, failing.1)?)?;
-    let mut report = MemSink::new(alloc, 4096, only(alloc, failing.2)?)?;
-    let status = bridge_run::run(alloc, &run.words, &mut source, &mut capture, &mut report);
-    let faults = (source.faults(), capture.faults(), report.faults());
-    let mut rest = [0u8; 4096];
-    let left = read_full(&mut source, &mut rest).unwrap_or(0);
-    Ok(Disturbed {
-        status,
-        faults,
-        taken: run.file.len().saturating_sub(left),
-        capture,
-        report,
-    })
 }
 
 /// Returns the number of failed calls of each object that a status implies.
@@ -109,181 +78,258 @@ fn faults_at(status: u8) -> (u64, u64, u64) {
     }
 }
 
-/// Returns whether a disturbed run ends as expected.
-fn leaves(
-    alloc: Global,
-    run: &Undisturbed,
-    disturbed: &Disturbed,
-    expected: &Expected,
-) -> Result<bool, Fail> {
-    let mark = expected.mark;
-    let mut report = Vec::from_slice(alloc, &run.report)?;
-    report.truncate(mark.told);
-    if let Some((kind, offset)) = expected.stop {
-        let stop = format!(in alloc; "stop {kind} {offset}\n")?;
-        report.extend_from_slice(stop.as_bytes())?;
+/// Returns the `stop` line of a kind and an offset, or no text.
+fn stop_line(alloc: Global, stop: Option<(&str, usize)>) -> Result<String, AllocError> {
+    match stop {
+        Some((kind, offset)) => format!(in alloc; "stop {kind} {offset}\n"),
+        None => Ok(String::new(alloc)),
     }
-    let same_status = disturbed.status == expected.status;
-    let same_faults = disturbed.faults == faults_at(expected.status);
-    let same_source = disturbed.taken == mark.taken;
-    let same_report = disturbed.report.held() == report.as_slice();
-    let same_capture = Some(disturbed.capture.held()) == run.capture.get(..mark.written);
-    Ok(same_status && same_faults && same_source && same_report && same_capture)
 }
 
-/// Tests that the outputs do not depend on the number of octets that a call of the source returns.
-fn pieces_change_nothing(
-    rt: &impl Abort,
+/// Returns whether a disturbed run ends as expected.
+fn leaves(run: &Undisturbed, left: &Left<'_>, expected: &Expected, stop: &str) -> bool {
+    let mark = expected.mark;
+    let Some((told, rest)) = left.report.split_at_checked(mark.told) else {
+        return false;
+    };
+    let same_status = left.status == expected.status;
+    let same_faults = left.faults == faults_at(expected.status);
+    let same_source = left.taken == mark.taken;
+    let same_report = Some(told) == run.report.get(..mark.told) && rest == stop.as_bytes();
+    let same_capture = Some(left.capture) == run.capture.get(..mark.written);
+    same_status && same_faults && same_source && same_report && same_capture
+}
+
+/// A disturbed run: its status, the number of octets taken from the disturbed source or held by the disturbed sink, and
+/// whether it ends as expected where it has this number.
+#[derive(Clone, Copy, Debug, PartialEq, Eq)]
+struct Disturbed {
+    status: u8,
+    octets: usize,
+    is_expected: bool,
+}
+
+/// Compares what a run leaves with what is expected of it.
+fn compared(
     alloc: Global,
     run: &Undisturbed,
-    piece: usize,
-) -> Result<(), Fail>
-    requires { 0 < piece }
-{
-    let disturbed = disturbed_run(alloc, run, failing_at(End::Source, 0, piece))?;
-    assert!(rt; leaves(alloc, run, &disturbed, &run.at_end())?, "{piece}");
-    Ok(())
+    end: End,
+    left: &Left<'_>,
+) -> Result<Disturbed, AllocError> {
+    let octets = left.octets_at(end);
+    let expected = if left.status == 0 {
+        run.at_end()
+    } else {
+        run.at(end, octets)
+    };
+    let stop = stop_line(alloc, expected.stop)?;
+    Ok(Disturbed {
+        status: left.status,
+        octets,
+        is_expected: leaves(run, left, &expected, &stop),
+    })
 }
 
-/// Fails each call of an object in turn, until a run ends with status 0. Tests that each run gets further than the one
-/// before it.
-fn each_call_fails(
-    rt: &impl Abort,
+/// Runs again with a disturbance of this object.
+fn disturbed_run(
+    alloc: Global,
+    run: &Undisturbed,
+    end: End,
+    disturbance: Disturbance,
+) -> Result<Disturbed, Fail> {
+    let failing = disturbance.failing;
+    let mut source = source_of(alloc, &run.file, disturbance.piece, failing.0)?;
+    let mut capture = sink_of(alloc, disturbance.room, failing.1)?;
+    let mut report = sink_of(alloc, 4096, failing.2)?;
+    let status = status_of(alloc, &run.words, &mut source, &mut capture, &mut report);
+    let faults = (source.faults(), capture.faults(), report.faults());
+    let mut rest = [0u8; 4096];
+    let rest = read_full(&mut source, &mut rest).unwrap_or(0);
+    let left = Left {
+        status,
+        faults,
+        taken: run.file.len().saturating_sub(rest),
+        capture: capture.held(),
+        report: report.held(),
+    };
+    Ok(compared(alloc, run, end, &left)?)
+}
+
+/// Returns the first number of octets that a call of the source returns at most with other outputs.
+fn first_other_piece(alloc: Global, run: &Undisturbed) -> Result<Option<usize>, Fail> {
+    for piece in [1, 7, 65536] {
+        let undisturbed = failing_at(End::Source, 0, piece);
+        let disturbed = disturbed_run(alloc, run, End::Source, undisturbed)?;
+        if disturbed.status != 0 || !disturbed.is_expected {
+            return Ok(Some(piece));
+        }
+    }
+    Ok(None)
+}
+
+/// Fails each call of an object in turn, until a run ends with status 0. Returns the first call whose run does not end as
+/// expected or gets no further than the one before it.
+fn first_other_call(
     alloc: Global,
     run: &Undisturbed,
     end: End,
     piece: usize,
-) -> Result<(), Fail>
-    requires { 0 < piece }
-{
+) -> Result<Option<usize>, Fail> {
     let mut least = 0;
     for call in 1..=4000u32 {
-        let disturbed = disturbed_run(alloc, run, failing_at(end, call, piece))?;
-        if disturbed.status == 0 {
-            assert!(rt;
-                leaves(alloc, run, &disturbed, &run.at_end())?,
-                "{piece} {call}"
-            );
-            return Ok(());
+        let disturbed = disturbed_run(alloc, run, end, failing_at(end, call, piece))?;
+        let goes_on = disturbed.status == 0 || least <= disturbed.octets;
+        if !disturbed.is_expected || !goes_on {
+            return Ok(Some(call as usize));
         }
-        let octets = disturbed.octets_at(end);
-        assert!(rt; least <= octets, "{piece} {call}");
-        assert!(rt;
-            leaves(alloc, run, &disturbed, &run.at(end, octets))?,
-            "{piece} {call}"
-        );
-        least = octets.saturating_add(1);
+        if disturbed.status == 0 {
+            return Ok(None);
+        }
+        least = disturbed.octets.saturating_add(1);
     }
     Err(Fail::new("no run ends with 0"))
 }
 
-/// Tests a capture sink of each capacity from 0 to 200 octets.
-fn each_room_fails(rt: &impl Abort, alloc: Global, run: &Undisturbed) -> Result<(), Fail> {
+/// Returns the first such call of the source, of the capture sink or of the report sink.
+fn first_other_of_each(
+    alloc: Global,
+    run: &Undisturbed,
+    piece: usize,
+) -> Result<Option<usize>, Fail> {
+    for end in [End::Source, End::Capture, End::Report] {
+        let other = first_other_call(alloc, run, end, piece)?;
+        if other.is_some() {
+            return Ok(other);
+        }
+    }
+    Ok(None)
+}
+
+/// Returns the first capacity of the capture sink, from 0 to 200 octets, that does not end a run as expected.
+fn first_other_room(alloc: Global, run: &Undisturbed) -> Result<Option<usize>, Fail> {
     for room in 0..=200usize {
         let disturbance = Disturbance {
             piece: 65536,
             failing: NONE,
             room,
         };
-        let disturbed = disturbed_run(alloc, run, disturbance)?;
-        assert!(rt;
-            leaves(alloc, run, &disturbed, &run.at_capture(room))?,
-            "{room}"
-        );
+        let disturbed = disturbed_run(alloc, run, End::Capture, disturbance)?;
+        let stopped = Disturbed {
+            status: 6,
+            octets: room,
+            is_expected: true,
+        };
+        if disturbed != stopped {
+            return Ok(Some(room));
+        }
     }
-    Ok(())
+    Ok(None)
 }
 
-/// Tests calls of the source that return at most 1, 7 and 65,536 octets in each case.
-fn each_is_given_in_pieces(rt: &impl Abort, alloc: Global, cases: &[Case]) -> Result<(), Fail> {
+/// How runs are disturbed one after another.
+#[derive(Clone, Copy)]
+enum Trial {
+    /// The source returns at most 1, 7 and 65,536 octets a call.
+    Pieces,
+    /// Each call of each object fails, where the source returns at most this many octets a call.
+    Calls(usize),
+    /// The capture sink has each capacity.
+    Rooms,
+}
+
+/// Tries each case, and returns the number of the first disturbance that does not end as expected.
+fn first_other(alloc: Global, cases: &[Case], trial: Trial) -> Result<Option<usize>, Fail> {
     for case in cases {
         let run = undisturbed_run(alloc, case)?;
-        pieces_change_nothing(rt, alloc, &run, 1)?;
-        pieces_change_nothing(rt, alloc, &run, 7)?;
-        pieces_change_nothing(rt, alloc, &run, 65536)?;
+        let other = match trial {
+            Trial::Pieces => first_other_piece(alloc, &run)?,
+            Trial::Calls(piece) => first_other_of_each(alloc, &run, piece)?,
+            Trial::Rooms => first_other_room(alloc, &run)?,
+        };
+        if other.is_some() {
+            return Ok(other);
+        }
     }
-    Ok(())
+    Ok(None)
 }
 
 #[test]
 fn pieces_of_any_length_give_the_same_outputs(rt: HostRuntime) -> Result<(), Fail> {
-    each_is_given_in_pieces(&rt, rt.alloc(), CONNECTION)?;
-    each_is_given_in_pieces(&rt, rt.alloc(), OTHERS)
-}
-
-/// Fails each call of each object in each case.
-fn each_end_fails(rt: &impl Abort, alloc: Global, cases: &[Case], piece: usize) -> Result<(), Fail>
-    requires { 0 < piece }
-{
-    for case in cases {
-        let run = undisturbed_run(alloc, case)?;
-        each_call_fails(rt, alloc, &run, End::Source, piece)?;
-        each_call_fails(rt, alloc, &run, End::Capture, piece)?;
-        each_call_fails(rt, alloc, &run, End::Report, piece)?;
-    }
+    assert_eq!(rt; first_other(rt.alloc(), CONNECTION, Trial::Pieces)?, None);
+    assert_eq!(rt; first_other(rt.alloc(), OTHERS, Trial::Pieces)?, None);
     Ok(())
 }
 
 #[test]
 fn each_call_that_fails_stops_a_run(rt: HostRuntime) -> Result<(), Fail> {
-    each_end_fails(&rt, rt.alloc(), CONNECTION, 1)?;
-    each_end_fails(&rt, rt.alloc(), CONNECTION, 7)?;
-    each_end_fails(&rt, rt.alloc(), CONNECTION, 65536)
+    for piece in [1, 7, 65536] {
+        assert_eq!(rt;
+            first_other(rt.alloc(), CONNECTION, Trial::Calls(piece))?,
+            None
+        );
+    }
+    Ok(())
 }
 
 #[test]
 fn each_call_that_fails_stops_a_run_with_options(rt: HostRuntime) -> Result<(), Fail> {
-    each_end_fails(&rt, rt.alloc(), OTHERS, 65536)
-}
-
-/// Tests the capacities of a capture sink in each case.
-fn each_is_without_room(rt: &impl Abort, alloc: Global, cases: &[Case]) -> Result<(), Fail> {
-    for case in cases {
-        let run = undisturbed_run(alloc, case)?;
-        each_room_fails(rt, alloc, &run)?;
-    }
+    assert_eq!(rt; first_other(rt.alloc(), OTHERS, Trial::Calls(65536))?, None);
     Ok(())
 }
 
 #[test]
 fn a_full_capture_sink_stops_a_run(rt: HostRuntime) -> Result<(), Fail> {
-    each_is_without_room(&rt, rt.alloc(), CONNECTION)?;
-    each_is_without_room(&rt, rt.alloc(), OTHERS)
+    assert_eq!(rt; first_other(rt.alloc(), CONNECTION, Trial::Rooms)?, None);
+    assert_eq!(rt; first_other(rt.alloc(), OTHERS, Trial::Rooms)?, None);
+    Ok(())
 }
 
-/// Test cases in which the `stop` line fails: the size of a capture, the call of the report that fails, and the report.
-const STOP_LINES: &[(usize, u32, &str)] = &[
-    (0, 2, "norm 2\n"),
-    (23, 2, "norm 2\n"),
-    (39, 2, "norm 2\n"),
-    (115, 3, "norm 2\n1 in pass 1\n"),
+/// Test cases in which the `stop` line fails: the size of a capture, the call of the report that fails, the report, and
+/// the number of octets written.
+const STOP_LINES: &[(usize, u32, &str, usize)] = &[
+    (0, 2, "norm 2\n", 0),
+    (23, 2, "norm 2\n", 0),
+    (39, 2, "norm 2\n", 24),
+    (115, 3, "norm 2\n1 in pass 1\n", 70),
 ];
 
-/// Tests captures of each size, which end inside the file header or a record.
-fn each_is_cut(rt: &impl Abort, alloc: Global, rows: &[(usize, u32, &str)]) -> Result<(), Fail> {
-    for (size, call, report) in rows {
-        let mut file = capture_file(alloc, "", 2, "")?;
-        file.truncate(*size);
-        let ended = ended_run(alloc, WORDS, &file, 7, (0, 0, *call))?;
-        assert_eq!(rt; ended.status, 4, "{size}");
-        assert_eq!(rt; ended.report.held(), report.as_bytes(), "{size}");
+/// Returns the index of the first capture, which ends inside the file header or a record, whose run ends otherwise.
+fn first_other_cut(
+    alloc: Global,
+    rows: &[(usize, u32, &str, usize)],
+) -> Result<Option<usize>, Fail> {
+    let file = capture_file(alloc, "", 2, "")?;
+    for (index, (size, call, report, written)) in rows.iter().enumerate() {
+        let outcome = Outcome {
+            status: 4,
+            report: &[*report],
+            capture: file.get(..*written).unwrap_or(&[]),
+        };
+        let file = file.get(..*size).unwrap_or(&[]);
+        if !ends(alloc, WORDS, file, 7, (0, 0, *call), &outcome)? {
+            return Ok(Some(index));
+        }
     }
-    Ok(())
+    Ok(None)
 }
 
 #[test]
 fn a_fault_of_the_stop_line_changes_no_status(rt: HostRuntime) -> Result<(), Fail> {
-    each_is_cut(&rt, rt.alloc(), STOP_LINES)
+    assert_eq!(rt; first_other_cut(rt.alloc(), STOP_LINES)?, None);
+    Ok(())
+}
+
+/// Returns the status of a run over an empty source, whose sinks fail at each flush.
+fn stuck_status(alloc: Global) -> Result<u8, Fail> {
+    let words = line(alloc, WORDS)?;
+    let mut source = source_of(alloc, &[], 7, 0)?;
+    let mut capture = Stuck { faults: 0 };
+    let mut report = Stuck { faults: 0 };
+    Ok(run(alloc, &words, &mut source, &mut capture, &mut report))
 }
 
 #[test]
 fn a_fault_of_a_flush_after_the_stop_changes_no_status(rt: HostRuntime) -> Result<(), Fail> {
-    let words = line(rt.alloc(), WORDS)?;
-    let empty = Vec::new(rt.alloc());
-    let mut source = MemSource::new(empty, 7, only(rt.alloc(), 0)?);
-    let mut capture = Stuck { faults: 0 };
-    let mut report = Stuck { faults: 0 };
-    let status = run(rt.alloc(), &words, &mut source, &mut capture, &mut report);
-    assert_eq!(rt; status, 4);
+    assert_eq!(rt; stuck_status(rt.alloc())?, 4);
     Ok(())
 }

@@ -6,7 +6,6 @@ use run_rows::notation::add_octets;
 use run_rows::packets::add_inward;
 use run_rows::rows::{NOTHING, OPENED, Row, SEEDS, holds};
 use std::alloc::Global;
-use std::process::Abort;
 use std::test::Fail;
 
 /// A run, and the streams that receivers deliver of the first connection: the offset of the first octet, the octets if
@@ -209,34 +208,45 @@ fn tells(alloc: Global, packets: &[Vec<u8>], stream: &str) -> Result<bool, Fail>
     Ok(true)
 }
 
-/// Tests the run of each case with each seed.
-fn each_holds(rt: &impl Abort, alloc: Global, cases: &[Case]) -> Result<(), Fail> {
-    for case in cases {
-        let packets = case.row.packets;
-        for seed in SEEDS {
-            assert!(rt; holds(alloc, &case.row, seed)?, "{packets} {seed}");
+/// Returns whether all receivers deliver each stream of a case.
+fn tells_each(alloc: Global, packets: &[Vec<u8>], streams: &str) -> Result<bool, Fail> {
+    for stream in streams.split(';') {
+        if !tells(alloc, packets, stream.trim())? {
+            return Ok(false);
         }
     }
-    Ok(())
+    Ok(true)
 }
 
-/// Tests the streams of each case.
-fn each_is_delivered(rt: &impl Abort, alloc: Global, cases: &[Case]) -> Result<(), Fail> {
-    for case in cases {
-        let packets = inward_of(alloc, &case.row)?;
-        for stream in case.streams.split(';') {
-            assert!(rt; tells(alloc, &packets, stream.trim())?, "{stream}");
+/// Returns the index of the first case that does not hold with each seed.
+fn first_other(alloc: Global, cases: &[Case]) -> Result<Option<usize>, Fail> {
+    for (index, case) in cases.iter().enumerate() {
+        if !holds(alloc, &case.row, SEEDS[0])? || !holds(alloc, &case.row, SEEDS[1])? {
+            return Ok(Some(index));
         }
     }
-    Ok(())
+    Ok(None)
+}
+
+/// Returns the index of the first case of which a stream is delivered otherwise.
+fn first_undelivered(alloc: Global, cases: &[Case]) -> Result<Option<usize>, Fail> {
+    for (index, case) in cases.iter().enumerate() {
+        let packets = inward_of(alloc, &case.row)?;
+        if !tells_each(alloc, &packets, case.streams)? {
+            return Ok(Some(index));
+        }
+    }
+    Ok(None)
 }
 
 #[test]
 fn evasions_are_normalized(rt: HostRuntime) -> Result<(), Fail> {
-    each_holds(&rt, rt.alloc(), CASES)
+    assert_eq!(rt; first_other(rt.alloc(), CASES)?, None);
+    Ok(())
 }
 
 #[test]
 fn receivers_agree_on_evasions(rt: HostRuntime) -> Result<(), Fail> {
-    each_is_delivered(&rt, rt.alloc(), CASES)
+    assert_eq!(rt; first_undelivered(rt.alloc(), CASES)?, None);
+    Ok(())
 }

@@ -1,8 +1,5 @@
 //! Whole runs over connections: worked captures with the whole report and all output packets.
-use super::each_holds;
-use crate::rows::{Before, NOTHING, OPENED, REQUEST, Row, is_spelled};
-use std::alloc::Global;
-use std::process::Abort;
+use run_rows::rows::{Before, NOTHING, OPENED, REQUEST, Row, first_misspelled, first_other};
 use std::test::Fail;
 
 /// An outside host opens a connection, and the inside host offers a window of four octets.
@@ -98,7 +95,8 @@ const ROWS: &[Row] = &[
 
 #[test]
 fn connections_are_normalized(rt: HostRuntime) -> Result<(), Fail> {
-    each_holds(&rt, rt.alloc(), ROWS)
+    assert_eq!(rt; first_other(rt.alloc(), ROWS)?, None);
+    Ok(())
 }
 
 /// Packets and their octets: a SYN, a UDP message with three TTLs, a segment with four octets and its differing
@@ -114,15 +112,8 @@ const SPELLED: &[(&str, &str)] = &[
     ("> A 999,5001", "0x450000280001000040064694c63364070a000001+0x9c400050000003e70000138950102000a7980000"),
 ];
 
-/// Tests that each packet has its octets.
-fn each_is_spelled(rt: &impl Abort, alloc: Global, rows: &[(&str, &str)]) -> Result<(), Fail> {
-    for (packet, octets) in rows {
-        assert!(rt; is_spelled(alloc, packet, octets)?, "{packet}");
-    }
-    Ok(())
-}
-
 #[test]
 fn packets_are_made_by_their_formats(rt: HostRuntime) -> Result<(), Fail> {
-    each_is_spelled(&rt, rt.alloc(), SPELLED)
+    assert_eq!(rt; first_misspelled(rt.alloc(), SPELLED)?, None);
+    Ok(())
 }
