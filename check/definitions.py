@@ -41,7 +41,7 @@ class Module:
         self.key = f"Rattle.{crate}.specs.{os.path.splitext(os.path.basename(path))[0]}"
         self.own, self.taken, self.aliases = {}, {}, {}
         with open(os.path.join(TOP, path), encoding="utf-8") as file:
-            self.read(file.read().split("\n"))
+            self.read(unindented(file.read().split("\n")))
 
     def read(self, lines):
         comment = []
@@ -64,6 +64,16 @@ class Module:
                 read_use(line, self.taken, self.aliases)
                 comment = []
             at += 1
+
+
+def unindented(lines):
+    """Returns the lines with those inside of `module _ .. where` moved to the left margin."""
+    inside, moved = False, []
+    for line in lines:
+        if line and not line.startswith(" "):
+            inside = line.startswith("module _")
+        moved.append(line.removeprefix("  ") if inside else line)
+    return moved
 
 
 def end_of(lines, at):

@@ -1,14 +1,15 @@
-"""Makes the three files of a view and its words from a number: those of a run, most of them changed in a place, or of frames that no run wrote."""
+"""Makes the three files of a view and its words from a number: those of a run, without or with both sides protected, or of frames that no run wrote; many of
+them are changed in a place."""
 
 import random
 
 from makers.audits import changed_capture, changed_report
-from makers.files import make_capture, make_pcapng
+from makers.files import both_words, make_capture, make_pcapng
 from norm_model.built import WHOLE
 from norm_model.capture import ETHERNET, RAW, read_head, read_records
 from norm_model.formats import ICMP, TCP, UDP, four, two
-from norm_model.packets import INSIDE, OUTSIDE, head, icmp, ipv4, record, segment, tcp, udp
-from norm_model.report import REASONS
+from norm_model.packets import INSIDE, OUTSIDE, capture_of, head, icmp, ipv4, record, segment, tcp, udp
+from norm_model.report import REASONS, first_line
 from norm_model.rule_names import RULES
 from norm_model.run import run
 from norm_model.view_texts import VERDICTS
@@ -144,10 +145,22 @@ def free_pair(rng, link):
 
 # Reports that no run wrote
 
-def free_line(rng, number, packets, version):
+# The rules whose frames norm made.
+MADE_RULES = ["F_DONE", "C_PROBE"]
+
+
+def free_rules(rng, made):
+    """Any rules; those whose frames norm made with this chance each, at any place."""
+    rules = rng.choices(RULES, k=rng.choice([0, 0, 1, 1, 2, 14]))
+    for rule in MADE_RULES:
+        if rng.random() < made:
+            rules.insert(rng.randrange(len(rules) + 1), rule)
+    return rules
+
+
+def free_line(rng, number, packets, version, made):
     """An entry of any words, with this many frames."""
-    words = [str(number), rng.choice(["in", "in", "out", "-"]), rng.choice(VERDICTS), str(packets)]
-    words += rng.choices(RULES, k=rng.choice([0, 0, 1, 1, 2, 16]))
+    words = [str(number), rng.choice(["in", "in", "out", "-"]), rng.choice(VERDICTS), str(packets)] + free_rules(rng, made)
     words += ["@%d" % rng.choice([1, 2, 3, 0, 2**32 - 1])] if rng.random() < 0.6 else []
     words += ["+%d" % rng.choice([1, 2, 3])] if rng.random() < 0.3 else []
     for _ in range(rng.choice([0] * 6 + [1, 2, 4])):
@@ -156,23 +169,33 @@ def free_line(rng, number, packets, version):
     return " ".join(words)
 
 
+def free_report(rng, count):
+    """The lines of a report of one engine or of two, and how many frames each record has in OUT."""
+    version, both = rng.choice([(1, False), (2, False), (2, False), (2, True), (2, True), (2, True)])
+    made = rng.choice([0, 0, 0.1, 0.4])
+    lines, frames, behind = [first_line(version, both)[:-1]], [], 0
+    for number in range(1, count + 1):
+        packets = rng.choice([0, 1, 1, 1, 2, 3])
+        lines.append(free_line(rng, number, packets, version, made))
+        frames.append(0 if both else packets)
+        for behind in range(behind + 1, behind + 1 + packets) if both else []:
+            more = rng.choice([0, 1, 1, 1, 1, 2, 3])
+            lines.append("/" + free_line(rng, behind, more, version, made))
+            frames[-1] += more
+    return lines + ["end %d %d" % (count, sum(frames))], frames
+
+
 def free_view(rng):
     """Records, frames that are changed from them in any way, and a report that names as many of them."""
     order, nano, link = rng.choice(["little", "big"]), rng.random() < 0.5, rng.choice([ETHERNET, RAW])
-    version = rng.choice([1, 2, 2])
     source, written = head(order, nano, link), head(rng.choice([order, order, "big"]), rng.random() < 0.5, link)
-    lines, frames = ["norm %d" % version], 0
-    count = rng.choice([0, 1, 2, 5, 9])
-    for number in range(1, count + 1):
+    written_order = "little" if written[0] in (0xd4, 0x4d) else "big"
+    lines, frames = free_report(rng, rng.choice([0, 1, 2, 5, 9]))
+    for packets in frames:
         octets, frame = free_pair(rng, link)
         source += record(octets, rng.choice([0, 1, 1790000000, 2**32 - 1]), rng.choice([0, 1, 999999, 10**9, 2**32 - 1]), order=order)
-        packets = rng.choice([0, 1, 1, 1, 2, 3])
-        lines.append(free_line(rng, number, packets, version))
         parts = [rng.choice([frame, changed_octets(rng, octets)]) for _ in range(packets)]
-        frames += len(parts)
-        written_order = "little" if written[0] in (0xd4, 0x4d) else "big"
         written += b"".join(record(part, 0, 0, order=written_order) for part in parts)
-    lines.append("end %d %d" % (count, frames))
     return [source, written, "".join(line + "\n" for line in lines).encode()]
 
 
@@ -204,6 +227,47 @@ def more_of_report(rng, text):
         lines[at] = lines[at].replace(" ", "  ", 1) if rng.random() < 0.5 else "0" + lines[at]
     else:
         return text[:-1]
+    return "\n".join(lines)
+
+
+def other_number(rng, line):
+    """The line with another number in front, or with another count of frames."""
+    words = line.split(" ")
+    if rng.random() < 0.3 and len(words) > 3 and words[3].isdigit():
+        words[3] = str(max(0, int(words[3]) + rng.choice([-1, 1])))
+    else:
+        slash, digits = words[0][:1] == "/", words[0].lstrip("/")
+        number = max(0, int(digits) + rng.choice([-1, 1, 1, 2**32])) if digits.isdigit() else 1
+        words[0] = "/" * slash + rng.choice(["%d"] * 4 + ["0%d", " %d", "+%d"]) % number
+    return " ".join(words)
+
+
+def both_faults(rng, text):
+    """Changes of the lines of the second engine; in a report of one engine such a line, or the first line of one of two."""
+    lines = text.split("\n")
+    behind = [at for at, line in enumerate(lines) if line.startswith("/")]
+    if not behind:
+        lines.insert(rng.randrange(len(lines)), rng.choice(["/1 in pass 1", "/1 out drop 0 T_SYN", "/", "/end 0 0"]))
+        lines[0] = rng.choice([lines[0], lines[0], "norm 2 both"])
+        return "\n".join(lines)
+    at, kind = rng.choice([behind[0], behind[-1], rng.choice(behind)]), rng.randrange(8)
+    if kind == 0:
+        lines.pop(at)
+    elif kind == 1:
+        lines.insert(at + 1, rng.choice([lines[at], other_number(rng, lines[at])]))
+    elif kind == 2:
+        lines[at] = other_number(rng, lines[at])
+    elif kind == 3:
+        lines[at] = rng.choice([lines[at - 1], lines[at][1:], "/" + lines[at], lines[1]])
+    elif kind == 4:
+        lines[at:-2] = []
+    elif kind == 5:
+        lines.insert(at, lines[-2])
+    elif kind == 6:
+        lines[0] = rng.choice(["norm 2", "norm 1", "norm 1 both", "norm 2 both ", "norm 2 Both"])
+    else:
+        first = rng.choice([n for n, line in enumerate(lines[:-2]) if line[:1].isdigit()])
+        lines[first] = other_number(rng, lines[first])
     return "\n".join(lines)
 
 
@@ -248,17 +312,27 @@ def with_faults(rng, files, other):
         if at < 2:
             files[at] = changed_file(rng, files[at], other[at])
         else:
-            change = rng.choice([changed_report, more_of_report, more_of_report])
+            change = rng.choice([changed_report, more_of_report, more_of_report, both_faults, both_faults])
             text = files[2].decode("latin-1")
             files[2] = change(rng, text).encode("latin-1") if text.count("\n") > 1 else files[2][:-1]
     return files
 
 
+def refused_files(rng):
+    """What a run leaves whose words are refused: both sides protected beside --mtu or --inside, or twice."""
+    words = ["run"] + rng.choice(both_words(rng)[1:]) + ["IN", "OUT", "10.0.0.0/8"]
+    octets = capture_of([segment("> S 999")])
+    _, written, text = run(words, octets, WHOLE)
+    return [octets, written, text.encode()]
+
+
 def run_files(number, rng):
     """The three files of a run of the model that reads its capture to the end, or of one that stops."""
+    if rng.random() < 0.01:
+        return refused_files(rng)
     make = make_pcapng if rng.random() < 0.2 else make_capture
     for again in range(8):
-        words, octets, _ = make("%s %d" % (number, again), WHOLE)
+        words, octets, _ = make("%s %d" % (number, again), WHOLE, both=0.5)
         if words[:1] != ["run"]:
             continue
         status, written, text = run(words, octets, WHOLE)

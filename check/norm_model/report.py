@@ -1,7 +1,8 @@
 """The text of a report, and a report read back.
 
 Version 1 writes an ended era as `-E:reason`, version 2 as `-E:reason:N` with the number of its octets. With both sides protected
-the first line says so, and a line that begins with `/` is of a frame in the second engine. Such a report is not read back.
+the first line says so, and a line that begins with `/` is of a frame in the second engine. The audit refuses such a report; the view
+reads its lines.
 """
 
 import re

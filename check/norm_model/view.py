@@ -1,6 +1,7 @@
 """A view of a finished run: the capture that it read, the capture that it wrote, and its report, explained record by record.
 
-The three files are read in step: their heads, then for each line of the report its record and its frames.
+The three files are read in step: their heads, then for each line of the report its record and its frames. In a report of a run with
+both sides protected the frames are those of the second engine's lines, which follow the line of their record.
 """
 
 from types import SimpleNamespace
@@ -9,7 +10,7 @@ from norm_model.capture import read_head, read_records
 from norm_model.report import first_line, read_end, read_entry
 from norm_model.rule_names import RULES
 from norm_model.run import STATUS, read_input
-from norm_model.view_fields import changes_of, flow_of, length_of
+from norm_model.view_fields import changes_of, flow_of, length_of, made_change
 from norm_model.view_texts import VERDICTS, era_json, era_text, record_json, record_text, summary_text
 from norm_model.words import read_number, take_option
 
@@ -130,26 +131,26 @@ def open_output(octets, link):
 
 
 def open_report(octets):
-    """The lines behind the first one, and the version. That of a run with both sides protected is refused."""
+    """The lines behind the first one, the version, and whether the second engine has lines among them."""
     lines = Lines(octets_of(octets))
     first = lines.next() + "\n"
-    for version in (1, 2):
-        if first == first_line(version):
-            return lines, version
+    for version, both in ((1, False), (2, False), (2, True)):
+        if first == first_line(version, both):
+            return lines, version, both
     raise lines.fault()
 
 
 def open_files(files):
     source = open_input(files[0])
     written = open_output(files[1], source.head.link)
-    lines, version = open_report(files[2])
-    return SimpleNamespace(source=source, written=written, lines=lines, version=version, link=source.head.link)
+    lines, version, both = open_report(files[2])
+    return SimpleNamespace(source=source, written=written, lines=lines, version=version, both=both, link=source.head.link, behind=0)
 
 
-# The items, one for each record
+# The items, one for each line
 
 def items_of(run):
-    """The item of each record. Then all three files are at their end."""
+    """The item of each line, as soon as the line is read with its record and its frames. Then all three files are at their end."""
     records = 0
     while True:
         line = run.lines.next()
@@ -158,7 +159,7 @@ def items_of(run):
             need_ends(run, records, counts)
             return
         records += 1
-        yield need_item(run, need_entry(run, line, records))
+        yield from items_of_record(run, need_entry(run, line, records))
 
 
 def need_entry(run, line, number):
@@ -166,6 +167,22 @@ def need_entry(run, line, number):
     if entry is None or entry.number != number:
         raise run.lines.fault()
     return entry
+
+
+def need_behind(run):
+    """The entry of the second engine's next line; the numbers of these lines go over the whole run."""
+    line = run.lines.next()
+    run.behind += 1
+    if not line.startswith("/"):
+        raise run.lines.fault()
+    return need_entry(run, line[1:], run.behind)
+
+
+def need_record(run, number):
+    record = run.source.next()
+    if record is None:
+        raise Ended(1, "no record %d" % number)
+    return record
 
 
 def need_frames(run, count):
@@ -178,23 +195,60 @@ def need_frames(run, count):
     return frames
 
 
-def need_item(run, entry):
-    record = run.source.next()
-    if record is None:
-        raise Ended(1, "no record %d" % entry.number)
-    return item_of(run, entry, record, need_frames(run, entry.packets))
+def items_of_record(run, entry):
+    """That of its own line, and with both sides protected those of its frames in the second engine."""
+    record = need_record(run, entry.number)
+    if not run.both:
+        yield with_frames(run, new_item(run, "first", entry, record), kinds_of(entry))
+        return
+    first = new_item(run, "first", entry, record)
+    yield first
+    for left in reversed(range(entry.packets)):
+        behind = need_behind(run)
+        second = with_frames(run, new_item(run, "second", behind, record, entry.number), kinds_behind(entry, left == 0, behind))
+        first.written += second.frames
+        yield second
 
 
 def time_of(head, record):
     return record.seconds * 10**9 + record.fraction * (1 if head.nano else 1000)
 
 
-def item_of(run, entry, record, frames):
-    changes = [change for n, frame in enumerate(frames, 1) for change in changes_of(run.link, record.octets, frame, n)]
-    return SimpleNamespace(number=entry.number, entry=entry, time=time_of(run.source.head, record), frames=frames,
-                           flow=flow_of(run.link, record.octets), length=length_of(run.link, record.octets), changes=changes,
+def new_item(run, by, entry, record, number=None):
+    """The item of a line of this engine, without frames. `written`: the frames in OUT that this record, or frame of the first engine, led to."""
+    return SimpleNamespace(by=by, number=number or entry.number, entry=entry, time=time_of(run.source.head, record), frames=[], written=[],
+                           flow=flow_of(run.link, record.octets), length=length_of(run.link, record.octets), changes=[],
                            record=record.octets)
 
+
+def with_frames(run, item, kinds):
+    """The same with the frames that its line counts, and their changes."""
+    item.frames = item.written = need_frames(run, item.entry.packets)
+    for number, (kind, frame) in enumerate(zip(kinds, item.frames), 1):
+        item.changes += changes_of(run.link, item.record, frame, number) if kind is None else [made_change(run.link, frame, number, kind)]
+    return item
+
+
+# Frames that are no form of their record
+
+def kinds_of(entry):
+    """For each frame of this line whether norm made it: a probe, a datagram, or None for a form of the record.
+
+    Each frame of a dropped record is a probe, also under a rule that sends one without C_PROBE.
+    """
+    rest = "datagram" if "F_DONE" in entry.rules else None
+    return ["probe" if entry.verdict == "drop" or ("C_PROBE" in entry.rules and n == entry.packets) else rest
+            for n in range(1, entry.packets + 1)]
+
+
+def kinds_behind(first, is_last, entry):
+    """The same of a line of the second engine: the first one may have made what it reads. `is_last`: it is the last line of its record."""
+    if first.verdict == "drop" or ("C_PROBE" in first.rules and is_last):
+        return ["probe"] * entry.packets
+    return [kind or ("datagram" if "F_DONE" in first.rules else None) for kind in kinds_of(entry)]
+
+
+# The end
 
 def need_ends(run, records, counts):
     if counts != (records, run.written.taken):
@@ -209,12 +263,16 @@ def need_ends(run, records, counts):
 # The eras
 
 def eras_of(run, items):
-    """The eras that the items name, in the order in which they are first named."""
+    """The eras of the first engine in the order in which its lines first name them, then those of the second."""
+    return [era for by in ("first", "second") for era in eras_by(run, by, [item for item in items if item.by == by])]
+
+
+def eras_by(run, by, items):
     eras = {}
     for item in items:
         for number in [item.entry.era, item.entry.begun] + [ended.era for ended in item.entry.ended]:
             if number is not None:
-                eras.setdefault(number, new_era(number))
+                eras.setdefault(number, new_era(by, number))
         if item.entry.era is not None:
             add_to_era(run, eras[item.entry.era], item)
         if item.entry.begun is not None:
@@ -224,8 +282,8 @@ def eras_of(run, items):
     return list(eras.values())
 
 
-def new_era(number):
-    return SimpleNamespace(number=number, flow=None, first=0, last=0, records=0, octets=0, end="live", rules=[])
+def new_era(by, number):
+    return SimpleNamespace(by=by, number=number, flow=None, first=0, last=0, records=0, octets=0, end="live", rules=[])
 
 
 def add_to_era(run, era, item):
@@ -234,7 +292,7 @@ def add_to_era(run, era, item):
     era.records += 1
     era.rules += [rule for rule in dict.fromkeys(item.entry.rules) if rule not in era.rules]
     if item.entry.side == "in":
-        era.octets += sum(length_of(run.link, frame) for frame in item.frames if has_tcp(run.link, frame))
+        era.octets += sum(length_of(run.link, frame) for frame in item.written if has_tcp(run.link, frame))
 
 
 def has_tcp(link, frame):
@@ -283,5 +341,5 @@ def add_lines(asked, files, lines):
         return
     eras = eras_of(run, items)
     if not asked.json:
-        lines.append(summary_text(items, eras))
+        lines.append(summary_text(items, eras, run.both))
     lines += [(era_json if asked.json else era_text)(era) for era in eras]

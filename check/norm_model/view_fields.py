@@ -20,6 +20,9 @@ ADDRESSES = ("source", "destination")
 
 LETTERS = [("S", SYN), ("F", FIN), ("R", RST), ("P", PSH), ("A", ACK), ("U", URG), ("E", ECE), ("C", CWR)]
 
+# The frames that are no form of a record; these words are used in place of a field's name.
+MADE = ("probe", "datagram")
+
 PROTOCOLS = {ICMP: "icmp", TCP: "tcp", UDP: "udp"}
 
 
@@ -140,6 +143,11 @@ def changes_of(link, record, frame, number):
             changes.append(SimpleNamespace(frame=number, field=field, before=value_text(field, ours.get(field)),
                                            after=value_text(field, theirs.get(field))))
     return changes
+
+
+def made_change(link, frame, number, kind):
+    """The one change of a frame that norm made itself: which kind it is, and what its headers say."""
+    return SimpleNamespace(frame=number, field=kind, flow=flow_of(link, frame), length=length_of(link, frame))
 
 
 def cut_in_front(ours, theirs):

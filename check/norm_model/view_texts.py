@@ -4,7 +4,7 @@ import json
 from datetime import datetime, timedelta
 
 from norm_model.sentences import SENTENCES
-from norm_model.view_fields import address_text, flags_text, protocol_text
+from norm_model.view_fields import MADE, address_text, flags_text, protocol_text
 
 ENDS = ("live", "reset", "evicted", "idle", "reopened")
 
@@ -33,18 +33,27 @@ def ends_text(flow):
     return "%s > %s" % (end_text(flow.src, flow.sport), end_text(flow.dst, flow.dport))
 
 
-def flow_text(flow):
-    if flow is None:
-        return "- > - -"
-    text = "%s %s" % (ends_text(flow), protocol_text(flow.protocol))
+def marks_text(flow):
+    """The protocol, and of TCP the flags and the numbers."""
+    text = protocol_text(flow.protocol)
     if flow.flags is None:
         return text
     return text + " %s seq %d ack %d" % (flags_text(flow.flags), flow.seq, flow.ack)
 
 
+def flow_text(flow):
+    return "- > - -" if flow is None else "%s %s" % (ends_text(flow), marks_text(flow))
+
+
 # A record
 
+def made_text(change):
+    return change.field + ("" if change.flow is None else " " + marks_text(change.flow)) + " len %d" % change.length
+
+
 def change_text(change):
+    if change.field in MADE:
+        return made_text(change)
     if change.field != "payload":
         return "%s %s > %s" % (change.field, change.before or "-", change.after or "-")
     text = "payload"
@@ -60,11 +69,16 @@ def changes_text(changes):
     return text
 
 
+def number_text(item):
+    """The record's number; of a line of the second engine behind it the number of the frame that it read."""
+    return str(item.number) if item.by == "first" else "%d/%d" % (item.number, item.entry.number)
+
+
 def record_text(item):
     entry = item.entry
-    words = [str(item.number), time_text(item.time), entry.side, flow_text(item.flow), "len %d" % item.length, entry.verdict]
+    words = [number_text(item), time_text(item.time), entry.side, flow_text(item.flow), "len %d" % item.length, entry.verdict]
     words += [] if entry.era is None else ["era %d" % entry.era]
-    words += [rule_text(rule) for rule in entry.rules] + ["frames %d" % len(item.frames)]
+    words += [rule_text(rule) for rule in entry.rules] + ["frames %d" % entry.packets]
     return " ".join(words) + changes_text(item.changes) + "\n"
 
 
@@ -78,8 +92,8 @@ def ends_values(flow):
     return {"src_ip": address_text(flow.src), "src_port": flow.sport, "dest_ip": address_text(flow.dst), "dest_port": flow.dport}
 
 
-def flow_values(flow):
-    values = dict(ends_values(flow), proto=None, flags=None, seq=None, ack=None)
+def marks_values(flow):
+    values = {"proto": None, "flags": None, "seq": None, "ack": None}
     if flow is not None:
         values["proto"] = protocol_text(flow.protocol)
     if flow is not None and flow.flags is not None:
@@ -88,6 +102,8 @@ def flow_values(flow):
 
 
 def change_values(change):
+    if change.field in MADE:
+        return dict(marks_values(change.flow), frame=change.frame, field=change.field, len=change.length)
     if change.field != "payload":
         return {"frame": change.frame, "field": change.field, "from": change.before, "to": change.after}
     replaced = [{"at": run.at, "from": run.before.hex(), "to": run.after.hex()} for run in change.replaced]
@@ -98,38 +114,41 @@ def change_values(change):
 def record_json(item):
     entry = item.entry
     return json_line(dict(
-        flow_values(item.flow), event="record", record=item.number, by="first", number=entry.number,
+        ends_values(item.flow), **marks_values(item.flow), event="record", record=item.number, by=item.by, number=entry.number,
         time=time_text(item.time), side=None if entry.side == "-" else entry.side, length=item.length,
         verdict=entry.verdict, rules=entry.rules, era=entry.era, begun=entry.begun,
         ended=[{"era": ended.era, "reason": ended.reason} for ended in entry.ended],
-        frames=len(item.frames), changes=[change_values(change) for change in item.changes],
+        frames=entry.packets, changes=[change_values(change) for change in item.changes],
     ))
 
 
 # An era
 
 def era_text(era):
-    words = ["era %d" % era.number, ends_text(era.flow), time_text(era.first), time_text(era.last)]
+    words = ["era %d" % era.number if era.by == "first" else "era second %d" % era.number, ends_text(era.flow), time_text(era.first), time_text(era.last)]
     return " ".join(words + ["records %d" % era.records, "octets %d" % era.octets, era.end] + era.rules) + "\n"
 
 
 def era_json(era):
     return json_line(dict(
-        ends_values(era.flow), event="era", era=era.number, by="first", first=time_text(era.first),
+        ends_values(era.flow), event="era", era=era.number, by=era.by, first=time_text(era.first),
         last=time_text(era.last), records=era.records, octets=era.octets, end=era.end, rules=era.rules,
     ))
 
 
 # The summary
 
-def side_line(items, side):
-    verdicts = [item.entry.verdict for item in items if item.entry.side == side]
-    return side + "".join(" %s %d" % (verdict, verdicts.count(verdict)) for verdict in VERDICTS) + "\n"
+def side_lines(items, by, lead):
+    """How many lines of this engine have each side and verdict."""
+    found = [(item.entry.side, item.entry.verdict) for item in items if item.by == by]
+    counts = {side: "".join(" %s %d" % (verdict, found.count((side, verdict))) for verdict in VERDICTS) for side in SIDES}
+    return "".join(lead + side + counts[side] + "\n" for side in SIDES)
 
 
-def summary_text(items, eras):
-    """`items` are those of all lines of the report, and `eras` those that are named in it."""
-    text = "records %d\n" % len(items) + "".join(side_line(items, side) for side in SIDES)
+def summary_text(items, eras, both):
+    """`items` are those of all lines of the report, `eras` those that are named in it, and `both` says that it is of two engines."""
+    text = "records %d\n" % sum(item.by == "first" for item in items) + side_lines(items, "first", "")
+    text += side_lines(items, "second", "second ") if both else ""
     text += "frames %d\n" % sum(len(item.frames) for item in items)
     named = [rule for item in items for rule in item.entry.rules]
     for rule in dict.fromkeys(named):
