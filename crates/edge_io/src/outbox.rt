@@ -17,19 +17,21 @@ pub struct Outbox {
 
 impl Model for Outbox {
     ghost use Rattle.std.specs.Prelude.{◌≤◌, ℕ, List, [], ◌∷◌, take, vec_len, vec_capacity};
+    ghost use Rattle.edge_io.specs.declared.outbox.TheConstants.{MAX_FRAME};
 
     ghost Value = { List (List ℕ) };
 
     ghost view = { λ o. take o.begun (o.first.items ∷ o.second.items ∷ []) };
 
     ghost invariant = { λ o. (o.begun ≤ 2)
-        × (vec_len o.first ≤ 65549) × (65549 ≤ vec_capacity o.first)
-        × (vec_len o.second ≤ 65549) × (65549 ≤ vec_capacity o.second) };
+        × (vec_len o.first ≤ MAX_FRAME) × (MAX_FRAME ≤ vec_capacity o.first)
+        × (vec_len o.second ≤ MAX_FRAME) × (MAX_FRAME ≤ vec_capacity o.second) };
 }
 
 impl Outbox {
     ghost use Rattle.std.specs.Prelude.{◌≡◌, ◌+◌, ◌<◌, ◌≤◌, All, [], ◌∷◌, ◌++◌, Some, length, slice_get, IfOk};
     ghost use Rattle.edge_io.specs.Outboxes.{last_frame, extended};
+    ghost use Rattle.edge_io.specs.declared.outbox.TheConstants.{MAX_FRAME};
 
     /// Returns an outbox without frames, with memory for two.
     pub fn open(alloc: Global) -> Result<Outbox, NoMemory>
@@ -67,7 +69,7 @@ impl Outbox {
     /// Appends octets to the last frame.
     pub fn append(&mut self, bytes: &[u8])
         requires begun { 0 < length self.old }
-        requires room { length (last_frame self.old) + length bytes.now ≤ 65549 }
+        requires room { length (last_frame self.old) + length bytes.now ≤ MAX_FRAME }
         ensures { self.new ≡ extended self.old bytes.now }
     {
         if self.begun == 1 {
@@ -89,7 +91,7 @@ impl Outbox {
     pub fn frame(&self, index: usize) -> &[u8]
         requires { index < length self.now }
         ensures octets { slice_get self.now index ≡ Some result.now }
-        ensures short { length result.now ≤ 65549 }
+        ensures short { length result.now ≤ MAX_FRAME }
     {
         if index == 0 {
             &self.first

@@ -3,6 +3,7 @@ use Rattle.std.specs.Prelude.{ℕ, ◌==◌, nat_lt, List, [], length, take, dro
 use Rattle.wire_base.specs.Numbers.{u16_at}
 use Rattle.wire_base.specs.declared.address.Link.{Link}
 use Rattle.wire_base.specs.declared.address.Link.TheVariants.{Ethernet, Raw}
+use Rattle.wire_base.specs.declared.limits.TheConstants.{MAX_LINK}
 use Rattle.wire_base.specs.declared.frame.FrameKind.{FrameKind}
 use Rattle.wire_base.specs.declared.frame.FrameKind.TheVariants.{Ip, Arp, Short, Other}
 
@@ -14,18 +15,18 @@ ethertype frame = u16_at frame 12
 -- always IPv4 at offset 0
 abbrev pub kind_of : Link → List ℕ → FrameKind
 kind_of Ethernet frame =
-    if nat_lt (length frame) 14 then Short
-    else if ethertype frame == 2048 then Ip 14
+    if nat_lt (length frame) MAX_LINK then Short
+    else if ethertype frame == 2048 then Ip MAX_LINK
     else if ethertype frame == 2054 then Arp
     else Other
 kind_of Raw frame = Ip 0
 
 -- the packet of a frame: on Ethernet the octets after the header of 14 octets (RFC 894), on a raw link the whole frame
 abbrev pub packet_in : Link → (frame : List ℕ) → List ℕ
-packet_in Ethernet frame = drop 14 frame
+packet_in Ethernet frame = drop MAX_LINK frame
 packet_in Raw frame = frame
 
 -- the octets of a frame before its packet: on Ethernet the header of 14 octets (RFC 894), on a raw link none
 abbrev pub link_octets : Link → (frame : List ℕ) → List ℕ
-link_octets Ethernet frame = take 14 frame
+link_octets Ethernet frame = take MAX_LINK frame
 link_octets Raw frame = []

@@ -20,7 +20,7 @@ total_length p = u16_at p 2
 abbrev pub identification : List ℕ → ℕ
 identification p = u16_at p 4
 
--- the three flags: reserved, don't fragment, more fragments
+-- the reserved flag is set; below, don't fragment and more fragments
 abbrev pub has_reserved : List ℕ → Bool
 has_reserved p = (slice_index p 6 / 128 % 2) == 1
 
@@ -49,7 +49,7 @@ source p = u32_at p 12
 abbrev pub destination : List ℕ → ℕ
 destination p = u32_at p 16
 
--- the octets of the header, of its options, and of the payload up to the total length
+-- the octets of the header, options included; below, of its options, and of the payload up to the total length
 abbrev pub header : List ℕ → List ℕ
 header p = take (header_length p) p
 

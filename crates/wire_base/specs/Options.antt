@@ -2,6 +2,7 @@
 -- every other option has a length octet that counts the whole option.
 use Rattle.std.specs.Prelude.{ℕ, zero, suc, ◌-◌, ◌==◌, ◌&&◌, ◌||◌, nat_le, nat_lt, not, min, Bool, true, false, List, [], ◌∷◌, ◌++◌, length, take, replicate, slice_index, Option, option_map, if◌then◌else◌}
 use Rattle.std.specs.List.{find, flat_map, list_all, list_any}
+use Rattle.wire_base.specs.declared.limits.TheConstants.{MAX_SHIFT}
 
 -- an option: its kind, its octets as far as the area has them, the kind first, and its offset in the area
 pub record Listed : Type 0 where
@@ -60,12 +61,13 @@ is_route kind = (kind == 131) || (kind == 137)
 abbrev pub has_route : List ℕ → Bool
 has_route area = list_any (λ option. is_route option.kind) (options_of area).options
 
--- a window scale option of length 3, and its shift count, limited to 14 (RFC 7323 section 2)
+-- a window scale option of length 3 (RFC 7323 section 2)
 abbrev pub is_scale : Listed → Bool
 is_scale option = (option.kind == 3) && (size_of option == 3)
 
+-- its shift count, limited to 14 (RFC 7323 section 2.3)
 abbrev pub shift_of : Listed → ℕ
-shift_of option = min 14 (slice_index option.octets 2)
+shift_of option = min MAX_SHIFT (slice_index option.octets 2)
 
 -- the shift count of the first window scale option before the end option
 abbrev pub scale_of : List ℕ → Option ℕ

@@ -41,7 +41,7 @@ pub record IsPlainMessage (p : List ℕ) : Type 0 where
   pub tcp : ip.protocol p ≡ 6 → IsPlainTcp p
   pub udp : ip.protocol p ≡ 17 → IsPlainUdp p
 
--- a packet that is no fragment and ends at its total length, with a header of 20 octets, the reserved flag clear, and a right sum over the header
+-- a packet of version 4 that is no fragment and ends at its total length, with a header of 20 octets, the reserved flag clear, and a right sum over the header
 pub record IsPlainHeader (p : List ℕ) : Type 0 where
   pub whole_header : 20 ≤ length p
   pub version : ip.version p ≡ 4

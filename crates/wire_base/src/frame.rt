@@ -1,11 +1,10 @@
 //! The packet of a frame, by its link and EtherType.
 ghost use Rattle.std.specs.Prelude.{◌≡◌, ◌≤◌, length};
 ghost use Rattle.wire_base.specs.Frames as spec;
+ghost use Rattle.wire_base.specs.declared.limits.TheConstants.{MAX_LINK};
 
+use crate::limits::MAX_LINK;
 use crate::{Link, u16_at};
-
-// Length of an Ethernet II header in octets: two addresses of six, and the EtherType (RFC 894).
-const ETHERNET_HEADER: usize = 14;
 
 // The EtherTypes of IPv4 (RFC 894) and of ARP (RFC 826).
 const IPV4: u16 = 0x0800;
@@ -33,11 +32,11 @@ pub fn frame_kind(link: Link, bytes: &[u8]) -> FrameKind
     if link == Link::Raw {
         return FrameKind::Ip(0);
     }
-    if bytes.len() < ETHERNET_HEADER {
+    if bytes.len() < MAX_LINK {
         return FrameKind::Short;
     }
     match u16_at(bytes, 12) {
-        IPV4 => FrameKind::Ip(ETHERNET_HEADER),
+        IPV4 => FrameKind::Ip(MAX_LINK),
         ARP => FrameKind::Arp,
         _ => FrameKind::Other,
     }
@@ -49,7 +48,7 @@ pub fn packet_in(link: Link, frame: &[u8]) -> &[u8]
     ensures { result.now ≡ spec.packet_in link frame.now }
 {
     match link {
-        Link::Ethernet => &frame[frame.len().min(ETHERNET_HEADER)..],
+        Link::Ethernet => &frame[frame.len().min(MAX_LINK)..],
         Link::Raw => frame,
     }
 }
@@ -58,10 +57,10 @@ pub fn packet_in(link: Link, frame: &[u8]) -> &[u8]
 /// frame has, on a raw link none.
 pub fn link_octets(link: Link, frame: &[u8]) -> &[u8]
     ensures octets { result.now ≡ spec.link_octets link frame.now }
-    ensures short { length result.now ≤ 14 }
+    ensures short { length result.now ≤ MAX_LINK }
 {
     match link {
-        Link::Ethernet => &frame[..frame.len().min(ETHERNET_HEADER)],
+        Link::Ethernet => &frame[..frame.len().min(MAX_LINK)],
         Link::Raw => &[],
     }
 }

@@ -7,9 +7,9 @@
 //! pseudo-header. Sequence numbers are counted modulo 2^32 (`sequence_plus`, `sequence_before`,
 //! `sequence_distance`). `frame_kind` returns what a frame carries. A prefix holds an address
 //! exactly by its first bits. `read_prefix` returns the prefix that a text is, or its first fault,
-//! exactly by the grammar. The options of an area are a list that has all its octets, each option
-//! at its offset (`laws`). The definitions of the formats are in `specs/`; every crate above cites
-//! them.
+//! exactly by the grammar; `read_number` returns the number that decimal digits form. The options
+//! of an area are a list that has all its octets, each option at its offset (`laws`). The
+//! definitions of the formats are in `specs/`; every crate above cites them.
 //!
 //! Choices: sums add words of 32 bits in the machine's order and swap the octets of the result once
 //! (RFC 1071 section 2). They are folded after each 65,536 octets, so that zero stays apart from a
@@ -17,9 +17,11 @@
 #![tactic(auto)]
 
 pub mod address;
+mod decimal;
 pub mod flags;
 pub mod frame;
 pub mod laws;
+pub mod limits;
 pub mod number;
 pub mod prefix;
 pub mod protocol;
@@ -27,8 +29,10 @@ pub mod sequence;
 pub mod sums;
 
 pub use address::{Addr, FlowKey, Link, Side};
+pub use decimal::read_number;
 pub use flags::Flags;
 pub use frame::{FrameKind, frame_kind, link_octets, packet_in};
+pub use limits::{MAX_CAPTURED, MAX_FRAME, MAX_LINK, MAX_PACKET, MAX_PAYLOAD, MAX_SHIFT};
 pub use number::{put_u16, put_u32, u16_at, u32_at};
 pub use prefix::{Prefix, PrefixFault, read_prefix};
 pub use sequence::{sequence_before, sequence_distance, sequence_plus};

@@ -1,8 +1,8 @@
 //! Address prefixes and their text.
-ghost use Rattle.std.specs.Prelude.{◌≡◌, ◌≤◌, IfOk, if◌then◌else◌};
+ghost use Rattle.std.specs.Prelude.{◌≡◌, ◌≤◌, IfOk};
 ghost use Rattle.wire_base.specs.Prefixes as spec;
 
-use crate::Addr;
+use crate::{Addr, read_number};
 use thiserror::Error;
 
 /// The addresses whose first `len` bits are those of `addr`; `len` is at most 32.
@@ -44,11 +44,11 @@ pub fn read_prefix(text: &str) -> Result<Prefix, PrefixFault>
     let (second, rest) = split_at_first(rest, b'.');
     let (third, rest) = split_at_first(rest, b'.');
     let (fourth, size) = split_at_first(rest, b'/');
-    let a = read_number(first, 3)?;
-    let b = read_number(second, 3)?;
-    let c = read_number(third, 3)?;
-    let d = read_number(fourth, 3)?;
-    let len = read_number(size, 2)?;
+    let a = read_number(first, 3).ok_or(PrefixFault::Shape)?;
+    let b = read_number(second, 3).ok_or(PrefixFault::Shape)?;
+    let c = read_number(third, 3).ok_or(PrefixFault::Shape)?;
+    let d = read_number(fourth, 3).ok_or(PrefixFault::Shape)?;
+    let len = read_number(size, 2).ok_or(PrefixFault::Shape)?;
     if a > 255 || b > 255 || c > 255 || d > 255 {
         return Err(PrefixFault::Part);
     }
@@ -71,22 +71,4 @@ fn split_at_first(text: &[u8], separator: u8) -> (&[u8], &[u8])
         Some(at) => (&text[..at], &text[at + 1..]),
         None => (text, &[]),
     }
-}
-
-// Parses a number of one to `most` decimal digits.
-fn read_number(text: &[u8], most: usize) -> Result<u32, PrefixFault>
-    requires { most ≤ 3 }
-    ensures exact { result ≡ (if spec.is_number most text.now then Ok (spec.number_of text.now) else Err PrefixFault.Shape) }
-{
-    if text.is_empty() || text.len() > most {
-        return Err(PrefixFault::Shape);
-    }
-    let mut number = 0;
-    for c in text {
-        if !c.is_ascii_digit() {
-            return Err(PrefixFault::Shape);
-        }
-        number = 10 * number + u32::from(*c - b'0');
-    }
-    Ok(number)
 }
