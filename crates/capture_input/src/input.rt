@@ -6,6 +6,7 @@ ghost use Rattle.capture_input.specs.Faults.{has_read_fault, only_fault};
 ghost use Rattle.capture_input.specs.Inputs.{Walk};
 ghost use Rattle.capture_input.specs.Reading.{head_in, asked_in, is_open_in, Behind};
 ghost use Rattle.capture_input.specs.Reads.{Opens, Reads, sideless};
+ghost use Rattle.wire_base.specs.declared.limits.TheConstants.{MAX_CAPTURED};
 
 use crate::opening::{open_classic, open_sections};
 use crate::{InputFault, OpenFault};
@@ -82,7 +83,7 @@ impl Input {
         buf: &'a mut [u8],
     ) -> Result<Option<Record<'a>>, InputFault>
         requires open { is_open_in self.old ≡ true }
-        requires room { 262144 ≤ length buf.old }
+        requires room { MAX_CAPTURED ≤ length buf.old }
         ensures octets { (inside : Option (List ℕ)) (walk : Walk) → Behind self.old inside walk
             → Reads self.old self.new inside walk (S.left source.old) (S.left source.new) result }
         ensures sideless { (walk : Walk) → Behind self.old None walk → IfOk result (λ given. IfSome given (λ r. r.side ≡ None)) }

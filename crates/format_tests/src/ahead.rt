@@ -1,12 +1,13 @@
 //! A classic file whose first octets were read before.
 ghost use Rattle.std.specs.Prelude.{◌≡◌, ◌≤◌, true, length};
+ghost use Rattle.wire_base.specs.declared.limits.TheConstants.{MAX_CAPTURED};
 
 use crate::pcapng::{DATAGRAM, is_packet, joined};
 use edge_io::MemSource;
 use pcap_file::{Head, Order, Reader, read_head};
 use pcapng_file::Ahead;
 use std::alloc::{AllocError, Global};
-use wire_base::Link;
+use wire_base::{Link, MAX_CAPTURED};
 
 // The head of a classic file: least significant octet first, microseconds, raw IP.
 const CLASSIC: [u8; 24] = [
@@ -20,7 +21,7 @@ const RECORD: [u8; 16] = [3, 0, 0, 0, 4, 0, 0, 0, 30, 0, 0, 0, 30, 0, 0, 0];
 // follows.
 fn is_datagram_alone(reader: &mut Reader, source: &mut Ahead<'_, MemSource>, buf: &mut [u8]) -> bool
     requires open { reader.old.is_open ≡ true }
-    requires room { 262144 ≤ length buf.old }
+    requires room { MAX_CAPTURED ≤ length buf.old }
 {
     match reader.next(source, buf) {
         Ok(Some(record)) => {
@@ -35,7 +36,7 @@ fn is_datagram_alone(reader: &mut Reader, source: &mut Ahead<'_, MemSource>, buf
 
 // Returns the head of a classic file, and whether the datagram is the only record after it.
 fn classic_behind(source: &mut Ahead<'_, MemSource>, buf: &mut [u8]) -> Option<(Head, bool)>
-    requires { 262144 ≤ length buf.old }
+    requires { MAX_CAPTURED ≤ length buf.old }
 {
     let head = read_head(source).ok()?;
     let mut reader = Reader::new(head);
@@ -48,7 +49,7 @@ fn classic_reading(
     first: &[u8],
     rest: &[u8],
 ) -> Result<Option<(Head, bool)>, AllocError> {
-    let mut buf = vec![in alloc; 0u8; 262144]?;
+    let mut buf = vec![in alloc; 0u8; MAX_CAPTURED as usize]?;
     let rest = Vec::from_slice(alloc, rest)?;
     let mut source = MemSource::new(rest, 7, Vec::new(alloc));
     Ok(classic_behind(&mut Ahead::new(first, &mut source), &mut buf))

@@ -1,13 +1,14 @@
 //! Captures of both kinds, read in parts.
 ghost use Rattle.std.specs.Prelude.{◌≡◌, ◌≤◌, true, length};
 ghost use Rattle.capture_input.specs.Reading.{is_open_in};
+ghost use Rattle.wire_base.specs.declared.limits.TheConstants.{MAX_CAPTURED};
 
 use crate::pcapng::joined;
 use capture_input::{Input, InputFault};
 use edge_io::{MemSource, Source};
 use pcap_file::Order;
 use std::alloc::{AllocError, Global};
-use wire_base::{Link, Side};
+use wire_base::{Link, MAX_CAPTURED, Side};
 
 // A section, least significant octet first, with the interfaces `in` and `ex`, both of raw IP.
 const SECTION: [u8; 92] = [
@@ -65,7 +66,7 @@ fn next_of(
     buf: &mut [u8],
 ) -> Result<Option<Found>, InputFault>
     requires open { is_open_in input.old ≡ true }
-    requires room { 262144 ≤ length buf.old }
+    requires room { MAX_CAPTURED ≤ length buf.old }
 {
     match input.next(source, buf)? {
         Some(record) => Ok(Some(Found {
@@ -87,7 +88,7 @@ fn are_read(
     wanted: &[Found],
     outcome: &mut Outcome,
 ) -> bool
-    requires { 262144 ≤ length buf.old }
+    requires { MAX_CAPTURED ≤ length buf.old }
 {
     let mut count = 0usize;
     for _ in 0..4 {
@@ -112,7 +113,7 @@ fn outcome_of(
     buf: &mut [u8],
     wanted: &[Found],
 ) -> Option<Outcome>
-    requires { 262144 ≤ length buf.old }
+    requires { MAX_CAPTURED ≤ length buf.old }
 {
     if inside.is_some_and(|name| name.len() > 64) {
         return None;
@@ -278,7 +279,7 @@ fn octets_of(alloc: Global, row: &Row) -> Result<Option<Vec<u8>>, AllocError> {
 
 // Returns whether a capture is read so, in parts of `piece` octets.
 fn is_read(alloc: Global, row: &Row, piece: usize) -> Result<bool, AllocError> {
-    let mut buf = vec![in alloc; 0u8; 262144]?;
+    let mut buf = vec![in alloc; 0u8; MAX_CAPTURED as usize]?;
     let Some(octets) = octets_of(alloc, row)? else {
         return Ok(false);
     };
@@ -314,7 +315,7 @@ const FAILING: &[(u32, u64)] = &[(1, 0), (2, 0), (9, 28), (24, 60), (26, 92), (3
 
 // Returns the fault of reading a first record, its offset, and the number of faults of the source.
 fn fault_of(source: &mut MemSource, buf: &mut [u8]) -> (Option<InputFault>, u64, u64)
-    requires { 262144 ≤ length buf.old }
+    requires { MAX_CAPTURED ≤ length buf.old }
 {
     match Input::open(None, source) {
         Err(stop) => (Some(stop.fault), stop.offset, source.faults()),
@@ -330,7 +331,7 @@ fn fault_of(source: &mut MemSource, buf: &mut [u8]) -> (Option<InputFault>, u64,
 }
 
 fn failing_at(alloc: Global, call: u32) -> Result<(Option<InputFault>, u64, u64), AllocError> {
-    let mut buf = vec![in alloc; 0u8; 262144]?;
+    let mut buf = vec![in alloc; 0u8; MAX_CAPTURED as usize]?;
     let octets = joined(alloc, &[&SECTION, &PACKET])?;
     let mut source = MemSource::new(octets, 4, vec![in alloc; call]?);
     Ok(fault_of(&mut source, &mut buf))

@@ -1,11 +1,12 @@
 //! Heads and records in both byte orders, from sources that return few octets a call.
 ghost use Rattle.std.specs.Prelude.{◌≤◌, length};
+ghost use Rattle.wire_base.specs.declared.limits.TheConstants.{MAX_CAPTURED};
 
 use crate::pcapng::{Packet, is_packet};
 use edge_io::{Failed, MemSource, Sink, Source};
 use pcap_file::{Head, HeadFault, Order, Reader, RecordFault, read_head, write_head, write_record};
 use std::alloc::{AllocError, Global};
-use wire_base::Link;
+use wire_base::{Link, MAX_CAPTURED};
 
 // A source that returns at most `piece` octets a call.
 #[derive(Drop)]
@@ -289,7 +290,7 @@ fn is_next(
     buf: &mut [u8],
     packet: &Packet<'_>,
 ) -> bool
-    requires { 262144 ≤ length buf.old }
+    requires { MAX_CAPTURED ≤ length buf.old }
 {
     if !reader.is_open() {
         return false;
@@ -302,7 +303,7 @@ fn is_next(
 
 // Returns whether the two records and the fault are read in parts of `piece` octets.
 fn are_read(buf: &mut [u8], piece: usize) -> bool
-    requires { 262144 ≤ length buf.old }
+    requires { MAX_CAPTURED ≤ length buf.old }
 {
     let mut source = Pieces {
         left: RECORDS,
@@ -329,7 +330,7 @@ fn are_read(buf: &mut [u8], piece: usize) -> bool
 
 // Returns the first number of octets a call with which they are not.
 fn first_other_piece(alloc: Global) -> Result<Option<usize>, AllocError> {
-    let mut buf = vec![in alloc; 0u8; 262144]?;
+    let mut buf = vec![in alloc; 0u8; MAX_CAPTURED as usize]?;
     for piece in [1, 7, 64] {
         if !are_read(&mut buf, piece) {
             return Ok(Some(piece));

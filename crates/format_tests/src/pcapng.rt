@@ -1,11 +1,12 @@
 //! Worked example files, read in parts, and a file for each fault.
 ghost use Rattle.std.specs.Prelude.{◌≡◌, ◌≤◌, true, length};
+ghost use Rattle.wire_base.specs.declared.limits.TheConstants.{MAX_CAPTURED};
 
 use edge_io::{MemSource, Source};
 use pcap_file::{Order, Record};
 use pcapng_file::{NgFault, NgReader};
 use std::alloc::{AllocError, Global};
-use wire_base::{Link, Side};
+use wire_base::{Link, MAX_CAPTURED, Side};
 
 // A section, least significant octet first.
 const SECTION: [u8; 28] = [
@@ -111,7 +112,7 @@ pub fn joined(alloc: Global, parts: &[&[u8]]) -> Result<Vec<u8>, AllocError> {
 
 fn read_to_end(reader: &mut NgReader, source: &mut MemSource, buf: &mut [u8]) -> Outcome
     requires open { reader.old.is_open ≡ true }
-    requires room { 262144 ≤ length buf.old }
+    requires room { MAX_CAPTURED ≤ length buf.old }
 {
     match reader.next(source, buf) {
         Ok(Some(_)) => {}
@@ -126,7 +127,7 @@ fn read_to_end(reader: &mut NgReader, source: &mut MemSource, buf: &mut [u8]) ->
 }
 
 fn outcome_of(source: &mut MemSource, buf: &mut [u8]) -> Outcome
-    requires { 262144 ≤ length buf.old }
+    requires { MAX_CAPTURED ≤ length buf.old }
 {
     match NgReader::open_behind(None, &[], source) {
         Ok(mut reader) => read_to_end(&mut reader, source, buf),
@@ -135,7 +136,7 @@ fn outcome_of(source: &mut MemSource, buf: &mut [u8]) -> Outcome
 }
 
 fn outcome(alloc: Global, octets: &[u8]) -> Result<Outcome, AllocError> {
-    let mut buf = vec![in alloc; 0u8; 262144]?;
+    let mut buf = vec![in alloc; 0u8; MAX_CAPTURED as usize]?;
     let octets = Vec::from_slice(alloc, octets)?;
     let mut source = MemSource::new(octets, 65536, Vec::new(alloc));
     Ok(outcome_of(&mut source, &mut buf))
@@ -158,7 +159,7 @@ fn is_next(
     buf: &mut [u8],
     packet: &Packet<'_>,
 ) -> bool
-    requires { 262144 ≤ length buf.old }
+    requires { MAX_CAPTURED ≤ length buf.old }
 {
     if !reader.is_open() {
         return false;
@@ -171,7 +172,7 @@ fn is_next(
 
 // Returns whether the reader is open, the end is next, and the reader is closed after it.
 fn ends(reader: &mut NgReader, source: &mut MemSource, buf: &mut [u8]) -> bool
-    requires { 262144 ≤ length buf.old }
+    requires { MAX_CAPTURED ≤ length buf.old }
 {
     reader.is_open() && matches!(reader.next(source, buf), Ok(None)) && !reader.is_open()
 }
@@ -183,7 +184,7 @@ fn are_left(
     buf: &mut [u8],
     packets: &[Packet<'_>],
 ) -> bool
-    requires { 262144 ≤ length buf.old }
+    requires { MAX_CAPTURED ≤ length buf.old }
 {
     for packet in packets {
         if !is_next(reader, source, buf, packet) {
@@ -199,7 +200,7 @@ fn reading_behind(
     buf: &mut [u8],
     packets: &[Packet<'_>],
 ) -> Reading
-    requires { 262144 ≤ length buf.old }
+    requires { MAX_CAPTURED ≤ length buf.old }
 {
     let head = reader.head();
     let first = reader.offset();
@@ -217,7 +218,7 @@ fn reading_of(
     buf: &mut [u8],
     packets: &[Packet<'_>],
 ) -> Result<Reading, NgFault>
-    requires { 262144 ≤ length buf.old }
+    requires { MAX_CAPTURED ≤ length buf.old }
 {
     // No name in a case is so long.
     if inside.is_some_and(|name| name.len() > 64) {
@@ -281,7 +282,7 @@ const WHOLES: &[Whole] = &[
 
 // Returns whether a file is read so in parts of `piece` octets.
 fn is_whole(alloc: Global, row: &Whole, piece: usize) -> Result<bool, AllocError> {
-    let mut buf = vec![in alloc; 0u8; 262144]?;
+    let mut buf = vec![in alloc; 0u8; MAX_CAPTURED as usize]?;
     let octets = joined(alloc, row.blocks)?;
     let mut source = MemSource::new(octets, piece.max(1), Vec::new(alloc));
     let wanted = ((Order::Little, true, row.link), row.offsets, true);
@@ -423,7 +424,7 @@ fn a_file_that_is_cut_short_is_told(rt: HostRuntime) -> Result<(), AllocError> {
 
 // Returns whether the source fails at the first packet block, and the reader is not open after it.
 fn fails(source: &mut MemSource, buf: &mut [u8]) -> Result<bool, NgFault>
-    requires { 262144 ≤ length buf.old }
+    requires { MAX_CAPTURED ≤ length buf.old }
 {
     match NgReader::open(None, source) {
         Ok(mut reader) => Ok(is_failed(&mut reader, source, buf)),
@@ -433,14 +434,14 @@ fn fails(source: &mut MemSource, buf: &mut [u8]) -> Result<bool, NgFault>
 
 fn is_failed(reader: &mut NgReader, source: &mut MemSource, buf: &mut [u8]) -> bool
     requires open { reader.old.is_open ≡ true }
-    requires room { 262144 ≤ length buf.old }
+    requires room { MAX_CAPTURED ≤ length buf.old }
 {
     matches!(reader.next(source, buf), Err(NgFault::ReadFault)) && !reader.is_open()
 }
 
 // Reads from a source whose calls return at most ten octets each, and whose fifteenth call fails.
 fn failing(alloc: Global) -> Result<(Result<bool, NgFault>, u64), AllocError> {
-    let mut buf = vec![in alloc; 0u8; 262144]?;
+    let mut buf = vec![in alloc; 0u8; MAX_CAPTURED as usize]?;
     let octets = joined(alloc, &[&SECTION, &IN, &SIMPLE, &OTHER])?;
     let mut source = MemSource::new(octets, 10, vec![in alloc; 15]?);
     let failed = fails(&mut source, &mut buf);

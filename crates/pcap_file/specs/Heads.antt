@@ -8,6 +8,7 @@ use Rattle.pcap_file.specs.declared.order.Order.TheVariants.{Little, Big}
 use Rattle.pcap_file.specs.declared.head.Head.{Head}
 use Rattle.pcap_file.specs.Numbers.{u16_at, u32_at, u16_octets, u32_octets}
 use Rattle.pcap_file.specs.Flaws.{Flaw, cut_short, bad_magic, bad_version, bad_link}
+use Rattle.wire_base.specs.declared.limits.TheConstants.{MAX_CAPTURED}
 
 -- the magic of a unit: nanoseconds or microseconds
 abbrev pub magic_of : (nano : Bool) → ℕ
@@ -61,4 +62,4 @@ head_of octets = if nat_lt (length octets) 24 then Err cut_short else head_by (f
 unfoldable pub head_octets : Head → List ℕ
 head_octets head =
     u32_octets head.order (magic_of head.nano) ++ u16_octets head.order 2 ++ u16_octets head.order 4 ++ replicate 8 0
-    ++ u32_octets head.order 262144 ++ u32_octets head.order (network_of head.link)
+    ++ u32_octets head.order MAX_CAPTURED ++ u32_octets head.order (network_of head.link)

@@ -6,6 +6,7 @@ use Rattle.pcap_file.specs.Flaws.{Flaw}
 use Rattle.pcap_file.specs.Heads.{head_of, head_octets}
 use Rattle.pcap_file.specs.Records.{Packet, front_of, record_octets}
 use Rattle.pcap_file.specs.Capture.{IsCapture, FailsAt, EndsWell, EndsBadly}
+use Rattle.wire_base.specs.declared.limits.TheConstants.{MAX_CAPTURED}
 
 -- A written head is read as that head, in both orders and units and for both links, whatever octets follow.
 abbrev pub HeadIsReadBack : Type 0
@@ -14,7 +15,7 @@ HeadIsReadBack = (head : Head) (rest : List ℕ) → head_of (head_octets head +
 -- A written record is read as that record, with its own length as the original one and no side, whatever octets follow.
 abbrev pub RecordIsReadBack : Type 0
 RecordIsReadBack =
-    (order : Order) (count seconds fraction : ℕ) (octets rest : List ℕ) → count < 4294967295 → seconds < 2 ^ 32 → fraction < 2 ^ 32 → length octets ≤ 262144
+    (order : Order) (count seconds fraction : ℕ) (octets rest : List ℕ) → count < 4294967295 → seconds < 2 ^ 32 → fraction < 2 ^ 32 → length octets ≤ MAX_CAPTURED
     → front_of order count (record_octets order seconds fraction octets ++ rest)
     ≡ Ok (Some (record { seconds = seconds; fraction = fraction; original = length octets; side = None; octets = octets }, rest))
 

@@ -8,6 +8,7 @@ use Rattle.pcap_file.specs.declared.reader.RecordFault.TheVariants as faults
 use Rattle.pcap_file.specs.Flaws.{Flaw, cut_short, too_long, too_many}
 use Rattle.pcap_file.specs.Records.{Packet, front_of, captured}
 use Rattle.pcap_file.specs.Reading.{Reading}
+use Rattle.wire_base.specs.declared.limits.TheConstants.{MAX_CAPTURED}
 
 -- the value of a record in memory
 abbrev pub shown : Record → Packet
@@ -90,7 +91,7 @@ IfNoRecord (Err fault) P = P
 pub record Advances (old new : Reading) (size : ℕ) : Type 0 where
   pub given : new.given ≡ old.given + 1
   pub place : new.place ≡ old.place + 16 + size
-  pub small : size ≤ 262144
+  pub small : size ≤ MAX_CAPTURED
   pub few : new.given < 2 ^ 32
 
 -- The reader is behind the same records.

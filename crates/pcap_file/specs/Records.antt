@@ -4,6 +4,7 @@ use Rattle.wire_base.specs.declared.address.Side.{Side}
 use Rattle.pcap_file.specs.declared.order.Order.{Order}
 use Rattle.pcap_file.specs.Numbers.{u32_at, u32_octets}
 use Rattle.pcap_file.specs.Flaws.{Flaw, cut_short, too_long, too_many}
+use Rattle.wire_base.specs.declared.limits.TheConstants.{MAX_CAPTURED}
 
 -- a record: its time in seconds and a fraction of one, its original length, its side if the capture names one, and the captured octets
 pub record Packet : Type 0 where
@@ -25,7 +26,7 @@ packet_of order octets size =
 -- what the octets begin with after `count` records, if they begin with the head of a record whose captured length is `size`
 abbrev pub sized_at : Order → (count : ℕ) → List ℕ → (size : ℕ) → Result (Option (Packet × List ℕ)) Flaw
 sized_at order count octets size =
-    if nat_lt 262144 size then Err too_long
+    if nat_lt MAX_CAPTURED size then Err too_long
     else if count == 4294967295 then Err too_many
     else if nat_lt (length octets) (16 + size) then Err cut_short
     else Ok (Some (packet_of order octets size, drop (16 + size) octets))

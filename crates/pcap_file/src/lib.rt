@@ -17,6 +17,6 @@ pub mod writer;
 
 pub use head::{Head, HeadFault, read_head};
 pub use order::Order;
-pub use reader::{MAX_CAPTURED, Reader, RecordFault};
+pub use reader::{Reader, RecordFault};
 pub use record::Record;
 pub use writer::{WriteFault, write_head, write_record};

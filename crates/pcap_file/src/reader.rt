@@ -2,14 +2,13 @@
 ghost use Rattle.std.specs.Prelude.{◌≡◌, ◌≤◌, length, true, IsErrOf};
 ghost use Rattle.edge_io.specs.Faults.{Rose};
 ghost use Rattle.pcap_file.specs.Reads.{Reads, KeepsCount, is_record, IfRecord, IfNoRecord, Advances, Stays};
+ghost use Rattle.wire_base.specs.declared.limits.TheConstants.{MAX_CAPTURED};
 
 use crate::{Head, Record};
 use edge_io::{Failed, Source, read_full};
 use std::marker::Model;
 use thiserror::Error;
-
-/// The largest captured length that is read, in octets.
-pub const MAX_CAPTURED: u32 = 262144;
+use wire_base::MAX_CAPTURED;
 
 /// The reason why no record was read. The variants are in the order of testing.
 #[derive(Clone, Copy, Debug, PartialEq, Eq, Error)]
@@ -48,12 +47,13 @@ pub struct Reader {
 impl Model for Reader {
     ghost use Rattle.std.specs.Prelude.{◌≤◌, ◌+◌, ◌*◌};
     ghost use Rattle.pcap_file.specs.Reading.{Reading};
+    ghost use Rattle.wire_base.specs.declared.limits.TheConstants.{MAX_CAPTURED};
 
     ghost Value = { Reading };
 
     ghost view = { λ r. record { head = r.head; place = r.place; asked = r.asked; given = r.given; is_open = r.going } };
 
-    ghost invariant = { λ r. r.place ≤ 24 + 262160 * r.given };
+    ghost invariant = { λ r. r.place ≤ 24 + (16 + MAX_CAPTURED) * r.given };
 }
 
 impl Reader {
@@ -91,7 +91,7 @@ impl Reader {
         buf: &'a mut [u8],
     ) -> Result<Option<Record<'a>>, RecordFault>
         requires open { self.old.is_open ≡ true }
-        requires room { 262144 ≤ length buf.old }
+        requires room { MAX_CAPTURED ≤ length buf.old }
         ensures octets { Reads self.old.head.order self.old.given (S.left source.old) (S.left source.new) result }
         ensures later { S.fault_count source.old ≤ S.fault_count source.new }
         ensures kept { KeepsCount result (S.fault_count source.old) (S.fault_count source.new) }

@@ -4,12 +4,13 @@ ghost use Rattle.edge_io.specs.Faults.{HasCause};
 ghost use Rattle.edge_io.specs.Octets.{Puts};
 ghost use Rattle.pcap_file.specs.Heads as heads;
 ghost use Rattle.pcap_file.specs.Records as records;
+ghost use Rattle.wire_base.specs.declared.limits.TheConstants.{MAX_CAPTURED};
 
 use crate::head::{ETHERNET, MICRO_MAGIC, NANO_MAGIC, RAW};
-use crate::{Head, MAX_CAPTURED, Order};
+use crate::{Head, Order};
 use edge_io::{Failed, Sink};
 use thiserror::Error;
-use wire_base::Link;
+use wire_base::{Link, MAX_CAPTURED};
 
 /// A failure of the sink.
 #[derive(Clone, Copy, Debug, PartialEq, Eq, Error)]
@@ -76,7 +77,7 @@ pub fn write_record<K: Sink>(
     fraction: u32,
     bytes: &[u8],
 ) -> Result<(), WriteFault>
-    requires { length bytes.now ≤ 262144 }
+    requires { length bytes.now ≤ MAX_CAPTURED }
     ensures octets { Puts (K.held sink.old) (K.held sink.new) result (records.record_octets head.now.order seconds fraction bytes.now) }
     ensures cause { HasCause (K.fault_count sink.old) (K.fault_count sink.new) result }
 {

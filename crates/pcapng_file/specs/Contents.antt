@@ -16,6 +16,7 @@ use Rattle.pcapng_file.specs.declared.content.Found.{Found}
 use Rattle.pcapng_file.specs.declared.content.Found.TheVariants as is
 use Rattle.pcapng_file.specs.Options.{padded, options_of, described}
 use Rattle.pcapng_file.specs.Standing.{Sections}
+use Rattle.wire_base.specs.declared.limits.TheConstants.{MAX_CAPTURED}
 
 -- the types of blocks that are parsed
 abbrev pub section_type : ℕ
@@ -95,7 +96,7 @@ timed_says inside interface time original captured =
 abbrev pub enhanced_of : (inside : Option (List ℕ)) → Option Interface → Order → (size : ℕ) → List ℕ → Content
 enhanced_of inside None order size block = says.Fails faults.Block
 enhanced_of inside (Some interface) order size block =
-    if nat_lt 262144 (u32_at order block 20) then says.Fails faults.Long
+    if nat_lt MAX_CAPTURED (u32_at order block 20) then says.Fails faults.Long
     else if nat_lt size (32 + padded (u32_at order block 20)) then says.Fails faults.Block
     else timed_says inside interface (u32_at order block 12 * 2 ^ 32 + u32_at order block 16) (u32_at order block 24) (u32_at order block 20)
 
@@ -112,7 +113,7 @@ clipped snap original = if snap == 0 then original else min original snap
 -- a simple packet block of this captured length; its time is that of the record before; `named` says whether its interface is the inside one
 abbrev pub simple_sized : (inside : Option (List ℕ)) → (named : Bool) → Sections → (size original captured : ℕ) → Content
 simple_sized inside named sections size original captured =
-    if nat_lt 262144 captured then says.Fails faults.Long
+    if nat_lt MAX_CAPTURED captured then says.Fails faults.Long
     else if nat_lt size (16 + padded captured) then says.Fails faults.Block
     else says.Packet (record {
       seconds = sections.seconds;
@@ -177,5 +178,5 @@ IsTold _ = ⊥
 -- a fault is one of the content, and a packet block has at most 262,144 captured octets
 abbrev pub IsSound : Found → Type 0
 IsSound (is.Fails fault) = IsTold fault
-IsSound (is.Packet stamp) = stamp.size ≤ 262144
+IsSound (is.Packet stamp) = stamp.size ≤ MAX_CAPTURED
 IsSound found = Unit {0}

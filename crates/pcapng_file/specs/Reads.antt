@@ -22,6 +22,7 @@ use Rattle.pcapng_file.specs.Blocks.{Step, order_at, size_at, sized_at, block_at
 use Rattle.pcapng_file.specs.Sections.{Walks, behind, packets_of, size_of, size_before, EndsAtInterface}
 use Rattle.pcapng_file.specs.Reading.{NgReading, first_reading, IsUnlinked}
 use Rattle.pcapng_file.specs.Takes.{Short}
+use Rattle.wire_base.specs.declared.limits.TheConstants.{MAX_CAPTURED}
 
 -- the captured octets of a packet block are in the buffer
 abbrev pub IsKept : Found → (block buf : List ℕ) → Type 0
@@ -218,7 +219,7 @@ Finds old new before after buf (Err fault) = HaltsBehind old new before after (�
 
 -- a packet block has at most 262,144 captured octets
 abbrev pub IsSmall : Result (Option Stamp) NgFault → Type 0
-IsSmall (Ok (Some stamp)) = stamp.size ≤ 262144
+IsSmall (Ok (Some stamp)) = stamp.size ≤ MAX_CAPTURED
 IsSmall (Ok None) = Unit {0}
 IsSmall (Err fault) = Unit {0}
 

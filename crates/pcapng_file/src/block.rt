@@ -6,6 +6,7 @@ ghost use Rattle.pcapng_file.specs.Standing.{known};
 ghost use Rattle.pcapng_file.specs.Takes.{is_read_fault};
 ghost use Rattle.pcapng_file.specs.Blocks.{bare, IsFront};
 ghost use Rattle.pcapng_file.specs.Reads.{HasRoom, ReadsBody, ReadsRest, ReadsBlock};
+ghost use Rattle.wire_base.specs.declared.limits.TheConstants.{MAX_CAPTURED};
 
 use crate::NgFault;
 use crate::ahead::read_behind;
@@ -102,7 +103,7 @@ fn read_rest<S: Source>(
     head: [u8; 12],
 ) -> Result<Found, NgFault>
     requires begins { IsFront head front }
-    requires room { 0 < length standing.now.interfaces.items → 262144 ≤ length buf.old }
+    requires room { 0 < length standing.now.interfaces.items → MAX_CAPTURED ≤ length buf.old }
     requires small { IfSome inside (λ name. length name.now ≤ 64) }
     ensures octets { ReadsRest (option_map (λ name. name.now) inside.entry) (known standing.now) (S.left source.old) (S.left source.new) front head buf.new result }
     ensures later { S.fault_count source.old ≤ S.fault_count source.new }
@@ -154,7 +155,7 @@ pub(crate) fn read_block<S: Source>(
     inside: Option<&[u8]>,
 ) -> Result<Option<Block>, NgFault>
     requires few { length first.now ≤ 12 }
-    requires room { 0 < length standing.now.interfaces.items → 262144 ≤ length buf.old }
+    requires room { 0 < length standing.now.interfaces.items → MAX_CAPTURED ≤ length buf.old }
     requires small { IfSome inside (λ name. length name.now ≤ 64) }
     ensures octets { ReadsBlock (option_map (λ name. name.now) inside.entry) (known standing.now) (prepend_known first.now (S.left source.old)) (S.left source.new) buf.new result }
     ensures later { S.fault_count source.old ≤ S.fault_count source.new }

@@ -10,8 +10,8 @@ use crate::NgFault;
 use crate::interface::Interface;
 use crate::numbers::{u16_at, u32_at};
 use crate::standing::Standing;
-use pcap_file::{MAX_CAPTURED, Order};
-use wire_base::{Link, Side};
+use pcap_file::Order;
+use wire_base::{Link, MAX_CAPTURED, Side};
 
 /// The fields of a packet block.
 #[derive(Clone, Copy, Debug, PartialEq, Eq)]

@@ -5,6 +5,7 @@ ghost use Rattle.edge_io.specs.Faults.{Rose};
 ghost use Rattle.pcapng_file.specs.Takes.{is_read_fault};
 ghost use Rattle.pcapng_file.specs.Reads.{Looks, LooksAhead, Finds, IsSmall, Reads, Opens, OpensBehind, only_fault, IfPacket};
 ghost use Rattle.pcapng_file.specs.Reading.{written_head};
+ghost use Rattle.wire_base.specs.declared.limits.TheConstants.{MAX_CAPTURED};
 
 use crate::block::read_block;
 use crate::content::{Found, Stamp};
@@ -138,7 +139,7 @@ impl NgReader {
         buf: &mut [u8],
     ) -> Result<Option<Found>, NgFault>
         requires few { length first.now ≤ 12 }
-        requires room { 0 < length self.old.sections.interfaces → 262144 ≤ length buf.old }
+        requires room { 0 < length self.old.sections.interfaces → MAX_CAPTURED ≤ length buf.old }
         ensures octets { Looks self.old self.new (prepend_known first.now (S.left source.old)) (S.left source.new) buf.new result }
         ensures later { S.fault_count source.old ≤ S.fault_count source.new }
         ensures kept { is_read_fault result ≡ false → S.fault_count source.new ≡ S.fault_count source.old }
@@ -165,7 +166,7 @@ impl NgReader {
         source: &mut S,
         buf: &mut [u8],
     ) -> Result<Option<Stamp>, NgFault>
-        requires { 262144 ≤ length buf.old }
+        requires { MAX_CAPTURED ≤ length buf.old }
         ensures small { IsSmall result }
         ensures octets { Finds self.old self.new (S.left source.old) (S.left source.new) buf.new result }
         ensures later { S.fault_count source.old ≤ S.fault_count source.new }
@@ -189,7 +190,7 @@ impl NgReader {
         buf: &'a mut [u8],
     ) -> Result<Option<Record<'a>>, NgFault>
         requires open { self.old.is_open ≡ true }
-        requires room { 262144 ≤ length buf.old }
+        requires room { MAX_CAPTURED ≤ length buf.old }
         ensures octets { Reads self.old self.new (S.left source.old) (S.left source.new) result }
         ensures later { S.fault_count source.old ≤ S.fault_count source.new }
         ensures kept { is_read_fault result ≡ false → S.fault_count source.new ≡ S.fault_count source.old }
