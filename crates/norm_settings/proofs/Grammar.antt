@@ -5,7 +5,7 @@ use Rattle.norm_settings.specs.Options.{Text, name_of, kind_of, takes_value}
 use Rattle.norm_settings.specs.Line.{Word, names, alone, joined, parted, unknown, PlainUse, PlainLine, with_use, parts, are_fit, fit_line, line_of, word_of, begins_with_dash, option_in, after_front}
 use Rattle.norm_settings.specs.Grammar.{IsWritten, by_sign, by_word, by_name, IsLine, BeginPlain, IsWrittenAs}
 use Rattle.norm_settings.specs.declared.options.Choice.{Choice}
-use Rattle.norm_settings.specs.declared.options.Choice.TheVariants.{Hops, Flows, Cells, Frags, FragCells, Idle, FragTime, Seed, Quota, Mtu, Inside, Offload, Both}
+use Rattle.norm_settings.specs.declared.options.Choice.TheVariants.{Hops}
 use Rattle.norm_settings.proofs.Spelling.{IsSpelled, spells}
 
 -- the words are written as this line
@@ -82,48 +82,15 @@ read_is_written words line e = read (parts None words) words line refl e
 
 word_joined : (c : Choice) (v : Text) → takes_value (kind_of c) ≡ true → word_of (45 ∷ 45 ∷ (name_of c ++ 61 ∷ v)) ≡ joined c v
 word_joined Hops v t = search rules
-word_joined Flows v t = search rules
-word_joined Cells v t = search rules
-word_joined Frags v t = search rules
-word_joined FragCells v t = search rules
-word_joined Idle v t = search rules
-word_joined FragTime v t = search rules
-word_joined Seed v t = search rules
-word_joined Quota v t = search rules
-word_joined Mtu v t = search rules
-word_joined Inside v t = search rules
-word_joined Offload v t = search rules
-word_joined Both v t = search rules
+word_joined _ v t = search rules
 
 word_parted : (c : Choice) → takes_value (kind_of c) ≡ true → word_of (45 ∷ 45 ∷ name_of c) ≡ parted c
 word_parted Hops t = search rules
-word_parted Flows t = search rules
-word_parted Cells t = search rules
-word_parted Frags t = search rules
-word_parted FragCells t = search rules
-word_parted Idle t = search rules
-word_parted FragTime t = search rules
-word_parted Seed t = search rules
-word_parted Quota t = search rules
-word_parted Mtu t = search rules
-word_parted Inside t = search rules
-word_parted Offload t = search rules
-word_parted Both t = search rules
+word_parted _ t = search rules
 
 word_alone : (c : Choice) → takes_value (kind_of c) ≡ false → word_of (45 ∷ 45 ∷ name_of c) ≡ alone c
 word_alone Hops t = search rules
-word_alone Flows t = search rules
-word_alone Cells t = search rules
-word_alone Frags t = search rules
-word_alone FragCells t = search rules
-word_alone Idle t = search rules
-word_alone FragTime t = search rules
-word_alone Seed t = search rules
-word_alone Quota t = search rules
-word_alone Mtu t = search rules
-word_alone Inside t = search rules
-word_alone Offload t = search rules
-word_alone Both t = search rules
+word_alone _ t = search rules
 
 word_plain : (text : Text) → begins_with_dash text ≡ false → word_of text ≡ names
 word_plain text e = ap (λ b. if b then option_in (after_front (codes "--") text) else names) e

@@ -5,6 +5,7 @@ pub mod Grammar
 pub mod OptionNames
 pub mod Prefixes
 pub mod Runs
+pub mod OptionWords
 pub mod Steps
 pub mod Rows
 pub mod Walking

@@ -4,7 +4,7 @@ use Rattle.std.specs.declared.option.Option.{Option}
 use Rattle.std.specs.Str.{bytes_eq}
 use Rattle.norm_settings.specs.Options.{Text, name_of, all_choices}
 use Rattle.norm_settings.specs.declared.options.Choice.{Choice}
-use Rattle.norm_settings.specs.declared.options.Choice.TheVariants.{Hops, Flows, Cells, Frags, FragCells, Idle, FragTime, Seed, Quota, Mtu, Inside, Offload, Both}
+use Rattle.norm_settings.specs.declared.options.Choice.TheVariants.{Hops}
 
 -- the first option of this name
 abbrev named : List Choice → Text → Option Choice
@@ -13,18 +13,7 @@ named (c ∷ cs) text = if bytes_eq (name_of c) text then Some c else named cs t
 
 is_named : (c : Choice) → named all_choices (name_of c) ≡ Some c
 is_named Hops = refl
-is_named Flows = refl
-is_named Cells = refl
-is_named Frags = refl
-is_named FragCells = refl
-is_named Idle = refl
-is_named FragTime = refl
-is_named Seed = refl
-is_named Quota = refl
-is_named Mtu = refl
-is_named Inside = refl
-is_named Offload = refl
-is_named Both = refl
+is_named _ = refl
 
 pub one_name : (a b : Choice) → name_of a ≡ name_of b → a ≡ b
 one_name a b e = let both : Some a ≡ Some b = sym (is_named a) ∙ ap (named all_choices) e ∙ is_named b in cc

@@ -8,18 +8,17 @@ use Rattle.std.proofs.lemmas.Slice.Eq.{bytes_eq-Decides}
 use Rattle.clap.specs.declared.builder.value_parser.Reading.{Reading}
 use Rattle.clap.specs.declared.parser.matches.ValueSource.TheVariants.{CommandLine}
 use Rattle.clap.specs.declared.parser.matches.ValueSource.{ValueSource}
-use Rattle.clap.specs.Walk.{Row, at_row, without, with_values, more_values, settled_rows, used, reading_by}
-use Rattle.norm_settings.specs.Options.{Text, name_of}
+use Rattle.clap.specs.Walk.{Row, at_row, without, with_values, more_values, settled_rows, used, used_by_id, reading_by}
+use Rattle.clap.specs.Simple.{filled}
+use Rattle.norm_settings.specs.Options.{Text, name_of, kind_of}
 use Rattle.norm_settings.specs.Line.{PlainUse, given}
 use Rattle.norm_settings.specs.declared.options.Choice.{Choice}
-use Rattle.norm_settings.specs.declared.options.Choice.TheVariants.{Hops, Flows, Cells, Frags, FragCells, Idle, FragTime, Seed, Quota, Mtu, Inside, Offload, Both}
-use Rattle.norm_settings.proofs.Steps.{rules, rule}
-
-pub same_bytes : (a b : Text) → bytes_eq a b ≡ true → a ≡ b
-same_bytes a b t = (bytes_eq-Decides a b).0 t
-
-pub bytes_self : (a : Text) → bytes_eq a a ≡ true
-bytes_self a = (bytes_eq-Decides a a).1 refl
+use Rattle.norm_settings.specs.declared.options.Choice.TheVariants.{Hops}
+use Rattle.norm_settings.specs.Found.{rule_by}
+use Rattle.norm_settings.specs.declared.options.Kind.{Kind}
+use Rattle.norm_settings.specs.declared.options.Kind.TheVariants.{Alone}
+use Rattle.norm_settings.proofs.OptionWords.{same_bytes, bytes_self}
+use Rattle.norm_settings.proofs.Steps.{rules, rule, has}
 
 abbrev values_of : Option Row → Option (List Text)
 values_of = option_map (λ r. r.values)
@@ -111,20 +110,9 @@ without_other id other rows p = found_at_other id other (λ _. []) [] rows p (λ
 abbrev pub Agrees : List PlainUse → List Row → Type 0
 Agrees uses rows = (c : Choice) → found (name_of c) rows ≡ option_map (λ v. v ∷ []) (given c uses)
 
-pub use_row : (c : Choice) (v : Text) (rows : List Row) → used (rule c) (v ∷ []) rows ≡ with_values (name_of c) (reading_by (rule c)) CommandLine (v ∷ []) (without (name_of c) rows)
-use_row Hops v rows = refl
-use_row Flows v rows = refl
-use_row Cells v rows = refl
-use_row Frags v rows = refl
-use_row FragCells v rows = refl
-use_row Idle v rows = refl
-use_row FragTime v rows = refl
-use_row Seed v rows = refl
-use_row Quota v rows = refl
-use_row Mtu v rows = refl
-use_row Inside v rows = refl
-use_row Offload v rows = refl
-use_row Both v rows = refl
+use_row : (k : Kind) (n v : Text) (rows : List Row) → used (filled (rule_by k n)) (v ∷ []) rows ≡ with_values n (reading_by (filled (rule_by k n))) CommandLine (v ∷ []) (without n rows)
+use_row Alone n v rows = refl
+use_row k n v rows = refl
 
 both_none : (b : Bool) (x : Text) (g : Option Text) → chosen b x g ≡ None → (b ≡ false) × (g ≡ None)
 both_none true x g e = cc
@@ -157,116 +145,23 @@ pub agrees_added : (c : Choice) (v : Text) (uses : List PlainUse) (rows : List R
 agrees_added c v uses rows new agrees d =
     let absent : found (name_of c) rows ≡ None = agrees c ∙ ap (option_map (λ v. v ∷ [])) new in
     let b = bytes_eq (name_of c) (name_of d) in
-    ap (found (name_of d)) (use_row c v rows ∙ used_absent (name_of c) _ (v ∷ []) rows absent)
+    ap (found (name_of d)) (use_row (kind_of c) (name_of c) v rows ∙ used_absent (name_of c) _ (v ∷ []) rows absent)
     ∙ found_added b (name_of d) rows _ refl absent
     ∙ lift b v (found (name_of d) rows) (given d uses) (agrees d)
     ∙ ap (option_map (λ v. v ∷ [])) (sym (given_added d uses (record { choice = c; value = v }) new))
 
 -- the pending option is used
 pub settled_use : (c : Choice) (vs : List Text) (rows : List Row) → settled_rows rules (Some (name_of c, vs)) rows ≡ used (rule c) vs rows
-settled_use Hops vs rows = refl
-settled_use Flows vs rows = refl
-settled_use Cells vs rows = refl
-settled_use Frags vs rows = refl
-settled_use FragCells vs rows = refl
-settled_use Idle vs rows = refl
-settled_use FragTime vs rows = refl
-settled_use Seed vs rows = refl
-settled_use Quota vs rows = refl
-settled_use Mtu vs rows = refl
-settled_use Inside vs rows = refl
-settled_use Offload vs rows = refl
-settled_use Both vs rows = refl
+settled_use c vs rows = ap (λ r. used_by_id r vs rows) (has c).by_id
 
-pub in_apart : (c : Choice) → bytes_eq (codes "in") (name_of c) ≡ false
-in_apart Hops = refl
-in_apart Flows = refl
-in_apart Cells = refl
-in_apart Frags = refl
-in_apart FragCells = refl
-in_apart Idle = refl
-in_apart FragTime = refl
-in_apart Seed = refl
-in_apart Quota = refl
-in_apart Mtu = refl
-in_apart Inside = refl
-in_apart Offload = refl
-in_apart Both = refl
+-- no option has the id of a name
+pub apart : (c : Choice) → (bytes_eq (codes "in") (name_of c) ≡ false) × (bytes_eq (codes "out") (name_of c) ≡ false) × (bytes_eq (codes "prefix") (name_of c) ≡ false)
+apart Hops = (refl, refl, refl)
+apart _ = (refl, refl, refl)
 
-pub out_apart : (c : Choice) → bytes_eq (codes "out") (name_of c) ≡ false
-out_apart Hops = refl
-out_apart Flows = refl
-out_apart Cells = refl
-out_apart Frags = refl
-out_apart FragCells = refl
-out_apart Idle = refl
-out_apart FragTime = refl
-out_apart Seed = refl
-out_apart Quota = refl
-out_apart Mtu = refl
-out_apart Inside = refl
-out_apart Offload = refl
-out_apart Both = refl
-
-pub prefix_apart : (c : Choice) → bytes_eq (codes "prefix") (name_of c) ≡ false
-prefix_apart Hops = refl
-prefix_apart Flows = refl
-prefix_apart Cells = refl
-prefix_apart Frags = refl
-prefix_apart FragCells = refl
-prefix_apart Idle = refl
-prefix_apart FragTime = refl
-prefix_apart Seed = refl
-prefix_apart Quota = refl
-prefix_apart Mtu = refl
-prefix_apart Inside = refl
-prefix_apart Offload = refl
-prefix_apart Both = refl
-
-pub in_other : (c : Choice) → bytes_eq (name_of c) (codes "in") ≡ false
-in_other Hops = refl
-in_other Flows = refl
-in_other Cells = refl
-in_other Frags = refl
-in_other FragCells = refl
-in_other Idle = refl
-in_other FragTime = refl
-in_other Seed = refl
-in_other Quota = refl
-in_other Mtu = refl
-in_other Inside = refl
-in_other Offload = refl
-in_other Both = refl
-
-pub out_other : (c : Choice) → bytes_eq (name_of c) (codes "out") ≡ false
-out_other Hops = refl
-out_other Flows = refl
-out_other Cells = refl
-out_other Frags = refl
-out_other FragCells = refl
-out_other Idle = refl
-out_other FragTime = refl
-out_other Seed = refl
-out_other Quota = refl
-out_other Mtu = refl
-out_other Inside = refl
-out_other Offload = refl
-out_other Both = refl
-
-pub prefix_other : (c : Choice) → bytes_eq (name_of c) (codes "prefix") ≡ false
-prefix_other Hops = refl
-prefix_other Flows = refl
-prefix_other Cells = refl
-prefix_other Frags = refl
-prefix_other FragCells = refl
-prefix_other Idle = refl
-prefix_other FragTime = refl
-prefix_other Seed = refl
-prefix_other Quota = refl
-prefix_other Mtu = refl
-prefix_other Inside = refl
-prefix_other Offload = refl
-prefix_other Both = refl
+other : (c : Choice) → (bytes_eq (name_of c) (codes "in") ≡ false) × (bytes_eq (name_of c) (codes "out") ≡ false) × (bytes_eq (name_of c) (codes "prefix") ≡ false)
+other Hops = (refl, refl, refl)
+other _ = (refl, refl, refl)
 
 -- no value is found yet under the names
 abbrev pub Fresh : List Row → Type 0
@@ -274,11 +169,11 @@ Fresh rows = (found (codes "in") rows ≡ None) × (found (codes "out") rows ≡
 
 use_other : (id : Text) (c : Choice) (v : Text) (rows : List Row) → bytes_eq (name_of c) id ≡ false → found id (used (rule c) (v ∷ []) rows) ≡ found id rows
 use_other id c v rows e =
-    ap (found id) (use_row c v rows) ∙ values_other id (name_of c) _ CommandLine (v ∷ []) (without (name_of c) rows) e ∙ without_other id (name_of c) rows e
+    ap (found id) (use_row (kind_of c) (name_of c) v rows) ∙ values_other id (name_of c) _ CommandLine (v ∷ []) (without (name_of c) rows) e ∙ without_other id (name_of c) rows e
 
 pub fresh_use : (c : Choice) (v : Text) (rows : List Row) → Fresh rows → Fresh (used (rule c) (v ∷ []) rows)
 fresh_use c v rows h =
-    (use_other (codes "in") c v rows (in_other c) ∙ h.0, use_other (codes "out") c v rows (out_other c) ∙ h.1, use_other (codes "prefix") c v rows (prefix_other c) ∙ h.2)
+    (use_other (codes "in") c v rows (other c).0 ∙ h.0, use_other (codes "out") c v rows (other c).1 ∙ h.1, use_other (codes "prefix") c v rows (other c).2 ∙ h.2)
 
 -- ---- the values found under the names
 

@@ -1,14 +1,17 @@
 -- The steps of clap's walk over the words of a line.
 use Rattle.std.proofs.Common.{◌≡◌, ℕ, ◌==◌, ◌||◌, ◌&&◌, List, [], ◌∷◌, ◌++◌, Bool, true, false, Some, None, refl, codes}
 use Rattle.std.specs.declared.option.Option.{Option}
-use Rattle.clap.specs.Walk.{Row, Rule, Walk, Waiting, idle, option, positional, walked, settled_rows, used}
+use Rattle.clap.specs.Walk.{Row, Rule, Walk, Waiting, idle, option, positional, walked, settled_rows, used, arg_by_long, arg_by_id}
 use Rattle.clap.specs.Simple.{Shape, built, filled}
 use Rattle.clap.specs.Takes.{turn_passes, settle_passes}
 use Rattle.clap.proofs.OnLiterals.{clap_on_literals}
 use Rattle.norm_settings.specs.Options.{Text, name_of, kind_of, takes_value}
-use Rattle.norm_settings.specs.Found.{run_command, rule_for}
+use Rattle.norm_settings.specs.Found.{run_command, rule_by, rule_for}
 use Rattle.norm_settings.specs.declared.options.Choice.{Choice}
-use Rattle.norm_settings.specs.declared.options.Choice.TheVariants.{Hops, Flows, Cells, Frags, FragCells, Idle, FragTime, Seed, Quota, Mtu, Inside, Offload, Both}
+use Rattle.norm_settings.specs.declared.options.Choice.TheVariants.{Hops}
+use Rattle.norm_settings.specs.declared.options.Kind.{Kind}
+use Rattle.norm_settings.specs.declared.options.Kind.TheVariants.{Alone}
+use Rattle.norm_settings.proofs.OptionWords.{is_word, bytes_self, cut_joined, cut_alone, not_dashes, name_not_dashes}
 
 abbrev pub shape : Shape
 shape = (built run_command).top
@@ -36,163 +39,76 @@ abbrev pub IsPlain : Text → Type 0
 IsPlain [] = ⊥
 IsPlain (x ∷ xs) = (x == 45) ≡ false
 
--- ---- the walk
+-- ---- the options of any command that takes a repeated option, by the name and the kind of one
 
-pub joined_step : (c : Choice) (rows : List Row) (p : Option (Text × List Text)) (v : Text) → takes_value (kind_of c) ≡ true
-    → walked rules [] (at rows p idle 1) (45 ∷ 45 ∷ (name_of c ++ 61 ∷ v)) ≡ at (used (rule c) (v ∷ []) (settled_rows rules p rows)) None idle 1
-unfolding clap_on_literals
-joined_step Hops rows p v e = refl
-joined_step Flows rows p v e = refl
-joined_step Cells rows p v e = refl
-joined_step Frags rows p v e = refl
-joined_step FragCells rows p v e = refl
-joined_step Idle rows p v e = refl
-joined_step FragTime rows p v e = refl
-joined_step Seed rows p v e = refl
-joined_step Quota rows p v e = refl
-joined_step Mtu rows p v e = refl
-joined_step Inside rows p v e = refl
-joined_step Offload rows p v e = cc
-joined_step Both rows p v e = cc
+-- the command has the argument of an option of this kind and name, and the name is a word
+pub record Has (s : Shape) (k : Kind) (n : Text) : Type 0 where
+  pub again : s.args_override_self ≡ true
+  pub by_long : arg_by_long s.rules n ≡ Some (filled (rule_by k n))
+  pub by_id : arg_by_id s.rules n ≡ Some (filled (rule_by k n))
+  pub word : is_word n ≡ true
 
-pub name_step : (c : Choice) (rows : List Row) (p : Option (Text × List Text)) → takes_value (kind_of c) ≡ true
-    → walked rules [] (at rows p idle 1) (45 ∷ 45 ∷ name_of c) ≡ at (settled_rows rules p rows) (Some (name_of c, [])) (option (name_of c)) 1
-unfolding clap_on_literals
-name_step Hops rows p e = refl
-name_step Flows rows p e = refl
-name_step Cells rows p e = refl
-name_step Frags rows p e = refl
-name_step FragCells rows p e = refl
-name_step Idle rows p e = refl
-name_step FragTime rows p e = refl
-name_step Seed rows p e = refl
-name_step Quota rows p e = refl
-name_step Mtu rows p e = refl
-name_step Inside rows p e = refl
-name_step Offload rows p e = cc
-name_step Both rows p e = cc
+-- such an option, after these entries and this pending value
+module _ (s : Shape) (n : Text) (rows : List Row) (p : Option (Text × List Text)) where
+  pub joined_walk : (k : Kind) (v : Text) → Has s k n → takes_value k ≡ true
+      → walked s.rules [] (at rows p idle 1) (45 ∷ 45 ∷ (n ++ 61 ∷ v)) ≡ at (used (filled (rule_by k n)) (v ∷ []) (settled_rows s.rules p rows)) None idle 1
+  unfolding clap_on_literals
+  joined_walk Alone v h t = cc
+  joined_walk k v h t = rw (not_dashes n (61 ∷ v) h.word, cut_joined n v h.word, h.by_long) refl
 
-pub value_step : (c : Choice) (rows : List Row) (v : Text) → takes_value (kind_of c) ≡ true → IsPlain v
-    → walked rules [] (at rows (Some (name_of c, [])) (option (name_of c)) 1) v ≡ at rows (Some (name_of c, v ∷ [])) idle 1
-unfolding clap_on_literals
-value_step c rows [] t e = absurd e
-value_step Hops rows (x ∷ xs) t e = simp e
-value_step Flows rows (x ∷ xs) t e = simp e
-value_step Cells rows (x ∷ xs) t e = simp e
-value_step Frags rows (x ∷ xs) t e = simp e
-value_step FragCells rows (x ∷ xs) t e = simp e
-value_step Idle rows (x ∷ xs) t e = simp e
-value_step FragTime rows (x ∷ xs) t e = simp e
-value_step Seed rows (x ∷ xs) t e = simp e
-value_step Quota rows (x ∷ xs) t e = simp e
-value_step Mtu rows (x ∷ xs) t e = simp e
-value_step Inside rows (x ∷ xs) t e = simp e
-value_step Offload rows (x ∷ xs) t e = cc
-value_step Both rows (x ∷ xs) t e = cc
+  pub joined_turn : (k : Kind) (v : Text) → Has s k n → takes_value k ≡ true
+      → settle_passes s.rules true (at rows p idle 1).held ≡ true → turn_passes s [] (at rows p idle 1) (45 ∷ 45 ∷ (n ++ 61 ∷ v)) ≡ true
+  unfolding clap_on_literals
+  joined_turn Alone v h t e = cc
+  joined_turn k v h t e = rw (not_dashes n (61 ∷ v) h.word, cut_joined n v h.word, h.by_long, h.again, e, or_true) refl
 
-pub alone_step : (c : Choice) (rows : List Row) (p : Option (Text × List Text)) → takes_value (kind_of c) ≡ false
-    → walked rules [] (at rows p idle 1) (45 ∷ 45 ∷ name_of c) ≡ at (used (rule c) [] (settled_rows rules p rows)) None idle 1
-unfolding clap_on_literals
-alone_step Hops rows p e = cc
-alone_step Flows rows p e = cc
-alone_step Cells rows p e = cc
-alone_step Frags rows p e = cc
-alone_step FragCells rows p e = cc
-alone_step Idle rows p e = cc
-alone_step FragTime rows p e = cc
-alone_step Seed rows p e = cc
-alone_step Quota rows p e = cc
-alone_step Mtu rows p e = cc
-alone_step Inside rows p e = cc
-alone_step Offload rows p e = refl
-alone_step Both rows p e = refl
+  pub name_walk : (k : Kind) → Has s k n → takes_value k ≡ true
+      → walked s.rules [] (at rows p idle 1) (45 ∷ 45 ∷ n) ≡ at (settled_rows s.rules p rows) (Some (n, [])) (option n) 1
+  unfolding clap_on_literals
+  name_walk Alone h t = cc
+  name_walk k h t = rw (name_not_dashes n h.word, cut_alone n h.word, h.by_long) refl
 
--- ---- words that clap accepts
+  pub name_turn : (k : Kind) → Has s k n → takes_value k ≡ true
+      → settle_passes s.rules true (at rows p idle 1).held ≡ true → turn_passes s [] (at rows p idle 1) (45 ∷ 45 ∷ n) ≡ true
+  unfolding clap_on_literals
+  name_turn Alone h t e = cc
+  name_turn k h t e = rw (name_not_dashes n h.word, cut_alone n h.word, h.by_long, h.again, e) refl
 
-pub joined_passes : (c : Choice) (rows : List Row) (p : Option (Text × List Text)) (v : Text) → takes_value (kind_of c) ≡ true
-    → settle_passes rules true (at rows p idle 1).held ≡ true → turn_passes shape [] (at rows p idle 1) (45 ∷ 45 ∷ (name_of c ++ 61 ∷ v)) ≡ true
-unfolding clap_on_literals
-joined_passes Hops rows p v t e = rw (e, or_true) refl
-joined_passes Flows rows p v t e = rw (e, or_true) refl
-joined_passes Cells rows p v t e = rw (e, or_true) refl
-joined_passes Frags rows p v t e = rw (e, or_true) refl
-joined_passes FragCells rows p v t e = rw (e, or_true) refl
-joined_passes Idle rows p v t e = rw (e, or_true) refl
-joined_passes FragTime rows p v t e = rw (e, or_true) refl
-joined_passes Seed rows p v t e = rw (e, or_true) refl
-joined_passes Quota rows p v t e = rw (e, or_true) refl
-joined_passes Mtu rows p v t e = rw (e, or_true) refl
-joined_passes Inside rows p v t e = rw (e, or_true) refl
-joined_passes Offload rows p v t e = cc
-joined_passes Both rows p v t e = cc
+  pub alone_walk : (k : Kind) → Has s k n → takes_value k ≡ false
+      → walked s.rules [] (at rows p idle 1) (45 ∷ 45 ∷ n) ≡ at (used (filled (rule_by k n)) [] (settled_rows s.rules p rows)) None idle 1
+  unfolding clap_on_literals
+  alone_walk Alone h t = rw (name_not_dashes n h.word, cut_alone n h.word, h.by_long) refl
+  alone_walk k h t = cc
 
-pub name_passes : (c : Choice) (rows : List Row) (p : Option (Text × List Text)) → takes_value (kind_of c) ≡ true
-    → settle_passes rules true (at rows p idle 1).held ≡ true → turn_passes shape [] (at rows p idle 1) (45 ∷ 45 ∷ name_of c) ≡ true
-unfolding clap_on_literals
-name_passes Hops rows p t e = rw e refl
-name_passes Flows rows p t e = rw e refl
-name_passes Cells rows p t e = rw e refl
-name_passes Frags rows p t e = rw e refl
-name_passes FragCells rows p t e = rw e refl
-name_passes Idle rows p t e = rw e refl
-name_passes FragTime rows p t e = rw e refl
-name_passes Seed rows p t e = rw e refl
-name_passes Quota rows p t e = rw e refl
-name_passes Mtu rows p t e = rw e refl
-name_passes Inside rows p t e = rw e refl
-name_passes Offload rows p t e = cc
-name_passes Both rows p t e = cc
+  pub alone_turn : (k : Kind) → Has s k n → takes_value k ≡ false
+      → settle_passes s.rules true (at rows p idle 1).held ≡ true → turn_passes s [] (at rows p idle 1) (45 ∷ 45 ∷ n) ≡ true
+  unfolding clap_on_literals
+  alone_turn Alone h t e = rw (name_not_dashes n h.word, cut_alone n h.word, h.by_long, h.again, e, or_true) refl
+  alone_turn k h t e = cc
 
-pub value_passes : (c : Choice) (rows : List Row) (v : Text) → takes_value (kind_of c) ≡ true → IsPlain v
-    → turn_passes shape [] (at rows (Some (name_of c, [])) (option (name_of c)) 1) v ≡ true
-unfolding clap_on_literals
-value_passes c rows [] t e = absurd e
-value_passes Hops rows (x ∷ xs) t e = simp e
-value_passes Flows rows (x ∷ xs) t e = simp e
-value_passes Cells rows (x ∷ xs) t e = simp e
-value_passes Frags rows (x ∷ xs) t e = simp e
-value_passes FragCells rows (x ∷ xs) t e = simp e
-value_passes Idle rows (x ∷ xs) t e = simp e
-value_passes FragTime rows (x ∷ xs) t e = simp e
-value_passes Seed rows (x ∷ xs) t e = simp e
-value_passes Quota rows (x ∷ xs) t e = simp e
-value_passes Mtu rows (x ∷ xs) t e = simp e
-value_passes Inside rows (x ∷ xs) t e = simp e
-value_passes Offload rows (x ∷ xs) t e = cc
-value_passes Both rows (x ∷ xs) t e = cc
+  pub value_walk : (k : Kind) (v : Text) → Has s k n → takes_value k ≡ true → IsPlain v
+      → walked s.rules [] (at rows (Some (n, [])) (option n) 1) v ≡ at rows (Some (n, v ∷ [])) idle 1
+  unfolding clap_on_literals
+  value_walk k [] h t e = absurd e
+  value_walk Alone (x ∷ xs) h t e = cc
+  value_walk k (x ∷ xs) h t e = simp (e, h.by_id, bytes_self n)
 
-pub alone_passes : (c : Choice) (rows : List Row) (p : Option (Text × List Text)) → takes_value (kind_of c) ≡ false
-    → settle_passes rules true (at rows p idle 1).held ≡ true → turn_passes shape [] (at rows p idle 1) (45 ∷ 45 ∷ name_of c) ≡ true
-unfolding clap_on_literals
-alone_passes Hops rows p t e = cc
-alone_passes Flows rows p t e = cc
-alone_passes Cells rows p t e = cc
-alone_passes Frags rows p t e = cc
-alone_passes FragCells rows p t e = cc
-alone_passes Idle rows p t e = cc
-alone_passes FragTime rows p t e = cc
-alone_passes Seed rows p t e = cc
-alone_passes Quota rows p t e = cc
-alone_passes Mtu rows p t e = cc
-alone_passes Inside rows p t e = cc
-alone_passes Offload rows p t e = rw (e, or_true) refl
-alone_passes Both rows p t e = rw (e, or_true) refl
+  pub value_turn : (k : Kind) (v : Text) → Has s k n → takes_value k ≡ true → IsPlain v
+      → turn_passes s [] (at rows (Some (n, [])) (option n) 1) v ≡ true
+  unfolding clap_on_literals
+  value_turn k [] h t e = absurd e
+  value_turn Alone (x ∷ xs) h t e = cc
+  value_turn k (x ∷ xs) h t e = simp e
 
--- a pending value is accepted
-pub settles : (c : Choice) (rows : List Row) (v : Text) → takes_value (kind_of c) ≡ true → settle_passes rules true (at rows (Some (name_of c, v ∷ [])) idle 1).held ≡ true
-settles Hops rows v t = rw or_true refl
-settles Flows rows v t = rw or_true refl
-settles Cells rows v t = rw or_true refl
-settles Frags rows v t = rw or_true refl
-settles FragCells rows v t = rw or_true refl
-settles Idle rows v t = rw or_true refl
-settles FragTime rows v t = rw or_true refl
-settles Seed rows v t = rw or_true refl
-settles Quota rows v t = rw or_true refl
-settles Mtu rows v t = rw or_true refl
-settles Inside rows v t = rw or_true refl
-settles Offload rows v t = cc
-settles Both rows v t = cc
+  -- a pending value is accepted
+  pub value_settles : (k : Kind) (v : Text) → Has s k n → takes_value k ≡ true → settle_passes s.rules true (at rows (Some (n, v ∷ [])) idle 1).held ≡ true
+  value_settles Alone v h t = cc
+  value_settles k v h t = rw (h.by_id, or_true) refl
+
+-- each line of the table is such an option; `_` is checked for each option but the first
+pub has : (c : Choice) → Has shape (kind_of c) (name_of c)
+has Hops = record { again = refl; by_long = refl; by_id = refl; word = refl }
+has _ = record { again = refl; by_long = refl; by_id = refl; word = refl }
 
 -- ---- the names
 

@@ -1,7 +1,7 @@
 -- A whole line is accepted, and the values found give the settings of its uses.
-use Rattle.std.proofs.Common.{◌≡◌, ◌&&◌, ◌||◌, not, List, [], ◌∷◌, Bool, true, false, Some, None, refl, sym, ap, ◌∙◌, codes, option_map, is_some, take, drop, length, unwrap_or, nat_le, if◌then◌else◌}
+use Rattle.std.proofs.Common.{◌≡◌, ◌&&◌, ◌||◌, not, List, [], ◌∷◌, Bool, true, false, Some, None, refl, sym, ap, ◌∙◌, codes, option_map, is_some, length, unwrap_or, nat_le, if◌then◌else◌}
 use Rattle.std.specs.Prelude.{find, fold, slice_get, option_and_then}
-use Rattle.std.specs.List.{list_all}
+use Rattle.std.specs.List.{list_all, list_any}
 use Rattle.std.specs.Str.{bytes_eq}
 use Rattle.std.specs.declared.option.Option.{Option}
 use Rattle.clap.specs.Matches.{found_of, first_value}
@@ -20,9 +20,10 @@ use Rattle.norm_settings.specs.Settings.{settings_of, is_told}
 use Rattle.norm_settings.specs.Asked.{is_whole, go_together}
 use Rattle.norm_settings.specs.Found.{run_command, value_in, TellsAs, NamesAre, ReadsAs}
 use Rattle.norm_settings.specs.declared.options.Choice.{Choice}
-use Rattle.norm_settings.specs.declared.options.Choice.TheVariants.{Hops, Flows, Cells, Frags, FragCells, Idle, FragTime, Seed, Quota, Mtu, Inside, Offload, Both}
-use Rattle.norm_settings.proofs.Steps.{shape, rules, at, rule}
-use Rattle.norm_settings.proofs.Rows.{found, found_same, at_absent, values_other, bytes_self}
+use Rattle.norm_settings.specs.declared.options.Choice.TheVariants.{Hops}
+use Rattle.norm_settings.proofs.Steps.{shape, rules, at, or_true}
+use Rattle.norm_settings.proofs.OptionWords.{same_bytes, bytes_self}
+use Rattle.norm_settings.proofs.Rows.{found, found_same, at_absent, values_other}
 use Rattle.norm_settings.proofs.Walking.{HasNames, whole_ends, both_true}
 
 -- a whole line is accepted
@@ -35,29 +36,6 @@ line_is_taken words line e w =
     simp (whole, passes, last)
 
 -- ---- defaults
-
-is_nil : List Text → Bool
-is_nil [] = true
-is_nil (x ∷ xs) = false
-
-either_rows : (b : Bool) (id : Text) (x y : List Row) → found id y ≡ found id x → found id (if b then x else y) ≡ found id x
-either_rows true id x y e = refl
-either_rows false id x y e = e
-
-not_true : (b : Bool) → not b ≡ true → b ≡ false
-not_true true e = cc
-not_true false e = refl
-
-default_past : (b : Bool) (id other : Text) (how : Reading) (ds : List Text) (rows : List Row) → (is_nil ds || not (bytes_eq other id)) ≡ true → found id (if b then rows else default_rows other how ds rows) ≡ found id rows
-unfolding is_nil
-default_past b id other how [] rows e = either_rows b id rows rows refl
-default_past b id other how (d ∷ ds) rows e = either_rows b id rows _ (values_other id other how DefaultValue (d ∷ ds) rows (not_true (bytes_eq other id) e))
-
-defaults_past : (id : Text) (rs : List Rule) (rows : List Row) → list_all (λ r. is_nil r.defaults || not (bytes_eq r.id id)) rs ≡ true → found id (fold with_default rows rs) ≡ found id rows
-defaults_past id [] rows e = refl
-defaults_past id (r ∷ rs) rows e =
-    let t = both_true (is_nil r.defaults || not (bytes_eq r.id id)) (list_all (λ r. is_nil r.defaults || not (bytes_eq r.id id)) rs) e in
-    defaults_past id rs (with_default rows r) t.1 ∙ default_past (has_row r.id rows) id r.id (reading_by r) r.defaults rows t.0
 
 some_if : (b : Bool) (r : Row) (x : Option Row) (c : Bool) → is_some (option_map (λ r. r.values) x) ≡ c → is_some (option_map (λ r. r.values) (if b then Some r else x)) ≡ (b || c)
 some_if true r x c e = refl
@@ -78,38 +56,74 @@ absent : (f : Option (List Text)) → is_some f ≡ false → f ≡ None
 absent None e = refl
 absent (Some vs) e = cc
 
-default_here : (b : Bool) (id : Text) (how : Reading) (rows : List Row) → has_row id rows ≡ b → found id (if b then rows else default_rows id how (codes "false" ∷ []) rows) ≡ or_default (found id rows)
-default_here true id how rows e = kept (found id rows) (found_if_row id rows ∙ e)
-default_here false id how rows e =
-    let none : found id rows ≡ None = absent (found id rows) (found_if_row id rows ∙ e) in
-    ap (found id) (at_absent id (more_values DefaultValue (codes "false" ∷ [])) _ rows none)
-    ∙ found_same id rows _ (bytes_self id) none ∙ ap or_default (sym none)
-
 abbrev or_absent : Bool → Option (List Text) → Option (List Text)
 or_absent true f = f
 or_absent false f = or_default f
 
+-- these are the default values of an option that takes a value, or of one that takes none
+abbrev is_default : Bool → List Text → Bool
+is_default true [] = true
+is_default false (d ∷ []) = bytes_eq d (codes "false")
+is_default _ _ = false
+
+default_here : (b t : Bool) (id : Text) (how : Reading) (ds : List Text) (rows : List Row) → is_default t ds ≡ true → has_row id rows ≡ b → found id (if b then rows else default_rows id how ds rows) ≡ or_absent t (found id rows)
+default_here true true id how [] rows d e = refl
+default_here false true id how [] rows d e = refl
+default_here b true id how (x ∷ xs) rows d e = cc
+default_here b false id how [] rows d e = cc
+default_here b false id how (x ∷ y ∷ xs) rows d e = cc
+default_here true false id how (x ∷ []) rows d e = kept (found id rows) (found_if_row id rows ∙ e)
+default_here false false id how (x ∷ []) rows d e =
+    let none : found id rows ≡ None = absent (found id rows) (found_if_row id rows ∙ e) in
+    ap (found id) (at_absent id (more_values DefaultValue (x ∷ [])) _ rows none)
+    ∙ found_same id rows _ (bytes_self id) none ∙ ap (λ v. Some (v ∷ [])) (same_bytes x (codes "false") d) ∙ ap or_default (sym none)
+
+default_past : (b : Bool) (id other : Text) (how : Reading) (ds : List Text) (rows : List Row) → bytes_eq other id ≡ false → found id (if b then rows else default_rows other how ds rows) ≡ found id rows
+default_past true id other how ds rows e = refl
+default_past false id other how [] rows e = refl
+default_past false id other how (d ∷ ds) rows e = values_other id other how DefaultValue (d ∷ ds) rows e
+
+-- each argument of this id has these default values
+abbrev all_default : Bool → Text → List Rule → Bool
+all_default t id = list_all (λ r. not (bytes_eq r.id id) || is_default t r.defaults)
+
+abbrev is_rule : Text → List Rule → Bool
+is_rule id = list_any (λ r. bytes_eq r.id id)
+
+or_false : (b : Bool) → (b || false) ≡ b
+or_false true = refl
+or_false false = refl
+
+or_absent_twice : (t b : Bool) (f : Option (List Text)) → or_absent (t || not b) (or_absent t f) ≡ or_absent t f
+or_absent_twice true b f = refl
+or_absent_twice false true None = refl
+or_absent_twice false true (Some vs) = refl
+or_absent_twice false false f = refl
+
+defaults_of : (t : Bool) (id : Text) (rs : List Rule) (rows : List Row) → all_default t id rs ≡ true → found id (fold with_default rows rs) ≡ or_absent (t || not (is_rule id rs)) (found id rows)
+defaults_of t id [] rows e = ap (λ b. or_absent b (found id rows)) (sym (or_true t))
+defaults_of t id (r ∷ rs) rows e =
+    let each = both_true (not (bytes_eq r.id id) || is_default t r.defaults) (all_default t id rs) e in
+    defaults_of t id rs (with_default rows r) each.1 ∙ by_id (bytes_eq r.id id) refl each.0
+  where
+    by_id : (b : Bool) → bytes_eq r.id id ≡ b → (not b || is_default t r.defaults) ≡ true → or_absent (t || not (is_rule id rs)) (found id (with_default rows r)) ≡ or_absent (t || not (b || is_rule id rs)) (found id rows)
+    by_id true same d =
+        ap (or_absent (t || not (is_rule id rs)))
+        (ap (λ x. found id (if has_row x rows then rows else default_rows x (reading_by r) r.defaults rows)) (same_bytes r.id id same)
+        ∙ default_here (has_row id rows) t id (reading_by r) r.defaults rows d refl)
+        ∙ or_absent_twice t (is_rule id rs) (found id rows) ∙ ap (λ b. or_absent b (found id rows)) (sym (or_false t))
+    by_id false other d = ap (or_absent (t || not (is_rule id rs))) (default_past (has_row r.id rows) id r.id (reading_by r) r.defaults rows other)
+
+-- the default values of each option and each name
+option_defaults : (c : Choice) → (all_default (takes_value (kind_of c)) (name_of c) rules ≡ true) × (is_rule (name_of c) rules ≡ true)
+option_defaults Hops = (refl, refl)
+option_defaults _ = (refl, refl)
+
 defaults_found : (c : Choice) (rows : List Row) → found (name_of c) (fold with_default rows rules) ≡ or_absent (takes_value (kind_of c)) (found (name_of c) rows)
-unfolding is_nil
-defaults_found Hops rows = defaults_past (name_of Hops) rules rows refl
-defaults_found Flows rows = defaults_past (name_of Flows) rules rows refl
-defaults_found Cells rows = defaults_past (name_of Cells) rules rows refl
-defaults_found Frags rows = defaults_past (name_of Frags) rules rows refl
-defaults_found FragCells rows = defaults_past (name_of FragCells) rules rows refl
-defaults_found Idle rows = defaults_past (name_of Idle) rules rows refl
-defaults_found FragTime rows = defaults_past (name_of FragTime) rules rows refl
-defaults_found Seed rows = defaults_past (name_of Seed) rules rows refl
-defaults_found Quota rows = defaults_past (name_of Quota) rules rows refl
-defaults_found Mtu rows = defaults_past (name_of Mtu) rules rows refl
-defaults_found Inside rows = defaults_past (name_of Inside) rules rows refl
-defaults_found Offload rows =
-    defaults_past (name_of Offload) (drop 12 rules) (with_default (fold with_default rows (take 11 rules)) (rule Offload)) refl
-    ∙ default_here (has_row (name_of Offload) (fold with_default rows (take 11 rules))) (name_of Offload) (reading_by (rule Offload)) (fold with_default rows (take 11 rules)) refl
-    ∙ ap or_default (defaults_past (name_of Offload) (take 11 rules) rows refl)
-defaults_found Both rows =
-    defaults_past (name_of Both) (drop 13 rules) (with_default (fold with_default rows (take 12 rules)) (rule Both)) refl
-    ∙ default_here (has_row (name_of Both) (fold with_default rows (take 12 rules))) (name_of Both) (reading_by (rule Both)) (fold with_default rows (take 12 rules)) refl
-    ∙ ap or_default (defaults_past (name_of Both) (take 12 rules) rows refl)
+defaults_found c rows =
+    let takes = takes_value (kind_of c) in
+    defaults_of takes (name_of c) rules rows (option_defaults c).0
+    ∙ ap (λ b. or_absent (takes || not b) (found (name_of c) rows)) (option_defaults c).1 ∙ ap (λ b. or_absent b (found (name_of c) rows)) (or_false takes)
 
 -- ---- values
 
@@ -143,23 +157,14 @@ value_found m words line e w rows_are c =
     ∙ ap head_of (defaults_found c (settled_rows rules h.pending h.rows))
     ∙ ap (λ f. head_of (or_absent (takes_value (kind_of c)) f)) (h.agrees c)
 
-settings_same : (f g : Choice → Option Text) (prefixes : List wire.Prefix) → ((c : Choice) → takes_value (kind_of c) ≡ true → f c ≡ g c) → ((c : Choice) → takes_value (kind_of c) ≡ false → is_told (f c) ≡ is_told (g c)) → settings_of f prefixes ≡ settings_of g prefixes
-settings_same f g prefixes v a =
-    rw (v Hops refl, v Flows refl, v Cells refl, v Frags refl, v FragCells refl, v Idle refl, v FragTime refl, v Seed refl, v Quota refl, v Mtu refl, v Inside refl, a Offload refl, a Both refl) refl
-
-by_kind : (b : Bool) (f g : Option Text) → f ≡ told b g → b ≡ true → f ≡ g
-by_kind true f g e t = e ∙ told_value g
-by_kind false f g e t = cc
-
-by_kind_alone : (b : Bool) (f g : Option Text) → f ≡ told b g → b ≡ false → is_told f ≡ is_told g
-by_kind_alone true f g e t = cc
-by_kind_alone false f g e t = ap is_told e ∙ told_alone g
+-- the same settings are told by the values found and by those given
+same_told : (given : Choice → Option Text) (prefixes : List wire.Prefix) → settings_of (λ c. told (takes_value (kind_of c)) (given c)) prefixes ≡ settings_of given prefixes
+same_told given prefixes = simp (told_value, told_alone)
 
 line_tells : (m : ArgMatches) (words : List Text) (line : PlainLine) → IsWrittenAs words line → is_whole line ≡ true → rows_of (found_of m) ≡ matches_of run_command words → TellsAs m line.uses
 line_tells m words line e w rows_are prefixes =
-    settings_same (value_in m) (λ c. given c line.uses) prefixes
-    (λ c t. by_kind (takes_value (kind_of c)) (value_in m c) (given c line.uses) (value_found m words line e w rows_are c) t)
-    (λ c t. by_kind_alone (takes_value (kind_of c)) (value_in m c) (given c line.uses) (value_found m words line e w rows_are c) t)
+    let each : value_in m ≡ (λ c. told (takes_value (kind_of c)) (given c line.uses)) = λ i c. value_found m words line e w rows_are c i in
+    ap (λ f. settings_of f prefixes) each ∙ same_told (λ c. given c line.uses) prefixes
 
 -- ---- names
 
@@ -173,13 +178,12 @@ first_name m words rows id value rows_are ends default is =
     ∙ ap head_of (default ∙ is)
 
 names_by : (m : ArgMatches) (words : List Text) (rows : List Row) (names : List Text) → nat_le 3 (length names) ≡ true → rows_of (found_of m) ≡ matches_of run_command words → matches_of run_command words ≡ fold with_default rows rules → HasNames names rows → NamesAre m names
-unfolding is_nil
 names_by m words rows [] l rows_are ends h = cc
 names_by m words rows (a ∷ []) l rows_are ends h = cc
 names_by m words rows (a ∷ b ∷ prefixes) l rows_are ends h = (
-  first_name m words rows (codes "in") a rows_are ends (defaults_past (codes "in") rules rows refl) h.0,
-  first_name m words rows (codes "out") b rows_are ends (defaults_past (codes "out") rules rows refl) h.1,
-  raw_values-rows (found_of m) (codes "prefix") ∙ ap (all_of (codes "prefix")) (rows_are ∙ ends) ∙ defaults_past (codes "prefix") rules rows refl ∙ h.2,
+  first_name m words rows (codes "in") a rows_are ends (defaults_of true (codes "in") rules rows refl) h.0,
+  first_name m words rows (codes "out") b rows_are ends (defaults_of true (codes "out") rules rows refl) h.1,
+  raw_values-rows (found_of m) (codes "prefix") ∙ ap (all_of (codes "prefix")) (rows_are ∙ ends) ∙ defaults_of true (codes "prefix") rules rows refl ∙ h.2,
 )
 
 pub line_reads : (m : ArgMatches) (words : List Text) (line : PlainLine) → IsWrittenAs words line → is_whole line ≡ true → rows_of (found_of m) ≡ matches_of run_command words → ReadsAs m line

@@ -9,13 +9,13 @@ use Rattle.clap.specs.declared.parser.matches.ValueSource.TheVariants.{CommandLi
 use Rattle.norm_settings.specs.Options.{Text, name_of, kind_of, takes_value, is_name, is_value}
 use Rattle.wire_base.specs.Prefixes.{is_number, is_digit}
 use Rattle.norm_settings.specs.Asked.{is_whole, go_together}
+use Rattle.norm_settings.specs.Found.{rule_by}
+use Rattle.clap.specs.Simple.{filled}
 use Rattle.norm_settings.specs.Line.{PlainUse, PlainLine, given, may_use, are_fit}
-use Rattle.norm_settings.specs.declared.options.Choice.{Choice}
-use Rattle.norm_settings.specs.declared.options.Choice.TheVariants.{Hops, Flows, Cells, Frags, FragCells, Idle, FragTime, Seed, Quota, Mtu, Inside, Offload, Both}
 use Rattle.norm_settings.specs.declared.options.Kind.{Kind}
 use Rattle.norm_settings.specs.declared.options.Kind.TheVariants.{Number, Limit, Name, Alone}
-use Rattle.norm_settings.proofs.Steps.{shape, rules, at, rule, IsPlain, joined_step, name_step, value_step, alone_step, joined_passes, name_passes, value_passes, alone_passes, settles, input_step, output_step, prefix_step, prefix_more_step, input_passes, output_passes, prefix_passes, prefix_more_passes, input_settles, output_settles, prefix_settles}
-use Rattle.norm_settings.proofs.Rows.{found, Agrees, agrees_added, settled_use, values_other, without_other, in_apart, out_apart, prefix_apart, Fresh, fresh_use, values_here, values_new, values_more}
+use Rattle.norm_settings.proofs.Steps.{shape, rules, at, rule, IsPlain, has, joined_walk, joined_turn, name_walk, name_turn, alone_walk, alone_turn, value_walk, value_turn, value_settles, input_step, output_step, prefix_step, prefix_more_step, input_passes, output_passes, prefix_passes, prefix_more_passes, input_settles, output_settles, prefix_settles}
+use Rattle.norm_settings.proofs.Rows.{found, Agrees, agrees_added, settled_use, values_other, without_other, apart, Fresh, fresh_use, values_here, values_new, values_more}
 use Rattle.norm_settings.specs.Grammar.{IsWritten, by_sign, by_word, by_name, IsLine, IsWrittenAs}
 
 -- the pending value is accepted
@@ -74,14 +74,14 @@ both_true false b e = cc
 
 in_agrees : (v : Text) (uses : List PlainUse) (rows : List Row) → Agrees uses rows → Agrees uses (settled_rows rules (Some (codes "in", v ∷ [])) rows)
 in_agrees v uses rows h c =
-    values_other (name_of c) (codes "in") _ CommandLine (v ∷ []) (without (codes "in") rows) (in_apart c) ∙ without_other (name_of c) (codes "in") rows (in_apart c) ∙ h c
+    values_other (name_of c) (codes "in") _ CommandLine (v ∷ []) (without (codes "in") rows) (apart c).0 ∙ without_other (name_of c) (codes "in") rows (apart c).0 ∙ h c
 
 out_agrees : (v : Text) (uses : List PlainUse) (rows : List Row) → Agrees uses rows → Agrees uses (settled_rows rules (Some (codes "out", v ∷ [])) rows)
 out_agrees v uses rows h c =
-    values_other (name_of c) (codes "out") _ CommandLine (v ∷ []) (without (codes "out") rows) (out_apart c) ∙ without_other (name_of c) (codes "out") rows (out_apart c) ∙ h c
+    values_other (name_of c) (codes "out") _ CommandLine (v ∷ []) (without (codes "out") rows) (apart c).1 ∙ without_other (name_of c) (codes "out") rows (apart c).1 ∙ h c
 
 prefix_agrees : (v : Text) (uses : List PlainUse) (rows : List Row) → Agrees uses rows → Agrees uses (settled_rows rules (Some (codes "prefix", v ∷ [])) rows)
-prefix_agrees v uses rows h c = values_other (name_of c) (codes "prefix") _ CommandLine (v ∷ []) rows (prefix_apart c) ∙ h c
+prefix_agrees v uses rows h c = values_other (name_of c) (codes "prefix") _ CommandLine (v ∷ []) rows (apart c).2 ∙ h c
 
 -- the prefixes found so far are `done`
 abbrev Named : Text → Text → List Text → List Row → Type 0
@@ -161,20 +161,9 @@ not_given : (g : Option Text) → not (is_some g) ≡ true → g ≡ None
 not_given None e = refl
 not_given (Some v) e = cc
 
-alone_use : (c : Choice) (rows : List Row) → takes_value (kind_of c) ≡ false → used (rule c) [] rows ≡ used (rule c) (codes "true" ∷ []) rows
-alone_use Hops rows e = cc
-alone_use Flows rows e = cc
-alone_use Cells rows e = cc
-alone_use Frags rows e = cc
-alone_use FragCells rows e = cc
-alone_use Idle rows e = cc
-alone_use FragTime rows e = cc
-alone_use Seed rows e = cc
-alone_use Quota rows e = cc
-alone_use Mtu rows e = cc
-alone_use Inside rows e = cc
-alone_use Offload rows e = refl
-alone_use Both rows e = refl
+alone_use : (k : Kind) (n : Text) (rows : List Row) → takes_value k ≡ false → used (filled (rule_by k n)) [] rows ≡ used (filled (rule_by k n)) (codes "true" ∷ []) rows
+alone_use Alone n rows e = refl
+alone_use k n rows e = cc
 
 -- the names of a line: at least three, each a name
 abbrev Good : List Text → Type 0
@@ -197,7 +186,7 @@ one_use u front rest line done all (by_sign t e) m ih rows p r =
     let before = settled_rows rules p rows in
     subst (λ ws. Ends (at rows p idle 1) (ws ++ rest) all line) (sym e)
     (more (at rows p idle 1) (at (used (rule c) (u.value ∷ []) before) None idle 1) (45 ∷ 45 ∷ (name_of c ++ 61 ∷ u.value)) rest all line
-    (joined_passes c rows p u.value t r.0) (joined_step c rows p u.value t)
+    (joined_turn shape (name_of c) rows p (kind_of c) u.value (has c) t r.0) (joined_walk shape (name_of c) rows p (kind_of c) u.value (has c) t)
     (ih (used (rule c) (u.value ∷ []) before) None (refl, agrees_added c u.value done before (not_given (given c done) fits.1) r.1, fresh_use c u.value before r.2)))
 one_use u front rest line done all (by_word t e) m ih rows p r =
     let c = u.choice in
@@ -207,19 +196,19 @@ one_use u front rest line done all (by_word t e) m ih rows p r =
     let agrees = agrees_added c u.value done before (not_given (given c done) fits.1) r.1 in
     subst (λ ws. Ends (at rows p idle 1) (ws ++ rest) all line) (sym e)
     (more (at rows p idle 1) (at before (Some (name_of c, [])) (option (name_of c)) 1) (45 ∷ 45 ∷ name_of c) (u.value ∷ rest) all line
-    (name_passes c rows p t r.0) (name_step c rows p t)
+    (name_turn shape (name_of c) rows p (kind_of c) (has c) t r.0) (name_walk shape (name_of c) rows p (kind_of c) (has c) t)
     (more (at before (Some (name_of c, [])) (option (name_of c)) 1) (at before (Some (name_of c, u.value ∷ [])) idle 1) u.value rest all line
-    (value_passes c before u.value t plain) (value_step c before u.value t plain)
-    (ih before (Some (name_of c, u.value ∷ [])) (settles c before u.value t, subst (Agrees (with_use done u)) (sym (settled_use c (u.value ∷ []) before)) agrees, subst Fresh (sym (settled_use c (u.value ∷ []) before)) (fresh_use c u.value before r.2)))))
+    (value_turn shape (name_of c) before None (kind_of c) u.value (has c) t plain) (value_walk shape (name_of c) before None (kind_of c) u.value (has c) t plain)
+    (ih before (Some (name_of c, u.value ∷ [])) (value_settles shape (name_of c) before None (kind_of c) u.value (has c) t, subst (Agrees (with_use done u)) (sym (settled_use c (u.value ∷ []) before)) agrees, subst Fresh (sym (settled_use c (u.value ∷ []) before)) (fresh_use c u.value before r.2)))))
 one_use u front rest line done all (by_name t v e) m ih rows p r =
     let c = u.choice in
     let fits = both_true (is_value (kind_of c) u.value) _ m in
     let before = settled_rows rules p rows in
-    let same : used (rule c) [] before ≡ used (rule c) (u.value ∷ []) before = alone_use c before t ∙ ap (λ x. used (rule c) (x ∷ []) before) (sym v) in
+    let same : used (rule c) [] before ≡ used (rule c) (u.value ∷ []) before = alone_use (kind_of c) (name_of c) before t ∙ ap (λ x. used (rule c) (x ∷ []) before) (sym v) in
     let agrees = agrees_added c u.value done before (not_given (given c done) fits.1) r.1 in
     subst (λ ws. Ends (at rows p idle 1) (ws ++ rest) all line) (sym e)
     (more (at rows p idle 1) (at (used (rule c) [] before) None idle 1) (45 ∷ 45 ∷ name_of c) rest all line
-    (alone_passes c rows p t r.0) (alone_step c rows p t)
+    (alone_turn shape (name_of c) rows p (kind_of c) (has c) t r.0) (alone_walk shape (name_of c) rows p (kind_of c) (has c) t)
     (ih (used (rule c) [] before) None (refl, subst (Agrees (with_use done u)) (sym same) agrees, subst Fresh (sym same) (fresh_use c u.value before r.2))))
 
 go : (uses done : List PlainUse) (words line : List Text) → IsLine uses words line → are_fit done uses ≡ true → Good line

@@ -1,6 +1,8 @@
 -- The options of a run (this project's profile): one table, for the grammar, the clap command that parses the words, and the help text.
 use Rattle.std.specs.Prelude.{ℕ, ◌≤◌, ◌==◌, ◌&&◌, nat_le, Bool, true, false, List, [], ◌∷◌, length, Option, Some, None, is_some, codes, if◌then◌else◌}
 use Rattle.wire_base.specs.Prefixes.{is_number, number_of}
+use Rattle.wire_base.specs.declared.limits.TheConstants.{MAX_PACKET}
+use Rattle.norm_settings.specs.declared.options.TheConstants.{MAX_CELLS}
 use Rattle.norm_settings.specs.declared.options.Choice.{Choice}
 use Rattle.norm_settings.specs.declared.options.Choice.TheVariants.{Hops, Flows, Cells, Frags, FragCells, Idle, FragTime, Seed, Quota, Mtu, Inside, Offload, Both}
 use Rattle.norm_settings.specs.declared.options.Kind.{Kind}
@@ -10,37 +12,36 @@ use Rattle.norm_settings.specs.declared.options.Kind.TheVariants.{Number, Limit,
 abbrev pub Text : Type 0
 Text = List ℕ
 
--- the name of an option, without `--`
-abbrev pub name_of : Choice → Text
-name_of Hops = codes "hops"
-name_of Flows = codes "flows"
-name_of Cells = codes "cells"
-name_of Frags = codes "frags"
-name_of FragCells = codes "frag-cells"
-name_of Idle = codes "idle"
-name_of FragTime = codes "frag-time"
-name_of Seed = codes "seed"
-name_of Quota = codes "quota"
-name_of Mtu = codes "mtu"
-name_of Inside = codes "inside"
-name_of Offload = codes "offload"
-name_of Both = codes "both"
+-- an entry of the table: the name of an option, without `--`, and the value that it takes: a number (least, greatest, default); a limit (least, greatest; no
+-- limit if not given); a name; none
+pub record PlainRow : Type 0 where
+  pub name : Text
+  pub kind : Kind
 
--- the value that an option takes: a number (least, greatest, default); a limit (least, greatest; no limit if not given); a name; none
+abbrev pub row : Text → Kind → PlainRow
+row name kind = record { name = name; kind = kind }
+
+-- the table of options
+abbrev pub row_of : Choice → PlainRow
+row_of Hops = row (codes "hops") (Number 0 254 30)
+row_of Flows = row (codes "flows") (Number 1 65536 4096)
+row_of Cells = row (codes "cells") (Number 1 MAX_CELLS 65536)
+row_of Frags = row (codes "frags") (Number 1 4096 256)
+row_of FragCells = row (codes "frag-cells") (Number 256 65536 4096)
+row_of Idle = row (codes "idle") (Number 1 1000000 3600)
+row_of FragTime = row (codes "frag-time") (Number 1 3600 30)
+row_of Seed = row (codes "seed") (Number 0 18446744073709551615 0)
+row_of Quota = row (codes "quota") (Limit 1 MAX_CELLS)
+row_of Mtu = row (codes "mtu") (Limit 576 MAX_PACKET)
+row_of Inside = row (codes "inside") Name
+row_of Offload = row (codes "offload") Alone
+row_of Both = row (codes "both") Alone
+
+abbrev pub name_of : Choice → Text
+name_of choice = (row_of choice).name
+
 abbrev pub kind_of : Choice → Kind
-kind_of Hops = Number 0 254 30
-kind_of Flows = Number 1 65536 4096
-kind_of Cells = Number 1 262144 65536
-kind_of Frags = Number 1 4096 256
-kind_of FragCells = Number 256 65536 4096
-kind_of Idle = Number 1 1000000 3600
-kind_of FragTime = Number 1 3600 30
-kind_of Seed = Number 0 18446744073709551615 0
-kind_of Quota = Limit 1 262144
-kind_of Mtu = Limit 576 65535
-kind_of Inside = Name
-kind_of Offload = Alone
-kind_of Both = Alone
+kind_of choice = (row_of choice).kind
 
 -- the options, in the order of the table
 abbrev pub all_choices : List Choice

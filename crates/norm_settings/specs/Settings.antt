@@ -2,7 +2,7 @@
 use Rattle.std.specs.Prelude.{ℕ, ◌≡◌, ◌≤◌, Bool, true, false, List, All, Option, Some, None, IfSome, option_map, option_and_then, unwrap_or, codes, if◌then◌else◌}
 use Rattle.std.specs.Str.{bytes_eq}
 use Rattle.wire_base.specs.declared.prefix.Prefix.{Prefix}
-use Rattle.norm_settings.specs.Options.{Text, kind_of, is_value, number_by, standard_of, IsWithin}
+use Rattle.norm_settings.specs.Options.{Text, kind_of, is_value, number_by, standard_of, greatest_of, IsInRange}
 use Rattle.norm_settings.specs.declared.options.Choice.{Choice}
 use Rattle.norm_settings.specs.declared.options.Choice.TheVariants.{Hops, Flows, Cells, Frags, FragCells, Idle, FragTime, Seed, Quota, Mtu, Inside, Offload, Both}
 use Rattle.norm_settings.specs.declared.options.Kind.TheVariants.{Name}
@@ -92,15 +92,15 @@ standard prefixes = settings_of (λ choice. None) prefixes
 -- each number is in the range that its option has, and each prefix has at most 32 bits; a seed may be any number
 pub record AreInRange (s : PlainSettings) : Type 0 where
   pub prefixes : All (λ prefix. prefix.len ≤ 32) s.prefixes
-  pub hops : s.hops ≤ 254
-  pub flows : IsWithin 1 65536 s.flows
-  pub cells : IsWithin 1 262144 s.cells
-  pub frags : IsWithin 1 4096 s.frags
-  pub frag_cells : IsWithin 256 65536 s.frag_cells
-  pub idle : IsWithin 1 1000000 s.idle
-  pub frag_time : IsWithin 1 3600 s.frag_time
-  pub quota : IfSome s.quota (IsWithin 1 262144)
-  pub mtu : IfSome s.mtu (IsWithin 576 65535)
+  pub hops : s.hops ≤ greatest_of (kind_of Hops)
+  pub flows : IsInRange (kind_of Flows) s.flows
+  pub cells : IsInRange (kind_of Cells) s.cells
+  pub frags : IsInRange (kind_of Frags) s.frags
+  pub frag_cells : IsInRange (kind_of FragCells) s.frag_cells
+  pub idle : IsInRange (kind_of Idle) s.idle
+  pub frag_time : IsInRange (kind_of FragTime) s.frag_time
+  pub quota : IfSome s.quota (IsInRange (kind_of Quota))
+  pub mtu : IfSome s.mtu (IsInRange (kind_of Mtu))
 
 -- The settings do not conflict: with `both` they do not exchange sides (the second engine has settings of its own), and have neither an inside interface nor a
 -- maximum packet length.

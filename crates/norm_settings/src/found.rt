@@ -88,7 +88,7 @@ fn number_by(kind: Kind, value: &[u8]) -> Option<u64>
 
 fn quota_found(matches: &ArgMatches<'_>) -> Option<u32>
     ensures exact { result ≡ limit_told Choice.Quota (value_in matches.now Choice.Quota) }
-    ensures in_range { IfSome result (IsWithin 1 262144) }
+    ensures in_range { IfSome result (IsInRange (kind_of Choice.Quota)) }
 {
     match limit_found(matches, Choice::Quota) {
         Some(number) => Some(number as u32),
@@ -98,7 +98,7 @@ fn quota_found(matches: &ArgMatches<'_>) -> Option<u32>
 
 fn mtu_found(matches: &ArgMatches<'_>) -> Option<u16>
     ensures exact { result ≡ limit_told Choice.Mtu (value_in matches.now Choice.Mtu) }
-    ensures in_range { IfSome result (IsWithin 576 65535) }
+    ensures in_range { IfSome result (IsInRange (kind_of Choice.Mtu)) }
 {
     match limit_found(matches, Choice::Mtu) {
         Some(number) => Some(number as u16),

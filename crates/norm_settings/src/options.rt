@@ -2,6 +2,11 @@
 ghost use Rattle.std.specs.Prelude.{◌≡◌};
 ghost use Rattle.norm_settings.specs.Options.{name_of, kind_of, all_choices, standard_of as standard_of_kind, IsInRange, HasStandard};
 
+use wire_base::MAX_PACKET;
+
+/// Most cells of 256 octets for streams.
+pub const MAX_CELLS: u64 = 262_144;
+
 /// An option of `run`.
 #[derive(Clone, Copy, Debug, PartialEq, Eq)]
 pub enum Choice {
@@ -47,19 +52,29 @@ pub struct Row<'a> {
     pub kind: Kind,
 }
 
-// Returns the entry of an option that takes a number.
-fn number<'a>(name: &'a str, least: u64, greatest: u64, standard: u64) -> Row<'a>
-    ensures name { result.name.now ≡ name.entry.now }
-    ensures kind { result.kind ≡ Kind.Number least greatest standard }
-{
-    Row {
-        name,
-        kind: Kind::Number {
-            least,
-            greatest,
-            standard,
-        },
+impl<'a> Row<'a> {
+    fn new(name: &'a str, kind: Kind) -> Row<'a>
+        ensures name { result.name.now ≡ name.entry.now }
+        ensures kind { result.kind ≡ kind }
+    {
+        Row { name, kind }
     }
+}
+
+fn number(least: u64, greatest: u64, standard: u64) -> Kind
+    ensures { result ≡ Kind.Number least greatest standard }
+{
+    Kind::Number {
+        least,
+        greatest,
+        standard,
+    }
+}
+
+fn limit(least: u64, greatest: u64) -> Kind
+    ensures { result ≡ Kind.Limit least greatest }
+{
+    Kind::Limit { least, greatest }
 }
 
 impl Choice {
@@ -85,40 +100,19 @@ impl Choice {
         ensures kind { result.kind ≡ kind_of self }
     {
         match self {
-            Choice::Hops => number("hops", 0, 254, 30),
-            Choice::Flows => number("flows", 1, 65_536, 4_096),
-            Choice::Cells => number("cells", 1, 262_144, 65_536),
-            Choice::Frags => number("frags", 1, 4_096, 256),
-            Choice::FragCells => number("frag-cells", 256, 65_536, 4_096),
-            Choice::Idle => number("idle", 1, 1_000_000, 3_600),
-            Choice::FragTime => number("frag-time", 1, 3_600, 30),
-            Choice::Seed => number("seed", 0, u64::MAX, 0),
-            Choice::Quota => Row {
-                name: "quota",
-                kind: Kind::Limit {
-                    least: 1,
-                    greatest: 262_144,
-                },
-            },
-            Choice::Mtu => Row {
-                name: "mtu",
-                kind: Kind::Limit {
-                    least: 576,
-                    greatest: 65_535,
-                },
-            },
-            Choice::Inside => Row {
-                name: "inside",
-                kind: Kind::Name,
-            },
-            Choice::Offload => Row {
-                name: "offload",
-                kind: Kind::Alone,
-            },
-            Choice::Both => Row {
-                name: "both",
-                kind: Kind::Alone,
-            },
+            Choice::Hops => Row::new("hops", number(0, 254, 30)),
+            Choice::Flows => Row::new("flows", number(1, 65_536, 4_096)),
+            Choice::Cells => Row::new("cells", number(1, MAX_CELLS, 65_536)),
+            Choice::Frags => Row::new("frags", number(1, 4_096, 256)),
+            Choice::FragCells => Row::new("frag-cells", number(256, 65_536, 4_096)),
+            Choice::Idle => Row::new("idle", number(1, 1_000_000, 3_600)),
+            Choice::FragTime => Row::new("frag-time", number(1, 3_600, 30)),
+            Choice::Seed => Row::new("seed", number(0, u64::MAX, 0)),
+            Choice::Quota => Row::new("quota", limit(1, MAX_CELLS)),
+            Choice::Mtu => Row::new("mtu", limit(576, MAX_PACKET as u64)),
+            Choice::Inside => Row::new("inside", Kind::Name),
+            Choice::Offload => Row::new("offload", Kind::Alone),
+            Choice::Both => Row::new("both", Kind::Alone),
         }
     }
 
