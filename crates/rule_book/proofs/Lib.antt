@@ -1,7 +1,8 @@
 pub mod Cuts
-pub mod Decimals
+pub mod DigitCounts
 pub mod Ends
 pub mod Names
+pub mod Numerals
 pub mod Lasts
 pub mod Lines
 pub mod Marks

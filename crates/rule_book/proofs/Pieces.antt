@@ -1,20 +1,8 @@
 -- Octets that are written into a buffer in several steps.
-use Rattle.std.proofs.Common.{◌≡◌, ℕ, ◌+◌, ◌-◌, ◌≤◌, List, ◌++◌, length, take, drop, sym, ap, ◌∙◌, subst, arith, append_assoc, length-append, take-take}
+use Rattle.std.proofs.Common.{◌≡◌, ℕ, ◌+◌, ◌-◌, ◌≤◌, List, ◌++◌, length, take, drop, sym, ap, ◌∙◌, arith, append_assoc, take-take}
 use Rattle.std.proofs.lemmas.List.{length-drop, length-take-le, take-append-drop}
 use Rattle.std.proofs.Math.Seq.{take-append-add}
 use Rattle.rule_book.specs.Lines.{Puts}
-
-pub puts_as : (old new : List ℕ) (at end : ℕ) (piece other : List ℕ) → Puts old new at end piece → other ≡ piece → Puts old new at end other
-puts_as old new at end piece other p e = subst (Puts old new at end) (sym e) p
-
--- two texts, the second behind the first
-pub puts_both : (old mid new : List ℕ) (at next end : ℕ) (front back whole : List ℕ) → Puts old mid at next front → Puts mid new next end back → whole ≡ front ++ back → Puts old new at end whole
-puts_both old mid new at next end front back whole p q e =
-    puts_as old new at end (front ++ back) whole (record {
-      text = q.text ∙ ap (λ l. l ++ back) p.text ∙ append_assoc (take at old) front back;
-      len = omega (arith, p.len, q.len, length-append front back);
-      room = q.room ∙ p.room;
-    }) e
 
 -- the first octets of a word, and then the last ones, which may overlap
 pub puts_ends : (old mid new word front back : List ℕ) (at part rest next end : ℕ) → at ≤ length old → part ≤ length word → length word ≤ part + part → rest ≡ length word - part

@@ -141,6 +141,12 @@ bare-with_marks entry =
     with_named (bare entry) entry.rules (era_marks belongs entry.era ++ (era_marks began entry.begun ++ map over entry.ended))
     ∙ with_eras (record (bare entry) { rules = entry.rules }) entry.era entry.begun entry.ended refl refl refl
 
+-- the line of an entry without its line feed is what stands before its first one
+pub front_is : (entry : PlainEntry) → EntryFits entry → (line body : List ℕ) → line ≡ entry_text entry → ((front : List ℕ) → line ≡ front ++ 10 ∷ [] → body ≡ front) → body ≡ before_first (λ x. nat_eq x 10) line
+front_is entry fits line body is b =
+    let whole = is ∙ entry_text-joined entry in
+    b (joined (words_of entry)) whole ∙ sym (before_in 10 line (joined (words_of entry)) [] (joined-no_feed (words_of entry) (words-solid entry fits)) whole)
+
 -- the line of an entry, cut at its spaces, gives the words of the entry
 pub words_at : (entry : PlainEntry) → EntryFits entry → (line body number behind_number side behind_side verdict behind_verdict packets marks : List ℕ)
     → line ≡ entry_text entry → body ≡ before_first (λ x. nat_eq x 10) line

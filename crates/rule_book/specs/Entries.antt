@@ -8,7 +8,7 @@ use Rattle.rule_book.specs.declared.entry.Verdict.{Verdict}
 use Rattle.rule_book.specs.declared.rule.Rule.{Rule}
 use Rattle.wire_base.specs.declared.address.Side.{Side}
 
--- an entry whose collections are lists
+-- the entry of a record: its number, side and verdict, the number of frames written for it, the rules, and the eras that it belongs to, begins and ends
 pub record PlainEntry : Type 0 where
   pub number : ℕ
   pub side : Option Side

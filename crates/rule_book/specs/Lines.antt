@@ -1,5 +1,5 @@
 -- A line of text in a buffer, written from its front.
-use Rattle.std.specs.Prelude.{◌≡◌, ℕ, ◌+◌, ◌/◌, ◌%◌, List, [], ◌∷◌, ◌++◌, length, take}
+use Rattle.std.specs.Prelude.{◌≡◌, ℕ, ◌+◌, List, ◌++◌, length, take}
 use Rattle.rule_book.specs.declared.line.Line.{Line}
 
 -- the text of a line: the front of its buffer
@@ -17,15 +17,3 @@ pub record Puts (old new : List ℕ) (at end : ℕ) (piece : List ℕ) : Type 0 
   pub text : take end new ≡ take at old ++ piece
   pub len : end ≡ at + length piece
   pub room : length new ≡ length old
-
--- the two digits of a number below 100
-abbrev pub two_digits : ℕ → List ℕ
-two_digits number = (48 + number / 10) ∷ (48 + number % 10) ∷ []
-
--- the four digits of a number below 10,000
-abbrev pub four_digits : ℕ → List ℕ
-four_digits number = two_digits (number / 100) ++ two_digits (number % 100)
-
--- the eight digits of a number below 100,000,000
-abbrev pub eight_digits : ℕ → List ℕ
-eight_digits number = four_digits (number / 10000) ++ four_digits (number % 10000)

@@ -1,6 +1,6 @@
 -- The table of rules: a line for each rule, and the order in which they are tested and named (this project's profile).
 use Prim.Native.String.{String}
-use Rattle.std.specs.Prelude.{◌≡◌, ℕ, ◌==◌, ◌&&◌, not, nat_lt, Bool, true, false, List, [], ◌∷◌, ◌++◌, map, filter, find, Option, Some, codes}
+use Rattle.std.specs.Prelude.{◌≡◌, ℕ, ◌==◌, ◌&&◌, not, Bool, true, false, List, [], ◌∷◌, ◌++◌, map, filter, find, Option, Some, codes}
 use Rattle.std.specs.List.Sorted.{IsStrictlyIncreasing}
 use Rattle.std.specs.Str.{bytes_eq}
 use Rattle.rule_book.specs.declared.rule.Rule.{Rule}
@@ -262,9 +262,9 @@ NamesDiffer = (one other : Rule) → rule_name one ≡ rule_name other → one �
 abbrev pub Rises : List Rule → Type 0
 Rises rules = IsStrictlyIncreasing (map rule_number rules)
 
--- the numbers up to 58 rise along the drop rules, and T_QUOTA (60) is tested between T_FULL and T_ROOM
+-- the numbers of the drop rules rise but for T_QUOTA (60), which is tested between T_FULL and T_ROOM
 pub record RisesButForQuota (rows : List Rule) : Type 0 where
   pub before : List Rule
   pub behind : List Rule
   pub whole : rows ≡ before ++ rules.TFull ∷ rules.TQuota ∷ rules.TRoom ∷ behind
-  pub rises : Rises (filter (λ rule. nat_lt (rule_number rule) 59) rows)
+  pub rises : Rises (before ++ rules.TFull ∷ rules.TRoom ∷ behind)

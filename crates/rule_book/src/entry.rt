@@ -48,6 +48,9 @@ pub struct Ended {
     pub octets: Option<u64>,
 }
 
+/// Most rules that an engine names for a record; a frame that is too long for the link adds two.
+pub const MAX_NAMED: usize = 14;
+
 /// The entry of one record.
 #[derive(Debug, Drop)]
 pub struct Entry {

@@ -1,6 +1,6 @@
 //! Parsers of the lines of a report. An entry and a last line have one text each. So a line is parsed leniently, and
 //! the result is returned only if its text is exactly this line.
-ghost use Rattle.std.specs.Prelude.{◌≡◌, ◌≢◌, ◌↔◌, ℕ, ◌^◌, ◌<◌, [], decimal, Option, Some, None, IfSome, IsSome, IsSomeAnd, IsTrue, MatchOption};
+ghost use Rattle.std.specs.Prelude.{◌≡◌, ◌≢◌, ◌↔◌, ℕ, ◌^◌, ◌<◌, List, [], ◌∷◌, ◌++◌, decimal, Option, Some, None, IfSome, IsSome, IsSomeAnd, IsTrue, MatchOption};
 ghost use Rattle.rule_book.specs.Entries.{IsOfVersion, PlainEntry, plain};
 ghost use Rattle.rule_book.specs.Reports.{EndedFits, EntryFits, IsEntryOf, LastFits};
 ghost use Rattle.rule_book.specs.Text.{ended_word, entry_text, last_text, side_word};
@@ -89,7 +89,7 @@ struct Words<'a> {
 fn words_of(line: &[u8]) -> Words<'_>
     ensures { (entry : PlainEntry) → EntryFits entry → line.now ≡ entry_text entry → HasWords entry result.number.now result.side.now result.verdict.now result.packets.now result.marks.now }
 {
-    let (line, _) = cut(line, b'\n');
+    let line = without_feed(line);
     let (number, behind_number) = cut(line, b' ');
     let (side, behind_side) = cut(behind_number, b' ');
     let (verdict, behind_verdict) = cut(behind_side, b' ');
@@ -100,6 +100,16 @@ fn words_of(line: &[u8]) -> Words<'_>
         verdict,
         packets,
         marks,
+    }
+}
+
+/// Returns a line without its line feed.
+fn without_feed(line: &[u8]) -> &[u8]
+    ensures { (body : List ℕ) → line.now ≡ body ++ 10 ∷ [] → result.now ≡ body }
+{
+    match line {
+        [body @ .., b'\n'] => body,
+        _ => line,
     }
 }
 

@@ -3,7 +3,7 @@ ghost use Rattle.std.specs.Prelude.{◌≡◌, ◌+◌, ◌<◌, ◌≤◌, [], 
 ghost use Rattle.rule_book.specs.Lines.{Adds};
 ghost use Rattle.rule_book.specs.Text.{part};
 
-use crate::digits::{put_long_number, put_number, put_small_number};
+use crate::digits::put_decimal;
 use crate::puts::{put, put_octet, put_word};
 
 /// A line of text: the first `len` octets of a buffer.
@@ -58,33 +58,36 @@ impl<'a> Line<'a> {
     }
 
     /// Appends a decimal number of at most 3 digits.
+    #[tactic(auto, using(crate::proofs::DigitCounts::digit_counts))]
     pub fn small_number(&mut self, number: u8)
         requires { self.old.len + 4 ≤ length self.old.buf.now }
         ensures same_buffer { self.new.buf.ghost_name ≡ self.old.buf.ghost_name }
         ensures adds { Adds self.old self.new (decimal number) }
         ensures bound { self.new.len ≤ self.old.len + 3 }
     {
-        self.len = put_small_number(self.buf, self.len, number);
+        self.len = put_decimal(self.buf, self.len, u64::from(number));
     }
 
     /// Appends a decimal number of at most 10 digits.
+    #[tactic(auto, using(crate::proofs::DigitCounts::digit_counts))]
     pub fn number(&mut self, number: u32)
         requires { self.old.len + 10 ≤ length self.old.buf.now }
         ensures same_buffer { self.new.buf.ghost_name ≡ self.old.buf.ghost_name }
         ensures adds { Adds self.old self.new (decimal number) }
         ensures bound { self.new.len ≤ self.old.len + 10 }
     {
-        self.len = put_number(self.buf, self.len, number);
+        self.len = put_decimal(self.buf, self.len, u64::from(number));
     }
 
     /// Appends a decimal number of at most 20 digits.
+    #[tactic(auto, using(crate::proofs::DigitCounts::digit_counts))]
     pub fn long_number(&mut self, number: u64)
         requires { self.old.len + 20 ≤ length self.old.buf.now }
         ensures same_buffer { self.new.buf.ghost_name ≡ self.old.buf.ghost_name }
         ensures adds { Adds self.old self.new (decimal number) }
         ensures bound { self.new.len ≤ self.old.len + 20 }
     {
-        self.len = put_long_number(self.buf, self.len, number);
+        self.len = put_decimal(self.buf, self.len, number);
     }
 
     /// Appends a space and a text.

@@ -2,6 +2,8 @@
 ghost use Rattle.std.specs.Prelude.{◌≡◌, ℕ, ◌^◌, ◌<◌, ◌≤◌, ◌+◌, ◌==◌, length, decimal, IfSome};
 ghost use Rattle.std.specs.List.{after_first, before_first, position_or_len};
 
+use wire_base::read_number;
+
 /// Cuts a text at the first such octet. Returns what precedes and what follows it, or all of the text and nothing if
 /// there is none.
 pub fn cut(text: &[u8], octet: u8) -> (&[u8], &[u8])
@@ -24,11 +26,12 @@ pub fn place_of(text: &[u8], octet: u8) -> usize
 }
 
 /// Parses a decimal number of 64 bits.
+#[tactic(auto, using(crate::proofs::Numerals::read_decimal))]
 pub fn long_number_of(word: &[u8]) -> Option<u64>
     ensures value { (number : ℕ) → number < 2 ^ 64 → word.now ≡ decimal number → result ≡ Some number }
     ensures bound { IfSome result (λ number. number < 2 ^ 64) }
 {
-    std::str::from_utf8(word).ok()?.parse().ok()
+    u64::try_from(read_number(word, 20)?).ok()
 }
 
 /// Parses a decimal number of 32 bits.
