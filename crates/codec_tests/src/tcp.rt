@@ -4,7 +4,8 @@ ghost use Rattle.std.specs.Prelude.{◌≡◌, []};
 use arrayvec::ArrayVec;
 use std::test::Fail;
 use tcp_codec::{
-    SegmentParts, SumRule, Tcp, TcpFault, clean_options, parse, scale_of, write_segment,
+    SegmentParts, SumRule, Tcp, TcpFault, clean_options, options_change, parse, scale_of,
+    write_cleaned, write_segment,
 };
 use wire_base::{Addr, Flags, protocol, pseudo_sum};
 
@@ -257,9 +258,11 @@ fn options_are_kept_or_cleared(rt: HostRuntime) -> Result<(), Fail> {
         let mut segment = syn_with(old);
         let header = parse(&segment, 0, SumRule::Skip)?.header;
         assert_eq!(rt; header - 20, old.len());
+        let changes = options_change(&segment[20..header], syn);
         let changed = clean_options(&mut segment[20..header], syn);
         assert_eq!(rt; &segment[20..header], new, "{old:?}");
         assert_eq!(rt; changed, old != new, "{old:?}");
+        assert_eq!(rt; changes, changed, "{old:?}");
     }
     Ok(())
 }
@@ -328,4 +331,29 @@ fn segments_are_written_with_their_sums(rt: HostRuntime) -> Result<(), Fail> {
     );
     assert_eq!(rt; &buf[size..], [180, 1, 3, 3, 7].as_slice());
     Ok(())
+}
+
+// On a SYN all these options are kept; on another segment none is (RFC 9293, RFC 7323).
+#[test]
+fn segments_are_written_with_cleaned_options(rt: HostRuntime) {
+    let area = [2, 4, 5, 180, 1, 3, 3, 7];
+    let mut buf = [0xee; 28];
+    let size = write_cleaned(&parts(999, 5001, Flags(0x12)), &area, true, &[], &mut buf);
+    assert_eq!(rt;
+        &buf[..size],
+        [
+            0x9c, 0x40, 0x00, 0x50, 0x00, 0x00, 0x03, 0xe7, 0x00, 0x00, 0x13, 0x89, 0x70, 0x12,
+            0x20, 0x00, 0x7b, 0xcc, 0x00, 0x00, 0x02, 0x04, 0x05, 0xb4, 0x01, 0x03, 0x03, 0x07
+        ]
+        .as_slice()
+    );
+    let size = write_cleaned(&parts(999, 5001, Flags(0x10)), &area, false, &[], &mut buf);
+    assert_eq!(rt;
+        &buf[..size],
+        [
+            0x9c, 0x40, 0x00, 0x50, 0x00, 0x00, 0x03, 0xe7, 0x00, 0x00, 0x13, 0x89, 0x70, 0x10,
+            0x20, 0x00, 0x83, 0x8c, 0x00, 0x00, 1, 1, 1, 1, 1, 1, 1, 1
+        ]
+        .as_slice()
+    );
 }

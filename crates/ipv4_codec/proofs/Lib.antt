@@ -1,1 +1,2 @@
 pub mod PlainHeaders
+pub mod Walks

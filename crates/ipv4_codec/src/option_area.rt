@@ -1,5 +1,5 @@
 //! The options of an IPv4 header.
-ghost use Rattle.std.specs.Prelude.{◌≡◌, ◌==◌, ◌||◌};
+ghost use Rattle.std.specs.Prelude.{◌≡◌, ◌≤◌, ◌==◌, ◌||◌};
 ghost use Rattle.ipv4_codec.specs.Options.{facts_of};
 
 use thiserror::Error;
@@ -33,28 +33,37 @@ pub struct BadOption;
 pub fn options(bytes: &[u8]) -> Result<OptionFacts, BadOption>
     ensures { result ≡ facts_of bytes.now }
 {
+    if bytes.is_empty() {
+        return Ok(OptionFacts {
+            some: false,
+            route: false,
+        });
+    }
     let mut route = false;
     let mut at = 0;
-    while at < bytes.len() && bytes[at] != END {
+    while bytes.len() - at >= 2 && bytes[at] != END {
         let kind = bytes[at];
-        if kind == NO_OPERATION {
-            at += 1;
-            continue;
-        }
-        if bytes.len() - at < 2 {
-            return Err(BadOption);
-        }
-        let size = usize::from(bytes[at + 1]);
-        if size < 2 || bytes.len() - at < size {
+        let size = size_by(kind, bytes[at + 1]);
+        let short = (kind != NO_OPERATION) & (size < 2);
+        if short || bytes.len() - at < size {
             return Err(BadOption);
         }
         route |= is_route(kind);
         at += size;
     }
-    Ok(OptionFacts {
-        some: !bytes.is_empty(),
-        route,
-    })
+    if at < bytes.len() && bytes[at] > NO_OPERATION {
+        return Err(BadOption);
+    }
+    Ok(OptionFacts { some: true, route })
+}
+
+// Returns the length in octets of a no-operation, or of an option of another kind with this length
+// octet. The choice takes no branch: it would be mispredicted at every other hostile option.
+fn size_by(kind: u8, length: u8) -> usize
+    ensures none { kind ≡ 1 → result ≡ 1 }
+    ensures option { 2 ≤ kind → result ≡ length }
+{
+    usize::from(if kind == NO_OPERATION { 1 } else { length })
 }
 
 // Returns whether the kind is a source route, loose or strict.

@@ -4,6 +4,7 @@ ghost use Rattle.ipv4_codec.specs.Header.{fields_of};
 ghost use Rattle.ipv4_codec.specs.Write.{octets_of, plain_fields, plain_header};
 ghost use Rattle.wire_base.specs.Ipv4 as ip;
 ghost use Rattle.wire_base.specs.Sums.{sum_is_right};
+ghost use Rattle.wire_base.specs.declared.limits.TheConstants.{MAX_PAYLOAD};
 
 use crate::Ipv4;
 use wire_base::{put_u16, sum_for};
@@ -16,7 +17,7 @@ const HEADER: usize = 20;
 /// of `head`; no other flag is set, the offset is 0, there are no options, and the checksum is
 /// right (RFC 791 section 3.1). Returns the header's length in octets.
 pub fn write_plain(head: &Ipv4, payload: u16, buf: &mut [u8]) -> usize
-    requires payload { payload ≤ 65515 }
+    requires payload { payload ≤ MAX_PAYLOAD }
     requires room { 20 ≤ length buf.old }
     ensures exact { buf.new ≡ plain_header head.now payload ++ drop 20 buf.old }
     ensures size { result ≡ 20 }
@@ -33,7 +34,7 @@ pub fn write_plain(head: &Ipv4, payload: u16, buf: &mut [u8]) -> usize
 
 // Returns the header with 0 in its checksum field.
 fn without_sum(head: &Ipv4, payload: u16) -> [u8; 20]
-    requires { payload ≤ 65515 }
+    requires { payload ≤ MAX_PAYLOAD }
     ensures exact { result ≡ octets_of head.now (20 + payload) 0 }
     ensures fields { fields_of result ≡ plain_fields head.now payload 0 }
 {

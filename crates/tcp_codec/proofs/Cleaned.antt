@@ -1,5 +1,5 @@
 -- Laws of cleaned areas.
-use Rattle.std.proofs.Common.{◌≡◌, ℕ, zero, suc, ◌-◌, ◌≤◌, ◌<◌, ◌⊎◌, ◌==◌, ◌&&◌, inl, inr, Bool, true, false, List, [], ◌∷◌, length, get_or, replicate, not, min, Some, refl, sym, subst, ap, ◌∙◌, ⊎_elim, arith}
+use Rattle.std.proofs.Common.{◌≡◌, ℕ, zero, suc, ◌-◌, ◌≤◌, ◌<◌, ◌⊎◌, ◌==◌, ◌&&◌, inl, inr, Bool, true, false, List, [], ◌∷◌, length, get_or, replicate, not, min, Some, None, refl, sym, subst, ap, ◌∙◌, ⊎_elim, arith}
 use Rattle.std.proofs.lemmas.Bool.{cases_lt}
 use Rattle.std.proofs.lemmas.Bool.Decides.{nat_tests}
 use Rattle.std.proofs.lemmas.List.{length-replicate}
@@ -7,7 +7,7 @@ use Rattle.std.specs.List.{list_any}
 use Rattle.wire_base.specs.Options.{cleaned, end_of}
 use Rattle.wire_base.proofs.OptionWalk.{formed_from, formed_from-size, formed_from-small, scale_from, scale_from-size}
 use Rattle.wire_base.proofs.OptionLists.{are_well_formed-walk, has-first, scale_of-walk, scale_from-first, which}
-use Rattle.tcp_codec.specs.Cleaning.{CleansOctets, CleansOnce, KeepsScale, StaysWellFormed, is_kept_after}
+use Rattle.tcp_codec.specs.Cleaning.{CleansOctets, CleansOnce, KeepsScale, LosesScale, StaysWellFormed, is_kept_after}
 use Rattle.tcp_codec.proofs.CleanedWalk.{cleaned_from, cleaned_from-first, cleaned_from-other, cleaned-walk, end_from, end_from-sized, end_of-walk}
 
 -- the number of octets that still belong to the option before in a walk over the cleaned area: 0 if that option was not kept
@@ -208,3 +208,31 @@ same-scale before keep zero (suc (suc k) ∷ octets) none =
 pub keeps_scale : KeepsScale
 keeps_scale area =
     scale_of-walk (cleaned true area) ∙ ap (scale_from 0) (cleaned-walk true area) ∙ same-scale [] true 0 area refl ∙ sym (scale_of-walk area)
+
+none-kept : (before : List ℕ) (kind size : ℕ) → is_kept_after false before kind size ≡ true → ((kind == 3) && (size == 3)) ≡ false
+none-kept before kind size kept = grind (arith, nat_tests)
+
+-- without SYN no window scale option is kept
+no-scale : (before : List ℕ) (keep : Bool) (left : ℕ) (octets : List ℕ) → scale_from (again keep left) (cleaned_from false before keep left octets) ≡ None
+no-scale before keep left [] = refl
+no-scale before true (suc left) (x ∷ octets) = no-scale before true left octets
+no-scale before false (suc left) (x ∷ octets) = no-scale before false left octets
+no-scale before keep zero (zero ∷ octets) = rw (again-zero keep) refl
+no-scale before keep zero (suc zero ∷ octets) = rw (again-zero keep) (no-scale before true 0 octets)
+no-scale before keep zero (suc (suc k) ∷ octets) =
+    let kind = suc (suc k) in
+    let other : 2 ≤ kind = omega arith in
+    let size = get_or octets 0 0 in
+    rw (again-zero keep) (⊎_elim (λ kept.
+    let behind = cleaned_from false (kind ∷ before) true (size - 1) octets in
+    let first : get_or behind 0 0 ≡ size = let two = kept-size false before kind size kept in first-octet false (kind ∷ before) (size - 1) octets (omega arith) in
+    let another : ((kind == 3) && (get_or behind 0 0 == 3)) ≡ false = ap (λ n. (kind == 3) && (n == 3)) first ∙ none-kept before kind size kept in
+    ap (scale_from 0) (cleaned_from-first false before kind octets other kept)
+    ∙ scale_from-size kind behind other another
+    ∙ ap (λ n. scale_from (n - 1) behind) first
+    ∙ no-scale (kind ∷ before) true (size - 1) octets)
+    (λ blank. ap (scale_from 0) (cleaned_from-other false before kind octets other blank) ∙ no-scale before false (size - 1) octets)
+    (which (is_kept_after false before kind size)))
+
+pub loses_scale : LosesScale
+loses_scale area = scale_of-walk (cleaned false area) ∙ ap (scale_from 0) (cleaned-walk false area) ∙ no-scale [] true 0 area

@@ -19,7 +19,7 @@ take-option area at size begins some =
     ap (take size) (drop-kind area at _ begins refl) ∙ ap (λ n. take n (get_or area at 0 ∷ drop (at + 1) area)) e
 
 -- cleaning at the offset `at`: an option that is kept, one that is not, a no-operation, and the end option
-cleaned_from-keep : (syn : Bool) (before area : List ℕ) (at size : ℕ) → get_or area (at + 1) 0 ≡ size → 2 ≤ size → at + size ≤ length area → 2 ≤ get_or area at 0 → is_kept_after syn before (get_or area at 0) size ≡ true → cleaned_from syn before true 0 (drop at area) ≡ take size (drop at area) ++ cleaned_from syn (get_or area at 0 ∷ before) true 0 (drop (at + size) area)
+pub cleaned_from-keep : (syn : Bool) (before area : List ℕ) (at size : ℕ) → get_or area (at + 1) 0 ≡ size → 2 ≤ size → at + size ≤ length area → 2 ≤ get_or area at 0 → is_kept_after syn before (get_or area at 0) size ≡ true → cleaned_from syn before true 0 (drop at area) ≡ take size (drop at area) ++ cleaned_from syn (get_or area at 0 ∷ before) true 0 (drop (at + size) area)
 cleaned_from-keep syn before area at size e two inside other keep =
     let kind = get_or area at 0 in
     let octets = drop (at + 1) area in
@@ -32,7 +32,7 @@ cleaned_from-keep syn before area at size e two inside other keep =
     ∙ ap (λ rest. kind ∷ take (size - 1) octets ++ cleaned_from syn (kind ∷ before) true 0 rest) (drop-option area at size (omega arith))
     ∙ ap (λ xs. xs ++ cleaned_from syn (kind ∷ before) true 0 (drop (at + size) area)) (sym (take-option area at size (omega arith) (omega arith)))
 
-cleaned_from-drop : (syn : Bool) (before area : List ℕ) (at size : ℕ) → get_or area (at + 1) 0 ≡ size → 2 ≤ size → at + size ≤ length area → 2 ≤ get_or area at 0 → is_kept_after syn before (get_or area at 0) size ≡ false → cleaned_from syn before true 0 (drop at area) ≡ replicate size 1 ++ cleaned_from syn before true 0 (drop (at + size) area)
+pub cleaned_from-drop : (syn : Bool) (before area : List ℕ) (at size : ℕ) → get_or area (at + 1) 0 ≡ size → 2 ≤ size → at + size ≤ length area → 2 ≤ get_or area at 0 → is_kept_after syn before (get_or area at 0) size ≡ false → cleaned_from syn before true 0 (drop at area) ≡ replicate size 1 ++ cleaned_from syn before true 0 (drop (at + size) area)
 cleaned_from-drop syn before area at size e two inside other keep =
     let kind = get_or area at 0 in
     let octets = drop (at + 1) area in
@@ -46,11 +46,11 @@ cleaned_from-drop syn before area at size e two inside other keep =
     ∙ ap (λ rest. 1 ∷ replicate (size - 1) 1 ++ cleaned_from syn before true 0 rest) (drop-option area at size (omega arith))
     ∙ ap (λ n. replicate n 1 ++ cleaned_from syn before true 0 (drop (at + size) area)) more
 
-cleaned_from-none : (syn : Bool) (before area : List ℕ) (at : ℕ) → at < length area → get_or area at 0 ≡ 1 → cleaned_from syn before true 0 (drop at area) ≡ get_or area at 0 ∷ cleaned_from syn before true 0 (drop (at + 1) area)
+pub cleaned_from-none : (syn : Bool) (before area : List ℕ) (at : ℕ) → at < length area → get_or area at 0 ≡ 1 → cleaned_from syn before true 0 (drop at area) ≡ get_or area at 0 ∷ cleaned_from syn before true 0 (drop (at + 1) area)
 cleaned_from-none syn before area at begins kind =
     ap (cleaned_from syn before true 0) (drop-kind area at 1 begins kind) ∙ ap (λ x. x ∷ cleaned_from syn before true 0 (drop (at + 1) area)) (sym kind)
 
-cleaned_from-end : (syn : Bool) (before area : List ℕ) (at : ℕ) → (at < length area → get_or area at 0 ≡ 0) → cleaned_from syn before true 0 (drop at area) ≡ replicate (length (drop at area)) 0
+pub cleaned_from-end : (syn : Bool) (before area : List ℕ) (at : ℕ) → (at < length area → get_or area at 0 ≡ 0) → cleaned_from syn before true 0 (drop at area) ≡ replicate (length (drop at area)) 0
 cleaned_from-end syn before area at ends =
     ⊎_elim (λ begins. let e = drop-kind area at 0 begins (ends begins) in ap (cleaned_from syn before true 0) e ∙ ap (λ xs. replicate (length xs) 0) (sym e))
     (λ past. let e = drop_all at area past in ap (cleaned_from syn before true 0) e ∙ ap (λ xs. replicate (length xs) 0) (sym e))
@@ -197,3 +197,23 @@ SoFar-changed syn old now new at kept changed some s e g =
     or_right : (a b : Bool) → (a || b) ≡ false → b ≡ false
     or_right true b e = cc
     or_right false b e = e
+
+-- an area is not what it is cleaned to where an option is not kept
+pub SoFar-other : (syn : Bool) (area : List ℕ) (at size : ℕ) (kept : Kept) (s : SoFar syn area area at kept false) → get_or area (at + 1) 0 ≡ size → 2 ≤ size → at + size ≤ length area → 2 ≤ get_or area at 0 → is_kept_after syn s.before (get_or area at 0) size ≡ false → cleaned syn area ≡ area → ⊥
+SoFar-other syn area at size kept s e two inside other keep same =
+    let blank : List ℕ = replicate size 1 in
+    let front : length (take at area) ≡ at = length-take-le at area (omega arith) in
+    let none : at - at ≡ 0 = omega arith in
+    let some : size ≡ suc (size - 1) = omega arith in
+    let new = s.front ∙ ap (λ xs. take at area ++ xs) (cleaned_from-drop syn s.before area at size e two inside other keep) in
+    let one = ap (λ xs. get_or xs at 0) new ∙ get_or-append_right (take at area) _ at at 0 front (omega arith) ∙ ap (λ n. get_or (replicate size 1 ++ cleaned_from syn s.before true 0 (drop (at + size) area)) n 0) none ∙ ap (λ n. get_or (replicate n 1 ++ cleaned_from syn s.before true 0 (drop (at + size) area)) 0 0) some in
+    let there = ap (λ xs. get_or xs at 0) same in
+    absurd (omega (arith, one, there))
+
+-- an area whose options are all kept is what it is cleaned to exactly if all octets from its end option on are 0
+pub SoFar-whole : (syn : Bool) (area : List ℕ) (at : ℕ) (kept : Kept) (some : Bool) → SoFar syn area area at kept false → (at < length area → get_or area at 0 ≡ 0) → some ≡ list_any (λ octet. not (octet == 0)) (take (length area - at) (drop at area)) → (some ≡ false) ↔ (cleaned syn area ≡ area)
+SoFar-whole syn area at kept some s ends e =
+    let new = take at area ++ replicate (length (drop at area)) 0 in
+    let is = SoFar-end syn area area new at kept false s ends refl in
+    let test = SoFar-changed syn area area new at kept false some s refl e in
+    (λ none. sym is ∙ test.0 none, λ same. test.1 (is ∙ same))

@@ -1,5 +1,5 @@
 -- The state of cleaning a list of options, and laws of cleaned areas (this project's profile).
-use Rattle.std.specs.Prelude.{◌≡◌, ℕ, ◌<◌, ◌≤◌, ◌⊎◌, ◌==◌, ◌&&◌, not, Bool, true, false, List, length, slice_index, slice_index_or}
+use Rattle.std.specs.Prelude.{◌≡◌, ℕ, ◌<◌, ◌≤◌, ◌⊎◌, ◌==◌, ◌&&◌, not, Bool, true, false, List, length, slice_index, slice_index_or, None}
 use Rattle.std.specs.List.{list_any}
 use Rattle.wire_base.specs.Options.{are_well_formed, may_be_kept, cleaned, scale_of, end_of}
 use Rattle.tcp_codec.specs.declared.cleaning.Kept.{Kept}
@@ -33,3 +33,7 @@ StaysWellFormed = (syn : Bool) (area : List ℕ) → are_well_formed area ≡ tr
 -- cleaning the options of a SYN keeps its window scale
 abbrev pub KeepsScale : Type 0
 KeepsScale = (area : List ℕ) → scale_of (cleaned true area) ≡ scale_of area
+
+-- cleaning the options of any other segment removes its window scale
+abbrev pub LosesScale : Type 0
+LosesScale = (area : List ℕ) → scale_of (cleaned false area) ≡ None

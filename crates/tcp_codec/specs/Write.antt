@@ -1,19 +1,20 @@
 -- The octets of a written segment (RFC 9293 section 3.1).
-use Rattle.std.specs.Prelude.{◌≡◌, ℕ, ◌+◌, ◌*◌, ◌/◌, ◌%◌, ◌^◌, ◌<◌, ◌≤◌, true, List, ◌∷◌, ◌++◌, length, Ok}
+use Rattle.std.specs.Prelude.{◌≡◌, ℕ, ◌+◌, ◌*◌, ◌/◌, ◌%◌, ◌^◌, ◌<◌, ◌≤◌, Bool, true, List, ◌∷◌, ◌++◌, length, Ok}
 use Rattle.wire_base.specs.Numbers.{u16_octets, u32_octets}
 use Rattle.wire_base.specs.Sums.{word_sum, checksum_for, pseudo_sum}
 use Rattle.wire_base.specs.Segments.{Segment}
 use Rattle.wire_base.specs.Tcp as tcp
 use Rattle.wire_base.specs.Tcp.{are_legal}
-use Rattle.wire_base.specs.Options.{are_well_formed}
+use Rattle.wire_base.specs.Options.{are_well_formed, cleaned}
 use Rattle.tcp_codec.specs.declared.header.Tcp.{Tcp}
 use Rattle.tcp_codec.specs.declared.header.SumRule.{SumRule}
 use Rattle.tcp_codec.specs.declared.write.SegmentParts.{SegmentParts}
 use Rattle.tcp_codec.specs.Header.{fields_of, parsed}
+use Rattle.wire_base.specs.declared.limits.TheConstants.{MAX_PAYLOAD}
 
--- the segment of these parts and this payload
-abbrev pub segment_of : SegmentParts → (octets : List ℕ) → Segment
-segment_of parts octets =
+-- the segment of these parts with these options and this payload
+abbrev pub segment_with : SegmentParts → (options octets : List ℕ) → Segment
+segment_with parts options octets =
     record {
       source = parts.src.0;
       destination = parts.dst.0;
@@ -23,9 +24,17 @@ segment_of parts octets =
       acknowledgment = parts.ack;
       flags = parts.flags.0;
       window = parts.window;
-      options = parts.options.items;
+      options = options;
       octets = octets;
     }
+
+-- the segment of these parts and this payload
+abbrev pub segment_of : SegmentParts → (octets : List ℕ) → Segment
+segment_of parts octets = segment_with parts parts.options.items octets
+
+-- the segment of these parts and this payload, with the cleaned options of an area
+abbrev pub cleaned_segment : SegmentParts → (syn : Bool) → (area octets : List ℕ) → Segment
+cleaned_segment parts syn area octets = segment_with parts (cleaned syn area) octets
 
 -- the fields before the options: ports, sequence and acknowledgment numbers, data offset in words of four octets, reserved bits 0, flags, window, checksum, and
 -- urgent pointer 0
@@ -65,7 +74,7 @@ pub record Fits (s : Segment) : Type 0 where
   pub window : s.window < 2 ^ 16
   pub words : length s.options % 4 ≡ 0
   pub room : length s.options ≤ 40
-  pub size : 20 + length s.options + length s.octets ≤ 65515
+  pub size : 20 + length s.options + length s.octets ≤ MAX_PAYLOAD
 
 -- the header that parsing the segment returns
 abbrev pub header_of : Segment → Tcp

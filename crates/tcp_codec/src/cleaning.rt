@@ -4,7 +4,7 @@ ghost use Rattle.std.specs.List.{list_any};
 ghost use Rattle.wire_base.specs.Options.{are_well_formed, cleaned, may_be_kept};
 ghost use Rattle.tcp_codec.specs.Cleaning.{StandsFor, is_kept_after};
 
-use crate::option_area::{END, NO_OPERATION, WINDOW_SCALE, size_at};
+use crate::option_area::{END, NO_OPERATION, WINDOW_SCALE, size_at, step_at};
 
 // The option kinds that may be kept, besides the window scale: maximum segment size (RFC 9293
 // section 3.2), SACK permitted and SACK (RFC 2018), and timestamps (RFC 7323).
@@ -45,14 +45,11 @@ fn may_be_kept(syn: bool, kind: u8, size: usize) -> bool
     ensures exact { result ≡ may_be_kept syn kind size }
     ensures known { IsTrue result → kind < 9 }
 {
-    match kind {
-        SEGMENT_SIZE => syn && size == 4,
-        WINDOW_SCALE => syn && size == 3,
-        SACK_PERMITTED => syn && size == 2,
-        SACK => matches!(size, 10 | 18 | 26 | 34),
-        TIMESTAMPS => size == 10,
-        _ => false,
-    }
+    let on_syn = (kind == SEGMENT_SIZE) & (size == 4)
+        | (kind == WINDOW_SCALE) & (size == 3)
+        | (kind == SACK_PERMITTED) & (size == 2);
+    let blocks = (size == 10) | (size == 18) | (size == 26) | (size == 34);
+    syn & on_syn | (kind == SACK) & blocks | (kind == TIMESTAMPS) & (size == 10)
 }
 
 /// Overwrites each option before the end option that is not kept with no-operations, and each octet
@@ -84,12 +81,61 @@ pub fn clean_options(options: &mut [u8], syn: bool) -> bool
     changed
 }
 
+/// Writes options to `target` as `clean_options` cleans them.
+pub(crate) fn clean_into(area: &[u8], syn: bool, target: &mut [u8])
+    requires formed { are_well_formed area.now ≡ true }
+    requires size { length target.old ≡ length area.now }
+    ensures { target.new ≡ cleaned syn area.now }
+{
+    target.fill(NO_OPERATION);
+    let mut kept = Kept::default();
+    let mut at = 0;
+    while area.len() - at >= 2 && area[at] != END {
+        let size = step_at(area, at);
+        if kept.keeps(syn, area[at], size) {
+            target[at..at + size].copy_from_slice(&area[at..at + size]);
+        }
+        at += size;
+    }
+    if at < area.len() && area[at] == END {
+        target[at..].fill(0);
+    }
+}
+
+/// Returns whether `clean_options` changes an octet of these options.
+pub fn options_change(options: &[u8], syn: bool) -> bool
+    requires { are_well_formed options.now ≡ true }
+    ensures { IsFalse result ↔ (cleaned syn options.now ≡ options.now) }
+{
+    let mut kept = Kept::default();
+    let mut at = 0;
+    while at < options.len() && options[at] != END {
+        if options[at] == NO_OPERATION {
+            at += 1;
+            continue;
+        }
+        let size = size_at(options, at);
+        if !kept.keeps(syn, options[at], size) {
+            return true;
+        }
+        at += size;
+    }
+    has_other_than_0(&options[at..])
+}
+
 // Sets each octet to 0, and returns whether one was not 0.
 fn clear(octets: &mut [u8]) -> bool
     ensures exact { octets.new ≡ replicate (length octets.old) 0 }
     ensures changed { result ≡ list_any (λ octet. not (octet == 0)) octets.old }
 {
-    let some = octets.iter().any(|octet| *octet != 0);
+    let some = has_other_than_0(octets);
     octets.fill(0);
     some
+}
+
+// Returns whether an octet is not 0.
+fn has_other_than_0(octets: &[u8]) -> bool
+    ensures { result ≡ list_any (λ octet. not (octet == 0)) octets.now }
+{
+    octets.iter().any(|octet| *octet != 0)
 }

@@ -1,5 +1,5 @@
 //! Laws over the definitions alone.
-ghost use Rattle.tcp_codec.specs.Cleaning.{CleansOctets, CleansOnce, KeepsScale, StaysWellFormed};
+ghost use Rattle.tcp_codec.specs.Cleaning.{CleansOctets, CleansOnce, KeepsScale, LosesScale, StaysWellFormed};
 ghost use Rattle.tcp_codec.specs.Mending.{MendedSayTheSame};
 ghost use Rattle.tcp_codec.specs.Write.{AreReadBack};
 
@@ -15,6 +15,11 @@ pub fn options_are_cleaned()
 /// States that cleaning keeps the window scale of a SYN.
 pub fn cleaned_keep_the_scale()
     ensures { KeepsScale }
+{}
+
+/// States that cleaning removes the window scale of a segment without SYN.
+pub fn cleaned_lose_the_scale()
+    ensures { LosesScale }
 {}
 
 /// States that parsing a written segment returns the parts that it was written from.

@@ -3,9 +3,10 @@
 //!
 //! Proved: `parse` returns the header with its fields, or its first fault. `scale_of` returns the
 //! window shift of the options. `clean_options` cleans an option area octet for octet as defined,
-//! and returns whether an octet changed; cleaning twice is cleaning once and keeps the window scale
-//! of a SYN (`laws`). `write_segment` writes a segment octet for octet with a right checksum, and
-//! it is read back as the parts it was written from (`laws`). `mend` replaces the checksum by the
+//! and returns whether an octet changed, as `options_change` does without changing one; cleaning
+//! twice is cleaning once and keeps the window scale of a SYN alone (`laws`). `write_segment` writes
+//! a segment octet for octet with a right checksum, and it is read back as the parts it was written
+//! from (`laws`); `write_cleaned` does so with cleaned options. `mend` replaces the checksum by the
 //! right one and changes nothing else.
 #![tactic(auto)]
 
@@ -15,7 +16,7 @@ pub mod laws;
 mod option_area;
 pub mod write;
 
-pub use cleaning::clean_options;
+pub use cleaning::{clean_options, options_change};
 pub use header::{SumRule, Tcp, TcpFault, parse};
 pub use option_area::scale_of;
-pub use write::{SegmentParts, mend, write_segment};
+pub use write::{SegmentParts, mend, write_cleaned, write_segment};

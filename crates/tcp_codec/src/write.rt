@@ -1,10 +1,13 @@
 //! Segments, written.
-ghost use Rattle.std.specs.Prelude.{◌≡◌, ◌+◌, ◌%◌, ◌≤◌, ◌++◌, true, false, length, drop, []};
+ghost use Rattle.std.specs.Prelude.{◌≡◌, ℕ, ◌+◌, ◌%◌, ◌≤◌, ◌++◌, true, false, List, length, drop};
+ghost use Rattle.wire_base.specs.Options.{are_well_formed, cleaned};
 ghost use Rattle.wire_base.specs.Sums.{pseudo_sum, sum_is_right};
 ghost use Rattle.wire_base.specs.Tcp as tcp;
 ghost use Rattle.tcp_codec.specs.Mending.{mended};
-ghost use Rattle.tcp_codec.specs.Write.{header_octets, octets_with, pseudo_of, segment_octets, segment_of};
+ghost use Rattle.tcp_codec.specs.Write.{cleaned_segment, header_octets, octets_with, pseudo_of, segment_octets, segment_of, segment_with};
+ghost use Rattle.wire_base.specs.declared.limits.TheConstants.{MAX_PAYLOAD};
 
+use crate::cleaning::clean_into;
 use arrayvec::ArrayVec;
 use wire_base::{Addr, Flags, protocol, pseudo_sum, put_u16, sum_for};
 
@@ -38,7 +41,7 @@ pub struct SegmentParts {
 /// options and its payload. Returns its length in octets.
 pub fn write_segment(parts: &SegmentParts, payload: &[u8], buf: &mut [u8]) -> usize
     requires words { length parts.now.options.items % 4 ≡ 0 }
-    requires size { 20 + length parts.now.options.items + length payload.now ≤ 65515 }
+    requires size { 20 + length parts.now.options.items + length payload.now ≤ MAX_PAYLOAD }
     requires room { 20 + length parts.now.options.items + length payload.now ≤ length buf.old }
     requires urgent { tcp.has_urg parts.now.flags.0 ≡ false }
     ensures exact { buf.new ≡ segment_octets (segment_of parts.now payload.now) ++ drop result buf.old }
@@ -48,6 +51,36 @@ pub fn write_segment(parts: &SegmentParts, payload: &[u8], buf: &mut [u8]) -> us
     let size = HEADER + parts.options.len() + payload.len();
     let segment = &mut buf[..size];
     put_parts(parts, payload, segment);
+    let sum = sum_for(
+        segment,
+        pseudo_sum(parts.src, parts.dst, protocol::TCP, size as u16),
+    );
+    put_u16(segment, CHECKSUM, sum);
+    size
+}
+
+/// Writes a segment as `write_segment` does, with the options of `area`, as `clean_options` cleans
+/// them, instead of those of the parts.
+pub fn write_cleaned(
+    parts: &SegmentParts,
+    area: &[u8],
+    syn: bool,
+    payload: &[u8],
+    buf: &mut [u8],
+) -> usize
+    requires formed { are_well_formed area.now ≡ true }
+    requires words { length area.now % 4 ≡ 0 }
+    requires most { length area.now ≤ 40 }
+    requires size { 20 + length area.now + length payload.now ≤ MAX_PAYLOAD }
+    requires room { 20 + length area.now + length payload.now ≤ length buf.old }
+    requires urgent { tcp.has_urg parts.now.flags.0 ≡ false }
+    ensures exact { buf.new ≡ segment_octets (cleaned_segment parts.now syn area.now payload.now) ++ drop result buf.old }
+    ensures size { result ≡ 20 + length area.now + length payload.now }
+    ensures whole { result ≡ length (segment_octets (cleaned_segment parts.now syn area.now payload.now)) }
+{
+    let size = HEADER + area.len() + payload.len();
+    let segment = &mut buf[..size];
+    put_cleaned(parts, area, syn, payload, segment);
     let sum = sum_for(
         segment,
         pseudo_sum(parts.src, parts.dst, protocol::TCP, size as u16),
@@ -75,20 +108,36 @@ fn put_parts(parts: &SegmentParts, payload: &[u8], segment: &mut [u8])
 {
     let (header, rest) = segment.split_at_mut(HEADER);
     let (options, octets) = rest.split_at_mut(parts.options.len());
-    header.copy_from_slice(&without_sum(parts));
+    header.copy_from_slice(&without_sum(parts, parts.options.len()));
     options.copy_from_slice(parts.options.as_slice());
     octets.copy_from_slice(payload);
 }
 
-// Returns the 20 octets before the options, with 0 in the checksum field.
-fn without_sum(parts: &SegmentParts) -> [u8; 20]
-    ensures { result ≡ header_octets (segment_of parts.now []) 0 }
+// Writes the whole segment with the cleaned options of `area`, and with 0 in the checksum field.
+fn put_cleaned(parts: &SegmentParts, area: &[u8], syn: bool, payload: &[u8], segment: &mut [u8])
+    requires formed { are_well_formed area.now ≡ true }
+    requires most { length area.now ≤ 40 }
+    requires size { length segment.old ≡ 20 + length area.now + length payload.now }
+    ensures exact { segment.new ≡ octets_with (cleaned_segment parts.now syn area.now payload.now) 0 }
+    ensures length { length (cleaned syn area.now) ≡ length area.now }
+{
+    let (header, rest) = segment.split_at_mut(HEADER);
+    let (options, octets) = rest.split_at_mut(area.len());
+    header.copy_from_slice(&without_sum(parts, area.len()));
+    clean_into(area, syn, options);
+    octets.copy_from_slice(payload);
+}
+
+// Returns the 20 octets before `options` octets of options, with 0 in the checksum field.
+fn without_sum(parts: &SegmentParts, options: usize) -> [u8; 20]
+    requires { options ≤ 40 }
+    ensures { (area octets : List ℕ) → length area ≡ options → result ≡ header_octets (segment_with parts.now area octets) 0 }
 {
     let [sport_high, sport_low] = parts.sport.to_be_bytes();
     let [dport_high, dport_low] = parts.dport.to_be_bytes();
     let [a, b, c, d] = parts.seq.to_be_bytes();
     let [e, f, g, h] = parts.ack.to_be_bytes();
-    let words = (HEADER + parts.options.len()) / 4;
+    let words = (HEADER + options) / 4;
     let [window_high, window_low] = parts.window.to_be_bytes();
     [
         sport_high,

@@ -1,34 +1,46 @@
-use Rattle.std.proofs.Common.{◌≡◌, ◌==◌, ◌||◌, ◌+◌, ap, length, ℕ, ◌≤◌, List, false, get_or, sym, ◌∙◌, arith, refl}
+use Rattle.std.proofs.Common.{◌≡◌, ℕ, ◌+◌, ◌≤◌, ◌<◌, ◌⊎◌, ◌==◌, ◌&&◌, ◌||◌, nat_lt, not, true, false, inl, inr, length, get_or, sym, ap, ◌∙◌, refl, arith}
 use Rattle.std.proofs.Math.Bool.{or_assoc}
-use Rattle.wire_base.specs.Options.{are_well_formed, is_route}
+use Rattle.std.proofs.lemmas.Bool.Decides.{nat_tests}
+use Rattle.wire_base.specs.Options.{are_well_formed}
 use Rattle.wire_base.proofs.OptionLists.{are_well_formed-walk, has_route-walk}
-use Rattle.wire_base.proofs.OptionWalk.{formed_from-bad, formed_from-outside, formed_from-option, has_from-option}
+use Rattle.ipv4_codec.proofs.Walks.{IsSize, formed-refused, formed-step, route-step}
 use Rattle.ipv4_codec.proofs.option_area.options.Goals as goal
-use Rattle.ipv4_codec.proofs.option_area.options.Goals.{then-size-lt2-via-then-size-lt2, then-size-lt2-via-else-size-lt2+then-bytes-at}
+use Rattle.ipv4_codec.proofs.option_area.options.Goals.{then-short-via-then-short, then-short-via-else-short+then-bytes-at}
 
-pub returns-then-size-lt2 : goal.returns-then-size-lt2
-returns-then-size-lt2 c =
+-- an option that is not refused is not short, and one that is refused for its length is
+long : (kind size : ℕ) → (not (kind == 1) && nat_lt size 2) ≡ false → 2 ≤ kind → 2 ≤ size
+long kind size e other = grind (arith, nat_tests)
+
+short : (kind size : ℕ) → (not (kind == 1) && nat_lt size 2) ≡ true → 1 ≤ kind → (2 ≤ kind) × (size < 2)
+short kind size e some = (grind (arith, nat_tests), grind (arith, nat_tests))
+
+pub loop-at-init : goal.loop-at-init
+loop-at-init c = record { inside = omega arith; formed = are_well_formed-walk c.args.bytes.now; route = has_route-walk c.args.bytes.now }
+
+pub returns-then-short : goal.returns-then-short
+returns-then-short c =
     let area = c.args.bytes.now in
-    let other : 2 ≤ get_or area c.loop-at.at 0 = omega arith in
-    let refused : are_well_formed area ≡ false =
-    elim c.then-size-lt2.branch [
-      | then-size-lt2-via-then-size-lt2 w ↦ c.loop-at.invariant.formed ∙ formed_from-bad area c.loop-at.at _ (omega arith) (sym c.from-size.ensures) (omega arith) other
-      | then-size-lt2-via-else-size-lt2+then-bytes-at w ↦ c.loop-at.invariant.formed ∙ formed_from-outside area c.loop-at.at _ (omega arith) (sym c.from-size.ensures) (omega arith) (omega arith) other
+    let at = c.loop-at.at in
+    let size = c.size_by-size.result in
+    let is : IsSize area at size = record { begins = omega arith; some = omega arith; none = c.size_by-size.ensures.none; option = c.size_by-size.ensures.option } in
+    let refused : ((2 ≤ get_or area at 0) × (size < 2)) ⊎ (length area < at + size) =
+    elim c.then-short.branch [
+      | then-short-via-then-short w ↦ inl (short (get_or area at 0) size w.if-short.true (omega arith))
+      | then-short-via-else-short+then-bytes-at w ↦ inr (omega arith)
     ] in
-    rw refused refl
+    let none : are_well_formed area ≡ false = c.loop-at.invariant.formed ∙ formed-refused area at size is refused in
+    rw none refl
 
 pub loop-at-preserved : goal.loop-at-preserved
 loop-at-preserved c =
     let area = c.args.bytes.now in
     let at = c.loop-at.at in
-    let size = c.from-size.result in
-    let other : 2 ≤ get_or area at 0 = omega arith in
+    let size = c.size_by-size.result in
     let inside : at + size ≤ length area = omega arith in
-    let step = has_from-option is_route area at size (sym c.from-size.ensures) c.if-size-lt2.false inside other in
+    let is : IsSize area at size = record { begins = omega arith; some = omega arith; none = c.size_by-size.ensures.none; option = c.size_by-size.ensures.option } in
+    let two = long (get_or area at 0) size c.if-short.false in
     record {
-      formed = c.loop-at.invariant.formed ∙ formed_from-option area at size (sym c.from-size.ensures) c.if-size-lt2.false inside other;
-      route = rw c.is_route-route.ensures (c.loop-at.invariant.route ∙ ap (λ t. c.loop-at.route || t) step ∙ sym (or_assoc c.loop-at.route _ _));
+      inside = inside;
+      formed = c.loop-at.invariant.formed ∙ formed-step area at size is two inside;
+      route = rw c.is_route-route.ensures (c.loop-at.invariant.route ∙ ap (λ t. c.loop-at.route || t) (route-step area at size is two inside) ∙ sym (or_assoc c.loop-at.route _ _));
     }
-
-pub loop-at-init : goal.loop-at-init
-loop-at-init c = record { formed = are_well_formed-walk c.args.bytes.now; route = has_route-walk c.args.bytes.now }
