@@ -9,10 +9,11 @@ use Rattle.wire_base.specs.Tcp as tcp
 use Rattle.ipv4_codec.specs.Header as ip_header
 use Rattle.tcp_codec.specs.declared.header.SumRule.TheVariants.{Skip}
 use Rattle.tcp_codec.specs.Header as tcp_header
+use Rattle.wire_base.specs.declared.limits.TheConstants.{MAX_LINK, MAX_PACKET}
 
 -- the number of octets before the packet: those of an Ethernet II header (RFC 894), or none
 abbrev pub link_size : Link → ℕ
-link_size Ethernet = 14
+link_size Ethernet = MAX_LINK
 link_size Raw = 0
 
 -- a packet that is no fragment, with a header of 20 octets and nothing after its total length, without a fault; the checksum of its segment is not tested
@@ -47,11 +48,11 @@ parts_of link frame =
 
 -- the parts have the sizes of such a frame, in octets
 pub record AreSized (parts : Parts) : Type 0 where
-  pub link : length parts.link ≤ 14
+  pub link : length parts.link ≤ MAX_LINK
   pub ip : length parts.ip ≡ 20
   pub tcp : 20 ≤ length parts.tcp
   pub options : length parts.tcp ≤ 60
-  pub packet : length parts.ip + length parts.tcp + length parts.payload ≤ 65535
+  pub packet : length parts.ip + length parts.tcp + length parts.payload ≤ MAX_PACKET
 
 -- each octet is a number below 256
 abbrev pub AreOctets : List ℕ → Type 0

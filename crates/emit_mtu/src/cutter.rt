@@ -4,6 +4,7 @@ ghost use Rattle.emit_mtu.specs.declared.long.LongKind.TheVariants as kinds;
 ghost use Rattle.emit_mtu.specs.Frames.{IsSent};
 ghost use Rattle.emit_mtu.specs.Long.{long_kind};
 ghost use Rattle.emit_mtu.specs.Segments.{segments};
+ghost use Rattle.wire_base.specs.declared.limits.TheConstants.{MAX_FRAME};
 
 use crate::parts::{HEADER, Parts, parts_of};
 use crate::piece::write_segment;
@@ -52,10 +53,10 @@ impl<'a> Cutter<'a> {
     /// Writes the frame of the next segment at the front of the buffer, and returns its length in
     /// octets; None after the last.
     pub fn next(&mut self, buf: &mut [u8]) -> Option<usize>
-        requires room { 65549 ≤ length buf.old }
+        requires room { MAX_FRAME ≤ length buf.old }
         ensures next { IfSome result (λ size. self.old ≡ take size buf.new ∷ self.new) }
         ensures behind { IfSome result (λ size. drop size buf.new ≡ drop size buf.old) }
-        ensures most { IfSome result (λ size. size ≤ 65549) }
+        ensures most { IfSome result (λ size. size ≤ MAX_FRAME) }
         ensures last { IfNone result (self.old ≡ []) }
         ensures stays { IfNone result (self.new ≡ []) }
         ensures unwritten { IfNone result (buf.new ≡ buf.old) }

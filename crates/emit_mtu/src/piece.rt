@@ -3,6 +3,7 @@
 ghost use Rattle.std.specs.Prelude.{◌≡◌, ◌+◌, ◌*◌, ◌≤◌, ◌<◌, ◌++◌, length, drop};
 ghost use Rattle.emit_mtu.specs.Frames.{AreSized};
 ghost use Rattle.emit_mtu.specs.Segments as spec;
+ghost use Rattle.wire_base.specs.declared.limits.TheConstants.{MAX_FRAME, MAX_PACKET};
 
 use crate::parts::{HEADER, Parts};
 use tcp_codec::mend;
@@ -21,10 +22,10 @@ const CWR: u8 = 128;
 pub(crate) fn write_segment(parts: &Parts<'_>, room: usize, index: u16, buf: &mut [u8]) -> usize
     requires sized { AreSized parts.now }
     requires begins { room * index < length parts.now.payload }
-    requires buffer { 65549 ≤ length buf.old }
+    requires buffer { MAX_FRAME ≤ length buf.old }
     ensures exact { buf.new ≡ spec.segment_of room parts.now index ++ drop result buf.old }
     ensures size { result ≡ length (spec.segment_of room parts.now index) }
-    ensures most { result ≤ 65549 }
+    ensures most { result ≤ MAX_FRAME }
 {
     let octets = piece_of(parts, room, index);
     let size = parts.link.len() + HEADER + parts.tcp.len() + octets.len();
@@ -50,7 +51,7 @@ fn put_parts(parts: &Parts<'_>, room: usize, index: u16, frame: &mut [u8])
 // Writes the IPv4 header before a segment of `size` octets.
 fn put_ip_header(parts: &Parts<'_>, size: u16, index: u16, header: &mut [u8])
     requires ip { length parts.now.ip ≡ 20 }
-    requires fits { 20 + size ≤ 65535 }
+    requires fits { 20 + size ≤ MAX_PACKET }
     requires size { length header.old ≡ 20 }
     ensures { header.new ≡ spec.ip_header size index parts.now }
 {

@@ -3,6 +3,7 @@ ghost use Rattle.std.specs.Prelude.{◌≡◌, ◌≤◌, ◌==◌, ◌&&◌, no
 ghost use Rattle.tcp_codec.specs.declared.header.SumRule.TheVariants.{Skip};
 ghost use Rattle.tcp_codec.specs.Header.{fault_of};
 ghost use Rattle.emit_mtu.specs.Frames.{IsSent, IsWhole};
+ghost use Rattle.wire_base.specs.declared.limits.TheConstants.{MAX_LINK};
 
 use crate::parts::HEADER;
 use crate::{Cutter, LongKind, long_kind};
@@ -11,8 +12,8 @@ use ipv4_codec::{Ipv4, write_plain};
 use std::test::Fail;
 use tcp_codec::{SegmentParts, SumRule, write_segment};
 use wire_base::{
-    Addr, Flags, FrameKind, Link, frame_kind, packet_in, protocol, pseudo_sum, sum_right, u16_at,
-    u32_at,
+    Addr, Flags, FrameKind, Link, MAX_FRAME, frame_kind, packet_in, protocol, pseudo_sum,
+    sum_right, u16_at, u32_at,
 };
 
 // An Ethernet header before IPv4, from 02:00:00:00:00:01 to 02:00:00:00:00:02 (RFC 894).
@@ -22,7 +23,7 @@ const ETHERNET: [u8; 14] = [2, 0, 0, 0, 0, 2, 2, 0, 0, 0, 0, 1, 0x08, 0x00];
 const TIMESTAMPS: [u8; 12] = [1, 1, 8, 10, 0, 0, 0, 1, 0, 0, 0, 2];
 
 // Maximum length of a frame in octets.
-const ROOM: usize = 65_549;
+const ROOM: usize = MAX_FRAME;
 
 // The payload octets count up modulo 251.
 const LONGEST: usize = 1300;
@@ -258,7 +259,7 @@ fn same_octets(old: &[u8], new: &[u8], before: usize) -> Result<usize, Fail>
 }
 
 fn link_size(link: Link) -> usize
-    ensures { result ≤ 14 }
+    ensures { result ≤ MAX_LINK }
 {
     match link {
         Link::Ethernet => ETHERNET.len(),

@@ -14,6 +14,7 @@ use Rattle.rule_book.specs.declared.rule.Rule.{Rule}
 use Rattle.norm_settings.specs.Settings.{PlainSettings}
 use Rattle.ip_rules.specs.declared.judged.IpPacket.{IpPacket}
 use Rattle.ip_rules.specs.Rows.{carries_ip, side_in, whole_fix_rows, ip_dropped_by, ip_fixes}
+use Rattle.wire_base.specs.declared.limits.TheConstants.{MAX_PAYLOAD}
 
 -- a whole datagram, of one packet or reassembled from fragments: its side, the fields of its header, the header's octets as they were read (used only if no
 -- rule rewrites the datagram), its payload, and the fix rules on its header that hold
@@ -119,7 +120,7 @@ pub record IsPacketOf (settings : PlainSettings) (d : Datagram) (p : Packet) : T
 pub record IsKnown (settings : PlainSettings) (d : Datagram) : Type 0 where
   pub sizes : HasSizes d.head
   pub known : ((d.head.protocol == 1) || (d.head.protocol == 6) || (d.head.protocol == 17)) ≡ true
-  pub short : length d.octets ≤ 65515
+  pub short : length d.octets ≤ MAX_PAYLOAD
   pub each : AreOctets d.octets
   pub whole : d.fixes ≡ [] → IsPacketOf settings d (as_read d)
 
@@ -133,4 +134,4 @@ DatagramsAreKnown =
 abbrev pub AnewIsPacket : Type 0
 AnewIsPacket =
     (settings : PlainSettings) (d : Datagram) (octets : List ℕ)
-    → settings.hops ≤ 254 → HasSizes d.head → length octets ≤ 65515 → IsPacketOf settings d (anew settings d octets)
+    → settings.hops ≤ 254 → HasSizes d.head → length octets ≤ MAX_PAYLOAD → IsPacketOf settings d (anew settings d octets)

@@ -1,6 +1,6 @@
 -- The rules on the link, the IPv4 header and the protocol, one definition each, in the order of their numbers (this project's profile). A rule depends on one
 -- record, or the packet in it, the settings and the link, and not on other records.
-use Rattle.std.specs.Prelude.{ℕ, ◌==◌, ◌/◌, ◌&&◌, ◌||◌, nat_lt, nat_le, not, Bool, true, false, List, [], ◌∷◌, ◌++◌, length, take, drop, Option, Some, None, is_none, find, filter}
+use Rattle.std.specs.Prelude.{ℕ, ◌==◌, ◌/◌, ◌&&◌, ◌||◌, nat_lt, nat_le, not, Bool, true, false, List, [], ◌∷◌, ◌++◌, length, Option, Some, None, is_none, find, filter}
 use Rattle.wire_base.specs.declared.address.Link.{Link}
 use Rattle.wire_base.specs.declared.address.Link.TheVariants.{Ethernet, Raw}
 use Rattle.wire_base.specs.declared.address.Side.{Side}
@@ -14,6 +14,7 @@ use Rattle.rule_book.specs.declared.rule.Rule.TheVariants as rules
 use Rattle.rule_book.specs.Rules.{header_fix_rows, header_rows, link_rows, protocol_rows}
 use Rattle.norm_settings.specs.Settings.{PlainSettings}
 use Rattle.norm_settings.specs.Side.{side}
+use Rattle.wire_base.specs.declared.limits.TheConstants.{MAX_FRAME, MAX_LINK}
 
 -- the frame carries IPv4: on Ethernet by EtherType 0x0800 (RFC 894), on a raw link always
 abbrev pub carries_ip : Link → List ℕ → Bool
@@ -29,6 +30,7 @@ carries_arp Raw frame = false
 abbrev pub side_in : PlainSettings → (given : Option Side) → (packet : List ℕ) → Option Side
 side_in settings given p = side settings given (ip.source p) (ip.destination p)
 
+-- the side is inwards, to the trusted hosts
 abbrev pub is_inward : Option Side → Bool
 is_inward (Some Inward) = true
 is_inward (Some Outward) = false
@@ -40,12 +42,12 @@ l_snap r = nat_lt (length r.octets) r.original
 
 -- L_SHORT: Ethernet with fewer than 14 octets
 abbrev pub l_short : Link → (frame : List ℕ) → Bool
-l_short Ethernet frame = nat_lt (length frame) 14
+l_short Ethernet frame = nat_lt (length frame) MAX_LINK
 l_short Raw frame = false
 
 -- L_TYPE: an EtherType other than IPv4 and ARP, or ARP in a frame of more than 65,549 octets
 abbrev pub l_type : Link → (frame : List ℕ) → Bool
-l_type link frame = not (carries_ip link frame || (carries_arp link frame && nat_le (length frame) 65549))
+l_type link frame = not (carries_ip link frame || (carries_arp link frame && nat_le (length frame) MAX_FRAME))
 
 -- I_SHORT: the packet has fewer than 20 octets (RFC 791 section 3.1)
 abbrev pub i_short : (packet : List ℕ) → Bool

@@ -12,11 +12,7 @@ use ipv4_codec::{IpFault, Ipv4, options, parse};
 use norm_settings::{Settings, side_of};
 use pcap_file::Record;
 use rule_book::Rule;
-use wire_base::{Addr, FrameKind, Link, Side, frame_kind, protocol};
-
-// Maximum length in octets of an ARP frame that passes: an Ethernet header of 14 and 65,535 after
-// it.
-const LONGEST_ARP: usize = 65_549;
+use wire_base::{Addr, FrameKind, Link, MAX_FRAME, Side, frame_kind, protocol};
 
 /// Judges a record by the first rule on the link, the header or the protocol that holds.
 pub fn judge_ip<'a>(settings: &Settings, link: Link, input: &Record<'a>) -> IpJudged<'a>
@@ -65,7 +61,7 @@ fn judge_link<'a>(link: Link, input: &Record<'a>) -> Linked<'a>
         return Linked::Row(Rule::LSnap);
     }
     let frame = input.bytes;
-    let fits = frame.len() <= LONGEST_ARP;
+    let fits = frame.len() <= MAX_FRAME;
     match frame_kind(link, frame) {
         FrameKind::Short => Linked::Row(Rule::LShort),
         FrameKind::Arp if fits => Linked::Arp,

@@ -2,6 +2,7 @@
 ghost use Rattle.std.specs.Prelude.{◌≡◌, ◌+◌, ◌≤◌, ◌<◌, [], ◌∷◌, ◌++◌, length};
 ghost use Rattle.ipv4_codec.specs.Write.{plain_header};
 ghost use Rattle.ip_rules.specs.Datagrams as spec;
+ghost use Rattle.wire_base.specs.declared.limits.TheConstants.{MAX_FRAME, MAX_LINK, MAX_PAYLOAD};
 
 use crate::judged::IpPacket;
 use edge_io::Outbox;
@@ -35,7 +36,7 @@ pub fn raised(head: &Ipv4, hops: u8) -> Ipv4
 /// Writes a frame as it was read to the empty outbox.
 pub fn put_read(frame: &[u8], out: &mut Outbox)
     requires empty { out.old ≡ [] }
-    requires short { length frame.now ≤ 65549 }
+    requires short { length frame.now ≤ MAX_FRAME }
     ensures { out.new ≡ frame.now ∷ [] }
 {
     out.begin();
@@ -45,14 +46,25 @@ pub fn put_read(frame: &[u8], out: &mut Outbox)
 /// Writes a packet with a new header, after these link octets, to the empty outbox.
 pub fn put_anew(link: &[u8], head: &Ipv4, octets: &[u8], out: &mut Outbox)
     requires empty { out.old ≡ [] }
-    requires link { length link.now ≤ 14 }
-    requires short { length octets.now ≤ 65515 }
+    requires link { length link.now ≤ MAX_LINK }
+    requires short { length octets.now ≤ MAX_PAYLOAD }
     ensures { out.new ≡ (link.now ++ plain_header head.now (length octets.now) ++ octets.now) ∷ [] }
 {
     let mut header = [0u8; 20];
     write_plain(head, octets.len() as u16, &mut header);
-    out.begin();
-    out.append(link);
+    begin_after(link, out);
     out.append(&header);
     out.append(octets);
+}
+
+// Begins a frame after these link octets, of which raw IP has none, in the empty outbox.
+fn begin_after(link: &[u8], out: &mut Outbox)
+    requires empty { out.old ≡ [] }
+    requires link { length link.now ≤ MAX_LINK }
+    ensures { out.new ≡ link.now ∷ [] }
+{
+    out.begin();
+    if !link.is_empty() {
+        out.append(link);
+    }
 }

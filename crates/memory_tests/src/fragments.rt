@@ -4,6 +4,7 @@ ghost use Rattle.std.specs.Prelude.{◌≡◌, ◌<◌, ◌≤◌, length, false
 ghost use Rattle.norm_settings.specs.Settings.{plain_settings, AreInRange};
 ghost use Rattle.reassembly.specs.Assemblies.{last_time};
 ghost use Rattle.reassembly.specs.Pieces.{fragment_of, IsPiece};
+ghost use Rattle.wire_base.specs.declared.limits.TheConstants.{MAX_PAYLOAD};
 
 use arrayvec::ArrayVec;
 use norm_settings::Settings;
@@ -27,7 +28,7 @@ const OTHER: [u8; 8] = [98, 97, 97, 97, 97, 97, 97, 97];
 fn part(ident: u16, offset: u32, more: bool, ttl: u8, bytes: &[u8]) -> Piece<'_>
     requires part { more ≡ false → 0 < offset }
     requires offset { offset ≤ 65528 }
-    requires short { length bytes.now ≤ 65515 }
+    requires short { length bytes.now ≤ MAX_PAYLOAD }
     ensures { IsPiece (fragment_of result) }
 {
     Piece {
@@ -67,7 +68,7 @@ fn settings(limit: Limit) -> Settings
 // Offers a fragment. The contract of `offer` is long, and slow in a function with several calls.
 fn offer(assembly: &mut Assembly, now: u32, piece: &Piece<'_>, buf: &mut [u8]) -> Offered
     requires piece { IsPiece (fragment_of piece.now) }
-    requires buffer { 65515 ≤ length buf.old }
+    requires buffer { MAX_PAYLOAD ≤ length buf.old }
     requires late { last_time assembly.old ≤ now }
     ensures { last_time assembly.new ≡ now }
 {
@@ -83,7 +84,7 @@ const DONE: Offered = Offered::Done(Whole {
 });
 
 fn agree(assembly: &mut Assembly, buf: &mut [u8]) -> bool
-    requires buffer { 65515 ≤ length buf.old }
+    requires buffer { MAX_PAYLOAD ≤ length buf.old }
     requires late { last_time assembly.old ≡ 0 }
 {
     let first = offer(assembly, 0, &part(7, 0, true, 64, &WHOLE[..16]), buf);
@@ -95,7 +96,7 @@ fn agree(assembly: &mut Assembly, buf: &mut [u8]) -> bool
 }
 
 fn clash(assembly: &mut Assembly, buf: &mut [u8]) -> bool
-    requires buffer { 65515 ≤ length buf.old }
+    requires buffer { MAX_PAYLOAD ≤ length buf.old }
     requires late { last_time assembly.old ≡ 0 }
 {
     let first = offer(assembly, 0, &part(8, 0, true, 64, &WHOLE[..16]), buf);
@@ -112,7 +113,7 @@ fn clash(assembly: &mut Assembly, buf: &mut [u8]) -> bool
 }
 
 fn end_at_65515(assembly: &mut Assembly, buf: &mut [u8]) -> bool
-    requires buffer { 65515 ≤ length buf.old }
+    requires buffer { MAX_PAYLOAD ≤ length buf.old }
     requires late { last_time assembly.old ≡ 0 }
 {
     let longest = offer(assembly, 0, &part(7, 65_512, false, 64, &EIGHT[..3]), buf);
@@ -121,7 +122,7 @@ fn end_at_65515(assembly: &mut Assembly, buf: &mut [u8]) -> bool
 }
 
 fn take_turns(assembly: &mut Assembly, buf: &mut [u8]) -> bool
-    requires buffer { 65515 ≤ length buf.old }
+    requires buffer { MAX_PAYLOAD ≤ length buf.old }
     requires late { last_time assembly.old ≡ 0 }
 {
     let first = offer(assembly, 0, &part(7, 0, true, 64, &EIGHT), buf);
@@ -134,7 +135,7 @@ fn take_turns(assembly: &mut Assembly, buf: &mut [u8]) -> bool
 }
 
 fn fill(assembly: &mut Assembly, buf: &mut [u8]) -> bool
-    requires buffer { 65515 ≤ length buf.old }
+    requires buffer { MAX_PAYLOAD ≤ length buf.old }
     requires late { last_time assembly.old ≡ 0 }
 {
     let long = [97; 65_504];
@@ -145,7 +146,7 @@ fn fill(assembly: &mut Assembly, buf: &mut [u8]) -> bool
 }
 
 fn begin_twice(assembly: &mut Assembly, buf: &mut [u8]) -> bool
-    requires buffer { 65515 ≤ length buf.old }
+    requires buffer { MAX_PAYLOAD ≤ length buf.old }
     requires late { last_time assembly.old ≡ 0 }
 {
     let first = offer(assembly, 0, &part(7, 0, true, 64, &EIGHT), buf);
@@ -161,7 +162,7 @@ fn begin_twice(assembly: &mut Assembly, buf: &mut [u8]) -> bool
 }
 
 fn end_twice(assembly: &mut Assembly, buf: &mut [u8]) -> bool
-    requires buffer { 65515 ≤ length buf.old }
+    requires buffer { MAX_PAYLOAD ≤ length buf.old }
     requires late { last_time assembly.old ≡ 0 }
 {
     let end = Offered::Drop(Rule::FEnd);
@@ -186,7 +187,7 @@ enum Case {
 }
 
 fn holds(case: Case, assembly: &mut Assembly, buf: &mut [u8]) -> bool
-    requires buffer { 65515 ≤ length buf.old }
+    requires buffer { MAX_PAYLOAD ≤ length buf.old }
     requires late { last_time assembly.old ≡ 0 }
 {
     match case {

@@ -8,6 +8,7 @@ use Rattle.reassembly.specs.declared.id.DatagramId.{DatagramId}
 use Rattle.reassembly.specs.Pieces.{Fragment, datagram_octets, front_of, whole_of, IsMadeOf}
 use Rattle.reassembly.specs.Calls.{Answer, held, done, dropped, Call, expiry, offer, gathered, pieces_in, cells_in, is_id, is_old, forgets}
 use Rattle.reassembly.specs.Rows.{View, answer_at, dropped_by, holds_fragment, view_of, AreAnswered}
+use Rattle.wire_base.specs.declared.limits.TheConstants.{MAX_PAYLOAD}
 
 -- the datagram of these fragments is made of them: its octets are theirs, and one of them is at offset 0
 pub record IsOfPieces (ps : List Fragment) : Type 0 where
@@ -71,7 +72,7 @@ pub record IsSizedWhole (ps : List Fragment) : Type 0 where
   pub tos : (whole_of ps).tos < 2 ^ 8
   pub ttl : (whole_of ps).ttl < 2 ^ 8
   pub octets : (at : ℕ) → slice_index (datagram_octets ps) at < 2 ^ 8
-  pub short : length (datagram_octets ps) ≤ 65515
+  pub short : length (datagram_octets ps) ≤ MAX_PAYLOAD
   pub len : (whole_of ps).len ≡ length (datagram_octets ps)
 
 -- If a fragment completes its datagram and each fragment is sized, the datagram is sized.

@@ -7,6 +7,7 @@ use Rattle.reassembly.specs.declared.id.DatagramId.{DatagramId}
 use Rattle.reassembly.specs.declared.piece.Piece.{Piece}
 use Rattle.reassembly.specs.declared.piece.Front.{Front}
 use Rattle.reassembly.specs.declared.piece.Whole.{Whole}
+use Rattle.wire_base.specs.declared.limits.TheConstants.{MAX_PAYLOAD}
 
 -- a fragment: its identification, the offset of its octets, whether further ones follow, the fields that a complete datagram may take from it, and its octets
 pub record Fragment : Type 0 where
@@ -34,7 +35,7 @@ fragment_of p =
 pub record IsPiece (p : Fragment) : Type 0 where
   pub part : p.more ≡ false → 0 < p.offset
   pub offset : p.offset ≤ 65528
-  pub short : length p.octets ≤ 65515
+  pub short : length p.octets ≤ MAX_PAYLOAD
 
 -- the offset after the last octet of a fragment
 abbrev pub end_of : Fragment → ℕ

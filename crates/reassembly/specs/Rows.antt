@@ -9,6 +9,7 @@ use Rattle.reassembly.specs.declared.piece.Offered.{Offered}
 use Rattle.reassembly.specs.declared.piece.Offered.TheVariants as offers
 use Rattle.reassembly.specs.Pieces.{Fragment, end_of, octet_of, total_of, reach, is_whole, whole_of, missing_of, datagram_octets, IsMadeOf}
 use Rattle.reassembly.specs.Calls.{Answer, held, done, dropped, Call, expiry, offer, Gathered, gathered, pieces_in, cells_in}
+use Rattle.wire_base.specs.declared.limits.TheConstants.{MAX_PAYLOAD}
 
 -- What the rules read of the calls before a fragment: the fragments of its datagram, whether as many datagrams are held as may be, and the number of free
 -- cells.
@@ -39,7 +40,7 @@ f_align p = p.more && not (length p.octets % 8 == 0)
 
 -- F_BIG: it extends past the longest datagram, which has 65,515 octets after a header of 20
 abbrev pub f_big : Fragment → Bool
-f_big p = nat_lt 65515 (end_of p)
+f_big p = nat_lt MAX_PAYLOAD (end_of p)
 
 -- the total is known and below this end
 abbrev pub is_past : Option ℕ → (end : ℕ) → Bool
@@ -182,5 +183,5 @@ JoinsPieces (offers.Drop rule) buffer ps = Unit {0}
 -- a complete datagram is no longer than the longest one
 abbrev pub IsShort : Offered → Type 0
 IsShort offers.Held = Unit {0}
-IsShort (offers.Done whole) = whole.len ≤ 65515
+IsShort (offers.Done whole) = whole.len ≤ MAX_PAYLOAD
 IsShort (offers.Drop rule) = Unit {0}

@@ -7,6 +7,7 @@ use Rattle.reassembly.specs.declared.id.DatagramId.{DatagramId}
 use Rattle.reassembly.specs.declared.progress.Progress.{Progress}
 use Rattle.reassembly.specs.Pieces.{Fragment, octet_of, total_of, reach, front_of, filled_in, cells_of}
 use Rattle.reassembly.specs.Calls.{Gathered}
+use Rattle.wire_base.specs.declared.limits.TheConstants.{MAX_PAYLOAD}
 
 -- the values kept of a datagram's fragments besides their octets; no octet is past the longest datagram, and the last fragment ends at the last octet
 pub record ProgressOf (v : Progress) (ps : List Fragment) : Type 0 where
@@ -14,7 +15,7 @@ pub record ProgressOf (v : Progress) (ps : List Fragment) : Type 0 where
   pub reach_is : v.reach ≡ reach ps
   pub filled_is : v.filled ≡ filled_in ps
   pub front_is : v.front ≡ front_of ps
-  pub short : reach ps ≤ 65515
+  pub short : reach ps ≤ MAX_PAYLOAD
   pub ends : (total : ℕ) → total_of ps ≡ Some total → reach ps ≡ total
 
 -- a chain has the octets of these fragments, and no others

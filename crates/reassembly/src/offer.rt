@@ -20,6 +20,7 @@ impl Assembly {
     ghost use Rattle.reassembly.specs.Rows.{ends_otherwise, own_rows, first_row, answer_by, answer_at, offered, offered_at, view_in, view_of, is_none_held, call_of, Carries, IsShort, JoinsPieces};
     ghost use Rattle.reassembly.specs.Standing.{HoldsFor};
     ghost use Rattle.reassembly.specs.Assemblies.{IsFor, KeepsFor, StandsFor, last_time};
+    ghost use Rattle.wire_base.specs.declared.limits.TheConstants.{MAX_PAYLOAD};
 
     // Takes a fragment that no rule drops, in the slot of its datagram.
     fn accept(
@@ -36,7 +37,7 @@ impl Assembly {
         requires own { first_row (own_rows (fragment_of piece.now)) ≡ None }
         requires ends { ends_otherwise progress.now.total progress.now.reach (fragment_of piece.now) ≡ false }
         requires room { let p = fragment_of piece.now in missing (chain_of self.old.store slot.0) p.offset (length p.octets) ≤ self.old.store.free }
-        requires buffer { 65515 ≤ length buf.old }
+        requires buffer { MAX_PAYLOAD ≤ length buf.old }
         ensures answer { let p = fragment_of piece.now in (gs : List Gathered) → HoldsFor gs self.old.table.entries self.old.store →
             let ps = p ∷ pieces_in gs p.id in result ≡ offered (answer_by None (is_whole ps)) (whole_of ps) }
         ensures holds { let p = fragment_of piece.now in (now : ℕ) (gs : List Gathered) → HoldsFor gs self.old.table.entries self.old.store →
@@ -68,7 +69,7 @@ impl Assembly {
         requires keyed { Wherever self.old.table.entries slot (λ e. e.key ≡ (fragment_of piece.now).id) }
         requires piece { IsPiece (fragment_of piece.now) }
         requires own { first_row (own_rows (fragment_of piece.now)) ≡ None }
-        requires buffer { 65515 ≤ length buf.old }
+        requires buffer { MAX_PAYLOAD ≤ length buf.old }
         ensures answer { let p = fragment_of piece.now in (gs : List Gathered) (full : Bool) → HoldsFor gs self.old.table.entries self.old.store →
             is_none_held (pieces_in gs p.id) ≡ false → result ≡ offered_at (view_in gs full self.old.store.free p) p }
         ensures holds { let p = fragment_of piece.now in (now : ℕ) (gs : List Gathered) (full : Bool) → HoldsFor gs self.old.table.entries self.old.store →
@@ -107,7 +108,7 @@ impl Assembly {
         requires keyed { id.now.key ≡ (fragment_of piece.now).id }
         requires piece { IsPiece (fragment_of piece.now) }
         requires own { first_row (own_rows (fragment_of piece.now)) ≡ None }
-        requires buffer { 65515 ≤ length buf.old }
+        requires buffer { MAX_PAYLOAD ≤ length buf.old }
         ensures answer { let p = fragment_of piece.now in (gs : List Gathered) → HoldsFor gs self.old.table.entries self.old.store →
             result ≡ offered_at (view_in gs (nat_le self.old.table.max (length gs)) self.old.store.free p) p }
         ensures holds { let p = fragment_of piece.now in (gs : List Gathered) → HoldsFor gs self.old.table.entries self.old.store →
@@ -137,7 +138,7 @@ impl Assembly {
     // Takes a fragment, whether or not other fragments of its datagram are held.
     fn judge(&mut self, now: u32, piece: &Piece<'_>, buf: &mut [u8]) -> Offered
         requires piece { IsPiece (fragment_of piece.now) }
-        requires buffer { 65515 ≤ length buf.old }
+        requires buffer { MAX_PAYLOAD ≤ length buf.old }
         ensures answer { let p = fragment_of piece.now in (settings : PlainSettings) (calls : List Call) → KeepsFor settings self.old calls →
             result ≡ offered_at (view_of settings calls p) p }
         ensures octets { let p = fragment_of piece.now in (settings : PlainSettings) (calls : List Call) → KeepsFor settings self.old calls →
@@ -162,7 +163,7 @@ impl Assembly {
     /// of the buffer, or a rule drops it.
     pub fn offer(&mut self, now: u32, piece: &Piece<'_>, buf: &mut [u8]) -> Offered
         requires piece { IsPiece (fragment_of piece.now) }
-        requires buffer { 65515 ≤ length buf.old }
+        requires buffer { MAX_PAYLOAD ≤ length buf.old }
         requires late { last_time self.old ≤ now }
         ensures answer { let p = fragment_of piece.now in (settings : PlainSettings) (calls : List Call) → StandsFor settings self.old calls →
             result ≡ offered_at (view_of settings calls p) p }

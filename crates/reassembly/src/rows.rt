@@ -6,6 +6,7 @@ ghost use Rattle.reassembly.specs.Rows.{first_row, own_rows};
 
 use crate::piece::Piece;
 use rule_book::Rule;
+use wire_base::MAX_PAYLOAD;
 
 /// Returns the rule on the fragment alone that drops it, if one does.
 pub(crate) fn own_row(piece: &Piece<'_>) -> Option<Rule>
@@ -24,7 +25,7 @@ pub(crate) fn own_row(piece: &Piece<'_>) -> Option<Rule>
     if piece.more && len % 8 != 0 {
         return Some(Rule::FAlign);
     }
-    if end > 65_515 {
+    if end as usize > MAX_PAYLOAD {
         return Some(Rule::FBig);
     }
     None

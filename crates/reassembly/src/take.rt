@@ -4,6 +4,7 @@ ghost use Rattle.retain_store.specs.Maps.{chain_of, missing, ChangesOnly};
 ghost use Rattle.reassembly.specs.Pieces.{Fragment, fragment_of, cells_of, IsPiece};
 ghost use Rattle.reassembly.specs.Rows.{f_end, first_row, own_rows};
 ghost use Rattle.reassembly.specs.Standing.{Keeps, ProgressOf};
+ghost use Rattle.wire_base.specs.declared.limits.TheConstants.{MAX_PAYLOAD};
 
 use crate::piece::Piece;
 use crate::progress::Progress;
@@ -18,7 +19,7 @@ pub(crate) fn take(
 ) -> Progress
     requires chain_in_range { chain.0 < length store.old.chains }
     requires piece { IsPiece (fragment_of piece.now) }
-    requires short { progress.now.filled ≤ 65515 }
+    requires short { progress.now.filled ≤ MAX_PAYLOAD }
     requires room { let p = fragment_of piece.now in missing (chain_of store.old chain.0) p.offset (length p.octets) ≤ store.old.free }
     ensures changed { ChangesOnly store.old store.new chain.0 }
     ensures since { result.since ≡ progress.now.since }
