@@ -5,8 +5,8 @@ use Rattle.wire_base.specs.Segments.{Segment, Written, segment_of, written_of}
 use Rattle.era_state.specs.Offsets.{off}
 use Rattle.era_state.specs.Quantities.{acked}
 
--- The packets sent for one record, in order: whether they went inwards, the era that they belong to, if any, and whether they are written segments of it. The
--- probe that is sent for a dropped record is not one: receivers read it, but neither the base nor Acked depends on it.
+-- The packets sent for one record, in order: whether they went inwards, the era that they belong to, if any, and whether they are written segments of it. A
+-- probe sent for a dropped record is not a written segment: receivers read it, but it neither fixes the base nor moves Acked, the greatest offset acknowledged.
 pub record Sent : Type 0 where
   pub inward : Bool
   pub era : Option ℕ
@@ -42,7 +42,7 @@ abbrev pub written_in : (era : ℕ) → List Sent → List Written
 written_in era [] = []
 written_in era (s ∷ older) = written_in era older ++ (if is_era era s.era && s.written then segments_in s.inward s.packets else [])
 
--- the offset of a segment's first octet relative to Acked, or 0 if there is no segment
+-- the offset of a segment's first octet, of those that its number represents the one nearest to Acked; 0 if there is no segment
 abbrev pub placed_at : (base acked : ℕ) → Option Segment → ℤ
 placed_at base acked None = pos 0
 placed_at base acked (Some s) = off base acked s.sequence
@@ -51,7 +51,7 @@ placed_at base acked (Some s) = off base acked s.sequence
 abbrev pub place_of : (base acked : ℕ) → List ℕ → ℤ
 place_of base acked p = placed_at base acked (segment_of p)
 
--- The offsets of the packets that went inwards in an era, each read relative to Acked before its record. Before the base is fixed Acked is 0, since no ACK was
+-- The offsets of the packets that went inwards in an era, each the one nearest to Acked before its record. Before the base is fixed Acked is 0, since no ACK was
 -- sent outwards in the era: the first one fixes the base, and a RST with ACK ends the era.
 abbrev pub inward_places : (era base : ℕ) → List Sent → List ℤ
 inward_places era base [] = []

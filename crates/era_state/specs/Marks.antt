@@ -6,7 +6,7 @@ use Rattle.wire_base.specs.Tcp as tcp
 use Rattle.wire_base.specs.Segments.{Written}
 use Rattle.era_state.specs.Offsets.{off, natural, nat_of}
 
--- it is an outbound segment with ACK
+-- the segment is outbound and has ACK
 abbrev pub acknowledges : Written → Bool
 acknowledges w = not w.inward && tcp.has_ack w.flags
 
@@ -35,14 +35,14 @@ one_if false = 0
 abbrev pub number_behind : Written → ℕ
 number_behind w = (w.seq + length w.octets + one_if (tcp.has_syn w.flags) + one_if (tcp.has_fin w.flags)) % 2 ^ 32
 
--- the base that it fixes if none is fixed yet: an inbound SYN the number after it, an outbound segment with ACK and without RST its acknowledgment
+-- the base that a written segment fixes if none is fixed yet: the number after an inbound SYN, or the acknowledgment of an outbound segment without RST
 abbrev pub fixes : Written → Option ℕ
 fixes w =
     if w.inward
     then (if tcp.has_syn w.flags then Some ((w.seq + 1) % 2 ^ 32) else None)
     else (if tcp.has_ack w.flags && not (tcp.has_rst w.flags) then Some w.ack else None)
 
--- the stream offset that it acknowledges, or none if that is below 0
+-- the offset that an outbound segment with ACK acknowledges; None of another segment, or if it is below 0
 abbrev pub ack_of : (base acked : ℕ) → Written → Option ℕ
 ack_of base acked w = if acknowledges w then natural (off base acked w.ack) else None
 

@@ -9,7 +9,7 @@ turn_past from number = (number + 2 ^ 32 - from % 2 ^ 32) % 2 ^ 32
 abbrev pub number_before : ℕ → ℕ
 number_before number = (number + (2 ^ 32 - 1)) % 2 ^ 32
 
--- Off: the offset of a number relative to `at`, which is Acked: from `at` - 2^31 to below `at` + 2^31
+-- Off: the offset from the base that a number represents: of those that differ by 2^32 the one from `at` - 2^31 to below `at` + 2^31, where `at` is Acked
 abbrev pub off : (base at number : ℕ) → ℤ
 off base at number =
     if nat_lt (turn_past (base + at) number) (2 ^ 31)

@@ -7,6 +7,7 @@ use Rattle.wire_base.specs.Segments.{Written}
 use Rattle.era_state.specs.Words.{first_of, last_of, greatest, Moment, moments}
 use Rattle.era_state.specs.Offsets.{nat_of, number_in}
 use Rattle.era_state.specs.Marks.{is_outbound_syn, is_inbound_syn, is_outbound_fin, number_behind, fixes, ack_of, edge_place, top_place, octet_at, fin_place}
+use Rattle.wire_base.specs.declared.limits.TheConstants.{MAX_SHIFT}
 
 -- Base: the number of the stream's first octet, from the first segment that fixes one
 abbrev pub base_of : List Written → Option ℕ
@@ -16,8 +17,8 @@ base_of ws = first_of fixes ws
 abbrev pub base_at : List Written → ℕ
 base_at ws = number_in (base_of ws)
 
--- Acked: the greatest offset that an outbound segment acknowledges, each read relative to Acked before it, or 0 if none does. In an era that norm tracks, no
--- outbound segment with ACK is written before a base is fixed, except a RST, which ends the era. So the segment that fixes the base is read relative to 0.
+-- Acked: the greatest offset that an outbound segment acknowledges, each the one nearest to Acked before it, or 0 if none does. In an era that norm tracks the
+-- first outbound segment with ACK fixes the base if nothing has before, so Acked is 0 until then; a RST with ACK fixes none, but ends the era.
 abbrev pub acked : ℕ → List Written → ℕ
 acked base ws = fold (λ a w. max a (number_in (ack_of base a w))) 0 ws
 
@@ -43,13 +44,13 @@ in_scaled ws = list_any (λ (w : Written). is_inbound_syn w && is_some w.scale) 
 
 -- the greatest shift of an outbound SYN, at most 14 (RFC 7323 section 2.3)
 abbrev pub out_scale : List Written → ℕ
-out_scale ws = min 14 (greatest (λ (w : Written). if is_outbound_syn w then number_in w.scale else 0) ws)
+out_scale ws = min MAX_SHIFT (greatest (λ (w : Written). if is_outbound_syn w then number_in w.scale else 0) ws)
 
 -- the shift, from which sides' SYNs were written and which of them had a scale: both must have one (RFC 7323 section 2.2), and while a side's SYN is missing
 -- the greatest shift, 14, is assumed
 abbrev pub shift_with : (out_seen in_seen out_scaled in_scaled : Bool) → ℕ → ℕ
 shift_with out_seen in_seen out_scaled in_scaled scale =
-    if out_seen && in_seen then (if out_scaled && in_scaled then scale else 0) else 14
+    if out_seen && in_seen then (if out_scaled && in_scaled then scale else 0) else MAX_SHIFT
 
 -- Shift: by how many bits the windows of the trusted side are scaled
 abbrev pub shift : List Written → ℕ

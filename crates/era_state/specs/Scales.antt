@@ -5,6 +5,7 @@ use Rattle.era_state.specs.declared.syns.Syns.{Syns}
 use Rattle.era_state.specs.Offsets.{number_in}
 use Rattle.era_state.specs.Marks.{is_outbound_syn, is_inbound_syn}
 use Rattle.era_state.specs.Quantities.{shift_with, out_seen, in_seen, in_scaled, out_scaled, out_scale}
+use Rattle.wire_base.specs.declared.limits.TheConstants.{MAX_SHIFT}
 
 -- they are those of these segments
 pub record SynsFor (s : Syns) (ws : List Written) : Type 0 where
@@ -20,7 +21,7 @@ pub record SynsWith (outbound inbound : Bool) (scale : Option ℕ) (old new : Sy
   pub in_seen_is : new.in_seen ≡ (old.in_seen || inbound)
   pub out_scaled_is : is_some new.out_scale ≡ (is_some old.out_scale || (outbound && is_some scale))
   pub in_scaled_is : new.in_scale ≡ (old.in_scale || (inbound && is_some scale))
-  pub out_scale_is : number_in new.out_scale ≡ max (number_in old.out_scale) (min 14 (if outbound then number_in scale else 0))
+  pub out_scale_is : number_in new.out_scale ≡ max (number_in old.out_scale) (min MAX_SHIFT (if outbound then number_in scale else 0))
 
 -- the same of a written segment
 abbrev pub SynsAfter : Written → Syns → Syns → Type 0

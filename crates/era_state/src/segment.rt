@@ -19,6 +19,7 @@ pub struct Seg {
 impl Seg {
     ghost use Rattle.era_state.specs.Marks.{number_behind, ack_of, edge_place, iss_after};
     ghost use Rattle.era_state.specs.Read.{sent};
+    ghost use Rattle.wire_base.specs.declared.limits.TheConstants.{MAX_SHIFT};
 
     // Returns the sequence number after the segment's octets, SYN and FIN.
     pub(crate) fn behind(&self) -> u32
@@ -46,7 +47,7 @@ impl Seg {
     // Returns the end of its window, if it acknowledges the offset `place`.
     pub(crate) fn allowed(&self, place: u64, shift: u8) -> u64
         requires place { place < 2 ^ 63 + 2 ^ 31 }
-        requires shift { shift ≤ 14 }
+        requires shift { shift ≤ MAX_SHIFT }
         ensures value { result ≡ edge_place (Some place) shift (sent self.now []) }
         ensures above { place ≤ result }
         ensures near { result ≤ place + 65535 * 2 ^ 14 }

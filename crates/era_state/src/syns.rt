@@ -1,8 +1,10 @@
 //! The window scales of an era's SYNs.
 ghost use Rattle.std.specs.Prelude.{◌≡◌, ℕ, ◌≤◌, Some, List, [], ◌||◌, max, min, is_some, true};
 ghost use Rattle.era_state.specs.Offsets.{number_in};
+ghost use Rattle.wire_base.specs.declared.limits.TheConstants.{MAX_SHIFT};
 
 use crate::segment::Seg;
+use wire_base::MAX_SHIFT;
 
 /// SYNs that were written, and which of them with a window scale: outbound with the greatest shift,
 /// at most 14, inbound with any (RFC 7323 section 2).
@@ -14,30 +16,28 @@ pub struct Syns {
     pub in_scale: bool,
     ghost out_scaled: { is_some out_scale ≡ true → out_seen ≡ true },
     ghost in_scaled: { in_scale ≡ true → in_seen ≡ true },
-    ghost small: { (shift : ℕ) → out_scale ≡ Some shift → shift ≤ 14 },
+    ghost small: { (shift : ℕ) → out_scale ≡ Some shift → shift ≤ MAX_SHIFT },
 }
-
-/// Greatest shift (RFC 7323 section 2.3).
-const MOST: u8 = 14;
 
 // Returns the greater shift, at most 14.
 fn greater(old: Option<u8>, new: Option<u8>) -> Option<u8>
-    requires { (shift : ℕ) → old ≡ Some shift → shift ≤ 14 }
+    requires { (shift : ℕ) → old ≡ Some shift → shift ≤ MAX_SHIFT }
     ensures some { is_some result ≡ (is_some old || is_some new) }
-    ensures number { number_in result ≡ max (number_in old) (min 14 (number_in new)) }
-    ensures small { (shift : ℕ) → result ≡ Some shift → shift ≤ 14 }
+    ensures number { number_in result ≡ max (number_in old) (min MAX_SHIFT (number_in new)) }
+    ensures small { (shift : ℕ) → result ≡ Some shift → shift ≤ MAX_SHIFT }
 {
     match (old, new) {
         (None, None) => None,
         (Some(old), None) => Some(old),
-        (None, Some(new)) => Some(new.min(MOST)),
-        (Some(old), Some(new)) => Some(old.max(new.min(MOST))),
+        (None, Some(new)) => Some(new.min(MAX_SHIFT)),
+        (Some(old), Some(new)) => Some(old.max(new.min(MAX_SHIFT))),
     }
 }
 
 impl Syns {
     ghost use Rattle.era_state.specs.Read.{sent, came};
     ghost use Rattle.era_state.specs.Scales.{SynsFor, SynsAfter, shift_of};
+    ghost use Rattle.wire_base.specs.declared.limits.TheConstants.{MAX_SHIFT};
 
     // Returns the value for no SYN.
     pub(crate) fn none() -> Syns
@@ -82,7 +82,7 @@ impl Syns {
     // written the greatest shift, 14, is assumed.
     pub(crate) fn shift(&self) -> u8
         ensures value { result ≡ shift_of self.now }
-        ensures small { result ≤ 14 }
+        ensures small { result ≤ MAX_SHIFT }
     {
         if self.out_seen && self.in_seen {
             match self.out_scale {
@@ -90,7 +90,7 @@ impl Syns {
                 None => 0,
             }
         } else {
-            MOST
+            MAX_SHIFT
         }
     }
 }

@@ -5,6 +5,7 @@ ghost use Rattle.wire_base.specs.Tcp as tcp;
 ghost use Rattle.era_state.specs.Offsets.{number_in, whole};
 ghost use Rattle.era_state.specs.Marks.{edge_place};
 ghost use Rattle.era_state.specs.Read.{sent, received, came};
+ghost use Rattle.wire_base.specs.declared.limits.TheConstants.{MAX_SHIFT};
 
 use crate::interval::Interval;
 use crate::offset::Offset;
@@ -51,7 +52,7 @@ fn greater(acked: u64, place: Option<u64>) -> u64
 
 // Returns the greater edge after a segment that may acknowledge an offset.
 fn greater_edge(acked: u64, edge: u64, place: Option<u64>, shift: u8, seg: &Seg) -> u64
-    requires shift { shift ≤ 14 }
+    requires shift { shift ≤ MAX_SHIFT }
     requires place { (n : ℕ) → place ≡ Some n → n < 2 ^ 63 + 2 ^ 31 }
     requires above { acked ≤ edge }
     requires near { edge ≤ acked + 65535 * 2 ^ 14 }

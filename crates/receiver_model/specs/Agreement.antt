@@ -65,8 +65,8 @@ pub record TellOneStream (hops base : ℕ) (places : List ℤ) (frames : List (L
 abbrev pub IsMember : (hops : ℕ) → Member → Type 0
 IsMember hops member = member.distance ≤ hops
 
--- Each frame is plain, so all members read it alike. Any two members that start at the same offset agree, whichever of the frames reach each of them in time,
--- how often and in which order, and whichever octets each keeps.
+-- Each frame is plain, so all members read it alike. Each SYN has the number before the base. Any two members that start at the same offset agree, whichever
+-- of the frames reach each of them in time, how often and in which order, and whichever octets each keeps.
 pub record EraAgrees (hops base : ℕ) (places : List ℤ) (frames : List (List ℕ)) : Type 0 where
   pub plain : All (λ p. Plain hops p) frames
   pub syns : All (λ p. HasSynBefore base p) frames

@@ -27,7 +27,7 @@ abbrev pub WaitFrom : (ℤ → Option ℕ) → ℕ → List ℕ → Type 0
 WaitFrom waiting offset [] = Unit {0}
 WaitFrom waiting offset (x ∷ octets) = (waiting (pos offset) ≡ Some x) × WaitFrom waiting (offset + 1) octets
 
--- a stream that begins at the offset `start` is extended by octets that wait, each at the end of the stream
+-- a stream whose first octet is at the offset `start` is extended by waiting octets, each at the offset after the last one
 pub record Extends (waiting : ℤ → Option ℕ) (start : ℕ) (before after : List ℕ) : Type 0 where
   pub more : List ℕ
   pub joined : after ≡ before ++ more
@@ -55,7 +55,7 @@ pub record Hears (distance base start : ℕ) (frames : List (List ℕ)) (place :
   pub reads : (segment ≡ None) ⊎ Reads distance frame segment
   pub step : Step base start segment before after
 
--- it does so along a schedule: indices into `frames` in any order, with repeats and omissions
+-- a host hears the frames of a schedule one after another; a schedule has indices into `frames`, in any order, with repeats and omissions
 abbrev pub Run : (distance base start : ℕ) → List (List ℕ) → Receiver → List ℕ → Receiver → Type 0
 Run distance base start frames before [] after = after ≡ before
 Run distance base start frames before (place ∷ schedule) after =

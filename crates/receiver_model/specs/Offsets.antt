@@ -4,7 +4,7 @@ use Rattle.std.specs.Prelude.{◌≡◌, ℕ, ◌+◌, ◌-◌, ◌%◌, ◌^◌
 use Rattle.wire_base.specs.Segments.{Segment}
 use Rattle.wire_base.specs.Tcp as tcp
 
--- the sequence number less the base, plus a multiple of 2^32
+-- the offset is the sequence number less the base, plus a multiple of 2^32
 pub record IsPlace (base number : ℕ) (offset : ℤ) : Type 0 where
   pub turns : ℤ
   pub is : offset ≡ (pos number -ℤ pos base) +ℤ (turns *ℤ pos (2 ^ 32))
