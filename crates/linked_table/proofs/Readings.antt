@@ -56,6 +56,10 @@ module _ {K V : Type 0} (hash : K → ℕ) (pairs : List (Option (K × V))) (rec
         let f : ◌≡◌ {A = Option (K × V)} (Some ((used_of slot listed).key, (used_of slot listed).value)) None = sym (used_of slot listed).pair ∙ (sym (read_is listed x read) ∙ none) in
         cc
 
+    -- the pair behind the reference that the code has to the slot
+    pub read_pair : IsIn table.entries slot → (x : Option (K × V)) → x ≡ get_or pairs slot.0 x → (pair : K × V) → Some pair ≡ x → pair_at pairs slot.0 ≡ Some pair
+    read_pair listed x read pair pair_is = sym (read_is listed x read) ∙ sym pair_is
+
     pub read_wherever : (P : Entry K V → Type 0) → IsIn table.entries slot → (x : Option (K × V)) → x ≡ get_or pairs slot.0 x → (key : K) (value : V) → x ≡ Some (key, value) → P (entry slot.0 key value) → Wherever table.entries slot P
     read_wherever P listed x read key value x_is holds =
         wherever P slot key value (sym (read_is listed x read) ∙ x_is) holds

@@ -3,3 +3,4 @@ pub mod Rings
 pub mod Sound
 pub mod Listing
 pub mod Hashes
+pub mod Lends

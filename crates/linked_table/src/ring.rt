@@ -73,9 +73,10 @@ impl Rings {
         requires after_inside { (link_at self.old node).after < length self.old }
         ensures { self.new ≡ unlinked self.old node }
     {
-        let Links { before, after } = self.links[node];
-        self.links[before].after = after;
-        self.links[after].before = before;
+        let links = self.links.as_mut_slice();
+        let Links { before, after } = links[node];
+        links[before].after = after;
+        links[after].before = before;
     }
 
     /// Links a node that is in no ring as the last before this hub.
@@ -85,12 +86,13 @@ impl Rings {
         requires last_inside { (link_at self.old hub).before < length self.old }
         ensures { self.new ≡ linked_last self.old hub node }
     {
-        let last = self.links[hub].before;
-        self.links[last].after = node;
-        self.links[node] = Links {
+        let links = self.links.as_mut_slice();
+        let last = links[hub].before;
+        links[last].after = node;
+        links[node] = Links {
             before: last,
             after: hub,
         };
-        self.links[hub].before = node;
+        links[hub].before = node;
     }
 }

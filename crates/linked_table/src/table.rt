@@ -1,6 +1,7 @@
 //! The table: its entries by recency, and its look-up by the hash of a key.
 ghost use Rattle.std.specs.Prelude.{◌≡◌, ◌+◌, ◌-◌, ◌<◌, ◌≤◌, ◌≢◌, ◌%◌, ◌↔◌, [], ◌∷◌, ◌++◌, length, replicate, false, Option, Some, IfOk, IfErr, OnErr, IsErr, IfSome, IfNone, IsNone};
 ghost use Rattle.std.specs.List.{All, AllPairs};
+ghost use Rattle.std.specs.Borrow.{sem};
 ghost use Rattle.linked_table.specs.Table.{IsIn, IsNotIn, HasNone, SplitAt, Wherever, Answers, IsCallableAt, PassesFirst, without, only, with_value, first_slot};
 ghost use Rattle.linked_table.specs.Sound.{IsAllFree};
 
@@ -87,6 +88,8 @@ fn fill<T>(place: &mut Option<T>, value: T)
 }
 
 impl<K: Key, V> LinkedTable<K, V> {
+    ghost use Rattle.linked_table.specs.Lends.{lends_value};
+
     /// Creates a table without entries, for at most `max`. The seed decides only which keys share a
     /// hash chain; no result depends on it.
     pub fn open(alloc: Global, max: u32, seed: u64) -> Result<LinkedTable<K, V>, NoMemory>
@@ -141,6 +144,7 @@ impl<K: Key, V> LinkedTable<K, V> {
     }
 
     /// Returns the slot of the entry with this key.
+    #[inline(always)]
     pub fn find_hashed(&self, hashed: &Hashed<K>) -> Option<Slot>
         ensures found { IfSome result (IsIn self.now.entries) }
         ensures same_key { IfSome result (λ slot. Wherever self.now.entries slot (λ e. e.key ≡ hashed.now.key)) }
@@ -188,16 +192,25 @@ impl<K: Key, V> LinkedTable<K, V> {
         }
     }
 
+    /// Borrows the value of the entry mutably.
+    pub fn at_mut(&mut self, slot: Slot) -> &mut V
+        requires { IsIn self.old.entries slot }
+        ensures* lends { sem 𝓛 (lends_value K.row V.row K.Key self.entry slot result) }
+        ensures value { Wherever self.old.entries slot (λ e. result.now ≡ e.value) }
+    {
+        match self.pairs[slot.0 as usize].as_mut() {
+            Some(pair) => &mut pair.1,
+            None => unreachable!(),
+        }
+    }
+
     /// Sets the value of the entry, and returns the value before.
     pub fn put(&mut self, slot: Slot, value: V) -> V
         requires { IsIn self.old.entries slot }
         ensures before { Wherever self.old.entries slot (λ e. result ≡ e.value) }
         ensures after { self.new ≡ record self.old { entries = with_value self.old.entries slot value } }
     {
-        match &mut self.pairs[slot.0 as usize] {
-            Some((_, own)) => mem::replace(own, value),
-            None => unreachable!(),
-        }
+        mem::replace(self.at_mut(slot), value)
     }
 
     /// Makes the entry the most recently touched one.
