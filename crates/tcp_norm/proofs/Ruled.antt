@@ -1,5 +1,5 @@
 -- What is ruled of an inbound datagram, as it is reported and sent.
-use Rattle.std.proofs.Common.{◌≡◌, ◌∙◌, ℕ, Bool, true, false, cond, List, [], ◌∷◌, length, take, Option, Some, None, is_some, refl, sym, ap}
+use Rattle.std.proofs.Common.{◌≡◌, ◌==◌, ◌∙◌, ℕ, Bool, true, false, cond, List, [], ◌∷◌, length, take, Option, Some, None, is_some, refl, sym, ap}
 use Rattle.wire_base.specs.Tcp as tcp
 use Rattle.wire_base.specs.Options.{cleaned}
 use Rattle.wire_base.specs.Segments.{Written}
@@ -56,10 +56,15 @@ bare_carried ws d packet link head is h bare =
     })
 
 -- of an inbound datagram
+pub rewritten_if : (ws : List Written) (d : Datagram) (a : Arrival) (scratch : List ℕ) (p : Passage) → goes_in d.side ≡ true
+    → ((length p.rows.items == 0) ≡ false → segment_anew ws d ≡ anew_segment a.packet.now.head a.head.now p.seq p.fin (cleaned (tcp.has_syn a.head.now.flags.0) (tcp.options a.packet.now.payload.now)) (take p.size scratch))
+    → IsRewritten ws d a scratch p
+rewritten_if ws d a scratch p side is = record { anew = λ inward. is; alone = λ out. cc (sym side ∙ out) }
+
 pub rewritten_in : (ws : List Written) (d : Datagram) (a : Arrival) (scratch : List ℕ) (p : Passage) → goes_in d.side ≡ true
     → segment_anew ws d ≡ anew_segment a.packet.now.head a.head.now p.seq p.fin (cleaned (tcp.has_syn a.head.now.flags.0) (tcp.options a.packet.now.payload.now)) (take p.size scratch)
     → IsRewritten ws d a scratch p
-rewritten_in ws d a scratch p side is = record { anew = λ inward. is; alone = λ out. cc (sym side ∙ out) }
+rewritten_in ws d a scratch p side is = rewritten_if ws d a scratch p side (λ some. is)
 
 -- the packet is the only one
 pub given_one : (as_read : Bool) (frame : List ℕ) (out : List (List ℕ)) → (as_read ≡ false → length out ≡ 1) → length (given as_read frame out) ≡ 1

@@ -1,5 +1,5 @@
 -- The octets that go inwards, by the octets of the chain and the segment's own.
-use Rattle.std.proofs.Common.{◌≡◌, ℕ, zero, suc, ◌+◌, ◌-◌, ◌<◌, ◌≤◌, ◌==◌, Bool, true, false, cond, not, List, [], ◌∷◌, length, map, take, drop, None, ℤ, pos, ◌+ℤ◌, ◌-ℤ◌, refl, sym, ap, ap₂, ◌∙◌, arith, add-one}
+use Rattle.std.proofs.Common.{◌≡◌, ℕ, zero, suc, ◌+◌, ◌-◌, ◌<◌, ◌≤◌, ◌==◌, Bool, true, false, cond, not, List, [], ◌∷◌, ◌++◌, length, map, take, drop, None, ℤ, pos, ◌+ℤ◌, ◌-ℤ◌, refl, sym, ap, ap₂, ◌∙◌, arith, add-one, length-append}
 use Rattle.std.specs.Prelude.{nat_lt, slice_index, ◌||◌, ◌↔◌}
 use Rattle.std.specs.List.{list_any, range_with_len}
 use Rattle.std.specs.Option.{unwrap_or}
@@ -14,11 +14,15 @@ use Rattle.era_state.specs.Quantities.{base_at, acked, first}
 use Rattle.era_state.specs.Standing.{WarmFor}
 use Rattle.era_state.specs.Intervals.{KeptOf}
 use Rattle.era_state.specs.Keeping.{offset_of}
-use Rattle.retain_store.specs.Maps.{Block, Settles, IsMap, missing}
+use Rattle.rule_book.specs.declared.rule.Rule.{Rule}
+use Rattle.rule_book.specs.declared.rule.Rule.TheVariants as rules
+use Rattle.ip_rules.specs.Judged.{where_holds}
+use Rattle.retain_store.specs.Maps.{Block, Settles, IsMap, missing, octet_at}
 use Rattle.tcp_norm.specs.Held.{kept_at, missing_of}
 use Rattle.tcp_norm.specs.Chains.{Keeps}
 use Rattle.tcp_norm.specs.Rows.{low_of, high_of, octet_sent, own_octet, clashes}
 use Rattle.tcp_norm.specs.Emits.{octets_sent}
+use Rattle.tcp_norm.specs.Streams.{stream_rows}
 use Rattle.tcp_norm.proofs.Chains.{missing_are}
 
 pub own_at : (xs : List ℕ) (s n i lo : ℕ) (o : ℤ) → (o +ℤ pos s) ≡ pos lo → i < n → s + n ≤ length xs
@@ -49,6 +53,15 @@ above_acked ws lo i above =
     let test : nat_lt (lo + i) (acked (base_at ws) ws) ≡ false = grind (arith, nat_tests, above) in
     ap (λ t. cond t None (first (base_at ws) ws (pos (lo + i)))) test
 
+-- the octet that goes out at an offset is the one of the chain, and where it has none the segment's own
+sent_at : (e : Warm) (ws : List Written) (w : Written) (kept : Interval) (blocks : List Block) (own : List ℕ)
+    → WarmFor e ws → KeptOf ws w kept → Keeps blocks ws
+    → ((i : ℕ) → i < kept.hi - kept.lo → slice_index own i ≡ slice_index w.octets (nat_of (pos (kept.lo + i) -ℤ off e.base e.acked w.seq)))
+    → (i : ℕ) → i < kept.hi - kept.lo → unwrap_or (octet_at blocks (kept.lo + i)) (slice_index own i) ≡ octet_sent ws w (kept.lo + i)
+sent_at e ws w kept blocks own was is keeps owns i lt =
+    let above : acked (base_at ws) ws ≤ kept.lo = omega (arith, is.spans.lo_is) in
+    ap₂ unwrap_or (keeps (kept.lo + i) ∙ above_acked ws kept.lo i above) (owns i lt ∙ ap (λ z. slice_index w.octets (nat_of (pos (kept.lo + i) -ℤ z))) (offset_is e ws w.seq was))
+
 pub settled_is : (e : Warm) (ws : List Written) (w : Written) (kept : Interval) (blocks : List Block) (own new : List ℕ)
     → WarmFor e ws → KeptOf ws w kept → Keeps blocks ws
     → length own ≡ kept.hi - kept.lo → length new ≡ length own
@@ -56,13 +69,10 @@ pub settled_is : (e : Warm) (ws : List Written) (w : Written) (kept : Interval) 
     → Settles blocks kept.lo own new → new ≡ octets_sent ws w
 settled_is e ws w kept blocks own new was is keeps long same owns settles =
     let low : kept.lo ≡ low_of ws w = is.spans.lo_is in
-    let above : acked (base_at ws) ws ≤ kept.lo = omega (arith, low) in
-    list_is new (octet_sent ws w) kept.lo (kept.hi - kept.lo) (same ∙ long) (λ i lt.
-    settles i (omega (arith, long)) ∙ ap₂ unwrap_or (keeps (kept.lo + i) ∙ above_acked ws kept.lo i above)
-    (owns i lt ∙ ap (λ z. slice_index w.octets (nat_of (pos (kept.lo + i) -ℤ z))) (offset_is e ws w.seq was)))
+    list_is new (octet_sent ws w) kept.lo (kept.hi - kept.lo) (same ∙ long) (λ i lt. settles i (omega (arith, long)) ∙ sent_at e ws w kept blocks own was is keeps owns i lt)
     ∙ ap₂ (λ a n. map (octet_sent ws w) (range_with_len a n)) low (ap₂ (λ h l. h - l) is.spans.hi_is low)
 
-pub own_is : (e : Warm) (ws : List Written) (w : Written) (kept : Interval) (own : List ℕ)
+own_is : (e : Warm) (ws : List Written) (w : Written) (kept : Interval) (own : List ℕ)
     → WarmFor e ws → KeptOf ws w kept → length own ≡ kept.hi - kept.lo
     → ((i : ℕ) → i < kept.hi - kept.lo → slice_index own i ≡ slice_index w.octets (nat_of (pos (kept.lo + i) -ℤ off e.base e.acked w.seq)))
     → own ≡ map (own_octet ws w) (range_with_len (low_of ws w) (high_of ws w - low_of ws w))
@@ -95,12 +105,42 @@ tests_agree false false to back = refl
 tests_agree true false to back = back refl
 tests_agree false true to back = sym (to refl)
 
-pub clash_is : (ws : List Written) (w : Written) (own new : List ℕ) (clash : Bool) → new ≡ octets_sent ws w
-    → own ≡ map (own_octet ws w) (range_with_len (low_of ws w) (high_of ws w - low_of ws w)) → ((clash ≡ false) ↔ (new ≡ own)) → clash ≡ clashes ws w
-clash_is ws w own new clash sent owned same =
+-- an element of a list of values at offsets
+mapped_at : (f : ℕ → ℕ) (a n i : ℕ) → i < n → slice_index (map f (range_with_len a n)) i ≡ f (a + i)
+mapped_at f a zero i lt = absurd (omega arith)
+mapped_at f a (suc n) zero lt = ap f (omega arith)
+mapped_at f a (suc n) (suc i) lt = let next : a + 1 + i ≡ a + suc i = omega arith in mapped_at f (a + 1) n i (omega arith) ∙ ap f next
+
+-- an octet clashes exactly where the segment's own are not those that go out
+pub clash_is : (e : Warm) (ws : List Written) (w : Written) (kept : Interval) (blocks : List Block) (own : List ℕ) (clash : Bool)
+    → WarmFor e ws → KeptOf ws w kept → Keeps blocks ws → length own ≡ kept.hi - kept.lo
+    → ((i : ℕ) → i < kept.hi - kept.lo → slice_index own i ≡ slice_index w.octets (nat_of (pos (kept.lo + i) -ℤ off e.base e.acked w.seq)))
+    → ((clash ≡ false) ↔ Settles blocks kept.lo own own) → clash ≡ clashes ws w
+clash_is e ws w kept blocks own clash was is keeps long owns same =
+    let low : kept.lo ≡ low_of ws w = is.spans.lo_is in
+    let size : kept.hi - kept.lo ≡ high_of ws w - low_of ws w = ap₂ (λ h l. h - l) is.spans.hi_is low in
     let offsets = range_with_len (low_of ws w) (high_of ws w - low_of ws w) in
-    tests_agree clash (clashes ws w) (λ none. same_maps (octet_sent ws w) (own_octet ws w) offsets (sym sent ∙ (same.0 none ∙ owned)))
-    (λ none. same.1 (sent ∙ (differ_nowhere (octet_sent ws w) (own_octet ws w) offsets none ∙ sym owned)))
+    let owned = own_is e ws w kept own was is long owns in
+    tests_agree clash (clashes ws w)
+    (λ none. same_maps (octet_sent ws w) (own_octet ws w) offsets (sym (settled_is e ws w kept blocks own own was is keeps long refl owns (same.0 none)) ∙ owned))
+    (λ none. same.1 (λ i lt.
+    ap (λ l. slice_index l i) (owned ∙ sym (differ_nowhere (octet_sent ws w) (own_octet ws w) offsets none))
+    ∙ (mapped_at (octet_sent ws w) (low_of ws w) (high_of ws w - low_of ws w) i (omega (arith, long, size))
+    ∙ (ap (λ l. octet_sent ws w (l + i)) (sym low) ∙ sym (sent_at e ws w kept blocks own was is keeps owns i (omega (arith, long)))))))
+
+-- the octets of a segment that is sent as it was read, or those that were settled
+pub either_are : (as_read : Bool) (own filled sent : List ℕ) → (as_read ≡ true → own ≡ sent) → (as_read ≡ false → filled ≡ sent) → cond as_read own filled ≡ sent
+either_are true own filled sent plain settled = plain refl
+either_are false own filled sent plain settled = settled refl
+
+-- no octet clashes where no rule rewrites
+pub none_clash : (reserved urgent options old window end clash : Bool) (rows : List Rule) → rows ≡ stream_rows reserved urgent options old window end clash → (length rows == 0) ≡ true → clash ≡ false
+none_clash reserved urgent options old window end false rows are none = refl
+none_clash reserved urgent options old window end true rows are none =
+    let before = where_holds reserved rules.TRes ++ where_holds urgent rules.TUrg ++ where_holds options rules.TOpt ++ where_holds old rules.TOld
+    ++ where_holds window rules.TWindow ++ where_holds end rules.TEnd in
+    let long = ap length are ∙ length-append before (rules.TClash ∷ []) in
+    grind (arith, nat_tests, long, none)
 
 -- the blocks that are wanted
 pub wanted_is : (ws : List Written) (w : Written) (kept : Interval) (blocks : List Block) → IsMap blocks → Keeps blocks ws → KeptOf ws w kept

@@ -1,6 +1,6 @@
 -- A call that writes in one live era and begins and ends none.
-use Rattle.std.proofs.Common.{◌≡◌, ℕ, ◌+◌, ◌*◌, ◌≤◌, cond, List, [], ◌∷◌, ◌++◌, length, map, is_some, sym, ap, ap₂, subst, ◌∙◌, arith}
-use Rattle.std.proofs.lemmas.List.{append-nil}
+use Rattle.std.proofs.Common.{◌≡◌, true, false, ℕ, ◌+◌, ◌*◌, ◌≤◌, cond, List, [], ◌∷◌, ◌++◌, length, map, take, is_some, sym, ap, ap₂, subst, ◌∙◌, arith}
+use Rattle.std.proofs.lemmas.List.{append-nil, length-take-le}
 use Rattle.std.specs.List.{count_by, range_with_len}
 use Rattle.wire_base.specs.Segments.{Written}
 use Rattle.norm_settings.specs.Settings.{PlainSettings}
@@ -15,7 +15,8 @@ use Rattle.tcp_norm.specs.declared.state.TcpNorm.{TcpNorm}
 use Rattle.tcp_norm.specs.Calls.{Call, datagram, Outcome, segments, eras, key_of, without, begins_by, alive_at, written_by}
 use Rattle.tcp_norm.specs.Chains.{Keeps}
 use Rattle.tcp_norm.specs.Resets.{WritesAll}
-use Rattle.tcp_norm.specs.Rulings.{IsHeld}
+use Rattle.tcp_norm.specs.Rulings.{IsHeld, taken}
+use Rattle.tcp_norm.specs.declared.ruling.Taking.{Taking}
 use Rattle.tcp_norm.specs.Spare.{written_back}
 use Rattle.tcp_norm.specs.Standing.{HoldsFor, IsFor, StandsFor}
 use Rattle.tcp_norm.specs.Steps.{Does, continued_in}
@@ -36,6 +37,10 @@ wrote_these now n d more ws o does own =
 -- one segment
 pub writes_one : (d : Datagram) (n : ℕ) (w : Written) (o : Outcome) → Does d w (continued_in n) o → WritesAll d n (w ∷ []) o
 writes_one d n w o does = record { written = does.written; era_is = does.era_is; begun_is = does.begun_is; ended_are = does.ended_are; packets_are = does.packets_are }
+
+-- as many octets are taken as the interval has
+pub taken_long : (t : Taking) (scratch : List ℕ) → length t.own.now ≡ t.size → t.size ≤ length scratch → length (taken t scratch) ≡ t.size
+taken_long t scratch own room = elim t.as_read as (λ b. length (cond b t.own.now (take t.size scratch)) ≡ t.size) [ true ↦ own | false ↦ length-take-le t.size scratch room ]
 
 -- the entry of the era has another value, its era these segments more, and its chain what is kept of them
 pub stands_written : (settings : PlainSettings) (old new : TcpNorm) (cs : List Call) (now : ℕ) (d : Datagram) (live : Live) (value : Flow) (ws : List Written) (o : Outcome)

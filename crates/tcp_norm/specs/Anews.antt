@@ -1,9 +1,13 @@
 -- A segment that is rewritten, by the fields of the one that was read.
-use Rattle.std.specs.Prelude.{ℕ, ◌+◌, ◌≤◌, Bool, List, length, if◌then◌else◌}
+use Rattle.std.specs.Prelude.{ℕ, Bool, List, if◌then◌else◌}
+use Rattle.wire_base.specs.Options.{cleaned}
+use Rattle.wire_base.specs.Tcp as tcp
 use Rattle.wire_base.specs.Segments.{Segment}
 use Rattle.ipv4_codec.specs.declared.header.Ipv4.{Ipv4}
 use Rattle.tcp_codec.specs.declared.header.Tcp.{Tcp}
 use Rattle.tcp_norm.specs.Emits.{without_flag}
+use Rattle.tcp_norm.specs.declared.arrival.Arrival.{Arrival}
+use Rattle.tcp_norm.specs.declared.ruling.Passage.{Passage}
 
 -- with its ports, acknowledgment and window; its urgent marks are 0, and its FIN is left out where it is not kept
 abbrev pub anew_segment : Ipv4 → Tcp → (sequence : ℕ) (fin : Bool) (options octets : List ℕ) → Segment
@@ -21,6 +25,6 @@ anew_segment ip head sequence fin options octets =
       octets = octets;
     }
 
--- with a header of 20 octets, these options and octets are no more than the longest segment
-abbrev pub FitsSegment : (options octets : List ℕ) → Type 0
-FitsSegment options octets = 20 + length options + length octets ≤ 65515
+-- with the sequence number and the FIN of this passage, cleaned options, and these octets
+abbrev pub rewritten : Arrival → Ipv4 → Passage → (octets : List ℕ) → Segment
+rewritten a ip p octets = anew_segment ip a.head.now p.seq p.fin (cleaned (tcp.has_syn a.head.now.flags.0) (tcp.options a.packet.now.payload.now)) octets

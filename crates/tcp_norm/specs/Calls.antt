@@ -58,7 +58,7 @@ abbrev pub is_key : FlowKey → FlowKey → Bool
 is_key a b =
     (a.outside.0 == b.outside.0) && (a.outside_port == b.outside_port) && (a.inside.0 == b.inside.0) && (a.inside_port == b.inside_port)
 
--- the record was written: it passed, or was rewritten
+-- the verdict is pass or fix
 abbrev pub is_written : Verdict → Bool
 is_written verdicts.Pass = true
 is_written verdicts.Fix = true

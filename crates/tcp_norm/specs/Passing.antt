@@ -2,6 +2,7 @@
 use Rattle.std.specs.Prelude.{◌≡◌, ℕ, Bool, true, false, List, [], ◌∷◌, ◌++◌, ◌≤◌, length}
 use Rattle.rule_book.specs.declared.entry.Entry.{Entry}
 use Rattle.tcp_norm.specs.Calls.{Outcome}
+use Rattle.wire_base.specs.declared.limits.TheConstants.{MAX_FRAME}
 
 -- the entry says what became of the datagram, and nothing else in it has changed; eras that ended before precede those that ended with it
 pub record Reports (old new : Entry) (o : Outcome) : Type 0 where
@@ -29,5 +30,5 @@ given false frame out = out
 
 -- a frame that is sent as it was read is not in the outbox, and fits it
 abbrev pub IsUnsent : (as_read : Bool) → (frame : List ℕ) → (out : List (List ℕ)) → Type 0
-IsUnsent true frame out = (out ≡ []) × (length frame ≤ 65549)
+IsUnsent true frame out = (out ≡ []) × (length frame ≤ MAX_FRAME)
 IsUnsent false frame out = Unit {0}

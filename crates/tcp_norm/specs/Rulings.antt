@@ -1,6 +1,6 @@
 -- Rulings on inbound segments: the outcome that each represents, what is rewritten, and what changes in the tables (this project's profile).
-use Rattle.std.specs.Prelude.{◌≡◌, ◌≢◌, ℕ, true, false, ◌+◌, ◌*◌, ◌^◌, ◌<◌, ◌≤◌, length, List, [], ◌∷◌, ◌++◌, take, Option, Some, None, if◌then◌else◌}
-use Rattle.std.specs.List.{All, AllByRecursion, AllPairs}
+use Rattle.std.specs.Prelude.{◌≡◌, ◌≢◌, ◌==◌, ℕ, true, false, ◌+◌, ◌-◌, ◌*◌, ◌^◌, ◌<◌, ◌≤◌, length, List, [], ◌∷◌, ◌++◌, take, Option, Some, None, if◌then◌else◌}
+use Rattle.std.specs.List.{All, AllByRecursion, AllPairs, count_by, range_with_len}
 use Rattle.wire_base.specs.Segments.{Written}
 use Rattle.ipv4_codec.specs.declared.header.Ipv4.{Ipv4}
 use Rattle.linked_table.specs.Table as table
@@ -11,7 +11,7 @@ use Rattle.era_state.specs.declared.probe.Probe.{Probe}
 use Rattle.era_state.specs.Standing.{WarmFor}
 use Rattle.era_state.specs.Intervals.{KeptOf}
 use Rattle.era_state.specs.Frames.{IsGiven, IsFrame}
-use Rattle.retain_store.specs.Maps.{Store, chain_of, missing}
+use Rattle.retain_store.specs.Maps.{Store, ChangesOnly, IsMap, IsWithin, Places, chain_of, fresh, holds, missing}
 use Rattle.reset_probe.specs.Write.{probe_octets}
 use Rattle.ip_rules.specs.Datagrams.{Datagram, Packet, goes_in, IsDatagram}
 use Rattle.tcp_norm.specs.declared.arrival.Arrival.{Arrival}
@@ -56,6 +56,7 @@ use Rattle.tcp_norm.specs.Standing.{StandsFor}
 use Rattle.tcp_norm.specs.Colds.{IsUnheard}
 use Rattle.tcp_norm.specs.Resets.{WritesAll}
 use Rattle.tcp_norm.specs.Writes.{BringsNone}
+use Rattle.wire_base.specs.declared.limits.TheConstants.{MAX_PAYLOAD}
 
 -- the packets of a segment that passes
 abbrev pub packets_of : PlainSettings → List Written → Datagram → Passage → List Packet
@@ -68,9 +69,9 @@ outcome_of settings ws d (Drop r) =
 outcome_of settings ws d (Pass p) = passed p.step d.fixes p.rows.items (packets_of settings ws d p)
 outcome_of settings ws d (Ask q) = passed (record { era = None; begun = None; ended = None; full = false }) d.fixes q.rows.items (probe_packet settings d q.probe ∷ [])
 
--- an inbound segment is rewritten from the fields that were read, the ruling and the front of the scratch; no probe follows an outbound one
+-- an inbound segment that a rule rewrites is made from the fields that were read, the ruling and the front of the scratch; an outbound segment has no probe
 pub record IsRewritten (ws : List Written) (d : Datagram) (a : Arrival) (scratch : List ℕ) (p : Passage) : Type 0 where
-  pub anew : goes_in d.side ≡ true → segment_anew ws d
+  pub anew : goes_in d.side ≡ true → (length p.rows.items == 0) ≡ false → segment_anew ws d
       ≡ anew_segment a.packet.now.head a.head.now p.seq p.fin (cleaned (tcp.has_syn a.head.now.flags.0) (tcp.options a.packet.now.payload.now)) (take p.size scratch)
   pub alone : goes_in d.side ≡ false → p.probe ≡ None
 
@@ -89,7 +90,7 @@ refused_by ws w number =
 
 -- the header that was read and the octets of the passage are no more than the longest segment
 abbrev pub Fits : Arrival → Passage → Type 0
-Fits a p = a.head.now.header + p.size ≤ 65515
+Fits a p = a.head.now.header + p.size ≤ MAX_PAYLOAD
 
 -- a segment that passes is no longer than the longest
 abbrev pub IsShort : Arrival → Ruling → Type 0
@@ -160,11 +161,33 @@ pub record IsLast (era : Era) (warm : Warm) : Type 0 where
   pub acked_is : warm.acked ≡ eraspec.acked_in era
   pub octets_are : warm.octets ≡ eraspec.octets_in era
 
+-- the octets that an era takes: the segment's own, or those at the front of the scratch
+abbrev pub taken : Taking → (scratch : List ℕ) → List ℕ
+taken t scratch = if t.as_read then t.own.now else take t.size scratch
+
+-- the octets fit into the chain and the scratch; those that are rewritten are in the scratch
+pub record CanPlace (store : Store) (chain : ℕ) (t : Taking) (scratch : List ℕ) : Type 0 where
+  pub offsets : t.kept.lo + t.size ≤ 2 ^ 64 - 1
+  pub own_long : length t.own.now ≡ t.size
+  pub inside : t.size ≤ length scratch
+  pub room : missing (chain_of store chain) t.kept.lo t.size ≤ store.free
+
+-- these octets are added to the chain at the offsets that had none; `count` is the number of these offsets
+pub record PlacesOctets (old new : Store) (chain from : ℕ) (octets : List ℕ) (count : ℕ) : Type 0 where
+  pub places : Places (chain_of old chain) (chain_of new chain) from octets
+  pub fresh : count ≡ fresh (chain_of old chain) from (length octets)
+  pub most : count ≤ length octets
+  pub free : new.free + missing (chain_of old chain) from (length octets) ≡ old.free
+  pub changed : ChangesOnly old new chain
+  pub map : IsMap (chain_of new chain)
+  pub held : (n : ℕ) → IsWithin (chain_of new chain) (256 * n) → length (chain_of new chain) ≡ count_by (holds (chain_of new chain)) (range_with_len 0 n)
+
 -- the octets can be taken, after this number of calls, with this quota
 pub record CanTake (calls : ℕ) (store : Store) (most : Option ℕ) (live : Live) (t : Taking) : Type 0 where
   pub given : IsGiven t.warm.now t.kept
   pub long : t.kept.lo + t.size ≡ t.kept.hi
-  pub fits : t.size ≤ 65515
+  pub own_long : length t.own.now ≡ t.size
+  pub fits : t.size ≤ MAX_PAYLOAD
   pub acked : t.warm.now.acked ≤ calls * 2 ^ 31
   pub few : t.warm.now.octets + 2 ^ 16 ≤ calls * 2 ^ 16
   pub room : missing (chain_of store live.slot.0) t.kept.lo t.size ≤ store.free
@@ -185,7 +208,7 @@ pub record Brings (calls : List Call) (scratch : List ℕ) (d : Datagram) (live 
   pub kept_is : KeptOf (segments live.flow.number calls) (segment_in d) t.kept
   pub frame : Written
   pub framed : IsFrame (segments live.flow.number calls) (segment_in d) t.kept frame
-  pub octets_are : frame.octets ≡ take t.size scratch
+  pub octets_are : frame.octets ≡ taken t scratch
   pub own : written_by live.flow.number (datagram 0 d o) ≡ frame ∷ []
   pub more : List Written
   pub writes : WritesAll d live.flow.number more o

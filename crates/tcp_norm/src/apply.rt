@@ -1,6 +1,6 @@
 //! What a segment changes in its live era.
-ghost use Rattle.std.specs.Prelude.{◌≡◌};
-ghost use Rattle.linked_table.specs.Table.{IsIn};
+ghost use Rattle.std.specs.Prelude.{◌≡◌, ◌<◌, length};
+ghost use Rattle.tcp_norm.specs.Rulings.{CanPlace, IsHeld, PlacesOctets, taken};
 ghost use Rattle.tcp_norm.specs.Spare.{CanList, Relists, written_back};
 
 use crate::flow::{Flow, Live};
@@ -10,7 +10,7 @@ use crate::spare::{chain_is_counted, list_spare};
 use crate::state::TcpNorm;
 use era_state::Era;
 use era_state::laws::{acked_never_falls, first_stays, frame_octets, intervals_fit};
-use linked_table::{LinkedTable, Slot, SlotList};
+use linked_table::{LinkedTable, SlotList};
 use retain_store::{ChainId, Retain};
 
 impl TcpNorm {
@@ -32,43 +32,44 @@ impl TcpNorm {
     {
         match change {
             Change::Nothing => self.arrive(now),
-            Change::Touch => self.keep_era(live, live.flow.era, now),
+            Change::Touch => self.keep_era(live, &live.flow.era, now),
             Change::Take(taking) => self.take_octets(live, taking, now),
             Change::Hear(seg) => {
                 let era = live.flow.era.seen_syn(seg);
-                self.keep_era(live, era, now);
+                self.keep_era(live, &era, now);
             }
             Change::Reopen(era) => {
-                self.reopen(live, Era::Offered(*era), now);
+                self.reopen(live, &Era::Offered(*era), now);
             }
         }
     }
 
     /// Makes `era` of the live era, with a segment that arrives at this time and brings no octet of the stream: acknowledged octets are forgotten.
-    pub(crate) fn keep_era(&mut self, live: &Live, era: Era, now: u32)
+    pub(crate) fn keep_era(&mut self, live: &Live, era: &Era, now: u32)
         requires held { IsHeld self.old.table live.now }
-        requires near { IsNear (self.old.calls + 1) era }
+        requires near { IsNear (self.old.calls + 1) era.now }
         requires ready { IsReady self.old now }
         ensures { (settings : PlainSettings) (calls : List Call) (d : Datagram) (ws : List Written) (o : Outcome) → StandsFor settings self.old calls →
-            Extends calls d live.now era ws o → IsCounted settings calls d o now self.old self.new }
+            Extends calls d live.now era.now ws o → IsCounted settings calls d o now self.old self.new }
     {
         first_stays();
         acked_never_falls();
         self.calls += 1;
         self.latest = now;
-        let slot = live.slot;
-        let chain = ChainId(slot.0);
+        let chain = ChainId(live.slot.0);
         chain_is_counted(&self.store, chain);
         self.store.forget_below(chain, era.acknowledged());
-        let flow = Flow {
+        write_back(
+            &mut self.table,
+            &mut self.spare,
+            &self.store,
+            live,
             era,
-            number: live.flow.number,
-            touched: now,
-        };
-        write_back(&mut self.table, &mut self.spare, &self.store, slot, flow);
+            now,
+        );
     }
 
-    /// Takes the octets of a frame, at the front of the scratch, and its FIN into the live era, with a segment that arrives at this time.
+    /// Takes the octets of a segment, its own or those at the front of the scratch, and its FIN into the live era, with a segment that arrives at this time.
     pub(crate) fn take_octets(&mut self, live: &Live, taking: &Taking<'_>, now: u32)
         requires held { IsHeld self.old.table live.now }
         requires can { CanTake (self.old.calls + 1) self.old.store self.old.quota live.now taking.now }
@@ -81,37 +82,55 @@ impl TcpNorm {
         intervals_fit();
         self.calls += 1;
         self.latest = now;
-        let slot = live.slot;
-        let chain = ChainId(slot.0);
+        let chain = ChainId(live.slot.0);
         let kept = &taking.kept;
-        let fresh = self
-            .store
-            .place_counting(chain, kept.lo, &self.scratch[..taking.size]);
+        let fresh = place_taken(&mut self.store, chain, taking, &self.scratch);
         chain_is_counted(&self.store, chain);
         let new = taking.warm.forwarded(kept, fresh as u32);
-        let flow = Flow {
-            era: Era::settled(new),
-            number: live.flow.number,
-            touched: now,
-        };
-        write_back(&mut self.table, &mut self.spare, &self.store, slot, flow);
+        let era = Era::settled(new);
+        write_back(
+            &mut self.table,
+            &mut self.spare,
+            &self.store,
+            live,
+            &era,
+            now,
+        );
     }
 }
 
-// Puts the value of a live era back into its slot and touches it, and lists the slot where it holds no octet.
+// Adds the octets that an era takes to its chain, and returns how many are the first at their offsets. Those that are rewritten are at the front of
+// the scratch.
+fn place_taken(store: &mut Retain, chain: ChainId, taking: &Taking<'_>, scratch: &[u8]) -> usize
+    requires chain_in_range { chain.0 < length store.old.chains }
+    requires can { CanPlace store.old chain.0 taking.now scratch.now }
+    ensures { PlacesOctets store.old store.new chain.0 taking.now.kept.lo (taken taking.now scratch.now) result }
+{
+    if taking.as_read {
+        store.place_counting(chain, taking.kept.lo, taking.own)
+    } else {
+        store.place_counting(chain, taking.kept.lo, &scratch[..taking.size])
+    }
+}
+
+// Writes the state of a live era into its slot and touches it at this time, and lists the slot where it holds no octet.
 fn write_back(
     table: &mut LinkedTable<EraKey, Flow>,
     spare: &mut SlotList,
     store: &Retain,
-    slot: Slot,
-    flow: Flow,
+    live: &Live,
+    era: &Era,
+    now: u32,
 )
-    requires inside { IsIn table.old.entries slot }
-    requires listed { CanList spare.old store.now slot }
-    ensures entries { table.new ≡ record table.old { entries = written_back table.old.entries slot flow } }
-    ensures spare { Relists spare.old spare.new store.now slot }
+    requires held { IsHeld table.old live.now }
+    requires listed { CanList spare.old store.now live.now.slot }
+    ensures entries { table.new ≡ record table.old { entries = written_back table.old.entries live.now.slot (record { era = era.now; number = live.now.flow.number; touched = now }) } }
+    ensures spare { Relists spare.old spare.new store.now live.now.slot }
 {
-    let _before = table.put(slot, flow);
+    let slot = live.slot;
+    let flow = table.at_mut(slot);
+    flow.era = *era;
+    flow.touched = now;
     table.touch(slot);
     list_spare(spare, store, slot);
 }

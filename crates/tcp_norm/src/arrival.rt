@@ -1,6 +1,7 @@
 //! A datagram as it arrives, with the header of its segment read.
 ghost use Rattle.std.specs.Prelude.{◌≡◌, ◌≤◌, [], length};
 ghost use Rattle.tcp_norm.specs.Heads.{IsRead};
+ghost use Rattle.wire_base.specs.declared.limits.TheConstants.{MAX_FRAME, MAX_LINK, MAX_PAYLOAD};
 
 use ip_rules::IpPacket;
 use tcp_codec::Tcp;
@@ -12,9 +13,9 @@ pub(crate) struct Arrival<'a> {
     pub(crate) packet: &'a IpPacket<'a>,
     pub(crate) link: &'a [u8],
     pub(crate) head: &'a Tcp,
-    ghost short: { length packet.now.payload.now ≤ 65515 },
+    ghost short: { length packet.now.payload.now ≤ MAX_PAYLOAD },
     ghost read: { IsRead packet.now.payload.now head.now },
-    ghost brief: { length link.now ≤ 14 },
-    ghost framed: { packet.now.fixes.items ≡ [] → length packet.now.frame.now ≤ 65549 },
+    ghost brief: { length link.now ≤ MAX_LINK },
+    ghost framed: { packet.now.fixes.items ≡ [] → length packet.now.frame.now ≤ MAX_FRAME },
     ghost few: { length packet.now.fixes.items ≤ 6 },
 }

@@ -5,10 +5,9 @@ use crate::spare::list_spare;
 use crate::state::TcpNorm;
 use crate::step::Place;
 use era_state::Era;
-use linked_table::Slot;
+use linked_table::{Hashed, Slot};
 use retain_store::ChainId;
 use rule_book::{Ended, Reason};
-use wire_base::FlowKey;
 
 impl TcpNorm {
     ghost use Rattle.std.specs.Prelude.{◌≡◌, ◌+◌, ◌-◌, ◌<◌, ℕ, IfSome, IfNone, None, List, [], ◌∷◌, Option, Some, is_some, ◌++◌, length, if◌then◌else◌};
@@ -30,19 +29,19 @@ impl TcpNorm {
     ghost use Rattle.linked_table.specs.Table as table;
 
     /// Begins an era with a segment that arrives at this time, if there is a slot for it.
-    pub(crate) fn admit(&mut self, key: FlowKey, era: Era, now: u32) -> Option<Place>
-        requires absent { IsAbsent self.old key }
-        requires near { IsNear (self.old.calls + 1) era }
+    pub(crate) fn admit(&mut self, hashed: &Hashed<EraKey>, era: &Era, now: u32) -> Option<Place>
+        requires absent { IsAbsent self.old hashed.now.key.0 }
+        requires near { IsNear (self.old.calls + 1) era.now }
         requires ready { IsReady self.old now }
         ensures answer { (settings : PlainSettings) (calls : List Call) (d : Datagram) → StandsFor settings self.old calls → result ≡ place_in (view_of settings calls d) }
         ensures some { IfSome result (λ p. (settings : PlainSettings) (calls : List Call) (d : Datagram) (w : Written) (o : Outcome) → StandsFor settings self.old calls →
-            key_of d ≡ key → eras.StandsFor era (w ∷ []) → ((offset : ℕ) → kept_at (w ∷ []) offset ≡ None) → Does d w (began p) o → StandsFor settings self.new (datagram now d o ∷ calls)) }
+            key_of d ≡ hashed.now.key.0 → eras.StandsFor era.now (w ∷ []) → ((offset : ℕ) → kept_at (w ∷ []) offset ≡ None) → Does d w (began p) o → StandsFor settings self.new (datagram now d o ∷ calls)) }
         ensures none { IfNone result ((settings : PlainSettings) (calls : List Call) (d : Datagram) (o : Outcome) → StandsFor settings self.old calls →
             IsUnheard o → StandsFor settings self.new (datagram now d o ∷ calls)) }
     {
         self.calls += 1;
         self.latest = now;
-        match self.place(key, era, now) {
+        match self.place(hashed, era, now) {
             None => None,
             Some(place) => Some(place),
         }
@@ -58,30 +57,31 @@ impl TcpNorm {
         self.entries_are_apart();
         let slot = self.spare.first()?;
         let flow = self.flow_at(slot);
+        let number = flow.number;
         let octets = flow.era.octets();
         self.end(slot);
         Some(Ended {
-            era: flow.number,
+            era: number,
             reason: Reason::Evicted,
             octets: Some(octets),
         })
     }
 
     // Begins an era of a connection that has none: beside the others, or in the slot of one that holds no octet, or else not at all.
-    pub(crate) fn place(&mut self, key: FlowKey, era: Era, now: u32) -> Option<Place>
-        requires fresh { IsNew self.old key era }
-        ensures places { (lives : List Alive) (segments : ℕ → List Written) → Holds self.old lives segments → Places self.old self.new key era now lives segments result }
+    pub(crate) fn place(&mut self, hashed: &Hashed<EraKey>, era: &Era, now: u32) -> Option<Place>
+        requires fresh { IsNew self.old hashed.now.key.0 era.now }
+        ensures places { (lives : List Alive) (segments : ℕ → List Written) → Holds self.old lives segments → Places self.old self.new hashed.now.key.0 era.now now lives segments result }
         ensures tables { ChangesTables self.old self.new (self.old.begun + (if is_some result then 1 else 0)) }
     {
         if self.table.len() < self.table.max() {
-            self.begin(key, era, now);
+            self.begin(hashed, era, now);
             return Some(Place {
                 begun: self.begun,
                 evicted: None,
             });
         }
         let ended = self.evict()?;
-        self.begin(key, era, now);
+        self.begin(hashed, era, now);
         Some(Place {
             begun: self.begun,
             evicted: Some(ended),
@@ -89,20 +89,20 @@ impl TcpNorm {
     }
 
     // Begins an era of a connection that has none, where fewer are live than may be. It holds no octet.
-    pub(crate) fn begin(&mut self, key: FlowKey, era: Era, now: u32)
-        requires fresh { IsNew self.old key era }
+    pub(crate) fn begin(&mut self, hashed: &Hashed<EraKey>, era: &Era, now: u32)
+        requires fresh { IsNew self.old hashed.now.key.0 era.now }
         requires room { length self.old.table.entries < self.old.table.max }
-        ensures holds { (lives : List Alive) (segments later : ℕ → List Written) → Holds self.old lives segments → Begins era (self.old.begun + 1) segments later →
-            Holds self.new (lives ++ record { number = self.old.begun + 1; key = key; touched = now } ∷ []) later }
+        ensures holds { (lives : List Alive) (segments later : ℕ → List Written) → Holds self.old lives segments → Begins era.now (self.old.begun + 1) segments later →
+            Holds self.new (lives ++ record { number = self.old.begun + 1; key = hashed.now.key.0; touched = now } ∷ []) later }
         ensures tables { ChangesTables self.old self.new (self.old.begun + 1) }
     {
         let number = self.begun + 1;
         let flow = Flow {
-            era,
+            era: *era,
             number,
             touched: now,
         };
-        match self.table.insert(EraKey(key), flow) {
+        match self.table.insert_hashed(hashed, flow) {
             Ok(slot) => list_spare(&mut self.spare, &self.store, slot),
             Err(_) => unreachable!(),
         }
@@ -110,18 +110,19 @@ impl TcpNorm {
     }
 
     /// Ends the live era and begins another of its connection with a segment that arrives at this time.
-    pub(crate) fn reopen(&mut self, live: &Live, era: Era, now: u32)
+    pub(crate) fn reopen(&mut self, live: &Live, era: &Era, now: u32)
         requires held { IsHeld self.old.table live.now }
-        requires near { IsNear (self.old.calls + 1) era }
+        requires near { IsNear (self.old.calls + 1) era.now }
         requires ready { IsReady self.old now }
         ensures { (settings : PlainSettings) (calls : List Call) (d : Datagram) (w : Written) (octets : ℕ) (o : Outcome) → StandsFor settings self.old calls →
-            live.now.key ≡ key_of d → eras.StandsFor era (w ∷ []) → ((offset : ℕ) → kept_at (w ∷ []) offset ≡ None) →
+            live.now.key ≡ key_of d → eras.StandsFor era.now (w ∷ []) → ((offset : ℕ) → kept_at (w ∷ []) offset ≡ None) →
             Does d w (reopened_by live.now.flow.number (self.old.begun + 1) octets) o → IsCounted settings calls d o now self.old self.new }
     {
         self.calls += 1;
         self.latest = now;
         self.end(live.slot);
-        self.begin(live.key, era, now);
+        let hashed = self.table.hashed(EraKey(live.key));
+        self.begin(&hashed, era, now);
     }
 
     // Ends the era in this slot: its octets and its entry go, and the others stay.

@@ -41,8 +41,9 @@ impl TcpNorm {
         ensures short { IsShort arrival.now ruling.new }
     {
         let key = inward_key(arrival);
-        match self.table.find(&EraKey(key)) {
-            None => self.judge_cold(key, arrival, ruling),
+        let hashed = self.table.hashed(EraKey(key));
+        match self.table.find_hashed(&hashed) {
+            None => self.judge_cold(&hashed, arrival, ruling),
             Some(slot) => {
                 let live = self.live_at(slot, key);
                 self.judge_live(&live, arrival, ruling);
@@ -65,7 +66,7 @@ impl TcpNorm {
     fn decide<'a>(
         &mut self,
         live: &'a Live,
-        arrival: &Arrival<'_>,
+        arrival: &Arrival<'a>,
         ruling: &mut Ruling,
     ) -> Change<'a>
         requires found { IsFound self.old arrival.now live.now }

@@ -5,11 +5,12 @@ ghost use Rattle.tcp_norm.specs.Rulings.{probe_frames};
 ghost use Rattle.ipv4_codec.specs.Write.{plain_header};
 ghost use Rattle.tcp_codec.specs.Mending.{mended};
 ghost use Rattle.tcp_codec.specs.Write.{segment_octets};
-ghost use Rattle.tcp_norm.specs.Anews.{FitsSegment, anew_segment};
+ghost use Rattle.tcp_norm.specs.Anews.{rewritten};
 ghost use Rattle.tcp_norm.specs.Emits.{without_flag};
 ghost use Rattle.ip_rules.specs.Datagrams as spec;
 ghost use Rattle.wire_base.specs.Sums as sums;
 ghost use Rattle.wire_base.specs.Tcp as tcp;
+ghost use Rattle.wire_base.specs.declared.limits.TheConstants.{MAX_LINK, MAX_PAYLOAD};
 
 use crate::arrival::Arrival;
 use crate::reading::options_of;
@@ -22,7 +23,7 @@ use ip_rules::write::{head_sent, put_anew, put_read, raised};
 use ipv4_codec::Ipv4;
 use reset_probe::write_probe;
 use tcp_codec::laws::mended_say_the_same;
-use tcp_codec::{SegmentParts, Tcp, mend, write_segment};
+use tcp_codec::{SegmentParts, mend, write_cleaned};
 use wire_base::{Flags, Side, protocol, pseudo_sum};
 
 impl TcpNorm {
@@ -107,14 +108,8 @@ impl TcpNorm {
         let head = head_sent(packet, self.hops);
         match packet.side {
             Side::Inward => {
-                let (options, _changed) = options_of(arrival);
-                let anew = Anew {
-                    seq: passage.seq,
-                    fin: passage.fin,
-                    options,
-                };
                 let sent = &self.scratch[..passage.size];
-                put_rewritten(arrival, &head, anew, sent, &mut self.page, out);
+                put_rewritten(arrival, &head, passage, sent, &mut self.page, out);
             }
             Side::Outward => {
                 put_mended(arrival.link, &head, packet.payload, &mut self.scratch, out);
@@ -136,8 +131,8 @@ pub(crate) fn put_given(as_read: bool, frame: &[u8], out: &mut Outbox)
 // Puts a packet with a plain header and a correct checksum of its segment into the empty outbox.
 fn put_mended(link: &[u8], head: &Ipv4, segment: &[u8], scratch: &mut [u8], out: &mut Outbox)
     requires empty { IsBlank out.old }
-    requires link { length link.now ≤ 14 }
-    requires short { length segment.now ≤ 65515 }
+    requires link { length link.now ≤ MAX_LINK }
+    requires short { length segment.now ≤ MAX_PAYLOAD }
     requires long { 20 ≤ length segment.now }
     requires words { 20 ≤ tcp.header_length segment.now }
     requires room { length segment.now ≤ length scratch.old }
@@ -154,22 +149,22 @@ fn put_mended(link: &[u8], head: &Ipv4, segment: &[u8], scratch: &mut [u8], out:
     put_anew(link, head, copy, out);
 }
 
-// Puts the packet of a segment that is rewritten into the empty outbox.
+// Puts the packet of a segment that is rewritten, with these octets, into the empty outbox.
 fn put_rewritten(
     arrival: &Arrival<'_>,
     ip: &Ipv4,
-    anew: Anew,
+    passage: &Passage,
     octets: &[u8],
     page: &mut [u8],
     out: &mut Outbox,
 )
     requires empty { IsBlank out.old }
-    requires size { FitsSegment anew.options.items octets.now }
-    requires room { 65515 ≤ length page.old }
-    ensures { let m = segment_octets (anew_segment ip.now arrival.now.head.now anew.seq anew.fin anew.options.items octets.now) in
+    requires size { arrival.now.head.now.header + length octets.now ≤ MAX_PAYLOAD }
+    requires room { MAX_PAYLOAD ≤ length page.old }
+    ensures { let m = segment_octets (rewritten arrival.now ip.now passage.now octets.now) in
         out.new ≡ (arrival.now.link.now ++ plain_header ip.now (length m) ++ m) ∷ [] }
 {
-    let size = write_anew(ip, arrival.head, anew, octets, page);
+    let size = write_rewritten(arrival, ip, passage, octets, page);
     put_anew(arrival.link, ip, &page[..size], out);
 }
 
@@ -211,32 +206,31 @@ fn without_fin(flags: Flags) -> u8
 }
 
 // Writes the rewritten segment with these octets. Returns its length.
-fn write_anew(ip: &Ipv4, head: &Tcp, anew: Anew, octets: &[u8], buf: &mut [u8]) -> usize
-    requires size { FitsSegment anew.options.items octets.now }
-    requires room { 65515 ≤ length buf.old }
-    ensures exact { buf.new ≡ segment_octets (anew_segment ip.now head.now anew.seq anew.fin anew.options.items octets.now) ++ drop result buf.old }
-    ensures size { result ≡ 20 + length anew.options.items + length octets.now }
+fn write_rewritten(
+    arrival: &Arrival<'_>,
+    ip: &Ipv4,
+    passage: &Passage,
+    octets: &[u8],
+    buf: &mut [u8],
+) -> usize
+    requires size { arrival.now.head.now.header + length octets.now ≤ MAX_PAYLOAD }
+    requires room { MAX_PAYLOAD ≤ length buf.old }
+    ensures exact { buf.new ≡ segment_octets (rewritten arrival.now ip.now passage.now octets.now) ++ drop result buf.old }
+    ensures size { result ≡ length (segment_octets (rewritten arrival.now ip.now passage.now octets.now)) }
+    ensures short { result ≤ MAX_PAYLOAD }
 {
-    let flags = flags_sent(head.flags, anew.fin);
+    let head = arrival.head;
+    let area = options_of(arrival);
     let parts = SegmentParts {
         src: ip.src,
         dst: ip.dst,
         sport: head.sport,
         dport: head.dport,
-        seq: anew.seq,
+        seq: passage.seq,
         ack: head.ack,
-        flags,
+        flags: flags_sent(head.flags, passage.fin),
         window: head.window,
-        options: anew.options,
+        options: ArrayVec::new(),
     };
-    write_segment(&parts, octets, buf)
-}
-
-/// What changes in a segment that is rewritten: its sequence number, whether its FIN stays, and its options.
-#[derive(Drop)]
-pub(crate) struct Anew {
-    pub(crate) seq: u32,
-    pub(crate) fin: bool,
-    pub(crate) options: ArrayVec<u8, 40>,
-    ghost words: { length options.items % 4 ≡ 0 },
+    write_cleaned(&parts, area, head.flags.syn(), octets, buf)
 }

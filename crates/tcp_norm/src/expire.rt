@@ -44,13 +44,14 @@ impl TcpNorm {
         self.entries_are_apart();
         let slot = self.table.oldest()?;
         let flow = self.flow_at(slot);
-        if !self.is_idle(&flow, now) {
+        if !self.is_idle(flow, now) {
             return None;
         }
+        let number = flow.number;
         let octets = flow.era.octets();
         self.end(slot);
         Some(Ended {
-            era: flow.number,
+            era: number,
             reason: Reason::Idle,
             octets: Some(octets),
         })

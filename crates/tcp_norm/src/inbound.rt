@@ -22,6 +22,7 @@ impl TcpNorm {
     ghost use Rattle.tcp_norm.specs.Outcomes.{call_of, outcome_at};
     ghost use Rattle.tcp_norm.specs.Passing.{given, IsUnsent, Reports};
     ghost use Rattle.tcp_norm.specs.Standing.{StandsFor};
+    ghost use Rattle.wire_base.specs.declared.limits.TheConstants.{MAX_FRAME, MAX_LINK, MAX_PAYLOAD};
 
     /// Handles an inbound datagram: it continues its era, reopens or begins one, a host is asked about it, or a rule drops it. A probe may be sent behind
     /// a reset, and for one that is dropped.
@@ -35,10 +36,10 @@ impl TcpNorm {
         entry: &mut Entry,
     )
         requires side { packet.now.side ≡ Inward }
-        requires short { length packet.now.payload.now ≤ 65515 }
+        requires short { length packet.now.payload.now ≤ MAX_PAYLOAD }
         requires head { IsHead packet.now.payload.now seg.now }
-        requires link { length link_octets.now ≤ 14 }
-        requires frame { packet.now.fixes.items ≡ [] → length packet.now.frame.now ≤ 65549 }
+        requires link { length link_octets.now ≤ MAX_LINK }
+        requires frame { packet.now.fixes.items ≡ [] → length packet.now.frame.now ≤ MAX_FRAME }
         requires fixes { length packet.now.fixes.items ≤ 6 }
         requires empty { out.old ≡ [] }
         requires ended { length entry.old.ended.items ≤ 2 }
@@ -66,12 +67,12 @@ impl TcpNorm {
         out: &mut Outbox,
         entry: &mut Entry,
     ) -> bool
-        requires short { length packet.now.payload.now ≤ 65515 }
+        requires short { length packet.now.payload.now ≤ MAX_PAYLOAD }
         requires head { IsHead packet.now.payload.now seg.now }
         requires fields { packet.now.side ≡ Outward →
             seg.now ≡ fields_of (pseudo_sum packet.now.head.src.0 packet.now.head.dst.0 6 (length packet.now.payload.now)) packet.now.payload.now }
-        requires link { length link_octets.now ≤ 14 }
-        requires frame { packet.now.fixes.items ≡ [] → length packet.now.frame.now ≤ 65549 }
+        requires link { length link_octets.now ≤ MAX_LINK }
+        requires frame { packet.now.fixes.items ≡ [] → length packet.now.frame.now ≤ MAX_FRAME }
         requires fixes { length packet.now.fixes.items ≤ 6 }
         requires empty { out.old ≡ [] }
         requires ended { length entry.old.ended.items ≤ 2 }

@@ -21,10 +21,10 @@ use edge_io::Outbox;
 use era_state::laws::acked_grows_near;
 use era_state::{Called, Era, Moved, Seg};
 use ip_rules::{Fixes, IpPacket};
+use linked_table::Hashed;
 use rule_book::{Entry, Rule};
 use tcp_codec::Tcp;
 use tcp_codec::laws::mended_say_the_same;
-use wire_base::FlowKey;
 
 impl TcpNorm {
     ghost use Rattle.std.specs.Prelude.{◌≡◌, ◌+◌, ◌-◌, ◌<◌, ◌≤◌, ◌^◌, List, [], ◌∷◌, length, true};
@@ -42,6 +42,7 @@ impl TcpNorm {
     ghost use Rattle.tcp_norm.specs.Steps.{IsMade, Makes};
     ghost use Rattle.tcp_norm.specs.Near.{IsNear};
     ghost use Rattle.tcp_norm.specs.Rulings.{IsHeld, IsLegal, IsOutward, IsShort, Judges};
+    ghost use Rattle.wire_base.specs.declared.limits.TheConstants.{MAX_FRAME, MAX_LINK, MAX_PAYLOAD};
 
     /// Handles an outbound datagram: it continues its era, or ends, reopens or begins one.
     pub fn outbound(
@@ -54,11 +55,11 @@ impl TcpNorm {
         entry: &mut Entry,
     )
         requires side { packet.now.side ≡ Outward }
-        requires short { length packet.now.payload.now ≤ 65515 }
+        requires short { length packet.now.payload.now ≤ MAX_PAYLOAD }
         requires head { IsHead packet.now.payload.now seg.now }
         requires fields { seg.now ≡ fields_of (pseudo_sum packet.now.head.src.0 packet.now.head.dst.0 6 (length packet.now.payload.now)) packet.now.payload.now }
-        requires link { length link_octets.now ≤ 14 }
-        requires frame { packet.now.fixes.items ≡ [] → length packet.now.frame.now ≤ 65549 }
+        requires link { length link_octets.now ≤ MAX_LINK }
+        requires frame { packet.now.fixes.items ≡ [] → length packet.now.frame.now ≤ MAX_FRAME }
         requires fixes { length packet.now.fixes.items ≤ 6 }
         requires empty { out.old ≡ [] }
         requires ended { length entry.old.ended.items ≤ 2 }
@@ -105,27 +106,28 @@ impl TcpNorm {
     {
         let parsed = seg_of(arrival);
         let key = outward_key(arrival);
-        match self.table.find(&EraKey(key)) {
+        let hashed = self.table.hashed(EraKey(key));
+        match self.table.find_hashed(&hashed) {
             Some(slot) => {
                 let live = self.live_at(slot, key);
                 self.depart_live(&live, &parsed, arrival.time)
             }
-            None => self.depart_cold(key, &parsed, arrival.time),
+            None => self.depart_cold(&hashed, &parsed, arrival.time),
         }
     }
 
     // Updates the eras with an outbound segment of a connection that has no live era.
-    fn depart_cold(&mut self, key: FlowKey, seg: &Seg, now: u32) -> Step
-        requires absent { IsAbsent self.old key }
+    fn depart_cold(&mut self, hashed: &Hashed<EraKey>, seg: &Seg, now: u32) -> Step
+        requires absent { IsAbsent self.old hashed.now.key.0 }
         requires legal { IsLegal seg.now }
         requires ready { IsReady self.old now }
-        ensures { Makes self.old self.new key seg.now now result }
+        ensures { Makes self.old self.new hashed.now.key.0 seg.now now result }
     {
         if seg.flags.rst() {
             self.arrive(now);
             return Step::outside(false);
         }
-        match self.admit(key, era_of(seg), now) {
+        match self.admit(hashed, &era_of(seg), now) {
             None => Step::outside(true),
             Some(place) => Step::begun(place),
         }
@@ -143,7 +145,7 @@ impl TcpNorm {
         let octets = live.flow.era.octets();
         match live.flow.era.outbound(seg) {
             Moved::Next(era) => {
-                self.keep_era(live, era, now);
+                self.keep_era(live, &era, now);
                 Step::within(number)
             }
             Moved::Reset => {
@@ -154,7 +156,7 @@ impl TcpNorm {
             }
             Moved::Reopen => {
                 let next = self.begun + 1;
-                self.reopen(live, era_of(seg), now);
+                self.reopen(live, &era_of(seg), now);
                 Step::reopened(next, number, octets)
             }
         }

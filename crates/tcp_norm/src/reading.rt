@@ -1,7 +1,8 @@
 //! What an era is asked about a segment, and its options as they go out.
 ghost use Rattle.std.specs.Prelude.{◌≡◌, ◌<◌, ◌^◌, ◌+◌, ◌≤◌, ◌%◌, length, false, true, if◌then◌else◌};
 ghost use Rattle.wire_base.specs.Tcp as tcp;
-ghost use Rattle.wire_base.specs.Options.{cleaned};
+ghost use Rattle.wire_base.specs.Options as spec;
+ghost use Rattle.wire_base.specs.Options.{are_well_formed, cleaned};
 ghost use Rattle.era_state.specs.Read.{received, sent, came};
 ghost use Rattle.wire_base.specs.declared.address.Side.TheVariants.{Inward, Outward};
 ghost use Rattle.tcp_norm.specs.Calls.{key_at, read};
@@ -11,11 +12,10 @@ ghost use Rattle.tcp_norm.specs.Inwards.{bare_read};
 
 use crate::arrival::Arrival;
 use crate::emit::flags_sent;
-use arrayvec::ArrayVec;
 use era_state::Seg;
 use ipv4_codec::Ipv4;
-use tcp_codec::laws::options_are_cleaned;
-use tcp_codec::{clean_options, scale_of};
+use tcp_codec::laws::{cleaned_keep_the_scale, cleaned_lose_the_scale, options_are_cleaned};
+use tcp_codec::scale_of;
 use wire_base::FlowKey;
 
 /// The segment of these octets, of which the header was read.
@@ -33,7 +33,7 @@ pub(crate) fn seg_of(arrival: &Arrival<'_>) -> Seg
         len: (octets.len() - head.header) as u32,
         window: head.window,
         flags: head.flags,
-        scale: scale_of(&octets[20..head.header]),
+        scale: scale_of(options_of(arrival)),
     }
 }
 
@@ -84,17 +84,27 @@ pub(crate) fn bare_seg(arrival: &Arrival<'_>) -> Seg
     ensures read { came result ≡ bare_read arrival.now.packet.now.payload.now }
     ensures flags { tcp.are_legal result.flags.0 ≡ true }
 {
-    let octets = arrival.packet.payload;
     let head = arrival.head;
-    options_are_cleaned();
-    let (options, _changed) = options_of(arrival);
     Seg {
         seq: head.seq,
         ack: head.ack,
         len: 0,
         window: head.window,
         flags: flags_sent(head.flags, true),
-        scale: scale_of(options.as_slice()),
+        scale: scale_sent(arrival),
+    }
+}
+
+// The window shift of the options of a segment as they go out: only a SYN keeps it.
+fn scale_sent(arrival: &Arrival<'_>) -> Option<u8>
+    ensures { result ≡ spec.scale_of (cleaned (tcp.has_syn arrival.now.head.now.flags.0) (tcp.options arrival.now.packet.now.payload.now)) }
+{
+    cleaned_keep_the_scale();
+    cleaned_lose_the_scale();
+    if arrival.head.flags.syn() {
+        scale_of(options_of(arrival))
+    } else {
+        None
     }
 }
 
@@ -107,26 +117,14 @@ pub(crate) fn payload_of<'a>(arrival: &Arrival<'a>) -> &'a [u8]
     &octets[head.header..]
 }
 
-/// The options of a segment as they go out, and whether that changes them.
-pub(crate) fn options_of(arrival: &Arrival<'_>) -> (ArrayVec<u8, 40>, bool)
-    ensures exact { result.0.items ≡ cleaned (tcp.has_syn arrival.now.head.now.flags.0) (tcp.options arrival.now.packet.now.payload.now) }
-    ensures changed { result.1 ≡ differ (cleaned (tcp.has_syn arrival.now.head.now.flags.0) (tcp.options arrival.now.packet.now.payload.now)) (tcp.options arrival.now.packet.now.payload.now) }
-    ensures words { length result.0.items % 4 ≡ 0 }
-    ensures size { 20 + length result.0.items ≡ arrival.now.head.now.header }
+/// The options of a segment.
+pub(crate) fn options_of<'a>(arrival: &Arrival<'a>) -> &'a [u8]
+    ensures area { result.now ≡ tcp.options arrival.now.packet.now.payload.now }
+    ensures formed { are_well_formed result.now ≡ true }
+    ensures words { length result.now % 4 ≡ 0 }
+    ensures size { 20 + length result.now ≡ arrival.now.head.now.header }
 {
-    let octets = arrival.packet.payload;
-    let head = arrival.head;
-    options_are_cleaned();
-    let mut options = ArrayVec::new();
-    let area = &octets[20..head.header];
-    if area.is_empty() {
-        return (options, false);
-    }
-    if options.try_extend_from_slice(area).is_err() {
-        unreachable!()
-    }
-    let changed = clean_options(options.as_mut_slice(), head.flags.syn());
-    (options, changed)
+    &arrival.packet.payload[20..arrival.head.header]
 }
 
 /// Returns whether the options of a segment change as it is sent.
@@ -135,11 +133,10 @@ pub(crate) fn options_change(arrival: &Arrival<'_>) -> bool
     ensures words { length (cleaned (tcp.has_syn arrival.now.head.now.flags.0) (tcp.options arrival.now.packet.now.payload.now)) % 4 ≡ 0 }
     ensures size { 20 + length (cleaned (tcp.has_syn arrival.now.head.now.flags.0) (tcp.options arrival.now.packet.now.payload.now)) ≡ arrival.now.head.now.header }
 {
-    let octets = arrival.packet.payload;
-    let head = arrival.head;
-    if octets[20..head.header].is_empty() {
+    options_are_cleaned();
+    let options = options_of(arrival);
+    if options.is_empty() {
         return false;
     }
-    let (_options, changed) = options_of(arrival);
-    changed
+    tcp_codec::options_change(options, arrival.head.flags.syn())
 }

@@ -53,12 +53,14 @@ impl Ruling {
     }
 }
 
-/// The octets of an interval, at the front of the scratch, that an era takes.
+/// The octets of an interval that an era takes: the segment's own if it is sent as it was read, and otherwise those at the front of the scratch.
 #[derive(Clone, Copy)]
 pub(crate) struct Taking<'a> {
     pub(crate) warm: &'a Warm,
     pub(crate) kept: Interval,
     pub(crate) size: usize,
+    pub(crate) own: &'a [u8],
+    pub(crate) as_read: bool,
 }
 
 /// What becomes of a live era: nothing; it is touched; it takes octets; it hears a SYN; or it ends and another begins.

@@ -2,6 +2,7 @@
 ghost use Rattle.std.specs.Prelude.{◌≡◌, ◌≤◌, length, vec_len};
 ghost use Rattle.tcp_norm.specs.Near.{AreBounded, AreNear};
 ghost use Rattle.tcp_norm.specs.Spare.{spares};
+ghost use Rattle.wire_base.specs.declared.limits.TheConstants.{MAX_PAYLOAD};
 
 use crate::flow::{Flow, Live};
 use crate::key::EraKey;
@@ -10,10 +11,7 @@ use linked_table::{LinkedTable, Slot, SlotList};
 use norm_settings::Settings;
 use retain_store::Retain;
 use std::alloc::Global;
-use wire_base::FlowKey;
-
-/// The octets of the longest segment: those of the longest packet without its header of 20 (RFC 791 section 3.1).
-const LONGEST: usize = 65_515;
+use wire_base::{FlowKey, MAX_PAYLOAD};
 
 /// Judges the segments of TCP connections, one after another. It takes all its memory when it is opened.
 #[derive(Drop)]
@@ -36,15 +34,15 @@ pub struct TcpNorm {
     pub(crate) calls: u32,
     /// The greatest time of a call, in seconds.
     pub(crate) latest: u32,
-    /// Buffer for the octets of a segment that are sent inwards, and for a segment whose checksum is computed again.
+    /// Buffer for the octets of an inbound segment that a rule rewrites, and for a segment whose checksum is computed again.
     pub(crate) scratch: Vec<u8>,
     /// Buffer for a segment that is rewritten.
     pub(crate) page: Vec<u8>,
     ghost sized: { length store.chains ≡ table.max },
     ghost spare_sized: { spare.max ≡ table.max },
     ghost spare_listed: { spare.slots ≡ spares store table.entries },
-    ghost room: { vec_len scratch ≡ 65515 },
-    ghost page_room: { vec_len page ≡ 65515 },
+    ghost room: { vec_len scratch ≡ MAX_PAYLOAD },
+    ghost page_room: { vec_len page ≡ MAX_PAYLOAD },
     ghost passes: { hops ≤ 254 },
     ghost few: { begun ≤ calls },
     ghost near: { AreNear calls table.entries },
@@ -75,8 +73,8 @@ impl TcpNorm {
         let table = LinkedTable::open(alloc, settings.flows, settings.seed)?;
         let store = Retain::open(alloc, settings.cells, settings.flows)?;
         let spare = SlotList::open(alloc, settings.flows)?;
-        let scratch = vec![in alloc; 0u8; LONGEST]?;
-        let page = vec![in alloc; 0u8; LONGEST]?;
+        let scratch = vec![in alloc; 0u8; MAX_PAYLOAD]?;
+        let page = vec![in alloc; 0u8; MAX_PAYLOAD]?;
         Ok(TcpNorm {
             table,
             store,
@@ -159,13 +157,13 @@ impl TcpNorm {
         }
     }
 
-    // Returns the era in this slot.
-    pub(crate) fn flow_at(&self, slot: Slot) -> Flow
+    // Borrows the era in this slot.
+    pub(crate) fn flow_at(&self, slot: Slot) -> &Flow
         requires { IsIn self.now.table.entries slot }
-        ensures value { Wherever self.now.table.entries slot (λ e. e.value ≡ result) }
-        ensures near { IsNear self.now.calls result.era }
+        ensures value { Wherever self.now.table.entries slot (λ e. e.value ≡ result.now) }
+        ensures near { IsNear self.now.calls result.now.era }
     {
         self.entries_are_apart();
-        *self.table.at(slot)
+        self.table.at(slot)
     }
 }

@@ -1,5 +1,6 @@
 //! A segment of a connection that has no live era.
 use crate::arrival::Arrival;
+use crate::key::EraKey;
 use crate::reading::{are_bits, bare_seg, options_change};
 use crate::rows::rows_beside;
 use crate::ruling::{Passage, Question, Refusal, Ruling};
@@ -7,9 +8,9 @@ use crate::state::TcpNorm;
 use crate::step::Step;
 use cold_start::{ColdAnswer, cold};
 use era_state::Era;
+use linked_table::Hashed;
 use rule_book::Rule;
 use tcp_codec::laws::segments_are_read_back;
-use wire_base::FlowKey;
 
 impl TcpNorm {
     ghost use Rattle.std.specs.Prelude.{◌<◌};
@@ -17,9 +18,14 @@ impl TcpNorm {
     ghost use Rattle.tcp_norm.specs.Rulings.{IsKeyed, IsShort, Judges};
 
     // Begins an era, asks a host about the segment, or drops it by a rule.
-    pub(super) fn judge_cold(&mut self, key: FlowKey, arrival: &Arrival<'_>, ruling: &mut Ruling)
-        requires absent { IsAbsent self.old key }
-        requires keyed { IsKeyed arrival.now key }
+    pub(super) fn judge_cold(
+        &mut self,
+        hashed: &Hashed<EraKey>,
+        arrival: &Arrival<'_>,
+        ruling: &mut Ruling,
+    )
+        requires absent { IsAbsent self.old hashed.now.key.0 }
+        requires keyed { IsKeyed arrival.now hashed.now.key.0 }
         requires ready { IsReady self.old arrival.now.time }
         ensures judges { Judges arrival.now self.old self.new ruling.new }
         ensures short { IsShort arrival.now ruling.new }
@@ -42,7 +48,7 @@ impl TcpNorm {
                 let rows = rows_beside(arrival, changed, true);
                 *ruling = Ruling::Ask(Question { rows, probe });
             }
-            ColdAnswer::Begin(era) => match self.admit(key, Era::Offered(era), arrival.time) {
+            ColdAnswer::Begin(era) => match self.admit(hashed, &Era::Offered(era), arrival.time) {
                 None => {
                     *ruling = Ruling::Drop(Refusal {
                         rule: Rule::TFull,

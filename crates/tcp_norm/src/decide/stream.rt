@@ -1,5 +1,5 @@
 //! A segment of the stream of an era: T_QUOTA or T_ROOM drops it, or it passes with the octets that were sent first.
-ghost use Rattle.std.specs.Prelude.{◌≡◌, ◌↔◌, ℕ, ◌+◌, ◌-◌, ◌<◌, ◌≤◌, ◌^◌, nat_lt, pos, ◌-ℤ◌, List, length, take, slice_index, false, Some, None, IfNone, if◌then◌else◌};
+ghost use Rattle.std.specs.Prelude.{◌≡◌, ◌==◌, ◌↔◌, ℕ, ◌+◌, ◌-◌, ◌<◌, ◌≤◌, ◌^◌, nat_lt, pos, ◌-ℤ◌, List, length, take, slice_index, false, Some, None, IfNone, if◌then◌else◌};
 ghost use Rattle.wire_base.specs.Segments.{Written};
 ghost use Rattle.retain_store.specs.Maps.{Settles, chain_of, missing};
 ghost use Rattle.era_state.specs.Offsets.{off, nat_of};
@@ -12,6 +12,7 @@ ghost use Rattle.tcp_norm.specs.Rulings.{IsLegal};
 ghost use Rattle.wire_base.specs.Tcp as tcp;
 ghost use Rattle.rule_book.specs.declared.rule.Rule.TheVariants as rules;
 ghost use Rattle.tcp_norm.specs.Chains as chains;
+ghost use Rattle.wire_base.specs.declared.limits.TheConstants.{MAX_PAYLOAD};
 
 use crate::arrival::Arrival;
 use crate::flow::Live;
@@ -24,6 +25,7 @@ use crate::state::TcpNorm;
 use crate::step::Step;
 use era_state::laws::states_are_the_lists;
 use era_state::{Interval, Seg, Warm};
+use ip_rules::Fixes;
 use retain_store::{ChainId, Retain};
 use rule_book::Rule;
 
@@ -35,7 +37,7 @@ impl TcpNorm {
         &mut self,
         live: &'a Live,
         warm: &'a Warm,
-        arrival: &Arrival<'_>,
+        arrival: &Arrival<'a>,
         ruling: &mut Ruling,
     ) -> Change<'a>
         requires found { IsFound self.old arrival.now live.now }
@@ -51,12 +53,10 @@ impl TcpNorm {
         are_bits(&arrival.packet.head, arrival.packet.payload);
         cells_are_counted(&self.store);
         let seg = seg_of(arrival);
-        let payload = payload_of(arrival);
-        let chain = ChainId(live.slot.0);
         let kept = warm.interval(&seg);
         let piece = Piece {
             store: &self.store,
-            chain,
+            chain: ChainId(live.slot.0),
             kept: &kept,
         };
         if let Some(rule) = refusal(&piece, self.quota) {
@@ -67,22 +67,27 @@ impl TcpNorm {
             });
             return Change::Nothing;
         }
-        let own = own_octets(&piece, warm, &seg, payload);
-        let clash = fill_kept(&piece, own, &mut self.scratch);
+        let own = own_octets(&piece, warm, &seg, payload_of(arrival));
+        let clash = clashes(&piece, own);
         let changed = options_change(arrival);
         let rows = rows_of(arrival.head, changed, &Stream { kept, clash });
+        let as_read = fill_kept(&piece, own, &rows, &mut self.scratch);
         let size = piece.size() as usize;
-        let seq = warm.frame_sequence(&seg, &kept);
-        let step = Step::within(live.flow.number);
         *ruling = Ruling::Pass(Passage {
-            step,
+            step: Step::within(live.flow.number),
             rows,
-            seq,
+            seq: warm.frame_sequence(&seg, &kept),
             fin: kept.fin,
             size,
             probe: None,
         });
-        Change::Take(Taking { warm, kept, size })
+        Change::Take(Taking {
+            warm,
+            kept,
+            size,
+            own,
+            as_read,
+        })
     }
 }
 
@@ -101,7 +106,7 @@ pub(crate) struct Piece<'a> {
     pub(crate) kept: &'a Interval,
     ghost chain_in_range: { chain.0 < length store.now.chains },
     ghost order: { kept.now.lo ≤ kept.now.hi },
-    ghost short: { kept.now.hi ≤ kept.now.lo + 65515 },
+    ghost short: { kept.now.hi ≤ kept.now.lo + MAX_PAYLOAD },
 }
 
 impl Piece<'_> {
@@ -166,14 +171,29 @@ fn refusal(piece: &Piece<'_>, quota: Option<u32>) -> Option<Rule>
     None
 }
 
-// Fills the front of the scratch with the octets that were sent first, and where there is none with the segment's own. Returns whether one of them differs.
-fn fill_kept(piece: &Piece<'_>, own: &[u8], scratch: &mut [u8]) -> bool
-    requires long { length own.now ≡ piece.now.kept.now.hi - piece.now.kept.now.lo }
-    requires room { 65515 ≤ length scratch.old }
-    ensures settled { Settles (chain_of piece.now.store.now piece.now.chain.0) piece.now.kept.now.lo own.now (take (length own.now) scratch.new) }
-    ensures same { (result ≡ false) ↔ (take (length own.now) scratch.new ≡ own.now) }
+// Returns whether an octet of the segment differs from the one that was sent first at its offset.
+fn clashes(piece: &Piece<'_>, own: &[u8]) -> bool
+    requires { length own.now ≡ piece.now.kept.now.hi - piece.now.kept.now.lo }
+    ensures { (result ≡ false) ↔ Settles (chain_of piece.now.store.now piece.now.chain.0) piece.now.kept.now.lo own.now own.now }
 {
+    // The end of the interval is below 2^64.
+    let _end = piece.kept.hi;
+    !piece.store.agrees(piece.chain, piece.kept.lo, own)
+}
+
+// Fills the front of the scratch with the octets that were sent first, and where there is none with the segment's own, if a rule rewrites the segment.
+// Returns true if no rule does.
+fn fill_kept(piece: &Piece<'_>, own: &[u8], rows: &Fixes, scratch: &mut [u8]) -> bool
+    requires long { length own.now ≡ piece.now.kept.now.hi - piece.now.kept.now.lo }
+    requires room { MAX_PAYLOAD ≤ length scratch.old }
+    ensures as_read { result ≡ (length rows.now.items == 0) }
+    ensures settled { result ≡ false → Settles (chain_of piece.now.store.now piece.now.chain.0) piece.now.kept.now.lo own.now (take (length own.now) scratch.new) }
+{
+    if rows.is_empty() {
+        return true;
+    }
     let octets = &mut scratch[..piece.size() as usize];
     octets.copy_from_slice(own);
-    piece.store.settle(piece.chain, piece.kept.lo, octets)
+    let _differs = piece.store.settle(piece.chain, piece.kept.lo, octets);
+    false
 }

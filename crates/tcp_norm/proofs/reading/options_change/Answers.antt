@@ -1,8 +1,13 @@
-use Rattle.std.proofs.Common.{◌≡◌, ◌+◌, ◌%◌, length, subst}
+use Rattle.std.proofs.Common.{sym, ap₂, ◌∙◌}
+use Rattle.wire_base.specs.Tcp as tcp
+use Rattle.wire_base.specs.Options.{cleaned}
+use Rattle.tcp_norm.proofs.Differing.{differ_is}
 use Rattle.tcp_norm.proofs.reading.options_change.Goals as goal
 
-pub returns-clause-words : goal.returns-clause-words
-returns-clause-words c = subst (λ l. length l % 4 ≡ 0) c.options_of-options.ensures.exact c.options_of-options.ensures.words
-
-pub returns-clause-size : goal.returns-clause-size
-returns-clause-size c = subst (λ l. 20 + length l ≡ c.args.arrival.now.head.now.header) c.options_of-options.ensures.exact c.options_of-options.ensures.size
+pub returns-clause-changed : goal.returns-clause-changed
+returns-clause-changed c =
+    let area = c.options_of-options.ensures.area in
+    let whole = ap₂ cleaned c.syn.ensures area in
+    let e = c.options_change.ensures in
+    differ_is (cleaned (tcp.has_syn c.args.arrival.now.head.now.flags.0) (tcp.options c.args.arrival.now.packet.now.payload.now)) (tcp.options c.args.arrival.now.packet.now.payload.now) c.options_change.result
+    ((λ none. sym whole ∙ (e.0 none ∙ area)), (λ same. e.1 (whole ∙ (same ∙ sym area))))

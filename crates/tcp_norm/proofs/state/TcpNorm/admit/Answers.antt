@@ -40,4 +40,4 @@ returns-in-Some-clause-some c settings calls d w o st key stood none does =
     (tables_go_on settings self _ c.place.new.self c.args.now 1 _ c.in-Some.ensures.tables refl (opened_kept settings self _ st.opened refl refl refl refl refl refl refl refl) refl refl c.requires.ready.later)
     places.given named named (ended_by_place p.evicted) does
     (subst (λ k. Holds c.place.new.self (without (one (number_ended p.evicted)) (eras calls) ++ record { number = self.begun + 1; key = k; touched = c.args.now } ∷ []) later) (sym key)
-    (places.some later (begins_with settings self calls c.args.now d w o (began p) c.args.era st named does stood none)))
+    (places.some later (begins_with settings self calls c.args.now d w o (began p) c.args.era.now st named does stood none)))

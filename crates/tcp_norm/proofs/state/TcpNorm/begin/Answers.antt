@@ -12,8 +12,8 @@ use Rattle.tcp_norm.proofs.state.TcpNorm.begin.Goals as goal
 
 pub returns-clause-holds : goal.returns-clause-holds
 returns-clause-holds c lives segments later h begins =
-    subst (λ (t : table.Table EraKey Flow). HoldsFor (lives ++ record { number = c.args.self.now.begun + 1; key = c.args.key; touched = c.args.now } ∷ []) later (c.args.self.now.begun + 1) t.entries c.args.self.now.store)
-    (sym c.in-Ok.ensures.added) (begin_holds lives segments later c.args.self.now.begun c.args.self.now.table.entries c.args.self.now.store c.in-Ok.slot c.args.key _ c.args.now h
+    subst (λ (t : table.Table EraKey Flow). HoldsFor (lives ++ record { number = c.args.self.now.begun + 1; key = c.args.hashed.now.key.0; touched = c.args.now } ∷ []) later (c.args.self.now.begun + 1) t.entries c.args.self.now.store)
+    (sym c.in-Ok.ensures.added) (begin_holds lives segments later c.args.self.now.begun c.args.self.now.table.entries c.args.self.now.store c.in-Ok.slot c.args.hashed.now.key.0 _ c.args.now h
     c.in-Ok.ensures.fresh begins.stands begins.none refl refl begins.others)
 
 pub returns-clause-tables : goal.returns-clause-tables

@@ -33,11 +33,11 @@ use Rattle.tcp_norm.proofs.Holding.{held_is}
 use Rattle.tcp_norm.proofs.Judging.{of_stream, stream_dropped}
 use Rattle.tcp_norm.proofs.Fitting.{stream_fits}
 use Rattle.tcp_norm.proofs.Rewritten.{sent_long}
-use Rattle.tcp_norm.proofs.Settling.{settled_is, own_is, clash_is}
+use Rattle.tcp_norm.proofs.Settling.{settled_is, clash_is, either_are, none_clash}
 use Rattle.tcp_norm.proofs.Passes.{passes, rows_are}
 use Rattle.tcp_norm.proofs.Entering.{in_dropped, in_unheard, in_outcome, packets_live}
 use Rattle.tcp_norm.proofs.Marked.{no_probe_behind, stream_is, step_stream, stream_anew, writes_all}
-use Rattle.tcp_norm.proofs.Ruled.{rewritten_in}
+use Rattle.tcp_norm.proofs.Ruled.{rewritten_if}
 use Rattle.tcp_norm.proofs.state.TcpNorm.decide_stream.Goals as goal
 
 last_false : (a b t : Bool) → t ≡ false → (a && b && t) ≡ false
@@ -77,6 +77,7 @@ returns-clause-fits c =
       record {
         given = record { sequence = seg.seq; len = seg.len; fin = tcp.has_fin seg.flags.0; keeps = c.interval-kept.ensures.value };
         long = omega (arith, c.size-size.ensures.size, c.interval-kept.ensures.order);
+        own_long = omega (arith, c.size-size.ensures.size, c.own_octets-own.ensures.long);
         fits = omega (arith, a.short, a.read.inside, c.interval-kept.ensures.short, c.size-size.ensures.size, c.seg_of-seg.ensures.len, payload_long a.packet.now.payload.now a.head.now a.read.fields);
         acked = omega (arith, near.0, c.requires.last.acked_is);
         few = omega (arith, near.1, c.requires.last.octets_are);
@@ -113,10 +114,10 @@ returns-in-Some-clause-decides c settings calls d st is =
     let bound = st.opened.quota in
     let is_live' = ap is_some live.era_is in
     let octets = is.octets in
-    let w_is : received c.seg_of-seg.result c.payload_of-payload.result.now ≡ w =
-    ap (received c.seg_of-seg.result) c.payload_of-payload.ensures ∙ (c.seg_of-seg.ensures.inward ∙ ap₂ read (sym side) (sym octets)) in
-    let long : length c.payload_of-payload.result.now ≡ c.seg_of-seg.result.len = ap length c.payload_of-payload.ensures ∙ sym c.seg_of-seg.ensures.len in
-    let keptof : KeptOf v.segments w c.interval-kept.result = subst (λ (w : Written). KeptOf v.segments w c.interval-kept.result) w_is (c.interval-kept.ensures.list v.segments c.payload_of-payload.result.now long warm) in
+    let payload = tcp.payload a.packet.now.payload.now in
+    let w_is : received c.seg_of-seg.result payload ≡ w = c.seg_of-seg.ensures.inward ∙ ap₂ read (sym side) (sym octets) in
+    let long : length payload ≡ c.seg_of-seg.result.len = sym c.seg_of-seg.ensures.len in
+    let keptof : KeptOf v.segments w c.interval-kept.result = subst (λ (w : Written). KeptOf v.segments w c.interval-kept.result) w_is (c.interval-kept.ensures.list v.segments payload long warm) in
     let drops = stream_dropped settings v d is_live' f
     ∙ (ap₂ (λ a b. cond (a && b && exceeds settings.quota (held_of v.segments + wanted_of v.segments w)) (Some variants.TQuota)
     (cond (a && b && nat_lt v.room (wanted_of v.segments w)) (Some variants.TRoom) None)) is_live' stream
@@ -156,39 +157,46 @@ returns-clause-decides c settings calls d st is =
     let is_live' = ap is_some live.era_is in
     let octets = is.octets in
     let kept = c.interval-kept.result in
-    let w_is : received c.seg_of-seg.result c.payload_of-payload.result.now ≡ w =
-    ap (received c.seg_of-seg.result) c.payload_of-payload.ensures ∙ (c.seg_of-seg.ensures.inward ∙ ap₂ read (sym side) (sym octets)) in
-    let long : length c.payload_of-payload.result.now ≡ c.seg_of-seg.result.len = ap length c.payload_of-payload.ensures ∙ sym c.seg_of-seg.ensures.len in
-    let kept_here = c.interval-kept.ensures.list v.segments c.payload_of-payload.result.now long warm in
+    let w_is : received c.seg_of-seg.result c.payload_of.result.now ≡ w =
+    ap (received c.seg_of-seg.result) c.payload_of.ensures ∙ (c.seg_of-seg.ensures.inward ∙ ap₂ read (sym side) (sym octets)) in
+    let long : length c.payload_of.result.now ≡ c.seg_of-seg.result.len = ap length c.payload_of.ensures ∙ sym c.seg_of-seg.ensures.len in
+    let kept_here = c.interval-kept.ensures.list v.segments c.payload_of.result.now long warm in
     let keptof : KeptOf v.segments w kept = subst (λ (w : Written). KeptOf v.segments w kept) w_is kept_here in
     let open' = none_dropped _ _ (c.in_default.ensures.value v.segments w keeps count keptof) in
     let enough : nat_lt v.room (wanted_of v.segments w) ≡ false = ap (λ f. nat_lt f (wanted_of v.segments w)) roomy ∙ open'.1 in
     let within : exceeds settings.quota (held_of v.segments + wanted_of v.segments w) ≡ false = ap (λ q. exceeds q (held_of v.segments + wanted_of v.segments w)) (sym bound) ∙ open'.0 in
     let quota : t_quota settings v w ≡ false = last_false (is_live v) (era.is_of_stream v.segments w) _ within in
     let room : t_room v w ≡ false = last_false (is_live v) (era.is_of_stream v.segments w) _ enough in
-    let seen_w = received c.seg_of-seg.result c.payload_of-payload.result.now in
+    let seen_w = received c.seg_of-seg.result c.payload_of.result.now in
     let own = c.own_octets-own.result.now in
     let owned = c.own_octets-own.ensures in
-    let filled = take (length own) c.fill_kept-clash.new.scratch in
-    let filled_long : length filled ≡ length own = length-take-le (length own) c.fill_kept-clash.new.scratch
-    (omega (arith, owned.long, c.interval-kept.ensures.short, c.seg_of-seg.ensures.len, a.short, a.read.inside, c.fill_kept-clash.auto.scratch, c.deref_mut.ensures.len, c.args.self.now.room, payload_long a.packet.now.payload.now a.head.now a.read.fields)) in
-    let settled = settled_is c.args.warm.now v.segments seen_w kept _ own filled warm kept_here keeps owned.long filled_long owned.own c.fill_kept-clash.ensures.settled in
-    let clash = clash_is v.segments seen_w own filled c.fill_kept-clash.result settled (own_is c.args.warm.now v.segments seen_w kept own warm kept_here owned.long owned.own) c.fill_kept-clash.ensures.same ∙ ap (clashes v.segments) w_is in
-    let held = ap (λ n. take n c.fill_kept-clash.new.scratch) (sym owned.long) ∙ (settled ∙ ap (octets_sent v.segments) w_is) in
-    let front = refilled c.args.self.now.scratch.len c.args.self.now.scratch.items c.fill_kept-clash.new.scratch (c.fill_kept-clash.auto.scratch ∙ c.deref_mut.ensures.len) in
-    let sent = take c.size-size.result (refill c.args.self.now.scratch.len c.args.self.now.scratch.items c.fill_kept-clash.new.scratch) in
-    let sent_are : sent ≡ octets_sent v.segments w = ap (take c.size-size.result) front ∙ (ap (λ m. take m c.fill_kept-clash.new.scratch) c.size-size.ensures.size ∙ held) in
+    let written = c.fill_kept-as_read.new.scratch in
+    let filled = take (length own) written in
+    let filled_long : length filled ≡ length own = length-take-le (length own) written
+    (omega (arith, owned.long, c.interval-kept.ensures.short, c.seg_of-seg.ensures.len, a.short, a.read.inside, c.fill_kept-as_read.auto.scratch, c.deref_mut.ensures.len, c.args.self.now.room, payload_long a.packet.now.payload.now a.head.now a.read.fields)) in
+    let clash = clash_is c.args.warm.now v.segments seen_w kept _ own c.clashes-clash.result warm kept_here keeps owned.long owned.own c.clashes-clash.ensures ∙ ap (clashes v.segments) w_is in
+    let front = refilled c.args.self.now.scratch.len c.args.self.now.scratch.items written (c.fill_kept-as_read.auto.scratch ∙ c.deref_mut.ensures.len) in
+    let as_read = c.fill_kept-as_read.result in
+    let settled = take c.size-size.result (refill c.args.self.now.scratch.len c.args.self.now.scratch.items written) in
+    let settled_are : as_read ≡ false → settled ≡ octets_sent v.segments w = λ some.
+    ap (take c.size-size.result) front ∙ (ap (λ m. take m written) (c.size-size.ensures.size ∙ sym owned.long)
+    ∙ (settled_is c.args.warm.now v.segments seen_w kept _ own filled warm kept_here keeps owned.long filled_long owned.own (c.fill_kept-as_read.ensures.settled some) ∙ ap (octets_sent v.segments) w_is)) in
+    let own_are : as_read ≡ true → own ≡ octets_sent v.segments w = λ none.
+    settled_is c.args.warm.now v.segments seen_w kept _ own own warm kept_here keeps owned.long refl owned.own
+    (c.clashes-clash.ensures.0 (none_clash _ _ _ _ _ _ _ _ c.rows_of-rows.ensures.rows (sym c.fill_kept-as_read.ensures.as_read ∙ none))) ∙ ap (octets_sent v.segments) w_is in
+    let sent = cond as_read own settled in
+    let sent_are : sent ≡ octets_sent v.segments w = either_are as_read own settled (octets_sent v.segments w) own_are settled_are in
     let passed = stream_dropped settings v d is_live' f ∙ ap₂ (λ a b. cond a (Some variants.TQuota) (cond b (Some variants.TRoom) None)) quota room in
     let rows = c.rows_of-rows.result.items in
     let mends = rows_are settings v d a.packet.now.payload.now a.head.now _ _ c.options_change-changed.result _ a.read.fields octets side is_live' f keptof clash c.options_change-changed.ensures.changed c.rows_of-rows.ensures.rows in
-    let seq = c.frame_sequence-seq.ensures v.segments c.payload_of-payload.result.now long warm ∙ ap (frame_sequence_of v.segments) w_is in
+    let seq = c.frame_sequence.ensures v.segments c.payload_of.result.now long warm ∙ ap (frame_sequence_of v.segments) w_is in
     let options : cleaned (tcp.has_syn a.head.now.flags.0) (tcp.options a.packet.now.payload.now) ≡ options_sent d = (ap (λ (h : Tcp). cleaned (tcp.has_syn h.flags.0) (tcp.options a.packet.now.payload.now)) a.read.fields
     ∙ ap (λ m. cleaned (tcp.has_syn (tcp.flags m)) (tcp.options m)) (sym octets)) in
-    let step = subst (IsStep v w) (sym c.within-step.ensures) (step_stream v w n live.era_is f) in
+    let step = subst (IsStep v w) (sym c.within.ensures) (step_stream v w n live.era_is f) in
     let packets = packet_by settings v.segments d d.fixes rows ∷ [] in
-    let is_it = in_outcome settings v d c.within-step.result d.fixes rows packets side refl passed (sym mends) step (ap (λ (s : Step). s.full) c.within-step.ensures) (packets_live settings v d rows n live.era_is rst) in
+    let is_it = in_outcome settings v d c.within.result d.fixes rows packets side refl passed (sym mends) step (ap (λ (s : Step). s.full) c.within.ensures) (packets_live settings v d rows n live.era_is rst) in
     let more = map (λ p. read (goes_in d.side) p.octets) packets in
-    let writes = subst (WritesAll d n more) (sym is_it) (writes_all d n c.within-step.result d.fixes rows packets c.within-step.ensures) in
+    let writes = subst (WritesAll d n more) (sym is_it) (writes_all d n c.within.result d.fixes rows packets c.within.ensures) in
     let bits = subst (λ m. AreBits d.head m) (sym octets) (subst (λ (x : Ipv4). AreBits x a.packet.now.payload.now) (sym is.head) c.are_bits.ensures) in
     let wide = ap length options in
     let size = ap length (sym sent_are) in
@@ -201,7 +209,7 @@ returns-clause-decides c settings calls d st is =
     record {
       rules = record {
         outcome_is = is_it;
-        carried = rewritten_in v.segments d a _ _ side (stream_anew v.segments d a.packet.now a.link.now a.head.now c.frame_sequence-seq.result kept.fin sent is a.read syn rst seq keptof.spans.fin_is sent_are);
+        carried = rewritten_if v.segments d a _ _ side (λ some. stream_anew v.segments d a.packet.now a.link.now a.head.now c.frame_sequence.result kept.fin settled is a.read syn rst seq keptof.spans.fin_is (settled_are (c.fill_kept-as_read.ensures.as_read ∙ some)));
       };
       needs = passes c.streams_are_written.ensures settings v d c.args.warm.now kept n 0 (segments n calls) sent live.era_is live.segments_are warm stream keptof quota room number fits sent_are
           _

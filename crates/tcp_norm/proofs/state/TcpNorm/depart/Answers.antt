@@ -1,4 +1,5 @@
-use Rattle.std.proofs.Common.{sym, subst}
+use Rattle.std.proofs.Common.{◌∙◌, ap, sym, subst}
+use Rattle.tcp_norm.specs.declared.key.EraKey.{EraKey}
 use Rattle.wire_base.specs.Tcp as tcp
 use Rattle.tcp_norm.specs.Steps.{Sends}
 use Rattle.tcp_norm.proofs.Sent.{sends_it}
@@ -15,4 +16,4 @@ pub returns-in-None : goal.returns-in-None
 returns-in-None c settings calls d st is =
     let a = c.args.arrival.now in
     c.depart_cold.ensures settings calls d (tcp.payload a.packet.now.payload.now) (sym c.seg_of-parsed.ensures.len) st
-    (sends_it a.packet.now a.link.now d c.seg_of-parsed.result c.outward_key-key.result c.requires.outward.side is c.outward_key-key.ensures c.seg_of-parsed.ensures.outward)
+    (sends_it a.packet.now a.link.now d c.seg_of-parsed.result c.hashed-hashed.result.key.0 c.requires.outward.side is (ap (λ (k : EraKey). k.0) c.hashed-hashed.ensures ∙ c.outward_key-key.ensures) c.seg_of-parsed.ensures.outward)

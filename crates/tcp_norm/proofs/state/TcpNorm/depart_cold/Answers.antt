@@ -12,7 +12,7 @@ use Rattle.tcp_norm.proofs.state.TcpNorm.depart_cold.Goals as goal
 pub returns-then-rst : goal.returns-then-rst
 returns-then-rst c settings calls d octets long st sends =
     let v = view_of settings calls d in
-    let none = view_cold settings calls _ _ _ c.args.key d st.holds c.requires.absent sends.key_is in
+    let none = view_cold settings calls _ _ _ c.args.hashed.now.key.0 d st.holds c.requires.absent sends.key_is in
     record {
       is_step = subst (IsStep v (segment_in d)) (sym c.outside.ensures)
           (subst (λ (w : Written). IsStep v w (record { era = None; begun = None; ended = None; full = false })) (sym sends.segment_is) (step_stray v c.args.seg.now octets none (sym c.if-rst.ensures)));
@@ -22,7 +22,7 @@ returns-then-rst c settings calls d octets long st sends =
 pub returns-in-None : goal.returns-in-None
 returns-in-None c settings calls d octets long st sends =
     let v = view_of settings calls d in
-    let none = view_cold settings calls _ _ _ c.args.key d st.holds c.requires.absent sends.key_is in
+    let none = view_cold settings calls _ _ _ c.args.hashed.now.key.0 d st.holds c.requires.absent sends.key_is in
     record {
       is_step = subst (IsStep v (segment_in d)) (sym c.outside-in-None.ensures)
           (subst (λ (w : Written). IsStep v w (record { era = None; begun = None; ended = None; full = true })) (sym sends.segment_is)
@@ -35,7 +35,7 @@ returns-in-Some c settings calls d octets long st sends =
     let v = view_of settings calls d in
     let w = segment_in d in
     let p = c.in-Some.place in
-    let none = view_cold settings calls _ _ _ c.args.key d st.holds c.requires.absent sends.key_is in
+    let none = view_cold settings calls _ _ _ c.args.hashed.now.key.0 d st.holds c.requires.absent sends.key_is in
     record {
       is_step = subst (IsStep v w) (sym c.begun.ensures)
           (subst (λ (w : Written). IsStep v w (began p)) (sym sends.segment_is) (step_begun v c.args.seg.now octets p none (sym c.if-rst.ensures) (sym (c.in-Some.ensures.answer settings calls d st))));

@@ -1,7 +1,7 @@
 use Rattle.std.proofs.Common.{◌≤◌, ◌∙◌, take, sym, ap, subst, arith}
 use Rattle.tcp_codec.specs.declared.header.Tcp.{Tcp}
 use Rattle.ip_rules.specs.Datagrams.{goes_in}
-use Rattle.tcp_norm.specs.Anews.{anew_segment}
+use Rattle.tcp_norm.specs.Anews.{rewritten}
 use Rattle.tcp_norm.proofs.Probing.{head_given, frame_rewritten}
 use Rattle.tcp_norm.proofs.Sending.{frame_mended}
 use Rattle.tcp_norm.proofs.state.TcpNorm.emit_rewritten.Goals as goal
@@ -18,9 +18,9 @@ returns-in-Inward-clause-frames c settings d ws opened is anews =
     let p = c.args.passage.now in
     let side = ap goes_in (is.side ∙ c.in-Inward.is) in
     c.put_rewritten.ensures
-    ∙ frame_rewritten settings d ws a.packet.now a.link.now p.rows.items (anew_segment c.head_sent-head.result a.head.now p.seq p.fin c.options_of-options.result.0.items (take p.size c.deref.result.now)) c.head_sent-head.result
+    ∙ frame_rewritten settings d ws a.packet.now a.link.now p.rows.items (rewritten a c.head_sent-head.result p (take p.size c.deref.result.now)) c.head_sent-head.result
     side (c.head_sent-head.ensures ∙ head_given settings c.args.self.now.hops a.packet.now a.link.now d opened.hops is) c.requires.some
-    (anews.anew side ∙ (λ k. anew_segment ((sym c.head_sent-head.ensures) k) a.head.now p.seq p.fin ((sym c.options_of-options.ensures.exact) k) (take p.size ((sym c.deref.ensures.value) k))))
+    (anews.anew side c.requires.some ∙ (λ k. rewritten a ((sym c.head_sent-head.ensures) k) p (take p.size ((sym c.deref.ensures.value) k))))
 
 pub returns-in-Outward-clause-frames : goal.returns-in-Outward-clause-frames
 returns-in-Outward-clause-frames c settings d ws opened is anews =

@@ -17,8 +17,8 @@ pub returns-then-not-is_idle-clause-ends : goal.returns-then-not-is_idle-clause-
 returns-then-not-is_idle-clause-ends c lives segments h =
     let self = c.args.self.now in
     record {
-      answer = sym (oldest_first self.idle c.args.now lives segments self.begun self.table.entries self.store _ c.flow_at-flow.result h c.in_ok-slot.ensures.first c.flow_at-flow.ensures.value
-          ∙ if_is_not _ c.flow_at-flow.result.number (sym c.if-not-is_idle.ensures));
+      answer = sym (oldest_first self.idle c.args.now lives segments self.begun self.table.entries self.store _ c.flow_at-flow.result.now h c.in_ok-slot.ensures.first c.flow_at-flow.ensures.value
+          ∙ if_is_not _ c.flow_at-flow.result.now.number (sym c.if-not-is_idle.ensures));
       told = tt;
       left = subst (λ l. Holds self l segments) (sym (without_none lives)) h;
     }
@@ -26,7 +26,7 @@ returns-then-not-is_idle-clause-ends c lives segments h =
 pub returns-clause-ends : goal.returns-clause-ends
 returns-clause-ends c lives segments h =
     let self = c.args.self.now in
-    let flow = c.flow_at-flow.result in
+    let flow = c.flow_at-flow.result.now in
     let valued = c.flow_at-flow.ensures.value in
     let at = at_slot lives segments self.begun self.table.entries self.store _ flow h c.in_ok-slot.ensures.inside c.entries_are_apart.ensures.slots_apart c.entries_are_apart.ensures.keys_apart valued in
     record {

@@ -34,7 +34,7 @@ end-requires c = (found c.args.self.now.store c.args.self.now.table.entries _ c.
 pub returns-clause-evicts : goal.returns-clause-evicts
 returns-clause-evicts c lives segments h =
     let self = c.args.self.now in
-    let flow = c.flow_at-flow.result in
+    let flow = c.flow_at-flow.result.now in
     let valued = c.flow_at-flow.ensures.value in
     let first = found self.store self.table.entries _ self.spare_listed (Some c.in_ok-slot.slot) c.in_ok-slot.ensures.first in
     let P : table.Entry EraKey Flow → Type 0 = λ e. e.slot ≡ c.in_ok-slot.slot → e.value ≡ flow in

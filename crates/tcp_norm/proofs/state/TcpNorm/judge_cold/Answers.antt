@@ -26,7 +26,7 @@ returns-in-Refuse-clause-judges c settings calls d st is =
     let key_is = keyed a.packet.now a.link.now d _ c.requires.keyed.side is c.requires.keyed.key_is in
     let comes = comes_bare d _ c.bare_seg-seg.result (side_is a.packet.now a.link.now d c.requires.keyed.side is) key_is (c.bare_seg-seg.ensures.read ∙ ap bare_read (sym is.octets)) in
     let none = view_cold settings calls _ _ _ _ d st.holds c.requires.absent key_is in
-    let drops = cold_refused settings v d comes.side none (sym (cold_same d c.args.key c.bare_seg-seg.result comes) ∙ sym c.in-Refuse.ensures.refuses) in
+    let drops = cold_refused settings v d comes.side none (sym (cold_same d c.args.hashed.now.key.0 c.bare_seg-seg.result comes) ∙ sym c.in-Refuse.ensures.refuses) in
     record {
       stands = (c.arrive.ensures settings calls d (outcome_at settings v d) st (in_unheard settings v d rules.TCold drops)).stands;
       rules = record { outcome_is = in_dropped settings v d rules.TCold None [] drops none refl; carried = c.requires.keyed.side };
@@ -39,8 +39,8 @@ returns-in-None-clause-judges c settings calls d st is =
     let key_is = keyed a.packet.now a.link.now d _ c.requires.keyed.side is c.requires.keyed.key_is in
     let comes = comes_bare d _ c.bare_seg-seg.result (side_is a.packet.now a.link.now d c.requires.keyed.side is) key_is (c.bare_seg-seg.ensures.read ∙ ap bare_read (sym is.octets)) in
     let none = view_cold settings calls _ _ _ _ d st.holds c.requires.absent key_is in
-    let call = sym (call_same d c.args.key c.bare_seg-seg.result comes) ∙ sym c.in-Begin.ensures.begins in
-    let drops = cold_full settings v d comes.side none (sym (cold_same d c.args.key c.bare_seg-seg.result comes) ∙ sym c.in-Begin.ensures.refuses)
+    let call = sym (call_same d c.args.hashed.now.key.0 c.bare_seg-seg.result comes) ∙ sym c.in-Begin.ensures.begins in
+    let drops = cold_full settings v d comes.side none (sym (cold_same d c.args.hashed.now.key.0 c.bare_seg-seg.result comes) ∙ sym c.in-Begin.ensures.refuses)
     (full_is v (segment_in d) none call (sym (c.in-None.ensures.answer settings calls d st))) in
     record {
       stands = c.in-None.ensures.none settings calls d (outcome_at settings v d) st (in_unheard settings v d rules.TFull drops);
@@ -56,10 +56,10 @@ returns-in-Probe-clause-judges c settings calls d st is =
     let key_is = keyed a.packet.now a.link.now d _ c.requires.keyed.side is c.requires.keyed.key_is in
     let comes = comes_bare d _ c.bare_seg-seg.result side key_is (c.bare_seg-seg.ensures.read ∙ ap bare_read (sym is.octets)) in
     let none = view_cold settings calls _ _ _ _ d st.holds c.requires.absent key_is in
-    let call = sym (call_same d c.args.key c.bare_seg-seg.result comes) ∙ sym c.in-Probe.ensures.begins in
-    let asked = sym (asked_same d c.args.key c.bare_seg-seg.result comes) ∙ sym c.in-Probe.ensures.asks in
-    let passes = cold_passes settings v d comes.side none (sym (cold_same d c.args.key c.bare_seg-seg.result comes) ∙ sym c.in-Probe.ensures.refuses) (no_call_no_begin v w comes.side call) in
-    let probe = c.in-Probe.ensures.fields ∙ probe_same d c.args.key c.bare_seg-seg.result comes in
+    let call = sym (call_same d c.args.hashed.now.key.0 c.bare_seg-seg.result comes) ∙ sym c.in-Probe.ensures.begins in
+    let asked = sym (asked_same d c.args.hashed.now.key.0 c.bare_seg-seg.result comes) ∙ sym c.in-Probe.ensures.asks in
+    let passes = cold_passes settings v d comes.side none (sym (cold_same d c.args.hashed.now.key.0 c.bare_seg-seg.result comes) ∙ sym c.in-Probe.ensures.refuses) (no_call_no_begin v w comes.side call) in
+    let probe = c.in-Probe.ensures.fields ∙ probe_same d c.args.hashed.now.key.0 c.bare_seg-seg.result comes in
     let named = c.rows_beside-rows.result.items in
     let mends = beside_are settings v d a.packet.now.payload.now a.head.now c.options_change-changed.result true named a.read.fields is.octets side (cold_stream v w none) (cold_probes v w none asked)
     c.options_change-changed.ensures.changed c.rows_beside-rows.ensures.rows in
@@ -82,9 +82,9 @@ returns-in-Some-clause-judges c settings calls d st is =
     let none = view_cold settings calls _ _ _ _ d st.holds c.requires.absent key_is in
     let p = c.in-Some.place in
     let found = sym (c.in-Some.ensures.answer settings calls d st) in
-    let call = sym (call_same d c.args.key seg comes) ∙ sym c.in-Begin.ensures.begins in
-    let asked = sym (asked_same d c.args.key seg comes) ∙ sym c.in-Begin.ensures.asks in
-    let passes = cold_passes settings v d comes.side none (sym (cold_same d c.args.key seg comes) ∙ sym c.in-Begin.ensures.refuses) (full_not v w p found) in
+    let call = sym (call_same d c.args.hashed.now.key.0 seg comes) ∙ sym c.in-Begin.ensures.begins in
+    let asked = sym (asked_same d c.args.hashed.now.key.0 seg comes) ∙ sym c.in-Begin.ensures.asks in
+    let passes = cold_passes settings v d comes.side none (sym (cold_same d c.args.hashed.now.key.0 seg comes) ∙ sym c.in-Begin.ensures.refuses) (full_not v w p found) in
     let marked = called_marked v w side asked in
     let stream = cold_stream v w none in
     let probes = begun_probes v w none asked in

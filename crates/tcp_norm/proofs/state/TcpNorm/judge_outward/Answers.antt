@@ -23,6 +23,6 @@ returns-clause-judges c settings calls d st is =
       stands = made.stands (outcome_at settings v d) (out_does c.mended_say_the_same.ensures settings v d step _ side wrong made.is_step inside words);
       rules = record {
         outcome_is = out_outcome settings v d step _ side wrong made.is_step ∙ ap (λ rows. passed step d.fixes rows (packet_by settings v.segments d d.fixes rows ∷ [])) (sym c.summed-rows.ensures.rows);
-        carried = record { anew = λ inward. cc (sym side ∙ inward); alone = λ out. refl };
+        carried = record { anew = λ inward some. cc (sym side ∙ inward); alone = λ out. refl };
       };
     }

@@ -22,7 +22,7 @@ returns c settings calls d ws o st e =
     let slot = live.slot.0 in
     let forgets = c.forget_below.ensures in
     let at = at_slot (eras calls) (λ m. segments m calls) _ _ store live.slot live.flow st.holds held.inside held.slots_apart held.keys_apart held.entry in
-    let keeps = keeps_behind c.first_stays.ensures c.acked_never_falls.ensures live.flow.era c.args.era (segments live.flow.number calls) ws (chain_of store slot) (chain_of c.forget_below.new.self slot)
+    let keeps = keeps_behind c.first_stays.ensures c.acked_never_falls.ensures live.flow.era c.args.era.now (segments live.flow.number calls) ws (chain_of store slot) (chain_of c.forget_below.new.self slot)
     at.era e.stands e.none at.octets (λ o. forgets.octets o ∙ ap (λ a. cond (nat_lt o a) None (octet_at (chain_of store slot) o)) c.acknowledged.ensures) in
     record {
       stands = stands_written settings c.args.self.now _ calls c.args.now d live _ ws o st

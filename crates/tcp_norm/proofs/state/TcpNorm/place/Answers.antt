@@ -18,7 +18,7 @@ returns-then-len-max-clause-places c lives segments h =
     record {
       answer = sym (ap (λ b. place_of b (first_empty lives segments) (self.begun + 1)) full ∙ ap (λ n. Some (record { begun = n; evicted = None })) (sym c.begin.ensures.tables.begun_is));
       given = λ number is. cc;
-      some = λ later begins. subst (λ (l : List Alive). Holds c.begin.new.self (l ++ record { number = self.begun + 1; key = c.args.key; touched = c.args.now } ∷ []) later) (sym (without_none lives))
+      some = λ later begins. subst (λ (l : List Alive). Holds c.begin.new.self (l ++ record { number = self.begun + 1; key = c.args.hashed.now.key.0; touched = c.args.now } ∷ []) later) (sym (without_none lives))
           (c.begin.ensures.holds lives segments later h begins);
       none = tt;
     }
@@ -29,7 +29,7 @@ returns-in_err-ended-clause-places c lives segments h =
     let long : length lives ≡ length self.table.entries = sym (ap length h.eras_are) ∙ length-map self.table.entries alive_in in
     let full : nat_le self.table.max (length lives) ≡ true = grind (arith, nat_tests, long, c.if-len-max.false, c.len.ensures, c.max.ensures) in
     let e = c.in_err-ended.ensures.evicts lives segments h in
-    subst (Places self c.evict.new.self c.args.key c.args.era c.args.now lives segments) (sym c.from_residual.ensures)
+    subst (Places self c.evict.new.self c.args.hashed.now.key.0 c.args.era.now c.args.now lives segments) (sym c.from_residual.ensures)
     (record {
       answer = sym (ap (λ b. place_of b (first_empty lives segments) (self.begun + 1)) full ∙ ap (λ r. place_of true r (self.begun + 1)) (sym e.answer));
       given = tt;
@@ -54,8 +54,8 @@ returns-clause-places c lives segments h =
       answer = sym (ap (λ b. place_of b (first_empty lives segments) (self.begun + 1)) full ∙ (ap (λ r. place_of true r (self.begun + 1)) (sym e.answer)
           ∙ ap (λ n. Some (record { begun = n; evicted = Some c.in_ok-ended.ended })) (sym (c.begin-2.ensures.tables.begun_is ∙ next))));
       given = λ number is. e.given number is;
-      some = λ later begins. subst (λ n. Holds c.begin-2.new.self (left ++ record { number = n; key = c.args.key; touched = c.args.now } ∷ []) later) next
-          (c.begin-2.ensures.holds left segments later e.left (subst (λ n. Begins c.args.era n segments later) (sym next) begins));
+      some = λ later begins. subst (λ n. Holds c.begin-2.new.self (left ++ record { number = n; key = c.args.hashed.now.key.0; touched = c.args.now } ∷ []) later) next
+          (c.begin-2.ensures.holds left segments later e.left (subst (λ n. Begins c.args.era.now n segments later) (sym next) begins));
       none = tt;
     }
 

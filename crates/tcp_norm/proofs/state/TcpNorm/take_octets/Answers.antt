@@ -1,5 +1,4 @@
-use Rattle.std.proofs.Common.{◌∙◌, ◌+◌, ◌*◌, ◌^◌, ◌≡◌, ◌≤◌, [], length, take, ◌++◌, ◌∷◌, sym, ap, subst, refl, arith}
-use Rattle.std.proofs.lemmas.List.{length-take-le}
+use Rattle.std.proofs.Common.{◌∙◌, ◌+◌, ◌*◌, ◌^◌, ◌≤◌, [], ◌++◌, ◌∷◌, sym, ap, subst, refl, arith}
 use Rattle.era_state.specs.Eras.{acked_in, octets_in}
 use Rattle.linked_table.specs.Table as table
 use Rattle.retain_store.specs.Maps.{Store, chain_of, fresh, missing}
@@ -12,7 +11,8 @@ use Rattle.tcp_norm.proofs.Quotas.{stays_bounded}
 use Rattle.tcp_norm.proofs.Slots.{at_slot, opened_kept}
 use Rattle.tcp_norm.proofs.Sparing.{touched_listed}
 use Rattle.tcp_norm.proofs.Streams.{fresh_is, keeps_with}
-use Rattle.tcp_norm.proofs.Writing.{stands_written, wrote_these}
+use Rattle.tcp_norm.specs.Rulings.{taken}
+use Rattle.tcp_norm.proofs.Writing.{stands_written, wrote_these, taken_long}
 use Rattle.tcp_norm.proofs.state.TcpNorm.take_octets.Goals as goal
 
 pub returns : goal.returns
@@ -21,19 +21,19 @@ returns c settings calls d o st b =
     let t = c.args.taking.now in
     let held = c.requires.held in
     let store = c.args.self.now.store in
-    let placed = c.place_counting-fresh.ensures in
+    let placed = c.place_taken-fresh.ensures in
     let ws = segments live.flow.number calls in
     let w = segment_in d in
     let at = at_slot (eras calls) (λ m. segments m calls) _ _ store live.slot live.flow st.holds held.inside held.slots_apart held.keys_apart held.entry in
-    let long : length (take t.size c.deref.result.now) ≡ t.size = length-take-le t.size c.deref.result.now (omega (arith, c.deref.ensures.len, c.args.self.now.room, c.requires.can.fits)) in
+    let long = taken_long t c.deref.result.now c.requires.can.own_long (omega (arith, c.deref.ensures.len, c.args.self.now.room, c.requires.can.fits)) in
     let places = fresh_is c.intervals_fit.ensures ws w t.kept _ t.size _ b.kept_is at.octets c.requires.can.long (placed.fresh ∙ ap (fresh (chain_of store live.slot.0) t.kept.lo) long) in
     let next = c.forwarded-new.ensures.list ws w b.frame b.stood b.kept_is b.framed places in
-    let keeps = keeps_with c.first_stays.ensures c.frame_octets.ensures c.intervals_fit.ensures c.place_counting-fresh.result t.warm.now c.forwarded-new.result ws w b.frame t.kept
-    (chain_of store live.slot.0) (chain_of c.place_counting-fresh.new.self live.slot.0) _ b.stood next c.forwarded-new.ensures.value b.kept_is b.framed (b.octets_are ∙ ap (take t.size) (sym c.deref.ensures.value)) at.octets placed.octets in
+    let keeps = keeps_with c.first_stays.ensures c.frame_octets.ensures c.intervals_fit.ensures c.place_taken-fresh.result t.warm.now c.forwarded-new.result ws w b.frame t.kept
+    (chain_of store live.slot.0) (chain_of c.place_taken-fresh.new.store live.slot.0) _ b.stood next c.forwarded-new.ensures.value b.kept_is b.framed (b.octets_are ∙ ap (taken t) (sym c.deref.ensures.value)) at.octets placed.places in
     record {
       stands = stands_written settings c.args.self.now _ calls c.args.now d live _ (b.frame ∷ []) o st
           (opened_kept settings c.args.self.now _ st.opened (ap (λ (x : table.Table EraKey Flow). x.max) c.write_back.ensures.entries) placed.changed.number (ap (λ (s : Store). s.cells) placed.changed.others) refl refl refl refl refl)
-          refl refl refl c.requires.ready.later held b.key_is refl refl c.write_back.ensures.entries placed.changed (c.settled.ensures.stands (ws ++ b.frame ∷ []) next) keeps
+          refl refl refl c.requires.ready.later held b.key_is refl refl c.write_back.ensures.entries placed.changed (c.settled-era.ensures.stands (ws ++ b.frame ∷ []) next) keeps
           c.chain_is_counted.ensures.map c.chain_is_counted.ensures.held (wrote_these 0 live.flow.number d b.more (b.frame ∷ []) o b.writes b.own);
       scratch_is = refl;
     }
@@ -43,18 +43,18 @@ forwarded-new-requires-clause-few c = omega (
   arith,
   c.requires.can.few,
   c.requires.ready.few,
-  c.place_counting-fresh.ensures.most,
-  length-take-le c.args.taking.now.size c.deref.result.now (omega (arith, c.deref.ensures.len, c.args.self.now.room, c.requires.can.fits)),
+  c.place_taken-fresh.ensures.most,
+  taken_long c.args.taking.now c.deref.result.now c.requires.can.own_long (omega (arith, c.deref.ensures.len, c.args.self.now.room, c.requires.can.fits)),
   c.requires.can.fits,
 )
 
 pub invariant_of-self-clause-near : goal.invariant_of-self-clause-near
 invariant_of-self-clause-near c =
     let self = c.args.self.now in
-    let long : length (take c.args.taking.now.size c.deref.result.now) ≡ c.args.taking.now.size = length-take-le c.args.taking.now.size c.deref.result.now (omega (arith, c.deref.ensures.len, self.room, c.requires.can.fits)) in
-    let acked : acked_in c.settled.result ≤ (self.calls + 1) * 2 ^ 31 = omega (arith, c.settled.ensures.same, c.forwarded-new.ensures.value.acked_is, c.requires.can.acked) in
-    let octets : octets_in c.settled.result ≤ (self.calls + 1) * 2 ^ 16 =
-    omega (arith, c.settled.ensures.octets, c.forwarded-new.ensures.value.octets_are, c.requires.can.few, c.place_counting-fresh.ensures.most, long, c.requires.can.fits) in
+    let long = taken_long c.args.taking.now c.deref.result.now c.requires.can.own_long (omega (arith, c.deref.ensures.len, self.room, c.requires.can.fits)) in
+    let acked : acked_in c.settled-era.result ≤ (self.calls + 1) * 2 ^ 31 = omega (arith, c.settled-era.ensures.same, c.forwarded-new.ensures.value.acked_is, c.requires.can.acked) in
+    let octets : octets_in c.settled-era.result ≤ (self.calls + 1) * 2 ^ 16 =
+    omega (arith, c.settled-era.ensures.octets, c.forwarded-new.ensures.value.octets_are, c.requires.can.few, c.place_taken-fresh.ensures.most, long, c.requires.can.fits) in
     subst (λ (t : table.Table EraKey Flow). AreNear (self.calls + 1) t.entries) (sym c.write_back.ensures.entries)
     (near_touched (self.calls + 1) c.args.live.now.slot _ self.table.entries (acked, octets) (nears_weaker self.calls (self.calls + 1) self.table.entries (omega arith) self.near))
 
@@ -62,14 +62,14 @@ pub invariant_of-self-clause-bounded : goal.invariant_of-self-clause-bounded
 invariant_of-self-clause-bounded c =
     let self = c.args.self.now in
     let slot = c.args.live.now.slot.0 in
-    stays_bounded self.quota self.store c.place_counting-fresh.new.self slot self.bounded c.place_counting-fresh.ensures.changed
+    stays_bounded self.quota self.store c.place_taken-fresh.new.store slot self.bounded c.place_taken-fresh.ensures.changed
     (λ most is.
     let le = c.requires.can.quota most is in
-    let long : length (take c.args.taking.now.size c.deref.result.now) ≡ c.args.taking.now.size = length-take-le c.args.taking.now.size c.deref.result.now (omega (arith, c.deref.ensures.len, self.room, c.requires.can.fits)) in
+    let long = taken_long c.args.taking.now c.deref.result.now c.requires.can.own_long (omega (arith, c.deref.ensures.len, self.room, c.requires.can.fits)) in
     let more = ap (missing (chain_of self.store slot) c.args.taking.now.kept.lo) long in
-    omega (arith, le, more, c.place_counting-fresh.ensures.free, c.place_counting-fresh.ensures.changed.cells))
+    omega (arith, le, more, c.place_taken-fresh.ensures.free, c.place_taken-fresh.ensures.changed.cells))
 
 pub invariant_of-self-clause-spare_listed : goal.invariant_of-self-clause-spare_listed
 invariant_of-self-clause-spare_listed c =
-    touched_listed c.args.self.now.spare _ c.args.self.now.store c.place_counting-fresh.new.self c.args.self.now.table _ c.args.live.now _ c.requires.held c.place_counting-fresh.ensures.changed
+    touched_listed c.args.self.now.spare _ c.args.self.now.store c.place_taken-fresh.new.store c.args.self.now.table _ c.args.live.now _ c.requires.held c.place_taken-fresh.ensures.changed
     c.args.self.now.spare_listed c.write_back.ensures.spare (ap (λ (t : table.Table EraKey Flow). t.entries) c.write_back.ensures.entries)
