@@ -8,7 +8,6 @@ use Rattle.std.proofs.lemmas.Option.{slice_get_within, get_or_from_slice_get}
 use Rattle.wire_base.specs.declared.address.Link.{Link}
 use Rattle.pcap_file.specs.Records.{Packet}
 use Rattle.rule_book.specs.Entries.{PlainEntry}
-use Rattle.norm_settings.specs.Settings.{PlainSettings, AreInRange}
 use Rattle.norm_engine.specs.Items.{Item, packets}
 use Rattle.norm_engine.specs.Trace.{Lawful, item_of}
 use Rattle.norm_engine.specs.Clean.{HasOctets}
@@ -17,21 +16,6 @@ use Rattle.norm_engine.specs.Engine.{Engaged}
 use Rattle.norm_engine.specs.Engine as engine
 use Rattle.both_sides.specs.Traces.{mirrored, record_of, records_for, behind, records_of}
 use Rattle.both_sides.specs.Both.{Joined, StandsFor, StandsForSome, IsWithin, joined}
-
--- settings with exchanged sides are in range as the others
-pub turned_in_range : (settings other : PlainSettings) → other ≡ mirrored settings → AreInRange settings → AreInRange other
-turned_in_range settings other is range = subst AreInRange (sym is) (record {
-  prefixes = range.prefixes;
-  hops = range.hops;
-  flows = range.flows;
-  cells = range.cells;
-  frags = range.frags;
-  frag_cells = range.frag_cells;
-  idle = range.idle;
-  frag_time = range.frag_time;
-  quota = range.quota;
-  mtu = range.mtu;
-})
 
 -- before the first record
 

@@ -108,7 +108,7 @@ abbrev pub AgreesWhole : Type 0
 AgreesWhole = (settings : PlainSettings) (link : Link) (trace : List Item) → settings.mtu ≡ None
     → (AgreeAsWritten settings link trace → Agree settings.hops link trace) × (Agree settings.hops link trace → AgreeAsWritten settings link trace)
 
--- no frame is longer than the MTU, if there is one
+-- no IPv4 packet of a frame has a total length above the MTU, if there is one
 abbrev pub NoneIsLong : (mtu : Option ℕ) → Link → List Item → Type 0
 NoneIsLong None link trace = Unit {0}
 NoneIsLong (Some mtu) link trace = AllByRecursion (λ item. All (λ frame. is_long link mtu frame ≡ false) item.frames) trace

@@ -13,6 +13,8 @@ ghost use Rattle.emit_mtu.specs.Streams.{frames_for};
 ghost use Rattle.emit_mtu.specs.declared.long.LongKind.TheVariants as kinds;
 ghost use Rattle.both_sides.specs.Frames.{frame_octets};
 ghost use Rattle.both_sides.specs.Cut as spec;
+ghost use Rattle.wire_base.specs.declared.limits.TheConstants.{MAX_FRAME};
+ghost use Rattle.rule_book.specs.declared.entry.TheConstants.{MAX_NAMED};
 
 use crate::room::Room;
 use edge_io::{Failed, MAX_FRAME, Outbox, Sink};
@@ -43,9 +45,9 @@ pub fn write_item<K: Sink>(
     capture: &mut K,
 ) -> Result<(), Failed>
     requires ready { spec.CanWrite room.old.mtu head.now.link (frames_given as_read input.now.bytes.now room.old.out) }
-    requires named { length room.old.entry.rules.items ≤ 14 }
+    requires named { length room.old.entry.rules.items ≤ MAX_NAMED }
     requires empty { as_read ≡ true → room.old.out ≡ [] }
-    requires short { as_read ≡ true → length input.now.bytes.now ≤ 65549 }
+    requires short { as_read ≡ true → length input.now.bytes.now ≤ MAX_FRAME }
     ensures octets { Puts (K.held capture.old) (K.held capture.new) result
         (frame_octets head.now.order (shown input.now) (spec.frames_written room.old.mtu head.now.link (frames_given as_read input.now.bytes.now room.old.out))) }
     ensures cause { HasCause (K.fault_count capture.old) (K.fault_count capture.new) result }
@@ -67,7 +69,7 @@ pub fn write_item<K: Sink>(
 // Puts a frame that is written as it was read into the outbox, which is empty in that case.
 fn put_if(as_read: bool, frame: &[u8], out: &mut Outbox)
     requires empty { as_read ≡ true → out.old ≡ [] }
-    requires short { as_read ≡ true → length frame.now ≤ 65549 }
+    requires short { as_read ≡ true → length frame.now ≤ MAX_FRAME }
     ensures { out.new ≡ frames_given as_read frame.now out.old }
 {
     if as_read {
@@ -83,7 +85,7 @@ fn write_whole<K: Sink>(
     input: &Record<'_>,
     capture: &mut K,
 ) -> Result<(), Failed>
-    requires { as_read ≡ true → length input.now.bytes.now ≤ 65549 }
+    requires { as_read ≡ true → length input.now.bytes.now ≤ MAX_FRAME }
     ensures octets { Puts (K.held capture.old) (K.held capture.new) result
         (frame_octets head.now.order (shown input.now) (frames_given as_read input.now.bytes.now out.now)) }
     ensures cause { HasCause (K.fault_count capture.old) (K.fault_count capture.new) result }
@@ -97,7 +99,7 @@ fn write_whole<K: Sink>(
 
 // Writes a record as it was read.
 fn write_read<K: Sink>(head: &Head, input: &Record<'_>, capture: &mut K) -> Result<(), Failed>
-    requires { length input.now.bytes.now ≤ 65549 }
+    requires { length input.now.bytes.now ≤ MAX_FRAME }
     ensures octets { Puts (K.held capture.old) (K.held capture.new) result
         (frame_octets head.now.order (shown input.now) (input.now.bytes.now ∷ [])) }
     ensures cause { HasCause (K.fault_count capture.old) (K.fault_count capture.new) result }
@@ -192,7 +194,7 @@ fn write_one<K: Sink>(
     capture: &mut K,
 ) -> Result<Emitted, Failed>
     requires sent { IsSent head.now.link frame.now }
-    requires short { length frame.now ≤ 65549 }
+    requires short { length frame.now ≤ MAX_FRAME }
     requires least { 576 ≤ mtu }
     ensures octets { Puts (K.held capture.old) (K.held capture.new) result
         (frame_octets head.now.order (shown input.now) (frames_for head.now.link mtu frame.now)) }
@@ -263,7 +265,7 @@ fn write_segments<K: Sink>(
 
 // Enters the report on the record's frames in an entry.
 fn tell_cut(emitted: Emitted, entry: &mut Entry)
-    requires { length entry.old.rules.items ≤ 14 }
+    requires { length entry.old.rules.items ≤ MAX_NAMED }
     ensures { plain entry.new ≡ spec.entry_cut emitted.cut emitted.kept_back emitted.packets (plain entry.old) }
 {
     entry.packets = emitted.packets;

@@ -50,6 +50,7 @@ use Rattle.norm_engine.specs.Fragments.{Offering, piece_calls, offering_in, piec
 use Rattle.norm_engine.specs.Rows.{side_of_record, segment_row, holds_tcp, is_segment}
 use Rattle.norm_engine.specs.Calls.{Past, flow_calls, where_passes, datagram_by}
 use Rattle.norm_engine.specs.Trace.{Read, is_held, is_quoted_live, dropped_by, noted_rows, named_rows}
+use Rattle.wire_base.specs.declared.limits.TheConstants.{MAX_FRAME, MAX_PAYLOAD}
 
 -- an engine as contracts see it: its settings, its link type, the number of records so far, the greatest time of them in seconds, its connections, and the
 -- datagrams with held fragments
@@ -141,7 +142,7 @@ pub record IsArp (settings : PlainSettings) (link : Link) (read : Read) (r : Pac
   pub held : is_held read ≡ false
   pub named : named_rows settings link read r ≡ []
   pub side : side_of_record settings link r ≡ None
-  pub short : length r.octets ≤ 65549
+  pub short : length r.octets ≤ MAX_FRAME
 
 -- a record that this rule drops, and which is not a segment
 pub record IsDropped (settings : PlainSettings) (link : Link) (read : Read) (r : Packet) (told : Option Side) (rule : Rule) : Type 0 where
@@ -171,8 +172,8 @@ pub record IsSent (settings : PlainSettings) (link : Link) (read : Read) (r : Pa
   pub frame : packet.frame.now ≡ r.octets
   pub mends : mend ≡ holds_dgram settings false own rules.USumOut
   pub whole : mend ≡ true → 8 ≤ length packet.payload.now
-  pub fits : length packet.payload.now ≤ 65515
-  pub short : packet.fixes.items ≡ [] → length packet.frame.now ≤ 65549
+  pub fits : length packet.payload.now ≤ MAX_PAYLOAD
+  pub short : packet.fixes.items ≡ [] → length packet.frame.now ≤ MAX_FRAME
 
 -- a record whose datagram is a segment that no rule before those of eras drops: the rules that drop, note and rewrite it are those of its connection
 pub record IsTaken (settings : PlainSettings) (link : Link) (read : Read) (r : Packet) (packet : IpPacket) (head : Tcp) : Type 0 where
@@ -188,8 +189,8 @@ pub record IsTaken (settings : PlainSettings) (link : Link) (read : Read) (r : P
   pub noted : noted_rows settings link read r ≡ era.noted (view_of settings read.past.calls own) own
   pub named : named_rows settings link read r ≡ own.fixes ++ era.mended_by settings (view_of settings read.past.calls own) own
   pub few : length packet.fixes.items ≤ 6
-  pub fits : length packet.payload.now ≤ 65515
-  pub short : packet.fixes.items ≡ [] → length packet.frame.now ≤ 65549
+  pub fits : length packet.payload.now ≤ MAX_PAYLOAD
+  pub short : packet.fixes.items ≡ [] → length packet.frame.now ≤ MAX_FRAME
 
 -- the judgment is that of the rules
 abbrev pub Judges : PlainSettings → Link → Read → Packet → Judgment → Type 0
@@ -236,7 +237,7 @@ pub record IsJoinedJudged (settings : PlainSettings) (calls : List Call) (o : Of
   pub makes : IsMadeWhole settings.hops packet (whole_of (pieces_with o)) (datagram_octets (pieces_with o)) made
   pub sizes : HasSizes made.head
   pub each : AreOctets made.payload.now
-  pub short : length made.payload.now ≤ 65515
+  pub short : length made.payload.now ≤ MAX_PAYLOAD
   pub judged : IsWholeJudged settings calls [] made judgment
 
 -- a packet that is a fragment is judged by the answer to it
@@ -265,7 +266,7 @@ entry_for number (Segment packet head) ended = entry_written number (Some packet
 
 -- the bounds of the outbox and the header, for a packet with this decision
 abbrev pub Fits : IpPacket → Decision → Type 0
-Fits packet (decisions.Send mend) = (length packet.payload.now ≤ 65515) × (mend ≡ true → 8 ≤ length packet.payload.now)
+Fits packet (decisions.Send mend) = (length packet.payload.now ≤ MAX_PAYLOAD) × (mend ≡ true → 8 ≤ length packet.payload.now)
 Fits packet _ = Unit {0}
 
 -- the record is written as it was read: it is ARP, or no rule rewrites its packet

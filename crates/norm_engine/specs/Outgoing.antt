@@ -13,6 +13,7 @@ use Rattle.norm_settings.specs.Settings.{PlainSettings}
 use Rattle.norm_engine.specs.Items.{Item}
 use Rattle.norm_engine.specs.Trace.{item_of}
 use Rattle.norm_engine.specs.Clean.{HasOctets, HaveOctets}
+use Rattle.rule_book.specs.declared.entry.TheConstants.{MAX_NAMED}
 
 -- an unfragmented packet with a header of 20 octets, and a segment without a fault, if it carries TCP; its checksum is not checked
 pub record IsWholePacket (packet : List ℕ) : Type 0 where
@@ -33,7 +34,7 @@ pub record IsOutgoing (link : Link) (item : Item) : Type 0 where
   pub each : AllByRecursion (GoesOut link) item.frames
   pub of_era : (era : ℕ) → item.entry.era ≡ Some era → AllByRecursion (CarriesWhole link) item.frames
   pub behind : AllByRecursion (λ frame. length (packet_in link frame) ≡ 40) (drop 1 item.frames)
-  pub few : length item.entry.rules ≤ 14
+  pub few : length item.entry.rules ≤ MAX_NAMED
 
 -- this holds of each item of a record of octets, after others
 abbrev pub ItemsGoOut : Type 0

@@ -9,10 +9,11 @@ use Rattle.wire_base.specs.Plain.{Plain}
 use Rattle.norm_settings.specs.Settings.{PlainSettings}
 use Rattle.norm_engine.specs.Items.{Item}
 use Rattle.norm_engine.specs.Laws.{IsSound}
+use Rattle.wire_base.specs.declared.limits.TheConstants.{MAX_FRAME}
 
 -- each frame of the item has at most 65,549 octets: a packet of at most 65,535 after a link header of at most 14
 abbrev pub HasShortFrames : Item → Type 0
-HasShortFrames item = AllByRecursion (λ frame. length frame ≤ 65549) item.frames
+HasShortFrames item = AllByRecursion (λ frame. length frame ≤ MAX_FRAME) item.frames
 
 -- no frame of a lawful trace is longer
 abbrev pub LawfulIsShort : Type 0

@@ -1,7 +1,7 @@
 //! The engine: each record of a capture is one step.
 use crate::entries::{blank_entry, renew, tell};
 use crate::judge::{Decision, Parsed, judge};
-use crate::send::{MAX_PAYLOAD, send};
+use crate::send::send;
 use edge_io::{NoMemory, Outbox};
 use ip_rules::write::put_read;
 use norm_settings::Settings;
@@ -12,7 +12,7 @@ use std::alloc::Global;
 use std::marker::Model;
 use tcp_norm::TcpNorm;
 use tcp_norm::laws::packets_are_its_own;
-use wire_base::{Link, link_octets};
+use wire_base::{Link, MAX_PAYLOAD, link_octets};
 
 /// Judges the records of a capture, one after another. Allocates all its memory when it is opened.
 #[derive(Drop)]
@@ -36,12 +36,13 @@ impl Model for Engine {
     ghost use Rattle.std.specs.Prelude.{◌≡◌, vec_len};
     ghost use Rattle.norm_settings.specs.Settings.{plain_settings, AreInRange};
     ghost use Rattle.norm_engine.specs.Engine.{Engaged, Kept};
+    ghost use Rattle.wire_base.specs.declared.limits.TheConstants.{MAX_PAYLOAD};
 
     ghost Value = { Engaged };
 
     ghost view = { λ e. record { settings = plain_settings e.settings; link = e.link; records = e.records; latest = e.latest; norm = e.norm; pieces = e.pieces } };
 
-    ghost invariant = { λ e. AreInRange (plain_settings e.settings) × (vec_len e.scratch ≡ 65515) × ∥ Kept (plain_settings e.settings) e.norm e.pieces e.records e.latest ∥₁ };
+    ghost invariant = { λ e. AreInRange (plain_settings e.settings) × (vec_len e.scratch ≡ MAX_PAYLOAD) × ∥ Kept (plain_settings e.settings) e.norm e.pieces e.records e.latest ∥₁ };
 }
 
 impl Engine {
@@ -58,6 +59,7 @@ impl Engine {
     ghost use Rattle.norm_engine.specs.Calls.{flow_calls};
     ghost use Rattle.norm_engine.specs.Trace.{item_of};
     ghost use Rattle.norm_engine.specs.Engine.{StandsFor, frames_given};
+    ghost use Rattle.wire_base.specs.declared.limits.TheConstants.{MAX_FRAME};
 
     /// Creates an engine for records of a raw link, before the first of them.
     pub fn open(alloc: Global, settings: Settings) -> Result<Engine, NoMemory>
@@ -165,7 +167,7 @@ impl Engine {
         ensures frames { (history : List Item) → StandsFor self.old history →
             frames_given result input.now.bytes.now out.new ≡ (item_of self.old.settings self.old.link history (shown input.now)).frames }
         ensures empty { result ≡ true → out.new ≡ [] }
-        ensures short { result ≡ true → length input.now.bytes.now ≤ 65549 }
+        ensures short { result ≡ true → length input.now.bytes.now ≤ MAX_FRAME }
         ensures stands { (history : List Item) → StandsFor self.old history →
             StandsFor self.new (item_of self.old.settings self.old.link history (shown input.now) ∷ history) }
     {

@@ -17,6 +17,8 @@ ghost use Rattle.norm_engine.specs.Trace.{is_quoted_live};
 ghost use Rattle.norm_engine.specs.Judged.{judged_with};
 ghost use Rattle.norm_engine.specs.Judgment.{judgment_of, judgment_with};
 ghost use Rattle.norm_engine.specs.Engine as spec;
+ghost use Rattle.wire_base.specs.declared.limits.TheConstants.{MAX_PAYLOAD};
+ghost use Rattle.rule_book.specs.declared.entry.TheConstants.{MAX_NAMED};
 
 use dgram_rules::laws::{datagrams_tell_the_rows, others_have_no_row};
 use dgram_rules::{DgramJudged, judge_icmp, judge_udp};
@@ -105,7 +107,7 @@ pub fn judge<'a>(
     parsed: &mut Parsed<'a>,
 ) -> Decision
     requires prefixes { All (λ prefix. prefix.len ≤ 32) settings.now.prefixes.items }
-    requires buffer { 65515 ≤ length buffer.old }
+    requires buffer { MAX_PAYLOAD ≤ length buffer.old }
     requires late { fragments.last_time pieces.old ≤ now }
     ensures read { spec.SegmentIsRead (judgment_with parsed.new result) }
     ensures rows { (past : Past) → flows.StandsFor (plain_settings settings.now) norm.now past.calls → fragments.StandsFor (plain_settings settings.now) pieces.old past.pieces →
@@ -136,7 +138,7 @@ fn judge_piece<'a>(
     parsed: &mut Parsed<'a>,
 ) -> Decision
     requires prefixes { All (λ prefix. prefix.len ≤ 32) settings.now.prefixes.items }
-    requires buffer { 65515 ≤ length buffer.old }
+    requires buffer { MAX_PAYLOAD ≤ length buffer.old }
     requires late { fragments.last_time pieces.old ≤ now }
     requires piece { IsPiece (fragment_with parsed.old.packet.head parsed.old.packet.payload.now) }
     requires known { ((parsed.old.packet.head.protocol == 1) || (parsed.old.packet.head.protocol == 6) || (parsed.old.packet.head.protocol == 17)) ≡ true }
@@ -197,7 +199,7 @@ fn piece_of<'a>(packet: &IpPacket<'a>) -> Piece<'a>
 
 // Makes the packet of a fragment that of its complete datagram, with these octets.
 fn make_whole<'a>(whole: &Whole, octets: &'a [u8], hops: u8, packet: &mut IpPacket<'a>)
-    requires { length packet.old.fixes.items ≤ 14 }
+    requires { length packet.old.fixes.items ≤ MAX_NAMED }
     ensures { spec.IsMadeWhole hops packet.old whole.now octets.now packet.new }
 {
     packet.head.tos = whole.tos;

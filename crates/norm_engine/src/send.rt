@@ -6,6 +6,7 @@ ghost use Rattle.udp_codec.specs.Checksum.{mended};
 ghost use Rattle.tcp_codec.specs.declared.header.Tcp.{Tcp};
 ghost use Rattle.norm_engine.specs.Judgment.{judgment_of};
 ghost use Rattle.norm_engine.specs.Engine as spec;
+ghost use Rattle.wire_base.specs.declared.limits.TheConstants.{MAX_PAYLOAD};
 
 use crate::judge::Decision;
 use edge_io::Outbox;
@@ -13,10 +14,6 @@ use ip_rules::IpPacket;
 use ip_rules::write::{head_sent, put_anew};
 use udp_codec::mend;
 use wire_base::{Link, link_octets, pseudo_sum};
-
-/// Octets of the longest payload: those of the longest packet (RFC 791 section 3.1) without a
-/// header of 20 octets.
-pub const MAX_PAYLOAD: usize = 65_515;
 
 /// Puts the frame of a record with this decision into the outbox, which is empty, or returns true
 /// if the record is written as it was read: it is ARP, or no rule rewrites it.
@@ -29,7 +26,7 @@ pub fn send(
     out: &mut Outbox,
 ) -> bool
     requires empty { out.old ≡ [] }
-    requires room { 65515 ≤ length scratch.old }
+    requires room { MAX_PAYLOAD ≤ length scratch.old }
     requires hops { hops ≤ 254 }
     requires fits { spec.Fits packet.now decision }
     ensures as_read { (head : Tcp) → result ≡ spec.is_as_read (judgment_of packet.now head decision) }
@@ -59,9 +56,9 @@ fn send_mended(
     out: &mut Outbox,
 )
     requires empty { out.old ≡ [] }
-    requires room { 65515 ≤ length scratch.old }
+    requires room { MAX_PAYLOAD ≤ length scratch.old }
     requires hops { hops ≤ 254 }
-    requires fits { length packet.now.payload.now ≤ 65515 }
+    requires fits { length packet.now.payload.now ≤ MAX_PAYLOAD }
     requires whole { mend ≡ true → 8 ≤ length packet.now.payload.now }
     ensures { out.new ≡ spec.frame_for packet.now mend hops link ∷ [] }
 {
@@ -77,8 +74,8 @@ fn send_mended(
 
 // Returns the UDP message of a packet with its checksum corrected, copied to the scratch buffer.
 fn mended_in<'a>(packet: &IpPacket<'_>, scratch: &'a mut [u8]) -> &'a [u8]
-    requires room { 65515 ≤ length scratch.old }
-    requires fits { length packet.now.payload.now ≤ 65515 }
+    requires room { MAX_PAYLOAD ≤ length scratch.old }
+    requires fits { length packet.now.payload.now ≤ MAX_PAYLOAD }
     requires whole { 8 ≤ length packet.now.payload.now }
     ensures octets { result.now ≡ mended (pseudo_of (datagram_with [] packet.now)) packet.now.payload.now }
     ensures size { length result.now ≡ length packet.now.payload.now }

@@ -28,6 +28,7 @@ use Rattle.run_audit.specs.FirstFault.{NoFault}
 use Rattle.run_audit.specs.Named.{eras_named}
 use Rattle.run_audit.specs.Reported.{IsFinished, is_most}
 use Rattle.run_audit.specs.Words.{asked}
+use Rattle.wire_base.specs.declared.limits.TheConstants.{MAX_CAPTURED}
 
 -- the frames of a trace, newest first
 abbrev pub frames_written : List Item → List (List ℕ)
@@ -104,7 +105,7 @@ report_written trace = report_text 2 (entries trace) (last_written trace)
 pub record RecordFits (w : Packet) : Type 0 where
   pub seconds : w.seconds < 2 ^ 32
   pub fraction : w.fraction < 2 ^ 32
-  pub octets : length w.octets ≤ 262144
+  pub octets : length w.octets ≤ MAX_CAPTURED
 
 -- The trace fits the formats of its two files: there are at most 2^32 - 1 records, each of which fits, and fewer than 2^32 entries, in a report of at most
 -- 67,108,864 octets.
@@ -134,7 +135,7 @@ pub record WasRun (settings : PlainSettings) (head : Head) (source : List ℕ) (
   pub octets : AreOctets source
   pub whole : IsCapture source head (packets trace)
   pub lawful : Lawful settings head.link trace
-  pub short : AllByRecursion (λ frame. length frame ≤ 262144) (frames_written trace)
+  pub short : AllByRecursion (λ frame. length frame ≤ MAX_CAPTURED) (frames_written trace)
   pub few : length (frames_written trace) ≤ 4294967295
   pub small : length (report_written trace) ≤ is_most
 

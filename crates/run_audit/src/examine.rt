@@ -11,6 +11,7 @@ ghost use Rattle.run_audit.specs.Named.{eras_named};
 ghost use Rattle.run_audit.specs.Answers as spec;
 ghost use Rattle.run_audit.specs.declared.answer.Answer.{Answer};
 ghost use Rattle.run_audit.specs.declared.answer.Reason.{Reason};
+ghost use Rattle.wire_base.specs.declared.limits.TheConstants.{MAX_CAPTURED};
 
 use crate::answer::tell;
 use crate::frame::judge;
@@ -21,10 +22,10 @@ use crate::report::entries_of;
 use crate::words::hops_asked;
 use crate::{Answer, Flaw, Reason};
 use edge_io::{Sink, Source};
-use pcap_file::{Head, HeadFault, MAX_CAPTURED, Reader, RecordFault, read_head};
+use pcap_file::{Head, HeadFault, Reader, RecordFault, read_head};
 use rule_book::Entry;
 use std::alloc::Global;
-use wire_base::packet_in;
+use wire_base::{MAX_CAPTURED, packet_in};
 
 /// Audits a written capture and its report, writes one line to `out`, and returns the status:
 ///
@@ -157,7 +158,7 @@ fn judge_capture<C: Source>(
 ) -> Result<u64, Answer>
     requires fresh { AllStandFor eras.old [] }
     requires named { AllByRecursion (HasEra eras.old) (frames.owners (map plain entries.now)) }
-    requires room { 262144 ≤ length buffer.old }
+    requires room { MAX_CAPTURED ≤ length buffer.old }
     ensures sound { IfOk result (λ count. IfSome (C.left capture.old) (λ octets. IsSound hops (map plain entries.now) octets count)) }
     ensures why { IfErr result (λ answer. WhyUnsoundWhole hops (map plain entries.now) (C.left capture.old)
         (C.fault_count capture.old) (C.fault_count capture.new) answer) }
@@ -181,7 +182,7 @@ fn judge_frames<C: Source>(
 ) -> Result<u64, Answer>
     requires fresh { AllStandFor eras.old [] }
     requires named { AllByRecursion (HasEra eras.old) (frames.owners (map plain entries.now)) }
-    requires room { 262144 ≤ length buffer.old }
+    requires room { MAX_CAPTURED ≤ length buffer.old }
     ensures sound { IfOk result (λ count. IfSome (C.left capture.old) (λ all. SoundFrames hops head (map plain entries.now) all count)) }
     ensures why { IfErr result (λ answer. WhyUnsound hops head (map plain entries.now) (C.left capture.old)
         (C.fault_count capture.old) (C.fault_count capture.new) answer) }
