@@ -13,6 +13,7 @@ ghost use Rattle.bridge_run.specs.Stopped as stopped;
 ghost use Rattle.bridge_run.specs.Stops as stops;
 ghost use Rattle.bridge_run.specs.Run as spec;
 ghost use Rattle.bridge_run.specs.Rows.{UnderWords};
+ghost use Rattle.wire_base.specs.declared.limits.TheConstants.{MAX_CAPTURED};
 
 use crate::load::run_load;
 use crate::stop::{
@@ -28,9 +29,10 @@ use capture_input::laws::{
 };
 use edge_io::{NoMemory, Sink, Source};
 use norm_settings::{Command, Settings, WordFault, read_words};
-use pcap_file::{MAX_CAPTURED, write_head};
+use pcap_file::write_head;
 use rule_book::{Last, last_line};
 use std::alloc::Global;
+use wire_base::MAX_CAPTURED;
 
 /// Normalizes a capture as the words request, or judges the load that they request, writes the
 /// report, and returns the status:
@@ -217,7 +219,7 @@ fn normalize_in_room<S: Source, K: Sink, R: Sink>(
 fn take_room(alloc: Global, settings: &Settings) -> Result<(Vec<u8>, Relay), NoMemory>
     requires range { AreInRange (plain_settings settings.now) }
     requires together { GoTogether (plain_settings settings.now) }
-    ensures buffer { IfOk result (λ room. vec_len room.0 ≡ 262144) }
+    ensures buffer { IfOk result (λ room. vec_len room.0 ≡ MAX_CAPTURED) }
     ensures stands { IfOk result (λ room. StandsForRun room.1 (empty_run (plain_settings settings.now).both)) }
     ensures settings { IfOk result (λ room. settings_of room.1 ≡ plain_settings settings.now) }
 {
@@ -239,7 +241,7 @@ fn normalize<S: Source, K: Sink, R: Sink>(
     requires settings { settings_of relay.old ≡ plain_settings settings.now }
     requires range { AreInRange (plain_settings settings.now) }
     requires together { GoTogether (plain_settings settings.now) }
-    requires room { 262144 ≤ length buffer.old }
+    requires room { MAX_CAPTURED ≤ length buffer.old }
     ensures ends { let before = moment_of (S.left source.old) (S.fault_count source.old) (K.held capture.old) (K.fault_count capture.old) (R.held report.old) (R.fault_count report.old) in
         let now = moment_of (S.left source.new) (S.fault_count source.new) (K.held capture.new) (K.fault_count capture.new) (R.held report.new) (R.fault_count report.new) in
         ends.Ends (plain_settings settings.now) result before now }
