@@ -47,8 +47,8 @@ The line of an era has these:
 
   era E SRC:PORT > DST:PORT FIRST LAST records N octets O END RULE ..
 
-FIRST and LAST are the times of its first and its last record, O the octets of its
-segments that went inwards, each time that they did, END live or why it ended.
+FIRST and LAST are the times of its first and its last record, - without one, O the
+octets of its segments that went inwards, each time that they did, END live or why it ended.
 
 Status and last line:
 

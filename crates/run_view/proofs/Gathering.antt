@@ -1,5 +1,5 @@
 -- What is gathered of the frames of a record, one by one.
-use Rattle.std.proofs.Common.{◌≡◌, ℕ, ◌+◌, ◌<◌, ◌≤◌, ◌==◌, false, List, [], ◌∷◌, ◌++◌, length, map, refl, sym, ap, ◌∙◌, arith, if◌then◌else◌}
+use Rattle.std.proofs.Common.{◌≡◌, ℕ, ◌+◌, ◌<◌, ◌≤◌, ◌==◌, true, false, List, [], ◌∷◌, ◌++◌, length, map, refl, sym, ap, ◌∙◌, arith, if◌then◌else◌}
 use Rattle.std.specs.Prelude.{Option}
 use Rattle.wire_base.specs.declared.address.Link.{Link}
 use Rattle.pcap_file.specs.declared.head.Head.{Head}
@@ -23,10 +23,11 @@ begun_so link octets (next ∷ own) frame = let some : (length (next ∷ own) ==
 
 pub gathered_more : (link : Link) (kinds : Kinds) (octets : List ℕ) (own : List Packet) (packet : Packet) (old new : Gathered) (number : ℕ) (frame : List ℕ) → length own ≡ number → packet.octets ≡ frame
     → map plain new.changes.items ≡ map plain old.changes.items ++ changes_at link kinds (number + 1) octets frame
-    → new.flow ≡ first_flow number (flow_at link frame) old.flow
-    → new.octets ≡ plus old.octets (tcp_octets (flow_at link frame))
+    → new.wanted ≡ old.wanted
+    → (old.wanted ≡ true → new.flow ≡ first_flow number (flow_at link frame) old.flow)
+    → (old.wanted ≡ true → new.octets ≡ plus old.octets (tcp_octets (flow_at link frame)))
     → IsGathered link kinds octets own old → IsGathered link kinds octets (packet ∷ own) new
-gathered_more link kinds octets own packet old new number frame count same changes flow octets_are before =
+gathered_more link kinds octets own packet old new number frame count same changes wanted flow octets_are before =
     record {
       changes =
           changes
@@ -34,14 +35,16 @@ gathered_more link kinds octets own packet old new number frame count same chang
           ∙ ap (λ n. changes_in link kinds octets own ++ changes_at link kinds (n + 1) octets frame) (sym count)
           ∙ ap (λ f. changes_in link kinds octets own ++ changes_at link kinds (length own + 1) octets f) (sym same);
       flow =
-          flow
-          ∙ ap (λ f. first_flow number (flow_at link frame) f) before.flow
+          λ is.
+          flow (sym wanted ∙ is)
+          ∙ ap (λ f. first_flow number (flow_at link frame) f) (before.flow (sym wanted ∙ is))
           ∙ ap (λ n. first_flow n (flow_at link frame) (begun_by link octets own)) (sym count)
           ∙ ap (λ f. first_flow (length own) (flow_at link f) (begun_by link octets own)) (sym same)
           ∙ begun_so link octets own packet;
       octets_are =
-          octets_are
-          ∙ ap (λ n. plus n (tcp_octets (flow_at link frame))) before.octets_are
+          λ is.
+          octets_are (sym wanted ∙ is)
+          ∙ ap (λ n. plus n (tcp_octets (flow_at link frame))) (before.octets_are (sym wanted ∙ is))
           ∙ ap (λ f. plus (octets_in link own) (tcp_octets (flow_at link f))) (sym same);
     }
 

@@ -12,12 +12,14 @@ use Rattle.capture_input.specs.Inputs.{Took, Walk}
 use Rattle.capture_input.specs.Reading.{head_in}
 use Rattle.run_view.specs.declared.stop.Stop.{Stop}
 use Rattle.run_view.specs.declared.stop.Stop.TheVariants as stops
+use Rattle.run_view.specs.declared.line.Lines.{Lines}
+use Rattle.run_view.specs.Ahead.{left_in}
 use Rattle.run_view.specs.Causes.{Sources, WhyBefore}
 use Rattle.run_view.specs.Standing.{HasHead, HaveHeads, InputHeadStops, InputOpened, IsOfOtherLink, OutputAt, OutputHeadStops, TookFrames}
 use Rattle.run_view.specs.Why.{FirstStops}
 
 -- the first line of the report
-pub by_report : (s : Sources) (rose : Type 0) (then_ after : ℕ) (stop : Stop) → (Rose then_ after → rose) → HaveHeads s.input s.output → FirstStops s.report then_ after stop → WhyBefore s rose stop
+by_report : (s : Sources) (rose : Type 0) (then_ after : ℕ) (stop : Stop) → (Rose then_ after → rose) → HaveHeads s.input s.output → FirstStops s.report then_ after stop → WhyBefore s rose stop
 by_report s rose then_ after stops.Words wider heads why = absurd why
 by_report s rose then_ after (stops.Record n) wider heads why = absurd why
 by_report s rose then_ after (stops.Frame n) wider heads why = absurd why
@@ -27,6 +29,12 @@ by_report s rose then_ after stops.Unread wider heads why = wider why
 by_report s rose then_ after stops.Unwritten wider heads why = absurd why
 by_report s rose then_ after stops.Memory wider heads why = absurd why
 by_report s rose then_ after (stops.Report n) wider heads why = (heads, why)
+
+-- the same where the report is read through lines of which none was read yet
+pub by_report_ahead : (s : Sources) (lines : Lines) (rose : Type 0) (then_ after : ℕ) (stop : Stop) → left_in lines s.report ≡ s.report → (Rose then_ after → rose) → HaveHeads s.input s.output
+    → FirstStops (left_in lines s.report) then_ after stop → WhyBefore s rose stop
+by_report_ahead s lines rose then_ after stop same wider heads why =
+    let F : Option (List ℕ) → Type 0 = λ r. FirstStops r then_ after stop in by_report s rose then_ after stop wider heads (subst F same why)
 
 -- the head of the input
 pub by_input : (s : Sources) (rose : Type 0) (then_ after : ℕ) (stop : Stop) → (Rose then_ after → rose) → InputHeadStops s.input then_ after stop → WhyBefore s rose stop

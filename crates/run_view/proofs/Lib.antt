@@ -2,7 +2,6 @@ pub mod Fronts
 pub mod Lining
 pub mod Amiss
 pub mod Standings
-pub mod Taking
 pub mod Tables
 pub mod Records
 pub mod Written

@@ -1,82 +1,185 @@
--- The octets of a line one by one.
-use Rattle.std.proofs.Common.{◌≡◌, ℕ, zero, suc, ◌+◌, ◌-◌, ◌<◌, ◌==◌, nat_eq, cond, true, false, List, [], ◌∷◌, ◌++◌, take, Option, Some, None, IfSome, refl, sym, ap, subst, ◌∙◌, arith, append_assoc, append-nil}
-use Rattle.std.specs.Prelude.{MatchOption, is_some}
-use Rattle.std.specs.Io.KnownBytes.{Consumes, IsAtEnd, Keeps}
+-- The lines of octets that are read ahead.
+use Rattle.std.proofs.Common.{◌≡◌, ◌⊎◌, ℕ, zero, suc, ◌+◌, ◌-◌, ◌<◌, ◌≤◌, nat_eq, cond, ltb, min, not, Bool, true, false, List, [], ◌∷◌, ◌++◌, length, take, drop, slice_range, Option, Some, None, IfSome, refl, sym, ap, subst, ◌∙◌, inl, inr, arith, append-nil, append_assoc}
+use Rattle.std.specs.List.{copy_within, position_or_len}
 use Rattle.std.proofs.lemmas.Bool.Decides.{nat_tests}
+use Rattle.std.proofs.lemmas.Bool.{ltb-false, ltb-true}
+use Rattle.std.specs.Io.KnownBytes.{Consumes, IsAtEnd, Keeps, prepend_known}
+use Rattle.std.proofs.lemmas.List.{drop-drop, length-drop, length-take-le, take-append-le, take-take, take_at, take_min}
+use Rattle.std.proofs.Math.Seq.{take-add, take-append-add}
+use Rattle.run_view.specs.Ahead.{GoesOn, TookLine}
+use Rattle.run_view.specs.Causes.{IsSomeOctet}
 use Rattle.run_view.specs.Lines.{front_line}
 
--- these octets of the line were taken, and the line goes on in what is left, within so many octets
-abbrev pub LineGoesOn : (old now : Option (List ℕ)) (room : ℕ) (taken : List ℕ) → Type 0
-LineGoesOn None now room taken = Unit {0}
-LineGoesOn (Some octets) None room taken = Unit {0}
-LineGoesOn (Some octets) (Some left) room taken = front_line 400 octets ≡ taken ++ front_line room left
+-- the octet is a line feed
+abbrev pub is_feed : ℕ → Bool
+is_feed octet = nat_eq octet 10
 
-pub line_begins : (old : Option (List ℕ)) → LineGoesOn old old 400 []
-line_begins None = tt
-line_begins (Some octets) = refl
+-- the front line is among the first octets that it may have
+front_cut : (room : ℕ) (octets : List ℕ) → front_line room octets ≡ front_line room (take room octets)
+front_cut zero octets = refl
+front_cut (suc room) [] = refl
+front_cut (suc room) (octet ∷ octets) = ap (λ l. cond (is_feed octet) (octet ∷ []) (octet ∷ l)) (front_cut room octets)
 
-one_more : (room : ℕ) (octet : ℕ) (left : List ℕ) → nat_eq octet 10 ≡ false → front_line (suc room) (octet ∷ left) ≡ octet ∷ front_line room left
-one_more room octet left other = ap (λ b. cond b (octet ∷ []) (octet ∷ front_line room left)) other
+-- it ends with the first line feed
+front_fed : (octets : List ℕ) (room : ℕ) → length octets ≤ room → position_or_len is_feed octets < length octets → front_line room octets ≡ take (position_or_len is_feed octets + 1) octets
+front_fed [] room short feed = absurd (omega arith)
+front_fed (octet ∷ octets) zero short feed = absurd (omega arith)
+front_fed (octet ∷ octets) (suc room) short feed = by (is_feed octet) feed (λ less. front_fed octets room (omega arith) less) where
+  by : (b : Bool) → cond (not b) (1 + position_or_len is_feed octets) 0 < length (octet ∷ octets)
+      → (position_or_len is_feed octets < length octets → front_line room octets ≡ take (position_or_len is_feed octets + 1) octets)
+      → cond b (octet ∷ []) (octet ∷ front_line room octets) ≡ take (cond (not b) (1 + position_or_len is_feed octets) 0 + 1) (octet ∷ octets)
+  by true feed rest = refl
+  by false feed rest =
+      let on : 1 + position_or_len is_feed octets + 1 ≡ suc (position_or_len is_feed octets + 1) = omega arith in
+      ap (λ l. octet ∷ l) (rest (omega arith)) ∙ ap (λ n. take n (octet ∷ octets)) (sym on)
 
-line_more : (old mid now : Option (List ℕ)) (room : ℕ) (taken : List ℕ) (octet : ℕ) → nat_eq octet 10 ≡ false → Consumes old mid taken → LineGoesOn old mid (suc room) taken → Consumes mid now (octet ∷ [])
-    → LineGoesOn old now room (taken ++ octet ∷ [])
-line_more None mid now room taken octet other first goes taken_now = tt
-line_more (Some octets) None now room taken octet other first goes taken_now = absurd first
-line_more (Some octets) (Some left) None room taken octet other first goes taken_now = tt
-line_more (Some octets) (Some left) (Some rest) room taken octet other first goes taken_now =
-    goes ∙ ap (λ l. taken ++ front_line (suc room) l) taken_now ∙ ap (λ l. taken ++ l) (one_more room octet rest other) ∙ sym (append_assoc taken (octet ∷ []) (front_line room rest))
+-- it is all of them where there is none
+front_whole : (octets : List ℕ) (room : ℕ) → length octets ≤ room → length octets ≤ position_or_len is_feed octets → front_line room octets ≡ octets
+front_whole [] zero short feed = refl
+front_whole [] (suc room) short feed = refl
+front_whole (octet ∷ octets) zero short feed = absurd (omega arith)
+front_whole (octet ∷ octets) (suc room) short feed = by (is_feed octet) feed (λ none. front_whole octets room (omega arith) none) where
+  by : (b : Bool) → length (octet ∷ octets) ≤ cond (not b) (1 + position_or_len is_feed octets) 0
+      → (length octets ≤ position_or_len is_feed octets → front_line room octets ≡ octets) → cond b (octet ∷ []) (octet ∷ front_line room octets) ≡ octet ∷ octets
+  by true feed rest = absurd (omega arith)
+  by false feed rest = ap (λ l. octet ∷ l) (rest (omega arith))
 
-line_over : (old mid now : Option (List ℕ)) (room : ℕ) (taken : List ℕ) (octet : ℕ) → octet ≡ 10 → Consumes old mid taken → LineGoesOn old mid (suc room) taken → Consumes mid now (octet ∷ [])
-    → IfSome old (λ octets. taken ++ octet ∷ [] ≡ front_line 400 octets)
-line_over None mid now room taken octet feed first goes taken_now = tt
-line_over (Some octets) None now room taken octet feed first goes taken_now = absurd first
-line_over (Some octets) (Some left) None room taken octet feed first goes taken_now = absurd taken_now
-line_over (Some octets) (Some left) (Some rest) room taken octet feed first goes taken_now =
-    let test : nat_eq octet 10 ≡ true = grind (arith, nat_tests) in
-    sym (goes ∙ ap (λ l. taken ++ front_line (suc room) l) taken_now ∙ ap (λ b. taken ++ cond b (octet ∷ []) (octet ∷ front_line room rest)) test)
+-- the same of the first octets that it may have
+pub fed : (octets front : List ℕ) (room place : ℕ) → room ≡ min 400 (length octets) → front ≡ take room octets → place ≡ position_or_len is_feed front → place < length front → take (place + 1) octets ≡ front_line 400 octets
+fed octets front room place is front_is at within =
+    let all : front ≡ take 400 octets = front_is ∙ ap (λ n. take n octets) is ∙ take_min 400 octets in
+    let long : length front ≡ room = ap length front_is ∙ length-take-le room octets (omega arith) in
+    let less : length front ≤ 400 = omega arith in
+    let some : position_or_len is_feed front < length front = omega arith in
+    let parts : take (place + 1) octets ≡ take (place + 1) front = sym (ap (take (place + 1)) front_is ∙ take-take (place + 1) room octets (omega arith)) in
+    parts ∙ ap (λ n. take (n + 1) front) at ∙ sym (front_fed front 400 less some) ∙ ap (front_line 400) all ∙ sym (front_cut 400 octets)
 
-front_none : (room : ℕ) → front_line room [] ≡ []
-front_none zero = refl
-front_none (suc room) = refl
+pub unfed : (octets front : List ℕ) (room : ℕ) → room ≡ min 400 (length octets) → front ≡ take room octets → length front ≤ position_or_len is_feed front → take room octets ≡ front_line 400 octets
+unfed octets front room is front_is none =
+    let all : front ≡ take 400 octets = front_is ∙ ap (λ n. take n octets) is ∙ take_min 400 octets in
+    let long : length front ≡ room = ap length front_is ∙ length-take-le room octets (omega arith) in
+    sym front_is ∙ sym (front_whole front 400 (omega arith) none) ∙ ap (front_line 400) all ∙ sym (front_cut 400 octets)
 
-line_ended : (old mid now : Option (List ℕ)) (room : ℕ) (taken : List ℕ) → Consumes old mid taken → LineGoesOn old mid room taken → Keeps mid now → IsAtEnd now
-    → IfSome old (λ octets. taken ≡ front_line 400 octets)
-line_ended None mid now room taken first goes keeps end = tt
-line_ended (Some octets) None now room taken first goes keeps end = absurd first
-line_ended (Some octets) (Some left) None room taken first goes keeps end = absurd keeps
-line_ended (Some octets) (Some left) (Some rest) room taken first goes keeps end =
-    sym (goes ∙ ap (λ l. taken ++ front_line room l) (sym keeps ∙ end) ∙ ap (λ l. taken ++ l) (front_none room) ∙ append-nil taken)
+-- where enough octets are there, the front line is among them
+front_enough : (room : ℕ) (octets more : List ℕ) → room ≤ length octets → front_line room (octets ++ more) ≡ front_line room octets
+front_enough zero octets more enough = refl
+front_enough (suc room) [] more enough = absurd (omega arith)
+front_enough (suc room) (octet ∷ octets) more enough = ap (λ l. cond (is_feed octet) (octet ∷ []) (octet ∷ l)) (front_enough room octets more (omega arith))
 
-pub line_full : (old now : Option (List ℕ)) (taken : List ℕ) → Consumes old now taken → LineGoesOn old now 0 taken → IfSome old (λ octets. taken ≡ front_line 400 octets)
-line_full None now taken first goes = tt
-line_full (Some octets) None taken first goes = absurd first
-line_full (Some octets) (Some left) taken first goes = sym (goes ∙ append-nil taken)
+-- the front line of octets of which some were read ahead, and all or enough
+pub front_ahead : (ahead line : List ℕ) (left : Option (List ℕ)) → line ≡ front_line 400 ahead → (400 ≤ length ahead) ⊎ IsAtEnd left → IfSome (prepend_known ahead left) (λ octets. line ≡ front_line 400 octets)
+front_ahead ahead line None is enough = tt
+front_ahead ahead line (Some left) is (inl enough) = is ∙ sym (front_enough 400 ahead left enough)
+front_ahead ahead line (Some left) is (inr end) = is ∙ ap (front_line 400) (sym (append-nil ahead) ∙ ap (λ l. ahead ++ l) (sym end))
 
--- the room left as a number behind one more octet
-room_suc : (len : ℕ) → len < 400 → 400 - len ≡ suc (400 - (len + 1))
-room_suc len within = omega arith
+enough_ahead : (start filled ahead : ℕ) (left : Option (List ℕ)) → filled - start ≤ ahead → (start + 400 ≤ filled) ⊎ IsAtEnd left → (400 ≤ ahead) ⊎ IsAtEnd left
+enough_ahead start filled ahead left long (inl many) = inl (omega arith)
+enough_ahead start filled ahead left long (inr end) = inr end
 
-pub goes_more : (old mid now : Option (List ℕ)) (len octet : ℕ) (line set : List ℕ) → len < 400 → (octet == 10) ≡ false → Consumes old mid (take len line) → LineGoesOn old mid (400 - len) (take len line)
-    → Consumes mid now (octet ∷ []) → take (len + 1) set ≡ take len line ++ octet ∷ [] → LineGoesOn old now (400 - (len + 1)) (take (len + 1) set)
-goes_more old mid now len octet line set within other first goes taken is =
-    let R : ℕ → Type 0 = λ r. LineGoesOn old mid r (take len line) in
-    let P : List ℕ → Type 0 = λ t. LineGoesOn old now (400 - (len + 1)) t in
-    subst P (sym is) (line_more old mid now (400 - (len + 1)) (take len line) octet other first (subst R (room_suc len within) goes) taken)
+-- the first octets of a range, and those behind them
+range_parts : (xs : List ℕ) (start end count : ℕ) → start + count ≤ end → slice_range xs start end ≡ take count (drop start xs) ++ slice_range xs (start + count) end
+range_parts xs start end count fits =
+    let e : end - start ≡ count + (end - (start + count)) = omega arith in
+    ap (λ k. take k (drop start xs)) e
+    ∙ take-add count (end - (start + count)) (drop start xs)
+    ∙ ap (λ l. take count (drop start xs) ++ take (end - (start + count)) l) (drop-drop count start xs)
 
-pub goes_over : (old mid now : Option (List ℕ)) (len octet : ℕ) (line set : List ℕ) → len < 400 → octet ≡ 10 → Consumes old mid (take len line) → LineGoesOn old mid (400 - len) (take len line)
-    → Consumes mid now (octet ∷ []) → take (len + 1) set ≡ take len line ++ octet ∷ [] → IfSome old (λ octets. take (len + 1) set ≡ front_line 400 octets)
-goes_over old mid now len octet line set within feed first goes taken is =
-    let R : ℕ → Type 0 = λ r. LineGoesOn old mid r (take len line) in
-    let P : List ℕ → Type 0 = λ t. IfSome old (λ octets. t ≡ front_line 400 octets) in
-    subst P (sym is) (line_over old mid now (400 - (len + 1)) (take len line) octet feed first (subst R (room_suc len within) goes) taken)
+-- a line is taken of the octets that were read ahead
+pub taken_ahead : (buffer : List ℕ) (start filled count : ℕ) (left : Option (List ℕ)) → start + count ≤ filled
+    → Consumes (prepend_known (slice_range buffer start filled) left) (prepend_known (slice_range buffer (start + count) filled) left) (slice_range buffer start (start + count))
+taken_ahead buffer start filled count None fits = tt
+taken_ahead buffer start filled count (Some left) fits =
+    let few : count ≡ start + count - start = omega arith in
+    ap (λ l. l ++ left) (range_parts buffer start filled count fits ∙ ap (λ n. take n (drop start buffer) ++ slice_range buffer (start + count) filled) few)
+    ∙ append_assoc (slice_range buffer start (start + count)) (slice_range buffer (start + count) filled) left
 
-pub goes_ended : (old mid now : Option (List ℕ)) (room : ℕ) (taken : List ℕ) → Consumes old mid taken → LineGoesOn old mid room taken → Keeps mid now × IsAtEnd now
-    → IfSome old (λ octets. taken ≡ front_line 400 octets)
-goes_ended old mid now room taken first goes end = line_ended old mid now room taken first goes end.0 end.1
+-- octets that were kept, and then taken
+pub kept_taken : (a b c : Option (List ℕ)) (line : List ℕ) → Keeps a b → Consumes b c line → Consumes a c line
+kept_taken None b c line kept taken = tt
+kept_taken (Some x) None c line kept taken = absurd kept
+kept_taken (Some x) (Some y) None line kept taken = absurd taken
+kept_taken (Some x) (Some y) (Some z) line kept taken = sym kept ∙ taken
 
--- no octet is left where none was taken
-pub none_left : (more : Option ℕ) (old now : Option (List ℕ)) → is_some more ≡ false → MatchOption more (Keeps old now × IsAtEnd now) (λ octet. Consumes old now (octet ∷ [])) → IsAtEnd old
-none_left None None now none taken = tt
-none_left None (Some octets) None none taken = absurd taken.0
-none_left None (Some octets) (Some left) none taken = sym taken.0 ∙ taken.1
-none_left (Some octet) old now none taken = cc
+pub kept_front : (a b : Option (List ℕ)) (line : List ℕ) → Keeps a b → IfSome b (λ octets. line ≡ front_line 400 octets) → IfSome a (λ octets. line ≡ front_line 400 octets)
+kept_front None b line kept is = tt
+kept_front (Some x) None line kept is = absurd kept
+kept_front (Some x) (Some y) line kept is = is ∙ ap (front_line 400) kept
+
+-- whether octets are left
+some_left : (a b : Option (List ℕ)) → Keeps a b → IfSome b IsSomeOctet → IfSome a IsSomeOctet
+some_left None b kept some = tt
+some_left (Some x) None kept some = absurd kept
+some_left (Some x) (Some y) kept some = record { octet = some.octet; rest = some.rest; is = sym kept ∙ some.is }
+
+none_left : (a b : Option (List ℕ)) → Keeps a b → IsAtEnd b → IsAtEnd a
+none_left None b kept none = tt
+none_left (Some x) None kept none = absurd kept
+none_left (Some x) (Some y) kept none = sym kept ∙ none
+
+some_ahead : (ahead : List ℕ) (left : Option (List ℕ)) → 0 < length ahead → IfSome (prepend_known ahead left) IsSomeOctet
+some_ahead ahead None some = tt
+some_ahead [] (Some left) some = absurd (omega arith)
+some_ahead (octet ∷ ahead) (Some left) some = record { octet = octet; rest = ahead ++ left; is = refl }
+
+none_ahead : (ahead : List ℕ) (left : Option (List ℕ)) → ahead ≡ [] → IsAtEnd left → IsAtEnd (prepend_known ahead left)
+none_ahead ahead None none end = tt
+none_ahead ahead (Some left) none end = (λ i. none i ++ end i)
+
+pub goes_by : (ahead : List ℕ) (start filled : ℕ) (before left : Option (List ℕ)) → length ahead ≡ filled - start → Keeps before (prepend_known ahead left)
+    → (start + 400 ≤ filled) ⊎ IsAtEnd left → GoesOn (not (nat_eq (length ahead) 0)) before
+goes_by [] start filled before left long kept (inl many) = absurd (omega arith)
+goes_by [] start filled before left long kept (inr end) = none_left before _ kept (none_ahead [] left refl end)
+goes_by (octet ∷ ahead) start filled before left long kept enough =
+    let B : Bool → Type 0 = λ b. GoesOn (not b) before in
+    let some : nat_eq (length (octet ∷ ahead)) 0 ≡ false = grind (arith, nat_tests) in
+    subst B (sym some) (some_left before _ kept (some_ahead (octet ∷ ahead) left (omega arith)))
+
+-- where a first place was found, and where none was
+pub some_place : (place len found : ℕ) → cond (ltb place len) (Some place) None ≡ Some found → (found ≡ place) × (place < len)
+some_place place len found is = by (ltb place len) refl is where
+  by : (b : Bool) → ltb place len ≡ b → cond b (Some place) None ≡ Some found → (found ≡ place) × (place < len)
+  by true less is = (let same : found ≡ place = cc in same, ltb-true place len less)
+  by false less is = absurd cc
+
+pub no_place : (place len : ℕ) → cond (ltb place len) (Some place) None ≡ None → len ≤ place
+no_place place len is = by (ltb place len) refl is where
+  by : (b : Bool) → ltb place len ≡ b → cond b (Some place) None ≡ None → len ≤ place
+  by true less is = absurd cc
+  by false less is = ltb-false place len less
+
+-- octets that were read behind those that were read ahead, which moved to the front
+front_grows : (old got post : List ℕ) (count more : ℕ) → count ≤ length old → more ≤ length got → take (count + more) (take count old ++ (got ++ post)) ≡ take count old ++ take more got
+front_grows old got post count more a b =
+    let e : length (take count old) ≡ count = length-take-le count old a in
+    ap (λ k. take (k + more) (take count old ++ (got ++ post))) (sym e) ∙ take-append-add (take count old) (got ++ post) more ∙ ap (λ l. take count old ++ l) (take-append-le more got post b)
+
+pub refilled : (before after : Option (List ℕ)) (ahead old got post : List ℕ) (count more : ℕ) → ahead ≡ take count old → count ≤ length old → more ≤ length got → Consumes before after (take more got)
+    → Keeps (prepend_known ahead before) (prepend_known (slice_range (take count old ++ (got ++ post)) 0 (count + more)) after)
+refilled None after ahead old got post count more same a b taken = tt
+refilled (Some x) None ahead old got post count more same a b taken = absurd taken
+refilled (Some x) (Some y) ahead old got post count more same a b taken =
+    let none : count + more - 0 ≡ count + more = omega arith in
+    ap (λ n. take n (take count old ++ (got ++ post)) ++ y) none
+    ∙ ap (λ l. l ++ y) (front_grows old got post count more a b)
+    ∙ append_assoc (take count old) (take more got) y
+    ∙ ap (λ l. take count old ++ l) (sym taken)
+    ∙ ap (λ l. l ++ x) (sym same)
+
+-- what moved to the front
+pub moved_front : (buffer moved : List ℕ) (start filled : ℕ) → start ≤ filled → filled ≤ length buffer → moved ≡ copy_within buffer start filled 0 → slice_range buffer start filled ≡ take (filled - start) moved
+moved_front buffer moved start filled ordered within is =
+    let long : length (take (filled - start) (drop start buffer)) ≡ filled - start = length-take-le (filled - start) (drop start buffer) (omega (arith, length-drop start buffer)) in
+    sym (ap (take (filled - start)) is ∙ take_at (take (filled - start) (drop start buffer)) _ (filled - start) long)
+
+-- the front line was taken of the octets that were read ahead
+pub line_taken : (buffer : List ℕ) (start filled count : ℕ) (before left : Option (List ℕ)) → start ≤ filled → length (slice_range buffer start filled) ≡ filled - start → Keeps before (prepend_known (slice_range buffer start filled) left)
+    → (start + 400 ≤ filled) ⊎ IsAtEnd left → take count (slice_range buffer start filled) ≡ front_line 400 (slice_range buffer start filled) → count ≤ length (slice_range buffer start filled)
+    → TookLine before (prepend_known (slice_range buffer (start + count) filled) left) (slice_range buffer start (start + count))
+line_taken buffer start filled count before left ordered long kept enough is fits =
+    let ahead = slice_range buffer start filled in
+    let few : start + count - start ≡ count = omega arith in
+    let line : slice_range buffer start (start + count) ≡ take count ahead = ap (λ n. take n (drop start buffer)) few ∙ sym (take-take count (filled - start) (drop start buffer) (omega (arith, long, fits))) in
+    record {
+      taken = kept_taken before _ _ _ kept (taken_ahead buffer start filled count left (omega (arith, long, fits)));
+      is = kept_front before _ _ kept (front_ahead ahead _ left (line ∙ is) (enough_ahead start filled (length ahead) left (omega (arith, long)) enough));
+    }

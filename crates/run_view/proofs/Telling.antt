@@ -1,5 +1,5 @@
 -- What is told at a stop.
-use Rattle.std.proofs.Common.{◌≡◌, ◌⊎◌, ℕ, List, [], Option, Some, refl, sym, subst, ◌∙◌, inl, inr, take}
+use Rattle.std.proofs.Common.{◌≡◌, ◌⊎◌, ℕ, List, [], ◌++◌, Option, Some, refl, sym, subst, ◌∙◌, inl, inr, take}
 use Rattle.std.specs.Io.KnownBytes.{Appends}
 use Rattle.edge_io.specs.Faults.{Rose}
 use Rattle.capture_input.specs.declared.fault.InputFault.{InputFault}
@@ -7,10 +7,11 @@ use Rattle.capture_input.specs.declared.fault.InputFault.TheVariants as faults
 use Rattle.run_view.specs.declared.form.Form.{Form}
 use Rattle.run_view.specs.declared.stop.Stop.{Stop}
 use Rattle.run_view.specs.declared.stop.Stop.TheVariants as stops
-use Rattle.run_view.specs.Printed.{AppendsSome, PrintsFront}
+use Rattle.run_view.specs.Printed.{AppendsSome}
 use Rattle.run_view.specs.Causes.{FaultCounts, FilesStop, PrintedBefore, Sources, StopWhy, counts_of}
 use Rattle.run_view.specs.Items.{Item}
-use Rattle.run_view.specs.View.{closing_text, items_text, view_text_of}
+use Rattle.run_view.specs.View.{closing_text, items_text}
+use Rattle.run_view.proofs.Whys.{items_alone}
 use Rattle.run_view.specs.Words.{asked_in}
 use Rattle.run_view.specs.declared.words.Asked.{Asked}
 use Rattle.pcap_file.specs.declared.head.Head.{Head}
@@ -68,7 +69,7 @@ some_text asked form head items old now (stops.Input fault offset) text = record
 some_text asked form head items old now (stops.Output fault offset) text = record { octets = items_text asked head items; given = text }
 some_text asked form head items old now stops.Unread text = record { octets = items_text asked head items; given = text }
 some_text asked form head items old now stops.Unwritten text = record { octets = items_text asked head items; given = text }
-some_text asked form head items old now stops.Memory text = record { octets = text.front; given = text.given }
+some_text asked form head items old now stops.Memory text = record { octets = items_text asked head items ++ text.more; given = text.given }
 some_text asked form head items old now (stops.Report n) text = record { octets = items_text asked head items; given = text }
 
 some_files : (asked : Asked) (s : Sources) (old now : Option (List ℕ)) (first last : FaultCounts) (stop : Stop) → FilesStop asked s old now first last stop → AppendsSome old now
@@ -81,16 +82,16 @@ some_before words before after mid stop (inr (inl refused)) = record { octets = 
 some_before words before after mid stop (inr (inr stopped)) = some_files stopped.asked (sources_at before) before.out.octets mid (faults_of before) (faults_of after) stop stopped.why
 
 -- the same where memory could not be allocated for the line of a stop
-memory_text : (asked : Asked) (form : Form) (head : Head) (items : List Item) (old now : Option (List ℕ)) (stop : Stop) → PrintedBefore asked form head items old now stop → PrintsFront old now (view_text_of asked form head items)
-memory_text asked form head items old now stops.Words text = record { front = items_text asked head items; rest = closing_text asked form head items; given = text; text_is = refl }
-memory_text asked form head items old now (stops.Record n) text = record { front = items_text asked head items; rest = closing_text asked form head items; given = text; text_is = refl }
-memory_text asked form head items old now (stops.Frame n) text = record { front = items_text asked head items; rest = closing_text asked form head items; given = text; text_is = refl }
-memory_text asked form head items old now (stops.Input fault offset) text = record { front = items_text asked head items; rest = closing_text asked form head items; given = text; text_is = refl }
-memory_text asked form head items old now (stops.Output fault offset) text = record { front = items_text asked head items; rest = closing_text asked form head items; given = text; text_is = refl }
-memory_text asked form head items old now stops.Unread text = record { front = items_text asked head items; rest = closing_text asked form head items; given = text; text_is = refl }
-memory_text asked form head items old now stops.Unwritten text = record { front = items_text asked head items; rest = closing_text asked form head items; given = text; text_is = refl }
+memory_text : (asked : Asked) (form : Form) (head : Head) (items : List Item) (old now : Option (List ℕ)) (stop : Stop) → PrintedBefore asked form head items old now stop → PrintedBefore asked form head items old now stops.Memory
+memory_text asked form head items old now stops.Words text = items_alone old now (items_text asked head items) (closing_text asked form head items) text
+memory_text asked form head items old now (stops.Record n) text = items_alone old now (items_text asked head items) (closing_text asked form head items) text
+memory_text asked form head items old now (stops.Frame n) text = items_alone old now (items_text asked head items) (closing_text asked form head items) text
+memory_text asked form head items old now (stops.Input fault offset) text = items_alone old now (items_text asked head items) (closing_text asked form head items) text
+memory_text asked form head items old now (stops.Output fault offset) text = items_alone old now (items_text asked head items) (closing_text asked form head items) text
+memory_text asked form head items old now stops.Unread text = items_alone old now (items_text asked head items) (closing_text asked form head items) text
+memory_text asked form head items old now stops.Unwritten text = items_alone old now (items_text asked head items) (closing_text asked form head items) text
 memory_text asked form head items old now stops.Memory text = text
-memory_text asked form head items old now (stops.Report n) text = record { front = items_text asked head items; rest = closing_text asked form head items; given = text; text_is = refl }
+memory_text asked form head items old now (stops.Report n) text = items_alone old now (items_text asked head items) (closing_text asked form head items) text
 
 memory_files : (asked : Asked) (s : Sources) (old now : Option (List ℕ)) (first last : FaultCounts) (stop : Stop) → FilesStop asked s old now first last stop → FilesStop asked s old now first last stops.Memory
 memory_files asked s old now first last stop (inl before) = inl (record { why = tt; text = before.text })

@@ -1,5 +1,5 @@
 -- Why a view stops, from why its functions do.
-use Rattle.std.proofs.Common.{◌≡◌, ◌⊎◌, ℕ, ◌+◌, ◌≤◌, ◌<◌, Bool, true, false, List, [], ◌∷◌, ◌++◌, length, Option, None, refl, sym, ap, subst, ◌∙◌, inl, inr, arith, append-nil, append_assoc, length-append, if◌then◌else◌}
+use Rattle.std.proofs.Common.{◌≡◌, ◌⊎◌, ℕ, ◌+◌, ◌≤◌, ◌<◌, Bool, true, false, List, [], ◌∷◌, ◌++◌, length, Option, None, refl, sym, ap, subst, ◌∙◌, inl, inr, arith, append-nil, length-append, if◌then◌else◌}
 use Rattle.std.specs.Prelude.{IfSome}
 use Rattle.std.specs.Io.KnownBytes.{Appends, Consumes, IsAtEnd}
 use Rattle.std.proofs.KnownBytes.{Appends-trans}
@@ -17,14 +17,14 @@ use Rattle.run_view.specs.declared.stop.Stop.TheVariants as stops
 use Rattle.run_view.specs.declared.told.Turn.{Turn}
 use Rattle.run_view.specs.declared.viewer.Viewer.{Viewer}
 use Rattle.run_view.specs.declared.words.Asked.{Asked}
-use Rattle.run_view.specs.Causes.{EntriesStop, FailsAtFrame, FaultCounts, GiveItems, HasNextLine, HasRecordOf, IsNoNext, LacksFrame, PrintedBefore, SourceRose, Sources, StopsBehind, TookLast, WhyBehind, frames_by, sources_of}
+use Rattle.run_view.specs.Causes.{EntriesStop, FailsAtFrame, FaultCounts, GiveItems, HasNextLine, HasRecordOf, IsNoNext, LacksFrame, PrintedBefore, PrintsBehind, SourceRose, Sources, StopsBehind, TookLast, WhyBehind, frames_by, sources_of}
 use Rattle.run_view.specs.Forms.{version_of}
 use Rattle.run_view.specs.Items.{Item, firsts, frames_of, is_second, owed_of, packets_of, seconds, waits}
-use Rattle.run_view.specs.Printed.{AppendsSome, Failed, PartStops, PrintStops, PrintsFront}
+use Rattle.run_view.specs.Printed.{AppendsSome, Failed, PartStops, PrintStops}
 use Rattle.run_view.specs.SoFar.{Ends, SoFar, lines_in, turn_in}
 use Rattle.run_view.specs.Standing.{BeginsWithRecords, InputStops, OutputAt}
 use Rattle.run_view.specs.Steps.{FramesStop, ItemStops, OwnFails, OwnMissing, RecordRead, RecordStops}
-use Rattle.run_view.specs.View.{closing_text, items_text, view_text_of}
+use Rattle.run_view.specs.View.{closing_text, items_text}
 use Rattle.run_view.specs.Why.{EndStops, FramesGoOn, LineStops, NextStops, RecordsGoOn, TakeStops, Taking, ToldEnd, Unread}
 use Rattle.run_view.proofs.Ending.{all_taken, end_is, none_waits}
 use Rattle.run_view.proofs.Going.{Going, turn_is}
@@ -55,9 +55,10 @@ and_some a b c text first more = record { octets = text ++ more.octets; given = 
 pub failed_then : (a b c : Option (List ℕ)) (text : List ℕ) (before mid now after : ℕ) → Appends a b text → (Rose mid now → Rose before after) → Failed b c mid now → Failed a c before after
 failed_then a b c text before mid now after first wider failed = record { rose = wider failed.rose; some = and_some a b c text first failed.some }
 
--- the text of the items is a front of what is printed of them in the end
-items_front : (asked : Asked) (form : Form) (head : Head) (items : List Item) (old now : Option (List ℕ)) → Appends old now (items_text asked head items) → PrintsFront old now (view_text_of asked form head items)
-items_front asked form head items old now text = record { front = items_text asked head items; rest = closing_text asked form head items; given = text; text_is = refl }
+-- the text of the items was printed, and no line behind it
+pub items_alone : (old now : Option (List ℕ)) (items closing : List ℕ) → Appends old now items → PrintsBehind old now items closing
+items_alone old now items closing text =
+    let P : List ℕ → Type 0 = λ t. Appends old now t in record { more = []; rest = closing; given = subst P (sym (append-nil items)) text; closing_is = refl; whole = inl refl }
 
 -- whatever stops a view behind the items, their text was printed
 printed_so : (asked : Asked) (form : Form) (head : Head) (items : List Item) (old now : Option (List ℕ)) (stop : Stop) → Appends old now (items_text asked head items) → PrintedBefore asked form head items old now stop
@@ -68,7 +69,7 @@ printed_so asked form head items old now (stops.Input fault offset) text = text
 printed_so asked form head items old now (stops.Output fault offset) text = text
 printed_so asked form head items old now stops.Unread text = text
 printed_so asked form head items old now stops.Unwritten text = text
-printed_so asked form head items old now stops.Memory text = items_front asked form head items old now text
+printed_so asked form head items old now stops.Memory text = items_alone old now (items_text asked head items) (closing_text asked form head items) text
 printed_so asked form head items old now (stops.Report n) text = text
 
 -- what the three sources gave
@@ -224,7 +225,7 @@ printed_stops viewer written before now report left t first last stops.Unwritten
 printed_stops viewer written before now report left t first last stops.Memory wider same going why =
     let P : Option (List ℕ) → Type 0 = λ p. Appends p t.printed_now [] in
     let text = and_none before.printed now.printed t.printed_now (items_text viewer.asked viewer.files.head going.items) going.so_far.text (subst P same why) in
-    inr (record { items = going.items; left = left; give = gives viewer written before now report left going; why = tt; text = items_front viewer.asked viewer.form viewer.files.head going.items before.printed t.printed_now text })
+    inr (record { items = going.items; left = left; give = gives viewer written before now report left going; why = tt; text = items_alone before.printed t.printed_now (items_text viewer.asked viewer.files.head going.items) (closing_text viewer.asked viewer.form viewer.files.head going.items) text })
 printed_stops viewer written before now report left t first last (stops.Report n) wider same going why = absurd why
 
 -- a line was not taken
@@ -315,15 +316,20 @@ close_stops viewer written before now report left printed text first last mid af
     inl (record { stop_is = refl; failed = failed_then before.printed now.printed printed (items_text viewer.asked viewer.files.head going.items) first.out mid after last.out going.so_far.text wider why })
 close_stops viewer written before now report left printed text first last mid after stops.Memory wider going is why =
     let items = items_text viewer.asked viewer.files.head going.items in
-    let whole : items ++ closing_text viewer.asked viewer.form viewer.files.head going.items ≡ (items ++ why.front) ++ why.rest =
-    ap (λ l. items ++ l) (sym is ∙ why.text_is) ∙ sym (append_assoc items why.front why.rest) in
     inr
     (record {
       items = going.items;
       left = left;
       give = gives viewer written before now report left going;
       why = tt;
-      text = record { front = items ++ why.front; rest = why.rest; given = Appends-trans before.printed now.printed printed items why.front going.so_far.text why.given; text_is = whole };
+      text =
+          record {
+            more = why.front;
+            rest = why.rest;
+            given = Appends-trans before.printed now.printed printed items why.front going.so_far.text why.given;
+            closing_is = sym is ∙ why.text_is;
+            whole = why.whole;
+          };
     })
 close_stops viewer written before now report left printed text first last mid after (stops.Report n) wider going is why = absurd why
 

@@ -14,9 +14,9 @@ use Rattle.rule_book.specs.Text.{last_text}
 use Rattle.rule_book.specs.declared.last.Last.TheVariants.{End}
 use Rattle.run_view.specs.Forms.{heading, own_frames, version_of}
 use Rattle.run_view.specs.Items.{AreItems, Item, end_text, firsts, frames_of, lines_of, lines_text, owed_of, packets_of, text_by, turn_of, waits}
-use Rattle.run_view.specs.Printed.{Failed, PrintsFront}
+use Rattle.run_view.specs.Printed.{AreWholeLines, Failed}
 use Rattle.run_view.specs.Standing.{BeginsWithFrames, BeginsWithRecords, HaveHeads, InputFailsBehind, InputHeadFails, OutputBeginsAmiss, OutputFailsBehind}
-use Rattle.run_view.specs.View.{items_text, view_text_of}
+use Rattle.run_view.specs.View.{closing_text, items_text}
 use Rattle.run_view.specs.declared.form.Form.{Form}
 use Rattle.run_view.specs.declared.stop.Stop.{Stop}
 use Rattle.run_view.specs.declared.stop.Stop.TheVariants as stops
@@ -172,9 +172,18 @@ pub record HasLineMore (items : List Item) (left : Option (List ℕ)) (line : �
   pub more : IfSome behind IsSomeOctet
   pub place : line ≡ length items + 3
 
--- what was printed before a stop behind these items: their text; where memory was wanting, a front of the text of a run that has no others
+-- the text of items was printed, and behind it whole lines from the front of what is printed at the end of a run that has no others
+pub record PrintsBehind (old now : Option (List ℕ)) (items closing : List ℕ) : Type 0 where
+  pub more : List ℕ
+  pub rest : List ℕ
+  pub given : Appends old now (items ++ more)
+  pub closing_is : closing ≡ more ++ rest
+  pub whole : AreWholeLines more
+
+-- what was printed before a stop behind these items: their text; if memory could not be allocated, maybe whole lines behind it, the first of those that end
+-- a run with exactly these items
 abbrev pub PrintedBefore : (asked : Asked) (form : Form) (head : Head) (items : List Item) (old now : Option (List ℕ)) → Stop → Type 0
-PrintedBefore asked form head items old now stops.Memory = PrintsFront old now (view_text_of asked form head items)
+PrintedBefore asked form head items old now stops.Memory = PrintsBehind old now (items_text asked head items) (closing_text asked form head items)
 PrintedBefore asked form head items old now _ = Appends old now (items_text asked head items)
 
 -- why a view stops behind these items; `rose` says that a source failed. That memory could not be allocated has no cause in the files.

@@ -26,7 +26,7 @@ abbrev pub last_time : Head → List Item → ℕ
 last_time head [] = 0
 last_time head (item ∷ older) = time_of head item.packet
 
--- how many octets an item brings inwards
+-- how many octets an item brings inwards, by the entry of its own engine
 abbrev pub inward_octets : Head → Item → ℕ
 inward_octets head item = if_inward item.entry.side (octets_in head.link item.frames)
 

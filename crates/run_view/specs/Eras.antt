@@ -1,4 +1,5 @@
--- The table of the eras that a run names, in the order in which they are named first (this project's profile).
+-- The table of the eras that a run names, in the order in which they are named first (this project's profile). Inwards is meant as in the entry
+-- of the engine whose era it is: inwards of the second engine is outwards of the first.
 use Rattle.std.specs.Prelude.{ℕ, ◌+◌, ◌-◌, ◌^◌, ◌==◌, Bool, List, [], ◌∷◌, ◌++◌, min, Option, Some, None, if◌then◌else◌}
 use Rattle.std.specs.List.{list_any}
 use Rattle.rule_book.specs.Entries.{PlainEntry}

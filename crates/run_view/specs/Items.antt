@@ -180,7 +180,7 @@ abbrev pub tcp_octets : Option Flow → ℕ
 tcp_octets None = 0
 tcp_octets (Some flow) = if is_some flow.tcp then flow.length else 0
 
--- the same of all frames of a record, up to 2^64 - 1
+-- the same of all frames of a line, up to 2^64 - 1
 abbrev pub octets_in : Link → (frames : List Packet) → ℕ
 octets_in link [] = 0
 octets_in link (frame ∷ older) = plus (octets_in link older) (tcp_octets (flow_at link frame.octets))

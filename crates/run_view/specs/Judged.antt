@@ -32,8 +32,8 @@ abbrev pub kinds_by : PlainEntry → (probe datagram : Bool) → Kinds
 kinds_by entry probe datagram =
     record { packets = entry.packets; probe_last = names CProbe entry; probe = probe || is_drop entry.verdict; datagram = datagram || names FDone entry }
 
--- The same with what the first engine said of the record of a line of the second: each frame was a probe where it dropped the record, its last frame, which has
--- the last line, was one where it names C_PROBE, and each was a datagram where it names F_DONE.
+-- The same with the first engine's entry of the record of a line of the second: if it dropped the record, each frame is a probe; if it names C_PROBE, each frame
+-- of the record's last line is one; if it names F_DONE, each other frame is a datagram.
 abbrev pub kinds_of : PlainEntry → (first : Option PlainEntry) → (owed : ℕ) → Kinds
 kinds_of entry None owed = kinds_by entry false false
 kinds_of entry (Some first) owed = kinds_by entry (is_drop first.verdict || (names CProbe first && (owed == 0))) (names FDone first)

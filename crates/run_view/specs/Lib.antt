@@ -17,6 +17,7 @@ pub mod EraRows
 pub mod Printed
 pub mod SoFar
 pub mod Causes
+pub mod Ahead
 pub mod Why
 pub mod Viewed
 pub mod Laws

@@ -1,7 +1,8 @@
 -- What the code prints, over plain values (this project's profile).
-use Rattle.std.specs.Prelude.{◌≡◌, ℕ, ◌++◌, Bool, List, [], map, Option}
+use Rattle.std.specs.Prelude.{◌≡◌, ◌⊎◌, ℕ, ◌++◌, Bool, List, [], ◌∷◌, map, Option}
 use Rattle.std.specs.Io.KnownBytes.{Appends}
 use Rattle.edge_io.specs.Faults.{Rose}
+use Rattle.wire_base.specs.declared.address.Link.{Link}
 use Rattle.frame_view.specs.Changes as changes
 use Rattle.rule_book.specs.Entries.{plain}
 use Rattle.rule_book.specs.declared.entry.Entry.{Entry}
@@ -12,20 +13,21 @@ use Rattle.run_view.specs.declared.judged.Judged.{Judged}
 use Rattle.run_view.specs.declared.stop.Stop.{Stop}
 use Rattle.run_view.specs.declared.stop.Stop.TheVariants as stops
 use Rattle.run_view.specs.declared.tally.Tally.{Tally}
+use Rattle.run_view.specs.Items.{flow_at, length_at}
 use Rattle.run_view.specs.Rows.{table_of}
 use Rattle.run_view.specs.Summary.{no_eras, with_eras}
 use Rattle.run_view.specs.View.{second_sides}
 
 -- what is printed of a line
-abbrev pub record_shown : (second : Bool) → Judged → Held → Entry → Gathered → PlainRecord
-record_shown second judged held entry gathered =
+abbrev pub record_shown : (second : Bool) → Judged → Link → Held → Entry → Gathered → PlainRecord
+record_shown second judged link held entry gathered =
     record {
       number = judged.number;
       second = second;
       own = entry.number;
       time = held.time;
-      flow = held.flow;
-      length = held.length;
+      flow = flow_at link held.octets.items;
+      length = length_at link held.octets.items;
       entry = plain entry;
       frames = entry.packets;
       changes = map changes.plain gathered.changes.items;
@@ -59,12 +61,22 @@ PrintStops old new before now stops.Unwritten = Failed old new before now
 PrintStops old new before now stops.Memory = Appends old new []
 PrintStops old new before now _ = ⊥
 
--- a front of this text was printed
+-- octets that end with a line feed (10)
+pub record EndsInFeed (octets : List ℕ) : Type 0 where
+  pub body : List ℕ
+  pub is : octets ≡ body ++ 10 ∷ []
+
+-- whole lines, or none
+abbrev pub AreWholeLines : List ℕ → Type 0
+AreWholeLines octets = (octets ≡ []) ⊎ EndsInFeed octets
+
+-- whole lines from the front of this text, or none, were printed
 pub record PrintsFront (old now : Option (List ℕ)) (text : List ℕ) : Type 0 where
   pub front : List ℕ
   pub rest : List ℕ
   pub given : Appends old now front
   pub text_is : text ≡ front ++ rest
+  pub whole : AreWholeLines front
 
 -- why a text was not printed whole
 abbrev pub PartStops : (old new : Option (List ℕ)) (before now : ℕ) (text : List ℕ) → Stop → Type 0

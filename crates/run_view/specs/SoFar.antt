@@ -1,7 +1,7 @@
 -- How far a view has come (this project's profile). Items are a list with the newest at the head. `read`, `written` and `printed` are what the input and the
 -- output had left and what was printed at first, and the same with `_now` what they have at the moment, where they tell it.
 use Rattle.std.specs.Prelude.{◌≡◌, ℕ, ◌≤◌, ◌<◌, ◌^◌, ◌*◌, ◌+◌, Bool, List, [], ◌∷◌, ◌++◌, length, Option, None, IfSome, if◌then◌else◌}
-use Rattle.std.specs.Io.KnownBytes.{Appends, Consumes}
+use Rattle.std.specs.Io.KnownBytes.{Appends}
 use Rattle.pcap_file.specs.declared.head.Head.{Head}
 use Rattle.pcap_file.specs.Records.{Packet}
 use Rattle.pcap_file.specs.Capture.{IsCapture}
@@ -15,6 +15,7 @@ use Rattle.run_view.specs.Printed.{summary_shown}
 use Rattle.run_view.specs.Steps.{IsHeld, IsReady}
 use Rattle.run_view.specs.View.{eras_text, first_eras, has_choice, items_text, rules_of, second_eras, sides_of, summary_line, view_text_of}
 use Rattle.run_view.specs.declared.form.Form.{Form}
+use Rattle.run_view.specs.declared.line.Lines.{Lines}
 use Rattle.run_view.specs.declared.told.Turn.{Turn}
 use Rattle.run_view.specs.declared.words.Asked.{Asked}
 use Rattle.capture_input.specs.declared.input.Input.{Input}
@@ -70,14 +71,14 @@ turn_in viewer = turn_at viewer.owed viewer.files.count viewer.second_count view
 abbrev pub lines_in : Viewer → ℕ
 lines_in viewer = viewer.files.count + viewer.second_count
 
--- one more may be
+-- one more line may be taken
 pub record MayTake (viewer : Viewer) : Type 0 where
   pub ready : IsReady viewer.files
   pub few : viewer.files.count < 2 ^ 32
   pub few_seconds : viewer.second_count < 2 ^ 32
   pub few_frames : viewer.files.frames.count ≤ 255 * lines_in viewer
 
--- one more of this engine was
+-- one more line of this engine was taken
 pub record WentOnBy (second : Bool) (old new : Viewer) : Type 0 where
   pub ready : IsReady new.files
   pub count : new.files.count ≡ old.files.count + (if second then 0 else 1)
@@ -85,13 +86,14 @@ pub record WentOnBy (second : Bool) (old new : Viewer) : Type 0 where
   pub few_frames : new.files.frames.count ≤ 255 * lines_in new
   pub asked : new.asked ≡ old.asked
   pub form : new.form ≡ old.form
+  pub lines : new.lines ≡ old.lines
   pub head : new.files.head ≡ old.files.head
 
--- one more of the engine whose line stands next was
+-- one more line of the engine whose turn it is was taken
 abbrev pub WentOn : (old new : Viewer) → Type 0
 WentOn old new = WentOnBy (waits old.owed) old new
 
--- one more was, with this line
+-- one more line was taken, this one
 pub record Taken (viewer : Viewer) (head : Head) (before now : Ends) (items : List Item) (line : Line) : Type 0 where
   pub item : Item
   pub line_is : line_of item ≡ line
@@ -103,9 +105,10 @@ pub record AreWhole (head written_head : Head) (read written : Option (List ℕ)
   pub frames_are : IfSome written (λ octets. IsCapture octets written_head frames)
 
 -- a view before the first record
-pub record IsFresh (viewer : Viewer) (asked : Asked) (form : Form) (input : Input) (reader : Reading) : Type 0 where
+pub record IsFresh (viewer : Viewer) (asked : Asked) (form : Form) (lines : Lines) (input : Input) (reader : Reading) : Type 0 where
   pub asked_is : viewer.asked ≡ asked
   pub form_is : viewer.form ≡ form
+  pub lines_are : viewer.lines ≡ lines
   pub input_is : viewer.files.input ≡ input
   pub head_is : viewer.files.head ≡ head_in input
   pub reader_is : viewer.files.frames.reader ≡ reader

@@ -1,5 +1,5 @@
 -- What reading a record and its frames gives (this project's profile). Records and frames are lists with the newest at the head.
-use Rattle.std.specs.Prelude.{◌≡◌, ◌⊎◌, ◌^◌, ℕ, ◌+◌, ◌<◌, true, List, ◌∷◌, ◌++◌, length, map, Option, None, IfSome}
+use Rattle.std.specs.Prelude.{◌≡◌, ◌⊎◌, ◌^◌, ℕ, ◌+◌, ◌<◌, ◌||◌, Bool, true, List, ◌∷◌, ◌++◌, length, map, Option, None, is_some, IfSome}
 use Rattle.wire_base.specs.declared.address.Link.{Link}
 use Rattle.pcap_file.specs.declared.head.Head.{Head}
 use Rattle.pcap_file.specs.Records.{Packet}
@@ -8,8 +8,9 @@ use Rattle.capture_input.specs.Inputs.{TookAll}
 use Rattle.capture_input.specs.Reading.{is_open_in}
 use Rattle.capture_input.specs.declared.fault.InputFault.{InputFault}
 use Rattle.edge_io.specs.Faults.{Rose}
+use Rattle.rule_book.specs.Entries.{PlainEntry}
 use Rattle.frame_view.specs.Changes.{plain}
-use Rattle.run_view.specs.Items.{begun_by, changes_in, flow_at, length_at, octets_in, time_of}
+use Rattle.run_view.specs.Items.{begun_by, changes_in, octets_in, time_of}
 use Rattle.run_view.specs.Standing.{BeginsWithRecords, InputAt, InputFailsBehind, InputStops, IsBehind, OutputAt, OutputFailsBehind, OutputStops}
 use Rattle.run_view.specs.declared.item.Files.{Files}
 use Rattle.run_view.specs.declared.item.Frames.{Frames}
@@ -63,12 +64,14 @@ pub record StayedAt (old new : Files) : Type 0 where
 abbrev pub noted_from : Held → Gathered → Noted
 noted_from held gathered = record { time = held.time; flow = gathered.flow; octets = gathered.octets }
 
+-- the line is of an era: of this one of the first engine, or of one that it belongs to or begins
+abbrev pub is_of_era : (first : Option ℕ) → PlainEntry → Bool
+is_of_era first entry = is_some first || is_some entry.era || is_some entry.begun
+
 -- this is held of a record
 pub record IsHeld (head : Head) (packet : Packet) (held : Held) : Type 0 where
   pub octets : held.octets.items ≡ packet.octets
   pub time : held.time ≡ time_of head packet
-  pub flow : held.flow ≡ flow_at head.link packet.octets
-  pub length_is : held.length ≡ length_at head.link packet.octets
 
 -- one more record was read
 pub record RecordRead (files : Files) (all left : Option (List ℕ)) (head : Head) (records : List Packet) : Type 0 where
@@ -76,11 +79,11 @@ pub record RecordRead (files : Files) (all left : Option (List ℕ)) (head : Hea
   pub input : InputAt files.input head all left (packet ∷ records)
   pub holds : IsHeld head packet files.held
 
--- this is gathered of these frames of a record
+-- this is gathered of these frames of a record; packet and octets only if they are wanted
 pub record IsGathered (link : Link) (kinds : Kinds) (octets : List ℕ) (own : List Packet) (gathered : Gathered) : Type 0 where
   pub changes : map plain gathered.changes.items ≡ changes_in link kinds octets own
-  pub flow : gathered.flow ≡ begun_by link octets own
-  pub octets_are : gathered.octets ≡ octets_in link own
+  pub flow : gathered.wanted ≡ true → gathered.flow ≡ begun_by link octets own
+  pub octets_are : gathered.wanted ≡ true → gathered.octets ≡ octets_in link own
 
 -- one more frame of a record was read
 pub record FrameAdded (frames : Frames) (all left : Option (List ℕ)) (head : Head) (own older : List Packet) (link : Link) (kinds : Kinds) (octets : List ℕ) (gathered : Gathered) : Type 0 where

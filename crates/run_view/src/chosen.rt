@@ -18,9 +18,10 @@ pub(crate) fn has_choice(asked: Asked) -> bool
 pub(crate) fn is_printed(asked: Asked, entry: &Entry) -> bool
     ensures { result ≡ spec.is_printed asked (plain entry.now) }
 {
-    let lists = has_choice(asked) || asked.json;
-    let chosen = is_chosen(asked, entry);
-    lists && chosen
+    if !asked.json && !has_choice(asked) {
+        return false;
+    }
+    is_chosen(asked, entry)
 }
 
 // Returns whether an entry meets each condition that is given.

@@ -6,6 +6,7 @@ ghost use Rattle.capture_input.specs.Inputs.{TookAll};
 ghost use Rattle.pcap_file.specs.Capture.{IsCapture};
 ghost use Rattle.pcap_file.specs.Records.{Packet};
 ghost use Rattle.pcap_file.specs.declared.head.Head.{Head};
+ghost use Rattle.run_view.specs.Ahead.{left_in};
 ghost use Rattle.run_view.specs.Causes.{counts_of};
 ghost use Rattle.run_view.specs.SoFar.{AreWhole};
 ghost use Rattle.run_view.specs.Standing.{InputAt, OutputAt};
@@ -14,27 +15,28 @@ ghost use Rattle.run_view.specs.Why.{EndStops, FramesGoOn, RecordsGoOn};
 
 use crate::Stop;
 use crate::item::{Files, Frames};
-use crate::line::next_octet;
+use crate::line::Lines;
 use crate::sources::{next_frame, next_record};
 use edge_io::Source;
 
-/// Checks that nothing is left of the three files, of which so many lines of the report were read.
+/// Checks that nothing is left of the three files; `count` entries of the report were read.
 pub(crate) fn check_ends<I: Source, O: Source, R: Source>(
     files: &mut Files,
-    lines: u64,
+    lines: &mut Lines,
+    count: u64,
     input: &mut I,
     output: &mut O,
     report: &mut R,
 ) -> Result<(), Stop>
-    requires few_lines { lines < 2 ^ 33 }
+    requires few_lines { count < 2 ^ 33 }
     requires room { HasRoom files.old }
-    ensures report { OnOk result (IsAtEnd (R.left report.old)) }
+    ensures report { OnOk result (IsAtEnd (left_in lines.old (R.left report.old))) }
     ensures ends { OnOk result ((read written : Option (List ℕ)) (head : Head) (records frames : List Packet) →
         InputAt files.old.input files.old.head read (I.left input.old) records → OutputAt files.old.frames.reader head written (O.left output.old) frames →
         AreWhole files.old.head head read written records frames) }
     ensures stops { IfErr result (λ stop. (read written : Option (List ℕ)) (head : Head) (records frames : List Packet) (k : ℕ) →
         InputAt files.old.input files.old.head read (I.left input.old) records → OutputAt files.old.frames.reader head written (O.left output.old) frames →
-        EndStops files.old lines read written (R.left report.old) head records frames
+        EndStops files.old count read written (left_in lines.old (R.left report.old)) head records frames
         (counts_of (I.fault_count input.old) (O.fault_count output.old) (R.fault_count report.old) k)
         (counts_of (I.fault_count input.new) (O.fault_count output.new) (R.fault_count report.new) k) stop) }
     ensures same { OnOk result (StayedAt files.old files.new) }
@@ -45,11 +47,11 @@ pub(crate) fn check_ends<I: Source, O: Source, R: Source>(
     ensures report_later { R.fault_count report.old ≤ R.fault_count report.new }
     ensures report_kept { OnOk result (R.fault_count report.new ≡ R.fault_count report.old) }
 {
-    let Ok(more) = next_octet(report) else {
+    let Ok(more) = lines.goes_on(report) else {
         return Err(Stop::Unread);
     };
-    if more.is_some() {
-        return Err(Stop::Report(lines + 3));
+    if more {
+        return Err(Stop::Report(count + 3));
     }
     end_records(files, input)?;
     end_frames(&mut files.frames, output)

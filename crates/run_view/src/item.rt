@@ -1,25 +1,27 @@
 //! A record of the input with the frames of the output that were written for it.
-ghost use Rattle.std.specs.Prelude.{◌≡◌, ◌+◌, ◌≤◌, ◌<◌, ◌^◌, ◌++◌, ◌∷◌, ℕ, List, length, IfErr, IfOk, OnOk, if◌then◌else◌};
+ghost use Rattle.std.specs.Prelude.{◌≡◌, ◌+◌, ◌≤◌, ◌<◌, ◌^◌, ◌++◌, ◌∷◌, ℕ, List, length, true, IfErr, IfOk, OnOk, if◌then◌else◌};
 ghost use Rattle.std.specs.declared.option.Option.{Option};
 ghost use Rattle.pcap_file.specs.Reads.{shown};
 ghost use Rattle.pcap_file.specs.Records.{Packet};
 ghost use Rattle.pcap_file.specs.declared.head.Head.{Head};
+ghost use Rattle.run_view.specs.Eras.{plus};
 ghost use Rattle.run_view.specs.Items as spec;
 ghost use Rattle.run_view.specs.Standing.{InputAt, OutputAt};
 ghost use Rattle.run_view.specs.Steps.{FrameAdded, FrameStops, FramesOn, FramesRead, FramesStop, IsGathered, IsHeld, IsReady, MayRead, RecordOn, RecordRead, RecordStops};
 
 use crate::Stop;
 use crate::judged::Kinds;
-use crate::seen::{Original, add_changes_at, flow_at, length_at};
+use crate::seen::{Original, add_changes_at, flow_at};
 use crate::sources::{next_frame, next_record};
 use capture_input::Input;
 use edge_io::{NoMemory, Source};
 use frame_view::{Change, Flow};
 use pcap_file::{Head, Reader, Record};
 use std::alloc::Global;
+use wire_base::{Link, MAX_CAPTURED};
 
 /// The room for the octets of a record, the most that a capture may have.
-pub(crate) const ROOM: usize = 262_144;
+pub(crate) const ROOM: usize = MAX_CAPTURED as usize;
 
 /// The frames of the output.
 #[derive(Drop)]
@@ -37,8 +39,6 @@ pub(crate) struct Held {
     pub(crate) octets: Vec<u8>,
     /// Nanoseconds since 1970.
     pub(crate) time: u64,
-    pub(crate) flow: Option<Flow>,
-    pub(crate) length: u64,
 }
 
 /// The records of the input and the frames of the output.
@@ -60,6 +60,8 @@ pub(crate) struct Files {
 pub(crate) struct Gathered {
     /// What differs between the record and its frames.
     pub(crate) changes: Vec<Change>,
+    /// The line is of an era. Only then the next two are right.
+    pub(crate) wanted: bool,
     /// The packet of the first frame, or of the record if there is no frame.
     pub(crate) flow: Option<Flow>,
     /// How many octets the frames have behind TCP headers.
@@ -94,8 +96,6 @@ fn hold(head: Head, given: Record<'_>, held: &mut Held) -> Result<(), NoMemory>
     held.octets.clear();
     held.octets.extend_from_slice(given.bytes)?;
     held.time = time_of(head, given.seconds, given.fraction);
-    held.flow = flow_at(head.link, given.bytes);
-    held.length = length_at(head.link, given.bytes);
     Ok(())
 }
 
@@ -105,6 +105,7 @@ pub(crate) fn read_frames<O: Source>(
     files: &mut Files,
     packets: u8,
     kinds: Kinds,
+    wanted: bool,
     output: &mut O,
 ) -> Result<Gathered, Stop>
     requires ready { MayRead files.old.frames }
@@ -112,6 +113,7 @@ pub(crate) fn read_frames<O: Source>(
     ensures read { IfOk result (λ gathered. (written : Option (List ℕ)) (head : Head) (frames : List Packet) →
         OutputAt files.old.frames.reader head written (O.left output.old) frames →
         FramesRead files.new.frames written (O.left output.new) head frames files.old.head.link kinds files.old.held.octets.items packets gathered) }
+    ensures wanted { IfOk result (λ gathered. gathered.wanted ≡ wanted) }
     ensures went { OnOk result (FramesOn files.old files.new packets) }
     ensures stops { IfErr result (λ stop. (written : Option (List ℕ)) (head : Head) (frames : List Packet) →
         OutputAt files.old.frames.reader head written (O.left output.old) frames →
@@ -124,7 +126,7 @@ pub(crate) fn read_frames<O: Source>(
         kinds,
         octets: files.held.octets.as_slice(),
     };
-    gather(alloc, original, packets, &mut files.frames, output)
+    gather(alloc, original, packets, wanted, &mut files.frames, output)
 }
 
 // Returns a time in nanoseconds since 1970.
@@ -140,6 +142,7 @@ fn gather<O: Source>(
     alloc: Global,
     original: Original<'_>,
     packets: u8,
+    wanted: bool,
     frames: &mut Frames,
     output: &mut O,
 ) -> Result<Gathered, Stop>
@@ -148,6 +151,7 @@ fn gather<O: Source>(
     ensures read { IfOk result (λ gathered. (all : Option (List ℕ)) (head : Head) (older : List Packet) →
         OutputAt frames.old.reader head all (O.left output.old) older →
         FramesRead frames.new all (O.left output.new) head older original.entry.link original.entry.kinds original.entry.octets.now packets gathered) }
+    ensures wanted { IfOk result (λ gathered. gathered.wanted ≡ wanted) }
     ensures ready { OnOk result (MayRead frames.new) }
     ensures count { OnOk result (frames.new.count ≡ frames.old.count + packets) }
     ensures stops { IfErr result (λ stop. (all : Option (List ℕ)) (head : Head) (older : List Packet) →
@@ -158,13 +162,25 @@ fn gather<O: Source>(
 {
     let mut gathered = Gathered {
         changes: Vec::new(alloc),
-        flow: flow_at(original.link, original.octets),
+        wanted,
+        flow: wanted_flow(wanted, original),
         octets: 0,
     };
     for number in 0..packets {
         add_frame(alloc, original, number, &mut gathered, frames, output)?;
     }
     Ok(gathered)
+}
+
+// Returns what the headers of a record say, if that is wanted.
+fn wanted_flow(wanted: bool, original: Original<'_>) -> Option<Flow>
+    ensures { wanted ≡ true → result ≡ spec.flow_at original.entry.link original.entry.octets.now }
+{
+    if wanted {
+        flow_at(original.link, original.octets)
+    } else {
+        None
+    }
 }
 
 // Reads the next frame of a record, behind so many others.
@@ -181,6 +197,7 @@ fn add_frame<O: Source>(
     ensures added { OnOk result ((all : Option (List ℕ)) (head : Head) (own older : List Packet) → length own ≡ number →
         OutputAt frames.old.reader head all (O.left output.old) (own ++ older) → IsGathered original.entry.link original.entry.kinds original.entry.octets.now own gathered.old →
         FrameAdded frames.new all (O.left output.new) head own older original.entry.link original.entry.kinds original.entry.octets.now gathered.new) }
+    ensures wanted { OnOk result (gathered.new.wanted ≡ gathered.old.wanted) }
     ensures ready { OnOk result (MayRead frames.new) }
     ensures count { OnOk result (frames.new.count ≡ frames.old.count + 1) }
     ensures stops { IfErr result (λ stop. (all : Option (List ℕ)) (head : Head) (behind : List Packet) →
@@ -205,16 +222,30 @@ fn note_frame(
     frame: &[u8],
     gathered: &mut Gathered,
 ) -> Result<(), NoMemory>
-    ensures { OnOk result ((own : List Packet) (packet : Packet) → length own ≡ number → packet.octets ≡ frame.now →
+    ensures noted { OnOk result ((own : List Packet) (packet : Packet) → length own ≡ number → packet.octets ≡ frame.now →
         IsGathered original.entry.link original.entry.kinds original.entry.octets.now own gathered.old →
         IsGathered original.entry.link original.entry.kinds original.entry.octets.now (packet ∷ own) gathered.new) }
+    ensures wanted { OnOk result (gathered.new.wanted ≡ gathered.old.wanted) }
 {
     let place = u32::from(number) + 1;
     add_changes_at(alloc, original, frame, place, &mut gathered.changes)?;
-    let flow = flow_at(original.link, frame);
+    note_flow(original.link, number, frame, gathered);
+    Ok(())
+}
+
+// Notes the packet and the octets of the next frame of a record, if they are wanted.
+fn note_flow(link: Link, number: u8, frame: &[u8], gathered: &mut Gathered)
+    ensures changes { gathered.new.changes ≡ gathered.old.changes }
+    ensures wanted { gathered.new.wanted ≡ gathered.old.wanted }
+    ensures flow { gathered.old.wanted ≡ true → gathered.new.flow ≡ spec.first_flow number (spec.flow_at link frame.now) gathered.old.flow }
+    ensures octets { gathered.old.wanted ≡ true → gathered.new.octets ≡ plus gathered.old.octets (spec.tcp_octets (spec.flow_at link frame.now)) }
+{
+    if !gathered.wanted {
+        return;
+    }
+    let flow = flow_at(link, frame);
     gathered.flow = first_flow(number, flow, gathered.flow);
     gathered.octets = gathered.octets.saturating_add(tcp_octets(flow));
-    Ok(())
 }
 
 // Returns what the headers of the first frame say: this one's if it has the number 0.

@@ -13,16 +13,17 @@
 //! the first line the fault is in the head of the input, or the head of the input is accepted and
 //! that of the output has a fault or another link. At 5 the count of faults of a source rose, at 7
 //! that of the output. What is printed before the last line is the text of the items up to there;
-//! at 8, which is returned only if memory cannot be allocated (that is not claimed), a front of the
-//! text. Nothing is claimed of a source or an output without known octets. Laws: each quantity of
-//! an era of either engine is a first, last, count or sum over all items (`eras_are_rows`); a view
-//! of the files of a finished run stops only for want of memory, or if a count of faults rises
-//! (`runs_are_viewed`).
+//! at 8, which is returned only if memory cannot be allocated (that is not claimed), there may be
+//! whole lines behind it, the first of those that end a view of the items. Nothing is claimed of a
+//! source or an output without known octets. Laws: each quantity of an era of either engine is a
+//! first, last, count or sum over all items (`eras_are_rows`); a view of the files of a finished
+//! run stops only for want of memory, or if a count of faults rises (`runs_are_viewed`).
 //!
 //! Choices: counts of 64 bits stand still at the last value. A frame of a line of the second engine
 //! is compared with the record, since what the first engine wrote is in no file. A frame that norm
 //! made itself, for a dropped record, by C_PROBE or by F_DONE, is named and not compared. The
-//! report is read octet by octet from its source, which buffers.
+//! report is read ahead, at most 4,096 octets: where its source fails, the last octets that were
+//! read ahead, fewer than 400 and what the failed call read, are not viewed.
 #![tactic(auto)]
 
 mod chosen;

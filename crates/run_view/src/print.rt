@@ -5,16 +5,19 @@ ghost use Rattle.rule_book.specs.Entries.{plain};
 ghost use Rattle.run_view.specs.Printed.{PartStops, PrintStops, record_shown, summary_shown};
 ghost use Rattle.run_view.specs.Rows.{plain_pair, table_of};
 ghost use Rattle.run_view.specs.View as spec;
+ghost use Rattle.run_view.specs.Viewed as viewed;
 
 use crate::Stop;
 use crate::eras::{EraRow, Eras};
 use crate::item::{Gathered, Held};
 use crate::judged::Judged;
+use crate::seen::{flow_at, length_at};
 use crate::tally::{Tally, era_counts};
 use edge_io::Sink;
 use rule_book::Entry;
 use std::alloc::Global;
 use view_text::{EraView, RecordView, Sides, Summary, era_line, record_line, summary_lines};
+use wire_base::Link;
 
 /// Prints a text.
 fn print<K: Sink>(text: &[u8], out: &mut K) -> Result<(), Stop>
@@ -36,6 +39,7 @@ pub(crate) struct Shown<'a> {
     pub(crate) second: bool,
     /// What the first engine said of its record.
     pub(crate) judged: Judged,
+    pub(crate) link: Link,
     pub(crate) held: &'a Held,
     pub(crate) entry: &'a Entry,
     pub(crate) gathered: &'a Gathered,
@@ -50,18 +54,19 @@ pub(crate) fn print_record<K: Sink>(
     out: &mut K,
 ) -> Result<(), Stop>
     ensures prints { OnOk result (Appends (K.held out.old) (K.held out.new) (spec.record_line json
-        (record_shown shown.entry.second shown.entry.judged shown.entry.held.now shown.entry.entry.now shown.entry.gathered.now))) }
+        (record_shown shown.entry.second shown.entry.judged shown.entry.link shown.entry.held.now shown.entry.entry.now shown.entry.gathered.now))) }
     ensures stops { IfErr result (PrintStops (K.held out.old) (K.held out.new) (K.fault_count out.old) (K.fault_count out.new)) }
     ensures later { K.fault_count out.old ≤ K.fault_count out.new }
     ensures kept { OnOk result (K.fault_count out.new ≡ K.fault_count out.old) }
 {
+    let octets = shown.held.octets.as_slice();
     let view = RecordView {
         number: u64::from(shown.judged.number),
         second: shown.second,
         own: shown.entry.number,
         time: shown.held.time,
-        flow: shown.held.flow,
-        length: shown.held.length,
+        flow: flow_at(shown.link, octets),
+        length: length_at(shown.link, octets),
         entry: shown.entry,
         frames: u32::from(shown.entry.packets),
         changes: shown.gathered.changes.as_slice(),
@@ -184,4 +189,30 @@ fn print_era<K: Sink>(
         Ok(line) => print(line.as_bytes(), out),
         Err(_) => Err(Stop::Memory),
     }
+}
+
+/// Prints the line of a stop, and returns its status: 7 if the output failed. If memory for the line
+/// cannot be allocated, prints `stop memory` and returns 8.
+pub(crate) fn tell<K: Sink>(alloc: Global, stop: Stop, out: &mut K) -> u8
+    ensures told { viewed.Tells stop (K.held out.old) (K.held out.new) (K.fault_count out.old) (K.fault_count out.new) result }
+    ensures later { K.fault_count out.old ≤ K.fault_count out.new }
+{
+    match stop.line(alloc) {
+        Ok(line) => tell_line(line.as_bytes(), stop.status(), out),
+        Err(_) => tell_line(b"stop memory\n", 8, out),
+    }
+}
+
+// Prints a line, and returns its status, or 7 if the output failed.
+fn tell_line<K: Sink>(line: &[u8], status: u8, out: &mut K) -> u8
+    ensures told { viewed.TellsLine status line.now (K.held out.old) (K.held out.new) (K.fault_count out.old) (K.fault_count out.new) result }
+    ensures later { K.fault_count out.old ≤ K.fault_count out.new }
+{
+    if out.put(line).is_err() {
+        return 7;
+    }
+    if out.flush().is_err() {
+        return 7;
+    }
+    status
 }

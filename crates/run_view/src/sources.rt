@@ -8,6 +8,7 @@ ghost use Rattle.pcap_file.specs.declared.head.Head.{Head};
 ghost use Rattle.capture_input.specs.Reading.{is_open_in};
 ghost use Rattle.run_view.specs.SourceStops as spec;
 ghost use Rattle.run_view.specs.Standing.{InputAt, InputOpened, IsBehind, InputHeadStops, InputReads, InputStops, OutputAt, OutputHeadStops, OutputReads, OutputStops};
+ghost use Rattle.wire_base.specs.declared.limits.TheConstants.{MAX_CAPTURED};
 
 use crate::Stop;
 use capture_input::laws::whole_is_input;
@@ -37,7 +38,7 @@ pub(crate) fn next_record<'a, I: Source>(
 ) -> Result<Option<Record<'a>>, Stop>
     requires open { is_open_in input.old ≡ true }
     requires behind { IsBehind input.old }
-    requires room { 262144 ≤ length buffer.old }
+    requires room { MAX_CAPTURED ≤ length buffer.old }
     ensures reads { IfOk result (λ given. (head : Head) (all : Option (List ℕ)) (packets : List Packet) →
         InputAt input.old head all (I.left source.old) packets → InputReads input.new head all (I.left source.new) packets given) }
     ensures goes_on { IfOk result (λ given. IfSome given (λ _. is_open_in input.new ≡ true)) }
@@ -100,7 +101,7 @@ pub(crate) fn next_frame<'a, O: Source>(
     buffer: &'a mut [u8],
 ) -> Result<Option<Record<'a>>, Stop>
     requires open { reader.old.is_open ≡ true }
-    requires room { 262144 ≤ length buffer.old }
+    requires room { MAX_CAPTURED ≤ length buffer.old }
     ensures reads { IfOk result (λ given. (head : Head) (all : Option (List ℕ)) (frames : List Packet) →
         OutputAt reader.old head all (O.left source.old) frames → OutputReads reader.new head all (O.left source.new) frames given) }
     ensures goes_on { IfOk result (λ given. IfSome given (λ _. reader.new.is_open ≡ true)) }

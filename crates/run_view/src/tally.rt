@@ -3,6 +3,7 @@ ghost use Rattle.std.specs.Prelude.{◌≡◌, OnOk, [], map};
 ghost use Rattle.rule_book.specs.Entries.{plain};
 ghost use Rattle.run_view.specs.Eras as rows;
 ghost use Rattle.run_view.specs.Items.{if_inward as if_inward_of};
+ghost use Rattle.run_view.specs.Steps.{is_of_era as is_of_era_by};
 ghost use Rattle.run_view.specs.Rows.{table_of};
 ghost use Rattle.run_view.specs.Summary as spec;
 
@@ -73,7 +74,7 @@ impl Tally {
         ensures eras { OnOk result (table_of self.new.eras ≡ rows.with_entry (plain entry.now) noted.time (if_inward_of (plain entry.now).side noted.octets) noted.flow (table_of self.old.eras)) }
         ensures second_eras { OnOk result (table_of self.new.second_eras ≡ table_of self.old.second_eras) }
     {
-        self.sides = with_side(entry.side, entry.verdict, self.sides);
+        add_to_side(&mut self.sides, entry.side, entry.verdict);
         count_rules(&mut self.rules, entry.rules.as_slice())?;
         note_eras(alloc, &mut self.eras, entry, noted)
     }
@@ -92,12 +93,20 @@ impl Tally {
         ensures eras { OnOk result (table_of self.new.eras ≡ rows.changed_if judged.era (rows.with_octets (if_inward_of judged.side noted.octets)) (table_of self.old.eras)) }
         ensures second_eras { OnOk result (table_of self.new.second_eras ≡ rows.with_entry (plain entry.now) noted.time (if_inward_of (plain entry.now).side noted.octets) noted.flow (table_of self.old.second_eras)) }
     {
-        self.second_sides = with_side(entry.side, entry.verdict, self.second_sides);
+        add_to_side(&mut self.second_sides, entry.side, entry.verdict);
         count_rules(&mut self.rules, entry.rules.as_slice())?;
         let octets = if_inward(judged.side, noted.octets);
         bring(alloc, &mut self.eras, judged.era, octets)?;
         note_eras(alloc, &mut self.second_eras, entry, noted)
     }
+}
+
+/// Returns whether a line is of an era: of this one of the first engine, or of one that it belongs
+/// to or begins.
+pub(crate) fn is_of_era(first: Option<u32>, entry: &Entry) -> bool
+    ensures { result ≡ is_of_era_by first (plain entry.now) }
+{
+    first.is_some() || entry.era.is_some() || entry.begun.is_some()
 }
 
 // Returns a count of what goes inwards.
@@ -146,46 +155,25 @@ fn note_eras(alloc: Global, eras: &mut Eras, entry: &Entry, noted: Noted) -> Res
 }
 
 // Adds one with this verdict on this side.
-fn with_side(side: Option<Side>, verdict: Verdict, sides: Sides) -> Sides
-    ensures { result ≡ spec.with_side side verdict sides }
+fn add_to_side(sides: &mut Sides, side: Option<Side>, verdict: Verdict)
+    ensures { sides.new ≡ spec.with_side side verdict sides.old }
 {
     match side {
-        Some(Side::Inward) => Sides {
-            inward: with_verdict(verdict, sides.inward),
-            ..sides
-        },
-        Some(Side::Outward) => Sides {
-            outward: with_verdict(verdict, sides.outward),
-            ..sides
-        },
-        None => Sides {
-            neither: with_verdict(verdict, sides.neither),
-            ..sides
-        },
+        Some(Side::Inward) => add_verdict(&mut sides.inward, verdict),
+        Some(Side::Outward) => add_verdict(&mut sides.outward, verdict),
+        None => add_verdict(&mut sides.neither, verdict),
     }
 }
 
 // Adds one with this verdict.
-fn with_verdict(verdict: Verdict, counts: Counts) -> Counts
-    ensures { result ≡ spec.with_verdict verdict counts }
+fn add_verdict(counts: &mut Counts, verdict: Verdict)
+    ensures { counts.new ≡ spec.with_verdict verdict counts.old }
 {
     match verdict {
-        Verdict::Pass => Counts {
-            pass: counts.pass.saturating_add(1),
-            ..counts
-        },
-        Verdict::Fix => Counts {
-            fix: counts.fix.saturating_add(1),
-            ..counts
-        },
-        Verdict::Hold => Counts {
-            hold: counts.hold.saturating_add(1),
-            ..counts
-        },
-        Verdict::Drop => Counts {
-            drop: counts.drop.saturating_add(1),
-            ..counts
-        },
+        Verdict::Pass => counts.pass = counts.pass.saturating_add(1),
+        Verdict::Fix => counts.fix = counts.fix.saturating_add(1),
+        Verdict::Hold => counts.hold = counts.hold.saturating_add(1),
+        Verdict::Drop => counts.drop = counts.drop.saturating_add(1),
     }
 }
 

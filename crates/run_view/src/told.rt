@@ -1,5 +1,5 @@
 //! What a line of a report tells behind others.
-ghost use Rattle.std.specs.Prelude.{◌≡◌, ◌↔◌, ◌^◌, ◌<◌, true, false, IsTrue};
+ghost use Rattle.std.specs.Prelude.{◌≡◌, ◌↔◌, ◌^◌, ◌<◌, ◌∷◌, ℕ, List, true, false, IsTrue};
 ghost use Rattle.rule_book.specs.declared.last.Last.TheVariants.{End};
 ghost use Rattle.run_view.specs.Told.{IsEntryTold, IsTold};
 
@@ -35,6 +35,25 @@ pub(crate) fn line_told(text: &[u8], version: u8, turn: Turn) -> Told
     if turn.second {
         return second_told(text, version, turn.done);
     }
+    if may_end(text) {
+        return end_told(text, version, turn);
+    }
+    entry_told(text, version, turn.done)
+}
+
+// Returns whether a line may be the last one of a run that ended, by its first octet.
+fn may_end(text: &[u8]) -> bool
+    ensures { (rest : List ℕ) → text.now ≡ 101 ∷ rest → result ≡ true }
+{
+    matches!(text, [b'e', ..])
+}
+
+// Returns what a line of the first engine tells; it may be the last line.
+fn end_told(text: &[u8], version: u8, turn: Turn) -> Told
+    requires few { turn.done < 2 ^ 32 }
+    requires first { turn.second ≡ false }
+    ensures { IsTold version turn text.now result }
+{
     if let Some(last) = read_last(text) {
         if is_end(last, turn.done, turn.frames) {
             return Told::End;

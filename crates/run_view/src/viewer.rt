@@ -7,6 +7,7 @@ ghost use Rattle.pcap_file.specs.Records.{Packet};
 ghost use Rattle.pcap_file.specs.declared.head.Head.{Head};
 ghost use Rattle.rule_book.specs.Entries.{plain};
 ghost use Rattle.rule_book.specs.Reports.{IsEntryOf};
+ghost use Rattle.run_view.specs.Ahead.{left_in};
 ghost use Rattle.run_view.specs.Forms.{heading, version_of as version_of_form};
 ghost use Rattle.run_view.specs.Items.{Item, line_by, waits};
 ghost use Rattle.run_view.specs.Printed.{Failed, PartStops, PrintStops, record_shown};
@@ -26,10 +27,10 @@ use crate::ends::check_ends;
 use crate::form::{Form, answers, is_both, own_frames, version_of};
 use crate::item::{Files, Frames, Gathered, Held, ROOM, read_frames, read_record};
 use crate::judged::{Judged, judged_by, kinds_by, second_kinds};
-use crate::line::{LINE_ROOM, next_line};
-use crate::print::{Shown, Size, print_eras, print_record, print_summary};
+use crate::line::Lines;
+use crate::print::{Shown, Size, print_eras, print_record, print_summary, tell};
 use crate::sources::{open_input, open_output};
-use crate::tally::{Noted, Tally};
+use crate::tally::{Noted, Tally, is_of_era};
 use crate::told::{Told, Turn, line_told};
 use crate::words::{Asked, asked_in};
 use capture_input::Input;
@@ -44,6 +45,7 @@ pub(crate) struct Viewer {
     asked: Asked,
     /// The form of the report.
     form: Form,
+    lines: Lines,
     files: Files,
     /// What the first engine said of the newest record.
     judged: Judged,
@@ -127,8 +129,9 @@ fn view_asked<I: Source, O: Source, R: Source, K: Sink>(
 {
     let reader = open_input(input)?;
     let frames = open_output(reader.head().link, output)?;
-    let form = read_form(report)?;
-    let mut viewer = new_viewer(alloc, asked, form, reader, frames)?;
+    let mut lines = Lines::new(alloc)?;
+    let form = read_form(&mut lines, report)?;
+    let mut viewer = new_viewer(alloc, asked, form, lines, reader, frames)?;
     view_entries(alloc, &mut viewer, input, output, report, out)?;
     flush(out)
 }
@@ -147,17 +150,16 @@ fn flush<K: Sink>(out: &mut K) -> Result<(), Stop>
 }
 
 // Reads the first line of the report, and returns its form.
-fn read_form<R: Source>(report: &mut R) -> Result<Form, Stop>
-    ensures stops { IfErr result (FirstStops (R.left report.old) (R.fault_count report.old) (R.fault_count report.new)) }
-    ensures first { IfOk result (λ form. Consumes (R.left report.old) (R.left report.new) (heading form)) }
+fn read_form<R: Source>(lines: &mut Lines, report: &mut R) -> Result<Form, Stop>
+    ensures stops { IfErr result (FirstStops (left_in lines.old (R.left report.old)) (R.fault_count report.old) (R.fault_count report.new)) }
+    ensures first { IfOk result (λ form. Consumes (left_in lines.old (R.left report.old)) (left_in lines.new (R.left report.new)) (heading form)) }
     ensures later { R.fault_count report.old ≤ R.fault_count report.new }
     ensures kept { OnOk result (R.fault_count report.new ≡ R.fault_count report.old) }
 {
-    let mut line = [0u8; LINE_ROOM];
-    let Ok(len) = next_line(report, &mut line) else {
+    let Ok(()) = lines.next(report) else {
         return Err(Stop::Unread);
     };
-    let text = &line[..len];
+    let text = lines.line();
     if text == b"norm 1\n".as_slice() {
         Ok(Form::Version1)
     } else if text == b"norm 2\n".as_slice() {
@@ -174,13 +176,14 @@ fn new_viewer(
     alloc: Global,
     asked: Asked,
     form: Form,
+    lines: Lines,
     input: Input,
     reader: Reader,
 ) -> Result<Viewer, NoMemory>
     requires input { is_open_in input ≡ true }
     requires behind { IsBehind input }
     requires output { reader.is_open ≡ true }
-    ensures { IfOk result (λ viewer. IsFresh viewer asked form input reader) }
+    ensures { IfOk result (λ viewer. IsFresh viewer asked form lines input reader) }
 {
     let buffer = Box::new(alloc, [0u8; ROOM])?;
     let frame = Box::new(alloc, [0u8; ROOM])?;
@@ -192,8 +195,6 @@ fn new_viewer(
     let held = Held {
         octets: Vec::new(alloc),
         time: 0,
-        flow: None,
-        length: 0,
     };
     let files = Files {
         head: input.head(),
@@ -206,6 +207,7 @@ fn new_viewer(
     Ok(Viewer {
         asked,
         form,
+        lines,
         files,
         judged: Judged {
             number: 0,
@@ -233,10 +235,10 @@ fn view_entries<I: Source, O: Source, R: Source, K: Sink>(
     requires may { MayTake viewer.old }
     ensures viewed { OnOk result ((head : Head) (before : Ends) →
         SoFar viewer.old head before (ends_of (I.left input.old) (O.left output.old) (K.held out.old)) [] →
-        Whole viewer.old.asked viewer.old.form viewer.old.files.head head before (K.held out.new) (R.left report.old)) }
+        Whole viewer.old.asked viewer.old.form viewer.old.files.head head before (K.held out.new) (left_in viewer.old.lines (R.left report.old))) }
     ensures stops { IfErr result (λ stop. (head : Head) (before : Ends) →
         SoFar viewer.old head before (ends_of (I.left input.old) (O.left output.old) (K.held out.old)) [] →
-        EntriesStop viewer.old.asked (sources_of before.read before.written (R.left report.old)) viewer.old.form viewer.old.files.head head before.printed (K.held out.new)
+        EntriesStop viewer.old.asked (sources_of before.read before.written (left_in viewer.old.lines (R.left report.old))) viewer.old.form viewer.old.files.head head before.printed (K.held out.new)
         (counts_of (I.fault_count input.old) (O.fault_count output.old) (R.fault_count report.old) (K.fault_count out.old))
         (counts_of (I.fault_count input.new) (O.fault_count output.new) (R.fault_count report.new) (K.fault_count out.new)) stop) }
     ensures input_later { I.fault_count input.old ≤ I.fault_count input.new }
@@ -251,31 +253,38 @@ fn view_entries<I: Source, O: Source, R: Source, K: Sink>(
     'entries: while let Some(entry) = next_entry(viewer, report)? {
         take(alloc, viewer, &entry, input, output, out)?;
     }
-    let lines = viewer.files.count + viewer.second_count;
-    check_ends(&mut viewer.files, lines, input, output, report)?;
+    let count = viewer.files.count + viewer.second_count;
+    check_ends(
+        &mut viewer.files,
+        &mut viewer.lines,
+        count,
+        input,
+        output,
+        report,
+    )?;
     close(alloc, viewer, out)
 }
 
 // Reads the next entry of the report, or its last line, which ends a run with as many records and
 // frames as were read.
-fn next_entry<R: Source>(viewer: &Viewer, report: &mut R) -> Result<Option<Entry>, Stop>
-    requires few { viewer.now.files.count < 2 ^ 32 }
-    requires few_seconds { viewer.now.second_count < 2 ^ 32 }
-    requires few_frames { viewer.now.files.frames.count ≤ 255 * lines_in viewer.now }
+fn next_entry<R: Source>(viewer: &mut Viewer, report: &mut R) -> Result<Option<Entry>, Stop>
+    requires few { viewer.old.files.count < 2 ^ 32 }
+    requires few_seconds { viewer.old.second_count < 2 ^ 32 }
+    requires few_frames { viewer.old.files.frames.count ≤ 255 * lines_in viewer.old }
     ensures told { IfOk result (λ told. MatchOption told
-        (ToldEnd (turn_in viewer.now) (R.left report.old) (R.left report.new))
-        (λ entry. ToldNext (version_of_form viewer.now.form) (turn_in viewer.now) (R.left report.old) (R.left report.new) (plain entry))) }
-    ensures stops { IfErr result (NextStops (version_of_form viewer.now.form) (turn_in viewer.now) (lines_in viewer.now) (R.left report.old)
+        (ToldEnd (turn_in viewer.new) (left_in viewer.old.lines (R.left report.old)) (left_in viewer.new.lines (R.left report.new)))
+        (λ entry. ToldNext (version_of_form viewer.new.form) (turn_in viewer.new) (left_in viewer.old.lines (R.left report.old)) (left_in viewer.new.lines (R.left report.new)) (plain entry))) }
+    ensures same { viewer.new ≡ record viewer.old { lines = viewer.new.lines } }
+    ensures stops { IfErr result (NextStops (version_of_form viewer.new.form) (turn_in viewer.new) (lines_in viewer.new) (left_in viewer.old.lines (R.left report.old))
         (R.fault_count report.old) (R.fault_count report.new)) }
     ensures later { R.fault_count report.old ≤ R.fault_count report.new }
     ensures kept { OnOk result (R.fault_count report.new ≡ R.fault_count report.old) }
 {
     let lines = viewer.files.count + viewer.second_count;
-    let mut line = [0u8; LINE_ROOM];
-    let Ok(len) = next_line(report, &mut line) else {
+    let Ok(()) = viewer.lines.next(report) else {
         return Err(Stop::Unread);
     };
-    match line_told(&line[..len], version_of(viewer.form), turn(viewer)) {
+    match line_told(viewer.lines.line(), version_of(viewer.form), turn(viewer)) {
         Told::Entry(entry) => Ok(Some(entry)),
         Told::End => Ok(None),
         Told::Amiss => Err(Stop::Report(lines + 2)),
@@ -367,7 +376,8 @@ fn take_first<I: Source, O: Source, K: Sink>(
     read_record(&mut viewer.files, input)?;
     let packets = own_frames(viewer.form, entry.packets);
     let kinds = kinds_by(entry, false, false);
-    let gathered = read_frames(alloc, &mut viewer.files, packets, kinds, output)?;
+    let wanted = is_of_era(None, entry);
+    let gathered = read_frames(alloc, &mut viewer.files, packets, kinds, wanted, output)?;
     let noted = noted_of(&viewer.files.held, &gathered);
     viewer.tally.note(alloc, entry, noted)?;
     viewer.judged = judged_by(entry);
@@ -403,7 +413,15 @@ fn take_second<O: Source, K: Sink>(
     let judged = viewer.judged;
     viewer.owed -= 1;
     let kinds = second_kinds(entry, judged, viewer.owed);
-    let gathered = read_frames(alloc, &mut viewer.files, entry.packets, kinds, output)?;
+    let wanted = is_of_era(judged.era, entry);
+    let gathered = read_frames(
+        alloc,
+        &mut viewer.files,
+        entry.packets,
+        kinds,
+        wanted,
+        output,
+    )?;
     let noted = noted_of(&viewer.files.held, &gathered);
     viewer.tally.note_second(alloc, judged, entry, noted)?;
     viewer.second_count += 1;
@@ -431,7 +449,7 @@ fn print_chosen<K: Sink>(
     out: &mut K,
 ) -> Result<(), Stop>
     ensures prints { OnOk result (Appends (K.held out.old) (K.held out.new) (if spec.is_printed viewer.now.asked (plain entry.now)
-        then spec.record_line viewer.now.asked.json (record_shown second viewer.now.judged viewer.now.files.held entry.now gathered.now) else [])) }
+        then spec.record_line viewer.now.asked.json (record_shown second viewer.now.judged viewer.now.files.head.link viewer.now.files.held entry.now gathered.now) else [])) }
     ensures stops { IfErr result (PrintStops (K.held out.old) (K.held out.new) (K.fault_count out.old) (K.fault_count out.new)) }
     ensures later { K.fault_count out.old ≤ K.fault_count out.new }
     ensures kept { OnOk result (K.fault_count out.new ≡ K.fault_count out.old) }
@@ -442,6 +460,7 @@ fn print_chosen<K: Sink>(
     let shown = Shown {
         second,
         judged: viewer.judged,
+        link: viewer.files.head.link,
         held: &viewer.files.held,
         entry,
         gathered,
@@ -469,30 +488,4 @@ fn close<K: Sink>(alloc: Global, viewer: &Viewer, out: &mut K) -> Result<(), Sto
     };
     print_summary(alloc, size, &viewer.tally, out)?;
     print_eras(alloc, false, &viewer.tally, out)
-}
-
-// Prints the line of a stop, and returns its status: 7 if the output failed. If memory for the line
-// cannot be allocated, it is that of this.
-fn tell<K: Sink>(alloc: Global, stop: Stop, out: &mut K) -> u8
-    ensures told { viewed.Tells stop (K.held out.old) (K.held out.new) (K.fault_count out.old) (K.fault_count out.new) result }
-    ensures later { K.fault_count out.old ≤ K.fault_count out.new }
-{
-    match stop.line(alloc) {
-        Ok(line) => tell_line(line.as_bytes(), stop.status(), out),
-        Err(_) => tell_line(b"stop memory\n", 8, out),
-    }
-}
-
-// Prints a line, and returns its status, or 7 if the output failed.
-fn tell_line<K: Sink>(line: &[u8], status: u8, out: &mut K) -> u8
-    ensures told { viewed.TellsLine status line.now (K.held out.old) (K.held out.new) (K.fault_count out.old) (K.fault_count out.new) result }
-    ensures later { K.fault_count out.old ≤ K.fault_count out.new }
-{
-    if out.put(line).is_err() {
-        return 7;
-    }
-    if out.flush().is_err() {
-        return 7;
-    }
-    status
 }

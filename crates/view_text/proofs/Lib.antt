@@ -4,3 +4,4 @@ pub mod Lists
 pub mod Wholes
 pub mod Changing
 pub mod Joins
+pub mod Feeds

@@ -1,6 +1,6 @@
 -- No object of a line has a float.
-use Rattle.std.proofs.Common.{◌≡◌, ℕ, false, List, [], ◌∷◌, ◌++◌, Option, Some, None, refl}
-use Rattle.serde_json.specs.Data.{Data, no_members}
+use Rattle.std.proofs.Common.{◌≡◌, ℕ, ◌==◌, Bool, true, false, if◌then◌else◌, List, [], ◌∷◌, ◌++◌, Option, Some, None, refl}
+use Rattle.serde_json.specs.Data.{Data, no_members, null, string}
 use Rattle.serde_json.specs.Written.{has_float, members_have_float}
 use Rattle.wire_base.specs.declared.address.Addr.{Addr}
 use Rattle.wire_base.specs.declared.address.Side.{Side}
@@ -8,7 +8,8 @@ use Rattle.wire_base.specs.declared.flags.Flags.{Flags}
 use Rattle.rule_book.specs.Entries.{PlainEntry}
 use Rattle.frame_view.specs.Changes.{PlainChange, in_field, in_made, in_payload}
 use Rattle.frame_view.specs.declared.flow.Flow.{Flow}
-use Rattle.view_text.specs.Json.{address_or_null, change_data, change_members, count_members, ends_members, ended_data, entry_members, era_members, flags_or_null, flow_members, frames_members, front_members, name_members, number_or_null, protocol_or_null, record_members, replaced_data, rule_data, side_or_null, text_or_null, with_all}
+use Rattle.view_text.specs.Json.{address_or_null, change_data, change_members, count_members, ends_members, ended_data, entry_members, era_members, era_time, flags_or_null, flow_members, frames_members, front_members, name_members, number_or_null, protocol_or_null, record_members, replaced_data, rule_data, side_or_null, text_or_null, with_all}
+use Rattle.view_text.specs.Times.{time_text}
 use Rattle.view_text.specs.Views.{PlainEra, PlainRecord}
 use Rattle.view_text.proofs.Lists.{AreWhole, array-no_float, with_all-no_float}
 
@@ -72,10 +73,16 @@ record-whole r =
     (append-whole (front_members r) (ends_members r.flow) (front-whole r) (ends-whole r.flow)) (flow-whole r.flow)) (entry-whole r.entry)) (frames-whole r))
     refl
 
+time-whole : (records time : ℕ) → has_float (era_time records time) ≡ false
+time-whole records time = by (records == 0) where
+  by : (none : Bool) → has_float (if none then null else string (time_text time)) ≡ false
+  by true = refl
+  by false = refl
+
 pub era-whole : (e : PlainEra) → members_have_float (with_all (era_members e) no_members) ≡ false
 era-whole e =
     with_all-no_float (era_members e) no_members
     (append-whole (name_members e ++ ends_members e.flow) (count_members e)
-    (append-whole (name_members e) (ends_members e.flow) (refl, (refl, (refl, (refl, (refl, tt))))) (ends-whole e.flow))
+    (append-whole (name_members e) (ends_members e.flow) (refl, (refl, (refl, (time-whole e.records e.first, (time-whole e.records e.last, tt))))) (ends-whole e.flow))
     (refl, (refl, (refl, (array-no_float rule_data (λ rule. refl) e.rules, tt)))))
     refl

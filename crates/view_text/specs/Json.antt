@@ -1,5 +1,5 @@
 -- The lines of the view as JSON (RFC 8259): an object a line, whose members are in the order of their names; what is absent is null.
-use Rattle.std.specs.Prelude.{ℕ, Bool, true, false, List, [], ◌∷◌, ◌++◌, map, Option, Some, None, option_map, codes}
+use Rattle.std.specs.Prelude.{ℕ, ◌==◌, Bool, true, false, List, [], ◌∷◌, ◌++◌, map, Option, Some, None, option_map, codes, if◌then◌else◌}
 use Rattle.serde_json.specs.Data.{Data, Members, number, unsigned, string, null, array, object, no_members, put}
 use Rattle.serde_json.specs.View.{items_of}
 use Rattle.serde_json.specs.Written.{compact_text}
@@ -178,14 +178,18 @@ frames_members r =
 abbrev pub record_members : PlainRecord → List Member
 record_members r = front_members r ++ ends_members r.flow ++ flow_members r.flow ++ entry_members r.entry ++ frames_members r
 
+-- the time of a record of an era that has so many; null where it has none
+abbrev pub era_time : (records time : ℕ) → Data
+era_time records time = if records == 0 then null else string (time_text time)
+
 -- what an era's object begins with
 abbrev pub name_members : PlainEra → List Member
 name_members e =
     (codes "event", string (codes "era"))
     ∷ (codes "era", count e.era)
     ∷ (codes "by", string (by_word e.second))
-    ∷ (codes "first", string (time_text e.first))
-    ∷ (codes "last", string (time_text e.last))
+    ∷ (codes "first", era_time e.records e.first)
+    ∷ (codes "last", era_time e.records e.last)
     ∷ []
 
 -- what belongs to an era

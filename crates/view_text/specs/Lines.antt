@@ -158,10 +158,14 @@ abbrev pub era_name : (second : Bool) → (era : ℕ) → List ℕ
 era_name false era = codes "era " ++ decimal era
 era_name true era = codes "era second " ++ decimal era
 
+-- the time of a record of an era that has so many; `-` where it has none
+abbrev pub era_time : (records time : ℕ) → List ℕ
+era_time records time = if records == 0 then codes "-" else time_text time
+
 -- the line of an era
 abbrev pub era_text : PlainEra → List ℕ
 era_text e =
-    era_name e.second e.era ++ part (ends_text e.flow) ++ part (time_text e.first) ++ part (time_text e.last) ++ counted (codes "records") e.records
+    era_name e.second e.era ++ part (ends_text e.flow) ++ part (era_time e.records e.first) ++ part (era_time e.records e.last) ++ counted (codes "records") e.records
     ++ counted (codes "octets") e.octets ++ part (end_word e.end) ++ rule_parts e.rules ++ line_end
 
 -- how many lines have each verdict

@@ -1,6 +1,6 @@
 //! The line of an era as text.
 ghost use Rattle.std.specs.Prelude.{◌≡◌, ◌++◌, OnOk, string_bytes};
-ghost use Rattle.rule_book.specs.Text.{rule_parts};
+ghost use Rattle.rule_book.specs.Text.{part, rule_parts};
 ghost use Rattle.view_text.specs.Lines as spec;
 ghost use Rattle.view_text.specs.Views.{plain_era};
 
@@ -46,14 +46,24 @@ fn put_names(text: &mut String, rules: &[Rule]) -> Result<(), NoMemory>
     Ok(())
 }
 
+// Writes the time of a record of an era that has so many records.
+fn put_era_time(text: &mut String, records: u64, time: u64) -> Result<(), NoMemory>
+    ensures { OnOk result (string_bytes text.new ≡ string_bytes text.old ++ part (spec.era_time records time)) }
+{
+    if records == 0 {
+        return put_part(text, "-");
+    }
+    put_time_part(text, time)
+}
+
 /// Writes the line of an era.
 pub fn put_era(text: &mut String, view: &EraView<'_>) -> Result<(), NoMemory>
     ensures { OnOk result (string_bytes text.new ≡ string_bytes text.old ++ spec.era_text (plain_era view.now)) }
 {
     put_name(text, view.second, view.era)?;
     put_ends_part(text, view.flow)?;
-    put_time_part(text, view.first)?;
-    put_time_part(text, view.last)?;
+    put_era_time(text, view.records, view.first)?;
+    put_era_time(text, view.records, view.last)?;
     put_counted(text, "records", view.records)?;
     put_counted(text, "octets", view.octets)?;
     put_part(text, end_word(view.end))?;

@@ -393,12 +393,22 @@ pub fn record_json(alloc: Global, view: &RecordView<'_>) -> Result<String, NoMem
     line_of(alloc, members)
 }
 
+// Returns the time of a record of an era that has so many records, null where it has none.
+fn era_time(alloc: Global, records: u64, time: u64) -> Result<Value, NoMemory>
+    ensures { IfOk result (λ value. view value ≡ spec.era_time records time) }
+{
+    if records == 0 {
+        return Ok(Value::Null);
+    }
+    time_value(alloc, time)
+}
+
 // Adds what the object of an era begins with.
 fn add_name(alloc: Global, members: &mut Members, view: &EraView<'_>) -> Result<(), NoMemory>
     ensures { OnOk result (members_view members.new.entries ≡ spec.with_all (spec.name_members (plain_era view.now)) (members_view members.old.entries)) }
 {
-    let first = time_value(alloc, view.first)?;
-    let last = time_value(alloc, view.last)?;
+    let first = era_time(alloc, view.records, view.first)?;
+    let last = era_time(alloc, view.records, view.last)?;
     add_text(alloc, members, "event", "era")?;
     add_number(alloc, members, "era", u64::from(view.era))?;
     add_text(alloc, members, "by", by_word(view.second))?;

@@ -34,7 +34,7 @@ pub struct EraView<'a> {
     pub second: bool,
     /// The packet that began it.
     pub flow: Option<Flow>,
-    /// The time of its first record, in nanoseconds since the beginning of 1970.
+    /// The time of its first record, in nanoseconds since the beginning of 1970, if it has one.
     pub first: u64,
     /// The time of its last record, in the same unit.
     pub last: u64,

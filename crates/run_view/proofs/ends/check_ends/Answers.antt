@@ -1,37 +1,39 @@
-use Rattle.std.proofs.Common.{◌≡◌, false, is_some, sym, ap, subst, inl, inr, ◌∙◌}
+use Rattle.std.proofs.Common.{Bool, sym, ap, subst, inl, inr, ◌∙◌}
 use Rattle.std.proofs.lemmas.Result.{err_from_is_err_and}
 use Rattle.std.specs.Io.KnownBytes.{IsAtEnd}
+use Rattle.run_view.specs.Ahead.{GoesOn, left_in}
 use Rattle.run_view.specs.Causes.{counts_of}
 use Rattle.run_view.specs.Standing.{OutputAt}
 use Rattle.run_view.specs.Why.{FramesGoOn}
 use Rattle.run_view.specs.declared.item.Frames.{Frames}
-use Rattle.run_view.proofs.Lining.{none_left}
 use Rattle.run_view.proofs.Ons.{if_err, on_ok}
 use Rattle.run_view.proofs.Whys.{ends_by_frames, ends_by_records}
 use Rattle.run_view.proofs.ends.check_ends.Goals as goal
 
 pub returns-in_err-end_records-clause-stops : goal.returns-in_err-end_records-clause-stops
 returns-in_err-end_records-clause-stops g c =
-    let none : is_some c.in-Ok.more ≡ false = sym c.is_some.ensures ∙ c.if-is_some.false in
-    let over : IsAtEnd (g.R.Source.left c.args.report.now) = none_left c.in-Ok.more _ (g.R.Source.left c.next_octet.new.source) none c.in-Ok.ensures.octets in
+    let left = left_in c.args.lines.now (g.R.Source.left c.args.report.now) in
+    let M : Bool → Type 0 = λ b. GoesOn b left in
+    let over : IsAtEnd left = subst M c.if-more.false c.in-Ok.ensures.more in
     let p = err_from_is_err_and c.from_residual.result c.from_residual.ensures.1 in rw (p.1, p.2)
     (λ read written head records frames k input_at output_at.
-    ends_by_records c.args.files.now c.args.lines read written (g.R.Source.left c.args.report.now) head records frames
+    ends_by_records c.args.files.now c.args.count read written left head records frames
     (counts_of (g.I.Source.fault_count c.args.input.now) (g.O.Source.fault_count c.args.output.now) (g.R.Source.fault_count c.args.report.now) k)
-    (counts_of (g.I.Source.fault_count c.end_records.new.input) (g.O.Source.fault_count c.args.output.now) (g.R.Source.fault_count c.next_octet.new.source) k)
+    (counts_of (g.I.Source.fault_count c.end_records.new.input) (g.O.Source.fault_count c.args.output.now) (g.R.Source.fault_count c.goes_on.new.source) k)
     (g.I.Source.fault_count c.args.input.now) (g.I.Source.fault_count c.end_records.new.input) _ (λ rose. inl rose) over (c.in_err-end_records.ensures.stops read records input_at))
 
 pub returns-clause-stops : goal.returns-clause-stops
 returns-clause-stops g c =
-    let none : is_some c.in-Ok.more ≡ false = sym c.is_some.ensures ∙ c.if-is_some.false in
-    let over : IsAtEnd (g.R.Source.left c.args.report.now) = none_left c.in-Ok.more _ (g.R.Source.left c.next_octet.new.source) none c.in-Ok.ensures.octets in
+    let left = left_in c.args.lines.now (g.R.Source.left c.args.report.now) in
+    let M : Bool → Type 0 = λ b. GoesOn b left in
+    let over : IsAtEnd left = subst M c.if-more.false c.in-Ok.ensures.more in
     if_err c.end_frames.result c.end_frames.ensures.stops
     (λ stop why read written head records frames k input_at output_at.
     let P : Frames → Type 0 = λ f. OutputAt f.reader head written (g.O.Source.left c.args.output.now) frames in
     let W : Frames → Type 0 = λ f. FramesGoOn f written head frames (g.O.Source.fault_count c.args.output.now) (g.O.Source.fault_count c.end_frames.new.output) stop in
-    ends_by_frames c.args.files.now c.args.lines read written (g.R.Source.left c.args.report.now) head records frames
+    ends_by_frames c.args.files.now c.args.count read written left head records frames
     (counts_of (g.I.Source.fault_count c.args.input.now) (g.O.Source.fault_count c.args.output.now) (g.R.Source.fault_count c.args.report.now) k)
-    (counts_of (g.I.Source.fault_count c.end_records.new.input) (g.O.Source.fault_count c.end_frames.new.output) (g.R.Source.fault_count c.next_octet.new.source) k)
+    (counts_of (g.I.Source.fault_count c.end_records.new.input) (g.O.Source.fault_count c.end_frames.new.output) (g.R.Source.fault_count c.goes_on.new.source) k)
     (g.O.Source.fault_count c.args.output.now) (g.O.Source.fault_count c.end_frames.new.output) stop (λ rose. inr (inl rose)) over (c.in_ok-end_records.ensures.whole read records input_at)
     (subst W c.end_records.ensures.frames (why written head frames (subst P (sym c.end_records.ensures.frames) output_at))))
 

@@ -3,7 +3,7 @@ use Rattle.std.specs.Io.KnownBytes.{Appends}
 use Rattle.run_view.specs.Printed.{PartStops, summary_shown}
 use Rattle.run_view.specs.View.{summary_line}
 use Rattle.run_view.proofs.Ending.{closing_plain}
-use Rattle.run_view.proofs.Listing.{part_behind}
+use Rattle.run_view.proofs.Listing.{part_behind, summary_whole}
 use Rattle.run_view.proofs.Ons.{if_err}
 use Rattle.run_view.proofs.Whys.{rose_within}
 use Rattle.run_view.proofs.viewer.close.Goals as goal
@@ -17,4 +17,4 @@ returns-clause-stops g c =
     let S : Bool → Type 0 = λ b.
     Appends (g.K.Sink.held c.args.out.now) (g.K.Sink.held c.print_summary.new.out) (summary_line (summary_shown b viewer.files.count viewer.files.frames.count viewer.tally)) in
     subst P (sym (closing_plain viewer (sym c.has_choice.ensures ∙ c.if-has_choice.false) c.if-viewer.false))
-    (part_behind _ _ _ _ _ _ _ _ stop (λ rose. rose_within _ _ _ _ c.in_ok-print_summary.ensures.later (omega arith) rose) (subst S c.is_both.ensures c.in_ok-print_summary.ensures.prints) why))
+    (part_behind _ _ _ _ _ _ _ _ stop (λ rose. rose_within _ _ _ _ c.in_ok-print_summary.ensures.later (omega arith) rose) (summary_whole _) (subst S c.is_both.ensures c.in_ok-print_summary.ensures.prints) why))

@@ -1,4 +1,4 @@
-use Rattle.std.proofs.Common.{sym, subst, inl}
+use Rattle.std.proofs.Common.{sym, subst, inl, ◌∙◌}
 use Rattle.std.proofs.KnownBytes.{Appends-nil}
 use Rattle.std.proofs.lemmas.Result.{err_from_is_err_and}
 use Rattle.run_view.specs.declared.item.Frames.{Frames}
@@ -35,7 +35,7 @@ returns-clause-taken g c =
     let O : Frames → Type 0 = λ f. OutputAt f.reader head before.written (g.O.Source.left c.args.output.now) (frames_of items) in
     taken_first c.args.viewer.now c.read_record.new.files c.read_frames.new.files c.own_frames-packets.result c.kinds_by-kinds.result c.judged_by-viewer.result c.answers-viewer.result c.note.new.self head before _ _ items
     c.args.entry.now c.noted_of-noted.result c.in_ok-gathered.gathered c.requires.none_owed on c.in_ok-gathered.ensures.went c.own_frames-packets.ensures c.kinds_by-kinds.ensures c.judged_by-viewer.ensures c.answers-viewer.ensures
-    c.noted_of-noted.ensures
+    c.noted_of-noted.ensures (c.in_ok-gathered.ensures.wanted ∙ c.is_of_era-wanted.ensures)
     (record {
       sides = c.in_ok-note.ensures.sides;
       second_sides = c.in_ok-note.ensures.second_sides;

@@ -1,4 +1,4 @@
-use Rattle.std.proofs.Common.{refl, inl, arith}
+use Rattle.std.proofs.Common.{refl, inl, arith, ◌∙◌}
 use Rattle.std.proofs.KnownBytes.{Appends-nil}
 use Rattle.std.proofs.lemmas.Result.{err_from_is_err_and}
 use Rattle.run_view.specs.Items.{frames_of}
@@ -16,7 +16,7 @@ returns-clause-taken g c =
     on_ok c.print_chosen.result c.print_chosen.ensures.prints
     (λ prints read head before items so_far fits number.
     taken_second c.args.viewer.now c.read_frames.new.files c.second_kinds-kinds.result _ _ c.note_second.new.self head before _ _ items c.args.entry.now c.noted_of-noted.result c.in_ok-gathered.gathered (omega arith) refl
-    c.in_ok-gathered.ensures.went c.second_kinds-kinds.ensures c.noted_of-noted.ensures
+    c.in_ok-gathered.ensures.went c.second_kinds-kinds.ensures c.noted_of-noted.ensures (c.in_ok-gathered.ensures.wanted ∙ c.is_of_era-wanted.ensures)
     (record {
       sides = c.in_ok-note_second.ensures.sides;
       second_sides = c.in_ok-note_second.ensures.second_sides;

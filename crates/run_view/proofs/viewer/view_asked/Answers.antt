@@ -4,8 +4,8 @@ use Rattle.pcap_file.specs.declared.head.Head.{Head}
 use Rattle.run_view.specs.Viewed.{ViewedAs}
 use Rattle.std.proofs.lemmas.Result.{err_from_is_err_and}
 use Rattle.run_view.proofs.Ons.{if_err, on_ok}
-use Rattle.run_view.proofs.Starting.{fresh_so_far, stops_within, viewed_fresh}
-use Rattle.run_view.proofs.Heads.{by_input, by_output_head, by_report, heads_are}
+use Rattle.run_view.proofs.Starting.{first_taken, fresh_so_far, stops_within, viewed_fresh}
+use Rattle.run_view.proofs.Heads.{by_input, by_output_head, by_report_ahead, heads_are}
 use Rattle.run_view.proofs.Whys.{failed_then, rose_within, source_within}
 use Rattle.run_view.specs.SoFar.{ends_of}
 use Rattle.run_view.specs.Causes.{counts_of}
@@ -17,22 +17,22 @@ returns-clause-viewed g c =
     (λ flushed.
     let P : Option (List ℕ) → Type 0 = λ now. ViewedAs c.args.asked (g.I.Source.left c.args.input.now) (g.O.Source.left c.args.output.now) (g.R.Source.left c.args.report.now) (g.K.Sink.held c.args.out.now) now in
     subst P (sym flushed)
-    (viewed_fresh c.in_ok-viewer.viewer c.args.asked c.in_ok-form.form c.in_ok-reader.reader c.in_ok-frames.frames _ _ _ _ _ _ c.in_ok-viewer.ensures (c.in_ok-frames.ensures.same ∙ ap (λ (h : Head). h.link) c.head.ensures) c.in_ok-form.ensures.first
+    (viewed_fresh c.in_ok-viewer.viewer c.args.asked c.in_ok-form.form c.read_form.new.lines c.in_ok-reader.reader c.in_ok-frames.frames _ _ _ _ _ _ c.in_ok-viewer.ensures (c.in_ok-frames.ensures.same ∙ ap (λ (h : Head). h.link) c.head.ensures) (first_taken c.in_ok-lines.lines c.read_form.new.lines c.in_ok-viewer.viewer.lines _ _ _ (c.in_ok-lines.ensures _) c.in_ok-viewer.ensures.lines_are c.in_ok-form.ensures.first)
     (c.in_ok-view_entries.ensures.viewed _ (ends_of (g.I.Source.left c.args.input.now) (g.O.Source.left c.args.output.now) (g.K.Sink.held c.args.out.now))
-    (fresh_so_far c.in_ok-viewer.viewer c.args.asked c.in_ok-form.form c.in_ok-reader.reader c.in_ok-frames.frames _ _ _ _ _ c.in_ok-viewer.ensures c.in_ok-reader.ensures.opened c.in_ok-frames.ensures.opened))))
+    (fresh_so_far c.in_ok-viewer.viewer c.args.asked c.in_ok-form.form c.read_form.new.lines c.in_ok-reader.reader c.in_ok-frames.frames _ _ _ _ _ c.in_ok-viewer.ensures c.in_ok-reader.ensures.opened c.in_ok-frames.ensures.opened))))
 
 pub returns-clause-stops : goal.returns-clause-stops
 returns-clause-stops g c =
     if_err c.flush.result c.flush.ensures.stops
     (λ stop why.
     let whole = c.in_ok-view_entries.ensures.viewed _ (ends_of (g.I.Source.left c.args.input.now) (g.O.Source.left c.args.output.now) (g.K.Sink.held c.args.out.now))
-    (fresh_so_far c.in_ok-viewer.viewer c.args.asked c.in_ok-form.form c.in_ok-reader.reader c.in_ok-frames.frames _ _ _ _ _ c.in_ok-viewer.ensures c.in_ok-reader.ensures.opened c.in_ok-frames.ensures.opened) in
+    (fresh_so_far c.in_ok-viewer.viewer c.args.asked c.in_ok-form.form c.read_form.new.lines c.in_ok-reader.reader c.in_ok-frames.frames _ _ _ _ _ c.in_ok-viewer.ensures c.in_ok-reader.ensures.opened c.in_ok-frames.ensures.opened) in
     inl (record { stop_is = why.0; failed = failed_then _ _ _ _ _ _ _ _ whole.text (λ rose. rose_within _ _ _ _ c.in_ok-view_entries.ensures.out_later (omega arith) rose) why.1 }))
 
 pub returns-in_err-view_entries-clause-stops : goal.returns-in_err-view_entries-clause-stops
 returns-in_err-view_entries-clause-stops g c =
     let p = err_from_is_err_and c.from_residual-in_err-view_entries.result c.from_residual-in_err-view_entries.ensures.1 in rw (p.1, p.2)
-    (stops_within c.in_ok-viewer.viewer c.args.asked c.in_ok-form.form c.in_ok-reader.reader c.in_ok-frames.frames _ _ _ _ _ _
+    (stops_within c.in_ok-viewer.viewer c.args.asked c.in_ok-form.form c.read_form.new.lines c.in_ok-reader.reader c.in_ok-frames.frames _ _ _ _ _ _
     (counts_of (g.I.Source.fault_count c.open_input.new.source) (g.O.Source.fault_count c.open_output.new.source) (g.R.Source.fault_count c.read_form.new.report) (g.K.Sink.fault_count c.args.out.now))
     (counts_of (g.I.Source.fault_count c.view_entries.new.input) (g.O.Source.fault_count c.view_entries.new.output) (g.R.Source.fault_count c.view_entries.new.report) (g.K.Sink.fault_count c.view_entries.new.out))
     (counts_of (g.I.Source.fault_count c.args.input.now) (g.O.Source.fault_count c.args.output.now) (g.R.Source.fault_count c.args.report.now) (g.K.Sink.fault_count c.args.out.now))
@@ -42,9 +42,9 @@ returns-in_err-view_entries-clause-stops g c =
     (counts_of (g.I.Source.fault_count c.view_entries.new.input) (g.O.Source.fault_count c.view_entries.new.output) (g.R.Source.fault_count c.view_entries.new.report) (g.K.Sink.fault_count c.view_entries.new.out))
     (counts_of (g.I.Source.fault_count c.view_entries.new.input) (g.O.Source.fault_count c.view_entries.new.output) (g.R.Source.fault_count c.view_entries.new.report) (g.K.Sink.fault_count c.view_entries.new.out))
     (record { input = omega arith; output = omega arith; report = omega arith; out = omega arith }) (record { input = omega arith; output = omega arith; report = omega arith; out = omega arith }))
-    refl c.in_ok-viewer.ensures (c.in_ok-frames.ensures.same ∙ ap (λ (h : Head). h.link) c.head.ensures) c.in_ok-form.ensures.first
+    refl c.in_ok-viewer.ensures (c.in_ok-frames.ensures.same ∙ ap (λ (h : Head). h.link) c.head.ensures) (first_taken c.in_ok-lines.lines c.read_form.new.lines c.in_ok-viewer.viewer.lines _ _ _ (c.in_ok-lines.ensures _) c.in_ok-viewer.ensures.lines_are c.in_ok-form.ensures.first)
     (c.in_err-view_entries.ensures.stops _ (ends_of (g.I.Source.left c.args.input.now) (g.O.Source.left c.args.output.now) (g.K.Sink.held c.args.out.now))
-    (fresh_so_far c.in_ok-viewer.viewer c.args.asked c.in_ok-form.form c.in_ok-reader.reader c.in_ok-frames.frames _ _ _ _ _ c.in_ok-viewer.ensures c.in_ok-reader.ensures.opened c.in_ok-frames.ensures.opened)))
+    (fresh_so_far c.in_ok-viewer.viewer c.args.asked c.in_ok-form.form c.read_form.new.lines c.in_ok-reader.reader c.in_ok-frames.frames _ _ _ _ _ c.in_ok-viewer.ensures c.in_ok-reader.ensures.opened c.in_ok-frames.ensures.opened)))
 
 pub returns-in_err-reader-clause-stops : goal.returns-in_err-reader-clause-stops
 returns-in_err-reader-clause-stops g c =
@@ -59,7 +59,7 @@ pub returns-in_err-form-clause-stops : goal.returns-in_err-form-clause-stops
 returns-in_err-form-clause-stops g c =
     let p = err_from_is_err_and c.from_residual-in_err-form.result c.from_residual-in_err-form.ensures.1 in rw (p.1, p.2)
     (inr (inl (record {
-      why = by_report _ _ _ _ _ (λ rose. inr (inr rose))
+      why = by_report_ahead _ c.in_ok-lines.lines _ _ _ _ (c.in_ok-lines.ensures _) (λ rose. inr (inr rose))
           (heads_are c.in_ok-reader.reader c.in_ok-frames.frames _ _ _ _ c.in_ok-reader.ensures.opened c.in_ok-frames.ensures.opened (c.in_ok-frames.ensures.same ∙ ap (λ (h : Head). h.link) c.head.ensures)) c.in_err-form.ensures.stops;
       text = Appends-nil _;
     })))
@@ -67,3 +67,7 @@ returns-in_err-form-clause-stops g c =
 pub returns-in_err-viewer-clause-stops : goal.returns-in_err-viewer-clause-stops
 returns-in_err-viewer-clause-stops g c =
     let p = err_from_is_err_and c.from_residual-in_err-viewer.result c.from_residual-in_err-viewer.ensures.1 in rw (p.1, p.2) (inr (inl (record { why = tt; text = Appends-nil _ })))
+
+pub returns-in_err-lines-clause-stops : goal.returns-in_err-lines-clause-stops
+returns-in_err-lines-clause-stops g c =
+    let p = err_from_is_err_and c.from_residual-in_err-lines.result c.from_residual-in_err-lines.ensures.1 in rw (p.1, p.2) (inr (inl (record { why = tt; text = Appends-nil _ })))

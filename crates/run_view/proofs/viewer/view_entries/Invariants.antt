@@ -1,5 +1,6 @@
 use Rattle.std.proofs.Common.{◌≡◌, ◌≤◌, ◌-◌, ◌^◌, []}
 use Rattle.pcap_file.specs.declared.head.Head.{Head}
+use Rattle.run_view.specs.Ahead.{left_in}
 use Rattle.run_view.specs.SoFar.{Ends, MayTake, SoFar, ends_of, lines_in}
 use Rattle.run_view.proofs.Going.{Going}
 use Rattle.run_view.proofs.viewer.view_entries.Given as goal
@@ -11,7 +12,7 @@ invariant-entries g l = record {
   form : l.viewer.form ≡ l.fn.viewer.form;
   head : l.viewer.files.head ≡ l.fn.viewer.files.head;
   going : (head : Head) (before : Ends) → SoFar l.fn.viewer head before (ends_of (g.I.Source.left l.fn.input) (g.O.Source.left l.fn.output) (g.K.Sink.held l.fn.out)) []
-      → Going l.viewer head before (ends_of (g.I.Source.left l.input) (g.O.Source.left l.output) (g.K.Sink.held l.out)) (g.R.Source.left l.fn.report) (g.R.Source.left l.report);
+      → Going l.viewer head before (ends_of (g.I.Source.left l.input) (g.O.Source.left l.output) (g.K.Sink.held l.out)) (left_in l.fn.viewer.lines (g.R.Source.left l.fn.report)) (left_in l.viewer.lines (g.R.Source.left l.report));
   input_later : g.I.Source.fault_count l.fn.input ≤ g.I.Source.fault_count l.input;
   output_later : g.O.Source.fault_count l.fn.output ≤ g.O.Source.fault_count l.output;
   report_later : g.R.Source.fault_count l.fn.report ≤ g.R.Source.fault_count l.report;
