@@ -117,6 +117,8 @@ class Definitions:
         declared = re.match(r"Rattle\.(\w+)\.specs\.declared\.([\w.]+)$", key)
         if declared:
             path = declared[2].split(".")
+            if path[-1] == "TheConstants":
+                return declared_constant(declared[1], name)
             if path[-1] == "TheVariants":
                 path.pop()
             return declared_type(declared[1], path[-1])
@@ -169,20 +171,37 @@ class Type:
         return f"{self.path}:{self.line}"
 
 
-TYPES = {}
+class Constant(Type):
+    """A constant of the code."""
+
+    @property
+    def value(self):
+        return re.match(r"pub const \w+: \w+ = (.*);", self.lines[0])[1]
+
+
+DECLARED = {}
 
 
 def declared_type(crate, name):
     """Returns the struct or enum of a crate's code, or None."""
-    if (crate, name) not in TYPES:
-        TYPES[crate, name] = None
+    return declared(crate, name, r"(?:struct|enum)", Type)
+
+
+def declared_constant(crate, name):
+    """Returns the constant of a crate's code, or None."""
+    return declared(crate, name, "const", Constant)
+
+
+def declared(crate, name, word, kind):
+    if (crate, name) not in DECLARED:
+        DECLARED[crate, name] = None
         for path in sorted(glob.glob(os.path.join(TOP, "crates", crate, "src", "**", "*.rt"), recursive=True)):
             with open(path, encoding="utf-8") as file:
                 lines = file.read().split("\n")
             for at, line in enumerate(lines):
-                if re.match(rf"pub (?:struct|enum) {name}\b", line):
+                if re.match(rf"pub {word} {name}\b", line):
                     end = at
                     while not re.match(r"\}|.*;$", lines[end]):
                         end += 1
-                    TYPES[crate, name] = Type(name, os.path.relpath(path, TOP), at + 1, lines[at : end + 1])
-    return TYPES[crate, name]
+                    DECLARED[crate, name] = kind(name, os.path.relpath(path, TOP), at + 1, lines[at : end + 1])
+    return DECLARED[crate, name]

@@ -79,7 +79,7 @@ def side_lines(lines, lead):
 
 def era_line(value):
     words = ["era", "second"] if value["by"] == "second" else ["era"]
-    words += [str(value["era"]), ends(value), value["first"], value["last"]]
+    words += [str(value["era"]), ends(value), value["first"] or "-", value["last"] or "-"]
     return " ".join(words + ["records %d" % value["records"], "octets %d" % value["octets"], value["end"]] + value["rules"])
 
 

@@ -269,8 +269,8 @@ row("frames that the second engine dropped", THREE, "--rule T_STATE",
 row("eras of both engines that no run has", THREE, "",
     ["records 3"] + sides([(1, 0, 0, 0), (0, 0, 0, 1), (0, 0, 0, 1)], [(2, 0, 0, 0), (0, 0, 0, 0), (0, 0, 0, 0)])
     + ["frames 3", "eras 5 live 3 reset 1 evicted 0 idle 1 reopened 0", "era 7 " + THERE + " EPOCH EPOCH records 1 octets 0 live",
-       "era 3 - > - EPOCH EPOCH records 0 octets 0 idle", "era 2 - > - EPOCH EPOCH records 1 octets 0 live",
-       "era second 7 - > - EPOCH EPOCH records 0 octets 0 reset", "era second 3 " + BACK + " EPOCH EPOCH records 1 octets 0 live"],
+       "era 3 - > - - - records 0 octets 0 idle", "era 2 - > - EPOCH EPOCH records 1 octets 0 live",
+       "era second 7 - > - - - records 0 octets 0 reset", "era second 3 " + BACK + " EPOCH EPOCH records 1 octets 0 live"],
     report=["norm 2 both", "1 in pass 2 @7 +7", "/1 in pass 1 -7:reset:0", "/2 in pass 2 @3 +3", "2 out drop 0 -3:idle:0", "3 - drop 0 @2", "end 3 3"])
 
 PADDED = head("big", True, 1) + record(ethernet(bytes(28), b"\x08\x06"), 5, 7, order="big") \

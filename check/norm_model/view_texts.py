@@ -124,15 +124,20 @@ def record_json(item):
 
 # An era
 
+def era_times(era, none):
+    """The times of its first and its last record; `none` twice for an era without a record."""
+    return [time_text(era.first), time_text(era.last)] if era.records else [none, none]
+
+
 def era_text(era):
-    words = ["era %d" % era.number if era.by == "first" else "era second %d" % era.number, ends_text(era.flow), time_text(era.first), time_text(era.last)]
+    words = ["era %d" % era.number if era.by == "first" else "era second %d" % era.number, ends_text(era.flow), *era_times(era, "-")]
     return " ".join(words + ["records %d" % era.records, "octets %d" % era.octets, era.end] + era.rules) + "\n"
 
 
 def era_json(era):
+    first, last = era_times(era, None)
     return json_line(dict(
-        ends_values(era.flow), event="era", era=era.number, by=era.by, first=time_text(era.first),
-        last=time_text(era.last), records=era.records, octets=era.octets, end=era.end, rules=era.rules,
+        ends_values(era.flow), event="era", era=era.number, by=era.by, first=first, last=last, records=era.records, octets=era.octets, end=era.end, rules=era.rules,
     ))
 
 
