@@ -1,10 +1,8 @@
 -- Totals that count as the same sum.
-use Rattle.std.proofs.Common.{◌≡◌, ℕ, ◌+◌, ◌≤◌, List, length, drop, slice_index, ◌*◌, refl, arith}
+use Rattle.std.proofs.Common.{◌≡◌, ℕ, ◌+◌, ◌≤◌, List, length, drop, slice_index, ◌*◌, refl, ap, arith}
+use Rattle.std.proofs.lemmas.List.{drop_all}
 use Rattle.wire_base.specs.Sums.{CountsAs, lowest_first_at, word_sum}
 use Rattle.wire_base.proofs.Words.{word_sum-drop}
-
-pub CountsAs-refl : (a : ℕ) → CountsAs a a
-CountsAs-refl a = record { up = 0; down = 0; same = refl; zero = λ e. e; back = λ e. e }
 
 -- transitivity
 pub CountsAs-trans : (a b c : ℕ) → CountsAs a b → CountsAs b c → CountsAs a c
@@ -37,3 +35,18 @@ pub CountsAs-piece : (folded total sum front back rest whole : ℕ) → CountsAs
 CountsAs-piece folded total sum front back rest whole p q e before =
     let step : CountsAs (folded + back) (total + rest) = record { up = p.up + q.up; down = p.down + q.down; same = omega (arith, p.same, q.same); zero = λ z. omega (arith, p.zero, q.zero); back = λ z. omega (arith, p.back, q.back) } in
     CountsAs-trans _ _ _ step before
+
+-- five steps of the loop, over 20 octets
+pub CountsAs-twenty : (octets : List ℕ) → length octets ≡ 20 → CountsAs (256 * (lowest_first_at octets 0 + lowest_first_at octets 4 + (lowest_first_at octets 8 + lowest_first_at octets 12) + lowest_first_at octets 16)) (word_sum octets)
+CountsAs-twenty octets long =
+    let total = word_sum octets in
+    let begin : CountsAs (256 * 0 + word_sum (drop 0 octets)) total = record { up = 0; down = 0; same = omega arith; zero = λ z. omega arith; back = λ z. omega arith } in
+    let first = CountsAs-four octets 0 total 0 4 (omega (arith, long)) refl begin in
+    let second = CountsAs-four octets _ total 4 8 (omega (arith, long)) refl first in
+    let third = CountsAs-four octets _ total 8 12 (omega (arith, long)) refl second in
+    let fourth = CountsAs-four octets _ total 12 16 (omega (arith, long)) refl third in
+    let fifth = CountsAs-four octets _ total 16 20 (omega (arith, long)) refl fourth in
+    let none : word_sum (drop 20 octets) ≡ 0 = ap word_sum (drop_all 20 octets (omega (arith, long))) in
+    let same : 256 * (lowest_first_at octets 0 + lowest_first_at octets 4 + (lowest_first_at octets 8 + lowest_first_at octets 12) + lowest_first_at octets 16)
+    ≡ 256 * (0 + lowest_first_at octets 0 + lowest_first_at octets 4 + lowest_first_at octets 8 + lowest_first_at octets 12 + lowest_first_at octets 16) + word_sum (drop 20 octets) = omega (arith, none) in
+    rw same fifth

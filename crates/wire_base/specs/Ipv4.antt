@@ -20,13 +20,15 @@ total_length p = u16_at p 2
 abbrev pub identification : List ℕ → ℕ
 identification p = u16_at p 4
 
--- the reserved flag is set; below, don't fragment and more fragments
+-- the reserved flag is set
 abbrev pub has_reserved : List ℕ → Bool
 has_reserved p = (slice_index p 6 / 128 % 2) == 1
 
+-- the flag DF, don't fragment, is set
 abbrev pub has_dont_fragment : List ℕ → Bool
 has_dont_fragment p = (slice_index p 6 / 64 % 2) == 1
 
+-- the flag MF, more fragments, is set
 abbrev pub has_more_fragments : List ℕ → Bool
 has_more_fragments p = (slice_index p 6 / 32 % 2) == 1
 
@@ -49,13 +51,15 @@ source p = u32_at p 12
 abbrev pub destination : List ℕ → ℕ
 destination p = u32_at p 16
 
--- the octets of the header, options included; below, of its options, and of the payload up to the total length
+-- the octets of the header, options included
 abbrev pub header : List ℕ → List ℕ
 header p = take (header_length p) p
 
+-- the octets of the header's options
 abbrev pub options : List ℕ → List ℕ
 options p = drop 20 (header p)
 
+-- the octets after the header, up to the total length
 abbrev pub payload : List ℕ → List ℕ
 payload p = drop (header_length p) (take (total_length p) p)
 

@@ -1,6 +1,7 @@
 //! The limits of frames and packets, in octets, and of a window scale.
 
-/// Most octets of a frame before its packet: the header of Ethernet II (RFC 894).
+/// Most octets of a frame before its packet. It is also the exact length of an Ethernet II header
+/// (RFC 894): a frame has this header or, on a raw link, nothing before its packet.
 pub const MAX_LINK: usize = 14;
 
 /// Most octets of an IPv4 packet: its total length has 16 bits (RFC 791 section 3.1).

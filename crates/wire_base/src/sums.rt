@@ -23,7 +23,7 @@ pub fn pseudo_sum(src: Addr, dst: Addr, protocol: u8, len: u16) -> u32
 pub fn sum_right(bytes: &[u8], extra: u32) -> bool
     ensures { result ≡ sums.sum_is_right bytes.now extra }
 {
-    is_right(folded_sum(bytes, extra))
+    is_right(total_sum(bytes, extra))
 }
 
 /// Returns the checksum that makes the sum of `extra` and the words of the octets right. The octets
@@ -31,7 +31,7 @@ pub fn sum_right(bytes: &[u8], extra: u32) -> bool
 pub fn sum_for(bytes: &[u8], extra: u32) -> u16
     ensures { result ≡ sums.checksum_for (extra + sums.word_sum bytes.now) }
 {
-    let total = folded_sum(bytes, extra);
+    let total = total_sum(bytes, extra);
     if is_right(total) {
         0
     } else {
@@ -46,7 +46,22 @@ fn is_right(total: u64) -> bool
     total > 0 && total % 65535 == 0
 }
 
+// Returns the sum of `extra` and the words of the octets, up to multiples of 65,535. A header of 20
+// octets, which each packet has, takes no loop.
+fn total_sum(bytes: &[u8], extra: u32) -> u64
+    ensures { sums.CountsAs result (extra + sums.word_sum bytes.now) }
+{
+    if bytes.len() == 20 {
+        u64::from(extra) + sum_of_twenty(bytes)
+    } else if bytes.len() <= PIECE {
+        u64::from(extra) + sum_of_piece(bytes)
+    } else {
+        folded_sum(bytes, extra)
+    }
+}
+
 // Returns the sum of `extra` and the words of the octets, with its carries folded in.
+#[cold]
 fn folded_sum(bytes: &[u8], extra: u32) -> u64
     ensures { sums.CountsAs result (extra + sums.word_sum bytes.now) }
 {
@@ -83,6 +98,17 @@ fn sum_of_piece(piece: &[u8]) -> u64
         sum += u64::from(lowest_first_at(piece, 4 * i));
     }
     256 * sum + sum_of_rest(&piece[4 * words..])
+}
+
+// Returns the sum of the words of 20 octets, up to multiples of 65,535, as `sum_of_piece` does.
+fn sum_of_twenty(header: &[u8]) -> u64
+    requires { length header.now ≡ 20 }
+    ensures alike { sums.CountsAs result (sums.word_sum header.now) }
+    ensures small { result < 2 ^ 55 }
+{
+    let first = u64::from(lowest_first_at(header, 0)) + u64::from(lowest_first_at(header, 4));
+    let second = u64::from(lowest_first_at(header, 8)) + u64::from(lowest_first_at(header, 12));
+    256 * (first + second + u64::from(lowest_first_at(header, 16)))
 }
 
 // Returns the 32-bit number at the offset `at`, least significant octet first.
