@@ -1,17 +1,13 @@
 -- If the name of the inside interface is not given, no record has a side.
-use Rattle.std.proofs.Common.{◌≡◌, ℕ, ◌+◌, ◌*◌, ◌/◌, ◌%◌, ◌-◌, ◌==◌, ◌^◌, not, nat_lt, Bool, true, false, List, [], ◌∷◌, ◌++◌, length, take, drop, slice_get, Option, Some, None, Result, Ok, Err, refl, ap, ◌∙◌, subst, if◌then◌else◌}
+use Rattle.std.proofs.Common.{◌≡◌, ℕ, ◌+◌, ◌*◌, ◌/◌, ◌%◌, ◌-◌, ◌==◌, ◌^◌, not, nat_lt, Bool, true, false, List, [], ◌∷◌, ◌++◌, length, take, drop, slice_get, Option, Some, None, Result, Ok, Err, refl, ap, subst, if◌then◌else◌}
 use Rattle.std.specs.Prelude.{IfSome, option_map}
 use Rattle.wire_base.specs.declared.address.Link.{Link}
-use Rattle.pcap_file.specs.declared.head.Head.{Head}
 use Rattle.pcap_file.specs.declared.order.Order.{Order}
 use Rattle.pcap_file.specs.declared.record.Record.{Record}
-use Rattle.pcap_file.specs.Flaws.{Flaw, too_long, too_many, cut_short}
 use Rattle.pcap_file.specs.Heads.{link_of}
 use Rattle.pcap_file.specs.Numbers.{u16_at, u32_at}
-use Rattle.pcap_file.specs.Reading.{Reading}
 use Rattle.pcap_file.specs.Reads as classic
-use Rattle.pcap_file.specs.Records as classic_records
-use Rattle.pcap_file.specs.Records.{Packet, front_of, captured}
+use Rattle.pcap_file.specs.Records.{Packet}
 use Rattle.pcapng_file.specs.declared.fault.NgFault.{NgFault}
 use Rattle.pcapng_file.specs.declared.fault.NgFault.TheVariants as faults
 use Rattle.pcapng_file.specs.declared.interface.Interface.{Interface}
@@ -30,8 +26,6 @@ use Rattle.pcapng_file.specs.Reads as sections
 use Rattle.capture_input.specs.declared.input.Input.TheVariants as kinds
 use Rattle.capture_input.specs.Inputs.{Walk, records, blocks}
 use Rattle.capture_input.specs.Reading.{Behind}
-use Rattle.capture_input.specs.Reads.{Reads, sideless}
-use Rattle.capture_input.proofs.Walking.{classic_reads}
 
 -- a fact of a choice
 choose : {X : Type 0} (P : X → Type 0) (b : Bool) (x y : X) → P x → P y → P (if b then x else y)
@@ -203,44 +197,6 @@ sections_none reader reader' (blocks steps) a b (Some given) p q =
 
 -- ---- a classic file
 
--- the record at the front has no side
-abbrev HasNone : Result (Option (Packet × List ℕ)) Flaw → Type 0
-HasNone (Ok (Some next)) = next.0.side ≡ None
-HasNone (Ok None) = Unit {0}
-HasNone (Err flaw) = Unit {0}
-
-front_none : (order : Order) (count : ℕ) (octets : List ℕ) → HasNone (front_of order count octets)
-unfolding front_of
-front_none order count octets =
-    let size = captured order octets in
-    let next : Packet × List ℕ = (classic_records.packet_of order octets size, drop (16 + size) octets) in
-    let found : Result (Option (Packet × List ℕ)) Flaw = Ok (Some next) in
-    let whole : Result (Option (Packet × List ℕ)) Flaw = if nat_lt (length octets) (16 + size) then Err cut_short else found in
-    let few : Result (Option (Packet × List ℕ)) Flaw = if count == 4294967295 then Err too_many else whole in
-    let small : Result (Option (Packet × List ℕ)) Flaw = if nat_lt 262144 size then Err too_long else few in
-    let fronted : Result (Option (Packet × List ℕ)) Flaw = if nat_lt (length octets) 16 then Err cut_short else small in
-    choose HasNone (length octets == 0) (Ok None) fronted tt
-    (choose HasNone (nat_lt (length octets) 16) (Err cut_short) small tt
-    (choose HasNone (nat_lt 262144 size) (Err too_long) few tt
-    (choose HasNone (count == 4294967295) (Err too_many) whole tt
-    (choose HasNone (nat_lt (length octets) (16 + size)) (Err cut_short) found tt refl))))
-
-leaves_none : (order : Order) (count : ℕ) (a b : Option (List ℕ)) (packet : Packet) → classic.Leaves order count a b packet → classic.Leaves order count a b (record packet { side = None })
-leaves_none order count None b packet leaves = tt
-leaves_none order count (Some xs) None packet leaves = absurd leaves
-leaves_none order count (Some xs) (Some ys) packet leaves =
-    let none : packet.side ≡ None = subst HasNone leaves (front_none order count xs) in
-    leaves ∙ ap (λ side. Ok (Some (record packet { side = side }, ys))) none
-
--- a result of reading a classic file holds also of its record without a side
-pub classic_none : (inside : Option (List ℕ)) (head : Head) (reader reader' : Reading) (walk : Walk) (a b : Option (List ℕ)) (given : Option Record)
-    → classic.Reads reader.head.order reader.given a b (Ok given) → reader'.head ≡ reader.head → reader'.asked ≡ reader.place → classic.IfRecord (Ok given) (λ r. r.offset ≡ reader.place)
-    → reader'.is_open ≡ classic.is_record (Ok given) → classic.IfRecord (Ok given) (λ r. classic.Advances reader reader' (length r.bytes.now))
-    → Behind (kinds.Classic head reader) inside walk → Reads (kinds.Classic head reader) (kinds.Classic head reader') inside walk a b (Ok (option_map sideless given))
-classic_none inside head reader reader' walk a b None reads same asked offset going ahead q = classic_reads inside head reader reader' walk a b None reads same asked offset going ahead q
-classic_none inside head reader reader' walk a b (Some given) reads same asked offset going ahead q =
-    classic_reads inside head reader reader' walk a b (Some (sideless given)) (leaves_none reader.head.order reader.given a b (classic.shown given) reads) same asked offset going ahead q
-
-pub without_none : (given : Option Record) → IfSome (option_map sideless given) (λ r. r.side ≡ None)
-without_none None = tt
-without_none (Some given) = refl
+pub classic_none : (given : Option Record) → classic.IfRecord (Ok given) (λ r. r.side ≡ None) → IfSome given (λ r. r.side ≡ None)
+classic_none None none = tt
+classic_none (Some given) none = none

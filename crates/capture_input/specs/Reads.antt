@@ -121,10 +121,6 @@ pub record StopsBehind (old new : Input) (inside : Option (List ℕ)) (walk : Wa
   pub place : asked_in new ≡ place_behind farther
   pub closed : is_open_in new ≡ false
 
--- a record without its side
-abbrev pub sideless : Record → Record
-sideless given = record given { side = None }
-
 -- the next record was read, or the end was reached, or this is the fault
 abbrev pub Reads : (old new : Input) → (inside : Option (List ℕ)) → Walk → (before after : Option (List ℕ)) → Result (Option Record) InputFault → Type 0
 Reads old new inside walk before after (Ok None) = ReachesEnd old new inside walk before after

@@ -5,7 +5,7 @@ ghost use Rattle.edge_io.specs.Faults.{Rose};
 ghost use Rattle.capture_input.specs.Faults.{has_read_fault, only_fault};
 ghost use Rattle.capture_input.specs.Inputs.{Walk};
 ghost use Rattle.capture_input.specs.Reading.{head_in, asked_in, is_open_in, Behind};
-ghost use Rattle.capture_input.specs.Reads.{Opens, Reads, sideless};
+ghost use Rattle.capture_input.specs.Reads.{Opens, Reads};
 ghost use Rattle.wire_base.specs.declared.limits.TheConstants.{MAX_CAPTURED};
 
 use crate::opening::{open_classic, open_sections};
@@ -92,21 +92,8 @@ impl Input {
         ensures cause { has_read_fault result ≡ true → Rose (S.fault_count source.old) (S.fault_count source.new) }
     {
         match self {
-            Input::Classic(_, reader) => Ok(without_side(reader.next(source, buf)?)),
+            Input::Classic(_, reader) => Ok(reader.next(source, buf)?),
             Input::Sections(reader) => Ok(reader.next(source, buf)?),
         }
-    }
-}
-
-// Returns a record of a classic file, which has no sides.
-fn without_side(given: Option<Record<'_>>) -> Option<Record<'_>>
-    ensures { result ≡ option_map sideless given.entry }
-{
-    match given {
-        Some(record) => Some(Record {
-            side: None,
-            ..record
-        }),
-        None => None,
     }
 }

@@ -99,6 +99,7 @@ impl Reader {
         ensures head { self.new.head ≡ self.old.head }
         ensures asked { self.new.asked ≡ self.old.place }
         ensures offset { IfRecord result (λ r. r.offset ≡ self.old.place) }
+        ensures sideless { IfRecord result (λ r. r.side ≡ None) }
         ensures goes_on { self.new.is_open ≡ is_record result }
         ensures advances { IfRecord result (λ r. Advances self.old self.new (length r.bytes.now)) }
         ensures stays { IfNoRecord result (Stays self.old self.new) }

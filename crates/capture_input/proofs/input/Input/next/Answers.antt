@@ -1,13 +1,11 @@
-use Rattle.std.proofs.Common.{◌≡◌, Ok, None, Option, sym, subst}
-use Rattle.std.specs.Prelude.{IfSome}
+use Rattle.std.proofs.Common.{◌≡◌, Ok, None, sym, subst}
 use Rattle.std.proofs.lemmas.Result.{err_from_is_err_and}
-use Rattle.pcap_file.specs.declared.record.Record.{Record}
 use Rattle.capture_input.specs.declared.input.Input.{Input}
 use Rattle.capture_input.specs.declared.input.Input.TheVariants as kinds
 use Rattle.capture_input.specs.Reading.{Behind}
 use Rattle.capture_input.specs.Reads.{Reads}
-use Rattle.capture_input.proofs.Sides.{classic_none, sections_none, without_none}
-use Rattle.capture_input.proofs.Walking.{classic_fails, sections_reads, sections_fail}
+use Rattle.capture_input.proofs.Sides.{classic_none, sections_none}
+use Rattle.capture_input.proofs.Walking.{classic_fails, classic_reads, sections_reads, sections_fail}
 use Rattle.capture_input.proofs.input.Input.next.Goals as goal
 
 pub returns-in_err-next-in-Classic-clause-octets : goal.returns-in_err-next-in-Classic-clause-octets
@@ -26,10 +24,8 @@ returns-in_ok-next-in-Classic-clause-octets g c = λ inside walk q.
     let reads = c.in_ok-next-in-Classic.ensures in
     let is : c.args.self.now ≡ kinds.Classic c.in-Classic.field-0 c.in-Classic.reader = c.in-Classic.is in
     let before : Behind (kinds.Classic c.in-Classic.field-0 c.in-Classic.reader) inside walk = subst (λ (i : Input). Behind i inside walk) is q in
-    let read = classic_none inside c.in-Classic.field-0 c.in-Classic.reader c.next.new.self walk (g.S.Source.left c.args.source.now) (g.S.Source.left c.next.new.source) c.in_ok-next-in-Classic.field-0 reads.octets reads.head reads.asked reads.offset reads.goes_on reads.advances before in
-    let told : Reads (kinds.Classic c.in-Classic.field-0 c.in-Classic.reader) (kinds.Classic c.in-Classic.field-0 c.next.new.self) inside walk (g.S.Source.left c.args.source.now) (g.S.Source.left c.next.new.source) (Ok c.without_side.result) =
-    subst (λ (o : Option Record). Reads (kinds.Classic c.in-Classic.field-0 c.in-Classic.reader) (kinds.Classic c.in-Classic.field-0 c.next.new.self) inside walk (g.S.Source.left c.args.source.now) (g.S.Source.left c.next.new.source) (Ok o)) (sym c.without_side.ensures) read in
-    subst (λ (i : Input). Reads i (kinds.Classic c.in-Classic.field-0 c.next.new.self) inside walk (g.S.Source.left c.args.source.now) (g.S.Source.left c.next.new.source) (Ok c.without_side.result)) (sym is) told
+    let read = classic_reads inside c.in-Classic.field-0 c.in-Classic.reader c.next.new.self walk (g.S.Source.left c.args.source.now) (g.S.Source.left c.next.new.source) c.in_ok-next-in-Classic.field-0 reads.octets reads.head reads.asked reads.offset reads.goes_on reads.advances before in
+    subst (λ (i : Input). Reads i (kinds.Classic c.in-Classic.field-0 c.next.new.self) inside walk (g.S.Source.left c.args.source.now) (g.S.Source.left c.next.new.source) (Ok c.in_ok-next-in-Classic.field-0)) (sym is) read
 
 pub returns-in_ok-next-in-Sections-clause-octets : goal.returns-in_ok-next-in-Sections-clause-octets
 returns-in_ok-next-in-Sections-clause-octets g c = λ inside walk q.
@@ -40,8 +36,7 @@ returns-in_ok-next-in-Sections-clause-octets g c = λ inside walk q.
     subst (λ (i : Input). Reads i (kinds.Sections c.next-in-Sections.new.self) inside walk (g.S.Source.left c.args.source.now) (g.S.Source.left c.next-in-Sections.new.source) (Ok c.in_ok-next-in-Sections.field-0)) (sym is) read
 
 pub returns-in_ok-next-in-Classic-clause-sideless : goal.returns-in_ok-next-in-Classic-clause-sideless
-returns-in_ok-next-in-Classic-clause-sideless g c = λ walk q.
-    subst (λ (o : Option Record). IfSome o (λ r. r.side ≡ None)) (sym c.without_side.ensures) (without_none c.in_ok-next-in-Classic.field-0)
+returns-in_ok-next-in-Classic-clause-sideless g c = λ walk q. classic_none c.in_ok-next-in-Classic.field-0 c.in_ok-next-in-Classic.ensures.sideless
 
 pub returns-in_ok-next-in-Sections-clause-sideless : goal.returns-in_ok-next-in-Sections-clause-sideless
 returns-in_ok-next-in-Sections-clause-sideless g c = λ walk q.
