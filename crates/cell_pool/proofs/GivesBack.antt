@@ -12,8 +12,8 @@ use Rattle.cell_pool.proofs.Views.{Shows, chain_count, chain_rises, head_read, p
 use Rattle.cell_pool.proofs.Updates.{IsUpdate, only_own, one_change, two_changes, linked_at, written_at}
 use Rattle.cell_pool.proofs.FreeList.{free_more}
 
-module _ {heads : List Head} {cells : List Cell} {spare : Option CellId} {free : ℕ} {pool : Lists}
-    (shows : Shows heads cells spare free pool) {c : ℕ} (inside : c < length pool.chains) where
+module _ {heads : List Head} {cells : List Cell} {spare : Option CellId} {free all : ℕ} {pool : Lists}
+    (shows : Shows heads cells spare free all pool) {c : ℕ} (inside : c < length pool.chains) where
   -- the first cell of a chain
   front_cell : {before : List Held} {z : Held} {rest : List Held} → IsPlace (chain_at pool c) None before (z ∷ rest) →
       (before ≡ []) × ((head_at heads c).first ≡ Some z.id) × FoundAt cells (owner_of c) z.id rest
@@ -36,7 +36,7 @@ module _ {heads : List Head} {cells : List Cell} {spare : Option CellId} {free :
   pub give_front : {given : CellId} {x : Cell} (y : Cell) {h : Head} {before : List Held} {z : Held}
       {rest : List Held} → h ≡ get_or heads c h → h.first ≡ Some given → x ≡ get_or cells given.0 x → y.next ≡ spare →
       y.owner ≡ None → IsPlace (chain_at pool c) None before (z ∷ rest) →
-      IsUpdate heads cells free c (record { first = x.next; count = h.count - 1 }) (set cells given.0 y) (Some given)
+      IsUpdate heads cells free all c (record { first = x.next; count = h.count - 1 }) (set cells given.0 y) (Some given)
       (free + 1) (before ++ rest) given given
   give_front {given = given} y {before = before} {z = z} {rest = rest} h_read first x_read to_spare freed place =
       let (empty, z_first, z_at) = front_cell place in
@@ -49,7 +49,8 @@ module _ {heads : List Head} {cells : List Cell} {spare : Option CellId} {free :
       let avoids = avoids_itself cells (owner_of c) given rest at in
       let kept = Leads-kept cells new given given changes (owner_of c) _ rest avoids avoids at.leads in
       let head_then : Head = record { first = next_at cells given; count = (head_at heads c).count - 1 } in
-      let update : IsUpdate heads cells free c head_then new (Some given) (free + 1) (before ++ rest) given given = record {
+      let update : IsUpdate heads cells free all c head_then new (Some given) (free + 1) (before ++ rest) given given = record {
+        listed = shows.sound.listed + 1;
         changes = changes;
         leads = rw empty kept;
         counted = rw empty (omega (
@@ -63,6 +64,7 @@ module _ {heads : List Head} {cells : List Cell} {spare : Option CellId} {free :
         second_place = only_own c _ at.owned;
         free_list = free_more shows changes at.owned at.owned at.inside (ap (λ (k : Cell). k.next) here ∙ to_spare)
             (ap (λ (k : Cell). k.owner) here ∙ freed);
+        made = omega (arith, shows.sound.made);
         total = omega (arith, chain_count shows inside, ap length place.splits, length-append before (z ∷ rest));
       } in
       rw (x_read ∙ get_or_default cells given.0 _ blank_cell at.inside, head_read shows inside h_read) update
@@ -72,7 +74,7 @@ module _ {heads : List Head} {cells : List Cell} {spare : Option CellId} {free :
       {z : Held} {rest : List Held} → y ≡ get_or cells a.0 y → y.next ≡ Some given → x ≡ get_or cells given.0 x →
       mid ≡ with_next cells a.0 x.next → w.next ≡ spare → w.owner ≡ None → h ≡ get_or heads c h →
       IsPlace (chain_at pool c) (Some a) before (z ∷ rest) →
-      IsUpdate heads cells free c (record { first = h.first; count = h.count - 1 }) (set mid given.0 w) (Some given)
+      IsUpdate heads cells free all c (record { first = h.first; count = h.count - 1 }) (set mid given.0 w) (Some given)
       (free + 1) (before ++ rest) a given
   give_behind {given = given} {a = a} w {before = before} {z = z}
       {rest = rest} y_read next x_read mid_is to_spare freed h_read place =
@@ -88,7 +90,8 @@ module _ {heads : List Head} {cells : List Cell} {spare : Option CellId} {free :
       let here = written_at cells a given (next_at cells given) w at.inside in
       let new = set (with_next cells a.0 (next_at cells given)) given.0 w in
       let head_then : Head = record { first = (head_at heads c).first; count = (head_at heads c).count - 1 } in
-      let update : IsUpdate heads cells free c head_then new (Some given) (free + 1) (before ++ rest) a given = record {
+      let update : IsUpdate heads cells free all c head_then new (Some given) (free + 1) (before ++ rest) a given = record {
+        listed = shows.sound.listed + 1;
         changes = changes;
         leads = remove_at cells new a given changes (owner_of c) linked _ before z rest
             (place_leads shows inside place) place.ends named;
@@ -103,6 +106,7 @@ module _ {heads : List Head} {cells : List Cell} {spare : Option CellId} {free :
         second_place = only_own c _ at.owned;
         free_list = free_more shows changes last.owned at.owned at.inside (ap (λ (k : Cell). k.next) here ∙ to_spare)
             (ap (λ (k : Cell). k.owner) here ∙ freed);
+        made = omega (arith, shows.sound.made);
         total = omega (arith, chain_count shows inside, ap length place.splits, length-append before (z ∷ rest));
       } in
       rw (mid_is, x_read ∙ get_or_default cells given.0 _ blank_cell at.inside, head_read shows inside h_read) update

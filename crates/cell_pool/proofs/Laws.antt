@@ -34,12 +34,12 @@ same_front (x ∷ xs) (y ∷ ys) zs ws len e =
     let rest = same_front xs ys zs ws (omega arith) tails in
     cc
 
-module _ {heads : List Head} {cells : List Cell} {spare : Option CellId} {free : ℕ} {pool : Lists}
-    (shows : Shows heads cells spare free pool) where
+module _ {heads : List Head} {cells : List Cell} {spare : Option CellId} {free all : ℕ} {pool : Lists}
+    (shows : Shows heads cells spare free all pool) where
   pub total_is : pool.free + sum_by length pool.chains ≡ pool.cells
   total_is =
       let sum = counts_are cells heads (λ c lt. (shows.sound.chain_lists c lt).counted) in
-      let here : free + sum_by length (map (cells_of cells) heads) ≡ length cells = omega
+      let here : free + sum_by length (map (cells_of cells) heads) ≡ all = omega
       (arith, shows.sound.total) in
       subst (λ (p : Lists). p.free + sum_by length p.chains ≡ p.cells) shows.is here
 

@@ -3,6 +3,7 @@ pub mod FreeList
 pub mod GivesBack
 pub mod Laws
 pub mod Links
+pub mod Making
 pub mod Masks
 pub mod Opening
 pub mod Overwrites

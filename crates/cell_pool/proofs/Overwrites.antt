@@ -11,13 +11,13 @@ use Rattle.cell_pool.proofs.Rising.{IsRising-octets}
 use Rattle.cell_pool.proofs.Views.{Shows, free_is, chain_leads, chain_count, chain_rises, stands_at, stands_is}
 use Rattle.cell_pool.proofs.Updates.{IsUpdate, only_own, one_change, update_sound, update_seen}
 
-module _ {heads : List Head} {cells : List Cell} {spare : Option CellId} {free : ℕ} {pool : Lists}
-    (shows : Shows heads cells spare free pool) where
+module _ {heads : List Head} {cells : List Cell} {spare : Option CellId} {free all : ℕ} {pool : Lists}
+    (shows : Shows heads cells spare free all pool) where
   -- the octets of one cell are written
   pub overwrite : {c : ℕ} {name : CellId} {before : List Held} {x : Held} {after : List Held} {k : Cell}
       {octets : List (Option ℕ)} → (f : List (Option ℕ) → List (Option ℕ)) → k ≡ get_or cells name.0 k →
       octets ≡ f k.octets → Stands pool c name before x after →
-      Shows heads (set cells name.0 (record k { octets = octets })) spare free
+      Shows heads (set cells name.0 (record k { octets = octets })) spare free all
       (with_chain pool c (before ++ record x { octets = f x.octets } ∷ after) pool.free)
   overwrite {c = c} {name = name} {before = before} {x = x} {after = after} {k = k}
       {octets = octets} f k_read octets_are stands =
@@ -36,7 +36,8 @@ module _ {heads : List Head} {cells : List Cell} {spare : Option CellId} {free :
       let avoids = avoids_other cells None name.0 _ _ (λ same. let owned = at.owned in cc) list.leads in
       let free_kept = Leads-kept cells new name name changes None _ _ avoids avoids list.leads in
       let l = before ++ record x { octets = y } ∷ after in
-      let update : IsUpdate heads cells free c (head_at heads c) new spare free l name name = record {
+      let update : IsUpdate heads cells free all c (head_at heads c) new spare free l name name = record {
+        listed = shows.sound.listed;
         changes = changes;
         leads = overwrite_at cells new name changes (owner_of c) y here _ before x after leads stands.named;
         counted = omega (
@@ -49,14 +50,15 @@ module _ {heads : List Head} {cells : List Cell} {spare : Option CellId} {free :
         );
         first_place = only_own c _ at.owned;
         second_place = only_own c _ at.owned;
-        free_list = (walked new None spare free (walk cells free spare) free_kept (sym list.counted)).list;
+        free_list = (walked new None spare shows.sound.listed (walk cells shows.sound.listed spare) free_kept (sym list.counted)).list;
+        made = shows.sound.made;
         total = refl;
       } in
       let rises = IsRising-octets before x after y (subst IsRising stands.splits (chain_rises shows stands.inside)) in
       let same_heads = set-get_or heads c blank_head in
-      let result : Shows heads new spare free (with_chain pool c l pool.free) = record {
-        sound = subst (λ hs. IsSound hs new spare free) same_heads (update_sound shows stands.inside update rises);
-        is = subst (λ hs. lists_of hs new free ≡ with_chain pool c l pool.free) same_heads
+      let result : Shows heads new spare free all (with_chain pool c l pool.free) = record {
+        sound = subst (λ hs. IsSound hs new spare free all) same_heads (update_sound shows stands.inside update rises);
+        is = subst (λ hs. lists_of hs new free all ≡ with_chain pool c l pool.free) same_heads
             (update_seen shows stands.inside update (free_is shows));
       } in
       rw (y_is, k_is) result

@@ -168,8 +168,8 @@ module _ (cells : List Cell) where
     gathered_count (suc k) hs lists.1,
   )
 
-module _ {heads : List Head} {cells : List Cell} {spare : Option CellId} {free : ℕ} {pool : Lists}
-    (shows : Shows heads cells spare free pool) {c : ℕ} (inside : c < length pool.chains) where
+module _ {heads : List Head} {cells : List Cell} {spare : Option CellId} {free all : ℕ} {pool : Lists}
+    (shows : Shows heads cells spare free all pool) {c : ℕ} (inside : c < length pool.chains) where
   lists : AreLists cells 0 heads
   lists = lists_from cells 0 heads (λ k lt.
       let same : k ≡ 0 + k = omega arith in
@@ -180,7 +180,7 @@ module _ {heads : List Head} {cells : List Cell} {spare : Option CellId} {free :
   not_avoided : (i : CellId) → i.0 < length cells → (cell_at cells i.0).owner ≡ owner_of c →
       Avoids i.0 (cells_of cells (head_at heads c)) → ⊥
   not_avoided i lt owned avoids =
-      let spares = walk cells free spare in
+      let spares = walk cells shows.sound.listed spare in
       let free_leads = shows.sound.free_list.leads in
       let others = gathered cells heads in
       let same : 0 + c ≡ c = omega arith in
@@ -205,6 +205,7 @@ module _ {heads : List Head} {cells : List Cell} {spare : Option CellId} {free :
         shows.sound.free_list.counted,
         gathered_count cells 0 heads lists,
         shows.sound.total,
+        shows.sound.made,
       )
 
   -- a cell of this owner is in the chain

@@ -10,15 +10,15 @@ use Rattle.cell_pool.proofs.Links.{avoids_other, avoids_itself, no_last, Leads-k
 use Rattle.cell_pool.proofs.Rising.{IsRising-more}
 use Rattle.cell_pool.proofs.Views.{Shows, chain_leads, chain_count, chain_rises, head_read, place_leads, place_last}
 use Rattle.cell_pool.proofs.Updates.{IsUpdate, only_own, only_free, one_change, two_changes, linked_at, written_at}
-use Rattle.cell_pool.proofs.FreeList.{spare_first, free_less}
+use Rattle.cell_pool.proofs.FreeList.{spare_first, free_some, free_less}
 
-module _ {heads : List Head} {cells : List Cell} {spare : Option CellId} {free : ℕ} {pool : Lists}
-    (shows : Shows heads cells spare free pool) {c : ℕ} (inside : c < length pool.chains) where
+module _ {heads : List Head} {cells : List Cell} {spare : Option CellId} {free all : ℕ} {pool : Lists}
+    (shows : Shows heads cells spare free all pool) {c : ℕ} (inside : c < length pool.chains) where
   -- a free cell is put at the front
   pub take_front : {taken : CellId} {block : ℕ} {x y : Cell} {h : Head} → spare ≡ Some taken →
       x ≡ get_or cells taken.0 x → h ≡ get_or heads c h →
       y ≡ fresh_cell h.first (record { 0 = c }) block →
-      IsUpdate heads cells free c (record { first = Some taken; count = h.count + 1 }) (set cells taken.0 y) x.next
+      IsUpdate heads cells free all c (record { first = Some taken; count = h.count + 1 }) (set cells taken.0 y) x.next
       (free - 1) (empty_cell taken block ∷ chain_at pool c) taken taken
   take_front {taken = taken} {block = block} first x_read h_read y_is =
       let head = spare_first shows first in
@@ -31,7 +31,8 @@ module _ {heads : List Head} {cells : List Cell} {spare : Option CellId} {free :
       let kept = Leads-kept cells new taken taken changes (owner_of c) _ _ avoids avoids chain in
       let head_then : Head = record { first = Some taken; count = (head_at heads c).count + 1 } in
       let l = empty_cell taken block ∷ chain_at pool c in
-      let update : IsUpdate heads cells free c head_then new (next_at cells taken) (free - 1) l taken taken = record {
+      let update : IsUpdate heads cells free all c head_then new (next_at cells taken) (free - 1) l taken taken = record {
+        listed = shows.sound.listed - 1;
         changes = changes;
         leads = (
           record {
@@ -46,7 +47,8 @@ module _ {heads : List Head} {cells : List Cell} {spare : Option CellId} {free :
         first_place = only_free c _ head.at.owned;
         second_place = only_free c _ head.at.owned;
         free_list = free_less shows changes first (avoids_itself cells None taken head.rest head.at);
-        total = omega (arith, head.number);
+        made = omega (arith, head.number, free_some shows first, shows.sound.made);
+        total = omega (arith, free_some shows first);
       } in
       rw (y_is, x_read ∙ get_or_default cells taken.0 _ blank_cell head.at.inside, head_read shows inside h_read)
       update
@@ -55,7 +57,7 @@ module _ {heads : List Head} {cells : List Cell} {spare : Option CellId} {free :
   pub take_behind : {taken a : CellId} {block : ℕ} {x y z : Cell} {mid : List Cell} {h : Head}
       {before rest : List Held} → spare ≡ Some taken → x ≡ get_or cells taken.0 x → y ≡ get_or cells a.0 y →
       mid ≡ with_next cells a.0 (Some taken) → z ≡ fresh_cell y.next (record { 0 = c }) block → h ≡ get_or heads c h → IsPlace (chain_at pool c) (Some a) before rest →
-      IsUpdate heads cells free c (record { first = h.first; count = h.count + 1 }) (set mid taken.0 z) x.next
+      IsUpdate heads cells free all c (record { first = h.first; count = h.count + 1 }) (set mid taken.0 z) x.next
       (free - 1) (before ++ empty_cell taken block ∷ rest) a taken
   take_behind {taken = taken} {a = a} {block = block} {before = before}
       {rest = rest} first x_read y_read mid_is z_is h_read place =
@@ -76,7 +78,8 @@ module _ {heads : List Head} {cells : List Cell} {spare : Option CellId} {free :
       chain place.ends in
       let head_then : Head = record { first = (head_at heads c).first; count = (head_at heads c).count + 1 } in
       let l = before ++ empty_cell taken block ∷ rest in
-      let update : IsUpdate heads cells free c head_then new (next_at cells taken) (free - 1) l a taken = record {
+      let update : IsUpdate heads cells free all c head_then new (next_at cells taken) (free - 1) l a taken = record {
+        listed = shows.sound.listed - 1;
         changes = changes;
         leads = rw (← cell_is) leads;
         counted = omega (
@@ -90,7 +93,8 @@ module _ {heads : List Head} {cells : List Cell} {spare : Option CellId} {free :
         second_place = only_free c _ head.at.owned;
         free_list = free_less shows changes first (avoids_other cells None a.0 _ _
             (λ same. let own = last.owned in cc) head.at.leads);
-        total = omega (arith, head.number);
+        made = omega (arith, head.number, free_some shows first, shows.sound.made);
+        total = omega (arith, free_some shows first);
       } in
       rw (
         z_is,

@@ -10,7 +10,7 @@ use Rattle.cell_pool.specs.declared.cells.ChainId.{ChainId}
 use Rattle.cell_pool.specs.Lists.{Lists, Held, IsRising, with_chain}
 use Rattle.cell_pool.specs.Links.{blank_cell, blank_head, cell_at, head_at, cells_of, lists_of, owner_of, Leads, IsList, IsSound, with_next}
 use Rattle.cell_pool.proofs.Links.{owner_number, avoids_other, Changes, Leads-kept, IsWalked, walked}
-use Rattle.cell_pool.proofs.Views.{Shows, within}
+use Rattle.cell_pool.proofs.Views.{Shows, chains_same, within}
 
 -- a cell of this owner is in no other chain
 abbrev pub IsOnlyIn : ℕ → Option ChainId → Type 0
@@ -23,14 +23,16 @@ pub only_free : (c : ℕ) (owner : Option ChainId) → owner ≡ None → IsOnly
 only_free c owner free j ne same = cc
 
 -- what is known of the fields after one chain has become these cells
-pub record IsUpdate (heads : List Head) (cells : List Cell) (free c : ℕ) (head : Head) (new : List Cell)
+pub record IsUpdate (heads : List Head) (cells : List Cell) (free all c : ℕ) (head : Head) (new : List Cell)
     (spare : Option CellId) (left : ℕ) (l : List Held) (a i : CellId) : Type 0 where
+  pub listed : ℕ
   pub changes : Changes cells new a.0 i.0
   pub leads : Leads new (owner_of c) head.first l
   pub counted : head.count ≡ length l
   pub first_place : IsOnlyIn c (cell_at cells a.0).owner
   pub second_place : IsOnlyIn c (cell_at cells i.0).owner
-  pub free_list : IsList new None spare left
+  pub free_list : IsList new None spare listed
+  pub made : listed + all ≡ left + length cells
   pub total : left + head.count ≡ free + (head_at heads c).count
 
 -- the lists of all chains after one head was written
@@ -39,20 +41,14 @@ chains-set : (f g : Head → List Held) (heads : List Head) (c : ℕ) (y : Head)
     map f (set heads c y) ≡ set (map g heads) c (f y)
 chains-set f g [] c y same = refl
 chains-set f g (x ∷ xs) zero y same = ap (λ l. f y ∷ l)
-    (all_same xs (λ j lt. same (suc j) (omega arith) (omega arith)))
-  where
-    all_same : (xs : List Head) → ((j : ℕ) → j < length xs → f (head_at xs j) ≡ g (head_at xs j)) →
-        map f xs ≡ map g xs
-    all_same [] same = refl
-    all_same (x ∷ xs) same = let first = same 0 (omega arith) in let rest = all_same xs
-        (λ j lt. same (suc j) (omega arith)) in cc
+    (chains_same f g xs (λ j lt. same (suc j) (omega arith) (omega arith)))
 chains-set f g (x ∷ xs) (suc c) y same = let first : f x ≡ g x = same 0 (omega arith) (omega arith)
     in let rest = chains-set f g xs c y (λ j lt ne. same (suc j) (omega arith) (omega arith)) in cc
 
-module _ {heads : List Head} {cells : List Cell} {old : Option CellId} {free : ℕ} {pool : Lists}
-    (shows : Shows heads cells old free pool) {c : ℕ} (inside : c < length pool.chains) {head : Head}
+module _ {heads : List Head} {cells : List Cell} {old : Option CellId} {free all : ℕ} {pool : Lists}
+    (shows : Shows heads cells old free all pool) {c : ℕ} (inside : c < length pool.chains) {head : Head}
     {new : List Cell} {spare : Option CellId} {left : ℕ} {l : List Held} {a i : CellId}
-    (update : IsUpdate heads cells free c head new spare left l a i) where
+    (update : IsUpdate heads cells free all c head new spare left l a i) where
   other_chain : (j : ℕ) → j < length heads → j ≢ c → IsWalked new (owner_of j) (head_at heads j).first
       (head_at heads j).count (cells_of cells (head_at heads j))
   other_chain j lt ne =
@@ -71,10 +67,11 @@ module _ {heads : List Head} {cells : List Cell} {old : Option CellId} {free : �
   head_other : (j : ℕ) → j ≢ c → head_at (set heads c head) j ≡ head_at heads j
   head_other j ne = get_or-set_other heads c j head blank_head ne
 
-  pub update_sound : IsRising l → IsSound (set heads c head) new spare left
+  pub update_sound : IsRising l → IsSound (set heads c head) new spare left all
   update_sound rises =
       let len = length-set heads c head in
       record {
+        listed = update.listed;
         free_list = update.free_list;
         chain_lists = λ j lt. elim (cases_eq j c) [
           | inl same ↦ rw (same, head_here) this_chain.list
@@ -84,21 +81,22 @@ module _ {heads : List Head} {cells : List Cell} {old : Option CellId} {free : �
           | inl same ↦ rw (same, head_here, this_chain.is) rises
           | inr ne ↦ rw (head_other j ne, (other_chain j (omega arith) ne).is) (shows.sound.rising j (omega arith))
         ];
+        made = omega (arith, update.made, update.changes.len);
+        fits = omega (arith, shows.sound.fits, update.changes.len);
         total = omega (
           arith,
           sum_by-set (λ (h : Head). h.count) heads c head blank_head (within shows inside),
           shows.sound.total,
           update.total,
-          update.changes.len,
         );
-        room = omega (arith, shows.sound.room, update.changes.len);
+        room = omega (arith, shows.sound.room);
       }
 
-  pub update_seen : {n : ℕ} → n ≡ left → lists_of (set heads c head) new left ≡ with_chain pool c l n
+  pub update_seen : {n : ℕ} → n ≡ left → lists_of (set heads c head) new left all ≡ with_chain pool c l n
   update_seen {n = n} same =
       let chains = chains-set (cells_of new) (cells_of cells) heads c head (λ j lt ne. (other_chain j lt ne).is) in
-      let seen : lists_of (set heads c head) new left ≡ with_chain (lists_of heads cells free)
-      c l left = rw (chains, this_chain.is, update.changes.len) refl in
+      let seen : lists_of (set heads c head) new left all ≡ with_chain (lists_of heads cells free all)
+      c l left = rw (chains, this_chain.is) refl in
       seen ∙ (ap (λ (p : Lists). with_chain p c l left) shows.is ∙ ap (λ (k : ℕ). with_chain pool c l k) (sym same))
 
 -- the cells after one was written

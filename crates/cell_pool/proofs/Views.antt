@@ -1,5 +1,5 @@
 -- The fields of a pool, from what contracts see of it.
-use Rattle.std.proofs.Common.{◌≡◌, ℕ, ◌<◌, List, ◌++◌, length, get_or, Option, Some, sym, ap, subst, ◌∙◌, arith}
+use Rattle.std.proofs.Common.{◌≡◌, ℕ, suc, ◌<◌, List, [], ◌∷◌, ◌++◌, map, length, get_or, Option, Some, refl, sym, ap, subst, ◌∙◌, arith}
 use Rattle.std.proofs.lemmas.List.{length-map, get_or-map, get_or_default}
 use Rattle.cell_pool.specs.declared.cells.Cell.{Cell}
 use Rattle.cell_pool.specs.declared.cells.Head.{Head}
@@ -8,18 +8,25 @@ use Rattle.cell_pool.specs.Lists.{Lists, Held, IsRising, chain_at, Stands, IsHel
 use Rattle.cell_pool.specs.Links.{cell_at, held_at, head_at, blank_cell, blank_head, cells_of, lists_of, owner_of, Leads, IsSound}
 use Rattle.cell_pool.proofs.Links.{FoundAt, found, last_found}
 
--- the fields are sound, and this is what contracts see of them
-pub record Shows (heads : List Head) (cells : List Cell) (spare : Option CellId) (free : ℕ)
-    (pool : Lists) : Type 0 where
-  pub sound : IsSound heads cells spare free
-  pub is : lists_of heads cells free ≡ pool
+-- the lists of all chains, where each of them is the same
+pub chains_same : (f g : Head → List Held) (heads : List Head) →
+    ((c : ℕ) → c < length heads → f (head_at heads c) ≡ g (head_at heads c)) → map f heads ≡ map g heads
+chains_same f g [] same = refl
+chains_same f g (x ∷ xs) same = let first = same 0 (omega arith) in let rest = chains_same f g xs
+    (λ c lt. same (suc c) (omega arith)) in cc
 
-pub shown : {heads : List Head} {cells : List Cell} {spare : Option CellId} {free : ℕ} {pool : Lists} →
-    IsSound heads cells spare free → lists_of heads cells free ≡ pool → Shows heads cells spare free pool
+-- the fields are sound, and this is what contracts see of them
+pub record Shows (heads : List Head) (cells : List Cell) (spare : Option CellId) (free all : ℕ)
+    (pool : Lists) : Type 0 where
+  pub sound : IsSound heads cells spare free all
+  pub is : lists_of heads cells free all ≡ pool
+
+pub shown : {heads : List Head} {cells : List Cell} {spare : Option CellId} {free all : ℕ} {pool : Lists} →
+    IsSound heads cells spare free all → lists_of heads cells free all ≡ pool → Shows heads cells spare free all pool
 shown sound is = record { sound = sound; is = is }
 
-module _ {heads : List Head} {cells : List Cell} {spare : Option CellId} {free : ℕ} {pool : Lists}
-    (shows : Shows heads cells spare free pool) where
+module _ {heads : List Head} {cells : List Cell} {spare : Option CellId} {free all : ℕ} {pool : Lists}
+    (shows : Shows heads cells spare free all pool) where
   pub free_is : pool.free ≡ free
   free_is = ap (λ (p : Lists). p.free) (sym shows.is)
 

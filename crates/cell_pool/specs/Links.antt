@@ -1,5 +1,5 @@
 -- How chains and the free list are linked by index through one list of cells (this project's profile).
-use Rattle.std.specs.Prelude.{◌≡◌, ℕ, zero, suc, ◌+◌, ◌<◌, ◌^◌, List, [], ◌∷◌, length, map, Option, Some, None, replicate, slice_index_or, slice_set}
+use Rattle.std.specs.Prelude.{◌≡◌, ℕ, zero, suc, ◌+◌, ◌<◌, ◌≤◌, ◌^◌, List, [], ◌∷◌, ◌++◌, length, map, Option, Some, None, replicate, slice_index_or, slice_set}
 use Rattle.std.specs.List.{sum_by}
 use Rattle.cell_pool.specs.declared.cells.Cell.{Cell}
 use Rattle.cell_pool.specs.declared.cells.Head.{Head}
@@ -58,33 +58,47 @@ pub record IsList (cells : List Cell) (owner : Option ChainId) (link : Option Ce
 abbrev pub cells_of : List Cell → Head → List Held
 cells_of cells head = walk cells head.count head.first
 
--- What contracts see of the fields of a pool.
-abbrev pub lists_of : List Head → List Cell → ℕ → Lists
-lists_of heads cells free = record { chains = map (cells_of cells) heads; free = free; cells = length cells }
+-- What contracts see of the fields of a pool of `all` cells.
+abbrev pub lists_of : List Head → List Cell → ℕ → ℕ → Lists
+lists_of heads cells free all = record { chains = map (cells_of cells) heads; free = free; cells = all }
 
 -- The owner field of the cells of chain `c`.
 abbrev pub owner_of : ℕ → Option ChainId
 owner_of c = Some (record { 0 = c })
 
--- Each cell is in exactly one list: one of the chains, or the free list. Block numbers rise along a chain. This follows because each list ends and contains
--- only cells that it owns, and the lengths of all lists add up to the number of cells.
-pub record IsSound (heads : List Head) (cells : List Cell) (spare : Option CellId) (free : ℕ) : Type 0 where
-  pub free_list : IsList cells None spare free
+-- Each cell that was made is in exactly one list: one of the chains, or the free list. Block numbers rise along a chain. This follows because each list ends and
+-- contains only cells that it owns, and the lengths of all lists add up to the number of cells that were made. Free cells are the `listed` ones of the free list
+-- and those that are not made yet (`made`).
+pub record IsSound (heads : List Head) (cells : List Cell) (spare : Option CellId) (free all : ℕ) : Type 0 where
+  pub listed : ℕ
+  pub free_list : IsList cells None spare listed
   pub chain_lists : (c : ℕ) → c < length heads →
       IsList cells (owner_of c) (head_at heads c).first (head_at heads c).count
   pub rising : (c : ℕ) → c < length heads → IsRising (cells_of cells (head_at heads c))
-  pub total : free + sum_by (λ h. h.count) heads ≡ length cells
-  pub room : length cells + length heads < 2 ^ 32
+  pub made : listed + all ≡ free + length cells
+  pub fits : length cells ≤ all
+  pub total : free + sum_by (λ h. h.count) heads ≡ all
+  pub room : all + length heads < 2 ^ 32
 
 -- The cells after the link of cell `i` is set to `next`.
 abbrev pub with_next : List Cell → ℕ → Option CellId → List Cell
 with_next cells i next = slice_set cells i (record (cell_at cells i) { next = next })
 
+-- A free cell that is in no list.
+abbrev pub loose_cell : Cell
+loose_cell = record { next = None; owner = None; block = 0; octets = replicate 256 None }
+
+-- The cell `taken` was made behind the other cells, which were fewer than `all`.
+pub record IsMade (cells : List Cell) (all : ℕ) (new : List Cell) (taken : CellId) : Type 0 where
+  pub place : taken.0 ≡ length cells
+  pub room : length cells < all
+  pub is : new ≡ cells ++ loose_cell ∷ []
+
+-- The free cell `taken` is the first from this link on, or was made where that list is empty.
+abbrev pub IsReady : List Cell → ℕ → Option CellId → List Cell → CellId → Type 0
+IsReady cells all (Some first) new taken = (taken ≡ first) × (new ≡ cells)
+IsReady cells all None new taken = IsMade cells all new taken
+
 -- An empty cell of chain `owner`, linked to `next`.
 abbrev pub fresh_cell : Option CellId → ChainId → ℕ → Cell
 fresh_cell next owner block = record { next = next; owner = Some owner; block = block; octets = replicate 256 None }
-
--- The list has `count` cells, all of them in the free list.
-pub record IsSpare (cells : List Cell) (count : ℕ) (first : Option CellId) : Type 0 where
-  pub number : length cells ≡ count
-  pub free_list : IsList cells None first count

@@ -8,7 +8,7 @@ pub record Held : Type 0 where
   pub block : ℕ
   pub octets : List (Option ℕ)
 
--- The cells of each chain, in order; the number of free cells; the number of cells at opening.
+-- The cells of each chain, in order; the number of free cells; the number of all cells, which is that at opening.
 pub record Lists : Type 0 where
   pub chains : List (List Held)
   pub free : ℕ

@@ -1,6 +1,6 @@
 //! Cells and the heads of chains, linked by index.
-ghost use Rattle.std.specs.Prelude.{◌≡◌, ◌<◌, length, replicate, IfOk, None, Some};
-ghost use Rattle.cell_pool.specs.Links.{with_next, IsSpare, blank_head, fresh_cell};
+ghost use Rattle.std.specs.Prelude.{◌≡◌, ◌<◌, length, replicate, vec_capacity, IfOk, None, Some};
+ghost use Rattle.cell_pool.specs.Links.{with_next, blank_head, fresh_cell, loose_cell};
 
 use crate::octets::Octets;
 use edge_io::NoMemory;
@@ -34,6 +34,18 @@ pub(crate) struct Head {
 }
 
 impl Cell {
+    /// Returns a free cell that is in no list.
+    pub(crate) fn loose() -> Cell
+        ensures { result ≡ loose_cell }
+    {
+        Cell {
+            next: None,
+            owner: None,
+            block: 0,
+            octets: Octets::empty(),
+        }
+    }
+
     /// Makes this an empty cell of chain `owner`, linked to `next`.
     pub(crate) fn begin(&mut self, next: Option<CellId>, owner: ChainId, block: u64)
         ensures { self.new ≡ fresh_cell next owner block }
@@ -56,31 +68,11 @@ impl Cell {
 /// Links the cell `at` to `next`.
 pub(crate) fn set_next(cells: &mut Vec<Cell>, at: CellId, next: Option<CellId>)
     requires { at.0 < length cells.old.items }
-    ensures { cells.new.items ≡ with_next cells.old.items at.0 next }
+    ensures items { cells.new.items ≡ with_next cells.old.items at.0 next }
+    ensures room { vec_capacity cells.new ≡ vec_capacity cells.old }
 {
     let cell = &mut cells[at.0 as usize];
     cell.next = next;
-}
-
-/// Returns `count` free cells, linked from the last to the first, and the head of that list.
-pub(crate) fn spare_cells(
-    alloc: Global,
-    count: u32,
-) -> Result<(Vec<Cell>, Option<CellId>), NoMemory>
-    ensures { IfOk result (λ made. IsSpare made.0.items count made.1) }
-{
-    let mut cells = Vec::with_capacity(alloc, count as usize)?;
-    let mut first = None;
-    for id in 0..count {
-        cells.push(Cell {
-            next: first,
-            owner: None,
-            block: 0,
-            octets: Octets::empty(),
-        })?;
-        first = Some(CellId(id));
-    }
-    Ok((cells, first))
 }
 
 /// Returns the heads of `count` empty chains.

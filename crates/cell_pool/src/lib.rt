@@ -1,4 +1,5 @@
-//! Cells of 256 octets in chains, all allocated when the pool is opened.
+//! Cells of 256 octets in chains. The memory of all cells is allocated when the pool is opened, and
+//! a cell is made in it when it is first taken.
 //!
 //! Proved: a `Pool` is its lists of cells, one list a chain. Free cells and the cells of all chains
 //! together are as many as at opening. A cell is taken exactly if one is free. `Pool::landmark`

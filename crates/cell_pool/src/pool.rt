@@ -1,9 +1,10 @@
 //! A pool of cells, with its chains and its free list.
-ghost use Rattle.std.specs.Prelude.{◌≡◌, ◌+◌, ◌-◌, ◌<◌, ◌≤◌, ◌^◌, ◌↔◌, [], ◌∷◌, length, replicate, IfOk, IfSome, IfNone, IsNone, IsTrue, Some, None, slice_index_or, slice_set};
+ghost use Rattle.std.specs.Prelude.{◌≡◌, ◌+◌, ◌-◌, ◌<◌, ◌≤◌, ◌^◌, ◌↔◌, [], ◌∷◌, length, replicate, IfOk, IfSome, IfNone, IsNone, IsTrue, Some, None, slice_index_or, slice_set, vec_capacity};
 ghost use Rattle.std.specs.List.{All, sum_by};
 ghost use Rattle.cell_pool.specs.Lists.{chain_at, with_chain, empty_cell, without_below, with_run, first_id, IsBlank, IsCovered, StandsFrom, BeginsAbove, IsRising, HasPlaceFor, HasCellAfter, TakesAfter, GivesBackAfter, IsHeld, IsHeldWith, StandsUpTo, Wherever, Writes, StandsOnce};
+ghost use Rattle.cell_pool.specs.Links.{IsMade, IsReady};
 
-use crate::cells::{Cell, CellId, ChainId, Head, empty_heads, set_next, spare_cells};
+use crate::cells::{Cell, CellId, ChainId, Head, empty_heads, set_next};
 use crate::trees::Trees;
 use edge_io::NoMemory;
 use std::alloc::Global;
@@ -13,23 +14,60 @@ use std::marker::Model;
 #[derive(Drop)]
 pub struct Pool {
     heads: Vec<Head>,
+    // The cells that were made so far; the capacity is the number of all cells.
     cells: Vec<Cell>,
-    // First free cell.
+    // First free cell that was made.
     spare: Option<CellId>,
+    // Number of free cells, whether made or not.
     free: u32,
     // Cells at which a walk along a chain may start.
     trees: Trees,
 }
 
 impl Model for Pool {
+    ghost use Rattle.std.specs.Prelude.{vec_capacity};
     ghost use Rattle.cell_pool.specs.Lists.{Lists};
     ghost use Rattle.cell_pool.specs.Links.{lists_of, IsSound};
 
     ghost Value = { Lists };
 
-    ghost view = { λ p. lists_of p.heads.items p.cells.items p.free };
+    ghost view = { λ p. lists_of p.heads.items p.cells.items p.free (vec_capacity p.cells) };
 
-    ghost invariant = { λ p. IsSound p.heads.items p.cells.items p.spare p.free };
+    ghost invariant = { λ p. IsSound p.heads.items p.cells.items p.spare p.free (vec_capacity p.cells) };
+}
+
+// Returns a free cell: the first from `spare` on or, where that list is empty, one that it makes if
+// not all are made. It allocates nothing: `open` reserved the memory.
+#[inline]
+fn ready(cells: &mut Vec<Cell>, trees: &mut Trees, spare: Option<CellId>) -> Option<CellId>
+    requires { vec_capacity cells.old < 2 ^ 32 }
+    ensures none { IsNone result ↔ ((spare ≡ None) × (length cells.old.items ≡ vec_capacity cells.old)) }
+    ensures unchanged { IfNone result (cells.new.items ≡ cells.old.items) }
+    ensures ready { IfSome result (IsReady cells.old.items (vec_capacity cells.old) spare cells.new.items) }
+    ensures room { vec_capacity cells.new ≡ vec_capacity cells.old }
+{
+    match spare {
+        Some(first) => Some(first),
+        None => make(cells, trees),
+    }
+}
+
+// Makes the next cell in the reserved memory, or returns none if all cells are made.
+#[cold]
+fn make(cells: &mut Vec<Cell>, trees: &mut Trees) -> Option<CellId>
+    requires { vec_capacity cells.old < 2 ^ 32 }
+    ensures none { IsNone result ↔ (length cells.old.items ≡ vec_capacity cells.old) }
+    ensures unchanged { IfNone result (cells.new.items ≡ cells.old.items) }
+    ensures made { IfSome result (IsMade cells.old.items (vec_capacity cells.old) cells.new.items) }
+    ensures room { vec_capacity cells.new ≡ vec_capacity cells.old }
+{
+    let made = cells.len();
+    if made == cells.capacity() {
+        return None;
+    }
+    trees.add_cell();
+    cells.push_reserved(Cell::loose());
+    Some(CellId(made as u32))
 }
 
 impl Pool {
@@ -40,12 +78,12 @@ impl Pool {
             (λ pool. pool ≡ record { chains = replicate chains []; free = cells; cells = cells }) }
     {
         let heads = empty_heads(alloc, chains)?;
-        let (made, spare) = spare_cells(alloc, cells)?;
+        let room = Vec::with_capacity(alloc, cells as usize)?;
         let trees = Trees::open(alloc, cells, chains)?;
         Ok(Pool {
             heads,
-            cells: made,
-            spare,
+            cells: room,
+            spare: None,
             free: cells,
             trees,
         })
@@ -174,7 +212,7 @@ impl Pool {
             (λ cell. TakesAfter self.old self.new chain.0 after (empty_cell cell block)) }
     {
         let taken = self.take(chain, after, block)?;
-        self.mark_taken(chain, after, taken);
+        self.mark_taken(chain, after, taken, block);
         Some(taken)
     }
 
@@ -231,20 +269,19 @@ impl Pool {
         }
     }
 
-    // Updates the landmarks after `taken` was taken in behind `after`.
-    fn mark_taken(&mut self, chain: ChainId, after: Option<CellId>, taken: CellId)
+    // Updates the landmarks after `taken` was taken in behind `after`, with this block number.
+    fn mark_taken(&mut self, chain: ChainId, after: Option<CellId>, taken: CellId, block: u64)
         ensures { self.new ≡ self.old }
     {
         let before = self.block_at(after);
-        let Some(cell) = self.cells.get(taken.0 as usize) else {
-            return;
-        };
-        let next = cell.next;
-        let block = cell.block;
-        self.trees
-            .remark(&self.cells, chain, next, before, Some(block));
-        self.trees
-            .remark(&self.cells, chain, Some(taken), None, before);
+        if let Some(before) = before {
+            self.trees.mark(&self.cells, chain, taken, before, block);
+        }
+        if let Some(cell) = self.cells.get(taken.0 as usize) {
+            let next = cell.next;
+            self.trees
+                .remark(&self.cells, chain, next, before, Some(block));
+        }
     }
 
     // Updates the landmarks before the cell after `after`, or the first cell, is freed.
@@ -304,7 +341,7 @@ impl Pool {
             (λ cell. let cells = empty_cell cell block ∷ chain_at self.old chain.0 in
             self.new ≡ with_chain self.old chain.0 cells (self.old.free - 1)) }
     {
-        let taken = self.spare?;
+        let taken = ready(&mut self.cells, &mut self.trees, self.spare)?;
         let head = self.heads[chain.0 as usize];
         let cell = &mut self.cells[taken.0 as usize];
         self.spare = cell.next;
@@ -325,7 +362,7 @@ impl Pool {
         ensures taken { IfSome result
             (λ cell. TakesAfter self.old self.new chain.0 (Some after) (empty_cell cell block)) }
     {
-        let taken = self.spare?;
+        let taken = ready(&mut self.cells, &mut self.trees, self.spare)?;
         let spare = self.cells[taken.0 as usize].next;
         let next = self.cells[after.0 as usize].next;
         set_next(&mut self.cells, after, Some(taken));

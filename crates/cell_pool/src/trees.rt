@@ -43,7 +43,7 @@ struct Way {
 #[derive(Drop)]
 pub(crate) struct Trees {
     roots: Vec<Option<Branch>>,
-    // Indexed by the identifier of the landmark.
+    // Indexed by the identifier of the landmark. It has one for each cell that is made.
     forks: Vec<Fork>,
 }
 
@@ -120,15 +120,21 @@ impl Way {
 impl Trees {
     /// Creates trees without landmarks.
     pub(crate) fn open(alloc: Global, cells: u32, chains: u32) -> Result<Trees, NoMemory> {
-        let nothing = Branch::Leaf(CellId(0));
-        let fork = Fork {
-            bit: 0,
-            low: nothing,
-            high: nothing,
-        };
         let roots = vec![in alloc; None; chains as usize]?;
-        let forks = vec![in alloc; fork; cells as usize]?;
+        let forks = Vec::with_capacity(alloc, cells as usize)?;
         Ok(Trees { roots, forks })
+    }
+
+    /// Adds the fork of a cell that is being made. `open` reserved its memory.
+    pub(crate) fn add_cell(&mut self) {
+        let nothing = Branch::Leaf(CellId(0));
+        if self.forks.len() < self.forks.capacity() {
+            self.forks.push_reserved(Fork {
+                bit: 0,
+                low: nothing,
+                high: nothing,
+            });
+        }
     }
 
     /// Returns the last landmark of the chain whose block number is at most `block`. All cells
@@ -139,6 +145,22 @@ impl Trees {
             self.greatest(way.end)
         } else {
             self.greatest(way.below?)
+        }
+    }
+
+    /// Makes a cell of this block number a landmark, if the cell before it, whose block number is
+    /// `before`, is in another region.
+    #[inline]
+    pub(crate) fn mark(
+        &mut self,
+        cells: &[Cell],
+        chain: ChainId,
+        name: CellId,
+        before: u64,
+        block: u64,
+    ) {
+        if is_landmark(Some(before), block) {
+            self.change(cells, chain, name, block, true);
         }
     }
 

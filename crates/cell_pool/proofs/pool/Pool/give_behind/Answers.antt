@@ -35,7 +35,7 @@ index_mut-cell-requires c =
       arith,
       given_inside (shown c.self.invariant c.self.view_is)
           c.requires.chain_in_range c.index.ensures next c.requires.place,
-      ap length c.set_next.ensures
+      ap length c.set_next.ensures.items
           ∙ length-set _ _ _,
     )
 
@@ -47,16 +47,16 @@ pub invariant_of-self : goal.invariant_of-self
 invariant_of-self c =
     let shows = shown c.self.invariant c.self.view_is in
     let next : c.index.result.now.next ≡ Some c.in-Some.given = cc in
-    update_sound shows c.requires.chain_in_range (give_behind shows c.requires.chain_in_range _ c.index.ensures next
-    c.index-2.ensures c.set_next.ensures (ap (λ (k : Cell). k.next) c.release.ensures)
+    rw c.set_next.ensures.room (update_sound shows c.requires.chain_in_range (give_behind shows c.requires.chain_in_range _ c.index.ensures next
+    c.index-2.ensures c.set_next.ensures.items (ap (λ (k : Cell). k.next) c.release.ensures)
     (ap (λ (k : Cell). k.owner) c.release.ensures) c.index_mut-head.ensures.value c.requires.place.place)
-    (give_rises shows c.requires.chain_in_range c.requires.place)
+    (give_rises shows c.requires.chain_in_range c.requires.place))
 
 pub returns : goal.returns
 returns c before x rest place =
     let shows = shown c.self.invariant c.self.view_is in
     let next : c.index.result.now.next ≡ Some c.in-Some.given = cc in
-    update_seen shows c.requires.chain_in_range (give_behind shows c.requires.chain_in_range _ c.index.ensures next
-    c.index-2.ensures c.set_next.ensures (ap (λ (k : Cell). k.next) c.release.ensures)
+    rw c.set_next.ensures.room (update_seen shows c.requires.chain_in_range (give_behind shows c.requires.chain_in_range _ c.index.ensures next
+    c.index-2.ensures c.set_next.ensures.items (ap (λ (k : Cell). k.next) c.release.ensures)
     (ap (λ (k : Cell). k.owner) c.release.ensures) c.index_mut-head.ensures.value place)
-    (ap (λ n. n + 1) (free_is shows))
+    (ap (λ n. n + 1) (free_is shows)))
