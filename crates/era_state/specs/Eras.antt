@@ -13,6 +13,10 @@ use Rattle.era_state.specs.Rules.{reopens_outward}
 use Rattle.era_state.specs.Silence.{IsSilent}
 use Rattle.era_state.specs.Read.{sent}
 use Rattle.era_state.specs.Standing.{CalledFor, OfferedFor, WarmFor, is_over_in}
+use Rattle.era_state.specs.declared.interval.Interval.{Interval}
+use Rattle.era_state.specs.declared.warm.Warm as fields
+use Rattle.era_state.specs.Frames.{IsGiven}
+use Rattle.era_state.specs.Changes.{WarmWith}
 
 -- every field is the quantity of the list, and the state is the list's
 abbrev pub StandsFor : Era → List Written → Type 0
@@ -62,6 +66,28 @@ octets_in (Called e) = 0
 octets_in (Offered e) = 0
 octets_in (Warm e) = e.octets
 octets_in (Closed e) = e.last.octets
+
+-- the quantities of an era in which an offset is acknowledged
+abbrev pub last_in : Era → Option fields.Warm
+last_in (Called e) = None
+last_in (Offered e) = None
+last_in (Warm e) = Some e
+last_in (Closed e) = Some e.last
+
+-- an offset is acknowledged, and the era gives this interval to a segment
+abbrev pub GivesTo : Era → Interval → Type 0
+GivesTo (Called e) i = ⊥
+GivesTo (Offered e) i = ⊥
+GivesTo (Warm e) i = IsGiven e i
+GivesTo (Closed e) i = IsGiven e.last i
+
+-- the quantities of both eras, between which this frame was written
+pub record ForwardsIn (i : Interval) (fresh : ℕ) (old new : Era) : Type 0 where
+  pub was : fields.Warm
+  pub is : fields.Warm
+  pub was_last : last_in old ≡ Some was
+  pub is_last : last_in new ≡ Some is
+  pub with : WarmWith i fresh was is
 
 -- The transition of an outbound segment from an era that represents these segments: RST ends it, a SYN of another connection reopens it, and otherwise the next
 -- era represents the list with the segment, whatever its octets.

@@ -1,5 +1,5 @@
 //! An era, and the transitions of segments.
-ghost use Rattle.std.specs.Prelude.{◌≡◌, ℕ, ◌+◌, ◌^◌, ◌<◌, List, [], ◌∷◌, ◌++◌, length, is_none, true, false};
+ghost use Rattle.std.specs.Prelude.{◌≡◌, ℕ, ◌+◌, ◌^◌, ◌<◌, ◌≤◌, List, [], ◌∷◌, ◌++◌, length, Some, is_none, true, false};
 ghost use Rattle.wire_base.specs.Segments.{Written};
 ghost use Rattle.wire_base.specs.Tcp as tcp;
 ghost use Rattle.era_state.specs.Offsets.{off};
@@ -8,6 +8,7 @@ ghost use Rattle.era_state.specs.Rules.{is_awaited, follows, precedes};
 ghost use Rattle.era_state.specs.Standing.{CalledFor, OfferedFor, WarmFor, is_over_in};
 
 use crate::called::Called;
+use crate::interval::Interval;
 use crate::offered::Offered;
 use crate::offset::Offset;
 use crate::segment::Seg;
@@ -71,16 +72,29 @@ fn precedes(base: Option<u32>, sequence: u32) -> bool
 }
 
 impl Era {
-    ghost use Rattle.era_state.specs.Rules.{reopens_outward_at, reopens_inward, t_state, t_syn, takes_reset, t_rst};
+    ghost use Rattle.era_state.specs.Rules.{reopens_outward, reopens_outward_at, reopens_inward, t_state, t_syn, takes_reset, t_rst};
     ghost use Rattle.era_state.specs.States.{is_called, is_offered, is_closed};
-    ghost use Rattle.era_state.specs.Eras.{StandsFor, IsSettled, MovesSettled, MovesTo, MovesNear, MovesSame, NextIs, is_reset, state_in, base_in, iss_in, acked_in, octets_in};
-    ghost use Rattle.era_state.specs.Quantities.{octets_of};
+    ghost use Rattle.era_state.specs.Eras.{StandsFor, IsSettled, MovesSettled, MovesTo, MovesNear, MovesSame, NextIs, is_reset, state_in, base_in, iss_in, acked_in, octets_in, last_in, GivesTo, ForwardsIn};
+    ghost use Rattle.era_state.specs.Quantities.{base_at, fresh_places, octets_of};
+    ghost use Rattle.era_state.specs.Intervals.{KeptOf};
+    ghost use Rattle.era_state.specs.Frames.{IsFrame};
 
     /// Returns the era in the state Warm or Closed.
     pub fn settled(last: Warm) -> Era
         ensures stands { (ws : List Written) → WarmFor last ws → StandsFor result ws }
         ensures same { acked_in result ≡ last.acked }
         ensures settled { IsSettled result }
+        ensures octets { octets_in result ≡ last.octets }
+    {
+        Era::of_last(last)
+    }
+
+    // Returns the era with these quantities.
+    fn of_last(last: Warm) -> Era
+        ensures stands { (ws : List Written) → WarmFor last ws → StandsFor result ws }
+        ensures settled { IsSettled result }
+        ensures last { last_in result ≡ Some last }
+        ensures same { acked_in result ≡ last.acked }
         ensures octets { octets_in result ≡ last.octets }
     {
         if last.is_over() {
@@ -128,37 +142,44 @@ impl Era {
         }
     }
 
-    // Returns the era after an outbound segment of a Warm or Closed era.
-    fn warm_goes_on(era: Warm, seg: &Seg) -> Era
-        requires { era.acked < 2 ^ 63 }
-        ensures stands { (ws : List Written) (octets : List ℕ) → length octets ≡ seg.now.len → WarmFor era ws → StandsFor result (ws ++ sent seg.now octets ∷ []) }
-        ensures near { acked_in result < era.acked + 2 ^ 31 }
+    // Returns the era after an outbound segment of a Closed era.
+    fn closed_goes_on(era: Closed, seg: &Seg) -> Era
+        requires { era.last.acked < 2 ^ 63 }
+        ensures stands { (ws : List Written) (octets : List ℕ) → length octets ≡ seg.now.len → WarmFor era.last ws → StandsFor result (ws ++ sent seg.now octets ∷ []) }
+        ensures near { acked_in result < era.last.acked + 2 ^ 31 }
         ensures settled { IsSettled result }
-        ensures octets { octets_in result ≡ era.octets }
+        ensures octets { octets_in result ≡ era.last.octets }
     {
-        Era::settled(era.sent(seg))
+        let mut last = era.last;
+        last.send(seg);
+        Era::settled(last)
     }
 
-    // Returns the era after an outbound segment that neither ends nor reopens it.
-    fn goes_on(self, seg: &Seg) -> Era
+    /// Changes the era by an outbound segment that neither ends nor reopens it.
+    pub fn go_on(&mut self, seg: &Seg)
         requires legal { tcp.are_legal seg.now.flags.0 ≡ true }
         requires no_rst { tcp.has_rst seg.now.flags.0 ≡ false }
-        requires acked { acked_in self < 2 ^ 63 }
-        ensures stands { (ws : List Written) (octets : List ℕ) → length octets ≡ seg.now.len → StandsFor self ws → StandsFor result (ws ++ sent seg.now octets ∷ []) }
-        ensures near { acked_in result < acked_in self + 2 ^ 31 }
-        ensures settled { IsSettled result }
-        ensures octets { octets_in result ≡ octets_in self }
+        requires acked { acked_in self.old < 2 ^ 63 }
+        ensures stands { (ws : List Written) (octets : List ℕ) → length octets ≡ seg.now.len → StandsFor self.old ws → StandsFor self.new (ws ++ sent seg.now octets ∷ []) }
+        ensures near { acked_in self.new < acked_in self.old + 2 ^ 31 }
+        ensures settled { IsSettled self.new }
+        ensures octets { octets_in self.new ≡ octets_in self.old }
     {
         match self {
-            Era::Called(era) => Era::called_goes_on(era, seg),
-            Era::Offered(era) => Era::offered_goes_on(era, seg),
-            Era::Warm(era) => Era::warm_goes_on(era, seg),
-            Era::Closed(era) => Era::warm_goes_on(era.last, seg),
+            Era::Called(era) => *self = Era::called_goes_on(*era, seg),
+            Era::Offered(era) => *self = Era::offered_goes_on(*era, seg),
+            Era::Warm(era) => {
+                era.send(seg);
+                if era.is_over() {
+                    *self = Era::Closed(Closed { last: *era });
+                }
+            }
+            Era::Closed(era) => *self = Era::closed_goes_on(*era, seg),
         }
     }
 
     /// Returns the transition of an outbound segment.
-    pub fn outbound(self, seg: &Seg) -> Moved
+    pub fn outbound(mut self, seg: &Seg) -> Moved
         requires legal { tcp.are_legal seg.now.flags.0 ≡ true }
         requires acked { acked_in self < 2 ^ 63 }
         ensures moves { (ws : List Written) → StandsFor self ws → MovesTo ws seg.now result }
@@ -173,7 +194,31 @@ impl Era {
         if self.calls_anew(seg) {
             return Moved::Reopen;
         }
-        Moved::Next(self.goes_on(seg))
+        self.go_on(seg);
+        Moved::Next(self)
+    }
+
+    /// Changes a Warm or Closed era by a frame that is written with the octets and the FIN of this
+    /// interval; `fresh` of the octets are the first at their offsets.
+    pub fn forward(&mut self, kept: &Interval, fresh: u32)
+        requires given { GivesTo self.old kept.now }
+        requires fresh { kept.now.lo + fresh ≤ kept.now.hi }
+        requires few { octets_in self.old + fresh < 2 ^ 64 }
+        ensures value { ForwardsIn kept.now fresh self.old self.new }
+        ensures list { (ws : List Written) (w frame : Written) → StandsFor self.old ws → KeptOf ws w kept.now → IsFrame ws w kept.now frame → fresh ≡ fresh_places (base_at ws) ws kept.now.lo kept.now.hi → StandsFor self.new (ws ++ frame ∷ []) }
+        ensures same { acked_in self.new ≡ acked_in self.old }
+        ensures octets { octets_in self.new ≡ octets_in self.old + fresh }
+    {
+        match self {
+            Era::Called(_) | Era::Offered(_) => unreachable!(),
+            Era::Warm(era) => {
+                era.forward(kept, fresh);
+                if era.is_over() {
+                    *self = Era::Closed(Closed { last: *era });
+                }
+            }
+            Era::Closed(era) => *self = Era::of_last(era.last.forwarded(kept, fresh)),
+        }
     }
 
     /// Returns the era after an inbound SYN that passed.
@@ -272,9 +317,10 @@ impl Era {
         }
     }
 
-    // Returns whether an outbound segment is a SYN that opens another connection.
-    fn calls_anew(&self, seg: &Seg) -> bool
-        ensures { result ≡ reopens_outward_at (state_in self.now) (iss_in self.now) (sent seg.now []) }
+    /// Returns whether an outbound segment is a SYN that opens another connection.
+    pub fn calls_anew(&self, seg: &Seg) -> bool
+        ensures value { result ≡ reopens_outward_at (state_in self.now) (iss_in self.now) (sent seg.now []) }
+        ensures list { (ws : List Written) → StandsFor self.now ws → result ≡ reopens_outward ws (sent seg.now []) }
     {
         if !seg.flags.syn() {
             return false;

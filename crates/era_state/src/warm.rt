@@ -117,12 +117,12 @@ impl Warm {
         Warm::open(seg.ack, None, Syns::none(), false, 0, seg)
     }
 
-    // Returns the era after an outbound segment.
-    pub(crate) fn sent(mut self, seg: &Seg) -> Warm
-        requires { self.acked < 2 ^ 63 }
-        ensures stands { (octets : List ℕ) → length octets ≡ seg.now.len → WarmAfter (sent seg.now octets) self result }
-        ensures near { result.acked < self.acked + 2 ^ 31 }
-        ensures octets { result.octets ≡ self.octets }
+    // Changes the era by an outbound segment.
+    pub(crate) fn send(&mut self, seg: &Seg)
+        requires { self.old.acked < 2 ^ 63 }
+        ensures stands { (octets : List ℕ) → length octets ≡ seg.now.len → WarmAfter (sent seg.now octets) self.old self.new }
+        ensures near { self.new.acked < self.old.acked + 2 ^ 31 }
+        ensures octets { self.new.octets ≡ self.old.octets }
     {
         let place = seg.acknowledged(self.base, self.acked);
         let shift = self.syns.shift();
@@ -132,7 +132,6 @@ impl Warm {
         self.out = seg.behind();
         self.syns = self.syns.sent(seg);
         self.out_fin |= seg.flags.fin();
-        self
     }
 
     // Returns the era after an inbound SYN.
@@ -267,9 +266,21 @@ impl Warm {
         ensures value { WarmWith kept.now fresh self result }
         ensures list { (ws : List Written) (w frame : Written) → WarmFor self ws → KeptOf ws w kept.now → IsFrame ws w kept.now frame → fresh ≡ fresh_places (base_at ws) ws kept.now.lo kept.now.hi → WarmFor result (ws ++ frame ∷ []) }
     {
+        self.forward(kept, fresh);
+        self
+    }
+
+    // Changes the era by the frame with these octets and this FIN; `fresh` of the octets are the
+    // first at their offsets.
+    pub(crate) fn forward(&mut self, kept: &Interval, fresh: u32)
+        requires given { IsGiven self.old kept.now }
+        requires fresh { kept.now.lo + fresh ≤ kept.now.hi }
+        requires few { self.old.octets + fresh < 2 ^ 64 }
+        ensures value { WarmWith kept.now fresh self.old self.new }
+        ensures list { (ws : List Written) (w frame : Written) → WarmFor self.old ws → KeptOf ws w kept.now → IsFrame ws w kept.now frame → fresh ≡ fresh_places (base_at ws) ws kept.now.lo kept.now.hi → WarmFor self.new (ws ++ frame ∷ []) }
+    {
         self.top = kept.top_after(self.top);
         self.end = kept.end_after(self.end);
         self.octets += u64::from(fresh);
-        self
     }
 }
