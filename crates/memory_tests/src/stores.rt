@@ -23,6 +23,9 @@ fn overlapped(store: &mut Retain) -> Option<[u8; 5]>
     if store.place_counting(chain, from + 1, b"XYZW") != 2 || !store.covers(chain, from, 5) {
         return None;
     }
+    if !store.aim(chain, from + 5) || store.aim(chain, from) {
+        return None;
+    }
     let mut octets = [0; 5];
     store.copy_out(chain, from, &mut octets);
     Some(octets)

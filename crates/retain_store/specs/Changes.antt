@@ -7,11 +7,11 @@ use Rattle.cell_pool.specs.Lists.{Lists, Held, chain_at, with_chain}
 use Rattle.retain_store.specs.Maps.{octet_in, holds, ForgetsBelow, Places}
 use Rattle.retain_store.specs.Seats.{blocks_in, IsAt, IsKept, IsNear}
 
--- The octets with one added at this offset, unless it has one.
+-- The octets of a block with one added at the position `at`, unless that position has one.
 abbrev pub with_octet : List (Option ℕ) → ℕ → ℕ → List (Option ℕ)
 with_octet octets at octet = slice_set octets at (option_or (slice_index_or octets at None) (Some octet))
 
--- The octets with those of `piece` added from this offset on, wherever there is none.
+-- The octets of a block with those of `piece` added from the position `at` on, at each position that has none.
 abbrev pub with_octets : List (Option ℕ) → ℕ → List ℕ → List (Option ℕ)
 with_octets octets at piece =
     map (λ i. option_or (slice_index_or octets i None) (octet_in at piece i)) (range_with_len 0 (length octets))

@@ -9,11 +9,12 @@
 //! cells and held blocks together are the cells at opening. That a call walks past few cells is
 //! tested by time alone.
 //!
-//! Choices: a hint is the name of the cell used last. A walk begins there if it is less than 16
-//! blocks before, otherwise at a landmark of the pool or at the front. An emptied cell is given
-//! back at once, so a chain has as many cells as blocks with an octet. `has_room` counts missing
-//! blocks only if fewer cells are free than blocks are touched. `agrees` exists beside `settle` so
-//! that octets which are only compared are not copied.
+//! Choices: a hint is the name of the cell used last, or of the one that `aim` found. A walk begins
+//! there if it is less than 16 blocks before, otherwise at a landmark of the pool, or at the front.
+//! No clause says that `aim` sets a hint: only speed depends on it. An emptied cell is given back at
+//! once, so a chain has as many cells as blocks with an octet. `has_room` counts missing blocks only
+//! if fewer cells are free than blocks are touched. `agrees` exists beside `settle` so that octets
+//! which are only compared are not copied.
 #![tactic(auto)]
 
 mod each;

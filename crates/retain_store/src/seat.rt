@@ -16,9 +16,10 @@ pub(crate) enum Seat {
 // A walk starts at the cell used last if the block is less than this many blocks after it.
 const CLOSE: u64 = 16;
 
-/// Finds the seat of a block: after `near` if that cell is before the block and the last of its
-/// chain. A walk starts at `near` if that cell is less than 16 blocks before, otherwise at a landmark
-/// of the pool or at the front.
+/// Finds the seat of a block: at or after `near` if that is its seat. Otherwise a walk starts at
+/// `near` if that cell is less than 16 blocks before, otherwise at a landmark of the pool, or at the
+/// front if no landmark is before the block.
+#[inline(always)]
 pub(crate) fn seek(pool: &Pool, chain: ChainId, near: Option<CellId>, block: u64) -> Seat
     requires chain_in_range { chain.0 < length pool.now.chains }
     requires near_in_chain { IsNear (chain_at pool.now chain.0) near }
@@ -37,9 +38,48 @@ pub(crate) fn seek(pool: &Pool, chain: ChainId, near: Option<CellId>, block: u64
             if block - reached < CLOSE {
                 return walk(pool, chain, near, next, block);
             }
+            return seek_behind(pool, chain, near, next, block);
         }
     }
     seek_far(pool, chain, block)
+}
+
+// Finds the seat of a block 16 or more blocks after the cell `near`; `next` is the cell after `near`.
+#[inline(never)]
+fn seek_behind(
+    pool: &Pool,
+    chain: ChainId,
+    near: Option<CellId>,
+    next: Option<CellId>,
+    block: u64,
+) -> Seat
+    requires chain_in_range { chain.0 < length pool.now.chains }
+    requires begun { IsWalk (chain_at pool.now chain.0) block near next 0 }
+    ensures { IsSeat (chain_at pool.now chain.0) block result }
+{
+    if let Some(cell) = next {
+        if pool.block(cell) > block {
+            return Seat::After(near);
+        }
+    }
+    seek_far(pool, chain, block)
+}
+
+/// Returns the cell of a block, or the one before it: a cell at which the next walk may start.
+pub(crate) fn nearest(
+    pool: &Pool,
+    chain: ChainId,
+    near: Option<CellId>,
+    block: u64,
+) -> Option<CellId>
+    requires chain_in_range { chain.0 < length pool.now.chains }
+    requires near_in_chain { IsNear (chain_at pool.now chain.0) near }
+    ensures { IsNear (chain_at pool.now chain.0) result }
+{
+    match seek(pool, chain, near, block) {
+        Seat::Cell(cell) => Some(cell),
+        Seat::After(after) => after,
+    }
 }
 
 // Finds the seat of a block from a landmark, or from the front if no landmark is before the block.

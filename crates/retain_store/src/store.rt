@@ -6,6 +6,7 @@ ghost use Rattle.retain_store.specs.Maps.{chain_of, has_octet, holds, octet_at, 
 use crate::each::count_each;
 use crate::forgets::{forget_before, forget_chain};
 use crate::reads::{agrees_all, blocks_touched, copy, count_missing, covers_all, settle_all};
+use crate::seat::{ends_before, nearest};
 use crate::writes::place_all;
 use cell_pool::{CellId, ChainId, Pool};
 use edge_io::NoMemory;
@@ -16,7 +17,7 @@ use std::marker::Model;
 #[derive(Drop)]
 pub struct Retain {
     pool: Pool,
-    // For each chain, the cell touched last, where the next walk starts, or none.
+    // For each chain, the cell used last or found by `aim`, where the next walk starts, or none.
     hints: Vec<Option<CellId>>,
 }
 
@@ -129,6 +130,22 @@ impl Retain {
         let (near, fresh) = place_all(&mut self.pool, chain, near, from, bytes);
         self.hints[chain.0 as usize] = near;
         fresh
+    }
+
+    /// Sets the hint of the chain to the block of an offset, or to the one before it, so that the
+    /// calls that follow start there. Returns true only if no offset from `at` on has an octet, and
+    /// then sets no hint; false says nothing.
+    pub fn aim(&mut self, chain: ChainId, at: u64) -> bool
+        requires { chain.0 < length self.old.chains }
+        ensures same { self.new ≡ self.old }
+        ensures ends { IsTrue result → IsWithin (chain_of self.old chain.0) at }
+    {
+        let near = self.hints[chain.0 as usize];
+        if ends_before(&self.pool, chain, near, at) {
+            return true;
+        }
+        self.hints[chain.0 as usize] = nearest(&self.pool, chain, near, at / 256);
+        false
     }
 
     /// Returns whether none of the octets differs from the one kept at its offset.

@@ -9,7 +9,7 @@ use crate::each::count_each;
 use crate::seat::{Seat, place_of, seek};
 use cell_pool::{CellId, ChainId, Pool};
 
-// Writes an octet into a cell, unless the offset has one.
+// Writes an octet into a cell at the position `at`, unless that position has one.
 fn add(pool: &mut Pool, cell: CellId, at: u8, octet: u8)
     requires { IsHeld pool.old cell }
     ensures { Writes pool.old pool.new cell (λ octets. with_octet octets at octet) }
@@ -19,7 +19,7 @@ fn add(pool: &mut Pool, cell: CellId, at: u8, octet: u8)
     }
 }
 
-// Writes octets into a cell one by one, at the offsets from `at` on that have none.
+// Writes octets into a cell one by one, at the positions from `at` on that have none.
 fn fill_each(pool: &mut Pool, cell: CellId, at: u8, piece: &[u8])
     requires held { IsHeld pool.old cell }
     requires fits { at + length piece.now ≤ 256 }

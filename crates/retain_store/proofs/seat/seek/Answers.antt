@@ -19,3 +19,11 @@ walk-requires-clause-begun c =
     let block = c.block-reached.ensures _ _ _ _ at in
     let below : among.cell.block < c.args.block = omega (arith, block) in
     from_cell among below (c.next_of-next.ensures.value _ _ _ _ at)
+
+pub seek_behind-requires-clause-begun : goal.seek_behind-requires-clause-begun
+seek_behind-requires-clause-begun c =
+    let among : IsAmong (chain_at c.args.pool.now c.args.chain.0) c.in-Some.cell = rw c.in-Some.is at c.requires.near_in_chain in
+    let at = stands c.requires.chain_in_range among.at in
+    let block = c.block-reached.ensures _ _ _ _ at in
+    let below : among.cell.block < c.args.block = omega (arith, block) in
+    from_cell among below (c.next_of-next.ensures.value _ _ _ _ at)
