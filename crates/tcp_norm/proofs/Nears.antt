@@ -1,10 +1,11 @@
 -- The numbers kept of each era stay in their bounds.
-use Rattle.std.proofs.Common.{not, ℕ, ◌==◌, ◌≤◌, Bool, true, false, cond, List, [], ◌∷◌, ◌++◌, filter, arith}
-use Rattle.std.specs.List.{AllByRecursion}
+use Rattle.std.proofs.Common.{not, ℕ, ◌≡◌, ◌==◌, ◌≤◌, ◌<◌, ◌^◌, ◌∙◌, sym, ap, subst, Bool, true, false, cond, List, [], ◌∷◌, ◌++◌, filter, arith}
+use Rattle.std.specs.List.{All, AllByRecursion}
 use Rattle.linked_table.specs.declared.table.Slot.{Slot}
-use Rattle.linked_table.specs.Table.{Entry, with_value, revalued}
+use Rattle.linked_table.specs.Table.{Entry, IsIn, Wherever, with_value, revalued}
 use Rattle.linked_table.specs.Table as table
 use Rattle.era_state.specs.declared.era.Era.{Era}
+use Rattle.era_state.specs.Eras.{acked_in}
 use Rattle.tcp_norm.specs.declared.flow.Flow.{Flow}
 use Rattle.tcp_norm.specs.declared.key.EraKey.{EraKey}
 use Rattle.tcp_norm.specs.Near.{IsNear, AreNear}
@@ -50,3 +51,13 @@ near_touched calls slot value entries is near =
 pub near_added : (calls : ℕ) (e : Entry EraKey Flow) (entries : List (Entry EraKey Flow)) → IsNear calls e.value.era → AreNear calls entries → AreNear calls (entries ++ e ∷ [])
 near_added calls e entries is near =
     All-from_recursion (Near calls) (entries ++ e ∷ []) (all_join (Near calls) entries (e ∷ []) (recursion_from_All (Near calls) entries near) (is, tt))
+
+-- of the entry in a slot
+pub near_at : (calls : ℕ) (entries : List (Entry EraKey Flow)) (slot : Slot) (flow : Flow) → IsIn entries slot → Wherever entries slot (λ e. flow ≡ e.value) → AreNear calls entries → IsNear calls flow.era
+near_at calls entries slot flow (k, x, below, reads, named) was near =
+    let here = ap (λ (e : Entry EraKey Flow). e.slot) reads ∙ named in
+    subst (λ (f : Flow). IsNear calls f.era) (sym (was k x below here)) (near k x below)
+
+-- what is acknowledged is far below 2^64
+pub acked_small : (calls : ℕ) (entries : List (Entry EraKey Flow)) → calls < 2 ^ 32 → AreNear calls entries → All (λ e. acked_in e.value.era < 2 ^ 63) entries
+acked_small calls entries few near k x below = let n = near k x below in omega (arith, n.0, few)

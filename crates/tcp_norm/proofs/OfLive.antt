@@ -1,5 +1,9 @@
 -- What holds of an inbound segment of a live era.
-use Rattle.std.proofs.Common.{◌≡◌, true, List, sym, ap, ◌∙◌}
+use Rattle.std.proofs.Common.{◌≡◌, ◌≢◌, ◌<◌, ◌≤◌, true, List, length, sym, ap, ◌∙◌}
+use Rattle.std.specs.List.{All, AllPairs}
+use Rattle.linked_table.specs.Table as table
+use Rattle.tcp_norm.specs.declared.flow.Flow.{Flow}
+use Rattle.tcp_norm.specs.declared.key.EraKey.{EraKey}
 use Rattle.norm_settings.specs.Settings.{PlainSettings}
 use Rattle.era_state.specs.declared.segment.Seg.{Seg}
 use Rattle.era_state.specs.Eras as era
@@ -19,6 +23,11 @@ use Rattle.tcp_norm.proofs.Bares.{comes_bare}
 use Rattle.tcp_norm.proofs.Entering.{keyed}
 use Rattle.tcp_norm.proofs.Probing.{side_is}
 use Rattle.tcp_norm.proofs.Marked.{flags_are}
+
+-- the table has the era in its slot, by what its lookup says
+pub is_held : (t : table.Table EraKey Flow) (here : Live) → table.IsIn t.entries here.slot → table.Wherever t.entries here.slot (λ e. e.value ≡ here.flow) → table.Wherever t.entries here.slot (λ e. e.key.0 ≡ here.key)
+    → length t.entries ≤ t.max → All (λ e. e.slot.0 < t.max) t.entries → AllPairs (λ e f. e.slot ≢ f.slot) t.entries → AllPairs (λ e f. e.key ≢ f.key) t.entries → IsHeld t here
+is_held t here inside entry keyed bounded below slots keys = record { inside = inside; entry = entry; keyed = keyed; bounded = bounded; below = below; slots_apart = slots; keys_apart = keys }
 
 -- what was asked of the calls before, of a connection whose live era the table has
 pub record HeldLive (settings : PlainSettings) (calls : List Call) (d : Datagram) (norm : TcpNorm) (here : Live) : Type 0 where

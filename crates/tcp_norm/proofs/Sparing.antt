@@ -12,8 +12,6 @@ use Rattle.retain_store.specs.Maps.{Block, Store, ChangesOnly, chain_of}
 use Rattle.tcp_norm.specs.declared.flow.Flow.{Flow}
 use Rattle.tcp_norm.specs.declared.key.EraKey.{EraKey}
 use Rattle.tcp_norm.specs.Spare.{is_empty, spares, settled, written_back}
-use Rattle.tcp_norm.specs.Rulings.{IsHeld}
-use Rattle.tcp_norm.specs.declared.flow.Live.{Live}
 use Rattle.tcp_norm.proofs.Slots.{others_same}
 use Rattle.linked_table.proofs.Splits.{all_weaker, map_join, filter_rest}
 use Rattle.linked_table.proofs.Parts.{split_at}
@@ -129,12 +127,13 @@ spares-left store new entries slot inside slots keys chains =
     ap (spares new) out ∙ sym (others-rest store new entries slot a chains)
 
 -- the same of the list of slots
-pub touched_listed : (old new : Listing) (store later : Store) (t : table.Table EraKey Flow) (touched : List (Entry EraKey Flow)) (live : Live) (value : Flow) → IsHeld t live → ChangesOnly store later live.slot.0
-    → old.slots ≡ spares store t.entries → new ≡ record old { slots = settled later live.slot old.slots } → touched ≡ written_back t.entries live.slot value → new.slots ≡ spares later touched
-touched_listed old new store later t touched live value held changed listed new_is touched_is =
+pub touched_listed : (old new : Listing) (store later : Store) (t : table.Table EraKey Flow) (touched : List (Entry EraKey Flow)) (slot : Slot) (value : Flow) → IsIn t.entries slot
+    → AllPairs (λ e f. e.slot ≢ f.slot) t.entries → AllPairs (λ e f. e.key ≢ f.key) t.entries → ChangesOnly store later slot.0
+    → old.slots ≡ spares store t.entries → new ≡ record old { slots = settled later slot old.slots } → touched ≡ written_back t.entries slot value → new.slots ≡ spares later touched
+touched_listed old new store later t touched slot value inside slots keys changed listed new_is touched_is =
     ap (λ (l : Listing). l.slots) new_is
-    ∙ (ap (settled later live.slot) listed
-    ∙ sym (ap (spares later) touched_is ∙ spares-touched store later t.entries live.slot value held.inside held.slots_apart held.keys_apart (others_same store later live.slot.0 changed)))
+    ∙ (ap (settled later slot) listed
+    ∙ sym (ap (spares later) touched_is ∙ spares-touched store later t.entries slot value inside slots keys (others_same store later slot.0 changed)))
 
 pub added_listed : (old new : Listing) (store : Store) (entries added : List (Entry EraKey Flow)) (e : Entry EraKey Flow) → IsNotIn entries e.slot
     → old.slots ≡ spares store entries → new ≡ record old { slots = settled store e.slot old.slots } → added ≡ entries ++ e ∷ [] → new.slots ≡ spares store added

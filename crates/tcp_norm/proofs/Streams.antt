@@ -1,11 +1,15 @@
 -- What a frame with octets of the stream adds to what is kept of its era.
-use Rattle.std.proofs.Common.{◌≡◌, ℕ, zero, suc, ◌+◌, ◌-◌, ◌≤◌, ◌&&◌, Bool, true, false, cond, List, [], ◌∷◌, ◌++◌, length, None, pos, refl, sym, ap, ap₂, ◌∙◌, arith}
+use Rattle.std.proofs.Common.{◌≡◌, ℕ, zero, suc, ◌+◌, ◌-◌, ◌≤◌, ◌&&◌, Bool, true, false, cond, List, [], ◌∷◌, ◌++◌, length, None, Some, pos, refl, sym, ap, ap₂, subst, ◌∙◌, arith}
 use Rattle.std.specs.Prelude.{slice_get, nat_lt, int_le, int_lt, is_none}
 use Rattle.std.specs.Option.{option_or}
 use Rattle.std.proofs.lemmas.Bool.Decides.{nat_tests}
 use Rattle.wire_base.specs.Segments.{Written}
 use Rattle.era_state.specs.declared.interval.Interval.{Interval}
 use Rattle.era_state.specs.declared.warm.Warm.{Warm}
+use Rattle.era_state.specs.declared.era.Era.{Era}
+use Rattle.era_state.specs.declared.era.Era.TheVariants.{Called, Offered, Closed}
+use Rattle.era_state.specs.declared.era.Era.TheVariants as variants
+use Rattle.era_state.specs.Eras.{StandsFor, last_in}
 use Rattle.era_state.specs.Offsets.{nat_of, number_in}
 use Rattle.std.specs.List.{count_by, range_with_len}
 use Rattle.std.proofs.lemmas.List.Sums.{sum_by-cons}
@@ -104,3 +108,13 @@ pub keeps_with : FirstStays → FrameOctets → IntervalsFit → (fresh : ℕ) (
     → Keeps blocks ws → Places blocks placed i.lo octets → Keeps placed (ws ++ frame ∷ [])
 keeps_with stays law fit fresh e new ws w frame i blocks placed octets was is with kept framed same keeps places o =
     places o ∙ (ap₂ (λ k l. option_or k (octet_in i.lo l o)) (keeps o) (sym same) ∙ sym (kept_with stays law fit fresh e new ws w frame i was is with kept framed o))
+
+got : {a b : Warm} → Some a ≡ Some b → a ≡ b
+got e = cc
+
+-- the quantities of an era in which an offset is acknowledged represent its segments
+pub last_stands : (e : Era) (warm : Warm) (ws : List Written) → last_in e ≡ Some warm → StandsFor e ws → WarmFor warm ws
+last_stands (Called e) warm ws is stands = cc
+last_stands (Offered e) warm ws is stands = cc
+last_stands (variants.Warm e) warm ws is stands = subst (λ x. WarmFor x ws) (got is) stands.0
+last_stands (Closed e) warm ws is stands = subst (λ x. WarmFor x ws) (got is) stands

@@ -11,7 +11,8 @@ use Rattle.era_state.specs.declared.probe.Probe.{Probe}
 use Rattle.era_state.specs.Standing.{WarmFor}
 use Rattle.era_state.specs.Intervals.{KeptOf}
 use Rattle.era_state.specs.Frames.{IsGiven, IsFrame}
-use Rattle.retain_store.specs.Maps.{Store, ChangesOnly, IsMap, IsWithin, Places, chain_of, fresh, holds, missing}
+use Rattle.retain_store.specs.Maps.{Store, ChangesOnly, IsMap, IsWithin, Places, chain_of, holds, missing}
+use Rattle.retain_store.specs.Maps as maps
 use Rattle.reset_probe.specs.Write.{probe_octets}
 use Rattle.ip_rules.specs.Datagrams.{Datagram, Packet, goes_in, IsDatagram}
 use Rattle.tcp_norm.specs.declared.arrival.Arrival.{Arrival}
@@ -29,7 +30,11 @@ use Rattle.era_state.specs.declared.era.Era.{Era}
 use Rattle.era_state.specs.declared.warm.Warm.{Warm}
 use Rattle.era_state.specs.declared.segment.Seg.{Seg}
 use Rattle.era_state.specs.declared.offered.Offered.{Offered}
-use Rattle.era_state.specs.Read.{came}
+use Rattle.era_state.specs.Read.{came, sent}
+use Rattle.era_state.specs.Quantities.{base_at, fresh_places}
+use Rattle.era_state.specs.declared.interval.Interval.{Interval}
+use Rattle.linked_table.specs.declared.table.Slot.{Slot}
+use Rattle.tcp_norm.specs.Spare.{written_back}
 use Rattle.era_state.specs.States.{is_acknowledged}
 use Rattle.era_state.specs.Rules.{t_state, t_syn}
 use Rattle.cold_start.specs.Rules.{cold_probe_of}
@@ -129,6 +134,31 @@ pub record IsHeld (t : table.Table EraKey Flow) (live : Live) : Type 0 where
   pub slots_apart : AllPairs (λ e f. e.slot ≢ f.slot) t.entries
   pub keys_apart : AllPairs (λ e f. e.key ≢ f.key) t.entries
 
+-- the era of this entry was changed by this outbound segment and touched at this time; `acked` is its greatest acknowledged offset
+pub record Continues (old new : table.Table EraKey Flow) (slot : Slot) (s : Seg) (now acked : ℕ) (flow : Flow) : Type 0 where
+  pub era : Era
+  pub entries : new ≡ record old { entries = written_back old.entries slot (record { era = era; number = flow.number; touched = now }) }
+  pub stands : (ws : List Written) (octets : List ℕ) → length octets ≡ s.len → eraspec.StandsFor flow.era ws → eraspec.StandsFor era (ws ++ sent s octets ∷ [])
+  pub near : eraspec.acked_in era < eraspec.acked_in flow.era + 2 ^ 31
+  pub octets_are : eraspec.octets_in era ≡ eraspec.octets_in flow.era
+  pub acked_is : acked ≡ eraspec.acked_in era
+
+-- the same of the entry in this slot
+pub record SendsIn (old new : table.Table EraKey Flow) (slot : Slot) (s : Seg) (now acked : ℕ) : Type 0 where
+  pub flow : Flow
+  pub was : table.Wherever old.entries slot (λ e. flow ≡ e.value)
+  pub continues : Continues old new slot s now acked flow
+
+-- the live era was changed by a frame of this interval and touched at this time; `fresh` octets of the frame are the first at their offsets
+pub record TakesIn (old new : table.Table EraKey Flow) (live : Live) (i : Interval) (fresh now : ℕ) : Type 0 where
+  pub era : Era
+  pub entries : new ≡ record old { entries = written_back old.entries live.slot (record { era = era; number = live.flow.number; touched = now }) }
+  pub value : eraspec.ForwardsIn i fresh live.flow.era era
+  pub stands : (ws : List Written) (w frame : Written) → eraspec.StandsFor live.flow.era ws → KeptOf ws w i → IsFrame ws w i frame → fresh ≡ fresh_places (base_at ws) ws i.lo i.hi
+      → eraspec.StandsFor era (ws ++ frame ∷ [])
+  pub same : eraspec.acked_in era ≡ eraspec.acked_in live.flow.era
+  pub octets_are : eraspec.octets_in era ≡ eraspec.octets_in live.flow.era + fresh
+
 -- the flags may be set together
 abbrev pub IsLegal : Seg → Type 0
 IsLegal s = tcp.are_legal s.flags.0 ≡ true
@@ -160,6 +190,7 @@ pub record IsLast (era : Era) (warm : Warm) : Type 0 where
   pub acknowledged : is_acknowledged (eraspec.state_in era) ≡ true
   pub acked_is : warm.acked ≡ eraspec.acked_in era
   pub octets_are : warm.octets ≡ eraspec.octets_in era
+  pub gives : (i : Interval) → IsGiven warm i → eraspec.GivesTo era i
 
 -- the octets that an era takes: the segment's own, or those at the front of the scratch
 abbrev pub taken : Taking → (scratch : List ℕ) → List ℕ
@@ -175,7 +206,7 @@ pub record CanPlace (store : Store) (chain : ℕ) (t : Taking) (scratch : List �
 -- these octets are added to the chain at the offsets that had none; `count` is the number of these offsets
 pub record PlacesOctets (old new : Store) (chain from : ℕ) (octets : List ℕ) (count : ℕ) : Type 0 where
   pub places : Places (chain_of old chain) (chain_of new chain) from octets
-  pub fresh : count ≡ fresh (chain_of old chain) from (length octets)
+  pub fresh : count ≡ maps.fresh (chain_of old chain) from (length octets)
   pub most : count ≤ length octets
   pub free : new.free + missing (chain_of old chain) from (length octets) ≡ old.free
   pub changed : ChangesOnly old new chain
@@ -184,12 +215,12 @@ pub record PlacesOctets (old new : Store) (chain from : ℕ) (octets : List ℕ)
 
 -- the octets can be taken, after this number of calls, with this quota
 pub record CanTake (calls : ℕ) (store : Store) (most : Option ℕ) (live : Live) (t : Taking) : Type 0 where
-  pub given : IsGiven t.warm.now t.kept
+  pub given : eraspec.GivesTo live.flow.era t.kept
   pub long : t.kept.lo + t.size ≡ t.kept.hi
   pub own_long : length t.own.now ≡ t.size
   pub fits : t.size ≤ MAX_PAYLOAD
-  pub acked : t.warm.now.acked ≤ calls * 2 ^ 31
-  pub few : t.warm.now.octets + 2 ^ 16 ≤ calls * 2 ^ 16
+  pub acked : eraspec.acked_in live.flow.era ≤ calls * 2 ^ 31
+  pub few : eraspec.octets_in live.flow.era + 2 ^ 16 ≤ calls * 2 ^ 16
   pub room : missing (chain_of store live.slot.0) t.kept.lo t.size ≤ store.free
   pub quota : IsAtMost most (length (chain_of store live.slot.0) + missing (chain_of store live.slot.0) t.kept.lo t.size)
 
@@ -204,7 +235,6 @@ IsOpenTo norm live (Reopen o) = IsHeld norm.table live
 -- the outcome writes these octets in the era, after the segments before
 pub record Brings (calls : List Call) (scratch : List ℕ) (d : Datagram) (live : Live) (t : Taking) (o : Outcome) : Type 0 where
   pub key_is : live.key ≡ key_of d
-  pub stood : WarmFor t.warm.now (segments live.flow.number calls)
   pub kept_is : KeptOf (segments live.flow.number calls) (segment_in d) t.kept
   pub frame : Written
   pub framed : IsFrame (segments live.flow.number calls) (segment_in d) t.kept frame

@@ -1,6 +1,10 @@
 //! What a segment changes in its live era.
-ghost use Rattle.std.specs.Prelude.{◌≡◌, ◌<◌, length};
-ghost use Rattle.tcp_norm.specs.Rulings.{CanPlace, IsHeld, PlacesOctets, taken};
+ghost use Rattle.std.specs.Prelude.{◌≡◌, ◌+◌, ◌<◌, ◌≤◌, ◌^◌, false, length};
+ghost use Rattle.std.specs.List.{All};
+ghost use Rattle.wire_base.specs.Tcp as tcp;
+ghost use Rattle.era_state.specs.Eras.{GivesTo, acked_in, octets_in};
+ghost use Rattle.linked_table.specs.Table.{IsIn};
+ghost use Rattle.tcp_norm.specs.Rulings.{CanPlace, IsHeld, IsLegal, PlacesOctets, SendsIn, TakesIn, taken};
 ghost use Rattle.tcp_norm.specs.Spare.{CanList, Relists, written_back};
 
 use crate::flow::{Flow, Live};
@@ -8,18 +12,24 @@ use crate::key::EraKey;
 use crate::ruling::{Change, Taking};
 use crate::spare::{chain_is_counted, list_spare};
 use crate::state::TcpNorm;
-use era_state::Era;
 use era_state::laws::{acked_never_falls, first_stays, frame_octets, intervals_fit};
-use linked_table::{LinkedTable, SlotList};
+use era_state::{Era, Interval, Offered, Seg};
+use linked_table::{LinkedTable, Slot, SlotList};
 use retain_store::{ChainId, Retain};
 
 impl TcpNorm {
-    ghost use Rattle.std.specs.Prelude.{◌<◌, List, ◌+◌};
+    ghost use Rattle.std.specs.Prelude.{◌≡◌, ◌<◌, ℕ, List, ◌∷◌, ◌+◌, true, false, length};
+    ghost use Rattle.wire_base.specs.Tcp as tcp;
+    ghost use Rattle.wire_base.specs.declared.address.FlowKey.{FlowKey};
+    ghost use Rattle.linked_table.specs.Table.{IsIn};
+    ghost use Rattle.tcp_norm.specs.Calls.{datagram, segment_in};
+    ghost use Rattle.tcp_norm.specs.Steps.{Does, Sends, continued_in};
+    ghost use Rattle.tcp_norm.specs.declared.flow.Flow.{Flow};
     ghost use Rattle.norm_settings.specs.Settings.{PlainSettings};
     ghost use Rattle.ip_rules.specs.Datagrams.{Datagram};
     ghost use Rattle.tcp_norm.specs.Calls.{Call, Outcome};
     ghost use Rattle.tcp_norm.specs.Standing.{IsReady, StandsFor};
-    ghost use Rattle.tcp_norm.specs.Rulings.{IsCounted, IsOpenTo, Needs, IsHeld, Brings, CanTake, Extends};
+    ghost use Rattle.tcp_norm.specs.Rulings.{IsCounted, IsOpenTo, Needs, IsHeld, IsLegal, Brings, CanTake, Extends, Hears, Reopens};
     ghost use Rattle.wire_base.specs.Segments.{Written};
     ghost use Rattle.tcp_norm.specs.Near.{IsNear};
 
@@ -34,14 +44,35 @@ impl TcpNorm {
             Change::Nothing => self.arrive(now),
             Change::Touch => self.keep_era(live, &live.flow.era, now),
             Change::Take(taking) => self.take_octets(live, taking, now),
-            Change::Hear(seg) => {
-                let era = live.flow.era.seen_syn(seg);
-                self.keep_era(live, &era, now);
-            }
-            Change::Reopen(era) => {
-                self.reopen(live, &Era::Offered(*era), now);
-            }
+            Change::Hear(seg) => self.hear(live, seg, now),
+            Change::Reopen(era) => self.offer(live, era, now),
         }
+    }
+
+    // Updates a live era by an inbound SYN that neither reopens it nor is dropped.
+    #[inline(never)]
+    fn hear(&mut self, live: &Live, seg: &Seg, now: u32)
+        requires held { IsHeld self.old.table live.now }
+        requires near { IsNear self.old.calls live.now.flow.era }
+        requires legal { IsLegal seg.now }
+        requires syn { tcp.has_syn seg.now.flags.0 ≡ true }
+        requires ready { IsReady self.old now }
+        ensures { (settings : PlainSettings) (calls : List Call) (d : Datagram) (o : Outcome) → StandsFor settings self.old calls →
+            Hears calls d live.now seg.now o → IsCounted settings calls d o now self.old self.new }
+    {
+        let era = live.flow.era.seen_syn(seg);
+        self.keep_era(live, &era, now);
+    }
+
+    // Ends the live era and begins another by an inbound SYN that arrives at this time.
+    #[inline(never)]
+    fn offer(&mut self, live: &Live, era: &Offered, now: u32)
+        requires held { IsHeld self.old.table live.now }
+        requires ready { IsReady self.old now }
+        ensures { (settings : PlainSettings) (calls : List Call) (d : Datagram) (o : Outcome) → StandsFor settings self.old calls →
+            Reopens self.old d live.now era.now o → IsCounted settings calls d o now self.old self.new }
+    {
+        self.reopen(live, &Era::Offered(*era), now);
     }
 
     /// Makes `era` of the live era, with a segment that arrives at this time and brings no octet of the stream: acknowledged octets are forgotten.
@@ -69,6 +100,28 @@ impl TcpNorm {
         );
     }
 
+    /// Changes the live era in this slot by an outbound segment that arrives at this time and neither ends nor reopens it: acknowledged octets are forgotten.
+    pub(crate) fn send(&mut self, slot: Slot, seg: &Seg, now: u32)
+        requires inside { IsIn self.old.table.entries slot }
+        requires legal { IsLegal seg.now }
+        requires no_rst { tcp.has_rst seg.now.flags.0 ≡ false }
+        requires ready { IsReady self.old now }
+        ensures { (settings : PlainSettings) (calls : List Call) (d : Datagram) (key : FlowKey) (flow : Flow) (octets : List ℕ) (o : Outcome) → StandsFor settings self.old calls →
+            IsHeld self.old.table (record { key = key; slot = slot; flow = flow }) → length octets ≡ seg.now.len → Sends d key seg.now octets → Does d (segment_in d) (continued_in flow.number) o →
+            StandsFor settings self.new (datagram now d o ∷ calls) }
+    {
+        first_stays();
+        acked_never_falls();
+        self.entries_are_apart();
+        self.calls += 1;
+        self.latest = now;
+        let chain = ChainId(slot.0);
+        let acked = send_in(&mut self.table, slot, seg, now);
+        chain_is_counted(&self.store, chain);
+        self.store.forget_below(chain, acked);
+        list_spare(&mut self.spare, &self.store, slot);
+    }
+
     /// Takes the octets of a segment, its own or those at the front of the scratch, and its FIN into the live era, with a segment that arrives at this time.
     pub(crate) fn take_octets(&mut self, live: &Live, taking: &Taking<'_>, now: u32)
         requires held { IsHeld self.old.table live.now }
@@ -86,16 +139,8 @@ impl TcpNorm {
         let kept = &taking.kept;
         let fresh = place_taken(&mut self.store, chain, taking, &self.scratch);
         chain_is_counted(&self.store, chain);
-        let new = taking.warm.forwarded(kept, fresh as u32);
-        let era = Era::settled(new);
-        write_back(
-            &mut self.table,
-            &mut self.spare,
-            &self.store,
-            live,
-            &era,
-            now,
-        );
+        take_in(&mut self.table, live, kept, fresh as u32, now);
+        list_spare(&mut self.spare, &self.store, live.slot);
     }
 }
 
@@ -111,6 +156,44 @@ fn place_taken(store: &mut Retain, chain: ChainId, taking: &Taking<'_>, scratch:
     } else {
         store.place_counting(chain, taking.kept.lo, &scratch[..taking.size])
     }
+}
+
+// Changes the era in a slot by an outbound segment and touches it at this time, and returns its greatest acknowledged offset.
+fn send_in(table: &mut LinkedTable<EraKey, Flow>, slot: Slot, seg: &Seg, now: u32) -> u64
+    requires inside { IsIn table.old.entries slot }
+    requires legal { IsLegal seg.now }
+    requires no_rst { tcp.has_rst seg.now.flags.0 ≡ false }
+    requires small { All (λ e. acked_in e.value.era < 2 ^ 63) table.old.entries }
+    ensures { SendsIn table.old table.new slot seg.now now result }
+{
+    let flow = table.at_mut(slot);
+    flow.era.go_on(seg);
+    flow.touched = now;
+    let acked = flow.era.acknowledged();
+    table.touch(slot);
+    acked
+}
+
+// Changes a live era in its slot by a frame with these octets and this FIN, of which `fresh` octets are the first at their offsets, and touches it at this
+// time.
+fn take_in(
+    table: &mut LinkedTable<EraKey, Flow>,
+    live: &Live,
+    kept: &Interval,
+    fresh: u32,
+    now: u32,
+)
+    requires held { IsHeld table.old live.now }
+    requires given { GivesTo live.now.flow.era kept.now }
+    requires fresh { kept.now.lo + fresh ≤ kept.now.hi }
+    requires few { octets_in live.now.flow.era + fresh < 2 ^ 64 }
+    ensures { TakesIn table.old table.new live.now kept.now fresh now }
+{
+    let slot = live.slot;
+    let flow = table.at_mut(slot);
+    flow.era.forward(kept, fresh);
+    flow.touched = now;
+    table.touch(slot);
 }
 
 // Writes the state of a live era into its slot and touches it at this time, and lists the slot where it holds no octet.

@@ -12,13 +12,15 @@ use crate::reading::inward_key;
 use crate::ruling::{Change, Ruling};
 use crate::state::TcpNorm;
 use era_state::Era;
-use wire_base::Side;
+use linked_table::Slot;
+use wire_base::{FlowKey, Side};
 
 impl TcpNorm {
     ghost use Rattle.std.specs.Prelude.{◌≡◌, ◌-◌, ◌<◌, ◌≤◌, ◌^◌};
     ghost use Rattle.wire_base.specs.declared.address.Side.TheVariants.{Inward, Outward};
     ghost use Rattle.tcp_norm.specs.Standing.{IsReady};
-    ghost use Rattle.tcp_norm.specs.Rulings.{Decides, IsFound, IsOpenTo, IsOutward, IsSame, IsShort, Judges};
+    ghost use Rattle.tcp_norm.specs.Rulings.{Decides, IsFound, IsKeyed, IsOpenTo, IsOutward, IsSame, IsShort, Judges};
+    ghost use Rattle.linked_table.specs.Table.{IsIn, Wherever};
 
     /// Judges a segment and updates the eras.
     pub(crate) fn judge(&mut self, arrival: &Arrival<'_>, ruling: &mut Ruling)
@@ -44,31 +46,27 @@ impl TcpNorm {
         let hashed = self.table.hashed(EraKey(key));
         match self.table.find_hashed(&hashed) {
             None => self.judge_cold(&hashed, arrival, ruling),
-            Some(slot) => {
-                let live = self.live_at(slot, key);
-                self.judge_live(&live, arrival, ruling);
-            }
+            Some(slot) => self.judge_live(slot, key, arrival, ruling),
         }
     }
 
-    // Judges a segment of a live era and updates the era.
-    fn judge_live(&mut self, live: &Live, arrival: &Arrival<'_>, ruling: &mut Ruling)
-        requires found { IsFound self.old arrival.now live.now }
+    // Judges a segment of the live era in this slot and updates the era.
+    fn judge_live(&mut self, slot: Slot, key: FlowKey, arrival: &Arrival<'_>, ruling: &mut Ruling)
+        requires inside { IsIn self.old.table.entries slot }
+        requires of_key { Wherever self.old.table.entries slot (λ e. e.key.0 ≡ key) }
+        requires keyed { IsKeyed arrival.now key }
         requires ready { IsReady self.old arrival.now.time }
         ensures judges { Judges arrival.now self.old self.new ruling.new }
         ensures short { IsShort arrival.now ruling.new }
     {
-        let change = self.decide(live, arrival, ruling);
-        self.apply(live, &change, arrival.time);
+        let live = self.live_at(slot, key);
+        let change = self.decide(&live, arrival, ruling);
+        self.apply(&live, &change, arrival.time);
     }
 
-    // Decides on a segment of a live era. Only the scratch changes.
-    fn decide<'a>(
-        &mut self,
-        live: &'a Live,
-        arrival: &Arrival<'a>,
-        ruling: &mut Ruling,
-    ) -> Change<'a>
+    // Decides on a segment of a live era. Only the scratch and the hint of its chain change.
+    #[inline(never)]
+    fn decide<'a>(&mut self, live: &Live, arrival: &Arrival<'a>, ruling: &mut Ruling) -> Change<'a>
         requires found { IsFound self.old arrival.now live.now }
         requires ready { IsReady self.old arrival.now.time }
         ensures fits { IsOpenTo self.new live.now result }

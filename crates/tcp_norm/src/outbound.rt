@@ -19,12 +19,13 @@ use crate::step::Step;
 use cold_start::warm_from;
 use edge_io::Outbox;
 use era_state::laws::acked_grows_near;
-use era_state::{Called, Era, Moved, Seg};
+use era_state::{Called, Era, Seg};
 use ip_rules::{Fixes, IpPacket};
-use linked_table::Hashed;
+use linked_table::{Hashed, Slot};
 use rule_book::{Entry, Rule};
 use tcp_codec::Tcp;
 use tcp_codec::laws::mended_say_the_same;
+use wire_base::FlowKey;
 
 impl TcpNorm {
     ghost use Rattle.std.specs.Prelude.{◌≡◌, ◌+◌, ◌-◌, ◌<◌, ◌≤◌, ◌^◌, List, [], ◌∷◌, length, true};
@@ -40,8 +41,8 @@ impl TcpNorm {
     ghost use Rattle.tcp_norm.specs.Passing.{Reports};
     ghost use Rattle.tcp_norm.specs.Standing.{IsAbsent, IsReady, StandsFor};
     ghost use Rattle.tcp_norm.specs.Steps.{IsMade, Makes};
-    ghost use Rattle.tcp_norm.specs.Near.{IsNear};
-    ghost use Rattle.tcp_norm.specs.Rulings.{IsHeld, IsLegal, IsOutward, IsShort, Judges};
+    ghost use Rattle.linked_table.specs.Table.{IsIn, Wherever};
+    ghost use Rattle.tcp_norm.specs.Rulings.{IsLegal, IsOutward, IsShort, Judges};
     ghost use Rattle.wire_base.specs.declared.limits.TheConstants.{MAX_FRAME, MAX_LINK, MAX_PAYLOAD};
 
     /// Handles an outbound datagram: it continues its era, or ends, reopens or begins one.
@@ -108,10 +109,7 @@ impl TcpNorm {
         let key = outward_key(arrival);
         let hashed = self.table.hashed(EraKey(key));
         match self.table.find_hashed(&hashed) {
-            Some(slot) => {
-                let live = self.live_at(slot, key);
-                self.depart_live(&live, &parsed, arrival.time)
-            }
+            Some(slot) => self.depart_live(slot, key, &parsed, arrival.time),
             None => self.depart_cold(&hashed, &parsed, arrival.time),
         }
     }
@@ -133,33 +131,37 @@ impl TcpNorm {
         }
     }
 
-    // Updates the live era of an outbound segment.
-    fn depart_live(&mut self, live: &Live, seg: &Seg, now: u32) -> Step
-        requires held { IsHeld self.old.table live.now }
-        requires near { IsNear self.old.calls live.now.flow.era }
+    // Updates the live era in this slot by an outbound segment.
+    fn depart_live(&mut self, slot: Slot, key: FlowKey, seg: &Seg, now: u32) -> Step
+        requires inside { IsIn self.old.table.entries slot }
+        requires keyed { Wherever self.old.table.entries slot (λ e. e.key.0 ≡ key) }
         requires legal { IsLegal seg.now }
         requires ready { IsReady self.old now }
-        ensures { Makes self.old self.new live.now.key seg.now now result }
+        ensures { Makes self.old self.new key seg.now now result }
     {
-        let number = live.flow.number;
-        let octets = live.flow.era.octets();
-        match live.flow.era.outbound(seg) {
-            Moved::Next(era) => {
-                self.keep_era(live, &era, now);
-                Step::within(number)
-            }
-            Moved::Reset => {
-                self.calls += 1;
-                self.latest = now;
-                self.end(live.slot);
-                Step::reset(number, octets)
-            }
-            Moved::Reopen => {
-                let next = self.begun + 1;
-                self.reopen(live, &era_of(seg), now);
-                Step::reopened(next, number, octets)
-            }
+        self.entries_are_apart();
+        let flow = self.flow_at(slot);
+        let number = flow.number;
+        if seg.flags.rst() {
+            let octets = flow.era.octets();
+            self.calls += 1;
+            self.latest = now;
+            self.end(slot);
+            return Step::reset(number, octets);
         }
+        if flow.era.calls_anew(seg) {
+            let octets = flow.era.octets();
+            let next = self.begun + 1;
+            let live = Live {
+                key,
+                slot,
+                flow: *flow,
+            };
+            self.reopen(&live, &era_of(seg), now);
+            return Step::reopened(next, number, octets);
+        }
+        self.send(slot, seg, now);
+        Step::within(number)
     }
 }
 

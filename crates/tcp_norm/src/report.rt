@@ -78,6 +78,7 @@ fn passed_verdict(fixes: &Fixes, rows: &ArrayVec<Rule, 16>) -> Verdict
 }
 
 /// Reports a datagram that no rule drops, of which this number of packets is sent.
+#[inline(always)]
 pub(crate) fn report_passed(
     step: &Step,
     fixes: &Fixes,
@@ -92,11 +93,10 @@ pub(crate) fn report_passed(
 {
     entry.verdict = passed_verdict(fixes, rows);
     entry.packets = packets;
-    let mut named = ArrayVec::new();
-    note(&mut named, Rule::TFull, step.full);
-    extend(&mut named, fixes);
-    extend(&mut named, rows);
-    entry.rules = named;
+    entry.rules = ArrayVec::new();
+    note(&mut entry.rules, Rule::TFull, step.full);
+    extend(&mut entry.rules, fixes);
+    extend(&mut entry.rules, rows);
     entry.era = step.era;
     entry.begun = step.begun;
     add_ended(&mut entry.ended, step.ended);

@@ -2,7 +2,7 @@
 ghost use Rattle.std.specs.Prelude.{◌≤◌, length};
 
 use crate::step::Step;
-use era_state::{Interval, Offered, Probe, Seg, Warm};
+use era_state::{Interval, Offered, Probe, Seg};
 use ip_rules::Fixes;
 use rule_book::Rule;
 
@@ -56,7 +56,6 @@ impl Ruling {
 /// The octets of an interval that an era takes: the segment's own if it is sent as it was read, and otherwise those at the front of the scratch.
 #[derive(Clone, Copy)]
 pub(crate) struct Taking<'a> {
-    pub(crate) warm: &'a Warm,
     pub(crate) kept: Interval,
     pub(crate) size: usize,
     pub(crate) own: &'a [u8],

@@ -16,8 +16,8 @@ impl TcpNorm {
 
     pub(super) fn decide_early<'a>(
         &self,
-        live: &'a Live,
-        arrival: &Arrival<'_>,
+        live: &Live,
+        arrival: &Arrival<'a>,
         ruling: &mut Ruling,
     ) -> Change<'a>
         requires found { IsFound self.now arrival.now live.now }

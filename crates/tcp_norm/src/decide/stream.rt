@@ -1,7 +1,7 @@
 //! A segment of the stream of an era: T_QUOTA or T_ROOM drops it, or it passes with the octets that were sent first.
-ghost use Rattle.std.specs.Prelude.{◌≡◌, ◌==◌, ◌↔◌, ℕ, ◌+◌, ◌-◌, ◌<◌, ◌≤◌, ◌^◌, nat_lt, pos, ◌-ℤ◌, List, length, take, slice_index, false, Some, None, IfNone, if◌then◌else◌};
+ghost use Rattle.std.specs.Prelude.{◌≡◌, ◌==◌, ◌↔◌, ℕ, ◌+◌, ◌-◌, ◌<◌, ◌≤◌, ◌^◌, nat_lt, pos, ◌-ℤ◌, List, length, take, slice_index, false, Some, None, IfNone, IsTrue, if◌then◌else◌};
 ghost use Rattle.wire_base.specs.Segments.{Written};
-ghost use Rattle.retain_store.specs.Maps.{Settles, chain_of, missing};
+ghost use Rattle.retain_store.specs.Maps.{IsWithin, Settles, chain_of, missing};
 ghost use Rattle.era_state.specs.Offsets.{off, nat_of};
 ghost use Rattle.era_state.specs.Standing.{bounds_in};
 ghost use Rattle.era_state.specs.Intervals.{Keeps, KeptOf};
@@ -32,11 +32,11 @@ use rule_book::Rule;
 impl TcpNorm {
     ghost use Rattle.tcp_norm.specs.Rulings.{Decides, IsFound, IsLast, IsOpenTo, IsPlain, IsSame, IsShort};
 
-    // `warm` is the state of the era. Only the scratch changes.
+    // `warm` is the state of the era. Only the scratch and the hint of the chain change.
     pub(super) fn decide_stream<'a>(
         &mut self,
-        live: &'a Live,
-        warm: &'a Warm,
+        live: &Live,
+        warm: &Warm,
         arrival: &Arrival<'a>,
         ruling: &mut Ruling,
     ) -> Change<'a>
@@ -54,9 +54,11 @@ impl TcpNorm {
         cells_are_counted(&self.store);
         let seg = seg_of(arrival);
         let kept = warm.interval(&seg);
+        let chain = ChainId(live.slot.0);
+        let ends = aim(&mut self.store, chain, &kept);
         let piece = Piece {
             store: &self.store,
-            chain: ChainId(live.slot.0),
+            chain,
             kept: &kept,
         };
         if let Some(rule) = refusal(&piece, self.quota) {
@@ -68,7 +70,7 @@ impl TcpNorm {
             return Change::Nothing;
         }
         let own = own_octets(&piece, warm, &seg, payload_of(arrival));
-        let clash = clashes(&piece, own);
+        let clash = clashes(&piece, own, ends);
         let changed = options_change(arrival);
         let rows = rows_of(arrival.head, changed, &Stream { kept, clash });
         let as_read = fill_kept(&piece, own, &rows, &mut self.scratch);
@@ -82,7 +84,6 @@ impl TcpNorm {
             probe: None,
         });
         Change::Take(Taking {
-            warm,
             kept,
             size,
             own,
@@ -119,6 +120,18 @@ impl Piece<'_> {
     {
         (self.kept.hi - self.kept.lo) as u32
     }
+}
+
+// Has the calls that follow find the first block of the interval at once. Returns true only if no offset from there on has an octet.
+fn aim(store: &mut Retain, chain: ChainId, kept: &Interval) -> bool
+    requires { chain.0 < length store.old.chains }
+    ensures same { store.new ≡ store.old }
+    ensures ends { IsTrue result → IsWithin (chain_of store.old chain.0) kept.now.lo }
+{
+    if kept.lo < kept.hi {
+        return store.aim(chain, kept.lo);
+    }
+    false
 }
 
 // Returns the segment's own octets at the offsets of the interval.
@@ -171,11 +184,15 @@ fn refusal(piece: &Piece<'_>, quota: Option<u32>) -> Option<Rule>
     None
 }
 
-// Returns whether an octet of the segment differs from the one that was sent first at its offset.
-fn clashes(piece: &Piece<'_>, own: &[u8]) -> bool
-    requires { length own.now ≡ piece.now.kept.now.hi - piece.now.kept.now.lo }
+// Returns whether an octet of the segment differs from the one that was sent first at its offset; if `ends`, none was sent from there on.
+fn clashes(piece: &Piece<'_>, own: &[u8], ends: bool) -> bool
+    requires long { length own.now ≡ piece.now.kept.now.hi - piece.now.kept.now.lo }
+    requires ends { IsTrue ends → IsWithin (chain_of piece.now.store.now piece.now.chain.0) piece.now.kept.now.lo }
     ensures { (result ≡ false) ↔ Settles (chain_of piece.now.store.now piece.now.chain.0) piece.now.kept.now.lo own.now own.now }
 {
+    if ends {
+        return false;
+    }
     // The end of the interval is below 2^64.
     let _end = piece.kept.hi;
     !piece.store.agrees(piece.chain, piece.kept.lo, own)

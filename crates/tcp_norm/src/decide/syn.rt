@@ -30,8 +30,8 @@ impl TcpNorm {
 
     pub(super) fn decide_syn<'a>(
         &self,
-        live: &'a Live,
-        arrival: &Arrival<'_>,
+        live: &Live,
+        arrival: &Arrival<'a>,
         ruling: &mut Ruling,
     ) -> Change<'a>
         requires found { IsFound self.now arrival.now live.now }

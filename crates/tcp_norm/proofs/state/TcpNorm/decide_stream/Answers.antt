@@ -8,8 +8,9 @@ use Rattle.wire_base.specs.Options.{cleaned}
 use Rattle.wire_base.specs.Segments.{Written}
 use Rattle.ipv4_codec.specs.declared.header.Ipv4.{Ipv4}
 use Rattle.tcp_codec.specs.declared.header.Tcp.{Tcp}
-use Rattle.retain_store.specs.Maps.{chain_of, missing}
-use Rattle.tcp_norm.specs.Near.{IsAtMost}
+use Rattle.retain_store.specs.Maps.{Store, chain_of, missing}
+use Rattle.tcp_norm.specs.Near.{AreBounded, IsAtMost}
+use Rattle.tcp_norm.specs.Spare.{spares}
 use Rattle.rule_book.specs.declared.rule.Rule.TheVariants as variants
 use Rattle.era_state.specs.States.{state_of}
 use Rattle.era_state.specs.Standing.{WarmFor}
@@ -18,7 +19,14 @@ use Rattle.era_state.specs.Intervals.{KeptOf}
 use Rattle.era_state.specs.Keeping.{frame_sequence_of}
 use Rattle.era_state.specs.Rules as era
 use Rattle.ip_rules.specs.Datagrams.{goes_in}
-use Rattle.tcp_norm.specs.Calls.{read, segment_in, segments}
+use Rattle.linked_table.specs.Table as table
+use Rattle.tcp_norm.specs.declared.flow.Flow.{Flow}
+use Rattle.tcp_norm.specs.declared.key.EraKey.{EraKey}
+use Rattle.tcp_norm.specs.declared.state.TcpNorm.{TcpNorm}
+use Rattle.tcp_norm.specs.Calls.{eras, read, segment_in, segments}
+use Rattle.tcp_norm.specs.Rulings.{IsSame}
+use Rattle.tcp_norm.specs.Standing.{HoldsFor, IsTimely}
+use Rattle.tcp_norm.proofs.Slots.{opened_kept}
 use Rattle.tcp_norm.specs.Views.{view_of}
 use Rattle.tcp_norm.specs.Heads.{AreBits, seen}
 use Rattle.tcp_norm.specs.Held.{held_of}
@@ -65,22 +73,69 @@ invariant_of-piece c =
       short = omega (arith, a.short, a.read.inside, c.interval-kept.ensures.short, c.seg_of-seg.ensures.len, payload_long a.packet.now.payload.now a.head.now a.read.fields);
     }
 
+pub invariant_of-self : goal.invariant_of-self
+invariant_of-self c =
+    let self = c.args.self.now in
+    record {
+      sized = ap (λ (s : Store). length s.chains) c.aim-ends.ensures.same ∙ self.sized;
+      spare_sized = self.spare_sized;
+      spare_listed = self.spare_listed ∙ ap (λ s. spares s self.table.entries) (sym c.aim-ends.ensures.same);
+      room = self.room;
+      page_room = self.page_room;
+      passes = self.passes;
+      few = self.few;
+      near = self.near;
+      bounded = subst (AreBounded self.quota) (sym c.aim-ends.ensures.same) self.bounded;
+    }
+
+pub invariant_of-self-2-clause-sized : goal.invariant_of-self-2-clause-sized
+invariant_of-self-2-clause-sized c = ap (λ (s : Store). length s.chains) c.aim-ends.ensures.same ∙ c.args.self.now.sized
+
+pub invariant_of-self-2-clause-spare_listed : goal.invariant_of-self-2-clause-spare_listed
+invariant_of-self-2-clause-spare_listed c = c.args.self.now.spare_listed ∙ ap (λ s. spares s c.args.self.now.table.entries) (sym c.aim-ends.ensures.same)
+
+pub invariant_of-self-2-clause-bounded : goal.invariant_of-self-2-clause-bounded
+invariant_of-self-2-clause-bounded c = subst (AreBounded c.args.self.now.quota) (sym c.aim-ends.ensures.same) c.args.self.now.bounded
+
+-- the store is as it was
+same_store : (old new : TcpNorm) → new.store ≡ old.store → new.table ≡ old.table → new.cells ≡ old.cells → new.hops ≡ old.hops → new.idle ≡ old.idle → new.offload ≡ old.offload → new.quota ≡ old.quota
+    → new.begun ≡ old.begun → new.calls ≡ old.calls → new.latest ≡ old.latest → IsSame old new
+same_store old new store tables cells hops idle offload quota begun calls latest = record {
+  stays = λ settings cs st. record {
+    opened = opened_kept settings old new st.opened (ap (λ (t : table.Table EraKey Flow). t.max) tables) (ap (λ (s : Store). length s.chains) store) (ap (λ (s : Store). s.cells) store) cells hops idle offload quota;
+    holds = subst (λ s. HoldsFor (eras cs) (λ n. segments n cs) new.begun new.table.entries s) (sym store)
+        (subst (λ (t : table.Table EraKey Flow). HoldsFor (eras cs) (λ n. segments n cs) new.begun t.entries old.store) (sym tables) (subst (λ b. HoldsFor (eras cs) (λ n. segments n cs) b old.table.entries old.store) (sym begun) st.holds));
+    begun_is = begun ∙ st.begun_is;
+    latest_is = latest ∙ st.latest_is;
+    calls_is = calls ∙ st.calls_is;
+    timely = subst (λ l. IsTimely l (eras cs)) (sym latest) st.timely;
+  };
+  calls_are = calls;
+  latest_is = latest;
+}
+
+pub returns-in-Some-clause-same : goal.returns-in-Some-clause-same
+returns-in-Some-clause-same c = same_store c.args.self.now _ c.aim-ends.ensures.same refl refl refl refl refl refl refl refl refl
+
+pub returns-clause-same : goal.returns-clause-same
+returns-clause-same c = same_store c.args.self.now _ c.aim-ends.ensures.same refl refl refl refl refl refl refl refl refl
+
 pub returns-clause-fits : goal.returns-clause-fits
 returns-clause-fits c =
     let a = c.args.arrival.now in
     let here = c.args.live.now in
     let near = c.requires.found.near in
-    let store = c.args.self.now.store in
+    let store = c.aim-ends.new.store in
     let seg = c.seg_of-seg.result in
     let kept = c.interval-kept.result in (
       c.requires.found.held,
       record {
-        given = record { sequence = seg.seq; len = seg.len; fin = tcp.has_fin seg.flags.0; keeps = c.interval-kept.ensures.value };
+        given = c.requires.last.gives kept (record { sequence = seg.seq; len = seg.len; fin = tcp.has_fin seg.flags.0; keeps = c.interval-kept.ensures.value });
         long = omega (arith, c.size-size.ensures.size, c.interval-kept.ensures.order);
         own_long = omega (arith, c.size-size.ensures.size, c.own_octets-own.ensures.long);
         fits = omega (arith, a.short, a.read.inside, c.interval-kept.ensures.short, c.size-size.ensures.size, c.seg_of-seg.ensures.len, payload_long a.packet.now.payload.now a.head.now a.read.fields);
-        acked = omega (arith, near.0, c.requires.last.acked_is);
-        few = omega (arith, near.1, c.requires.last.octets_are);
+        acked = omega (arith, near.0);
+        few = omega (arith, near.1);
         room = subst (λ n. missing (chain_of store here.slot.0) kept.lo n ≤ store.free) (sym c.size-size.ensures.size) c.in_default.ensures.free;
         quota = subst (λ n. IsAtMost c.args.self.now.quota (length (chain_of store here.slot.0) + missing (chain_of store here.slot.0) kept.lo n)) (sym c.size-size.ensures.size) c.in_default.ensures.within;
       },
@@ -105,12 +160,12 @@ returns-in-Some-clause-decides c settings calls d st is =
     let f = of_stream v.segments w stream in
     let warm = subst (WarmFor c.args.warm.now) (sym live.segments_are) (c.requires.last.settled (segments n calls) stood) in
     let total = held_is calls _ _ _ _ st.holds (st.opened.chains ∙ sym st.opened.flows) h.below h.slots_apart in
-    let roomy : v.room ≡ c.args.self.now.store.free = omega (arith, total, c.cells_are_counted.ensures.total, st.opened.store) in
-    let keeps : Keeps (chain_of c.args.self.now.store here.slot.0) v.segments =
-    subst (Keeps (chain_of c.args.self.now.store here.slot.0)) (sym live.segments_are)
-    l.at.octets in
-    let count : length (chain_of c.args.self.now.store here.slot.0) ≡ held_of v.segments =
-    l.at.count ∙ ap held_of (sym live.segments_are) in
+    let store = c.aim-ends.new.store in
+    let roomy : v.room ≡ store.free = omega (arith, total, c.cells_are_counted.ensures.total, st.opened.store, ap (λ (s : Store). s.free) c.aim-ends.ensures.same) in
+    let keeps : Keeps (chain_of store here.slot.0) v.segments =
+    subst (λ s. Keeps (chain_of s here.slot.0) v.segments) (sym c.aim-ends.ensures.same) (subst (Keeps (chain_of c.args.self.now.store here.slot.0)) (sym live.segments_are) l.at.octets) in
+    let count : length (chain_of store here.slot.0) ≡ held_of v.segments =
+    ap (λ s. length (chain_of s here.slot.0)) c.aim-ends.ensures.same ∙ (l.at.count ∙ ap held_of (sym live.segments_are)) in
     let bound = st.opened.quota in
     let is_live' = ap is_some live.era_is in
     let octets = is.octets in
@@ -147,12 +202,12 @@ returns-clause-decides c settings calls d st is =
     let f = of_stream v.segments w stream in
     let warm = subst (WarmFor c.args.warm.now) (sym live.segments_are) (c.requires.last.settled (segments n calls) stood) in
     let total = held_is calls _ _ _ _ st.holds (st.opened.chains ∙ sym st.opened.flows) h.below h.slots_apart in
-    let roomy : v.room ≡ c.args.self.now.store.free = omega (arith, total, c.cells_are_counted.ensures.total, st.opened.store) in
-    let keeps : Keeps (chain_of c.args.self.now.store here.slot.0) v.segments =
-    subst (Keeps (chain_of c.args.self.now.store here.slot.0)) (sym live.segments_are)
-    l.at.octets in
-    let count : length (chain_of c.args.self.now.store here.slot.0) ≡ held_of v.segments =
-    l.at.count ∙ ap held_of (sym live.segments_are) in
+    let store = c.aim-ends.new.store in
+    let roomy : v.room ≡ store.free = omega (arith, total, c.cells_are_counted.ensures.total, st.opened.store, ap (λ (s : Store). s.free) c.aim-ends.ensures.same) in
+    let keeps : Keeps (chain_of store here.slot.0) v.segments =
+    subst (λ s. Keeps (chain_of s here.slot.0) v.segments) (sym c.aim-ends.ensures.same) (subst (Keeps (chain_of c.args.self.now.store here.slot.0)) (sym live.segments_are) l.at.octets) in
+    let count : length (chain_of store here.slot.0) ≡ held_of v.segments =
+    ap (λ s. length (chain_of s here.slot.0)) c.aim-ends.ensures.same ∙ (l.at.count ∙ ap held_of (sym live.segments_are)) in
     let bound = st.opened.quota in
     let is_live' = ap is_some live.era_is in
     let octets = is.octets in
@@ -215,7 +270,6 @@ returns-clause-decides c settings calls d st is =
           _
           (λ frame warm_for kept_of framed same wrote. record {
             key_is = sym l.key_is;
-            stood = warm_for;
             kept_is = kept_of;
             frame = frame;
             framed = framed;

@@ -1,7 +1,6 @@
-use Rattle.std.proofs.Common.{◌∙◌, ap, sym, subst}
+use Rattle.std.proofs.Common.{◌∙◌, ap, sym}
 use Rattle.tcp_norm.specs.declared.key.EraKey.{EraKey}
 use Rattle.wire_base.specs.Tcp as tcp
-use Rattle.tcp_norm.specs.Steps.{Sends}
 use Rattle.tcp_norm.proofs.Sent.{sends_it}
 use Rattle.tcp_norm.proofs.state.TcpNorm.depart.Goals as goal
 
@@ -10,7 +9,7 @@ returns-in-Some c settings calls d st is =
     let a = c.args.arrival.now in
     let octets = tcp.payload a.packet.now.payload.now in
     let sends = sends_it a.packet.now a.link.now d c.seg_of-parsed.result c.outward_key-key.result c.requires.outward.side is c.outward_key-key.ensures c.seg_of-parsed.ensures.outward in
-    c.depart_live.ensures settings calls d octets (sym c.seg_of-parsed.ensures.len) st (subst (λ k. Sends d k c.seg_of-parsed.result octets) (sym c.live_at-live.ensures.key) sends)
+    c.depart_live.ensures settings calls d octets (sym c.seg_of-parsed.ensures.len) st sends
 
 pub returns-in-None : goal.returns-in-None
 returns-in-None c settings calls d st is =

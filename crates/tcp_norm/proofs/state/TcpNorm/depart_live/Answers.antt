@@ -1,55 +1,47 @@
-use Rattle.std.proofs.Common.{◌≡◌, ◌+◌, ◌∙◌, false, [], ◌∷◌, ◌++◌, Some, None, refl, sym, ap, ap₂, subst, arith}
+use Rattle.std.proofs.Common.{◌≡◌, ◌+◌, ◌∙◌, false, [], ◌∷◌, Some, None, refl, sym, ap, ap₂, subst, arith}
 use Rattle.wire_base.specs.Segments.{Written}
 use Rattle.rule_book.specs.declared.entry.Reason.TheVariants as reasons
 use Rattle.era_state.specs.Quantities.{octets_of}
 use Rattle.era_state.specs.Read.{sent}
 use Rattle.era_state.specs.Rules.{reopens_outward}
 use Rattle.era_state.specs.Eras as era
+use Rattle.tcp_norm.specs.declared.flow.Live.{Live}
 use Rattle.tcp_norm.specs.Calls.{segments, eras, segment_in}
 use Rattle.tcp_norm.specs.Views.{view_of}
 use Rattle.tcp_norm.specs.Steps.{IsStep, Does, continued_in, reopened_by}
-use Rattle.tcp_norm.proofs.Acks.{outbound_brings_none}
 use Rattle.tcp_norm.proofs.Moves.{ends_within, none_kept, tables_go_on}
-use Rattle.tcp_norm.proofs.OfLive.{held_live}
+use Rattle.tcp_norm.proofs.OfLive.{held_live, is_held}
 use Rattle.tcp_norm.proofs.Outwards.{step_next, step_reset, step_reopened}
 use Rattle.tcp_norm.proofs.Slots.{opened_kept}
-use Rattle.tcp_norm.proofs.Writing.{writes_one}
 use Rattle.tcp_norm.proofs.state.TcpNorm.depart_live.Goals as goal
 
-pub era_of-requires-clause-no_rst : goal.era_of-requires-clause-no_rst
-era_of-requires-clause-no_rst c = c.in-Reopen.ensures.reset
-
-pub returns-in-Next : goal.returns-in-Next
-returns-in-Next c settings calls d octets long st sends =
-    let here = c.args.live.now in
+pub returns : goal.returns
+returns c settings calls d octets long st sends =
+    let here : Live = record { key = c.args.key; slot = c.args.slot; flow = c.flow_at-flow.result.now } in
+    let apart = c.entries_are_apart.ensures in
+    let held = is_held c.args.self.now.table here c.requires.inside c.flow_at-flow.ensures.value c.requires.keyed apart.bounded apart.slots_below apart.slots_apart apart.keys_apart in
     let n = here.flow.number in
     let v = view_of settings calls d in
     let w = segment_in d in
-    let l = held_live settings calls d c.args.self.now here st c.requires.held sends.key_is in
-    let moves = c.in-Next.ensures.moves (segments n calls) l.at.era in
-    let none = ap (λ ws. reopens_outward ws (sent c.args.seg.now [])) l.live.segments_are ∙ moves.1 in
+    let l = held_live settings calls d c.args.self.now here st held sends.key_is in
+    let none = ap (λ ws. reopens_outward ws (sent c.args.seg.now [])) l.live.segments_are ∙ (sym (c.calls_anew.ensures.list (segments n calls) l.at.era) ∙ c.if-calls_anew.false) in
     record {
       is_step = subst (IsStep v w) (sym c.within.ensures)
-          (subst (λ (w : Written). IsStep v w (continued_in n)) (sym sends.segment_is) (step_next v c.args.seg.now octets n l.live.era_is moves.0 none));
-      stands = λ o does. (c.keep_era.ensures settings calls d (w ∷ []) o st
-          (record {
-            key_is = sym sends.key_is;
-            none = (outbound_brings_none w sends.side, tt);
-            stands = subst (λ x. era.StandsFor c.in-Next.era (segments n calls ++ x ∷ [])) (sym sends.segment_is) (moves.2 octets long);
-            writes = writes_one d n w o (subst (λ x. Does d w x o) c.within.ensures does);
-          })).stands;
+          (subst (λ (w : Written). IsStep v w (continued_in n)) (sym sends.segment_is) (step_next v c.args.seg.now octets n l.live.era_is (sym c.rst.ensures ∙ c.if-rst.false) none));
+      stands = λ o does. c.send.ensures settings calls d here.key here.flow octets o st held long sends (subst (λ x. Does d w x o) c.within.ensures does);
     }
 
-pub returns-in-Reset : goal.returns-in-Reset
-returns-in-Reset c settings calls d octets long st sends =
-    let here = c.args.live.now in
+pub returns-then-rst : goal.returns-then-rst
+returns-then-rst c settings calls d octets long st sends =
+    let here : Live = record { key = c.args.key; slot = c.args.slot; flow = c.flow_at-flow.result.now } in
     let self = c.args.self.now in
-    let held = c.requires.held in
+    let apart = c.entries_are_apart.ensures in
+    let held = is_held self.table here c.requires.inside c.flow_at-flow.ensures.value c.requires.keyed apart.bounded apart.slots_below apart.slots_apart apart.keys_apart in
     let n = here.flow.number in
     let v = view_of settings calls d in
     let w = segment_in d in
     let l = held_live settings calls d self here st held sends.key_is in
-    let rst = c.in-Reset.ensures.moves (segments n calls) l.at.era in
+    let rst = sym c.rst.ensures ∙ c.if-rst.true in
     let told = c.octets-octets.ensures.list (segments n calls) l.at.era ∙ sym (ap octets_of l.live.segments_are) in
     record {
       is_step = subst (IsStep v w) (sym (c.reset.ensures ∙ ap (λ k. record { era = Some n; begun = None; ended = Some (record { era = n; reason = reasons.Reset; octets = Some k }); full = false }) told))
@@ -60,21 +52,22 @@ returns-in-Reset c settings calls d octets long st sends =
           l.at.given (subst (λ x. Does d w x o) c.reset.ensures does) (c.end.ensures.holds (eras calls) (λ m. segments m calls) here.flow st.holds held.entry);
     }
 
-pub returns-in-Reopen : goal.returns-in-Reopen
-returns-in-Reopen c settings calls d octets long st sends =
-    let here = c.args.live.now in
+pub returns-then-calls_anew : goal.returns-then-calls_anew
+returns-then-calls_anew c settings calls d octets long st sends =
+    let here : Live = record { key = c.args.key; slot = c.args.slot; flow = c.flow_at-flow.result.now } in
+    let apart = c.entries_are_apart.ensures in
+    let held = is_held c.args.self.now.table here c.requires.inside c.flow_at-flow.ensures.value c.requires.keyed apart.bounded apart.slots_below apart.slots_apart apart.keys_apart in
     let n = here.flow.number in
     let v = view_of settings calls d in
     let w = segment_in d in
-    let l = held_live settings calls d c.args.self.now here st c.requires.held sends.key_is in
-    let moves = c.in-Reopen.ensures.moves (segments n calls) l.at.era in
-    let some = ap (λ ws. reopens_outward ws (sent c.args.seg.now [])) l.live.segments_are ∙ moves.1 in
+    let l = held_live settings calls d c.args.self.now here st held sends.key_is in
+    let some = ap (λ ws. reopens_outward ws (sent c.args.seg.now [])) l.live.segments_are ∙ (sym (c.calls_anew.ensures.list (segments n calls) l.at.era) ∙ c.if-calls_anew.true) in
     let next : c.args.self.now.begun + 1 ≡ v.next = omega (arith, st.begun_is) in
-    let told = c.octets-octets.ensures.list (segments n calls) l.at.era ∙ sym (ap octets_of l.live.segments_are) in
+    let told = c.octets-octets-then-calls_anew.ensures.list (segments n calls) l.at.era ∙ sym (ap octets_of l.live.segments_are) in
     record {
       is_step = subst (IsStep v w) (sym (c.reopened.ensures ∙ ap₂ (reopened_by n) next told))
           (subst (λ (w : Written). IsStep v w (reopened_by n v.next (octets_of v.segments))) (sym sends.segment_is) (step_reopened v c.args.seg.now octets n l.live.era_is some));
-      stands = λ o does. (c.reopen.ensures settings calls d w c.octets-octets.result o st (sym sends.key_is)
+      stands = λ o does. (c.reopen.ensures settings calls d w c.octets-octets-then-calls_anew.result o st (sym sends.key_is)
           (subst (λ (x : Written). era.StandsFor c.era_of.result (x ∷ [])) (sym sends.segment_is) (c.era_of.ensures.stands octets long))
           (none_kept w sends.side) (subst (λ x. Does d w x o) c.reopened.ensures does)).stands;
     }

@@ -48,5 +48,6 @@ invariant_of-self-clause-bounded c =
 
 pub invariant_of-self-clause-spare_listed : goal.invariant_of-self-clause-spare_listed
 invariant_of-self-clause-spare_listed c =
-    touched_listed c.args.self.now.spare _ c.args.self.now.store c.forget_below.new.self c.args.self.now.table _ c.args.live.now _ c.requires.held c.forget_below.ensures.changed
+    let held = c.requires.held in
+    touched_listed c.args.self.now.spare _ c.args.self.now.store c.forget_below.new.self c.args.self.now.table _ c.args.live.now.slot _ held.inside held.slots_apart held.keys_apart c.forget_below.ensures.changed
     c.args.self.now.spare_listed c.write_back.ensures.spare (ap (λ (t : table.Table EraKey Flow). t.entries) c.write_back.ensures.entries)

@@ -10,7 +10,7 @@ use Rattle.tcp_norm.proofs.Nears.{nears_weaker, near_touched}
 use Rattle.tcp_norm.proofs.Quotas.{stays_bounded}
 use Rattle.tcp_norm.proofs.Slots.{at_slot, opened_kept}
 use Rattle.tcp_norm.proofs.Sparing.{touched_listed}
-use Rattle.tcp_norm.proofs.Streams.{fresh_is, keeps_with}
+use Rattle.tcp_norm.proofs.Streams.{fresh_is, keeps_with, last_stands}
 use Rattle.tcp_norm.specs.Rulings.{taken}
 use Rattle.tcp_norm.proofs.Writing.{stands_written, wrote_these, taken_long}
 use Rattle.tcp_norm.proofs.state.TcpNorm.take_octets.Goals as goal
@@ -27,19 +27,20 @@ returns c settings calls d o st b =
     let at = at_slot (eras calls) (λ m. segments m calls) _ _ store live.slot live.flow st.holds held.inside held.slots_apart held.keys_apart held.entry in
     let long = taken_long t c.deref.result.now c.requires.can.own_long (omega (arith, c.deref.ensures.len, c.args.self.now.room, c.requires.can.fits)) in
     let places = fresh_is c.intervals_fit.ensures ws w t.kept _ t.size _ b.kept_is at.octets c.requires.can.long (placed.fresh ∙ ap (fresh (chain_of store live.slot.0) t.kept.lo) long) in
-    let next = c.forwarded-new.ensures.list ws w b.frame b.stood b.kept_is b.framed places in
-    let keeps = keeps_with c.first_stays.ensures c.frame_octets.ensures c.intervals_fit.ensures c.place_taken-fresh.result t.warm.now c.forwarded-new.result ws w b.frame t.kept
-    (chain_of store live.slot.0) (chain_of c.place_taken-fresh.new.store live.slot.0) _ b.stood next c.forwarded-new.ensures.value b.kept_is b.framed (b.octets_are ∙ ap (taken t) (sym c.deref.ensures.value)) at.octets placed.places in
+    let took = c.take_in.ensures in
+    let next = took.stands ws w b.frame at.era b.kept_is b.framed places in
+    let keeps = keeps_with c.first_stays.ensures c.frame_octets.ensures c.intervals_fit.ensures c.place_taken-fresh.result took.value.was took.value.is ws w b.frame t.kept
+    (chain_of store live.slot.0) (chain_of c.place_taken-fresh.new.store live.slot.0) _ (last_stands live.flow.era took.value.was ws took.value.was_last at.era) (last_stands took.era took.value.is (ws ++ b.frame ∷ []) took.value.is_last next) took.value.with b.kept_is b.framed (b.octets_are ∙ ap (taken t) (sym c.deref.ensures.value)) at.octets placed.places in
     record {
       stands = stands_written settings c.args.self.now _ calls c.args.now d live _ (b.frame ∷ []) o st
-          (opened_kept settings c.args.self.now _ st.opened (ap (λ (x : table.Table EraKey Flow). x.max) c.write_back.ensures.entries) placed.changed.number (ap (λ (s : Store). s.cells) placed.changed.others) refl refl refl refl refl)
-          refl refl refl c.requires.ready.later held b.key_is refl refl c.write_back.ensures.entries placed.changed (c.settled-era.ensures.stands (ws ++ b.frame ∷ []) next) keeps
+          (opened_kept settings c.args.self.now _ st.opened (ap (λ (x : table.Table EraKey Flow). x.max) c.take_in.ensures.entries) placed.changed.number (ap (λ (s : Store). s.cells) placed.changed.others) refl refl refl refl refl)
+          refl refl refl c.requires.ready.later held b.key_is refl refl took.entries placed.changed next keeps
           c.chain_is_counted.ensures.map c.chain_is_counted.ensures.held (wrote_these 0 live.flow.number d b.more (b.frame ∷ []) o b.writes b.own);
       scratch_is = refl;
     }
 
-pub forwarded-new-requires-clause-few : goal.forwarded-new-requires-clause-few
-forwarded-new-requires-clause-few c = omega (
+pub take_in-requires-clause-few : goal.take_in-requires-clause-few
+take_in-requires-clause-few c = omega (
   arith,
   c.requires.can.few,
   c.requires.ready.few,
@@ -52,10 +53,10 @@ pub invariant_of-self-clause-near : goal.invariant_of-self-clause-near
 invariant_of-self-clause-near c =
     let self = c.args.self.now in
     let long = taken_long c.args.taking.now c.deref.result.now c.requires.can.own_long (omega (arith, c.deref.ensures.len, self.room, c.requires.can.fits)) in
-    let acked : acked_in c.settled-era.result ≤ (self.calls + 1) * 2 ^ 31 = omega (arith, c.settled-era.ensures.same, c.forwarded-new.ensures.value.acked_is, c.requires.can.acked) in
-    let octets : octets_in c.settled-era.result ≤ (self.calls + 1) * 2 ^ 16 =
-    omega (arith, c.settled-era.ensures.octets, c.forwarded-new.ensures.value.octets_are, c.requires.can.few, c.place_taken-fresh.ensures.most, long, c.requires.can.fits) in
-    subst (λ (t : table.Table EraKey Flow). AreNear (self.calls + 1) t.entries) (sym c.write_back.ensures.entries)
+    let acked : acked_in c.take_in.ensures.era ≤ (self.calls + 1) * 2 ^ 31 = omega (arith, c.take_in.ensures.same, c.requires.can.acked) in
+    let octets : octets_in c.take_in.ensures.era ≤ (self.calls + 1) * 2 ^ 16 =
+    omega (arith, c.take_in.ensures.octets_are, c.requires.can.few, c.place_taken-fresh.ensures.most, long, c.requires.can.fits) in
+    subst (λ (t : table.Table EraKey Flow). AreNear (self.calls + 1) t.entries) (sym c.take_in.ensures.entries)
     (near_touched (self.calls + 1) c.args.live.now.slot _ self.table.entries (acked, octets) (nears_weaker self.calls (self.calls + 1) self.table.entries (omega arith) self.near))
 
 pub invariant_of-self-clause-bounded : goal.invariant_of-self-clause-bounded
@@ -71,5 +72,6 @@ invariant_of-self-clause-bounded c =
 
 pub invariant_of-self-clause-spare_listed : goal.invariant_of-self-clause-spare_listed
 invariant_of-self-clause-spare_listed c =
-    touched_listed c.args.self.now.spare _ c.args.self.now.store c.place_taken-fresh.new.store c.args.self.now.table _ c.args.live.now _ c.requires.held c.place_taken-fresh.ensures.changed
-    c.args.self.now.spare_listed c.write_back.ensures.spare (ap (λ (t : table.Table EraKey Flow). t.entries) c.write_back.ensures.entries)
+    let held = c.requires.held in
+    touched_listed c.args.self.now.spare _ c.args.self.now.store c.place_taken-fresh.new.store c.args.self.now.table _ c.args.live.now.slot _ held.inside held.slots_apart held.keys_apart c.place_taken-fresh.ensures.changed
+    c.args.self.now.spare_listed c.list_spare.ensures (ap (λ (t : table.Table EraKey Flow). t.entries) c.take_in.ensures.entries)

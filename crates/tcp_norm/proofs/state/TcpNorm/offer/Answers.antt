@@ -1,0 +1,5 @@
+use Rattle.tcp_norm.proofs.Colding.{none_came}
+use Rattle.tcp_norm.proofs.state.TcpNorm.offer.Goals as goal
+
+pub returns : goal.returns
+returns c settings calls d o st e = c.reopen.ensures settings calls d (_) e.octets o st e.key_is e.stands (none_came e.first) e.does
