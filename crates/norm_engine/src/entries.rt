@@ -36,7 +36,8 @@ pub fn renew(entry: &mut Entry, number: u32)
     entry.side = None;
     entry.verdict = Verdict::Pass;
     entry.packets = 1;
-    entry.rules.clear();
+    // Cheaper than `clear`, which writes each rule.
+    entry.rules = ArrayVec::new();
     entry.era = None;
     entry.begun = None;
     entry.ended.clear();
