@@ -1,124 +1,240 @@
--- Octets that are added one after another.
-use Rattle.std.proofs.Common.{◌≡◌, ℕ, suc, ◌+◌, ◌-◌, ◌==◌, ◌||◌, ◌≤◌, nat_le, List, [], ◌∷◌, ◌<◌, length, drop, drop-cons, get_or, add-one, Option, Some, None, Bool, true, false, refl, sym, ap, ap₂, ◌∙◌, subst, arith, slice_get, if◌then◌else◌}
+-- Octets that are added run by run.
+use Rattle.std.proofs.Common.{inl, inr, ◌≡◌, ℕ, zero, suc, ◌&&◌, ◌+◌, ◌-◌, ◌/◌, ◌%◌, ◌==◌, ◌||◌, ◌≤◌, nat_le, not, List, [], ◌∷◌, ◌++◌, ◌<◌, length, drop, drop-cons, get_or, add-one, Option, Some, None, Bool, true, false, refl, sym, ap, ap₂, ◌∙◌, arith, slice_get, if◌then◌else◌}
 use Rattle.std.specs.Option.{option_or}
-use Rattle.std.proofs.lemmas.Bool.{eqb-true, eqb-false, ne_eqb, leb-true, leb-false, le-leb, lt-leb, not-false}
+use Rattle.std.proofs.lemmas.Bool.{cases_eq, cases_lt, or_right, eqb-true, eqb-false, ne_eqb, leb-true, leb-false, le-leb, lt-leb, not-false}
+use Rattle.std.proofs.lemmas.Option.{slice_get_past}
 use Rattle.run_audit.specs.Faults.{is_other}
-use Rattle.run_audit.specs.Kept.{brought, is_at_end, some_stray, kept_with}
+use Rattle.run_audit.specs.Kept.{AreKeptWith, brought, is_at_end, block_at, kept_at, kept_with, octet_in_some, some_stray}
+use Rattle.run_audit.specs.declared.octets.Octets.{Octets}
 use Rattle.run_audit.specs.declared.offset.Offset.{Offset}
 
--- the test for strays reads only the octets that are kept from `place` on
-pub stray_ahead : (f g : ℕ → Option ℕ) (end : Option Offset) (place : ℕ) (octets : List ℕ) → ((raised : ℕ) → place ≤ raised → g raised ≡ f raised) → some_stray g end place octets ≡ some_stray f end place octets
-stray_ahead f g end place [] same = refl
-stray_ahead f g end place (octet ∷ octets) same =
-    ap₂ (λ (a b : Bool). a || b)
-    (ap (λ (o : Option ℕ). is_other o octet || is_at_end end place) (same place (omega arith)))
-    (stray_ahead f g end (place + 1) octets (λ raised h. same raised (omega (arith, h))))
+-- the test for strays reads only what is kept at the offsets of the list
+stray_same : (f g : ℕ → Option ℕ) (p q : ℕ) (octets : List ℕ) → ((m n : ℕ) → p ≤ m → m < p + length octets → n + p ≡ m + q → g n ≡ f m) → some_stray g None q octets ≡ some_stray f None p octets
+stray_same f g p q [] same = refl
+stray_same f g p q (x ∷ xs) same =
+    ap₂ (λ (a b : Bool). (a || false) || b)
+    (ap (λ (o : Option ℕ). is_other o x) (same p q (omega arith) (omega arith) (omega arith)))
+    (stray_same f g (p + 1) (q + 1) xs (λ m n low high e. same m n (omega (arith, low)) (omega (arith, high)) (omega (arith, e))))
+
+-- an octet of two lists, one behind the other, strays if one of either does
+or_assoc : (a b c : Bool) → (a || (b || c)) ≡ ((a || b) || c)
+or_assoc true b c = refl
+or_assoc false b c = refl
+
+stray_append : (f : ℕ → Option ℕ) (place : ℕ) (xs ys : List ℕ) → some_stray f None place (xs ++ ys) ≡ (some_stray f None place xs || some_stray f None (place + length xs) ys)
+stray_append f place [] ys = let e : place ≡ place + 0 = omega arith in ap (λ n. some_stray f None n ys) e
+stray_append f place (x ∷ xs) ys =
+    let next : place + 1 + length xs ≡ place + length (x ∷ xs) = omega arith in
+    let this : Bool = is_other (f place) x || false in
+    ap (λ (b : Bool). this || b) (stray_append f (place + 1) xs ys)
+    ∙ or_assoc this (some_stray f None (place + 1) xs) (some_stray f None (place + 1 + length xs) ys)
+    ∙ ap (λ n. (this || some_stray f None (place + 1) xs) || some_stray f None n ys) next
+
+-- an octet of a front strays, so one of the whole does
+pub stray_front : (f : ℕ → Option ℕ) (place : ℕ) (xs ys : List ℕ) → some_stray f None place xs ≡ true → some_stray f None place (xs ++ ys) ≡ true
+stray_front f place xs ys h = stray_append f place xs ys ∙ ap (λ (b : Bool). b || some_stray f None (place + length xs) ys) h
+
+-- what a list brings from its first offset on, before it, and behind it
+brought_at : (place raised : ℕ) (octets : List ℕ) → place ≤ raised → brought place octets raised ≡ slice_get octets (raised - place)
+brought_at place raised octets h = ap (λ (b : Bool). if b then slice_get octets (raised - place) else None) (le-leb place raised h)
+
+brought_before : (place raised : ℕ) (octets : List ℕ) → raised < place → brought place octets raised ≡ None
+brought_before place raised octets h = ap (λ (b : Bool). if b then slice_get octets (raised - place) else None) (lt-leb place raised h)
+
+brought_behind : (place raised : ℕ) (octets : List ℕ) → place + length octets ≤ raised → brought place octets raised ≡ None
+brought_behind place raised octets h =
+    brought_at place raised octets (omega (arith, h)) ∙ slice_get_past octets (raised - place) (omega (arith, h))
+
+-- a list brings the same octets at another offset
+brought_shift : (p q m n : ℕ) (octets : List ℕ) → n + p ≡ m + q → brought q octets n ≡ brought p octets m
+brought_shift p q m n octets e =
+    ap₂ (λ (b : Bool) (k : ℕ). if b then slice_get octets k else None) (tests (nat_le p m) refl) (omega (arith, e))
+  where
+    tests : (b : Bool) → nat_le p m ≡ b → nat_le q n ≡ nat_le p m
+    tests true h = let low = leb-true p m h in le-leb q n (omega (arith, low, e)) ∙ sym h
+    tests false h = let low = leb-false p m h in lt-leb q n (omega (arith, low, e)) ∙ sym h
+
+or_none : (o : Option ℕ) → option_or o None ≡ o
+or_none None = refl
+or_none (Some x) = refl
+
+or_twice : (a b c : Option ℕ) → option_or (option_or a b) c ≡ option_or a (option_or b c)
+or_twice None b c = refl
+or_twice (Some x) b c = refl
+
+-- two lists, one behind the other, bring the octets of both
+get_append : (xs ys : List ℕ) (k : ℕ) → slice_get (xs ++ ys) k ≡ option_or (slice_get xs k) (brought (length xs) ys k)
+get_append [] ys k = ap₂ (λ (b : Bool) (n : ℕ). if b then slice_get ys n else None) (sym (le-leb 0 k (omega arith))) (omega arith)
+get_append (x ∷ xs) ys zero = refl
+get_append (x ∷ xs) ys (suc k) =
+    get_append xs ys k ∙ ap (option_or (slice_get xs k)) (sym (brought_shift (length xs) (suc (length xs)) k (suc k) ys (omega arith)))
+
+brought_append : (place : ℕ) (xs ys : List ℕ) (raised : ℕ) → brought place (xs ++ ys) raised ≡ option_or (brought place xs raised) (brought (place + length xs) ys raised)
+brought_append place xs ys raised = by (nat_le place raised) refl
+  where
+    by : (b : Bool) → nat_le place raised ≡ b → brought place (xs ++ ys) raised ≡ option_or (brought place xs raised) (brought (place + length xs) ys raised)
+    by true e =
+        let low = leb-true place raised e in
+        let shift : brought (place + length xs) ys raised ≡ brought (length xs) ys (raised - place) = brought_shift (length xs) (place + length xs) (raised - place) raised ys (omega (arith, low)) in
+        brought_at place raised (xs ++ ys) low ∙ get_append xs ys (raised - place) ∙ sym (ap₂ option_or (brought_at place raised xs low) shift)
+    by false e =
+        let low = leb-false place raised e in
+        brought_before place raised (xs ++ ys) low
+        ∙ sym (ap₂ option_or (brought_before place raised xs low) (brought_before (place + length xs) raised ys (omega (arith, low))))
+
+kept_behind : (f : ℕ → Option ℕ) (place : ℕ) (octets : List ℕ) (raised : ℕ) → place + length octets ≤ raised → kept_with f place octets raised ≡ f raised
+kept_behind f place octets raised h = ap (option_or (f raised)) (brought_behind place raised octets h) ∙ or_none (f raised)
+
+-- octets that do not stray are added: whether those behind them stray stays the same
+pub stray_on : (f g : ℕ → Option ℕ) (place : ℕ) (xs ys : List ℕ) → ((raised : ℕ) → g raised ≡ kept_with f place xs raised) → some_stray f None place xs ≡ false → some_stray g None (place + length xs) ys ≡ some_stray f None place (xs ++ ys)
+stray_on f g place xs ys new none =
+    stray_same f g (place + length xs) (place + length xs) ys
+    (λ m n low high e.
+    let same : m ≡ n = omega (arith, e) in new n ∙ kept_behind f place xs n (omega (arith, low, same)) ∙ ap f (sym same))
+    ∙ sym (stray_append f place xs ys ∙ ap (λ (b : Bool). b || some_stray f None (place + length xs) ys) none)
+
+-- octets are added, and those behind them: all of them are added
+pub kept_on : (f g : ℕ → Option ℕ) (place : ℕ) (xs ys : List ℕ) → ((raised : ℕ) → g raised ≡ kept_with f place xs raised) → (raised : ℕ) → kept_with g (place + length xs) ys raised ≡ kept_with f place (xs ++ ys) raised
+kept_on f g place xs ys new raised =
+    ap (λ (o : Option ℕ). option_or o (brought (place + length xs) ys raised)) (new raised)
+    ∙ or_twice (f raised) (brought place xs raised) (brought (place + length xs) ys raised)
+    ∙ ap (option_or (f raised)) (sym (brought_append place xs ys raised))
 
 -- the kept octets with one more
 abbrev pub with_one : (ℕ → Option ℕ) → ℕ → ℕ → ℕ → Option ℕ
 with_one f place octet raised = if place == raised then Some octet else f raised
 
-pub stray_step : (f g : ℕ → Option ℕ) (end : Option Offset) (place octet : ℕ) (octets : List ℕ) → ((raised : ℕ) → g raised ≡ with_one f place octet raised) → is_other (f place) octet ≡ false → is_at_end end place ≡ false → some_stray g end (place + 1) octets ≡ some_stray f end place (octet ∷ octets)
-stray_step f g end place octet octets new same before =
-    stray_ahead f g end (place + 1) octets (λ raised h. new raised ∙ apart raised h)
-    ∙ sym (ap₂ (λ (a b : Bool). (a || b) || some_stray f end (place + 1) octets) same before)
+-- an octet that does not differ from the kept one
+one_kept : (f : ℕ → Option ℕ) (place octet raised : ℕ) → is_other (f place) octet ≡ false → with_one f place octet raised ≡ kept_with f place (octet ∷ []) raised
+one_kept f place octet raised same = by (place == raised) refl
   where
-    apart : (raised : ℕ) → place + 1 ≤ raised → with_one f place octet raised ≡ f raised
-    apart raised h = ap (λ (b : Bool). if b then Some octet else f raised) (ne_eqb place raised (λ e. omega (arith, h, e)))
+    first : (o : Option ℕ) → is_other o octet ≡ false → Some octet ≡ option_or o (Some octet)
+    first None h = refl
+    first (Some x) h = ap (λ n. Some n) (sym (eqb-true x octet (not-false (x == octet) h)))
 
--- an empty list has no octet at any offset
-brought_none : (place raised : ℕ) → brought place [] raised ≡ None
-brought_none place raised = by (nat_le place raised) (raised - place)
-  where
-    by : (b : Bool) (at : ℕ) → (if b then slice_get [] at else None) ≡ (let none : Option ℕ = None in none)
-    by true at = refl
-    by false at = refl
+    elsewhere : (place ≡ raised → ⊥) → brought place (octet ∷ []) raised ≡ None
+    elsewhere apart = elim (cases_lt raised place) [
+      | inl low ↦ brought_before place raised (octet ∷ []) low
+      | inr high ↦ brought_behind place raised (octet ∷ []) (omega (arith, high, apart))
+    ]
 
-pub kept_all : (f : ℕ → Option ℕ) (place raised : ℕ) → kept_with f place [] raised ≡ f raised
-kept_all f place raised = ap (option_or (f raised)) (brought_none place raised) ∙ by (f raised)
-  where
-    by : (o : Option ℕ) → option_or o None ≡ o
-    by None = refl
-    by (Some x) = refl
-
--- an octet at another offset than the first one is in the rest of the list
-brought_next : (place raised octet : ℕ) (octets : List ℕ) → (place ≡ raised → ⊥) → brought (place + 1) octets raised ≡ brought place (octet ∷ octets) raised
-brought_next place raised octet octets apart = by (nat_le (place + 1) raised) refl
-  where
-    by : (b : Bool) → nat_le (place + 1) raised ≡ b → brought (place + 1) octets raised ≡ brought place (octet ∷ octets) raised
-    by true e =
-        let less : place + 1 ≤ raised = leb-true (place + 1) raised e in
-        let within : nat_le place raised ≡ true = le-leb place raised (omega (arith, less)) in
-        let far : raised - place ≡ suc (raised - (place + 1)) = omega (arith, less) in
-        ap (λ (t : Bool). if t then slice_get octets (raised - (place + 1)) else None) e
-        ∙ sym (ap (λ (t : Bool). if t then slice_get (octet ∷ octets) (raised - place) else None) within
-        ∙ ap (slice_get (octet ∷ octets)) far)
-    by false e =
-        let more = leb-false (place + 1) raised e in
-        let before : nat_le place raised ≡ false = lt-leb place raised (omega (arith, more, apart)) in
-        ap (λ (t : Bool). if t then slice_get octets (raised - (place + 1)) else None) e
-        ∙ sym (ap (λ (t : Bool). if t then slice_get (octet ∷ octets) (raised - place) else None) before)
-
-brought_first : (place octet : ℕ) (octets : List ℕ) → brought place (octet ∷ octets) place ≡ Some octet
-brought_first place octet octets =
-    let within : nat_le place place ≡ true = le-leb place place (omega arith) in
-    let none : place - place ≡ 0 = omega arith in
-    ap (λ (t : Bool). if t then slice_get (octet ∷ octets) (place - place) else None) within ∙ ap (slice_get (octet ∷ octets)) none
-
--- if the first octet does not differ from the kept one, adding it and then the others adds all of them
-pub kept_step : (f g : ℕ → Option ℕ) (place octet : ℕ) (octets : List ℕ) → ((raised : ℕ) → g raised ≡ with_one f place octet raised) → is_other (f place) octet ≡ false → (raised : ℕ) → kept_with g (place + 1) octets raised ≡ kept_with f place (octet ∷ octets) raised
-kept_step f g place octet octets new same raised = by (place == raised) refl
-  where
-    goal : Type 0
-    goal = kept_with g (place + 1) octets raised ≡ kept_with f place (octet ∷ octets) raised
-
-    first : (o : Option ℕ) → is_other o octet ≡ false → option_or o (brought place (octet ∷ octets) place) ≡ Some octet
-    first None h = brought_first place octet octets
-    first (Some x) h = ap (λ n. Some n) (eqb-true x octet (not-false (x == octet) h))
-
-    by : (b : Bool) → (place == raised) ≡ b → goal
+    by : (b : Bool) → (place == raised) ≡ b → with_one f place octet raised ≡ kept_with f place (octet ∷ []) raised
     by true e =
         let is : place ≡ raised = eqb-true place raised e in
-        let there : g raised ≡ Some octet = new raised ∙ ap (λ (t : Bool). if t then Some octet else f raised) e in
-        let P : ℕ → Type 0 = λ n. kept_with f place (octet ∷ octets) n ≡ Some octet in
-        ap (λ (o : Option ℕ). option_or o (brought (place + 1) octets raised)) there ∙ sym (subst P is (first (f place) same))
+        let none : raised - place ≡ 0 = omega (arith, is) in
+        let here : brought place (octet ∷ []) raised ≡ Some octet = brought_at place raised (octet ∷ []) (omega (arith, is)) ∙ ap (slice_get (octet ∷ [])) none in
+        ap (λ (b : Bool). if b then Some octet else f raised) e ∙ first (f raised) (ap (λ (n : ℕ). is_other (f n) octet) (sym is) ∙ same) ∙ ap (option_or (f raised)) (sym here)
     by false e =
-        let there : g raised ≡ f raised = new raised ∙ ap (λ (t : Bool). if t then Some octet else f raised) e in
-        ap₂ option_or there (brought_next place raised octet octets (eqb-false place raised e))
-
--- the first octet strays
-pub strays_first : (f : ℕ → Option ℕ) (end : Option Offset) (place octet : ℕ) (octets : List ℕ) → (is_other (f place) octet || is_at_end end place) ≡ true → some_stray f end place (octet ∷ octets) ≡ true
-strays_first f end place octet octets h = ap (λ (b : Bool). b || some_stray f end (place + 1) octets) h
+        ap (λ (b : Bool). if b then Some octet else f raised) e
+        ∙ sym (ap (option_or (f raised)) (elsewhere (eqb-false place raised e)) ∙ or_none (f raised))
 
 -- the octets from an index on: the one at the index and the others
 unrolled : (octets : List ℕ) (index : ℕ) → index < length octets → drop index octets ≡ get_or octets index 0 ∷ drop (index + 1) octets
 unrolled octets index h = drop-cons octets index 0 h ∙ ap (λ n. get_or octets index 0 ∷ drop n octets) (sym (add-one index))
 
-further : (place index off : ℕ) → off ≡ place + index → place + (index + 1) ≡ off + 1
-further place index off is = omega (arith, is)
+further : (place index : ℕ) → place + (index + 1) ≡ place + index + 1
+further place index = omega arith
 
--- the test for strays proceeds by one octet
-pub stray_on : (f g : ℕ → Option ℕ) (end : Option Offset) (place index off : ℕ) (octets : List ℕ) (whole : Bool) → off ≡ place + index → index < length octets → ((raised : ℕ) → g raised ≡ with_one f off (get_or octets index 0) raised) → is_other (f off) (get_or octets index 0) ≡ false → is_at_end end off ≡ false → some_stray f end (place + index) (drop index octets) ≡ whole → some_stray g end (place + (index + 1)) (drop (index + 1) octets) ≡ whole
-stray_on f g end place index off octets whole is h new same before so_far =
-    ap (λ n. some_stray g end n (drop (index + 1) octets)) (further place index off is)
-    ∙ stray_step f g end off (get_or octets index 0) (drop (index + 1) octets) new same before
-    ∙ ap (some_stray f end off) (sym (unrolled octets index h))
-    ∙ ap (λ n. some_stray f end n (drop index octets)) is
-    ∙ so_far
+-- one octet more is put into a block: `right` says whether those before it were right
+pub put_strays : (f g : ℕ → Option ℕ) (place index : ℕ) (octets : List ℕ) (right : Bool) → index < length octets → ((at : ℕ) → g at ≡ with_one f (place + index) (get_or octets index 0) at)
+    → (not (right && not (is_other (f (place + index)) (get_or octets index 0))) || some_stray g None (place + (index + 1)) (drop (index + 1) octets)) ≡ (not right || some_stray f None (place + index) (drop index octets))
+put_strays f g place index octets right h new =
+    ap (λ n. not (right && not other) || some_stray g None n behind) (further place index)
+    ∙ ap (λ (b : Bool). not (right && not other) || b) (stray_same f g (place + index + 1) (place + index + 1) behind same)
+    ∙ by right other (some_stray f None (place + index + 1) behind)
+    ∙ ap (λ xs. not right || some_stray f None (place + index) xs) (sym (unrolled octets index h))
+  where
+    other : Bool
+    other = is_other (f (place + index)) (get_or octets index 0)
 
--- the kept octets with one octet more
-pub kept_on : (f g : ℕ → Option ℕ) (place index off : ℕ) (octets : List ℕ) (raised : ℕ) (whole : Option ℕ) → off ≡ place + index → index < length octets → ((raised : ℕ) → g raised ≡ with_one f off (get_or octets index 0) raised) → is_other (f off) (get_or octets index 0) ≡ false → kept_with f (place + index) (drop index octets) raised ≡ whole → kept_with g (place + (index + 1)) (drop (index + 1) octets) raised ≡ whole
-kept_on f g place index off octets raised whole is h new same so_far =
-    ap (λ n. kept_with g n (drop (index + 1) octets) raised) (further place index off is)
-    ∙ kept_step f g off (get_or octets index 0) (drop (index + 1) octets) new same raised
-    ∙ ap (λ xs. kept_with f off xs raised) (sym (unrolled octets index h))
-    ∙ ap (λ n. kept_with f n (drop index octets) raised) is
-    ∙ so_far
+    behind : List ℕ
+    behind = drop (index + 1) octets
 
--- an octet strays, so one of the list does
-pub strays_here : (f : ℕ → Option ℕ) (end : Option Offset) (place index off : ℕ) (octets : List ℕ) (whole : Bool) → off ≡ place + index → index < length octets → (is_other (f off) (get_or octets index 0) || is_at_end end off) ≡ true → some_stray f end (place + index) (drop index octets) ≡ whole → whole ≡ true
-strays_here f end place index off octets whole is h strays so_far =
-    sym so_far
-    ∙ ap (λ n. some_stray f end n (drop index octets)) (sym is)
-    ∙ ap (some_stray f end off) (unrolled octets index h)
-    ∙ strays_first f end off (get_or octets index 0) (drop (index + 1) octets) strays
+    same : (m n : ℕ) → place + index + 1 ≤ m → m < place + index + 1 + length behind → n + (place + index + 1) ≡ m + (place + index + 1) → g n ≡ f m
+    same m n low high e =
+        let is : n ≡ m = omega (arith, e) in
+        new n ∙ ap (λ (b : Bool). if b then Some (get_or octets index 0) else f n) (ne_eqb (place + index) n (λ x. omega (arith, x, low, is))) ∙ ap f is
+
+    by : (r o s : Bool) → (not (r && not o) || s) ≡ (not r || ((o || false) || s))
+    by true true s = refl
+    by true false s = refl
+    by false o s = refl
+
+pub put_kept : (f g : ℕ → Option ℕ) (place index : ℕ) (octets : List ℕ) → index < length octets → ((at : ℕ) → g at ≡ with_one f (place + index) (get_or octets index 0) at) → is_other (f (place + index)) (get_or octets index 0) ≡ false
+    → (at : ℕ) → kept_with g (place + (index + 1)) (drop (index + 1) octets) at ≡ kept_with f (place + index) (drop index octets) at
+put_kept f g place index octets h new same at =
+    ap (λ n. kept_with g n (drop (index + 1) octets) at) (further place index)
+    ∙ kept_on f g (place + index) (get_or octets index 0 ∷ []) (drop (index + 1) octets) (λ n. new n ∙ one_kept f (place + index) (get_or octets index 0) n same) at
+    ∙ ap (λ xs. kept_with f (place + index) xs at) (sym (unrolled octets index h))
+
+-- octets that begin at `place` are put into their block: it had the octets `f` and has the octets `g`, and other blocks stay
+pub record IsPut (a n : Octets) (f g : ℕ → Option ℕ) (place : ℕ) (octets : List ℕ) : Type 0 where
+  pub fits : place % 256 + length octets ≤ 256
+  pub had : (at : ℕ) → octet_in_some (block_at a (place / 256)) at ≡ f at
+  pub has : (at : ℕ) → octet_in_some (block_at n (place / 256)) at ≡ g at
+  pub others : (number : ℕ) → (place / 256 ≡ number → ⊥) → block_at n number ≡ block_at a number
+
+-- octets stray exactly if they do in their block
+pub run_strays : (a n : Octets) (f g : ℕ → Option ℕ) (place : ℕ) (octets : List ℕ) → IsPut a n f g place octets → some_stray f None (place % 256) octets ≡ some_stray (kept_at a) None place octets
+run_strays a n f g place octets put =
+    sym (stray_same f (kept_at a) (place % 256) place octets (λ m raised low high e. here m raised low high (omega (arith, e)) (number m raised low high e)))
+  where
+    number : (m raised : ℕ) → place % 256 ≤ m → m < place % 256 + length octets → raised + place % 256 ≡ m + place → place / 256 ≡ raised / 256
+    number m raised low high e = omega (arith, put.fits)
+
+    here : (m raised : ℕ) → place % 256 ≤ m → m < place % 256 + length octets → raised + place % 256 ≡ m + place → place / 256 ≡ raised / 256 → kept_at a raised ≡ f m
+    here m raised low high e same =
+        let at : raised % 256 ≡ m = omega (arith, put.fits) in
+        ap₂ (λ k i. octet_in_some (block_at a k) i) (sym same) at ∙ put.had m
+
+-- octets that are put into their block are added
+pub run_kept : (a n : Octets) (f g : ℕ → Option ℕ) (place : ℕ) (octets : List ℕ) → IsPut a n f g place octets → ((at : ℕ) → g at ≡ kept_with f (place % 256) octets at) → AreKeptWith a n place octets
+run_kept a n f g place octets put new raised = by (place / 256 == raised / 256) refl
+  where
+    shift : place / 256 ≡ raised / 256 → raised % 256 + place ≡ raised + place % 256
+    shift same = omega (arith, same)
+
+    elsewhere : (place / 256 ≡ raised / 256 → ⊥) → brought place octets raised ≡ None
+    elsewhere apart = elim (cases_lt raised place) [
+      | inl low ↦ brought_before place raised octets low
+      | inr high ↦ brought_behind place raised octets (omega (arith, high, apart, put.fits))
+    ]
+
+    by : (t : Bool) → (place / 256 == raised / 256) ≡ t → kept_at n raised ≡ kept_with (kept_at a) place octets raised
+    by true e =
+        let same : place / 256 ≡ raised / 256 = eqb-true (place / 256) (raised / 256) e in
+        ap (λ k. octet_in_some (block_at n k) (raised % 256)) (sym same)
+        ∙ put.has (raised % 256)
+        ∙ new (raised % 256)
+        ∙ ap₂ option_or (sym (put.had (raised % 256)) ∙ ap (λ k. octet_in_some (block_at a k) (raised % 256)) same) (brought_shift place (place % 256) raised (raised % 256) octets (shift same))
+    by false e =
+        let apart = eqb-false (place / 256) (raised / 256) e in
+        ap (λ b. octet_in_some b (raised % 256)) (put.others (raised / 256) apart)
+        ∙ sym (ap (option_or (kept_at a raised)) (elsewhere apart) ∙ or_none (kept_at a raised))
+
+-- an offset before one that is not at or past the end is not either
+before_end : (end : Option Offset) (place last : ℕ) → place ≤ last → is_at_end end last ≡ false → is_at_end end place ≡ false
+before_end None place last h before = refl
+before_end (Some end) place last h before = let low = leb-false end.raised last before in lt-leb end.raised place (omega (arith, h, low))
+
+-- the last octet is not at or past the end: no octet is
+ends_behind : (f : ℕ → Option ℕ) (end : Option Offset) (place last : ℕ) (octets : List ℕ) → place + length octets ≤ last + 1 → is_at_end end last ≡ false → some_stray f end place octets ≡ some_stray f None place octets
+ends_behind f end place last [] h before = refl
+ends_behind f end place last (x ∷ xs) h before =
+    ap₂ (λ (a b : Bool). (is_other (f place) x || a) || b) (before_end end place last (omega (arith, h)) before) (ends_behind f end (place + 1) last xs (omega (arith, h)) before)
+
+-- the last octet is at or past the end
+ends_before : (f : ℕ → Option ℕ) (end : Option Offset) (place last : ℕ) (octets : List ℕ) → place ≤ last → last < place + length octets → is_at_end end last ≡ true → some_stray f end place octets ≡ true
+ends_before f end place last [] low high past = absurd (omega (arith, low, high))
+ends_before f end place last (x ∷ xs) low high past = elim (cases_eq place last) [
+  | inl here ↦ ap (λ (b : Bool). b || some_stray f end (place + 1) xs) (or_right (is_other (f place) x) (is_at_end end place) (ap (is_at_end end) here ∙ past))
+  | inr apart ↦ or_right (is_other (f place) x || is_at_end end place) (some_stray f end (place + 1) xs) (ends_before f end (place + 1) last xs (omega (arith, low, apart)) (omega (arith, high)) past)
+]
+
+-- the last octet decides whether one is at or past the end
+pub last_decides : (f : ℕ → Option ℕ) (end : Option Offset) (place last : ℕ) (octets : List ℕ) → place ≤ last → place + length octets ≡ last + 1 → some_stray f end place octets ≡ (is_at_end end last || some_stray f None place octets)
+last_decides f end place last octets low is = by (is_at_end end last) refl
+  where
+    by : (b : Bool) → is_at_end end last ≡ b → some_stray f end place octets ≡ (b || some_stray f None place octets)
+    by true e = ends_before f end place last octets low (omega (arith, is)) e
+    by false e = ends_behind f end place last octets (omega (arith, is)) e

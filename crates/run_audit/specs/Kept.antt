@@ -1,5 +1,5 @@
 -- The octets that are kept of a stream, by their raised offsets: a raised offset is the offset plus 2^31.
-use Rattle.std.specs.Prelude.{◌≡◌, ℕ, ◌+◌, ◌-◌, ◌/◌, ◌%◌, ◌==◌, ◌||◌, Bool, false, List, [], ◌∷◌, Option, Some, None, nat_le, slice_get, get_or, Box, if◌then◌else◌}
+use Rattle.std.specs.Prelude.{◌≡◌, ℕ, ◌+◌, ◌-◌, ◌/◌, ◌%◌, ◌||◌, Bool, false, List, [], ◌∷◌, Option, Some, None, nat_le, slice_get, get_or, Box, if◌then◌else◌}
 use Rattle.std.specs.BTreeMap.{get}
 use Rattle.std.specs.Option.{option_or}
 use Rattle.std.specs.Ordering.{nat_cmp}
@@ -11,16 +11,16 @@ use Rattle.run_audit.specs.Faults.{is_other}
 
 -- the octet at an index of a block, if there is one
 abbrev pub octet_in : Block → ℕ → Option ℕ
-octet_in block index = get_or block.first index None
+octet_in block index = if get_or block.held index false then Some (get_or block.first index 0) else None
 
 -- the octet at an index of an optional block, if there is one
 abbrev pub octet_in_some : Option (Box Block Global) → ℕ → Option ℕ
 octet_in_some None index = None
 octet_in_some (Some block) index = octet_in block.value index
 
--- the block with a number, if there is one: the block used last, or one of the others
+-- the block with a number, if there is one
 abbrev pub block_at : Octets → ℕ → Option (Box Block Global)
-block_at octets number = if octets.number == number then octets.block else get nat_cmp octets.others number
+block_at octets number = get (λ x y. nat_cmp y.0 x.0) octets.blocks (record { 0 = number })
 
 -- the octet at a raised offset, if there is one
 abbrev pub kept_at : Octets → ℕ → Option ℕ

@@ -16,11 +16,11 @@
 //! capture of octets, there are at most 2^32 - 1 frames of at most 262,144 octets each, and the
 //! report has at most 67,108,864 octets; runs with `--mtu` or `--both` are not covered.
 //!
-//! Choices: first octets are held in blocks of 256 offsets, one ordered map an era, with the block
-//! used last beside the map. Nothing is forgotten, so memory grows with the octets written inwards;
-//! an octet far from all others takes a block of its own. That a frame has no fault is a record of
-//! what holds of it and not a negation. The law on written files asks that no frame is longer than a
-//! record may be; `run_laws` shows that of the files of a run.
+//! Choices: first octets are held in blocks of 256 offsets, one ordered map an era. Nothing is
+//! forgotten, so memory grows with the octets written inwards; an octet far from all others takes a
+//! block of its own. That a frame has no fault is a record of what holds of it and not a negation.
+//! The law on written files asks that no frame is longer than a record may be; `run_laws` shows that
+//! of the files of a run.
 #![tactic(auto)]
 
 mod answer;
