@@ -12,6 +12,7 @@ use Rattle.run_view.specs.declared.viewer.Viewer.{Viewer}
 use Rattle.run_view.specs.declared.words.Asked.{Asked}
 use Rattle.run_view.specs.Eras.{PlainRow}
 use Rattle.run_view.specs.Forms.{heading, is_both}
+use Rattle.run_view.specs.Going.{Going}
 use Rattle.run_view.specs.Items.{AreItems, Item, end_text, firsts, frames_of, lines_of, lines_text, packets_of, turn_at, waits}
 use Rattle.run_view.specs.Printed.{summary_shown}
 use Rattle.run_view.specs.Rows.{table_of}
@@ -21,7 +22,6 @@ use Rattle.run_view.specs.View.{closing_text, eras_text, has_choice, items_text,
 use Rattle.run_view.specs.Viewed.{ViewedAs, report_of}
 use Rattle.run_view.specs.Why.{ToldEnd}
 use Rattle.view_text.specs.Views.{PlainSummary}
-use Rattle.run_view.proofs.Going.{Going}
 
 -- what a source had left is what was taken to its end
 pub all_taken : (a b : Option (List ℕ)) (bs : List ℕ) → Consumes a b bs → IsAtEnd b → IfSome a (λ xs. xs ≡ bs)

@@ -110,7 +110,7 @@ front_is line rest l short =
     let fewer : length l.body < 400 = omega (arith, short, ap length l.whole, length-append l.body (10 ∷ [])) in
     ap (λ t. front_line 400 (t ++ rest)) l.whole ∙ front_body 400 l.body rest l.no_feed fewer ∙ sym l.whole
 
-entry_is_line : (entry : PlainEntry) → EntryFits entry → IsLine (entry_text entry)
+pub entry_is_line : (entry : PlainEntry) → EntryFits entry → IsLine (entry_text entry)
 entry_is_line entry fits = record { body = joined (words_of entry); no_feed = joined-no_feed (words_of entry) (words-solid entry fits); whole = entry_text-joined entry }
 
 -- a line with one octet more in front, which is no line feed

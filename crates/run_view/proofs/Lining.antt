@@ -1,5 +1,5 @@
 -- The lines of octets that are read ahead.
-use Rattle.std.proofs.Common.{◌≡◌, ◌⊎◌, ℕ, zero, suc, ◌+◌, ◌-◌, ◌<◌, ◌≤◌, nat_eq, cond, ltb, min, not, Bool, true, false, List, [], ◌∷◌, ◌++◌, length, take, drop, slice_range, Option, Some, None, IfSome, refl, sym, ap, subst, ◌∙◌, inl, inr, arith, append-nil, append_assoc}
+use Rattle.std.proofs.Common.{◌≡◌, ◌⊎◌, ℕ, zero, suc, ◌+◌, ◌-◌, ◌<◌, ◌≤◌, nat_eq, cond, ltb, min, not, unwrap_or, Bool, true, false, List, [], ◌∷◌, ◌++◌, length, take, drop, slice_range, Option, Some, None, IfSome, refl, sym, ap, subst, ◌∙◌, inl, inr, arith, append-nil, append_assoc}
 use Rattle.std.specs.List.{copy_within, position_or_len}
 use Rattle.std.proofs.lemmas.Bool.Decides.{nat_tests}
 use Rattle.std.proofs.lemmas.Bool.{ltb-false, ltb-true}
@@ -45,7 +45,7 @@ front_whole (octet ∷ octets) (suc room) short feed = by (is_feed octet) feed (
   by false feed rest = ap (λ l. octet ∷ l) (rest (omega arith))
 
 -- the same of the first octets that it may have
-pub fed : (octets front : List ℕ) (room place : ℕ) → room ≡ min 400 (length octets) → front ≡ take room octets → place ≡ position_or_len is_feed front → place < length front → take (place + 1) octets ≡ front_line 400 octets
+fed : (octets front : List ℕ) (room place : ℕ) → room ≡ min 400 (length octets) → front ≡ take room octets → place ≡ position_or_len is_feed front → place < length front → take (place + 1) octets ≡ front_line 400 octets
 fed octets front room place is front_is at within =
     let all : front ≡ take 400 octets = front_is ∙ ap (λ n. take n octets) is ∙ take_min 400 octets in
     let long : length front ≡ room = ap length front_is ∙ length-take-le room octets (omega arith) in
@@ -54,11 +54,34 @@ fed octets front room place is front_is at within =
     let parts : take (place + 1) octets ≡ take (place + 1) front = sym (ap (take (place + 1)) front_is ∙ take-take (place + 1) room octets (omega arith)) in
     parts ∙ ap (λ n. take (n + 1) front) at ∙ sym (front_fed front 400 less some) ∙ ap (front_line 400) all ∙ sym (front_cut 400 octets)
 
-pub unfed : (octets front : List ℕ) (room : ℕ) → room ≡ min 400 (length octets) → front ≡ take room octets → length front ≤ position_or_len is_feed front → take room octets ≡ front_line 400 octets
+unfed : (octets front : List ℕ) (room : ℕ) → room ≡ min 400 (length octets) → front ≡ take room octets → length front ≤ position_or_len is_feed front → take room octets ≡ front_line 400 octets
 unfed octets front room is front_is none =
     let all : front ≡ take 400 octets = front_is ∙ ap (λ n. take n octets) is ∙ take_min 400 octets in
     let long : length front ≡ room = ap length front_is ∙ length-take-le room octets (omega arith) in
     sym front_is ∙ sym (front_whole front 400 (omega arith) none) ∙ ap (front_line 400) all ∙ sym (front_cut 400 octets)
+
+pub line_cut : (octets front : List ℕ) (room place count : ℕ) → room ≡ min 400 (length octets) → front ≡ take room octets → place ≡ position_or_len is_feed front → count ≡ min (place + 1) room
+    → take count octets ≡ front_line 400 octets
+line_cut octets front room place count is front_is at counted = by (ltb place room) refl where
+  long : length front ≡ room
+  long = ap length front_is ∙ length-take-le room octets (omega (arith, is))
+
+  by : (b : Bool) → ltb place room ≡ b → take count octets ≡ front_line 400 octets
+  by true less =
+      let some : place < length front = omega (arith, ltb-true place room less, long) in
+      let count_is : count ≡ place + 1 = omega (arith, counted, ltb-true place room less) in
+      ap (λ n. take n octets) count_is ∙ fed octets front room place is front_is at some
+  by false less =
+      let none : length front ≤ position_or_len is_feed front = omega (arith, ltb-false place room less, long, at) in
+      let count_is : count ≡ room = omega (arith, counted, ltb-false place room less) in
+      ap (λ n. take n octets) count_is ∙ unfed octets front room is front_is none
+
+-- the place of the first line feed, or the number of octets
+pub place_or : (place len : ℕ) → place ≤ len → unwrap_or (cond (ltb place len) (Some place) None) len ≡ place
+place_or place len within = by (ltb place len) refl where
+  by : (b : Bool) → ltb place len ≡ b → unwrap_or (cond b (Some place) None) len ≡ place
+  by true less = refl
+  by false less = omega (arith, ltb-false place len less)
 
 -- where enough octets are there, the front line is among them
 front_enough : (room : ℕ) (octets more : List ℕ) → room ≤ length octets → front_line room (octets ++ more) ≡ front_line room octets
@@ -133,19 +156,6 @@ goes_by (octet ∷ ahead) start filled before left long kept enough =
     let B : Bool → Type 0 = λ b. GoesOn (not b) before in
     let some : nat_eq (length (octet ∷ ahead)) 0 ≡ false = grind (arith, nat_tests) in
     subst B (sym some) (some_left before _ kept (some_ahead (octet ∷ ahead) left (omega arith)))
-
--- where a first place was found, and where none was
-pub some_place : (place len found : ℕ) → cond (ltb place len) (Some place) None ≡ Some found → (found ≡ place) × (place < len)
-some_place place len found is = by (ltb place len) refl is where
-  by : (b : Bool) → ltb place len ≡ b → cond b (Some place) None ≡ Some found → (found ≡ place) × (place < len)
-  by true less is = (let same : found ≡ place = cc in same, ltb-true place len less)
-  by false less is = absurd cc
-
-pub no_place : (place len : ℕ) → cond (ltb place len) (Some place) None ≡ None → len ≤ place
-no_place place len is = by (ltb place len) refl is where
-  by : (b : Bool) → ltb place len ≡ b → cond b (Some place) None ≡ None → len ≤ place
-  by true less is = absurd cc
-  by false less is = ltb-false place len less
 
 -- octets that were read behind those that were read ahead, which moved to the front
 front_grows : (old got post : List ℕ) (count more : ℕ) → count ≤ length old → more ≤ length got → take (count + more) (take count old ++ (got ++ post)) ≡ take count old ++ take more got

@@ -61,20 +61,20 @@ prints_line stops.Memory mid new told = told
 prints_line (stops.Report n) mid new told = told
 
 -- what was printed before a stop
-some_text : (asked : Asked) (form : Form) (head : Head) (items : List Item) (old now : Option (List ℕ)) (stop : Stop) → PrintedBefore asked form head items old now stop → AppendsSome old now
-some_text asked form head items old now stops.Words text = record { octets = items_text asked head items; given = text }
-some_text asked form head items old now (stops.Record n) text = record { octets = items_text asked head items; given = text }
-some_text asked form head items old now (stops.Frame n) text = record { octets = items_text asked head items; given = text }
-some_text asked form head items old now (stops.Input fault offset) text = record { octets = items_text asked head items; given = text }
-some_text asked form head items old now (stops.Output fault offset) text = record { octets = items_text asked head items; given = text }
-some_text asked form head items old now stops.Unread text = record { octets = items_text asked head items; given = text }
-some_text asked form head items old now stops.Unwritten text = record { octets = items_text asked head items; given = text }
-some_text asked form head items old now stops.Memory text = record { octets = items_text asked head items ++ text.more; given = text.given }
-some_text asked form head items old now (stops.Report n) text = record { octets = items_text asked head items; given = text }
+some_text : (asked : Asked) (form : Form) (head : Head) (items : List Item) (old now : Option (List ℕ)) (over : Type 0) (stop : Stop) → PrintedBefore asked form head items old now over stop → AppendsSome old now
+some_text asked form head items old now over stops.Words text = record { octets = items_text asked head items; given = text }
+some_text asked form head items old now over (stops.Record n) text = record { octets = items_text asked head items; given = text }
+some_text asked form head items old now over (stops.Frame n) text = record { octets = items_text asked head items; given = text }
+some_text asked form head items old now over (stops.Input fault offset) text = record { octets = items_text asked head items; given = text }
+some_text asked form head items old now over (stops.Output fault offset) text = record { octets = items_text asked head items; given = text }
+some_text asked form head items old now over stops.Unread text = record { octets = items_text asked head items; given = text }
+some_text asked form head items old now over stops.Unwritten text = record { octets = items_text asked head items; given = text }
+some_text asked form head items old now over stops.Memory text = record { octets = items_text asked head items ++ text.more; given = text.given }
+some_text asked form head items old now over (stops.Report n) text = record { octets = items_text asked head items; given = text }
 
 some_files : (asked : Asked) (s : Sources) (old now : Option (List ℕ)) (first last : FaultCounts) (stop : Stop) → FilesStop asked s old now first last stop → AppendsSome old now
 some_files asked s old now first last stop (inl before) = record { octets = []; given = before.text }
-some_files asked s old now first last stop (inr within) = some_text asked within.form within.head within.stops.items old now stop within.stops.text
+some_files asked s old now first last stop (inr within) = some_text asked within.form within.head within.stops.items old now _ stop within.stops.text
 
 some_before : (words : List (List ℕ)) (before after : Moment) (mid : Option (List ℕ)) (stop : Stop) → Cause words before after mid stop → AppendsSome before.out.octets mid
 some_before words before after mid stop (inl unwritten) = unwritten.failed.some
@@ -82,16 +82,16 @@ some_before words before after mid stop (inr (inl refused)) = record { octets = 
 some_before words before after mid stop (inr (inr stopped)) = some_files stopped.asked (sources_at before) before.out.octets mid (faults_of before) (faults_of after) stop stopped.why
 
 -- the same where memory could not be allocated for the line of a stop
-memory_text : (asked : Asked) (form : Form) (head : Head) (items : List Item) (old now : Option (List ℕ)) (stop : Stop) → PrintedBefore asked form head items old now stop → PrintedBefore asked form head items old now stops.Memory
-memory_text asked form head items old now stops.Words text = items_alone old now (items_text asked head items) (closing_text asked form head items) text
-memory_text asked form head items old now (stops.Record n) text = items_alone old now (items_text asked head items) (closing_text asked form head items) text
-memory_text asked form head items old now (stops.Frame n) text = items_alone old now (items_text asked head items) (closing_text asked form head items) text
-memory_text asked form head items old now (stops.Input fault offset) text = items_alone old now (items_text asked head items) (closing_text asked form head items) text
-memory_text asked form head items old now (stops.Output fault offset) text = items_alone old now (items_text asked head items) (closing_text asked form head items) text
-memory_text asked form head items old now stops.Unread text = items_alone old now (items_text asked head items) (closing_text asked form head items) text
-memory_text asked form head items old now stops.Unwritten text = items_alone old now (items_text asked head items) (closing_text asked form head items) text
-memory_text asked form head items old now stops.Memory text = text
-memory_text asked form head items old now (stops.Report n) text = items_alone old now (items_text asked head items) (closing_text asked form head items) text
+memory_text : (asked : Asked) (form : Form) (head : Head) (items : List Item) (old now : Option (List ℕ)) (over : Type 0) (stop : Stop) → PrintedBefore asked form head items old now over stop → PrintedBefore asked form head items old now over stops.Memory
+memory_text asked form head items old now over stops.Words text = items_alone old now (items_text asked head items) (closing_text asked form head items) over text
+memory_text asked form head items old now over (stops.Record n) text = items_alone old now (items_text asked head items) (closing_text asked form head items) over text
+memory_text asked form head items old now over (stops.Frame n) text = items_alone old now (items_text asked head items) (closing_text asked form head items) over text
+memory_text asked form head items old now over (stops.Input fault offset) text = items_alone old now (items_text asked head items) (closing_text asked form head items) over text
+memory_text asked form head items old now over (stops.Output fault offset) text = items_alone old now (items_text asked head items) (closing_text asked form head items) over text
+memory_text asked form head items old now over stops.Unread text = items_alone old now (items_text asked head items) (closing_text asked form head items) over text
+memory_text asked form head items old now over stops.Unwritten text = items_alone old now (items_text asked head items) (closing_text asked form head items) over text
+memory_text asked form head items old now over stops.Memory text = text
+memory_text asked form head items old now over (stops.Report n) text = items_alone old now (items_text asked head items) (closing_text asked form head items) over text
 
 memory_files : (asked : Asked) (s : Sources) (old now : Option (List ℕ)) (first last : FaultCounts) (stop : Stop) → FilesStop asked s old now first last stop → FilesStop asked s old now first last stops.Memory
 memory_files asked s old now first last stop (inl before) = inl (record { why = tt; text = before.text })
@@ -110,7 +110,7 @@ memory_files asked s old now first last stop (inr within) =
             left = within.stops.left;
             give = within.stops.give;
             why = tt;
-            text = memory_text asked within.form within.head within.stops.items old now stop within.stops.text;
+            text = memory_text asked within.form within.head within.stops.items old now _ stop within.stops.text;
           };
     })
 

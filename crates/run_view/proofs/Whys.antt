@@ -8,26 +8,27 @@ use Rattle.pcap_file.specs.declared.head.Head.{Head}
 use Rattle.pcap_file.specs.Records.{Packet}
 use Rattle.capture_input.specs.declared.fault.InputFault.{InputFault}
 use Rattle.capture_input.specs.Inputs.{TookAll}
+use Rattle.capture_input.specs.declared.input.Input.{Input}
 use Rattle.rule_book.specs.Entries.{PlainEntry}
 use Rattle.run_view.specs.declared.form.Form.{Form}
 use Rattle.run_view.specs.declared.item.Files.{Files}
-use Rattle.run_view.specs.declared.item.Frames.{Frames}
 use Rattle.run_view.specs.declared.stop.Stop.{Stop}
 use Rattle.run_view.specs.declared.stop.Stop.TheVariants as stops
 use Rattle.run_view.specs.declared.told.Turn.{Turn}
 use Rattle.run_view.specs.declared.viewer.Viewer.{Viewer}
 use Rattle.run_view.specs.declared.words.Asked.{Asked}
-use Rattle.run_view.specs.Causes.{EntriesStop, FailsAtFrame, FaultCounts, GiveItems, HasNextLine, HasRecordOf, IsNoNext, LacksFrame, PrintedBefore, PrintsBehind, SourceRose, Sources, StopsBehind, TookLast, WhyBehind, frames_by, sources_of}
+use Rattle.run_view.specs.Causes.{AreOver, EntriesStop, FailsAtFrame, FaultCounts, GiveItems, HasNextLine, HasRecordOf, IsNoNext, LacksFrame, PrintedBefore, PrintsBehind, SourceRose, Sources, StopsBehind, TookLast, WhyBehind, frames_by, sources_of}
 use Rattle.run_view.specs.Forms.{version_of}
+use Rattle.run_view.specs.Going.{Going}
 use Rattle.run_view.specs.Items.{Item, firsts, frames_of, is_second, owed_of, packets_of, seconds, waits}
 use Rattle.run_view.specs.Printed.{AppendsSome, Failed, PartStops, PrintStops}
-use Rattle.run_view.specs.SoFar.{Ends, SoFar, lines_in, turn_in}
-use Rattle.run_view.specs.Standing.{BeginsWithRecords, InputStops, OutputAt}
-use Rattle.run_view.specs.Steps.{FramesStop, ItemStops, OwnFails, OwnMissing, RecordRead, RecordStops}
+use Rattle.run_view.specs.SoFar.{AreWhole, Ends, SoFar, lines_in, turn_in}
+use Rattle.run_view.specs.Standing.{BeginsWithRecords, InputAt, InputStops}
+use Rattle.run_view.specs.Steps.{FramesStop, ItemStops, OwnFails, OwnMissing}
 use Rattle.run_view.specs.View.{closing_text, items_text}
-use Rattle.run_view.specs.Why.{EndStops, FramesGoOn, LineStops, NextStops, RecordsGoOn, TakeStops, Taking, ToldEnd, Unread}
+use Rattle.run_view.specs.Why.{EndStops, FramesGoOn, LineStops, RecordsGoOn, TakeStops, Taking, ToldEnd, Unread}
 use Rattle.run_view.proofs.Ending.{all_taken, end_is, none_waits}
-use Rattle.run_view.proofs.Going.{Going, turn_is}
+use Rattle.run_view.proofs.Going.{turn_is}
 use Rattle.run_view.proofs.Standings.{begins_at}
 
 pub rose_within : (a b c d : ℕ) → a ≤ b → c ≤ d → Rose b c → Rose a d
@@ -56,21 +57,21 @@ pub failed_then : (a b c : Option (List ℕ)) (text : List ℕ) (before mid now 
 failed_then a b c text before mid now after first wider failed = record { rose = wider failed.rose; some = and_some a b c text first failed.some }
 
 -- the text of the items was printed, and no line behind it
-pub items_alone : (old now : Option (List ℕ)) (items closing : List ℕ) → Appends old now items → PrintsBehind old now items closing
-items_alone old now items closing text =
-    let P : List ℕ → Type 0 = λ t. Appends old now t in record { more = []; rest = closing; given = subst P (sym (append-nil items)) text; closing_is = refl; whole = inl refl }
+pub items_alone : (old now : Option (List ℕ)) (items closing : List ℕ) (over : Type 0) → Appends old now items → PrintsBehind old now items closing over
+items_alone old now items closing over text =
+    let P : List ℕ → Type 0 = λ t. Appends old now t in record { more = []; rest = closing; given = subst P (sym (append-nil items)) text; closing_is = refl; whole = inl refl; at_end = inl refl }
 
 -- whatever stops a view behind the items, their text was printed
-printed_so : (asked : Asked) (form : Form) (head : Head) (items : List Item) (old now : Option (List ℕ)) (stop : Stop) → Appends old now (items_text asked head items) → PrintedBefore asked form head items old now stop
-printed_so asked form head items old now stops.Words text = text
-printed_so asked form head items old now (stops.Record n) text = text
-printed_so asked form head items old now (stops.Frame n) text = text
-printed_so asked form head items old now (stops.Input fault offset) text = text
-printed_so asked form head items old now (stops.Output fault offset) text = text
-printed_so asked form head items old now stops.Unread text = text
-printed_so asked form head items old now stops.Unwritten text = text
-printed_so asked form head items old now stops.Memory text = items_alone old now (items_text asked head items) (closing_text asked form head items) text
-printed_so asked form head items old now (stops.Report n) text = text
+printed_so : (asked : Asked) (form : Form) (head : Head) (items : List Item) (old now : Option (List ℕ)) (over : Type 0) (stop : Stop) → Appends old now (items_text asked head items) → PrintedBefore asked form head items old now over stop
+printed_so asked form head items old now over stops.Words text = text
+printed_so asked form head items old now over (stops.Record n) text = text
+printed_so asked form head items old now over (stops.Frame n) text = text
+printed_so asked form head items old now over (stops.Input fault offset) text = text
+printed_so asked form head items old now over (stops.Output fault offset) text = text
+printed_so asked form head items old now over stops.Unread text = text
+printed_so asked form head items old now over stops.Unwritten text = text
+printed_so asked form head items old now over stops.Memory text = items_alone old now (items_text asked head items) (closing_text asked form head items) over text
+printed_so asked form head items old now over (stops.Report n) text = text
 
 -- what the three sources gave
 pub gives : (viewer : Viewer) (written : Head) (before now : Ends) (report left : Option (List ℕ)) → (going : Going viewer written before now report left)
@@ -94,37 +95,31 @@ lines_length (item ∷ older) = by (is_second item) (lines_length older) where
 lines_are : (viewer : Viewer) (written : Head) (before now : Ends) (items : List Item) → SoFar viewer written before now items → lines_in viewer ≡ length items
 lines_are viewer written before now items so_far = omega (arith, so_far.count, so_far.second_count, lines_length items)
 
--- why the next line was not read
-next_why : (viewer : Viewer) (written : Head) (before now : Ends) (report left : Option (List ℕ)) (mid after : ℕ) (rose : Type 0) (stop : Stop) → (Rose mid after → rose)
-    → (going : Going viewer written before now report left) → NextStops (version_of viewer.form) (turn_in viewer) (lines_in viewer) left mid after stop
-    → WhyBehind (sources_of before.read before.written report) viewer.form viewer.files.head written going.items left rose stop
-next_why viewer written before now report left mid after rose stops.Words wider going why = absurd why
-next_why viewer written before now report left mid after rose (stops.Record n) wider going why = absurd why
-next_why viewer written before now report left mid after rose (stops.Frame n) wider going why = absurd why
-next_why viewer written before now report left mid after rose (stops.Input fault offset) wider going why = absurd why
-next_why viewer written before now report left mid after rose (stops.Output fault offset) wider going why = absurd why
-next_why viewer written before now report left mid after rose stops.Unread wider going why = wider why
-next_why viewer written before now report left mid after rose stops.Unwritten wider going why = absurd why
-next_why viewer written before now report left mid after rose stops.Memory wider going why = absurd why
-next_why viewer written before now report left mid after rose (stops.Report n) wider going why =
-    let T : Turn → Type 0 = λ t. IfSome left (IsNoNext (version_of viewer.form) t) in
-    inl
-    (record {
-      amiss = subst T (turn_is viewer written before now going.items going.so_far) why.amiss;
-      place = why.place ∙ ap (λ k. k + 2) (lines_are viewer written before now going.items going.so_far);
-    })
+-- the next line of the report was not read
+pub next_unread : (viewer : Viewer) (written : Head) (before now : Ends) (report left : Option (List ℕ)) (first last : FaultCounts) → SourceRose first last → Going viewer written before now report left
+    → EntriesStop viewer.asked (sources_of before.read before.written report) viewer.form viewer.files.head written before.printed now.printed first last stops.Unread
+next_unread viewer written before now report left first last rose going =
+    inr (record { items = going.items; left = left; give = gives viewer written before now report left going; why = rose; text = going.so_far.text })
 
-pub next_stops : (viewer : Viewer) (written : Head) (before now : Ends) (report left : Option (List ℕ)) (mid after : ℕ) (rose : Type 0) (stop : Stop) → (Rose mid after → rose)
-    → Going viewer written before now report left → NextStops (version_of viewer.form) (turn_in viewer) (lines_in viewer) left mid after stop
-    → StopsBehind viewer.asked (sources_of before.read before.written report) viewer.form viewer.files.head written before.printed now.printed rose stop
-next_stops viewer written before now report left mid after rose stop wider going why =
-    record {
+-- it is none that may stand there
+pub next_amiss : (viewer : Viewer) (written : Head) (before now : Ends) (report left : Option (List ℕ)) (first last : FaultCounts) (n : ℕ) → IfSome left (IsNoNext (version_of viewer.form) (turn_in viewer))
+    → n ≡ lines_in viewer + 2 → Going viewer written before now report left
+    → EntriesStop viewer.asked (sources_of before.read before.written report) viewer.form viewer.files.head written before.printed now.printed first last (stops.Report n)
+next_amiss viewer written before now report left first last n amiss place going =
+    let T : Turn → Type 0 = λ t. IfSome left (IsNoNext (version_of viewer.form) t) in
+    inr
+    (record {
       items = going.items;
       left = left;
       give = gives viewer written before now report left going;
-      why = next_why viewer written before now report left mid after rose stop wider going why;
-      text = printed_so viewer.asked viewer.form viewer.files.head going.items before.printed now.printed stop going.so_far.text;
-    }
+      why =
+          inl
+          (record {
+            amiss = subst T (turn_is viewer written before now going.items going.so_far) amiss;
+            place = place ∙ ap (λ k. k + 2) (lines_are viewer written before now going.items going.so_far);
+          });
+      text = going.so_far.text;
+    })
 
 -- how many frames are given with those of a line
 own_place : (own older : List Packet) (count number : ℕ) → count ≡ length older → number ≡ (count + length own) + 1 → number ≡ length (own ++ older) + 1
@@ -206,7 +201,7 @@ unread_stops viewer written before now report left t rose second stop entry read
       left = left;
       give = gives viewer written before now report left going;
       why = unread_why viewer written before now report left t rose second stop entry read_rose written_rose going same line unread.why;
-      text = printed_so viewer.asked viewer.form viewer.files.head going.items before.printed t.printed_now stop text;
+      text = printed_so viewer.asked viewer.form viewer.files.head going.items before.printed t.printed_now _ stop text;
     }
 
 printed_stops : (viewer : Viewer) (written : Head) (before now : Ends) (report left : Option (List ℕ)) (t : Taking) (first last : FaultCounts) (stop : Stop)
@@ -225,7 +220,7 @@ printed_stops viewer written before now report left t first last stops.Unwritten
 printed_stops viewer written before now report left t first last stops.Memory wider same going why =
     let P : Option (List ℕ) → Type 0 = λ p. Appends p t.printed_now [] in
     let text = and_none before.printed now.printed t.printed_now (items_text viewer.asked viewer.files.head going.items) going.so_far.text (subst P same why) in
-    inr (record { items = going.items; left = left; give = gives viewer written before now report left going; why = tt; text = items_alone before.printed t.printed_now (items_text viewer.asked viewer.files.head going.items) (closing_text viewer.asked viewer.form viewer.files.head going.items) text })
+    inr (record { items = going.items; left = left; give = gives viewer written before now report left going; why = tt; text = items_alone before.printed t.printed_now (items_text viewer.asked viewer.files.head going.items) (closing_text viewer.asked viewer.form viewer.files.head going.items) _ text })
 printed_stops viewer written before now report left t first last (stops.Report n) wider same going why = absurd why
 
 -- a line was not taken
@@ -298,23 +293,31 @@ end_stops viewer written before now report left ended first last mid after stop 
       left = left;
       give = gives viewer written before now report left going;
       why = end_why viewer written before now report left ended first last mid after stop wider took going why;
-      text = printed_so viewer.asked viewer.form viewer.files.head going.items before.printed now.printed stop going.so_far.text;
+      text = printed_so viewer.asked viewer.form viewer.files.head going.items before.printed now.printed _ stop going.so_far.text;
     }
+
+-- the three sources are over
+pub all_over : (viewer : Viewer) (written : Head) (before now : Ends) (report left ended : Option (List ℕ)) → ToldEnd (turn_in viewer) left ended → IsAtEnd ended → (going : Going viewer written before now report left)
+    → AreWhole viewer.files.head written before.read before.written (packets_of going.items) (frames_of going.items)
+    → AreOver (sources_of before.read before.written report) viewer.files.head written going.items left
+all_over viewer written before now report left ended took end going whole =
+    let told = over viewer written before now going.items left ended going.so_far took in
+    record { report = record { none_owed = told.none_owed; is = all_taken left ended _ told.taken end }; records = whole.records_are; frames = whole.frames_are }
 
 -- the end was not printed
 pub close_stops : (viewer : Viewer) (written : Head) (before now : Ends) (report left printed : Option (List ℕ)) (text : List ℕ) (first last : FaultCounts) (mid after : ℕ) (stop : Stop)
     → (Rose mid after → Rose first.out last.out) → (going : Going viewer written before now report left) → text ≡ closing_text viewer.asked viewer.form viewer.files.head going.items
-    → PartStops now.printed printed mid after text stop
+    → AreOver (sources_of before.read before.written report) viewer.files.head written going.items left → PartStops now.printed printed mid after text stop
     → EntriesStop viewer.asked (sources_of before.read before.written report) viewer.form viewer.files.head written before.printed printed first last stop
-close_stops viewer written before now report left printed text first last mid after stops.Words wider going is why = absurd why
-close_stops viewer written before now report left printed text first last mid after (stops.Record n) wider going is why = absurd why
-close_stops viewer written before now report left printed text first last mid after (stops.Frame n) wider going is why = absurd why
-close_stops viewer written before now report left printed text first last mid after (stops.Input fault offset) wider going is why = absurd why
-close_stops viewer written before now report left printed text first last mid after (stops.Output fault offset) wider going is why = absurd why
-close_stops viewer written before now report left printed text first last mid after stops.Unread wider going is why = absurd why
-close_stops viewer written before now report left printed text first last mid after stops.Unwritten wider going is why =
+close_stops viewer written before now report left printed text first last mid after stops.Words wider going is ended why = absurd why
+close_stops viewer written before now report left printed text first last mid after (stops.Record n) wider going is ended why = absurd why
+close_stops viewer written before now report left printed text first last mid after (stops.Frame n) wider going is ended why = absurd why
+close_stops viewer written before now report left printed text first last mid after (stops.Input fault offset) wider going is ended why = absurd why
+close_stops viewer written before now report left printed text first last mid after (stops.Output fault offset) wider going is ended why = absurd why
+close_stops viewer written before now report left printed text first last mid after stops.Unread wider going is ended why = absurd why
+close_stops viewer written before now report left printed text first last mid after stops.Unwritten wider going is ended why =
     inl (record { stop_is = refl; failed = failed_then before.printed now.printed printed (items_text viewer.asked viewer.files.head going.items) first.out mid after last.out going.so_far.text wider why })
-close_stops viewer written before now report left printed text first last mid after stops.Memory wider going is why =
+close_stops viewer written before now report left printed text first last mid after stops.Memory wider going is ended why =
     let items = items_text viewer.asked viewer.files.head going.items in
     inr
     (record {
@@ -329,9 +332,10 @@ close_stops viewer written before now report left printed text first last mid af
             given = Appends-trans before.printed now.printed printed items why.front going.so_far.text why.given;
             closing_is = sym is ∙ why.text_is;
             whole = why.whole;
+            at_end = inr ended;
           };
     })
-close_stops viewer written before now report left printed text first last mid after (stops.Report n) wider going is why = absurd why
+close_stops viewer written before now report left printed text first last mid after (stops.Report n) wider going is ended why = absurd why
 
 -- the same where the view is that of other names
 pub behind_at : {asked other : Asked} {s : Sources} {form other_form : Form} {head other_head written : Head} {printed printed_now : Option (List ℕ)} {first last : FaultCounts} {stop : Stop}
@@ -361,32 +365,26 @@ pub behind_wider : (asked : Asked) (s : Sources) (form : Form) (head written : H
 behind_wider asked s form head written printed printed_now rose wide stop wider stops =
     record { items = stops.items; left = stops.left; give = stops.give; why = why_wider s form head written stops.items stops.left rose wide stop wider stops.why; text = stops.text }
 
--- the next record
-pub record_by_input : (files : Files) (read : Option (List ℕ)) (records : List Packet) (before now : ℕ) (stop : Stop) → InputStops read files.head records before now stop → RecordStops files read records before now stop
-record_by_input files read records before now stops.Words why = why
-record_by_input files read records before now (stops.Record n) why = absurd why
-record_by_input files read records before now (stops.Frame n) why = why
-record_by_input files read records before now (stops.Input fault offset) why = why
-record_by_input files read records before now (stops.Output fault offset) why = why
-record_by_input files read records before now stops.Unread why = why
-record_by_input files read records before now stops.Unwritten why = why
-record_by_input files read records before now stops.Memory why = tt
-record_by_input files read records before now (stops.Report n) why = why
+pub entries_wider : (asked : Asked) (s : Sources) (form : Form) (head written : Head) (printed printed_now : Option (List ℕ)) (a b c d : FaultCounts) (stop : Stop) → (SourceRose a b → SourceRose c d) → (Rose a.out b.out → Rose c.out d.out)
+    → EntriesStop asked s form head written printed printed_now a b stop → EntriesStop asked s form head written printed printed_now c d stop
+entries_wider asked s form head written printed printed_now a b c d stop source out (inl unwritten) =
+    inl (record { stop_is = unwritten.stop_is; failed = record { rose = out unwritten.failed.rose; some = unwritten.failed.some } })
+entries_wider asked s form head written printed printed_now a b c d stop source out (inr stops) = inr (behind_wider asked s form head written printed printed_now (SourceRose a b) (SourceRose c d) stop source stops)
 
 -- a record and its frames
-pub item_by_record : (files : Files) (read written : Option (List ℕ)) (head : Head) (records frames : List Packet) (packets read_before read_now written_before written_now : ℕ) (stop : Stop)
-    → RecordStops files read records read_before read_now stop → ItemStops files read written head records frames packets read_before read_now written_before written_now stop
-item_by_record files read written head records frames packets read_before read_now written_before written_now stops.Words why = why
-item_by_record files read written head records frames packets read_before read_now written_before written_now (stops.Record n) why = why
-item_by_record files read written head records frames packets read_before read_now written_before written_now (stops.Frame n) why = absurd why
-item_by_record files read written head records frames packets read_before read_now written_before written_now (stops.Input fault offset) why = why
-item_by_record files read written head records frames packets read_before read_now written_before written_now (stops.Output fault offset) why = absurd why
-item_by_record files read written head records frames packets read_before read_now written_before written_now stops.Unread why = inl why
-item_by_record files read written head records frames packets read_before read_now written_before written_now stops.Unwritten why = why
-item_by_record files read written head records frames packets read_before read_now written_before written_now stops.Memory why = tt
-item_by_record files read written head records frames packets read_before read_now written_before written_now (stops.Report n) why = why
+pub item_by_input : (files : Files) (read written : Option (List ℕ)) (head : Head) (records frames : List Packet) (packets read_before read_now written_before written_now : ℕ) (stop : Stop)
+    → InputStops read files.head records read_before read_now stop → ItemStops files read written head records frames packets read_before read_now written_before written_now stop
+item_by_input files read written head records frames packets read_before read_now written_before written_now stops.Words why = absurd why
+item_by_input files read written head records frames packets read_before read_now written_before written_now (stops.Record n) why = absurd why
+item_by_input files read written head records frames packets read_before read_now written_before written_now (stops.Frame n) why = absurd why
+item_by_input files read written head records frames packets read_before read_now written_before written_now (stops.Input fault offset) why = why
+item_by_input files read written head records frames packets read_before read_now written_before written_now (stops.Output fault offset) why = absurd why
+item_by_input files read written head records frames packets read_before read_now written_before written_now stops.Unread why = inl why
+item_by_input files read written head records frames packets read_before read_now written_before written_now stops.Unwritten why = absurd why
+item_by_input files read written head records frames packets read_before read_now written_before written_now stops.Memory why = tt
+item_by_input files read written head records frames packets read_before read_now written_before written_now (stops.Report n) why = absurd why
 
-pub item_by_frames : (files : Files) (read written : Option (List ℕ)) (head : Head) (records frames : List Packet) (packets read_before read_now written_before written_now : ℕ) (packet : Packet) (stop : Stop)
+item_by_frames : (files : Files) (read written : Option (List ℕ)) (head : Head) (records frames : List Packet) (packets read_before read_now written_before written_now : ℕ) (packet : Packet) (stop : Stop)
     → BeginsWithRecords read files.head (packet ∷ records) → FramesStop files.frames written head frames packets written_before written_now stop
     → ItemStops files read written head records frames packets read_before read_now written_before written_now stop
 item_by_frames files read written head records frames packets read_before read_now written_before written_now packet stops.Words begins why = why
@@ -400,16 +398,12 @@ item_by_frames files read written head records frames packets read_before read_n
 item_by_frames files read written head records frames packets read_before read_now written_before written_now packet (stops.Report n) begins why = why
 
 -- the frames of a record that was read
-pub item_unread : (files between : Files) (read written read_left written_left : Option (List ℕ)) (head : Head) (records frames : List Packet) (packets others read_before read_now written_before written_now : ℕ) (stop : Stop)
-    → between.frames ≡ files.frames → packets ≡ others → RecordRead between read read_left files.head records → OutputAt files.frames.reader head written written_left frames
-    → (OutputAt between.frames.reader head written written_left frames → FramesStop between.frames written head frames packets written_before written_now stop)
+pub item_unread : (files : Files) (input : Input) (read written left : Option (List ℕ)) (head : Head) (records frames : List Packet) (packets others read_before read_now written_before written_now : ℕ) (packet : Packet) (stop : Stop)
+    → packets ≡ others → InputAt input files.head read left (packet ∷ records) → FramesStop files.frames written head frames packets written_before written_now stop
     → ItemStops files read written head records frames others read_before read_now written_before written_now stop
-item_unread files between read written read_left written_left head records frames packets others read_before read_now written_before written_now stop same counts given at why =
-    let O : Frames → Type 0 = λ f. OutputAt f.reader head written written_left frames in
-    let F : Frames → Type 0 = λ f. FramesStop f written head frames packets written_before written_now stop in
+item_unread files input read written left head records frames packets others read_before read_now written_before written_now packet stop counts at why =
     let P : ℕ → Type 0 = λ n. FramesStop files.frames written head frames n written_before written_now stop in
-    item_by_frames files read written head records frames others read_before read_now written_before written_now given.packet stop (begins_at _ _ _ _ _ given.input)
-    (subst P counts (subst F same (why (subst O (sym same) at))))
+    item_by_frames files read written head records frames others read_before read_now written_before written_now packet stop (begins_at input files.head read left (packet ∷ records) at) (subst P counts why)
 
 -- the input, which has no record more
 pub records_by_input : (files : Files) (read : Option (List ℕ)) (records : List Packet) (before now : ℕ) (stop : Stop) → InputStops read files.head records before now stop → RecordsGoOn files read records before now stop

@@ -172,19 +172,27 @@ pub record HasLineMore (items : List Item) (left : Option (List ℕ)) (line : �
   pub more : IfSome behind IsSomeOctet
   pub place : line ≡ length items + 3
 
--- the text of items was printed, and behind it whole lines from the front of what is printed at the end of a run that has no others
-pub record PrintsBehind (old now : Option (List ℕ)) (items closing : List ℕ) : Type 0 where
+-- the three sources are over behind these items
+pub record AreOver (s : Sources) (head written : Head) (items : List Item) (left : Option (List ℕ)) : Type 0 where
+  pub report : IsOver items left
+  pub records : TookAll None s.input head (packets_of items)
+  pub frames : IfSome s.output (λ octets. IsCapture octets written (frames_of items))
+
+-- the text of items was printed, and behind it whole lines from the front of what is printed at the end of a run that has no others; if there are such lines,
+-- the sources are over
+pub record PrintsBehind (old now : Option (List ℕ)) (items closing : List ℕ) (over : Type 0) : Type 0 where
   pub more : List ℕ
   pub rest : List ℕ
   pub given : Appends old now (items ++ more)
   pub closing_is : closing ≡ more ++ rest
   pub whole : AreWholeLines more
+  pub at_end : (more ≡ []) ⊎ over
 
 -- what was printed before a stop behind these items: their text; if memory could not be allocated, maybe whole lines behind it, the first of those that end
--- a run with exactly these items
-abbrev pub PrintedBefore : (asked : Asked) (form : Form) (head : Head) (items : List Item) (old now : Option (List ℕ)) → Stop → Type 0
-PrintedBefore asked form head items old now stops.Memory = PrintsBehind old now (items_text asked head items) (closing_text asked form head items)
-PrintedBefore asked form head items old now _ = Appends old now (items_text asked head items)
+-- a run with exactly these items, and then the sources are over
+abbrev pub PrintedBefore : (asked : Asked) (form : Form) (head : Head) (items : List Item) (old now : Option (List ℕ)) (over : Type 0) → Stop → Type 0
+PrintedBefore asked form head items old now over stops.Memory = PrintsBehind old now (items_text asked head items) (closing_text asked form head items) over
+PrintedBefore asked form head items old now over _ = Appends old now (items_text asked head items)
 
 -- why a view stops behind these items; `rose` says that a source failed. That memory could not be allocated has no cause in the files.
 abbrev pub WhyBehind : (s : Sources) (form : Form) (head written : Head) (items : List Item) (left : Option (List ℕ)) (rose : Type 0) → Stop → Type 0
@@ -205,7 +213,7 @@ pub record StopsBehind (asked : Asked) (s : Sources) (form : Form) (head written
   pub left : Option (List ℕ)
   pub give : GiveItems s form head written items left
   pub why : WhyBehind s form head written items left rose stop
-  pub text : PrintedBefore asked form head items printed printed_now stop
+  pub text : PrintedBefore asked form head items printed printed_now (AreOver s head written items left) stop
 
 -- the octets do not begin with the first line of a report of one of the forms
 abbrev pub IsNoFirst : (octets : List ℕ) → Type 0

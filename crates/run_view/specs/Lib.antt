@@ -19,5 +19,6 @@ pub mod SoFar
 pub mod Causes
 pub mod Ahead
 pub mod Why
+pub mod Going
 pub mod Viewed
 pub mod Laws

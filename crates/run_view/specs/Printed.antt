@@ -8,8 +8,6 @@ use Rattle.rule_book.specs.Entries.{plain}
 use Rattle.rule_book.specs.declared.entry.Entry.{Entry}
 use Rattle.view_text.specs.Views.{PlainRecord, PlainSummary}
 use Rattle.run_view.specs.declared.item.Gathered.{Gathered}
-use Rattle.run_view.specs.declared.item.Held.{Held}
-use Rattle.run_view.specs.declared.judged.Judged.{Judged}
 use Rattle.run_view.specs.declared.stop.Stop.{Stop}
 use Rattle.run_view.specs.declared.stop.Stop.TheVariants as stops
 use Rattle.run_view.specs.declared.tally.Tally.{Tally}
@@ -19,15 +17,15 @@ use Rattle.run_view.specs.Summary.{no_eras, with_eras}
 use Rattle.run_view.specs.View.{second_sides}
 
 -- what is printed of a line
-abbrev pub record_shown : (second : Bool) → Judged → Link → Held → Entry → Gathered → PlainRecord
-record_shown second judged link held entry gathered =
+abbrev pub record_shown : (second : Bool) (number time : ℕ) → Link → (octets : List ℕ) → Entry → Gathered → PlainRecord
+record_shown second number time link octets entry gathered =
     record {
-      number = judged.number;
+      number = number;
       second = second;
       own = entry.number;
-      time = held.time;
-      flow = flow_at link held.octets.items;
-      length = length_at link held.octets.items;
+      time = time;
+      flow = flow_at link octets;
+      length = length_at link octets;
       entry = plain entry;
       frames = entry.packets;
       changes = map changes.plain gathered.changes.items;

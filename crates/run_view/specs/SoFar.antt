@@ -1,18 +1,17 @@
 -- How far a view has come (this project's profile). Items are a list with the newest at the head. `read`, `written` and `printed` are what the input and the
 -- output had left and what was printed at first, and the same with `_now` what they have at the moment, where they tell it.
-use Rattle.std.specs.Prelude.{◌≡◌, ℕ, ◌≤◌, ◌<◌, ◌^◌, ◌*◌, ◌+◌, Bool, List, [], ◌∷◌, ◌++◌, length, Option, None, IfSome, if◌then◌else◌}
+use Rattle.std.specs.Prelude.{◌≡◌, ℕ, ◌≤◌, ◌<◌, ◌^◌, ◌*◌, ◌+◌, Bool, true, List, [], ◌∷◌, ◌++◌, length, Option, None, IfSome, if◌then◌else◌}
 use Rattle.std.specs.Io.KnownBytes.{Appends}
 use Rattle.pcap_file.specs.declared.head.Head.{Head}
 use Rattle.pcap_file.specs.Records.{Packet}
 use Rattle.pcap_file.specs.Capture.{IsCapture}
 use Rattle.capture_input.specs.Inputs.{TookAll}
 use Rattle.run_view.specs.Forms.{is_both}
-use Rattle.run_view.specs.Items.{AreItems, Item, Line, by_first, end_text, firsts, frames_of, line_of, lines_of, lines_text, owed_of, packets_of, seconds, turn_at, waits}
-use Rattle.run_view.specs.Judged.{judged_by}
+use Rattle.run_view.specs.Items.{AreItems, Item, Line, by_first, end_text, firsts, frames_of, line_of, lines_of, lines_text, owed_of, packets_of, seconds, time_of, turn_at, waits}
 use Rattle.run_view.specs.Rows.{table_of}
 use Rattle.run_view.specs.Standing.{InputAt, OutputAt}
 use Rattle.run_view.specs.Printed.{summary_shown}
-use Rattle.run_view.specs.Steps.{IsHeld, IsReady}
+use Rattle.run_view.specs.Steps.{Holds, IsReady}
 use Rattle.run_view.specs.View.{eras_text, first_eras, has_choice, items_text, rules_of, second_eras, sides_of, summary_line, view_text_of}
 use Rattle.run_view.specs.declared.form.Form.{Form}
 use Rattle.run_view.specs.declared.line.Lines.{Lines}
@@ -41,14 +40,10 @@ pub record Ends : Type 0 where
 abbrev pub ends_of : (read written printed : Option (List ℕ)) → Ends
 ends_of read written printed = record { read = read; written = written; printed = printed }
 
--- the record that is held is that of the newest line
-pub record HoldsNewest (viewer : Viewer) (newest : Item) : Type 0 where
-  pub holds : IsHeld viewer.files.head newest.packet viewer.files.held
-  pub judged : viewer.judged ≡ judged_by (by_first newest)
-
-abbrev pub HoldsNewestOf : (viewer : Viewer) → List Item → Type 0
-HoldsNewestOf viewer [] = Unit {0}
-HoldsNewestOf viewer (newest ∷ older) = HoldsNewest viewer newest
+-- if lines of the second engine are still to come, the record that is held is that of the newest line
+abbrev pub HoldsNewest : (viewer : Viewer) → List Item → Type 0
+HoldsNewest viewer [] = Unit {0}
+HoldsNewest viewer (newest ∷ older) = waits viewer.owed ≡ true → Holds newest.packet.octets (time_of viewer.files.head newest.packet) (by_first newest) viewer.held
 
 -- these items were read, counted and printed
 pub record SoFar (viewer : Viewer) (head : Head) (before now : Ends) (items : List Item) : Type 0 where
@@ -59,7 +54,7 @@ pub record SoFar (viewer : Viewer) (head : Head) (before now : Ends) (items : Li
   pub second_count : viewer.second_count ≡ length (seconds items)
   pub frame_count : viewer.files.frames.count ≡ length (frames_of items)
   pub owed : viewer.owed ≡ owed_of items
-  pub newest : HoldsNewestOf viewer items
+  pub newest : HoldsNewest viewer items
   pub counts : Counts viewer.tally viewer.files.head items
   pub text : Appends before.printed now.printed (items_text viewer.asked viewer.files.head items)
 

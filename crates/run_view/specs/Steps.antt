@@ -10,15 +10,15 @@ use Rattle.capture_input.specs.declared.fault.InputFault.{InputFault}
 use Rattle.edge_io.specs.Faults.{Rose}
 use Rattle.rule_book.specs.Entries.{PlainEntry}
 use Rattle.frame_view.specs.Changes.{plain}
-use Rattle.run_view.specs.Items.{begun_by, changes_in, octets_in, time_of}
-use Rattle.run_view.specs.Standing.{BeginsWithRecords, InputAt, InputFailsBehind, InputStops, IsBehind, OutputAt, OutputFailsBehind, OutputStops}
+use Rattle.run_view.specs.Judged.{judged_by}
+use Rattle.run_view.specs.Items.{begun_by, changes_in, octets_in}
+use Rattle.run_view.specs.Standing.{BeginsWithRecords, InputFailsBehind, IsBehind, OutputAt, OutputFailsBehind, OutputStops}
 use Rattle.run_view.specs.declared.item.Files.{Files}
 use Rattle.run_view.specs.declared.item.Frames.{Frames}
 use Rattle.run_view.specs.declared.item.Gathered.{Gathered}
 use Rattle.run_view.specs.declared.item.Held.{Held}
 use Rattle.run_view.specs.declared.judged.Kinds.{Kinds}
 use Rattle.run_view.specs.declared.stop.Stop.{Stop}
-use Rattle.run_view.specs.declared.tally.Noted.{Noted}
 use Rattle.run_view.specs.declared.stop.Stop.TheVariants as stops
 
 -- the next frame may be read
@@ -37,47 +37,21 @@ pub record HasRoom (files : Files) : Type 0 where
   pub few : files.count < 2 ^ 33
   pub few_frames : files.frames.count < 2 ^ 63
 
--- a record was read
-pub record RecordOn (old new : Files) : Type 0 where
-  pub goes_on : is_open_in new.input ≡ true
-  pub behind : IsBehind new.input
-  pub head : new.head ≡ old.head
-  pub count : new.count ≡ old.count + 1
-  pub frames : new.frames ≡ old.frames
-
--- so many frames were read, and no record
-pub record FramesOn (old new : Files) (packets : ℕ) : Type 0 where
-  pub ready : MayRead new.frames
-  pub frame_count : new.frames.count ≡ old.frames.count + packets
-  pub input : new.input ≡ old.input
-  pub head : new.head ≡ old.head
-  pub held : new.held ≡ old.held
-  pub count : new.count ≡ old.count
-
 -- nothing was read
 pub record StayedAt (old new : Files) : Type 0 where
   pub head : new.head ≡ old.head
   pub count : new.count ≡ old.count
   pub frame_count : new.frames.count ≡ old.frames.count
 
--- what is counted of a line, beside its entry
-abbrev pub noted_from : Held → Gathered → Noted
-noted_from held gathered = record { time = held.time; flow = gathered.flow; octets = gathered.octets }
-
 -- the line is of an era: of this one of the first engine, or of one that it belongs to or begins
 abbrev pub is_of_era : (first : Option ℕ) → PlainEntry → Bool
 is_of_era first entry = is_some first || is_some entry.era || is_some entry.begun
 
--- this is held of a record
-pub record IsHeld (head : Head) (packet : Packet) (held : Held) : Type 0 where
-  pub octets : held.octets.items ≡ packet.octets
-  pub time : held.time ≡ time_of head packet
-
--- one more record was read
-pub record RecordRead (files : Files) (all left : Option (List ℕ)) (head : Head) (records : List Packet) : Type 0 where
-  pub packet : Packet
-  pub input : InputAt files.input head all left (packet ∷ records)
-  pub holds : IsHeld head packet files.held
+-- these octets and this time are held, and what the first engine said of the record by its entry
+pub record Holds (octets : List ℕ) (time : ℕ) (entry : PlainEntry) (held : Held) : Type 0 where
+  pub octets_are : held.octets.items ≡ octets
+  pub time_is : held.time ≡ time
+  pub judged_is : held.judged ≡ judged_by entry
 
 -- this is gathered of these frames of a record; packet and octets only if they are wanted
 pub record IsGathered (link : Link) (kinds : Kinds) (octets : List ℕ) (own : List Packet) (gathered : Gathered) : Type 0 where
@@ -133,12 +107,6 @@ FramesStop frames all head older packets before now _ = ⊥
 pub record RecordMissing (files : Files) (read : Option (List ℕ)) (records : List Packet) (number : ℕ) : Type 0 where
   pub whole : TookAll None read files.head records
   pub place : number ≡ files.count + 1
-
--- why the next record was not read
-abbrev pub RecordStops : (files : Files) (read : Option (List ℕ)) (records : List Packet) (before now : ℕ) → Stop → Type 0
-RecordStops files read records before now (stops.Record number) = RecordMissing files read records number
-RecordStops files read records before now stops.Memory = Unit {0}
-RecordStops files read records before now stop = InputStops read files.head records before now stop
 
 -- the record was read behind these, and a frame of it is missing
 pub record FrameMissing (files : Files) (read written : Option (List ℕ)) (head : Head) (records frames : List Packet) (packets number : ℕ) : Type 0 where

@@ -8,7 +8,7 @@ use Rattle.capture_input.specs.Inputs.{TookAll}
 use Rattle.capture_input.specs.declared.fault.InputFault.{InputFault}
 use Rattle.rule_book.specs.Text.{last_text}
 use Rattle.rule_book.specs.declared.last.Last.TheVariants.{End}
-use Rattle.run_view.specs.Causes.{BeginsAmiss, FaultCounts, IsNoNext, IsSomeOctet, SourceRose}
+use Rattle.run_view.specs.Causes.{BeginsAmiss, FaultCounts, IsSomeOctet, SourceRose}
 use Rattle.run_view.specs.Printed.{PrintStops}
 use Rattle.run_view.specs.Standing.{BeginsWithFrames, BeginsWithRecords, InputFailsBehind, InputStops, OutputFailsBehind, OutputStops}
 use Rattle.run_view.specs.Steps.{FramesStop, ItemStops}
@@ -23,17 +23,6 @@ abbrev pub FirstStops : (report : Option (List ℕ)) → (before now : ℕ) → 
 FirstStops report before now stops.Unread = Rose before now
 FirstStops report before now (stops.Report line) = BeginsAmiss report line
 FirstStops report before now _ = ⊥
-
--- the next line is none that may stand there, behind so many lines of entries
-pub record IsAmiss (version : ℕ) (turn : Turn) (lines : ℕ) (left : Option (List ℕ)) (line : ℕ) : Type 0 where
-  pub amiss : IfSome left (IsNoNext version turn)
-  pub place : line ≡ lines + 2
-
--- why the next line of the report was not read
-abbrev pub NextStops : (version : ℕ) (turn : Turn) (lines : ℕ) → (left : Option (List ℕ)) → (before now : ℕ) → Stop → Type 0
-NextStops version turn lines left before now stops.Unread = Rose before now
-NextStops version turn lines left before now (stops.Report line) = IsAmiss version turn lines left line
-NextStops version turn lines left before now _ = ⊥
 
 -- the last line of a run was taken of the report, where no line of the second engine is wanting
 pub record ToldEnd (turn : Turn) (report left : Option (List ℕ)) : Type 0 where

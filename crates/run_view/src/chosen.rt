@@ -15,6 +15,7 @@ pub(crate) fn has_choice(asked: Asked) -> bool
 }
 
 /// Returns whether the record of an entry is printed.
+#[inline(always)]
 pub(crate) fn is_printed(asked: Asked, entry: &Entry) -> bool
     ensures { result ≡ spec.is_printed asked (plain entry.now) }
 {

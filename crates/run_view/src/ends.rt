@@ -1,4 +1,4 @@
-//! The ends of the three files.
+//! The ends of the three files and of the output.
 ghost use Rattle.std.specs.Prelude.{◌≡◌, ◌^◌, ◌<◌, ◌≤◌, ℕ, List, IfErr, IfSome, OnOk};
 ghost use Rattle.std.specs.Io.KnownBytes.{IsAtEnd};
 ghost use Rattle.std.specs.declared.option.Option.{Option};
@@ -8,16 +8,18 @@ ghost use Rattle.pcap_file.specs.Records.{Packet};
 ghost use Rattle.pcap_file.specs.declared.head.Head.{Head};
 ghost use Rattle.run_view.specs.Ahead.{left_in};
 ghost use Rattle.run_view.specs.Causes.{counts_of};
+ghost use Rattle.run_view.specs.Printed.{Failed};
 ghost use Rattle.run_view.specs.SoFar.{AreWhole};
 ghost use Rattle.run_view.specs.Standing.{InputAt, OutputAt};
 ghost use Rattle.run_view.specs.Steps.{HasRoom, IsReady, MayRead, StayedAt};
 ghost use Rattle.run_view.specs.Why.{EndStops, FramesGoOn, RecordsGoOn};
+ghost use Rattle.run_view.specs.declared.stop.Stop.TheVariants.{Unwritten};
 
 use crate::Stop;
 use crate::item::{Files, Frames};
 use crate::line::Lines;
 use crate::sources::{next_frame, next_record};
-use edge_io::Source;
+use edge_io::{Sink, Source};
 
 /// Checks that nothing is left of the three files; `count` entries of the report were read.
 pub(crate) fn check_ends<I: Source, O: Source, R: Source>(
@@ -96,5 +98,18 @@ fn end_frames<O: Source>(frames: &mut Frames, output: &mut O) -> Result<(), Stop
         Ok(None) => Ok(()),
         Ok(Some(_)) => Err(Stop::Frame(frames.count + 1)),
         Err(stop) => Err(stop),
+    }
+}
+
+/// Flushes the output.
+pub(crate) fn flush<K: Sink>(out: &mut K) -> Result<(), Stop>
+    ensures flushed { OnOk result (K.held out.new ≡ K.held out.old) }
+    ensures stops { IfErr result (λ stop. (stop ≡ Unwritten) × Failed (K.held out.old) (K.held out.new) (K.fault_count out.old) (K.fault_count out.new)) }
+    ensures later { K.fault_count out.old ≤ K.fault_count out.new }
+    ensures kept { OnOk result (K.fault_count out.new ≡ K.fault_count out.old) }
+{
+    match out.flush() {
+        Ok(()) => Ok(()),
+        Err(_) => Err(Stop::Unwritten),
     }
 }

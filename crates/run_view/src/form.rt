@@ -1,6 +1,13 @@
 //! The form of a report.
-ghost use Rattle.std.specs.Prelude.{◌≡◌};
+ghost use Rattle.std.specs.Prelude.{◌≡◌, ◌≤◌, IfErr, IfOk, OnOk};
+ghost use Rattle.std.specs.Io.KnownBytes.{Consumes};
+ghost use Rattle.run_view.specs.Ahead.{left_in};
 ghost use Rattle.run_view.specs.Forms as spec;
+ghost use Rattle.run_view.specs.Why.{FirstStops};
+
+use crate::Stop;
+use crate::line::Lines;
+use edge_io::Source;
 
 /// The form of a report, which its first line names.
 #[derive(Clone, Copy, Debug, PartialEq, Eq)]
@@ -11,6 +18,28 @@ pub enum Form {
     Version2,
     /// Of two engines, in version 2.
     Both,
+}
+
+/// Reads the first line of the report, and returns its form.
+pub(crate) fn read_form<R: Source>(lines: &mut Lines, report: &mut R) -> Result<Form, Stop>
+    ensures stops { IfErr result (FirstStops (left_in lines.old (R.left report.old)) (R.fault_count report.old) (R.fault_count report.new)) }
+    ensures first { IfOk result (λ form. Consumes (left_in lines.old (R.left report.old)) (left_in lines.new (R.left report.new)) (spec.heading form)) }
+    ensures later { R.fault_count report.old ≤ R.fault_count report.new }
+    ensures kept { OnOk result (R.fault_count report.new ≡ R.fault_count report.old) }
+{
+    let Ok(()) = lines.next(report) else {
+        return Err(Stop::Unread);
+    };
+    let text = lines.line();
+    if text == b"norm 1\n".as_slice() {
+        Ok(Form::Version1)
+    } else if text == b"norm 2\n".as_slice() {
+        Ok(Form::Version2)
+    } else if text == b"norm 2 both\n".as_slice() {
+        Ok(Form::Both)
+    } else {
+        Err(Stop::Report(1))
+    }
 }
 
 /// Returns the version of the lines of entries.

@@ -1,22 +1,24 @@
 //! A record of the input with the frames of the output that were written for it.
-ghost use Rattle.std.specs.Prelude.{◌≡◌, ◌+◌, ◌≤◌, ◌<◌, ◌^◌, ◌++◌, ◌∷◌, ℕ, List, length, true, IfErr, IfOk, OnOk, if◌then◌else◌};
+ghost use Rattle.std.specs.Prelude.{◌≡◌, ◌+◌, ◌≤◌, ◌<◌, ◌^◌, ◌++◌, ◌∷◌, [], ℕ, List, length, true, IfErr, OnOk, if◌then◌else◌};
 ghost use Rattle.std.specs.declared.option.Option.{Option};
-ghost use Rattle.pcap_file.specs.Reads.{shown};
 ghost use Rattle.pcap_file.specs.Records.{Packet};
 ghost use Rattle.pcap_file.specs.declared.head.Head.{Head};
+ghost use Rattle.rule_book.specs.Entries.{plain};
 ghost use Rattle.run_view.specs.Eras.{plus};
 ghost use Rattle.run_view.specs.Items as spec;
-ghost use Rattle.run_view.specs.Standing.{InputAt, OutputAt};
-ghost use Rattle.run_view.specs.Steps.{FrameAdded, FrameStops, FramesOn, FramesRead, FramesStop, IsGathered, IsHeld, IsReady, MayRead, RecordOn, RecordRead, RecordStops};
+ghost use Rattle.run_view.specs.Items.{waits};
+ghost use Rattle.run_view.specs.Standing.{OutputAt};
+ghost use Rattle.run_view.specs.Steps.{FrameAdded, FrameStops, FramesRead, FramesStop, Holds, IsGathered, MayRead};
 
 use crate::Stop;
-use crate::judged::Kinds;
+use crate::judged::{Judged, judged_by};
 use crate::seen::{Original, add_changes_at, flow_at};
-use crate::sources::{next_frame, next_record};
+use crate::sources::next_frame;
 use capture_input::Input;
 use edge_io::{NoMemory, Source};
 use frame_view::{Change, Flow};
-use pcap_file::{Head, Reader, Record};
+use pcap_file::{Head, Reader};
+use rule_book::Entry;
 use std::alloc::Global;
 use wire_base::{Link, MAX_CAPTURED};
 
@@ -33,12 +35,14 @@ pub(crate) struct Frames {
     pub(crate) count: u64,
 }
 
-/// The newest record.
+/// The newest record, kept for the lines of the second engine; out of date if none is to come.
 #[derive(Drop)]
 pub(crate) struct Held {
     pub(crate) octets: Vec<u8>,
     /// Nanoseconds since 1970.
     pub(crate) time: u64,
+    /// What the first engine said of it.
+    pub(crate) judged: Judged,
 }
 
 /// The records of the input and the frames of the output.
@@ -49,7 +53,6 @@ pub(crate) struct Files {
     pub(crate) input: Input,
     /// The octets of one record, as they are read.
     pub(crate) buffer: Box<[u8; ROOM]>,
-    pub(crate) held: Held,
     /// How many records were read.
     pub(crate) count: u64,
     pub(crate) frames: Frames,
@@ -68,90 +71,63 @@ pub(crate) struct Gathered {
     pub(crate) octets: u64,
 }
 
-/// Reads the next record, which is held then.
-pub(crate) fn read_record<I: Source>(files: &mut Files, input: &mut I) -> Result<(), Stop>
-    requires ready { IsReady files.old }
-    requires few { files.old.count < 2 ^ 33 }
-    ensures read { OnOk result ((read : Option (List ℕ)) (records : List Packet) →
-        InputAt files.old.input files.old.head read (I.left input.old) records → RecordRead files.new read (I.left input.new) files.old.head records) }
-    ensures went { OnOk result (RecordOn files.old files.new) }
-    ensures stops { IfErr result (λ stop. (read : Option (List ℕ)) (records : List Packet) →
-        InputAt files.old.input files.old.head read (I.left input.old) records →
-        RecordStops files.old read records (I.fault_count input.old) (I.fault_count input.new) stop) }
-    ensures later { I.fault_count input.old ≤ I.fault_count input.new }
-    ensures kept { OnOk result (I.fault_count input.new ≡ I.fault_count input.old) }
+/// Keeps a record and what the first engine said of it, if lines of the second are to come for it.
+pub(crate) fn hold(
+    owed: u8,
+    entry: &Entry,
+    octets: &[u8],
+    time: u64,
+    held: &mut Held,
+) -> Result<(), NoMemory>
+    ensures { OnOk result (waits owed ≡ true → Holds octets.now time (plain entry.now) held.new) }
 {
-    let Some(record) = next_record(&mut files.input, input, &mut files.buffer[..])? else {
-        return Err(Stop::Record(files.count + 1));
-    };
-    hold(files.head, record, &mut files.held)?;
-    files.count += 1;
-    Ok(())
-}
-
-// Holds a record in the place of another.
-fn hold(head: Head, given: Record<'_>, held: &mut Held) -> Result<(), NoMemory>
-    ensures { OnOk result (IsHeld head (shown given.entry) held.new) }
-{
+    if owed == 0 {
+        return Ok(());
+    }
     held.octets.clear();
-    held.octets.extend_from_slice(given.bytes)?;
-    held.time = time_of(head, given.seconds, given.fraction);
+    held.octets.extend_from_slice(octets)?;
+    held.time = time;
+    held.judged = judged_by(entry);
     Ok(())
 }
 
-/// Reads the next frames, which belong to the record that is held.
-pub(crate) fn read_frames<O: Source>(
-    alloc: Global,
-    files: &mut Files,
-    packets: u8,
-    kinds: Kinds,
-    wanted: bool,
-    output: &mut O,
-) -> Result<Gathered, Stop>
-    requires ready { MayRead files.old.frames }
-    requires few { files.old.frames.count < 2 ^ 63 }
-    ensures read { IfOk result (λ gathered. (written : Option (List ℕ)) (head : Head) (frames : List Packet) →
-        OutputAt files.old.frames.reader head written (O.left output.old) frames →
-        FramesRead files.new.frames written (O.left output.new) head frames files.old.head.link kinds files.old.held.octets.items packets gathered) }
-    ensures wanted { IfOk result (λ gathered. gathered.wanted ≡ wanted) }
-    ensures went { OnOk result (FramesOn files.old files.new packets) }
-    ensures stops { IfErr result (λ stop. (written : Option (List ℕ)) (head : Head) (frames : List Packet) →
-        OutputAt files.old.frames.reader head written (O.left output.old) frames →
-        FramesStop files.old.frames written head frames packets (O.fault_count output.old) (O.fault_count output.new) stop) }
-    ensures later { O.fault_count output.old ≤ O.fault_count output.new }
-    ensures kept { OnOk result (O.fault_count output.new ≡ O.fault_count output.old) }
-{
-    let original = Original {
-        link: files.head.link,
-        kinds,
-        octets: files.held.octets.as_slice(),
-    };
-    gather(alloc, original, packets, wanted, &mut files.frames, output)
-}
-
-// Returns a time in nanoseconds since 1970.
-fn time_of(head: Head, seconds: u32, fraction: u32) -> u64
+/// Returns a time in nanoseconds since 1970.
+pub(crate) fn time_of(head: Head, seconds: u32, fraction: u32) -> u64
     ensures { result ≡ spec.nanoseconds head seconds fraction }
 {
     let unit = if head.nano { 1 } else { 1_000 };
     u64::from(seconds) * 1_000_000_000 + u64::from(fraction) * unit
 }
 
-// Reads so many frames of a record.
-fn gather<O: Source>(
+/// Returns what is gathered before the first frame.
+pub(crate) fn nothing(alloc: Global, original: Original<'_>, wanted: bool) -> Gathered
+    ensures gathers { IsGathered original.entry.link original.entry.kinds original.entry.octets.now [] result }
+    ensures wanted { result.wanted ≡ wanted }
+{
+    Gathered {
+        changes: Vec::new(alloc),
+        wanted,
+        flow: wanted_flow(wanted, original),
+        octets: 0,
+    }
+}
+
+/// Reads the next `packets` frames, those of one record, into `gathered`.
+pub(crate) fn gather<O: Source>(
     alloc: Global,
     original: Original<'_>,
     packets: u8,
-    wanted: bool,
+    gathered: &mut Gathered,
     frames: &mut Frames,
     output: &mut O,
-) -> Result<Gathered, Stop>
+) -> Result<(), Stop>
     requires ready { MayRead frames.old }
     requires few { frames.old.count < 2 ^ 63 }
-    ensures read { IfOk result (λ gathered. (all : Option (List ℕ)) (head : Head) (older : List Packet) →
+    requires fresh { IsGathered original.link original.kinds original.octets.now [] gathered.old }
+    ensures read { OnOk result ((all : Option (List ℕ)) (head : Head) (older : List Packet) →
         OutputAt frames.old.reader head all (O.left output.old) older →
-        FramesRead frames.new all (O.left output.new) head older original.entry.link original.entry.kinds original.entry.octets.now packets gathered) }
-    ensures wanted { IfOk result (λ gathered. gathered.wanted ≡ wanted) }
+        FramesRead frames.new all (O.left output.new) head older original.entry.link original.entry.kinds original.entry.octets.now packets gathered.new) }
+    ensures wanted { OnOk result (gathered.new.wanted ≡ gathered.old.wanted) }
     ensures ready { OnOk result (MayRead frames.new) }
     ensures count { OnOk result (frames.new.count ≡ frames.old.count + packets) }
     ensures stops { IfErr result (λ stop. (all : Option (List ℕ)) (head : Head) (older : List Packet) →
@@ -160,16 +136,10 @@ fn gather<O: Source>(
     ensures later { O.fault_count output.old ≤ O.fault_count output.new }
     ensures kept { OnOk result (O.fault_count output.new ≡ O.fault_count output.old) }
 {
-    let mut gathered = Gathered {
-        changes: Vec::new(alloc),
-        wanted,
-        flow: wanted_flow(wanted, original),
-        octets: 0,
-    };
     for number in 0..packets {
-        add_frame(alloc, original, number, &mut gathered, frames, output)?;
+        add_frame(alloc, original, number, gathered, frames, output)?;
     }
-    Ok(gathered)
+    Ok(())
 }
 
 // Returns what the headers of a record say, if that is wanted.

@@ -14,10 +14,11 @@
 //! that of the output has a fault or another link. At 5 the count of faults of a source rose, at 7
 //! that of the output. What is printed before the last line is the text of the items up to there;
 //! at 8, which is returned only if memory cannot be allocated (that is not claimed), there may be
-//! whole lines behind it, the first of those that end a view of the items. Nothing is claimed of a
-//! source or an output without known octets. Laws: each quantity of an era of either engine is a
-//! first, last, count or sum over all items (`eras_are_rows`); a view of the files of a finished
-//! run stops only for want of memory, or if a count of faults rises (`runs_are_viewed`).
+//! whole lines behind it, the first of those that end a view of the items; if there are any, the
+//! three files end there. Nothing is claimed of a source or an output without known octets. Laws:
+//! each quantity of an era of either engine is a first, last, count or sum over all items
+//! (`eras_are_rows`); a view of the files of a finished run stops only for want of memory, or if a
+//! count of faults rises (`runs_are_viewed`).
 //!
 //! Choices: counts of 64 bits stand still at the last value. A frame of a line of the second engine
 //! is compared with the record, since what the first engine wrote is in no file. A frame that norm

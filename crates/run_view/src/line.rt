@@ -47,6 +47,7 @@ impl Lines {
     /// Moves to the next line, with its line feed: at most 400 octets, and all that are left if they
     /// have no line feed.
     pub(crate) fn next<R: Source>(&mut self, source: &mut R) -> Result<(), Failed>
+        ensures short { OnOk result (length (line_in self.new) ≤ 400) }
         ensures line { OnOk result (TookLine (left_in self.old (R.left source.old)) (left_in self.new (R.left source.new)) (line_in self.new)) }
         ensures cause { HasCause (R.fault_count source.old) (R.fault_count source.new) result }
     {
@@ -64,7 +65,8 @@ impl Lines {
         &self.buffer[self.line..self.start]
     }
 
-    /// Returns whether octets stand behind the newest line.
+    /// Returns whether octets stand behind the newest line. What is left stays, but the newest line
+    /// may be lost.
     pub(crate) fn goes_on<R: Source>(&mut self, source: &mut R) -> Result<bool, Failed>
         ensures more { IfOk result (λ more. GoesOn more (left_in self.old (R.left source.old))) }
         ensures cause { HasCause (R.fault_count source.old) (R.fault_count source.new) result }
@@ -115,11 +117,10 @@ impl Lines {
 fn line_length(octets: &[u8]) -> usize
     ensures line { take result octets.now ≡ front_line 400 octets.now }
     ensures within { result ≤ length octets.now }
+    ensures short { result ≤ 400 }
 {
     let room = LINE_ROOM.min(octets.len());
     let front = &octets[..room];
-    match front.iter().position(|octet| *octet == b'\n') {
-        Some(place) => place + 1,
-        None => room,
-    }
+    let feed = front.iter().position(|octet| *octet == b'\n');
+    (feed.unwrap_or(room) + 1).min(room)
 }

@@ -9,8 +9,7 @@ ghost use Rattle.run_view.specs.Viewed as viewed;
 
 use crate::Stop;
 use crate::eras::{EraRow, Eras};
-use crate::item::{Gathered, Held};
-use crate::judged::Judged;
+use crate::item::Gathered;
 use crate::seen::{flow_at, length_at};
 use crate::tally::{Tally, era_counts};
 use edge_io::Sink;
@@ -37,39 +36,42 @@ fn print<K: Sink>(text: &[u8], out: &mut K) -> Result<(), Stop>
 pub(crate) struct Shown<'a> {
     /// It is one of the second engine.
     pub(crate) second: bool,
-    /// What the first engine said of its record.
-    pub(crate) judged: Judged,
+    /// The number of its record.
+    pub(crate) number: u32,
+    /// The time of its record, in nanoseconds since 1970.
+    pub(crate) time: u64,
     pub(crate) link: Link,
-    pub(crate) held: &'a Held,
+    /// The octets of its record.
+    pub(crate) octets: &'a [u8],
     pub(crate) entry: &'a Entry,
-    pub(crate) gathered: &'a Gathered,
 }
 
 /// Prints a line of the report.
+#[inline(never)]
 #[tactic(auto, unfolding(crate::specs::View::record_line))]
 pub(crate) fn print_record<K: Sink>(
     alloc: Global,
     json: bool,
     shown: Shown<'_>,
+    gathered: &Gathered,
     out: &mut K,
 ) -> Result<(), Stop>
     ensures prints { OnOk result (Appends (K.held out.old) (K.held out.new) (spec.record_line json
-        (record_shown shown.entry.second shown.entry.judged shown.entry.link shown.entry.held.now shown.entry.entry.now shown.entry.gathered.now))) }
+        (record_shown shown.entry.second shown.entry.number shown.entry.time shown.entry.link shown.entry.octets.now shown.entry.entry.now gathered.now))) }
     ensures stops { IfErr result (PrintStops (K.held out.old) (K.held out.new) (K.fault_count out.old) (K.fault_count out.new)) }
     ensures later { K.fault_count out.old ≤ K.fault_count out.new }
     ensures kept { OnOk result (K.fault_count out.new ≡ K.fault_count out.old) }
 {
-    let octets = shown.held.octets.as_slice();
     let view = RecordView {
-        number: u64::from(shown.judged.number),
+        number: u64::from(shown.number),
         second: shown.second,
         own: shown.entry.number,
-        time: shown.held.time,
-        flow: flow_at(shown.link, octets),
-        length: length_at(shown.link, octets),
+        time: shown.time,
+        flow: flow_at(shown.link, shown.octets),
+        length: length_at(shown.link, shown.octets),
         entry: shown.entry,
         frames: u32::from(shown.entry.packets),
-        changes: shown.gathered.changes.as_slice(),
+        changes: gathered.changes.as_slice(),
     };
     match record_line(alloc, json, &view) {
         Ok(line) => print(line.as_bytes(), out),

@@ -31,6 +31,7 @@ pub(crate) fn open_input<I: Source>(source: &mut I) -> Result<Input, Stop>
 }
 
 /// Reads the next record of the input.
+#[inline(always)]
 pub(crate) fn next_record<'a, I: Source>(
     input: &mut Input,
     source: &mut I,

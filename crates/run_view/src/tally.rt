@@ -8,9 +8,9 @@ ghost use Rattle.run_view.specs.Rows.{table_of};
 ghost use Rattle.run_view.specs.Summary as spec;
 
 use crate::eras::{Eras, Told, add_record, begin, bring, end_all};
+use crate::item::Gathered;
 use crate::judged::Judged;
 use edge_io::NoMemory;
-use frame_view::Flow;
 use indexmap::IndexMap;
 use rule_book::{Entry, Reason, Rule, Verdict};
 use std::alloc::Global;
@@ -32,17 +32,6 @@ pub(crate) struct Tally {
     pub(crate) second_eras: Eras,
 }
 
-/// What is counted of a line, beside its entry.
-#[derive(Clone, Copy)]
-pub(crate) struct Noted {
-    /// That of its record, in nanoseconds since 1970.
-    pub(crate) time: u64,
-    /// The packet of its first frame, or that of its record if it has none.
-    pub(crate) flow: Option<Flow>,
-    /// How many octets its frames have in TCP segments.
-    pub(crate) octets: u64,
-}
-
 impl Tally {
     /// Returns that nothing is known.
     pub(crate) fn new(alloc: Global) -> Tally
@@ -61,22 +50,24 @@ impl Tally {
         }
     }
 
-    /// Counts a line of the first engine.
+    /// Counts a line of the first engine, by the time of its record, in nanoseconds since 1970, and
+    /// what was gathered of its frames.
     pub(crate) fn note(
         &mut self,
         alloc: Global,
         entry: &Entry,
-        noted: Noted,
+        time: u64,
+        gathered: &Gathered,
     ) -> Result<(), NoMemory>
         ensures sides { OnOk result (self.new.sides ≡ spec.with_side (plain entry.now).side (plain entry.now).verdict self.old.sides) }
         ensures second_sides { OnOk result (self.new.second_sides ≡ self.old.second_sides) }
         ensures rules { OnOk result (self.new.rules.items ≡ spec.all_counted (plain entry.now).rules self.old.rules.items) }
-        ensures eras { OnOk result (table_of self.new.eras ≡ rows.with_entry (plain entry.now) noted.time (if_inward_of (plain entry.now).side noted.octets) noted.flow (table_of self.old.eras)) }
+        ensures eras { OnOk result (table_of self.new.eras ≡ rows.with_entry (plain entry.now) time (if_inward_of (plain entry.now).side gathered.now.octets) gathered.now.flow (table_of self.old.eras)) }
         ensures second_eras { OnOk result (table_of self.new.second_eras ≡ table_of self.old.second_eras) }
     {
         add_to_side(&mut self.sides, entry.side, entry.verdict);
         count_rules(&mut self.rules, entry.rules.as_slice())?;
-        note_eras(alloc, &mut self.eras, entry, noted)
+        note_eras(alloc, &mut self.eras, entry, time, gathered)
     }
 
     /// Counts a line of the second engine, for a record of which the first said this.
@@ -85,19 +76,20 @@ impl Tally {
         alloc: Global,
         judged: Judged,
         entry: &Entry,
-        noted: Noted,
+        time: u64,
+        gathered: &Gathered,
     ) -> Result<(), NoMemory>
         ensures sides { OnOk result (self.new.sides ≡ self.old.sides) }
         ensures second_sides { OnOk result (self.new.second_sides ≡ spec.with_side (plain entry.now).side (plain entry.now).verdict self.old.second_sides) }
         ensures rules { OnOk result (self.new.rules.items ≡ spec.all_counted (plain entry.now).rules self.old.rules.items) }
-        ensures eras { OnOk result (table_of self.new.eras ≡ rows.changed_if judged.era (rows.with_octets (if_inward_of judged.side noted.octets)) (table_of self.old.eras)) }
-        ensures second_eras { OnOk result (table_of self.new.second_eras ≡ rows.with_entry (plain entry.now) noted.time (if_inward_of (plain entry.now).side noted.octets) noted.flow (table_of self.old.second_eras)) }
+        ensures eras { OnOk result (table_of self.new.eras ≡ rows.changed_if judged.era (rows.with_octets (if_inward_of judged.side gathered.now.octets)) (table_of self.old.eras)) }
+        ensures second_eras { OnOk result (table_of self.new.second_eras ≡ rows.with_entry (plain entry.now) time (if_inward_of (plain entry.now).side gathered.now.octets) gathered.now.flow (table_of self.old.second_eras)) }
     {
         add_to_side(&mut self.second_sides, entry.side, entry.verdict);
         count_rules(&mut self.rules, entry.rules.as_slice())?;
-        let octets = if_inward(judged.side, noted.octets);
+        let octets = if_inward(judged.side, gathered.octets);
         bring(alloc, &mut self.eras, judged.era, octets)?;
-        note_eras(alloc, &mut self.second_eras, entry, noted)
+        note_eras(alloc, &mut self.second_eras, entry, time, gathered)
     }
 }
 
@@ -141,16 +133,22 @@ fn no_sides() -> Sides
 }
 
 // Notes what an entry says of eras.
-fn note_eras(alloc: Global, eras: &mut Eras, entry: &Entry, noted: Noted) -> Result<(), NoMemory>
-    ensures { OnOk result (table_of eras.new ≡ rows.with_entry (plain entry.now) noted.time (if_inward_of (plain entry.now).side noted.octets) noted.flow (table_of eras.old)) }
+fn note_eras(
+    alloc: Global,
+    eras: &mut Eras,
+    entry: &Entry,
+    time: u64,
+    gathered: &Gathered,
+) -> Result<(), NoMemory>
+    ensures { OnOk result (table_of eras.new ≡ rows.with_entry (plain entry.now) time (if_inward_of (plain entry.now).side gathered.now.octets) gathered.now.flow (table_of eras.old)) }
 {
     let told = Told {
-        time: noted.time,
-        octets: if_inward(entry.side, noted.octets),
+        time,
+        octets: if_inward(entry.side, gathered.octets),
         rules: entry.rules.as_slice(),
     };
     add_record(alloc, eras, entry.era, told)?;
-    begin(alloc, eras, entry.begun, noted.flow)?;
+    begin(alloc, eras, entry.begun, gathered.flow)?;
     end_all(alloc, eras, entry.ended.as_slice())
 }
 

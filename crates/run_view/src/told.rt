@@ -1,9 +1,9 @@
-//! What a line of a report tells behind others.
-ghost use Rattle.std.specs.Prelude.{◌≡◌, ◌↔◌, ◌^◌, ◌<◌, ◌∷◌, ℕ, List, true, false, IsTrue};
+//! What a line of a report tells.
+ghost use Rattle.std.specs.Prelude.{◌≡◌, ◌↔◌, ◌^◌, ◌<◌, IsTrue};
 ghost use Rattle.rule_book.specs.declared.last.Last.TheVariants.{End};
-ghost use Rattle.run_view.specs.Told.{IsEntryTold, IsTold};
+ghost use Rattle.run_view.specs.Told.{IsLast, part_by};
 
-use rule_book::{Entry, Last, read_entry, read_last};
+use rule_book::{Last, read_last};
 
 /// Where the next line of a report stands.
 #[derive(Clone, Copy)]
@@ -16,76 +16,33 @@ pub(crate) struct Turn {
     pub(crate) frames: u64,
 }
 
-/// What a line tells.
-#[derive(Drop)]
-pub(crate) enum Told {
-    /// The next entry.
-    Entry(Entry),
-    /// That the run ended, with as many records and frames as were read.
-    End,
-    /// Nothing that may stand there.
-    Amiss,
+/// Returns what the line of an entry by this engine has for the entry: all of it, or what stands
+/// behind `/`, and nothing if it does not begin with that.
+pub(crate) fn entry_part(text: &[u8], second: bool) -> &[u8]
+    ensures { result.now ≡ part_by second text.now }
+{
+    if !second {
+        return text;
+    }
+    match text {
+        [b'/', rest @ ..] => rest,
+        _ => &[],
+    }
 }
 
-/// Returns what a line tells that stands there.
-pub(crate) fn line_told(text: &[u8], version: u8, turn: Turn) -> Told
+/// Returns whether a line is the last one of a run with as many records and frames as stand before
+/// it.
+pub(crate) fn is_last(text: &[u8], turn: Turn) -> bool
     requires few { turn.done < 2 ^ 32 }
-    ensures { IsTold version turn text.now result }
+    ensures { IsTrue result ↔ IsLast turn text.now }
 {
     if turn.second {
-        return second_told(text, version, turn.done);
+        return false;
     }
-    if may_end(text) {
-        return end_told(text, version, turn);
+    match read_last(text) {
+        Some(last) => is_end(last, turn.done, turn.frames),
+        None => false,
     }
-    entry_told(text, version, turn.done)
-}
-
-// Returns whether a line may be the last one of a run that ended, by its first octet.
-fn may_end(text: &[u8]) -> bool
-    ensures { (rest : List ℕ) → text.now ≡ 101 ∷ rest → result ≡ true }
-{
-    matches!(text, [b'e', ..])
-}
-
-// Returns what a line of the first engine tells; it may be the last line.
-fn end_told(text: &[u8], version: u8, turn: Turn) -> Told
-    requires few { turn.done < 2 ^ 32 }
-    requires first { turn.second ≡ false }
-    ensures { IsTold version turn text.now result }
-{
-    if let Some(last) = read_last(text) {
-        if is_end(last, turn.done, turn.frames) {
-            return Told::End;
-        }
-        return Told::Amiss;
-    }
-    entry_told(text, version, turn.done)
-}
-
-// Returns what a line of the second engine tells behind so many others of it.
-fn second_told(text: &[u8], version: u8, done: u64) -> Told
-    requires few { done < 2 ^ 32 }
-    ensures { IsEntryTold version true done text.now result }
-{
-    match text {
-        [b'/', rest @ ..] => entry_told(rest, version, done),
-        _ => Told::Amiss,
-    }
-}
-
-// Returns what the line of an entry tells behind so many others.
-fn entry_told(text: &[u8], version: u8, done: u64) -> Told
-    requires few { done < 2 ^ 32 }
-    ensures { IsEntryTold version false done text.now result }
-{
-    let Some(entry) = read_entry(text, version) else {
-        return Told::Amiss;
-    };
-    if u64::from(entry.number) != done + 1 {
-        return Told::Amiss;
-    }
-    Told::Entry(entry)
 }
 
 // Returns whether a last line ends a run with so many records and frames.

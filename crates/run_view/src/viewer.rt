@@ -1,6 +1,6 @@
 //! The view of a finished run.
-ghost use Rattle.std.specs.Prelude.{◌≡◌, ◌⊎◌, ◌↔◌, IsTrue, ◌+◌, ◌*◌, ◌^◌, ◌<◌, ◌≤◌, ◌++◌, ℕ, List, [], ◌∷◌, length, map, string_bytes, if◌then◌else◌, true, false, IfErr, IfOk, IfSome, MatchOption, None, OnOk};
-ghost use Rattle.std.specs.Io.KnownBytes.{Appends, Consumes, IsAtEnd};
+ghost use Rattle.std.specs.Prelude.{◌≡◌, ◌⊎◌, ◌↔◌, IsTrue, ◌+◌, ◌*◌, ◌^◌, ◌<◌, ◌≤◌, ◌++◌, ℕ, List, [], ◌∷◌, length, map, string_bytes, if◌then◌else◌, true, false, IfErr, IfOk, IfSome, None, OnOk};
+ghost use Rattle.std.specs.Io.KnownBytes.{Appends, IsAtEnd};
 ghost use Rattle.std.specs.declared.option.Option.{Option};
 ghost use Rattle.capture_input.specs.Reading.{is_open_in};
 ghost use Rattle.pcap_file.specs.Records.{Packet};
@@ -8,35 +8,35 @@ ghost use Rattle.pcap_file.specs.declared.head.Head.{Head};
 ghost use Rattle.rule_book.specs.Entries.{plain};
 ghost use Rattle.rule_book.specs.Reports.{IsEntryOf};
 ghost use Rattle.run_view.specs.Ahead.{left_in};
-ghost use Rattle.run_view.specs.Forms.{heading, version_of as version_of_form};
+ghost use Rattle.run_view.specs.Forms.{version_of as version_of_form};
 ghost use Rattle.run_view.specs.Items.{Item, line_by, waits};
-ghost use Rattle.run_view.specs.Printed.{Failed, PartStops, PrintStops, record_shown};
-ghost use Rattle.run_view.specs.declared.stop.Stop.TheVariants.{Unwritten};
+ghost use Rattle.run_view.specs.Printed.{PartStops, PrintStops, record_shown};
 ghost use Rattle.run_view.specs.SoFar.{Ends, IsFresh, MayTake, SoFar, Taken, WentOn, WentOnBy, Whole, closing_shown, ends_of, lines_in, turn_in};
-ghost use Rattle.run_view.specs.Causes.{EntriesStop, StopWhy, ToldNext, counts_of, frames_by, sources_of};
-ghost use Rattle.run_view.specs.Why.{FirstStops, NextStops, TakeStops, ToldEnd, taking_of};
+ghost use Rattle.run_view.specs.Causes.{EntriesStop, StopWhy, counts_of, frames_by, sources_of};
+ghost use Rattle.run_view.specs.Going.{Going, IsSameRun, StepsTo};
+ghost use Rattle.run_view.specs.Why.{TakeStops, taking_of};
 ghost use Rattle.run_view.specs.Standing.{InputAt, IsBehind, OutputAt};
-ghost use Rattle.run_view.specs.Steps.{noted_from};
 ghost use Rattle.run_view.specs.View as spec;
 ghost use Rattle.run_view.specs.Viewed as viewed;
 ghost use Rattle.run_view.specs.Words.{asked_in as words_ask};
 
 use crate::Stop;
 use crate::chosen::{has_choice, is_printed};
-use crate::ends::check_ends;
-use crate::form::{Form, answers, is_both, own_frames, version_of};
-use crate::item::{Files, Frames, Gathered, Held, ROOM, read_frames, read_record};
-use crate::judged::{Judged, judged_by, kinds_by, second_kinds};
+use crate::ends::{check_ends, flush};
+use crate::form::{Form, answers, is_both, own_frames, read_form, version_of};
+use crate::item::{Files, Frames, Gathered, Held, ROOM, gather, hold, nothing, time_of};
+use crate::judged::{Judged, kinds_by, second_kinds};
 use crate::line::Lines;
 use crate::print::{Shown, Size, print_eras, print_record, print_summary, tell};
-use crate::sources::{open_input, open_output};
-use crate::tally::{Noted, Tally, is_of_era};
-use crate::told::{Told, Turn, line_told};
+use crate::seen::Original;
+use crate::sources::{next_record, open_input, open_output};
+use crate::tally::{Tally, is_of_era};
+use crate::told::{Turn, entry_part, is_last};
 use crate::words::{Asked, asked_in};
 use capture_input::Input;
 use edge_io::{NoMemory, Sink, Source};
 use pcap_file::Reader;
-use rule_book::Entry;
+use rule_book::{Entry, read_entry};
 use std::alloc::Global;
 
 /// How far a view has come.
@@ -47,8 +47,7 @@ pub(crate) struct Viewer {
     form: Form,
     lines: Lines,
     files: Files,
-    /// What the first engine said of the newest record.
-    judged: Judged,
+    held: Held,
     /// How many lines of the second engine are still to come for the newest record.
     owed: u8,
     /// How many lines of the second engine were read.
@@ -136,41 +135,6 @@ fn view_asked<I: Source, O: Source, R: Source, K: Sink>(
     flush(out)
 }
 
-// Flushes the output.
-fn flush<K: Sink>(out: &mut K) -> Result<(), Stop>
-    ensures flushed { OnOk result (K.held out.new ≡ K.held out.old) }
-    ensures stops { IfErr result (λ stop. (stop ≡ Unwritten) × Failed (K.held out.old) (K.held out.new) (K.fault_count out.old) (K.fault_count out.new)) }
-    ensures later { K.fault_count out.old ≤ K.fault_count out.new }
-    ensures kept { OnOk result (K.fault_count out.new ≡ K.fault_count out.old) }
-{
-    match out.flush() {
-        Ok(()) => Ok(()),
-        Err(_) => Err(Stop::Unwritten),
-    }
-}
-
-// Reads the first line of the report, and returns its form.
-fn read_form<R: Source>(lines: &mut Lines, report: &mut R) -> Result<Form, Stop>
-    ensures stops { IfErr result (FirstStops (left_in lines.old (R.left report.old)) (R.fault_count report.old) (R.fault_count report.new)) }
-    ensures first { IfOk result (λ form. Consumes (left_in lines.old (R.left report.old)) (left_in lines.new (R.left report.new)) (heading form)) }
-    ensures later { R.fault_count report.old ≤ R.fault_count report.new }
-    ensures kept { OnOk result (R.fault_count report.new ≡ R.fault_count report.old) }
-{
-    let Ok(()) = lines.next(report) else {
-        return Err(Stop::Unread);
-    };
-    let text = lines.line();
-    if text == b"norm 1\n".as_slice() {
-        Ok(Form::Version1)
-    } else if text == b"norm 2\n".as_slice() {
-        Ok(Form::Version2)
-    } else if text == b"norm 2 both\n".as_slice() {
-        Ok(Form::Both)
-    } else {
-        Err(Stop::Report(1))
-    }
-}
-
 // Returns a view before the first record.
 fn new_viewer(
     alloc: Global,
@@ -192,15 +156,10 @@ fn new_viewer(
         buffer: frame,
         count: 0,
     };
-    let held = Held {
-        octets: Vec::new(alloc),
-        time: 0,
-    };
     let files = Files {
         head: input.head(),
         input,
         buffer,
-        held,
         count: 0,
         frames,
     };
@@ -209,13 +168,17 @@ fn new_viewer(
         form,
         lines,
         files,
-        judged: Judged {
-            number: 0,
-            side: None,
-            era: None,
-            dropped: false,
-            probe: false,
-            datagram: false,
+        held: Held {
+            octets: Vec::new(alloc),
+            time: 0,
+            judged: Judged {
+                number: 0,
+                side: None,
+                era: None,
+                dropped: false,
+                probe: false,
+                datagram: false,
+            },
         },
         owed: 0,
         second_count: 0,
@@ -250,9 +213,7 @@ fn view_entries<I: Source, O: Source, R: Source, K: Sink>(
     ensures out_later { K.fault_count out.old ≤ K.fault_count out.new }
     ensures out_kept { OnOk result (K.fault_count out.new ≡ K.fault_count out.old) }
 {
-    'entries: while let Some(entry) = next_entry(viewer, report)? {
-        take(alloc, viewer, &entry, input, output, out)?;
-    }
+    'entries: while step(alloc, viewer, input, output, report, out)? {}
     let count = viewer.files.count + viewer.second_count;
     check_ends(
         &mut viewer.files,
@@ -265,29 +226,56 @@ fn view_entries<I: Source, O: Source, R: Source, K: Sink>(
     close(alloc, viewer, out)
 }
 
-// Reads the next entry of the report, or its last line, which ends a run with as many records and
-// frames as were read.
-fn next_entry<R: Source>(viewer: &mut Viewer, report: &mut R) -> Result<Option<Entry>, Stop>
-    requires few { viewer.old.files.count < 2 ^ 32 }
-    requires few_seconds { viewer.old.second_count < 2 ^ 32 }
-    requires few_frames { viewer.old.files.frames.count ≤ 255 * lines_in viewer.old }
-    ensures told { IfOk result (λ told. MatchOption told
-        (ToldEnd (turn_in viewer.new) (left_in viewer.old.lines (R.left report.old)) (left_in viewer.new.lines (R.left report.new)))
-        (λ entry. ToldNext (version_of_form viewer.new.form) (turn_in viewer.new) (left_in viewer.old.lines (R.left report.old)) (left_in viewer.new.lines (R.left report.new)) (plain entry))) }
-    ensures same { viewer.new ≡ record viewer.old { lines = viewer.new.lines } }
-    ensures stops { IfErr result (NextStops (version_of_form viewer.new.form) (turn_in viewer.new) (lines_in viewer.new) (left_in viewer.old.lines (R.left report.old))
-        (R.fault_count report.old) (R.fault_count report.new)) }
-    ensures later { R.fault_count report.old ≤ R.fault_count report.new }
-    ensures kept { OnOk result (R.fault_count report.new ≡ R.fault_count report.old) }
+// Takes the next line of the report: that of an entry, and returns true, or the last one of a run
+// with as many records and frames as were read, and returns false.
+fn step<I: Source, O: Source, R: Source, K: Sink>(
+    alloc: Global,
+    viewer: &mut Viewer,
+    input: &mut I,
+    output: &mut O,
+    report: &mut R,
+    out: &mut K,
+) -> Result<bool, Stop>
+    requires may { MayTake viewer.old }
+    ensures going { IfOk result (λ more. (head : Head) (before : Ends) (told : Option (List ℕ)) →
+        Going viewer.old head before (ends_of (I.left input.old) (O.left output.old) (K.held out.old)) told (left_in viewer.old.lines (R.left report.old)) →
+        StepsTo more viewer.new head before (ends_of (I.left input.new) (O.left output.new) (K.held out.new)) told
+        (left_in viewer.old.lines (R.left report.old)) (left_in viewer.new.lines (R.left report.new))) }
+    ensures may { OnOk result (MayTake viewer.new) }
+    ensures fewer { IfOk result (λ more. more ≡ true → lines_in viewer.new ≡ lines_in viewer.old + 1) }
+    ensures same { OnOk result (IsSameRun viewer.old viewer.new) }
+    ensures stops { IfErr result (λ stop. (head : Head) (before : Ends) (told : Option (List ℕ)) →
+        Going viewer.old head before (ends_of (I.left input.old) (O.left output.old) (K.held out.old)) told (left_in viewer.old.lines (R.left report.old)) →
+        EntriesStop viewer.old.asked (sources_of before.read before.written told) viewer.old.form viewer.old.files.head head before.printed (K.held out.new)
+        (counts_of (I.fault_count input.old) (O.fault_count output.old) (R.fault_count report.old) (K.fault_count out.old))
+        (counts_of (I.fault_count input.new) (O.fault_count output.new) (R.fault_count report.new) (K.fault_count out.new)) stop) }
+    ensures input_later { I.fault_count input.old ≤ I.fault_count input.new }
+    ensures input_kept { OnOk result (I.fault_count input.new ≡ I.fault_count input.old) }
+    ensures output_later { O.fault_count output.old ≤ O.fault_count output.new }
+    ensures output_kept { OnOk result (O.fault_count output.new ≡ O.fault_count output.old) }
+    ensures report_later { R.fault_count report.old ≤ R.fault_count report.new }
+    ensures report_kept { OnOk result (R.fault_count report.new ≡ R.fault_count report.old) }
+    ensures out_later { K.fault_count out.old ≤ K.fault_count out.new }
+    ensures out_kept { OnOk result (K.fault_count out.new ≡ K.fault_count out.old) }
 {
-    let lines = viewer.files.count + viewer.second_count;
+    let number = viewer.files.count + viewer.second_count + 2;
     let Ok(()) = viewer.lines.next(report) else {
         return Err(Stop::Unread);
     };
-    match line_told(viewer.lines.line(), version_of(viewer.form), turn(viewer)) {
-        Told::Entry(entry) => Ok(Some(entry)),
-        Told::End => Ok(None),
-        Told::Amiss => Err(Stop::Report(lines + 2)),
+    let turn = turn(viewer);
+    let text = viewer.lines.line();
+    // An entry is large: it is borrowed here and not moved.
+    let told = read_entry(entry_part(text, turn.second), version_of(viewer.form));
+    match &told {
+        Some(entry) => {
+            if u64::from(entry.number) != turn.done + 1 {
+                return Err(Stop::Report(number));
+            }
+            take(alloc, viewer, entry, input, output, out)?;
+            Ok(true)
+        }
+        None if is_last(text, turn) => Ok(false),
+        None => Err(Stop::Report(number)),
     }
 }
 
@@ -373,16 +361,40 @@ fn take_first<I: Source, O: Source, K: Sink>(
     ensures out_later { K.fault_count out.old ≤ K.fault_count out.new }
     ensures out_kept { OnOk result (K.fault_count out.new ≡ K.fault_count out.old) }
 {
-    read_record(&mut viewer.files, input)?;
+    let files = &mut viewer.files;
+    let Some(record) = next_record(&mut files.input, input, &mut files.buffer[..])? else {
+        return Err(Stop::Record(files.count + 1));
+    };
+    files.count += 1;
+    let octets = record.bytes;
+    let time = time_of(files.head, record.seconds, record.fraction);
+    let original = Original {
+        link: files.head.link,
+        kinds: kinds_by(entry, false, false),
+        octets,
+    };
+    let mut gathered = nothing(alloc, original, is_of_era(None, entry));
     let packets = own_frames(viewer.form, entry.packets);
-    let kinds = kinds_by(entry, false, false);
-    let wanted = is_of_era(None, entry);
-    let gathered = read_frames(alloc, &mut viewer.files, packets, kinds, wanted, output)?;
-    let noted = noted_of(&viewer.files.held, &gathered);
-    viewer.tally.note(alloc, entry, noted)?;
-    viewer.judged = judged_by(entry);
+    gather(
+        alloc,
+        original,
+        packets,
+        &mut gathered,
+        &mut files.frames,
+        output,
+    )?;
+    viewer.tally.note(alloc, entry, time, &gathered)?;
     viewer.owed = answers(viewer.form, entry.packets);
-    print_chosen(alloc, viewer, false, entry, &gathered, out)
+    hold(viewer.owed, entry, octets, time, &mut viewer.held)?;
+    let shown = Shown {
+        second: false,
+        number: entry.number,
+        time,
+        link: files.head.link,
+        octets,
+        entry,
+    };
+    print_chosen(alloc, viewer.asked, shown, &gathered, out)
 }
 
 // Takes a line of the second engine.
@@ -410,62 +422,58 @@ fn take_second<O: Source, K: Sink>(
     ensures out_later { K.fault_count out.old ≤ K.fault_count out.new }
     ensures out_kept { OnOk result (K.fault_count out.new ≡ K.fault_count out.old) }
 {
-    let judged = viewer.judged;
     viewer.owed -= 1;
-    let kinds = second_kinds(entry, judged, viewer.owed);
-    let wanted = is_of_era(judged.era, entry);
-    let gathered = read_frames(
+    let held = &viewer.held;
+    let octets = held.octets.as_slice();
+    let original = Original {
+        link: viewer.files.head.link,
+        kinds: second_kinds(entry, held.judged, viewer.owed),
+        octets,
+    };
+    let mut gathered = nothing(alloc, original, is_of_era(held.judged.era, entry));
+    let frames = &mut viewer.files.frames;
+    gather(
         alloc,
-        &mut viewer.files,
+        original,
         entry.packets,
-        kinds,
-        wanted,
+        &mut gathered,
+        frames,
         output,
     )?;
-    let noted = noted_of(&viewer.files.held, &gathered);
-    viewer.tally.note_second(alloc, judged, entry, noted)?;
+    let tally = &mut viewer.tally;
+    tally.note_second(alloc, held.judged, entry, held.time, &gathered)?;
     viewer.second_count += 1;
-    print_chosen(alloc, viewer, true, entry, &gathered, out)
-}
-
-// Returns what is counted of a line, beside its entry.
-fn noted_of(held: &Held, gathered: &Gathered) -> Noted
-    ensures { result ≡ noted_from held.now gathered.now }
-{
-    Noted {
+    let shown = Shown {
+        second: true,
+        number: held.judged.number,
         time: held.time,
-        flow: gathered.flow,
-        octets: gathered.octets,
-    }
+        link: viewer.files.head.link,
+        octets,
+        entry,
+    };
+    print_chosen(alloc, viewer.asked, shown, &gathered, out)
 }
 
 // Prints a line if it is chosen.
+#[inline(always)]
 fn print_chosen<K: Sink>(
     alloc: Global,
-    viewer: &Viewer,
-    second: bool,
-    entry: &Entry,
+    asked: Asked,
+    shown: Shown<'_>,
     gathered: &Gathered,
     out: &mut K,
 ) -> Result<(), Stop>
-    ensures prints { OnOk result (Appends (K.held out.old) (K.held out.new) (if spec.is_printed viewer.now.asked (plain entry.now)
-        then spec.record_line viewer.now.asked.json (record_shown second viewer.now.judged viewer.now.files.head.link viewer.now.files.held entry.now gathered.now) else [])) }
+    ensures prints { OnOk result (Appends (K.held out.old) (K.held out.new) (if spec.is_printed asked (plain shown.entry.entry.now)
+        then spec.record_line asked.json (record_shown shown.entry.second shown.entry.number shown.entry.time shown.entry.link shown.entry.octets.now shown.entry.entry.now gathered.now) else [])) }
     ensures stops { IfErr result (PrintStops (K.held out.old) (K.held out.new) (K.fault_count out.old) (K.fault_count out.new)) }
     ensures later { K.fault_count out.old ≤ K.fault_count out.new }
     ensures kept { OnOk result (K.fault_count out.new ≡ K.fault_count out.old) }
 {
-    if !is_printed(viewer.asked, entry) {
-        return Ok(());
+    if is_printed(asked, shown.entry) {
+        print_record(alloc, asked.json, shown, gathered, out)
+    } else {
+        Ok(())
     }
-    let shown = Shown {
-        second,
-        judged: viewer.judged,
-        link: viewer.files.head.link,
-        held: &viewer.files.held,
-        entry,
-        gathered,
-    };
-    print_record(alloc, viewer.asked.json, shown, out)
 }
 
 // Prints what is printed at the end if no condition is given.

@@ -2,7 +2,7 @@ use Rattle.std.proofs.Common.{◌≡◌, ◌≤◌, ◌-◌, ◌^◌, []}
 use Rattle.pcap_file.specs.declared.head.Head.{Head}
 use Rattle.run_view.specs.Ahead.{left_in}
 use Rattle.run_view.specs.SoFar.{Ends, MayTake, SoFar, ends_of, lines_in}
-use Rattle.run_view.proofs.Going.{Going}
+use Rattle.run_view.specs.Going.{Going}
 use Rattle.run_view.proofs.viewer.view_entries.Given as goal
 
 abbrev pub invariant-entries : goal.invariant-entries

@@ -1,0 +1,31 @@
+-- How a view goes on by a line of the report (this project's profile). Items are a list with the newest at the head; `report` is what the report had left
+-- behind its first line, `left` what it had left before the line, and `next` what it has left behind it, where it tells them.
+use Rattle.std.specs.Prelude.{◌≡◌, ℕ, Bool, true, false, List, Option}
+use Rattle.std.specs.Io.KnownBytes.{Consumes}
+use Rattle.pcap_file.specs.declared.head.Head.{Head}
+use Rattle.run_view.specs.Items.{Item, lines_of, lines_text}
+use Rattle.run_view.specs.SoFar.{Ends, SoFar, turn_in}
+use Rattle.run_view.specs.Why.{ToldEnd}
+use Rattle.run_view.specs.declared.viewer.Viewer.{Viewer}
+
+-- some items were taken since the first line of the report, which told their lines
+pub record Going (viewer : Viewer) (head : Head) (before now : Ends) (report left : Option (List ℕ)) : Type 0 where
+  pub items : List Item
+  pub so_far : SoFar viewer head before now items
+  pub told : Consumes report left (lines_text (lines_of items))
+
+-- some items were taken, and then the last line of the report
+pub record HasEnded (viewer : Viewer) (head : Head) (before now : Ends) (report left next : Option (List ℕ)) : Type 0 where
+  pub going : Going viewer head before now report left
+  pub told : ToldEnd (turn_in viewer) left next
+
+-- the next line of the report was taken: that of an entry, or the last one
+abbrev pub StepsTo : (more : Bool) → (viewer : Viewer) (head : Head) (before now : Ends) (report left next : Option (List ℕ)) → Type 0
+StepsTo true viewer head before now report left next = Going viewer head before now report next
+StepsTo false viewer head before now report left next = HasEnded viewer head before now report left next
+
+-- the view is of the same run
+pub record IsSameRun (old new : Viewer) : Type 0 where
+  pub asked : new.asked ≡ old.asked
+  pub form : new.form ≡ old.form
+  pub head : new.files.head ≡ old.files.head
