@@ -37,20 +37,20 @@ pub record HasRing (links : List Links) (slots hub : ℕ) (nodes : List ℕ) : T
   pub past : slots ≤ hub
   pub hub_in : hub < length links
 
--- The links after the forward link of a node is changed.
+-- The links, with `after` as the node after `node`.
 abbrev pub with_after : List Links → ℕ → ℕ → List Links
 with_after links node after = slice_set links node (record (link_at links node) { after = after })
 
--- The links after the backward link of a node is changed.
+-- The links, with `before` as the node before `node`.
 abbrev pub with_before : List Links → ℕ → ℕ → List Links
 with_before links node before = slice_set links node (record (link_at links node) { before = before })
 
--- The links after this node is unlinked: its neighbours link to each other.
+-- The links without this node in its ring: its neighbours link to each other.
 abbrev pub unlinked : List Links → ℕ → List Links
 unlinked links node =
     with_before (with_after links (link_at links node).before (link_at links node).after) (link_at links node).after (link_at links node).before
 
--- The links after this node is linked in as the last before the hub.
+-- The links, with this node as the last before the hub.
 abbrev pub linked_last : List Links → ℕ → ℕ → List Links
 linked_last links hub node =
     with_before (slice_set (with_after links (link_at links hub).before node) node (record { before = (link_at links hub).before; after = hub })) hub node

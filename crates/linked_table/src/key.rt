@@ -31,7 +31,7 @@ impl<K: Key> Hashed<K> {
         Hashed { key, seed, hash }
     }
 
-    /// Returns the hash of the key under a seed, which is at hand if the seed is the same.
+    /// Returns the hash of the key under a seed: the stored one if it was made under this seed.
     pub(crate) fn hash_under(&self, seed: u64) -> u64
         ensures { result ≡ K.hash_of self.now.key seed }
     {

@@ -3,11 +3,11 @@
 //!
 //! Proved: every call of `LinkedTable` is the call on the list of its entries, least recently
 //! touched first, whatever the seed and the hash. `find` splits the list at the entry found. A full
-//! table returns the pair that does not fit. A value borrowed mutably ends as what was left in it.
-//! A `SlotList` is a list of slots: it is empty at opening, a slot is put last or taken out, no
-//! slot occurs twice, and the first is returned. `hash_words` is std's SipHash-1-3 over the seed
-//! and the two words. That words which share a bucket are hard to find without the seed is what
-//! SipHash is designed for; nothing here proves it.
+//! table returns the pair that does not fit. When a mutable borrow of a value ends, the table has
+//! the value last written through it. A `SlotList` is a list of slots: it is empty at opening, a
+//! slot is put last or taken out, no slot occurs twice, and the first is returned. `hash_words` is
+//! std's SipHash-1-3 over the seed and the two words. That words which share a bucket are hard to
+//! find without the seed is what SipHash is designed for; nothing here proves it.
 //!
 //! Choices: three vectors share the slot numbers: pairs, recency, and hash chains. Entries, free
 //! slots and buckets are rings closed by a hub, so linking and unlinking have no branch. There is

@@ -89,7 +89,8 @@ settings_of found prefixes =
 abbrev pub standard : List Prefix → PlainSettings
 standard prefixes = settings_of (λ choice. None) prefixes
 
--- each number is in the range that its option has, and each prefix has at most 32 bits; a seed may be any number
+-- each number is in the range of its option, and each prefix has at most 32 bits; `hops` needs no lower bound, since the least value of its option is 0, and a
+-- seed may be any number
 pub record AreInRange (s : PlainSettings) : Type 0 where
   pub prefixes : All (λ prefix. prefix.len ≤ 32) s.prefixes
   pub hops : s.hops ≤ greatest_of (kind_of Hops)

@@ -8,7 +8,8 @@ use Rattle.rule_book.specs.declared.entry.Verdict.{Verdict}
 use Rattle.rule_book.specs.declared.rule.Rule.{Rule}
 use Rattle.wire_base.specs.declared.address.Side.{Side}
 
--- the entry of a record: its number, side and verdict, the number of frames written for it, the rules, and the eras that it belongs to, begins and ends
+-- the entry of a record: its number, side and verdict, the number of frames written for it, its rules in the order of the line, the era that its packet belongs
+-- to, the era that it began, and the eras that ended before or with it, in the order of their ends
 pub record PlainEntry : Type 0 where
   pub number : ℕ
   pub side : Option Side

@@ -134,7 +134,7 @@ is_noted _ = false
 abbrev pub notes_outbound : Rule → Bool
 notes_outbound rule = is_noted (line_of rule).kind
 
--- The rules that drop a packet are in one list a layer, each in the order of testing.
+-- The rules that drop a packet are in one list a layer, each in the order of testing. E_MTU, which drops a frame when it would be written, is in `cut_rows`.
 
 -- the drop rules on the link
 abbrev pub link_rows : List Rule
@@ -165,7 +165,7 @@ segment_rows = rules.TShort ∷ rules.THlen ∷ rules.TSum ∷ rules.TFlags ∷ 
 abbrev pub era_rows : List Rule
 era_rows = rules.TCold ∷ rules.TState ∷ rules.TSyn ∷ rules.TRst ∷ rules.TFull ∷ rules.TQuota ∷ rules.TRoom ∷ []
 
--- the rules that drop a packet, in the order of testing
+-- the rules that drop a packet before its frames are written, in the order of testing; E_MTU is not among them
 abbrev pub drop_rows : List Rule
 drop_rows = link_rows ++ header_rows ++ protocol_rows ++ fragment_rows ++ datagram_rows ++ segment_rows ++ era_rows
 
@@ -183,7 +183,7 @@ step_rows =
     rules.TSumOut ∷ rules.TRes ∷ rules.TUrg ∷ rules.TOpt ∷ rules.TStrip ∷ rules.CProbe ∷ rules.TOld ∷ rules.TWindow ∷ rules.TTurn ∷ rules.TEnd ∷
     rules.TClash ∷ []
 
--- the rules of a frame that is too long for the link, which are named behind all others
+-- the rules of a frame that is too long for the link, which are named behind all others; E_MTU drops it
 abbrev pub cut_rows : List Rule
 cut_rows = rules.ECut ∷ rules.EMtu ∷ []
 

@@ -48,7 +48,7 @@ pub struct Ended {
     pub octets: Option<u64>,
 }
 
-/// Most rules that an engine names for a record; a frame that is too long for the link adds two.
+/// Most rules that an engine names for a record. With `--mtu` the entry may get two more: `ECut` and `EMtu`.
 pub const MAX_NAMED: usize = 14;
 
 /// The entry of one record.
@@ -141,7 +141,8 @@ fn put_front(line: &mut Line<'_>, entry: &Entry)
     line.small_number(entry.packets);
 }
 
-/// Writes the word for a side between two spaces. A text of constant length, of 1, 4 or 8 octets, is one store.
+/// Writes the word for a side between two spaces. A constant text of 4 octets is written by one store, so ` out ` is
+/// written as 4 octets and 1.
 fn put_side(line: &mut Line<'_>, side: Option<Side>)
     requires { line.old.len + 5 ≤ length line.old.buf.now }
     ensures same_buffer { line.new.buf.ghost_name ≡ line.old.buf.ghost_name }

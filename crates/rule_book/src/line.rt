@@ -57,7 +57,7 @@ impl<'a> Line<'a> {
         self.len = put_octet(self.buf, self.len, octet);
     }
 
-    /// Appends a decimal number of at most 3 digits.
+    /// Appends an 8-bit number in decimal, at most 3 digits.
     #[tactic(auto, using(crate::proofs::DigitCounts::digit_counts))]
     pub fn small_number(&mut self, number: u8)
         requires { self.old.len + 4 ≤ length self.old.buf.now }
@@ -68,7 +68,7 @@ impl<'a> Line<'a> {
         self.len = put_decimal(self.buf, self.len, u64::from(number));
     }
 
-    /// Appends a decimal number of at most 10 digits.
+    /// Appends a 32-bit number in decimal, at most 10 digits.
     #[tactic(auto, using(crate::proofs::DigitCounts::digit_counts))]
     pub fn number(&mut self, number: u32)
         requires { self.old.len + 10 ≤ length self.old.buf.now }
@@ -79,7 +79,7 @@ impl<'a> Line<'a> {
         self.len = put_decimal(self.buf, self.len, u64::from(number));
     }
 
-    /// Appends a decimal number of at most 20 digits.
+    /// Appends a 64-bit number in decimal, at most 20 digits.
     #[tactic(auto, using(crate::proofs::DigitCounts::digit_counts))]
     pub fn long_number(&mut self, number: u64)
         requires { self.old.len + 20 ≤ length self.old.buf.now }
@@ -100,7 +100,7 @@ impl<'a> Line<'a> {
         self.len = put_word(self.buf, self.len, piece.as_bytes());
     }
 
-    /// Appends a space and a decimal number of at most 10 digits.
+    /// Appends a space and a 32-bit number in decimal, at most 10 digits.
     pub fn part_number(&mut self, number: u32)
         requires { self.old.len + 11 ≤ length self.old.buf.now }
         ensures same_buffer { self.new.buf.ghost_name ≡ self.old.buf.ghost_name }
@@ -111,7 +111,7 @@ impl<'a> Line<'a> {
         self.number(number);
     }
 
-    /// Appends a space and a decimal number of at most 20 digits.
+    /// Appends a space and a 64-bit number in decimal, at most 20 digits.
     pub fn part_long_number(&mut self, number: u64)
         requires { self.old.len + 21 ≤ length self.old.buf.now }
         ensures same_buffer { self.new.buf.ghost_name ≡ self.old.buf.ghost_name }

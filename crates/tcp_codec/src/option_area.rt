@@ -56,8 +56,8 @@ pub fn size_at(area: &[u8], at: usize) -> usize
 }
 
 /// Returns the shift count, at most 14, of the first window scale option of length 3 before the end
-/// option (RFC 7323 section 2). Counts the options, so that the compiler sees that the loop ends, and
-/// leaves it out where the shift count is not used.
+/// option (RFC 7323 section 2). Counts the options so that the compiler sees that the loop ends: it
+/// then removes a call whose result is not used.
 pub fn scale_of(options: &[u8]) -> Option<u8>
     requires { spec.are_well_formed options.now ≡ true }
     ensures { result ≡ spec.scale_of options.now }
@@ -76,8 +76,8 @@ pub fn scale_of(options: &[u8]) -> Option<u8>
     None
 }
 
-/// Returns the length in octets of the option or no-operation at the offset `at`, where at least two
-/// octets are left.
+/// Returns the length in octets of the option or no-operation at the offset `at`, where at least
+/// two octets are left. It must not be the end option.
 pub fn step_at(area: &[u8], at: usize) -> usize
     requires formed { spec.are_well_formed (drop at area.now) ≡ true }
     requires begins { at + 2 ≤ length area.now }

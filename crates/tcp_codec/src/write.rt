@@ -60,7 +60,8 @@ pub fn write_segment(parts: &SegmentParts, payload: &[u8], buf: &mut [u8]) -> us
 }
 
 /// Writes a segment as `write_segment` does, with the options of `area`, as `clean_options` cleans
-/// them, instead of those of the parts.
+/// them, instead of those of the parts. `syn` alone decides which options are kept, and no clause
+/// ties it to the parts: the caller must give the SYN flag of their flags.
 pub fn write_cleaned(
     parts: &SegmentParts,
     area: &[u8],

@@ -68,7 +68,7 @@ abbrev pub by_word : (second : Bool) → List ℕ
 by_word false = codes "first"
 by_word true = codes "second"
 
--- the number of the line itself: that of the record, or of the second engine its own
+-- the number of the line in the report: `own` on a line of the second engine, else the record's number
 abbrev pub line_number : (second : Bool) → (record_number own : ℕ) → ℕ
 line_number false record_number own = record_number
 line_number true record_number own = own
@@ -137,11 +137,11 @@ payload_members change =
     ∷ (codes "replaced", array_of replaced_data change.replaced)
     ∷ []
 
--- what a frame is that norm made itself
+-- the description of a frame that norm made itself
 abbrev pub made_members : Made → Option Flow → (octets : ℕ) → List Member
 made_members kind flow octets = (codes "field", string (made_word kind)) ∷ (codes "len", count octets) ∷ flow_members flow
 
--- what differs in a field, or what a frame is that norm made itself
+-- what differs in a field or a payload, or the description of a frame that norm made itself
 abbrev pub change_members : PlainChange → List Member
 change_members (in_field frame field from to) =
     (codes "frame", count frame)
@@ -178,7 +178,7 @@ frames_members r =
 abbrev pub record_members : PlainRecord → List Member
 record_members r = front_members r ++ ends_members r.flow ++ flow_members r.flow ++ entry_members r.entry ++ frames_members r
 
--- the time of a record of an era that has so many; null where it has none
+-- this time of an era with this number of records; null if it has none
 abbrev pub era_time : (records time : ℕ) → Data
 era_time records time = if records == 0 then null else string (time_text time)
 

@@ -27,7 +27,7 @@ line_end = 10 ∷ []
 abbrev pub counted : (word : List ℕ) → ℕ → List ℕ
 counted word n = part word ++ part (decimal n)
 
--- the number of a record; of the second engine also that of the line, behind `/`
+-- the number of a record; on a line of the second engine also the number of the line, behind `/`
 abbrev pub number_text : (second : Bool) → (number own : ℕ) → List ℕ
 number_text false number own = decimal number
 number_text true number own = decimal number ++ codes "/" ++ decimal own
@@ -81,7 +81,7 @@ era_part (Some era) = counted (codes "era") era
 abbrev pub rule_text : Rule → List ℕ
 rule_text rule = rule_name rule ++ codes " (" ++ sentence rule ++ codes ")"
 
--- each rule so, behind a space
+-- each rule and what it says, behind a space
 abbrev pub rules_text : List Rule → List ℕ
 rules_text rules = flat_map (λ rule. part (rule_text rule)) rules
 
@@ -113,19 +113,19 @@ made_word Datagram = codes "datagram"
 abbrev pub made_text : Made → Option Flow → (octets : ℕ) → List ℕ
 made_text kind flow octets = made_word kind ++ protocol_parts flow ++ counted (codes "len") octets
 
--- what differs in a field, or what a frame is that norm made itself
+-- what differs in a field or a payload, or the description of a frame that norm made itself
 abbrev pub change_text : PlainChange → List ℕ
 change_text (in_field frame field from to) = field_name field ++ part (value_text from) ++ codes " > " ++ value_text to
 change_text (in_payload frame change) = payload_text change
 change_text (in_made frame kind flow octets) = made_text kind flow octets
 
--- the frame that a change is of
+-- the number of the changed frame
 abbrev pub frame_of : PlainChange → ℕ
 frame_of (in_field frame field from to) = frame
 frame_of (in_payload frame change) = frame
 frame_of (in_made frame kind flow octets) = frame
 
--- what a change begins with: that it is one more of a frame, or the first of another
+-- what precedes a change of `frame`, where the change before it is one of the frame `before`: a comma for the same frame, else the number of the frame
 abbrev pub lead_text : (before frame : ℕ) → List ℕ
 lead_text before frame = if before == frame then codes ", " else codes "; frame " ++ decimal frame ++ codes " "
 
@@ -158,7 +158,7 @@ abbrev pub era_name : (second : Bool) → (era : ℕ) → List ℕ
 era_name false era = codes "era " ++ decimal era
 era_name true era = codes "era second " ++ decimal era
 
--- the time of a record of an era that has so many; `-` where it has none
+-- this time of an era with this number of records; `-` if it has none
 abbrev pub era_time : (records time : ℕ) → List ℕ
 era_time records time = if records == 0 then codes "-" else time_text time
 
@@ -174,12 +174,12 @@ counts_text name counts =
     name ++ counted (codes "pass") counts.pass ++ counted (codes "fix") counts.fix ++ counted (codes "hold") counts.hold ++ counted (codes "drop") counts.drop
     ++ line_end
 
--- the same by side
+-- how many lines have each verdict, by side
 abbrev pub sides_text : (name : List ℕ) → Sides → List ℕ
 sides_text name sides =
     counts_text (name ++ codes "in") sides.inward ++ counts_text (name ++ codes "out") sides.outward ++ counts_text (name ++ codes "-") sides.neither
 
--- the same of the second engine, where there is one
+-- how many lines of the second engine have each verdict, by side, where there is one
 abbrev pub second_text : Option Sides → List ℕ
 second_text None = []
 second_text (Some sides) = sides_text (codes "second ") sides
@@ -188,7 +188,7 @@ second_text (Some sides) = sides_text (codes "second ") sides
 abbrev pub rule_line : RuleCount → List ℕ
 rule_line count = codes "rule" ++ counted (rule_name count.rule) count.lines ++ codes " (" ++ sentence count.rule ++ codes ")" ++ line_end
 
--- how many eras there are, and how many ended so
+-- how many eras there are, how many are live, and how many ended for each reason
 abbrev pub eras_line : EraCounts → List ℕ
 eras_line eras =
     codes "eras " ++ decimal eras.all ++ counted (codes "live") eras.live ++ counted (codes "reset") eras.reset ++ counted (codes "evicted") eras.evicted

@@ -70,7 +70,7 @@ pub fn made_word(kind: Made) -> &'static str
     }
 }
 
-// Writes what a frame is that norm made itself.
+// Writes the description of a frame that norm made itself.
 fn put_made(text: &mut String, kind: Made, flow: Option<Flow>, length: u64) -> Result<(), NoMemory>
     ensures { OnOk result (string_bytes text.new ≡ string_bytes text.old ++ spec.made_text kind flow length) }
 {
@@ -79,7 +79,7 @@ fn put_made(text: &mut String, kind: Made, flow: Option<Flow>, length: u64) -> R
     put_counted(text, "len", length)
 }
 
-// Writes what differs in a field, or what a frame is that norm made itself.
+// Writes what differs in a field or a payload, or the description of a frame that norm made itself.
 fn put_change(text: &mut String, change: &Change) -> Result<(), NoMemory>
     ensures { OnOk result (string_bytes text.new ≡ string_bytes text.old ++ spec.change_text (changes.plain change.now)) }
 {
@@ -106,7 +106,7 @@ fn put_change(text: &mut String, change: &Change) -> Result<(), NoMemory>
     }
 }
 
-// Returns the number of the frame that a change is of.
+// Returns the number of the changed frame.
 fn number_of(change: &Change) -> u32
     ensures { result ≡ spec.frame_of (changes.plain change.now) }
 {
@@ -117,7 +117,7 @@ fn number_of(change: &Change) -> u32
     }
 }
 
-// Writes what a change begins with, behind one of another frame.
+// Writes what precedes a change of `frame` if the change before it is one of the frame `before`.
 fn put_lead(text: &mut String, before: u32, frame: u32) -> Result<(), NoMemory>
     ensures { OnOk result (string_bytes text.new ≡ string_bytes text.old ++ spec.lead_text before frame) }
 {

@@ -46,7 +46,7 @@ fn put_names(text: &mut String, rules: &[Rule]) -> Result<(), NoMemory>
     Ok(())
 }
 
-// Writes the time of a record of an era that has so many records.
+// Writes this time of an era with this number of records; `-` if it has none.
 fn put_era_time(text: &mut String, records: u64, time: u64) -> Result<(), NoMemory>
     ensures { OnOk result (string_bytes text.new ≡ string_bytes text.old ++ part (spec.era_time records time)) }
 {

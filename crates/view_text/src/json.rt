@@ -247,7 +247,7 @@ fn add_payload(alloc: Global, members: &mut Members, change: &PayloadChange) -> 
     Ok(())
 }
 
-// Adds what a frame is that norm made itself.
+// Adds the description of a frame that norm made itself.
 fn add_made(
     alloc: Global,
     members: &mut Members,
@@ -262,7 +262,7 @@ fn add_made(
     add_flow(alloc, members, flow)
 }
 
-// Returns what differs in a field, or what a frame is that norm made itself.
+// Returns what differs in a field or a payload, or the description of a frame that norm made.
 fn change_value(alloc: Global, change: &Change) -> Result<Value, NoMemory>
     ensures { IfOk result (λ value. view value ≡ spec.change_data (changes.plain change.now)) }
 {
@@ -314,7 +314,8 @@ fn by_word(second: bool) -> &'static str
     if second { "second" } else { "first" }
 }
 
-// Returns the number of the line itself: that of the record, or of the second engine its own.
+// Returns the number of the line in the report: `own` on a line of the second engine, else the
+// record's number.
 fn line_number(second: bool, number: u64, own: u32) -> u64
     ensures { result ≡ spec.line_number second number own }
 {
@@ -362,7 +363,7 @@ fn add_frames(alloc: Global, members: &mut Members, view: &RecordView<'_>) -> Re
     Ok(())
 }
 
-// Returns the text of an object behind which a line ends.
+// Returns the text of an object and a line feed.
 fn line_of(alloc: Global, members: Members) -> Result<String, NoMemory>
     requires { members_have_float (members_view members.entries) ≡ false }
     ensures { IfOk result (λ line. string_bytes line ≡ compact_text (object (members_view members.entries)) ++ line_end) }
@@ -393,7 +394,7 @@ pub fn record_json(alloc: Global, view: &RecordView<'_>) -> Result<String, NoMem
     line_of(alloc, members)
 }
 
-// Returns the time of a record of an era that has so many records, null where it has none.
+// Returns this time of an era with this number of records; null if it has none.
 fn era_time(alloc: Global, records: u64, time: u64) -> Result<Value, NoMemory>
     ensures { IfOk result (λ value. view value ≡ spec.era_time records time) }
 {

@@ -5,10 +5,10 @@
 //! memory could not be allocated. A time is the RFC 3339 text of the date that is counted off in
 //! the Gregorian calendar. `sentence_of` returns what each rule says.
 //!
-//! Choices: a JSON object has its members in the order of their names, and null where the text has
-//! a dash, but for the flags of a segment that has none set. Values of fields are texts in JSON too,
-//! as in the line. The members of a payload's change are counts, 0 where nothing is cut off or
-//! added.
+//! Choices: a JSON object has its members in the order of their names. Where the text has a dash it
+//! has null; the flags of a segment that has none set are a dash in both. Values of fields are
+//! texts in JSON too, as in the line. The members of a payload's change are counts, 0 where nothing
+//! is cut off or added.
 #![tactic(auto)]
 
 mod change;

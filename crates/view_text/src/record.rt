@@ -39,7 +39,7 @@ pub fn verdict_word(verdict: Verdict) -> &'static str
     }
 }
 
-// Writes the number of a record, and of the second engine that of the line.
+// Writes the number of a record; on a line of the second engine also the number of the line.
 fn put_numbers(text: &mut String, second: bool, number: u64, own: u32) -> Result<(), NoMemory>
     ensures { OnOk result (string_bytes text.new ≡ string_bytes text.old ++ spec.number_text second number own) }
 {
@@ -70,7 +70,7 @@ fn put_rule(text: &mut String, rule: Rule) -> Result<(), NoMemory>
     put_text(text, ")")
 }
 
-// Writes each rule so.
+// Writes each rule and what it says, behind a space.
 fn put_rules(text: &mut String, rules: &[Rule]) -> Result<(), NoMemory>
     ensures { OnOk result (string_bytes text.new ≡ string_bytes text.old ++ spec.rules_text rules.now) }
 {

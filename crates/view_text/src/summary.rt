@@ -22,7 +22,7 @@ fn put_counts(text: &mut String, front: &str, name: &str, counts: Counts) -> Res
     put_text(text, "\n")
 }
 
-// Writes the same by side.
+// Writes how many lines have each verdict, by side.
 fn put_sides(text: &mut String, front: &str, sides: Sides) -> Result<(), NoMemory>
     ensures { OnOk result (string_bytes text.new ≡ string_bytes text.old ++ spec.sides_text front.now sides) }
 {

@@ -9,8 +9,8 @@ use edge_io::NoMemory;
 use jiff_core::Timestamp;
 use jiff_fmt::temporal::DateTimePrinter;
 
-/// Writes the time so many nanoseconds after the beginning of 1970, in UTC with nine digits of a
-/// second.
+/// Writes the time that is this number of nanoseconds after the beginning of 1970, in UTC with nine
+/// digits of a second.
 pub fn put_time(text: &mut String, nanoseconds: u64) -> Result<(), NoMemory>
     ensures { OnOk result (string_bytes text.new ≡ string_bytes text.old ++ spec.time_text nanoseconds) }
 {
@@ -18,7 +18,7 @@ pub fn put_time(text: &mut String, nanoseconds: u64) -> Result<(), NoMemory>
     put_text(text, time.as_str())
 }
 
-/// Writes a space and that time.
+/// Writes a space and the time, as `put_time` writes it.
 pub fn put_time_part(text: &mut String, nanoseconds: u64) -> Result<(), NoMemory>
     ensures { OnOk result (string_bytes text.new ≡ string_bytes text.old ++ part (spec.time_text nanoseconds)) }
 {
@@ -26,7 +26,7 @@ pub fn put_time_part(text: &mut String, nanoseconds: u64) -> Result<(), NoMemory
     put_time(text, nanoseconds)
 }
 
-// Returns that time.
+// Returns the text of the time.
 fn time_of(nanoseconds: u64) -> ArrayString<33>
     ensures { result.bytes ≡ spec.time_text nanoseconds }
 {
@@ -35,7 +35,7 @@ fn time_of(nanoseconds: u64) -> ArrayString<33>
     printer.timestamp_text(timestamp)
 }
 
-// Returns the instant so many nanoseconds after the beginning of 1970.
+// Returns the instant this number of nanoseconds after the beginning of 1970.
 fn timestamp_of(nanoseconds: u64) -> Timestamp
     ensures { result.nanosecond ≡ pos nanoseconds }
 {

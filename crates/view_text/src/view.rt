@@ -10,8 +10,8 @@ pub struct RecordView<'a> {
     pub number: u64,
     /// The line is one of the second engine.
     pub second: bool,
-    /// The number of the line itself in the report; read of the second engine alone, since that of
-    /// the first is the record's.
+    /// The number of the line in the report. Used only on a line of the second engine: on a line of
+    /// the first it is the record's number.
     pub own: u32,
     /// In nanoseconds since the beginning of 1970.
     pub time: u64,
@@ -40,7 +40,8 @@ pub struct EraView<'a> {
     pub last: u64,
     /// The number of records that belong to it.
     pub records: u64,
-    /// The number of octets in its inbound TCP frames.
+    /// The number of TCP payload octets in the frames of its inbound records. Inbound is what the
+    /// engine of the era takes as inbound: for the second engine that is the other direction.
     pub octets: u64,
     /// Why it ended; None while it is live.
     pub end: Option<Reason>,
