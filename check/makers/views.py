@@ -266,8 +266,10 @@ def both_faults(rng, text):
     elif kind == 6:
         lines[0] = rng.choice(["norm 2", "norm 1", "norm 1 both", "norm 2 both ", "norm 2 Both"])
     else:
-        first = rng.choice([n for n, line in enumerate(lines[:-2]) if line[:1].isdigit()])
-        lines[first] = other_number(rng, lines[first])
+        firsts = [n for n, line in enumerate(lines[:-2]) if line[:1].isdigit()]
+        if firsts:
+            first = rng.choice(firsts)
+            lines[first] = other_number(rng, lines[first])
     return "\n".join(lines)
 
 
