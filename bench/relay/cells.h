@@ -1,7 +1,8 @@
 /* Octets by place, in cells of 256 that are linked by block. */
 
 struct cell { uint32_t next; uint64_t block, known[4]; uint8_t octets[CELL]; };
-struct pool { struct cell *cells; uint32_t spare, free; };
+/* The first `made` cells are in chains or in the free list; the others were never used. */
+struct pool { struct cell *cells; uint32_t spare, made, free; };
 
 /* The cells of one stream or datagram, by block; `near` is the one that was used last. */
 struct chain { uint32_t first, near, count; uint64_t octets; };
@@ -16,7 +17,8 @@ static void *room(size_t count, size_t size) {
 
 static void open_pool(struct pool *pool, uint32_t count) {
     pool->cells = room(count, sizeof *pool->cells);
-    for (uint32_t i = 0; i < count; i++) pool->cells[i].next = i + 1 < count ? i + 1 : NONE;
+    pool->spare = NONE;
+    pool->made = 0;
     pool->free = count;
 }
 
@@ -52,7 +54,8 @@ static struct cell *cell_for(struct pool *pool, struct chain *c, uint64_t block)
     uint32_t at;
     if (!seek(pool, c, block, &at)) {
         uint32_t id = pool->spare;
-        pool->spare = cells[id].next;
+        if (id != NONE) pool->spare = cells[id].next;
+        else id = pool->made++;
         pool->free--;
         c->count++;
         cells[id].block = block;
