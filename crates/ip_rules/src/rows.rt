@@ -93,15 +93,16 @@ fn judge_packet<'a>(
         Ok(head) => head,
         Err(fault) => return IpKind::Drop(None, rule_of(fault)),
     };
+    // Stored at once, so that no field waits in a register for the rules below.
+    packet.head = head;
     let side = match side_or_row(settings, given, head.src, head.dst) {
         Ok(side) => side,
         Err(rule) => return IpKind::Drop(None, rule),
     };
-    if let Some(rule) = content_row(&head, octets) {
+    if let Some(rule) = content_row(&packet.head, octets) {
         return IpKind::Drop(Some(side), rule);
     }
     packet.side = side;
-    packet.head = head;
     packet.frame = frame;
     read_packet(settings.hops, octets, packet)
 }
