@@ -19,6 +19,7 @@ use wire_base::{Side, protocol, pseudo_sum};
 
 /// Judges a packet that carries UDP by the first rule that holds; returns `Mend` if that is
 /// U_SUM_OUT.
+#[inline(never)]
 pub fn judge_udp(settings: &Settings, packet: &IpPacket<'_>) -> DgramJudged
     ensures { (header : List ℕ) → result ≡ spec.udp_judged (plain_settings settings.now) (datagram_with header packet.now) }
 {
@@ -54,6 +55,7 @@ fn is_offloaded(settings: &Settings, packet: &IpPacket<'_>) -> bool
 
 /// Judges a packet that carries ICMP by the first rule that holds. `live` says whether an era is
 /// live for the TCP connection that it quotes.
+#[inline(never)]
 pub fn judge_icmp(settings: &Settings, packet: &IpPacket<'_>, live: bool) -> DgramJudged
     requires prefixes { All (λ prefix. prefix.len ≤ 32) settings.now.prefixes.items }
     ensures { (header : List ℕ) → result ≡ spec.icmp_judged (plain_settings settings.now) live (datagram_with header packet.now) }

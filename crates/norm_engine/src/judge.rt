@@ -231,6 +231,7 @@ fn joined(answer: Answer, packet: &mut IpPacket<'_>) -> Decision
 }
 
 // Returns the answer to the datagram of a packet, and fills the header of its segment.
+#[inline(always)]
 fn judge_datagram(
     settings: &Settings,
     norm: &TcpNorm,
@@ -283,7 +284,9 @@ fn quotes_live(norm: &TcpNorm, message: &[u8]) -> bool
     })
 }
 
-// Fills the header of a TCP segment, or returns the first rule on it that holds.
+// Fills the header of a TCP segment, or returns the first rule on it that holds. Apart from the
+// step, as `judge_udp` is, so that each saves only the registers that it needs.
+#[inline(never)]
 fn read_segment(settings: &Settings, packet: &IpPacket<'_>, head: &mut Tcp) -> Answer
     requires { length packet.now.payload.now < 2 ^ 16 }
     ensures { (header : List ℕ) → spec.IsReadSegment (plain_settings settings.now) (datagram_with header packet.now) (judged_with head.new result) }

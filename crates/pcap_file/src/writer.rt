@@ -70,6 +70,7 @@ pub fn write_head<K: Sink>(sink: &mut K, head: &Head) -> Result<(), WriteFault>
 }
 
 /// Writes a record of these octets. Its captured and its original length are their number.
+#[inline(always)]
 pub fn write_record<K: Sink>(
     sink: &mut K,
     head: &Head,

@@ -22,6 +22,9 @@ count_is k n lo hi s =
     let most = length-decimal-le (suc k) n (omega arith) (omega (arith, tens, hi)) s in
     omega (arith, less, most)
 
+pub digit : (n : ℕ) → n < 10 → decimal n ≡ (48 + n) ∷ []
+digit n h = decimal_digit n h
+
 pub one_digit : (n : ℕ) → n < 10 → length (decimal n) ≡ 1
 one_digit n h = rw (decimal_digit n h) refl
 
@@ -35,4 +38,4 @@ some n h = length-decimal-le 10 n (omega arith) (omega arith) (omega arith)
 pub many : (n : ℕ) → n < 2 ^ 64 → length (decimal n) ≤ 20
 many n h = length-decimal-le 20 n (omega arith) (omega arith) h
 
-pub ruleset digit_counts = (count_is, one_digit, few, some, many)
+pub ruleset digit_counts = (count_is, digit, one_digit, few, some, many)

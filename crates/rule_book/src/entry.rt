@@ -103,6 +103,7 @@ impl Reason {
 
 /// Writes the line of an entry, with its line feed, in version 2 of the report: each ended era has its octets. Returns
 /// the length of the line in octets.
+#[inline(always)]
 pub fn entry_line(entry: &Entry, buf: &mut [u8]) -> usize
     requires octets { IsOfVersion 2 (plain entry.now) }
     requires room { 400 ≤ length buf.old }
@@ -113,6 +114,7 @@ pub fn entry_line(entry: &Entry, buf: &mut [u8]) -> usize
 }
 
 /// Writes the line of an entry of either version, with its line feed. Returns its length in octets.
+#[inline(always)]
 pub(crate) fn line_of(entry: &Entry, buf: &mut [u8]) -> usize
     requires { 400 ≤ length buf.old }
     ensures text { take result buf.new ≡ text.entry_text (plain entry.now) }

@@ -65,7 +65,11 @@ impl<'a> Line<'a> {
         ensures adds { Adds self.old self.new (decimal number) }
         ensures bound { self.new.len ≤ self.old.len + 3 }
     {
-        self.len = put_decimal(self.buf, self.len, u64::from(number));
+        if number < 10 {
+            self.octet(b'0' + number);
+        } else {
+            self.len = put_decimal(self.buf, self.len, u64::from(number));
+        }
     }
 
     /// Appends a 32-bit number in decimal, at most 10 digits.
@@ -91,6 +95,7 @@ impl<'a> Line<'a> {
     }
 
     /// Appends a space and a text.
+    #[inline(always)]
     pub fn part(&mut self, piece: &str)
         requires { self.old.len + 1 + length piece.now ≤ length self.old.buf.now }
         ensures same_buffer { self.new.buf.ghost_name ≡ self.old.buf.ghost_name }

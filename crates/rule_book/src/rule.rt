@@ -280,6 +280,7 @@ impl Rule {
     }
 
     /// Returns the name of the rule in the report, of at most 9 octets.
+    #[inline]
     pub fn name(self) -> &'static str
         ensures text { result.now ≡ rule_name self }
         ensures bound { length result.now ≤ 9 }
