@@ -171,13 +171,6 @@ impl Engine {
         ensures stands { (history : List Item) → StandsFor self.old history →
             StandsFor self.new (item_of self.old.settings self.old.link history (shown input.now) ∷ history) }
     {
-        packets_are_its_own();
-        out.clear();
-        self.latest = self.latest.max(input.seconds);
-        self.records += 1;
-        renew(entry, self.records);
-        self.norm.expire(self.latest, entry);
-        let _forgotten = self.pieces.expire(self.latest);
         // A copy of the record, whose octets live as long as the borrowed buffer.
         let record = Record {
             seconds: input.seconds,
@@ -187,13 +180,21 @@ impl Engine {
             side: input.side,
             bytes: input.bytes,
         };
-        let mut parsed = Parsed::unread(input.bytes);
+        let whole = &mut self.whole[..];
+        let mut parsed = Parsed::unread(record.bytes);
+        packets_are_its_own();
+        out.clear();
+        self.latest = self.latest.max(input.seconds);
+        self.records += 1;
+        renew(entry, self.records);
+        self.norm.expire(self.latest, entry);
+        let _forgotten = self.pieces.expire(self.latest);
         match judge(
             &self.settings,
             self.link,
             &self.norm,
             &mut self.pieces,
-            &mut self.whole[..],
+            whole,
             self.latest,
             &record,
             &mut parsed,
