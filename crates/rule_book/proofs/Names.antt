@@ -1,5 +1,5 @@
 -- A rule is found by its name.
-use Rattle.std.proofs.Common.{◌≡◌, ℕ, Bool, true, false, cond, List, [], ◌∷◌, Option, Some, refl, rules}
+use Rattle.std.proofs.Common.{◌≡◌, ◌≢◌, ℕ, Bool, true, false, cond, List, [], ◌∷◌, Option, Some, refl, rules}
 use Rattle.std.proofs.lemmas.Slice.Eq.{bytes_eq-Decides}
 use Rattle.std.specs.List.{find}
 use Rattle.std.specs.Str.{bytes_eq}
@@ -20,3 +20,11 @@ found_by_name rule = search rules
 
 pub named_is : (text : List ℕ) (rule : Rule) → rule_named text ≡ Some rule → rule_name rule ≡ text
 named_is text rule found = (bytes_eq-Decides (rule_name rule) text).0 (find_passes (λ r. bytes_eq (rule_name r) text) all_rules rule found)
+
+-- what is not true is false
+settled : (b : Bool) → b ≢ true → false ≡ b
+settled true apart = absurd (apart refl)
+settled false _ = refl
+
+pub unequal : (xs ys : List ℕ) → xs ≢ ys → false ≡ bytes_eq xs ys
+unequal xs ys apart = settled (bytes_eq xs ys) (λ equal. apart ((bytes_eq-Decides xs ys).0 equal))

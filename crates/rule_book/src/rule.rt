@@ -1,6 +1,7 @@
 //! The rules that an entry of the report may name.
 ghost use Rattle.std.specs.Prelude.{◌≡◌, ◌≤◌, ◌↔◌, length};
 ghost use Rattle.rule_book.specs.Rules.{rule_name, rule_number, sentence};
+ghost use Rattle.std.specs.Str.{bytes_eq};
 ghost use Rattle.rule_book.specs.declared.rule.Rule.{Rule};
 
 /// A rule: the reason why a packet is dropped (those up to `TRoom`, and `TQuota`, `EMtu`), or what becomes of one that
@@ -299,8 +300,23 @@ impl Rule {
     pub fn of_name(text: &[u8]) -> Option<Rule>
         ensures { (rule : Rule) → (result ≡ Some rule) ↔ (rule_name rule ≡ text.now) }
     {
-        ALL.iter()
-            .copied()
-            .find(|rule| rule.name().as_bytes() == text)
+        ALL.iter().copied().find(|rule| rule.has_name(text))
+    }
+
+    // Returns whether this is the name of the rule. Nearly all names are told apart by their length or
+    // their last octet, which needs no call.
+    #[inline(always)]
+    fn has_name(self, text: &[u8]) -> bool
+        ensures { result ≡ bytes_eq (rule_name self) text.now }
+    {
+        let name = self.name().as_bytes();
+        let size = name.len();
+        if size != text.len() {
+            return false;
+        }
+        if size > 0 && name[size - 1] != text[size - 1] {
+            return false;
+        }
+        name == text
     }
 }
