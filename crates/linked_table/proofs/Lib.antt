@@ -18,3 +18,4 @@ pub mod Opens
 pub mod Searches
 pub mod Scans
 pub mod Listings
+pub mod Hashes

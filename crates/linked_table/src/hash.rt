@@ -1,20 +1,35 @@
 //! The hash of two words under a seed.
-ghost use Rattle.std.specs.Prelude.{◌≡◌};
-ghost use Rattle.linked_table.specs.Hashes.{hash_of_words};
+ghost use Rattle.std.specs.Prelude.{◌≡◌, ◌<◌, ◌^◌};
+ghost use Rattle.linked_table.specs.Hashes.{folded, hash_of_words};
 
-use std::hash::{DefaultHasher, Hasher};
+// A prime, and a power of two less one: 2^61 is 1 modulo it.
+const PRIME: u64 = (1 << 61) - 1;
 
-/// Returns the hash of two words under a seed, by std's SipHash-1-3. SipHash is designed so that
-/// words which share a bucket are hard to find without the seed; nothing here proves it.
+// Adds the bits from 61 on to those below: the number is the same modulo `PRIME`.
+#[inline(always)]
+fn fold(number: u128) -> u64
+    requires { number < 2 ^ 123 }
+    ensures { result ≡ folded number }
+{
+    (number % (1 << 61)) as u64 + (number >> 61) as u64
+}
+
+/// Returns the hash of two words under a seed: the value of the polynomial
+/// `first * x^2 + second * x` modulo 2^61 - 1 at a point x below 2^60 that the seed chooses.
+/// Two different pairs of words below 2^61 - 1 have the same hash at no more than two of the
+/// points, since a polynomial of degree two has at most two roots (Carter and Wegman, "Universal
+/// classes of hash functions", 1979). So pairs that share a bucket cannot be chosen without the
+/// seed; nothing here proves it.
+#[inline]
 pub fn hash_words(seed: u64, first: u64, second: u64) -> u64
     ensures { result ≡ hash_of_words seed first second }
 {
-    let words = [
-        seed.to_le_bytes(),
-        first.to_le_bytes(),
-        second.to_le_bytes(),
-    ];
-    let mut hasher = DefaultHasher::new();
-    hasher.write(words.as_flattened());
-    hasher.finish()
+    // The folds of words that the caller is seen to keep below 2^61 cost nothing.
+    let first = u128::from(fold(u128::from(first)));
+    let second = u128::from(fold(u128::from(second)));
+    let point = u128::from(seed.wrapping_add(0x9e37_79b9_7f4a_7c15) % (1 << 60));
+    let inner = u128::from(fold(first * point + second));
+    let outer = fold(inner * point);
+    // Below twice the prime, since the point is below 2^60.
+    if outer < PRIME { outer } else { outer - PRIME }
 }

@@ -6,8 +6,8 @@
 //! table returns the pair that does not fit. When a mutable borrow of a value ends, the table has
 //! the value last written through it. A `SlotList` is a list of slots: it is empty at opening, a
 //! slot is put last or taken out, no slot occurs twice, and the first is returned. `hash_words` is
-//! std's SipHash-1-3 over the seed and the two words. That words which share a bucket are hard to
-//! find without the seed is what SipHash is designed for; nothing here proves it.
+//! the value of a polynomial over its two words, modulo a prime, at a point that the seed chooses.
+//! That words which share a bucket are hard to choose without the seed is not proved.
 //!
 //! Choices: three vectors share the slot numbers: pairs, recency, and hash chains. Entries, free
 //! slots and buckets are rings closed by a hub, so linking and unlinking have no branch. There is

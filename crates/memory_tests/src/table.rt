@@ -143,10 +143,15 @@ fn a_pattern_of_calls_is_the_same_on_a_list(rt: HostRuntime) -> Result<(), Fail>
 
 #[test]
 fn a_hash_is_of_the_seed_and_both_words(rt: HostRuntime) {
-    // SipHash-1-3 with both keys 0 over the octets of the three words, lowest first, as computed by
-    // Rust's hasher.
-    assert_eq!(rt; hash_words(0, 0, 0), 0xf900_3207_cf9e_4d4c);
-    assert_eq!(rt; hash_words(7, 1, 2), 0xddbd_aa13_5600_06cd);
+    // first * x^2 + second * x modulo 2^61 - 1, where x is seed + 0x9e37_79b9_7f4a_7c15 modulo 2^60,
+    // as computed by Python.
+    assert_eq!(rt; hash_words(0, 1, 2), 0x0204_0b44_58eb_146e);
+    assert_eq!(rt; hash_words(7, 1, 2), 0x090c_b369_4efd_ddd9);
+    assert_eq!(rt; hash_words(7, 2, 1), 0x0772_f9a6_201c_475d);
+    assert_eq!(rt;
+        hash_words(u64::MAX, u64::MAX, u64::MAX - 1),
+        0x1557_d8ed_7e06_e52b
+    );
 }
 
 #[test]

@@ -1,10 +1,14 @@
-use Rattle.std.proofs.Common.{◌++◌, List, ℕ, ap, ap₂, ◌∙◌}
-use Rattle.std.specs.Hash.DefaultHasher.{write, finish}
-use Rattle.std.proofs.lemmas.List.{append-nil}
+use Rattle.std.proofs.Common.{◌≡◌, arith}
+use Rattle.linked_table.specs.Hashes.{point_of}
+use Rattle.linked_table.proofs.Hashes.{hash_low, hash_high}
 use Rattle.linked_table.proofs.hash.hash_words.Goals as goal
 
-pub returns : goal.returns
-returns c =
-    let joined = ap₂ (λ (a b : List ℕ). a ++ b) c.to_le_bytes.ensures
-    (ap₂ (λ (a b : List ℕ). a ++ b) c.to_le_bytes-2.ensures (append-nil c.to_le_bytes-3.result ∙ c.to_le_bytes-3.ensures)) in
-    c.finish.ensures ∙ ap finish (c.write.ensures ∙ ap₂ write c.new-hasher.ensures (c.as_flattened.ensures.value ∙ joined))
+pub returns-then-outer-lt-PRIME : goal.returns-then-outer-lt-PRIME
+returns-then-outer-lt-PRIME c =
+    let point : c.from-point.result ≡ point_of c.args.seed = omega arith in
+    hash_low _ _ _ c.ranges.seed.fits c.ranges.first.fits c.ranges.second.fits _ (cc) (omega arith)
+
+pub returns-else-outer-lt-PRIME : goal.returns-else-outer-lt-PRIME
+returns-else-outer-lt-PRIME c =
+    let point : c.from-point.result ≡ point_of c.args.seed = omega arith in
+    hash_high _ _ _ c.ranges.seed.fits c.ranges.first.fits c.ranges.second.fits _ (cc) (omega arith)
