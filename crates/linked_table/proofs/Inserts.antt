@@ -1,18 +1,18 @@
 -- A free slot is filled, and becomes the last of the list by recency and of the bucket of its key.
-use Rattle.std.proofs.Common.{◌≡◌, ◌≢◌, ℕ, ◌+◌, ◌<◌, ◌^◌, ◌%◌, inl, inr, Option, Some, None, List, [], ◌∷◌, ◌++◌, length, set, get_or, refl, sym, ap, subst, ◌∙◌, arith, length-append}
+use Rattle.std.proofs.Common.{◌≡◌, ◌≢◌, ℕ, ◌+◌, ◌<◌, inl, inr, Option, Some, None, List, [], ◌∷◌, ◌++◌, length, set, get_or, refl, sym, ap, subst, ◌∙◌, arith, length-append}
 use Rattle.std.proofs.lemmas.Bool.{cases_eq}
 use Rattle.std.proofs.lemmas.List.{get_or_default}
 use Rattle.std.proofs.lemmas.List.Elements.{All-from_recursion, recursion_from_All}
 use Rattle.linked_table.specs.declared.ring.Links.{Links}
 use Rattle.linked_table.specs.Rings.{link_at, In, IsRing, HasRing, unlinked, linked_last}
-use Rattle.linked_table.specs.Sound.{slot_of, pair_at, bucket_at, cons_entry, entries_of, table_of, IsSound, IsKept}
+use Rattle.linked_table.specs.Sound.{bucket_number, slot_of, pair_at, bucket_at, cons_entry, entries_of, table_of, IsSound, IsKept}
 use Rattle.linked_table.specs.Table.{Table, Entry, HasNone, IsNotIn}
 use Rattle.linked_table.proofs.Members.{In-append_cases, In-append_left, In-append_right, In-whole}
 use Rattle.linked_table.proofs.Rings.{last_splits}
 use Rattle.linked_table.proofs.Hubs.{cut_slot, cut_inside, cut_before_inside, cut_after_inside, cut_gone, HasRing-cut, HasRing-cut_other, push_inside, push_last_inside, HasRing-push, HasRing-push_other, length-push}
 use Rattle.linked_table.proofs.Entries.{entry, entries-append, entries-kept, all_entries, each_entry}
 use Rattle.linked_table.proofs.Tables.{walk_ring, entries_are, max_is, len_is}
-use Rattle.linked_table.proofs.Slots.{same_key, Writes, writes, Changes, changes}
+use Rattle.linked_table.proofs.Slots.{bucket_below, same_key, Writes, writes, Changes, changes}
 
 module _ {K V : Type 0} (hash : K → ℕ) (pairs : List (Option (K × V))) (recency chains : List Links) (len : ℕ) (sound : IsSound hash pairs recency chains len) where
   module _ (table : Table K V) (is : table_of pairs recency len ≡ table) where
@@ -53,9 +53,6 @@ module _ {K V : Type 0} (hash : K → ℕ) (pairs : List (Option (K × V))) (rec
   module _ (s : ℕ) (at : IsSpare s) where
     pub spare_slot : s < length pairs
     spare_slot = cut_slot recency (length pairs) (length pairs + 1) at.front s [] at.has
-
-    pub spare_small : s < 2 ^ 32
-    spare_small = omega (arith, spare_slot, sound.room)
 
     pub spare_inside : s < length recency
     spare_inside = cut_inside recency (length pairs) (length pairs + 1) at.front s [] at.has
@@ -112,10 +109,10 @@ module _ {K V : Type 0} (hash : K → ℕ) (pairs : List (Option (K × V))) (rec
 
     module _ (key : K) (value : V) where
       abbrev pub b : ℕ
-      b = hash key % length sound.buckets
+      b = bucket_number (hash key) (length sound.buckets)
 
       in_range : b < length sound.buckets
-      in_range = omega (arith, sound.some_bucket)
+      in_range = bucket_below (hash key) (length sound.buckets) sound.some_bucket
 
       abbrev grown : List ℕ
       grown = bucket_at sound.buckets b ++ s ∷ []
@@ -191,7 +188,7 @@ module _ {K V : Type 0} (hash : K → ℕ) (pairs : List (Option (K × V))) (rec
       kept_else : (i : ℕ) (other : K) → IsKept hash sound.used sound.buckets i other → IsKept hash (sound.used ++ s ∷ []) new_buckets i other
       kept_else i other kept = record {
         used_in = In-append_left i sound.used (s ∷ []) kept.used_in;
-        bucket_in = rw bucket_changes.number (In-bucket_still (hash other % length sound.buckets) i kept.bucket_in);
+        bucket_in = rw bucket_changes.number (In-bucket_still (bucket_number (hash other) (length sound.buckets)) i kept.bucket_in);
       }
 
       pub insert_sound : ((i : ℕ) (other : K) (rest : V) → pair_at pairs i ≡ Some (other, rest) → other ≢ key) → IsSound hash (set pairs s (Some (key, value))) (linked_last (unlinked recency s) (length pairs) s) (linked_last chains (length pairs + b) s) (len + 1)
@@ -204,7 +201,7 @@ module _ {K V : Type 0} (hash : K → ℕ) (pairs : List (Option (K × V))) (rec
         bucket_rings = λ c below. rw pair_writes.number (chain_rings c (omega (arith, below, bucket_changes.number)));
         chain_nodes = omega (arith, length-push chains (length pairs) (length pairs + b) (bucket_at sound.buckets b) bucket_has s spare_slot (not_hashed b), sound.chain_nodes, pair_writes.number, bucket_changes.number);
         some_bucket = omega (arith, sound.some_bucket, bucket_changes.number);
-        room = omega (arith, sound.room, pair_writes.number);
+        room = omega (arith, sound.room, pair_writes.number, bucket_changes.number);
         used_count = pushed_count;
         total = omega (arith, sound.total, pair_writes.number, ap length at.free_is, length-append at.front (s ∷ []), length-append {A = ℕ} at.front []);
         bucket_total = omega (arith, bucket_changes.total, sound.bucket_total, length-append (bucket_at sound.buckets b) (s ∷ []));
@@ -226,7 +223,7 @@ module _ {K V : Type 0} (hash : K → ℕ) (pairs : List (Option (K × V))) (rec
                 key = key;
                 value = value;
                 pair = ap (pair_at new_pairs) same ∙ pair_writes.here;
-                bucket_is = ap (λ n. hash key % n) bucket_changes.number ∙ sym mine;
+                bucket_is = ap (λ n. bucket_number (hash key) n) bucket_changes.number ∙ sym mine;
               }
           | inr other ↦
               let hashed = sound.bucket_hashed c i (In-bucket_other c i other h) in
@@ -234,7 +231,7 @@ module _ {K V : Type 0} (hash : K → ℕ) (pairs : List (Option (K × V))) (rec
                 key = hashed.key;
                 value = hashed.value;
                 pair = pair_writes.else i other ∙ hashed.pair;
-                bucket_is = ap (λ n. hash hashed.key % n) bucket_changes.number ∙ hashed.bucket_is;
+                bucket_is = ap (λ n. bucket_number (hash hashed.key) n) bucket_changes.number ∙ hashed.bucket_is;
               }
         ];
         kept = λ i other rest pair. elim (cases_eq i s) [
@@ -266,14 +263,14 @@ module _ {K V : Type 0} (hash : K → ℕ) (pairs : List (Option (K × V))) (rec
   pub spare_read : (slots : ℕ) → slots ≡ length pairs → (s : ℕ) → s ≡ (link_at recency (slots + 1)).before → len ≢ slots → IsSpare s
   spare_read slots slots_is s s_is room = spare s (rw (← slots_is) s_is) (rw (← slots_is) room)
 
-  module _ (s : ℕ) (at : IsSpare s) (key : K) (value : V) (bucket : ℕ) (bucket_is : bucket ≡ hash key % length sound.buckets) (slots : ℕ) (slots_is : slots ≡ length pairs) where
-    pub chain_last_inside_read : (link_at chains (slots + bucket)).before < length chains
-    chain_last_inside_read = rw (slots_is, bucket_is) (chain_last_inside s at key value)
+  module _ (s : ℕ) (at : IsSpare s) (key : K) (value : V) (hub : ℕ) (hub_is : hub ≡ length pairs + bucket_number (hash key) (length sound.buckets)) where
+    pub chain_last_inside_read : (link_at chains hub).before < length chains
+    chain_last_inside_read = rw hub_is (chain_last_inside s at key value)
 
-    module _ (cut : List Links) (cut_is : cut ≡ unlinked recency s) (new : List Links) (new_is : new ≡ linked_last cut slots s) (place : Option (K × V)) (place_is : place ≡ Some (key, value)) (table : Table K V) (is : table_of pairs recency len ≡ table) where
-      pub insert_sound_read : HasNone table.entries key → (chain : List Links) → chain ≡ linked_last chains (slots + bucket) s → IsSound hash (set pairs s place) new chain (len + 1)
+    module _ (slots : ℕ) (slots_is : slots ≡ length pairs) (cut : List Links) (cut_is : cut ≡ unlinked recency s) (new : List Links) (new_is : new ≡ linked_last cut slots s) (place : Option (K × V)) (place_is : place ≡ Some (key, value)) (table : Table K V) (is : table_of pairs recency len ≡ table) where
+      pub insert_sound_read : HasNone table.entries key → (chain : List Links) → chain ≡ linked_last chains hub s → IsSound hash (set pairs s place) new chain (len + 1)
       insert_sound_read none chain chain_is =
-          rw (new_is, cut_is, chain_is, place_is, slots_is, bucket_is) (insert_sound s at key value (absent_of table is key none))
+          rw (new_is, cut_is, chain_is, place_is, slots_is, hub_is) (insert_sound s at key value (absent_of table is key none))
 
       pub insert_seen_read : table_of (set pairs s place) new (len + 1) ≡ record table { entries = table.entries ++ record { slot = slot_of s; key = key; value = value } ∷ [] }
       insert_seen_read = rw (new_is, cut_is, place_is, slots_is) (insert_seen s at key value table is)

@@ -115,7 +115,7 @@ module _ (links : List Links) (max : ℕ) (t : IsThreaded links max) where
     taken = elim (t.either s small) [ inl h ↦ out_of_listed h | inr h ↦ out_of_others h ]
 
 -- the slot that is in neither ring is linked into one
-module _ (links : List Links) (max s : ℕ) (slots : List Slot) (small : s < max) (room : max < 2 ^ 32) (o : IsOut links max s slots) where
+module _ (links : List Links) (max s : ℕ) (slots : List Slot) (small : s < max) (room : max + 1 < 2 ^ 32) (o : IsOut links max s slots) where
   pub out_inside : s < length links
   out_inside = push_inside links max max o.listed o.listed_ring s small o.not_listed
 
@@ -185,7 +185,7 @@ from_or_after from node low = by (from == node) refl
     by false e = inr (let apart : from ≢ node = grind arith in omega (arith, low, apart))
 
 -- all slots are free
-module _ (links : List Links) (max : ℕ) (free : IsAllFree links max) (room : max < 2 ^ 32) where
+module _ (links : List Links) (max : ℕ) (free : IsAllFree links max) where
   in_range : (node from n : ℕ) → from ≤ node → node < from + n → In node (range_with_len from n)
   in_range node from zero low high = absurd (omega (arith, low, high))
   in_range node from (suc n) low high =
@@ -200,7 +200,7 @@ module _ (links : List Links) (max : ℕ) (free : IsAllFree links max) (room : m
     either = λ node below. inr (in_range node 0 max (omega arith) (omega (arith, below)));
     apart = λ node k m. absurd k;
     total = omega (arith, length-range_with_len 0 max);
-    room = room;
+    room = free.room;
   }
 
 -- the node after the hub, if these slots are listed

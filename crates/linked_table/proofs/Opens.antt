@@ -69,12 +69,12 @@ module _ (links : List Links) (slots n : ℕ) (freed : IsFreed links slots n) (b
         freed = rw more (HasRing-push links slots (slots + 1) (range_with_len 0 n) freed.freed n below not_freed);
       })
 
-pub freed_all : (links : List Links) (slots n : ℕ) → IsFreed links slots n → slots ≤ n → IsAllFree links slots
-freed_all links slots n freed over =
+pub freed_all : (links : List Links) (slots n : ℕ) → IsFreed links slots n → slots ≤ n → slots + 2 < 2 ^ 32 → IsAllFree links slots
+freed_all links slots n freed over room =
     let all : n ≡ slots = omega (arith, freed.some) in
-    record { none_used = freed.none_used; all_free = subst (λ k. HasRing links slots (slots + 1) (range_with_len 0 k)) all freed.freed }
+    record { none_used = freed.none_used; all_free = subst (λ k. HasRing links slots (slots + 1) (range_with_len 0 k)) all freed.freed; room = omega (arith, room) }
 
-module _ {K V : Type 0} (hash : K → ℕ) (max : ℕ) (small : max < 2 ^ 32) (pairs : List (Option (K × V))) (pairs_are : pairs ≡ replicate max None) (recency chains : List Links) (all_free : IsAllFree recency max) (chains_are : chains ≡ map lone (range_with_len 0 (2 * max + 1))) where
+module _ {K V : Type 0} (hash : K → ℕ) (max : ℕ) (small : 2 * max + 1 < 2 ^ 32) (pairs : List (Option (K × V))) (pairs_are : pairs ≡ replicate max None) (recency chains : List Links) (all_free : IsAllFree recency max) (chains_are : chains ≡ map lone (range_with_len 0 (2 * max + 1))) where
   slots : length pairs ≡ max
   slots =
       let none : Option (K × V) = None in
@@ -96,7 +96,7 @@ module _ {K V : Type 0} (hash : K → ℕ) (max : ℕ) (small : max < 2 ^ 32) (p
         bucket_rings = λ b below. rw (slots, chains_are, get_or-replicate_default {A = List ℕ} (max + 1) b []) (HasRing-lone (2 * max + 1) max (max + b) (omega arith) (omega (arith, below, number)));
         chain_nodes = rw (chains_are, slots) (omega (arith, length-map-range_with_len lone 0 (2 * max + 1), number));
         some_bucket = omega (arith, number);
-        room = rw slots small;
+        room = rw slots (omega (arith, small, number));
         used_count = refl;
         total = rw slots (omega (arith, length-range_with_len 0 max));
         bucket_total = sum_by-replicate length (max + 1) [] ∙ omega arith;

@@ -1,8 +1,8 @@
 -- The value of an entry is replaced.
-use Rattle.std.proofs.Common.{◌≡◌, ◌≢◌, ℕ, ◌<◌, ◌%◌, inl, inr, Option, Some, None, List, [], ◌∷◌, length, set, refl, sym, ap, ◌∙◌, arith}
+use Rattle.std.proofs.Common.{◌≡◌, ◌≢◌, ℕ, ◌<◌, inl, inr, Option, Some, None, List, [], ◌∷◌, length, set, refl, sym, ap, ◌∙◌, arith}
 use Rattle.std.proofs.lemmas.Bool.{cases_eq, eq-eqb, ne_eqb}
 use Rattle.linked_table.specs.declared.ring.Links.{Links}
-use Rattle.linked_table.specs.Sound.{slot_of, pair_at, cons_entry, entries_of, table_of, IsSound}
+use Rattle.linked_table.specs.Sound.{bucket_number, slot_of, pair_at, cons_entry, entries_of, table_of, IsSound}
 use Rattle.linked_table.specs.Table.{Table, Entry, with_value}
 use Rattle.linked_table.proofs.Tables.{walk_ring, entries_are, max_is}
 use Rattle.linked_table.proofs.Slots.{same_key, Writes, writes}
@@ -56,7 +56,7 @@ module _ {K V : Type 0} (hash : K → ℕ) (pairs : List (Option (K × V))) (rec
             key = key;
             value = new;
             pair = ap (pair_at new_pairs) same ∙ pair_writes.here;
-            bucket_is = ap (λ k. hash k % length sound.buckets) (same_key key hashed.key value hashed.value (sym pair ∙ (ap (pair_at pairs) (sym same) ∙ hashed.pair))) ∙ hashed.bucket_is;
+            bucket_is = ap (λ k. bucket_number (hash k) (length sound.buckets)) (same_key key hashed.key value hashed.value (sym pair ∙ (ap (pair_at pairs) (sym same) ∙ hashed.pair))) ∙ hashed.bucket_is;
           }
           | inr ne ↦ record { key = hashed.key; value = hashed.value; pair = pair_writes.else i ne ∙ hashed.pair; bucket_is = hashed.bucket_is }
         ];

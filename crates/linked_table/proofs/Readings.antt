@@ -1,5 +1,5 @@
 -- What a read of a slot, or of the node of the hub, means for the entries.
-use Rattle.std.proofs.Common.{◌≡◌, ◌≢◌, ℕ, ◌<◌, ◌^◌, Option, Some, None, inl, List, [], ◌∷◌, length, get_or, refl, sym, ap, subst, ◌∙◌, arith}
+use Rattle.std.proofs.Common.{◌≡◌, ◌≢◌, ℕ, ◌<◌, Option, Some, None, inl, List, [], ◌∷◌, length, get_or, refl, sym, ap, subst, ◌∙◌, arith}
 use Rattle.std.proofs.lemmas.List.{get_or_default}
 use Rattle.std.proofs.lemmas.List.Elements.{All-from_recursion}
 use Rattle.linked_table.specs.declared.ring.Links.{Links}
@@ -67,7 +67,6 @@ module _ {K V : Type 0} (hash : K → ℕ) (pairs : List (Option (K × V))) (rec
   -- the node after the hub of the entries, if there are `slots` slots
   pub record ReadsFirst (slots node : ℕ) : Type 0 where
     pub none : node ≡ slots → None ≡ first_slot table.entries
-    pub small : node ≢ slots → node < 2 ^ 32
     pub some : node ≢ slots → Some (slot_of node) ≡ first_slot table.entries
     pub listed : node ≢ slots → IsIn table.entries (slot_of node)
 
@@ -77,7 +76,6 @@ module _ {K V : Type 0} (hash : K → ℕ) (pairs : List (Option (K × V))) (rec
       go : (nodes : List ℕ) → sound.used ≡ nodes → IsRing recency (length pairs) nodes (length pairs) → ReadsFirst (length pairs) (link_at recency (length pairs)).after
       go [] used_is ring = record {
         none = λ _. rw (entries_are hash pairs recency chains len sound table is, used_is) refl;
-        small = λ not_hub. absurd (not_hub ring.on);
         some = λ not_hub. absurd (not_hub ring.on);
         listed = λ not_hub. absurd (not_hub ring.on);
       }
@@ -87,7 +85,6 @@ module _ {K V : Type 0} (hash : K → ℕ) (pairs : List (Option (K × V))) (rec
           let inside = sound.used_ring.inside x within in
           record {
             none = λ hub_is. absurd (omega (arith, inside, ring.0.on, hub_is));
-            small = λ _. omega (arith, inside, ring.0.on, sound.room);
             some = λ _. rw (ring.0.on, entries_are hash pairs recency chains len sound table is, used_is, pair_is) refl;
             listed = λ _. rw ring.0.on (is_in x within);
           }

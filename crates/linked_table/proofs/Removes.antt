@@ -1,20 +1,20 @@
 -- An entry leaves the list by recency and its bucket, and its slot is free.
-use Rattle.std.proofs.Common.{◌≡◌, ◌≢◌, ℕ, ◌+◌, ◌-◌, ◌<◌, ◌%◌, inl, inr, Option, Some, None, List, [], ◌∷◌, ◌++◌, length, set, sym, ap, subst, ◌∙◌, arith, length-append}
+use Rattle.std.proofs.Common.{◌≡◌, ◌≢◌, ℕ, ◌+◌, ◌-◌, ◌<◌, inl, inr, Option, Some, None, List, [], ◌∷◌, ◌++◌, length, set, sym, ap, subst, ◌∙◌, arith, length-append}
 use Rattle.std.proofs.lemmas.Bool.{cases_eq}
 use Rattle.linked_table.specs.declared.ring.Links.{Links}
 use Rattle.linked_table.specs.Rings.{link_at, In, HasRing, unlinked, linked_last}
-use Rattle.linked_table.specs.Sound.{pair_at, bucket_at, table_of, IsSound}
+use Rattle.linked_table.specs.Sound.{bucket_number, pair_at, bucket_at, table_of, IsSound}
 use Rattle.linked_table.specs.Table.{Table, without}
 use Rattle.linked_table.proofs.Members.{In-splits, In-append_cases, In-whole, In-rest}
 use Rattle.linked_table.proofs.Hubs.{cut_inside, cut_before_inside, cut_after_inside, cut_gone, HasRing-cut, HasRing-cut_other, length-cut, push_inside, push_last_inside, HasRing-push, HasRing-push_other}
 use Rattle.linked_table.proofs.Entries.{entries-kept}
 use Rattle.linked_table.proofs.Tables.{walk_ring}
-use Rattle.linked_table.proofs.Slots.{same_key, Writes, writes, Changes, changes}
+use Rattle.linked_table.proofs.Slots.{bucket_below, same_key, Writes, writes, Changes, changes}
 use Rattle.linked_table.proofs.Touches.{IsPlaced, placed_cut, placed_cut_free, placed_slot, placed_gone, placed_without}
 
 module _ {K V : Type 0} (hash : K → ℕ) (pairs : List (Option (K × V))) (recency chains : List Links) (len : ℕ) (sound : IsSound hash pairs recency chains len) (s : ℕ) (at : IsPlaced hash pairs recency chains len sound s) where
   abbrev pub b : ℕ
-  b = hash at.key % length sound.buckets
+  b = bucket_number (hash at.key) (length sound.buckets)
 
   -- the slot, between those before it and after it in its bucket
   pub record IsChained : Type 0 where
@@ -24,7 +24,7 @@ module _ {K V : Type 0} (hash : K → ℕ) (pairs : List (Option (K × V))) (rec
     pub has : HasRing chains (length pairs) (length pairs + b) (left ++ s ∷ right)
 
   pub in_range : b < length sound.buckets
-  in_range = omega (arith, sound.some_bucket)
+  in_range = bucket_below (hash at.key) (length sound.buckets) sound.some_bucket
 
   pub chained : IsChained
   chained =
@@ -41,7 +41,7 @@ module _ {K V : Type 0} (hash : K → ℕ) (pairs : List (Option (K × V))) (rec
   not_elsewhere c ne h =
       let hashed = sound.bucket_hashed c s h in
       let key_is : at.key ≡ hashed.key = same_key at.key hashed.key at.value hashed.value (sym at.pair ∙ hashed.pair) in
-      ne (sym hashed.bucket_is ∙ ap (λ k. hash k % length sound.buckets) (sym key_is))
+      ne (sym hashed.bucket_is ∙ ap (λ k. bucket_number (hash k) (length sound.buckets)) (sym key_is))
 
   -- the node is linked in as the last before the hub of the free slots
   pub freed_node_inside : s < length (unlinked recency s)
@@ -131,7 +131,7 @@ module _ {K V : Type 0} (hash : K → ℕ) (pairs : List (Option (K × V))) (rec
     bucket_rings = λ c below. rw pair_writes.number (chain_rings c (omega (arith, below, bucket_changes.number)));
     chain_nodes = omega (arith, length-cut chains (length pairs) (length pairs + b) chained.left s chained.right chained.has, sound.chain_nodes, pair_writes.number, bucket_changes.number);
     some_bucket = omega (arith, sound.some_bucket, bucket_changes.number);
-    room = omega (arith, sound.room, pair_writes.number);
+    room = omega (arith, sound.room, pair_writes.number, bucket_changes.number);
     used_count = removed_count;
     total = omega (arith, sound.total, len_positive, pair_writes.number, length-append sound.free (s ∷ []));
     bucket_total = omega (arith, bucket_changes.total, sound.bucket_total, ap length chained.bucket_is, length-append chained.left (s ∷ chained.right), length-append chained.left chained.right);
@@ -153,14 +153,14 @@ module _ {K V : Type 0} (hash : K → ℕ) (pairs : List (Option (K × V))) (rec
           key = hashed.key;
           value = hashed.value;
           pair = pair_writes.else i old.0 ∙ hashed.pair;
-          bucket_is = ap (λ n. hash hashed.key % n) bucket_changes.number ∙ hashed.bucket_is;
+          bucket_is = ap (λ n. bucket_number (hash hashed.key) n) bucket_changes.number ∙ hashed.bucket_is;
         };
     kept = λ i key value pair.
         let old = still i key value pair in
         let kept = sound.kept i key value old.1 in
         record {
           used_in = elim (In-rest i s at.before at.after (subst (λ l. In i l) at.used_is kept.used_in)) [ inl same ↦ absurd (old.0 (sym same)) | inr rest ↦ rest ];
-          bucket_in = rw bucket_changes.number (In-bucket_still (hash key % length sound.buckets) i old.0 kept.bucket_in);
+          bucket_in = rw bucket_changes.number (In-bucket_still (bucket_number (hash key) (length sound.buckets)) i old.0 kept.bucket_in);
         };
     keys_apart = λ i j key value rest pair there. sound.keys_apart i j key value rest (still i key value pair).1 (still j key rest there).1;
   }

@@ -1,5 +1,5 @@
 -- The walk along the ring of the entries, from the least recently touched on.
-use Rattle.std.proofs.Common.{◌≡◌, ◌≢◌, ℕ, ◌-◌, ◌<◌, ◌^◌, Bool, true, false, inl, inr, Option, Some, None, List, [], ◌∷◌, ◌++◌, length, get_or, refl, sym, ap, subst, ◌∙◌, arith, append_assoc, append-nil}
+use Rattle.std.proofs.Common.{◌≡◌, ◌≢◌, ℕ, ◌-◌, ◌<◌, Bool, true, false, inl, inr, Option, Some, None, List, [], ◌∷◌, ◌++◌, length, get_or, refl, sym, ap, subst, ◌∙◌, arith, append_assoc, append-nil}
 use Rattle.std.specs.Borrow.{Bor}
 use Rattle.std.specs.Fn.{Shared}
 use Rattle.std.specs.List.{All, AllByRecursion}
@@ -113,6 +113,3 @@ module _ {K V F : Type 0} (calls : Shared F (Slot × (Bor V × Unit {0})) Bool) 
 
     pub passed_in : (node : ℕ) (key : K) (value : V) → pair_at pairs node ≡ Some (key, value) → IsIn table.entries (slot_of node)
     passed_in node key value pair = is_in hash pairs recency chains len sound table is node (sound.kept node key value pair).used_in
-
-    pub scan_small : (node : ℕ) → node < length pairs → node < 2 ^ 32
-    scan_small node inside = omega (arith, inside, sound.room)

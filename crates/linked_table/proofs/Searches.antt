@@ -1,5 +1,5 @@
 -- The walk along the ring of one bucket.
-use Rattle.std.proofs.Common.{◌≡◌, ◌≢◌, ℕ, ◌+◌, ◌-◌, ◌<◌, ◌≤◌, ◌^◌, ◌%◌, Bool, true, false, inl, inr, Option, Some, None, List, [], ◌∷◌, length, get_or, refl, sym, ap, subst, ◌∙◌, arith}
+use Rattle.std.proofs.Common.{◌≡◌, ◌≢◌, ℕ, ◌+◌, ◌-◌, ◌<◌, ◌≤◌, Bool, true, false, inl, inr, Option, Some, None, List, [], ◌∷◌, length, get_or, refl, sym, ap, subst, ◌∙◌, arith}
 use Rattle.std.specs.Cmp.{IsEquivalence}
 use Rattle.std.specs.List.{All}
 use Rattle.std.proofs.lemmas.List.{get_or_default}
@@ -8,12 +8,12 @@ use Rattle.std.proofs.lemmas.List.Sums.{sum_by-set}
 use Rattle.linked_table.specs.declared.ring.Links.{Links}
 use Rattle.linked_table.specs.declared.table.Slot.{Slot}
 use Rattle.linked_table.specs.Rings.{link_at, In, IsRing}
-use Rattle.linked_table.specs.Sound.{slot_of, pair_at, bucket_at, table_of, IsSound}
+use Rattle.linked_table.specs.Sound.{bucket_number, slot_of, pair_at, bucket_at, table_of, IsSound}
 use Rattle.linked_table.specs.Table.{Table, Entry, IsIn, HasNone, Wherever}
 use Rattle.linked_table.proofs.Entries.{all_entries, each_entry}
 use Rattle.linked_table.proofs.Readings.{is_in, wherever}
 use Rattle.linked_table.proofs.Tables.{entries_are}
-use Rattle.linked_table.proofs.Slots.{same_key}
+use Rattle.linked_table.proofs.Slots.{bucket_below, same_key}
 
 -- the walk is at a node: the slots left in the ring have pairs, and a slot that has the key is one of them
 pub record IsSearch {K V : Type 0} (pairs : List (Option (K × V))) (chains : List Links) (hub : ℕ) (key : K) (node left : ℕ) : Type 0 where
@@ -91,13 +91,13 @@ module _ {K V : Type 0} (pairs : List (Option (K × V))) (chains : List Links) (
       go (x ∷ xs) few = absurd (omega (arith, few, out))
 
 module _ {K V : Type 0} (hash : K → ℕ) (pairs : List (Option (K × V))) (recency chains : List Links) (len : ℕ) (sound : IsSound hash pairs recency chains len) (table : Table K V) (is : table_of pairs recency len ≡ table) (key : K) where
-  in_range : hash key % length sound.buckets < length sound.buckets
-  in_range = omega (arith, sound.some_bucket)
+  in_range : bucket_number (hash key) (length sound.buckets) < length sound.buckets
+  in_range = bucket_below (hash key) (length sound.buckets) sound.some_bucket
 
   -- the walk begins after the hub of the key's bucket
-  pub begins : (hub : ℕ) → hub ≡ length pairs + hash key % length sound.buckets → (node : ℕ) → node ≡ (link_at chains hub).after → IsSearch pairs chains hub key node len
+  pub begins : (hub : ℕ) → hub ≡ length pairs + bucket_number (hash key) (length sound.buckets) → (node : ℕ) → node ≡ (link_at chains hub).after → IsSearch pairs chains hub key node len
   begins hub hub_is node node_is =
-      let b = hash key % length sound.buckets in
+      let b = bucket_number (hash key) (length sound.buckets) in
       let has = sound.bucket_rings b in_range in
       rw hub_is (record {
         rest = bucket_at sound.buckets b;
@@ -129,7 +129,6 @@ module _ {K V : Type 0} (hash : K → ℕ) (pairs : List (Option (K × V))) (rec
     pub same : Wherever table.entries (slot_of node) (λ e. e.key ≡ key)
     pub whichever : All (λ e. e.key ≡ key → Some (slot_of node) ≡ Some e.slot) table.entries
     pub some : HasNone table.entries key → ⊥
-    pub small : node < 2 ^ 32
 
   pub has_key : (node : ℕ) (own : K) (value : V) → pair_at pairs node ≡ Some (own, value) → own ≡ key → HasKey node
   has_key node own value pair own_is =
@@ -142,7 +141,6 @@ module _ {K V : Type 0} (hash : K → ℕ) (pairs : List (Option (K × V))) (rec
             let there_key : pair_at pairs i ≡ Some (key, rest) = there ∙ ap (λ k. Some (k, rest)) other_is in
             ap (λ k. Some (slot_of k)) (sound.keys_apart node i key value rest here there_key))));
         some = λ none. each_entry pairs (λ e. e.key ≢ key) sound.used (rw (← entries_are hash pairs recency chains len sound table is) (recursion_from_All (λ (e : Entry K V). e.key ≢ key) table.entries none)) node own value within pair own_is;
-        small = omega (arith, sound.used_ring.inside node within, sound.room);
       }
 
 -- a key compares equal to itself

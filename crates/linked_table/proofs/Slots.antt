@@ -1,8 +1,9 @@
--- A write to one slot, and a change of one bucket.
-use Rattle.std.proofs.Common.{◌≡◌, ◌≢◌, ℕ, ◌+◌, ◌<◌, Option, Some, None, List, [], length, set, ap, length-set, get_or-set_same, get_or-set_other}
+-- A write to one slot, the bucket of a hash, and a change of one bucket.
+use Rattle.std.proofs.Common.{◌≡◌, ◌≢◌, ℕ, ◌+◌, ◌-◌, ◌*◌, ◌/◌, ◌%◌, ◌<◌, ◌≤◌, ◌^◌, Option, Some, None, List, [], length, set, ap, arith, length-set, get_or-set_same, get_or-set_other}
 use Rattle.std.specs.List.{sum_by}
+use Rattle.std.proofs.lemmas.Nat.{mul-le}
 use Rattle.std.proofs.lemmas.List.Sums.{sum_by-set}
-use Rattle.linked_table.specs.Sound.{pair_at, bucket_at}
+use Rattle.linked_table.specs.Sound.{pair_at, bucket_number, bucket_at}
 
 -- the key in a pair that is there
 abbrev key_or : {A B : Type 0} → A → Option (A × B) → A
@@ -24,6 +25,12 @@ writes pairs s pair inside = record {
   here = get_or-set_same pairs s pair None inside;
   else = λ i ne. get_or-set_other pairs s i pair None ne;
 }
+
+pub bucket_below : (hash buckets : ℕ) → 0 < buckets → bucket_number hash buckets < buckets
+unfolding bucket_number
+bucket_below hash buckets some =
+    let scaled : hash % 2 ^ 32 * (hash / 2 ^ 32) % 2 ^ 32 * buckets ≤ (2 ^ 32 - 1) * buckets = mul-le (hash % 2 ^ 32 * (hash / 2 ^ 32) % 2 ^ 32) buckets (2 ^ 32 - 1) buckets (omega arith) (omega arith) in
+    omega arith
 
 -- the buckets after one was changed
 pub record Changes (buckets new : List (List ℕ)) (b : ℕ) (nodes : List ℕ) : Type 0 where

@@ -1,10 +1,10 @@
 -- What follows for the entries of a sound table.
-use Rattle.std.proofs.Common.{◌≡◌, ◌≢◌, ℕ, ◌<◌, ◌≤◌, Option, Some, inr, List, [], ◌∷◌, length, sym, ap, subst, ◌∙◌, arith}
+use Rattle.std.proofs.Common.{◌≡◌, ◌≢◌, ℕ, ◌+◌, ◌-◌, ◌<◌, ◌≤◌, Option, Some, inr, List, [], ◌∷◌, length, sym, ap, subst, ◌∙◌, arith}
 use Rattle.std.specs.List.{All, AllPairs}
 use Rattle.std.proofs.lemmas.List.Elements.{All-from_recursion}
 use Rattle.linked_table.specs.declared.ring.Links.{Links}
 use Rattle.linked_table.specs.Rings.{In, IsRing, HasRing, walk}
-use Rattle.linked_table.specs.Sound.{pair_at, entries_of, table_of, IsSound}
+use Rattle.linked_table.specs.Sound.{bucket_number, pair_at, entries_of, table_of, IsSound}
 use Rattle.linked_table.specs.Table.{Table}
 use Rattle.linked_table.proofs.Entries.{Apart, length-entries, all_entries, pairwise_entries}
 use Rattle.linked_table.proofs.Lists.{AllPairs-from_recursion}
@@ -23,6 +23,12 @@ walk_ring {links} {slots} {hub} {nodes} has count = subst (λ n. walk links n hu
 module _ {K V : Type 0} (hash : K → ℕ) (pairs : List (Option (K × V))) (recency chains : List Links) (len : ℕ) (sound : IsSound hash pairs recency chains len) where
   pub used_apart : Apart sound.used
   used_apart = ring_apart recency (length pairs) (length pairs) sound.used (hub_apart sound.used_ring) sound.used_ring.ring
+
+  -- the hub of a bucket, of which the code counts the number
+  pub hub_read : (hash_is slots hub : ℕ) → slots ≡ length pairs → hub ≡ slots + bucket_number hash_is (length chains - slots) → hub ≡ length pairs + bucket_number hash_is (length sound.buckets)
+  hub_read hash_is slots hub slots_is hub_is =
+      let count : length chains - slots ≡ length sound.buckets = omega (arith, sound.chain_nodes) in
+      rw (← count, ← slots_is) hub_is
 
   module _ (table : Table K V) (is : table_of pairs recency len ≡ table) where
     pub entries_are : table.entries ≡ entries_of pairs sound.used

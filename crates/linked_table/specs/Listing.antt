@@ -38,4 +38,4 @@ pub record IsThreaded (links : List Links) (max : ℕ) : Type 0 where
   pub either : (node : ℕ) → node < max → In node listed ⊎ In node others
   pub apart : (node : ℕ) → In node listed → In node others → ⊥
   pub total : length listed + length others ≡ max
-  pub room : max < 2 ^ 32
+  pub room : max + 1 < 2 ^ 32

@@ -1,5 +1,5 @@
 -- How a table's entries are linked through its slots (this project's profile).
-use Rattle.std.specs.Prelude.{◌≡◌, ◌≢◌, ℕ, ◌+◌, ◌<◌, ◌^◌, ◌%◌, Option, Some, None, List, [], ◌∷◌, length, slice_index_or}
+use Rattle.std.specs.Prelude.{◌≡◌, ◌≢◌, ℕ, ◌+◌, ◌*◌, ◌/◌, ◌%◌, ◌<◌, ◌^◌, Option, Some, None, List, [], ◌∷◌, length, slice_index_or}
 use Rattle.std.specs.List.{sum_by, range_with_len}
 use Rattle.linked_table.specs.declared.ring.Links.{Links}
 use Rattle.linked_table.specs.declared.table.Slot.{Slot}
@@ -10,19 +10,24 @@ use Rattle.linked_table.specs.Table.{Entry, Table}
 abbrev pub slot_of : ℕ → Slot
 slot_of node = record { 0 = node }
 
+-- The bucket of a hash, of so many: the low 32 bits of the product of its halves, scaled to their number.
+unfoldable pub bucket_number : (hash buckets : ℕ) → ℕ
+bucket_number hash buckets = hash % 2 ^ 32 * (hash / 2 ^ 32) % 2 ^ 32 * buckets / 2 ^ 32
+
 -- The slots of a bucket.
 abbrev pub bucket_at : List (List ℕ) → ℕ → List ℕ
 bucket_at buckets b = slice_index_or buckets b []
 
--- The nodes of a new table: all slots are free.
+-- The nodes of a new table: all slots are free. The numbers of the nodes fit 32 bits.
 pub record IsAllFree (links : List Links) (max : ℕ) : Type 0 where
   pub none_used : HasRing links max max []
   pub all_free : HasRing links max (max + 1) (range_with_len 0 max)
+  pub room : max + 1 < 2 ^ 32
 
 -- The slot is in the list by recency and in the bucket of this key.
 pub record IsKept {K : Type 0} (hash : K → ℕ) (used : List ℕ) (buckets : List (List ℕ)) (node : ℕ) (key : K) : Type 0 where
   pub used_in : In node used
-  pub bucket_in : In node (bucket_at buckets (hash key % length buckets))
+  pub bucket_in : In node (bucket_at buckets (bucket_number (hash key) (length buckets)))
 
 module _ {K V : Type 0} where
   -- The key and the value in a slot.
@@ -49,7 +54,7 @@ module _ {K V : Type 0} where
     pub key : K
     pub value : V
     pub pair : pair_at pairs node ≡ Some (key, value)
-    pub bucket_is : hash key % length buckets ≡ bucket
+    pub bucket_is : bucket_number (hash key) (length buckets) ≡ bucket
 
   -- The slots with a pair are those in the list by recency, each is in the bucket of its key, and no key occurs twice.
   pub record IsSound (hash : K → ℕ) (pairs : List (Option (K × V))) (recency chains : List Links) (len : ℕ) : Type 0 where
@@ -62,7 +67,7 @@ module _ {K V : Type 0} where
     pub bucket_rings : (b : ℕ) → b < length buckets → HasRing chains (length pairs) (length pairs + b) (bucket_at buckets b)
     pub chain_nodes : length chains ≡ length pairs + length buckets
     pub some_bucket : 0 < length buckets
-    pub room : length pairs < 2 ^ 32
+    pub room : length pairs + length buckets < 2 ^ 32
     pub used_count : length used ≡ len
     pub total : len + length free ≡ length pairs
     pub bucket_total : sum_by length buckets ≡ len

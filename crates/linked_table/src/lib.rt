@@ -11,8 +11,9 @@
 //!
 //! Choices: three vectors share the slot numbers: pairs, recency, and hash chains. Entries, free
 //! slots and buckets are rings closed by a hub, so linking and unlinking have no branch. There is
-//! one bucket more than slots, so never none. The slot freed last is filled first, so that few live
-//! entries touch little memory.
+//! one bucket more than slots, so never none. A bucket is picked by products, which are faster than
+//! a division. Links have 32 bits, so that more of them fit a cache. The slot freed last is filled
+//! first, so that few live entries touch little memory.
 #![tactic(auto)]
 
 mod hash;

@@ -27,7 +27,8 @@ impl Model for SlotList {
 }
 
 impl SlotList {
-    /// Creates an empty list, for slots below `max`.
+    /// Creates an empty list, for slots below `max`. For a `max` of 2^32 - 2 or more it returns
+    /// `NoMemory`: the numbers of the nodes do not fit 32 bits.
     pub fn open(alloc: Global, max: u32) -> Result<SlotList, NoMemory>
         ensures { IfOk result (λ list. list ≡ record { slots = []; max = max }) }
     {
@@ -40,12 +41,12 @@ impl SlotList {
         ensures first { result ≡ first_of self.now.slots }
         ensures below { IfSome result (λ slot. slot.0 < self.now.max) }
     {
-        let hub = self.max as usize;
+        let hub = self.max;
         let node = self.links.after(hub);
         if node == hub {
             return None;
         }
-        Some(Slot(node as u32))
+        Some(Slot(node))
     }
 
     /// Puts the slot last. A slot that is already listed moves.
@@ -53,10 +54,8 @@ impl SlotList {
         requires { slot.0 < self.old.max }
         ensures { self.new ≡ record self.old { slots = others self.old.slots slot ++ slot ∷ [] } }
     {
-        let node = slot.0 as usize;
-        let hub = self.max as usize;
-        self.links.unlink(node);
-        self.links.link_last(hub, node);
+        self.links.unlink(slot.0);
+        self.links.link_last(self.max, slot.0);
     }
 
     /// Removes the slot, if it is listed.
@@ -64,9 +63,7 @@ impl SlotList {
         requires { slot.0 < self.old.max }
         ensures { self.new ≡ record self.old { slots = others self.old.slots slot } }
     {
-        let node = slot.0 as usize;
-        let hub = self.max as usize + 1;
-        self.links.unlink(node);
-        self.links.link_last(hub, node);
+        self.links.unlink(slot.0);
+        self.links.link_last(self.max + 1, slot.0);
     }
 }

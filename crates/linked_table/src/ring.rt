@@ -1,5 +1,5 @@
 //! Rings of nodes linked by index.
-ghost use Rattle.std.specs.Prelude.{◌≡◌, ◌<◌, length, map, IfOk};
+ghost use Rattle.std.specs.Prelude.{◌≡◌, ◌<◌, ◌^◌, length, map, IfOk};
 ghost use Rattle.std.specs.List.{range_with_len};
 ghost use Rattle.linked_table.specs.Rings.{lone, link_at, unlinked, linked_last};
 
@@ -10,8 +10,8 @@ use std::marker::Model;
 /// Nodes before and after a node in its ring.
 #[derive(Clone, Copy)]
 pub(crate) struct Links {
-    pub(crate) before: usize,
-    pub(crate) after: usize,
+    pub(crate) before: u32,
+    pub(crate) after: u32,
 }
 
 /// Nodes that are linked into rings.
@@ -30,11 +30,16 @@ impl Model for Rings {
 }
 
 impl Rings {
-    /// Creates `count` nodes, each in a ring of its own.
+    /// Creates `count` nodes, each in a ring of its own. For 2^32 or more it returns `NoMemory`: their
+    /// numbers do not fit 32 bits.
     pub(crate) fn open(alloc: Global, count: usize) -> Result<Rings, NoMemory>
-        ensures { IfOk result (λ rings. rings ≡ map lone (range_with_len 0 count)) }
+        ensures alone { IfOk result (λ rings. rings ≡ map lone (range_with_len 0 count)) }
+        ensures few { IfOk result (λ _. count < 2 ^ 32) }
     {
-        let links = (0..count)
+        if count > u32::MAX as usize {
+            return Err(NoMemory);
+        }
+        let links = (0..count as u32)
             .map(|node| Links {
                 before: node,
                 after: node,
@@ -51,48 +56,48 @@ impl Rings {
     }
 
     /// Returns the node before this one.
-    pub(crate) fn before(&self, node: usize) -> usize
+    pub(crate) fn before(&self, node: u32) -> u32
         requires { node < length self.now }
         ensures { result ≡ (link_at self.now node).before }
     {
-        self.links[node].before
+        self.links[node as usize].before
     }
 
     /// Returns the node after this one.
-    pub(crate) fn after(&self, node: usize) -> usize
+    pub(crate) fn after(&self, node: u32) -> u32
         requires { node < length self.now }
         ensures { result ≡ (link_at self.now node).after }
     {
-        self.links[node].after
+        self.links[node as usize].after
     }
 
     /// Links the neighbours of this node to each other.
-    pub(crate) fn unlink(&mut self, node: usize)
+    pub(crate) fn unlink(&mut self, node: u32)
         requires inside { node < length self.old }
         requires before_inside { (link_at self.old node).before < length self.old }
         requires after_inside { (link_at self.old node).after < length self.old }
         ensures { self.new ≡ unlinked self.old node }
     {
         let links = self.links.as_mut_slice();
-        let Links { before, after } = links[node];
-        links[before].after = after;
-        links[after].before = before;
+        let Links { before, after } = links[node as usize];
+        links[before as usize].after = after;
+        links[after as usize].before = before;
     }
 
     /// Links a node that is in no ring as the last before this hub.
-    pub(crate) fn link_last(&mut self, hub: usize, node: usize)
+    pub(crate) fn link_last(&mut self, hub: u32, node: u32)
         requires inside { node < length self.old }
         requires hub_inside { hub < length self.old }
         requires last_inside { (link_at self.old hub).before < length self.old }
         ensures { self.new ≡ linked_last self.old hub node }
     {
         let links = self.links.as_mut_slice();
-        let last = links[hub].before;
-        links[last].after = node;
-        links[node] = Links {
+        let last = links[hub as usize].before;
+        links[last as usize].after = node;
+        links[node as usize] = Links {
             before: last,
             after: hub,
         };
-        links[hub].before = node;
+        links[hub as usize].before = node;
     }
 }

@@ -1,9 +1,9 @@
 //! The table: its entries by recency, and its look-up by the hash of a key.
-ghost use Rattle.std.specs.Prelude.{◌≡◌, ◌+◌, ◌-◌, ◌<◌, ◌≤◌, ◌≢◌, ◌%◌, ◌↔◌, [], ◌∷◌, ◌++◌, length, replicate, false, Option, Some, IfOk, IfErr, OnErr, IsErr, IfSome, IfNone, IsNone};
+ghost use Rattle.std.specs.Prelude.{◌≡◌, ◌+◌, ◌-◌, ◌<◌, ◌≤◌, ◌≢◌, ◌^◌, ◌↔◌, [], ◌∷◌, ◌++◌, length, replicate, false, Option, Some, IfOk, IfErr, OnErr, IsErr, IfSome, IfNone, IsNone};
 ghost use Rattle.std.specs.List.{All, AllPairs};
 ghost use Rattle.std.specs.Borrow.{sem};
 ghost use Rattle.linked_table.specs.Table.{IsIn, IsNotIn, HasNone, SplitAt, Wherever, Answers, IsCallableAt, PassesFirst, without, only, with_value, first_slot};
-ghost use Rattle.linked_table.specs.Sound.{IsAllFree};
+ghost use Rattle.linked_table.specs.Sound.{IsAllFree, bucket_number};
 
 use crate::key::{Hashed, Key};
 use crate::ring::Rings;
@@ -45,12 +45,19 @@ impl<K: Key, V> Model for LinkedTable<K, V> {
     ghost invariant = { λ t. IsSound (λ k. K.hash_of k t.seed) t.pairs.items t.recency t.chains t.len };
 }
 
-// Returns the bucket of a key, below `buckets`.
-fn bucket_of<K: Key>(hashed: &Hashed<K>, seed: u64, buckets: usize) -> usize
-    requires { 0 < buckets }
-    ensures { result ≡ K.hash_of hashed.now.key seed % buckets }
+// Returns the hub of the bucket of a key: the nodes from `slots` on are the hubs of the buckets.
+fn hub_of<K: Key>(hashed: &Hashed<K>, seed: u64, slots: u32, chains: &Rings) -> u32
+    requires some { slots < length chains.now }
+    requires few { length chains.now < 2 ^ 32 }
+    ensures number { result ≡ slots + bucket_number (K.hash_of hashed.now.key seed) (length chains.now - slots) }
+    ensures inside { result < length chains.now }
 {
-    (hashed.hash_under(seed) % buckets as u64) as usize
+    let buckets = (chains.len() - slots as usize) as u64;
+    let hash = hashed.hash_under(seed);
+    // Keys in sequence have hashes in arithmetic progression, whose low bits alone may fall into few
+    // buckets. The products of their halves spread.
+    let mixed = (hash % (1 << 32)) * (hash >> 32) % (1 << 32);
+    slots + ((mixed * buckets) >> 32) as u32
 }
 
 // Returns `count` slots without a pair.
@@ -68,10 +75,9 @@ fn empty_slots<K, V>(alloc: Global, count: u32) -> Result<Vec<Option<(K, V)>>, N
 pub(crate) fn free_ring(alloc: Global, count: u32) -> Result<Rings, NoMemory>
     ensures { IfOk result (λ recency. IsAllFree recency count) }
 {
-    let slots = count as usize;
-    let mut recency = Rings::open(alloc, slots + 2)?;
-    for node in 0..slots {
-        recency.link_last(slots + 1, node);
+    let mut recency = Rings::open(alloc, count as usize + 2)?;
+    for node in 0..count {
+        recency.link_last(count + 1, node);
     }
     Ok(recency)
 }
@@ -91,7 +97,8 @@ impl<K: Key, V> LinkedTable<K, V> {
     ghost use Rattle.linked_table.specs.Lends.{lends_value};
 
     /// Creates a table without entries, for at most `max`. The seed decides only which keys share a
-    /// hash chain; no result depends on it.
+    /// hash chain; no result depends on it. For a `max` of 2^31 or more it returns `NoMemory`: the
+    /// numbers of the nodes do not fit 32 bits.
     pub fn open(alloc: Global, max: u32, seed: u64) -> Result<LinkedTable<K, V>, NoMemory>
         ensures { IfOk result (λ table. table ≡ record { entries = []; max = max }) }
     {
@@ -153,16 +160,16 @@ impl<K: Key, V> LinkedTable<K, V> {
         ensures absent { IsNone result ↔ HasNone self.now.entries hashed.now.key }
     {
         let key = &hashed.key;
-        let slots = self.pairs.len();
-        let hub = slots + bucket_of(hashed, self.seed, self.chains.len() - slots);
+        let slots = self.pairs.len() as u32;
+        let hub = hub_of(hashed, self.seed, slots, &self.chains);
         let mut node = self.chains.after(hub);
         for _ in 0..self.len {
             if node == hub {
                 return None;
             }
-            if let Some((own, _)) = &self.pairs[node] {
+            if let Some((own, _)) = &self.pairs[node as usize] {
                 if own == key {
-                    return Some(Slot(node as u32));
+                    return Some(Slot(node));
                 }
             }
             node = self.chains.after(node);
@@ -218,8 +225,8 @@ impl<K: Key, V> LinkedTable<K, V> {
         requires { IsIn self.old.entries slot }
         ensures { self.new ≡ record self.old { entries = without self.old.entries slot ++ only self.old.entries slot } }
     {
-        let entries = self.pairs.len();
-        let node = slot.0 as usize;
+        let entries = self.pairs.len() as u32;
+        let node = slot.0;
         self.recency.unlink(node);
         self.recency.link_last(entries, node);
     }
@@ -230,13 +237,13 @@ impl<K: Key, V> LinkedTable<K, V> {
         ensures taken { Wherever self.old.entries slot (λ e. result ≡ (e.key, e.value)) }
         ensures left { self.new ≡ record self.old { entries = without self.old.entries slot } }
     {
-        let free = self.pairs.len() + 1;
-        let node = slot.0 as usize;
+        let free = self.pairs.len() as u32 + 1;
+        let node = slot.0;
         self.recency.unlink(node);
         self.recency.link_last(free, node);
         self.chains.unlink(node);
         self.len -= 1;
-        match self.pairs[node].take() {
+        match self.pairs[node as usize].take() {
             Some(pair) => pair,
             None => unreachable!(),
         }
@@ -266,18 +273,18 @@ impl<K: Key, V> LinkedTable<K, V> {
         ensures fresh { IfOk result (IsNotIn self.old.entries) }
         ensures added { IfOk result (λ slot. self.new ≡ record self.old { entries = self.old.entries ++ record { slot = slot; key = hashed.now.key; value = value } ∷ [] }) }
     {
-        let slots = self.pairs.len();
-        if self.len as usize == slots {
+        let slots = self.pairs.len() as u32;
+        if self.len == slots {
             return Err((hashed.key, value));
         }
         let node = self.recency.before(slots + 1);
-        let hub = slots + bucket_of(hashed, self.seed, self.chains.len() - slots);
+        let hub = hub_of(hashed, self.seed, slots, &self.chains);
         self.recency.unlink(node);
         self.recency.link_last(slots, node);
         self.chains.link_last(hub, node);
-        fill(&mut self.pairs[node], (hashed.key, value));
+        fill(&mut self.pairs[node as usize], (hashed.key, value));
         self.len += 1;
-        Ok(Slot(node as u32))
+        Ok(Slot(node))
     }
 
     /// Returns the slot of the least recently touched entry.
@@ -285,12 +292,12 @@ impl<K: Key, V> LinkedTable<K, V> {
         ensures first { result ≡ first_slot self.now.entries }
         ensures inside { IfSome result (IsIn self.now.entries) }
     {
-        let entries = self.pairs.len();
+        let entries = self.pairs.len() as u32;
         let node = self.recency.after(entries);
         if node == entries {
             return None;
         }
-        Some(Slot(node as u32))
+        Some(Slot(node))
     }
 
     /// Returns the slot of the least recently touched entry that passes the test.
@@ -300,11 +307,11 @@ impl<K: Key, V> LinkedTable<K, V> {
         ensures inside { IfSome result (IsIn self.now.entries) }
         ensures absent { IfNone result (All (λ e. Answers F.Fn test e false) self.now.entries) }
     {
-        let mut node = self.pairs.len();
+        let mut node = self.pairs.len() as u32;
         for _ in 0..self.len {
             node = self.recency.after(node);
-            let slot = Slot(node as u32);
-            if let Some((_, value)) = &self.pairs[node] {
+            let slot = Slot(node);
+            if let Some((_, value)) = &self.pairs[node as usize] {
                 if test(slot, value) {
                     return Some(slot);
                 }

@@ -3,11 +3,6 @@ use Rattle.linked_table.specs.Listing.{Listing}
 use Rattle.linked_table.proofs.Listings.{first_seen}
 use Rattle.linked_table.proofs.list.SlotList.first.Goals as goal
 
-pub overflow_cast-result : goal.overflow_cast-result
-overflow_cast-result c =
-    let small = (first_seen _ _ c.self.invariant _ c.self.view_is _ c.after-node.ensures).below c.if-node-hub.false in
-    omega (arith, small, c.self.invariant.room)
-
 pub returns-clause-below : goal.returns-clause-below
 returns-clause-below c =
     let small = (first_seen _ _ c.self.invariant _ c.self.view_is _ c.after-node.ensures).below c.if-node-hub.false in

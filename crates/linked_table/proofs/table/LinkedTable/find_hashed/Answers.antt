@@ -1,17 +1,14 @@
-use Rattle.std.proofs.Common.{◌≡◌, ◌+◌, ◌-◌, ◌%◌, None, length, refl, sym, ap, ◌∙◌, arith}
+use Rattle.std.proofs.Common.{◌≡◌, ◌+◌, ◌-◌, None, refl, sym, ◌∙◌, arith}
 use Rattle.linked_table.proofs.Parts.{split_at}
-use Rattle.linked_table.proofs.Tables.{slots_apart, keys_apart}
+use Rattle.linked_table.proofs.Tables.{hub_read, slots_apart, keys_apart}
 use Rattle.linked_table.proofs.Searches.{begins, next_of, none_left, none_at_end, none_has, none_whichever, has_key, differs}
 use Rattle.linked_table.proofs.table.LinkedTable.find_hashed.Goals as goal
 use Rattle.linked_table.proofs.table.LinkedTable.find_hashed.Goals.{in-Some+else-eq, in_default}
 
 pub loop-init : goal.loop-init
 loop-init g c =
-    let count : c.len.result - c.len-slots.result ≡ length c.self.invariant.buckets = omega (arith, c.len.ensures, c.self.invariant.chain_nodes) in
-    let bucket : c.bucket_of.result ≡ g.K.Key.hash_of c.args.hashed.now.key c.self.inside.seed % length c.self.invariant.buckets = c.bucket_of.ensures ∙ ap (λ n. g.K.Key.hash_of c.args.hashed.now.key c.self.inside.seed % n) count in
-    let slots : c.len-slots.result ≡ length c.self.inside.pairs.items = omega arith in
     let all : c.self.inside.len - 0 ≡ c.self.inside.len = omega arith in
-    rw all (begins _ _ _ _ _ c.self.invariant _ c.self.view_is c.args.hashed.now.key _ (omega (arith, bucket, slots)) _ c.after-node.ensures)
+    rw all (begins _ _ _ _ _ c.self.invariant _ c.self.view_is c.args.hashed.now.key _ (hub_read _ _ _ _ _ c.self.invariant _ _ _ (omega arith) c.hub_of-hub.ensures.number) _ c.after-node.ensures)
 
 pub returns-then-node-hub-clause-whichever : goal.returns-then-node-hub-clause-whichever
 returns-then-node-hub-clause-whichever g c = none_whichever _ _ _ _ _ c.self.invariant _ c.self.view_is c.args.hashed.now.key None (none_has _ _ _ _ _ c.self.invariant _ c.self.view_is c.args.hashed.now.key _ _ _ c.loop.invariant (none_left _ _ _ _ _ _ c.loop.invariant c.if-node-hub.true))
@@ -21,9 +18,6 @@ returns-then-node-hub-clause-absent g c = ((λ t. (none_has _ _ _ _ _ c.self.inv
 
 pub index-requires : goal.index-requires
 index-requires g c = omega (arith, (next_of _ _ _ _ _ _ c.loop.invariant c.if-node-hub.false).slot)
-
-pub overflow_cast-result : goal.overflow_cast-result
-overflow_cast-result g c = omega (arith, (has_key _ _ _ _ _ c.self.invariant _ c.self.view_is c.args.hashed.now.key _ _ _ (sym ((next_of _ _ _ _ _ _ c.loop.invariant c.if-node-hub.false).read _ c.index.ensures) ∙ c.in-Some.is) (g.met.K.Key.equal_is_same _ _ (sym c.eq.ensures ∙ c.if-eq.true))).small)
 
 pub returns-then-eq-clause-found : goal.returns-then-eq-clause-found
 returns-then-eq-clause-found g c = (has_key _ _ _ _ _ c.self.invariant _ c.self.view_is c.args.hashed.now.key _ _ _ (sym ((next_of _ _ _ _ _ _ c.loop.invariant c.if-node-hub.false).read _ c.index.ensures) ∙ c.in-Some.is) (g.met.K.Key.equal_is_same _ _ (sym c.eq.ensures ∙ c.if-eq.true))).listed

@@ -1,5 +1,6 @@
-use Rattle.std.proofs.Common.{◌≡◌, ◌-◌, ◌%◌, length, refl, ap, ◌∙◌, arith}
-use Rattle.linked_table.proofs.Inserts.{full_seen, not_full, spare_read, spare_slot, spare_small, spare_inside, spare_before_inside, spare_after_inside, used_node_inside, used_last_inside, chain_node_inside, chain_last_inside_read, fresh_seen, below_max, empty_read, insert_sound_read, insert_seen_read}
+use Rattle.std.proofs.Common.{◌≡◌, length, refl, arith}
+use Rattle.linked_table.proofs.Inserts.{full_seen, not_full, spare_read, spare_slot, spare_inside, spare_before_inside, spare_after_inside, used_node_inside, used_last_inside, chain_node_inside, chain_last_inside_read, fresh_seen, below_max, empty_read, insert_sound_read, insert_seen_read}
+use Rattle.linked_table.proofs.Tables.{hub_read}
 use Rattle.linked_table.proofs.table.LinkedTable.insert_hashed.Goals as goal
 
 pub returns-then-self-slots-clause-full : goal.returns-then-self-slots-clause-full
@@ -27,9 +28,7 @@ link_last-requires-2-clause-inside g c = chain_node_inside _ _ _ _ _ c.self.inva
 
 pub link_last-requires-2-clause-last_inside : goal.link_last-requires-2-clause-last_inside
 link_last-requires-2-clause-last_inside g c =
-    let count : c.len.result - c.len-slots.result ≡ length c.self.invariant.buckets = omega (arith, c.len.ensures, c.self.invariant.chain_nodes) in
-    let bucket : c.bucket_of.result ≡ g.K.Key.hash_of c.args.hashed.now.key c.self.inside.seed % length c.self.invariant.buckets = c.bucket_of.ensures ∙ ap (λ n. g.K.Key.hash_of c.args.hashed.now.key c.self.inside.seed % n) count in
-    chain_last_inside_read _ _ _ _ _ c.self.invariant _ (spare_read _ _ _ _ _ c.self.invariant _ (omega arith) _ c.before-node.ensures c.if-self-slots.false) c.args.hashed.now.key c.args.value _ bucket _ (omega arith)
+    chain_last_inside_read _ _ _ _ _ c.self.invariant _ (spare_read _ _ _ _ _ c.self.invariant _ (omega arith) _ c.before-node.ensures c.if-self-slots.false) c.args.hashed.now.key c.args.value _ (hub_read _ _ _ _ _ c.self.invariant _ _ _ (omega arith) c.hub_of-hub.ensures.number)
 
 pub index_mut-requires : goal.index_mut-requires
 index_mut-requires g c = omega (arith, spare_slot _ _ _ _ _ c.self.invariant _ (spare_read _ _ _ _ _ c.self.invariant _ (omega arith) _ c.before-node.ensures c.if-self-slots.false))
@@ -37,14 +36,9 @@ index_mut-requires g c = omega (arith, spare_slot _ _ _ _ _ c.self.invariant _ (
 pub fill-requires : goal.fill-requires
 fill-requires g c = empty_read _ _ _ _ _ c.self.invariant _ (spare_read _ _ _ _ _ c.self.invariant _ (omega arith) _ c.before-node.ensures c.if-self-slots.false) _ c.index_mut.ensures.value
 
-pub overflow_cast-result : goal.overflow_cast-result
-overflow_cast-result g c = omega (arith, spare_small _ _ _ _ _ c.self.invariant _ (spare_read _ _ _ _ _ c.self.invariant _ (omega arith) _ c.before-node.ensures c.if-self-slots.false))
-
 pub invariant_of-self : goal.invariant_of-self
 invariant_of-self g c =
-    let count : c.len.result - c.len-slots.result ≡ length c.self.invariant.buckets = omega (arith, c.len.ensures, c.self.invariant.chain_nodes) in
-    let bucket : c.bucket_of.result ≡ g.K.Key.hash_of c.args.hashed.now.key c.self.inside.seed % length c.self.invariant.buckets = c.bucket_of.ensures ∙ ap (λ n. g.K.Key.hash_of c.args.hashed.now.key c.self.inside.seed % n) count in
-    insert_sound_read _ _ _ _ _ c.self.invariant _ (spare_read _ _ _ _ _ c.self.invariant _ (omega arith) _ c.before-node.ensures c.if-self-slots.false) _ _ _ bucket _ (omega arith) _ c.unlink.ensures _ c.link_last.ensures _ c.fill.ensures _ c.self.view_is c.requires _ c.link_last-2.ensures
+    insert_sound_read _ _ _ _ _ c.self.invariant _ (spare_read _ _ _ _ _ c.self.invariant _ (omega arith) _ c.before-node.ensures c.if-self-slots.false) _ _ _ (hub_read _ _ _ _ _ c.self.invariant _ _ _ (omega arith) c.hub_of-hub.ensures.number) _ (omega arith) _ c.unlink.ensures _ c.link_last.ensures _ c.fill.ensures _ c.self.view_is c.requires _ c.link_last-2.ensures
 
 pub returns-clause-full : goal.returns-clause-full
 returns-clause-full g c = ((λ t. absurd cc), (λ e. absurd (not_full _ _ _ _ _ c.self.invariant _ c.self.view_is (λ same. c.if-self-slots.false (omega (arith, same))) e)))
@@ -57,6 +51,4 @@ returns-clause-fresh g c = fresh_seen _ _ _ _ _ c.self.invariant _ (spare_read _
 
 pub returns-clause-added : goal.returns-clause-added
 returns-clause-added g c =
-    let count : c.len.result - c.len-slots.result ≡ length c.self.invariant.buckets = omega (arith, c.len.ensures, c.self.invariant.chain_nodes) in
-    let bucket : c.bucket_of.result ≡ g.K.Key.hash_of c.args.hashed.now.key c.self.inside.seed % length c.self.invariant.buckets = c.bucket_of.ensures ∙ ap (λ n. g.K.Key.hash_of c.args.hashed.now.key c.self.inside.seed % n) count in
-    insert_seen_read _ _ _ _ _ c.self.invariant _ (spare_read _ _ _ _ _ c.self.invariant _ (omega arith) _ c.before-node.ensures c.if-self-slots.false) _ _ _ bucket _ (omega arith) _ c.unlink.ensures _ c.link_last.ensures _ c.fill.ensures _ c.self.view_is
+    insert_seen_read _ _ _ _ _ c.self.invariant _ (spare_read _ _ _ _ _ c.self.invariant _ (omega arith) _ c.before-node.ensures c.if-self-slots.false) _ _ _ (hub_read _ _ _ _ _ c.self.invariant _ _ _ (omega arith) c.hub_of-hub.ensures.number) _ (omega arith) _ c.unlink.ensures _ c.link_last.ensures _ c.fill.ensures _ c.self.view_is

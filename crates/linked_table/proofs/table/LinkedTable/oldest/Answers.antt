@@ -5,11 +5,6 @@ use Rattle.linked_table.proofs.table.LinkedTable.oldest.Goals as goal
 pub returns-then-node-entries-clause-first : goal.returns-then-node-entries-clause-first
 returns-then-node-entries-clause-first g c = (reads_first _ _ _ _ _ c.self.invariant _ c.self.view_is _ (omega arith) _ c.after-node.ensures).none c.if-node-entries.true
 
-pub overflow_cast-result : goal.overflow_cast-result
-overflow_cast-result g c =
-    let small = (reads_first _ _ _ _ _ c.self.invariant _ c.self.view_is _ (omega arith) _ c.after-node.ensures).small c.if-node-entries.false in
-    omega (arith, small)
-
 pub returns-clause-first : goal.returns-clause-first
 returns-clause-first g c = (reads_first _ _ _ _ _ c.self.invariant _ c.self.view_is _ (omega arith) _ c.after-node.ensures).some c.if-node-entries.false
 

@@ -1,5 +1,5 @@
 use Rattle.std.proofs.Common.{◌≡◌, ◌+◌, ◌-◌, refl, sym, ◌∙◌, arith}
-use Rattle.linked_table.proofs.Scans.{scan_begins, met, all_refused, passed_in, scan_small}
+use Rattle.linked_table.proofs.Scans.{scan_begins, met, all_refused, passed_in}
 use Rattle.linked_table.proofs.table.LinkedTable.oldest_where.Goals as goal
 use Rattle.linked_table.proofs.table.LinkedTable.oldest_where.Goals.{in-Some+else-test, in_default}
 
@@ -7,11 +7,6 @@ pub loop-init : goal.loop-init
 loop-init g c =
     let all : c.self.inside.len - 0 ≡ c.self.inside.len = omega arith in
     rw all (scan_begins g.F.Fn c.args.test _ _ _ _ _ c.self.invariant _ c.self.view_is _ (omega arith))
-
-pub overflow_cast-slot : goal.overflow_cast-slot
-overflow_cast-slot g c =
-    let small = scan_small g.F.Fn c.args.test _ _ _ _ _ c.self.invariant _ c.self.view_is _ (met g.F.Fn c.args.test _ _ _ _ _ c.loop.invariant (omega (arith, c.loop-test.true)) _ c.after-node.ensures).slot in
-    omega (arith, small)
 
 pub index-requires : goal.index-requires
 index-requires g c = omega (arith, (met g.F.Fn c.args.test _ _ _ _ _ c.loop.invariant (omega (arith, c.loop-test.true)) _ c.after-node.ensures).slot)

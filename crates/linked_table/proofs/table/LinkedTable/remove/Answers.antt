@@ -18,7 +18,7 @@ link_last-requires-clause-inside g c = rw c.unlink.ensures (freed_node_inside _ 
 
 pub link_last-requires-clause-last_inside : goal.link_last-requires-clause-last_inside
 link_last-requires-clause-last_inside g c =
-    let hub : c.len-free.result ≡ length c.self.inside.pairs.items = omega arith in
+    let hub : c.len.result ≡ length c.self.inside.pairs.items = omega arith in
     rw (c.unlink.ensures, hub) (freed_last_inside _ _ _ _ _ c.self.invariant _ (placed _ _ _ _ _ c.self.invariant _ c.self.view_is _ c.requires))
 
 pub unlink-requires-2-clause-inside : goal.unlink-requires-2-clause-inside
