@@ -1,7 +1,7 @@
 -- The rings of hubs, after a slot was unlinked from one or linked in as its last.
 use Rattle.std.proofs.Common.{◌≡◌, ◌≢◌, ℕ, ◌<◌, inl, inr, List, [], ◌∷◌, ◌++◌, length, refl, sym, subst, ◌∙◌, arith}
 use Rattle.linked_table.specs.declared.ring.Links.{Links}
-use Rattle.linked_table.specs.Rings.{link_at, In, HasRing, unlinked, linked_last}
+use Rattle.linked_table.specs.Rings.{link_at, In, IsRing, HasRing, unlinked, linked_last}
 use Rattle.linked_table.proofs.Members.{In-append_left, In-append_right, In-append_cases, In-whole}
 use Rattle.linked_table.proofs.Rings.{ring_tail, not_before, not_after, before_in, after_in, last_in, joined_before, joined_after, joined_last}
 use Rattle.linked_table.proofs.Writes.{Unlinks, unlinks, IsRing-unlinked, IsRing-unlinked_other, LinksLast, links_last, IsRing-linked, IsRing-linked_other}
@@ -36,6 +36,17 @@ module _ (links : List Links) (slots hub : ℕ) (before : List ℕ) (s : ℕ) (a
 
   pub cut_not_after : In s after → ⊥
   cut_not_after = not_after links hub hub before s after (hub_apart has) has.ring
+
+  -- the node before the hub is the last of the ring
+  pub last_ends : s ≡ (link_at links hub).before → after ≡ []
+  last_ends last = go after refl
+    where
+      go : (rest : List ℕ) → after ≡ rest → after ≡ []
+      go [] rest_is = rest_is
+      go (x ∷ xs) rest_is =
+          let ring : IsRing links s (x ∷ xs) hub = subst (λ l. IsRing links s l hub) rest_is (ring_tail links hub before s after hub has.ring) in
+          let later : In (link_at links hub).before (x ∷ xs) = last_in links x xs hub ring.1 in
+          absurd (cut_not_after (subst (λ l. In s l) (sym rest_is) (subst (λ k. In k (x ∷ xs)) (sym last) later)))
 
   pub cut_gone : In s (before ++ after) → ⊥
   cut_gone h = elim (In-append_cases s before after h) [ inl left ↦ cut_not_before left | inr right ↦ cut_not_after right ]

@@ -1,5 +1,5 @@
 -- A slot is put last in the list, or removed from it.
-use Rattle.std.proofs.Common.{◌≡◌, ◌≢◌, ℕ, zero, suc, ◌+◌, ◌<◌, ◌≤◌, ◌^◌, ◌==◌, Bool, true, false, inl, inr, ◌⊎◌, Some, None, List, [], ◌∷◌, ◌++◌, length, map, refl, sym, ap, subst, ◌∙◌, arith, length-append}
+use Rattle.std.proofs.Common.{◌≡◌, ◌≢◌, ℕ, zero, suc, ◌+◌, ◌<◌, ◌≤◌, ◌^◌, ◌==◌, Bool, true, false, inl, inr, ◌⊎◌, Some, None, List, [], ◌∷◌, ◌++◌, length, map, refl, sym, ap, subst, ◌∙◌, arith, length-append, append-nil}
 use Rattle.std.specs.List.{range_with_len}
 use Rattle.std.proofs.lemmas.Bool.{eq-eqb, ne_eqb}
 use Rattle.std.proofs.lemmas.List.FromFn.{length-range_with_len}
@@ -10,7 +10,8 @@ use Rattle.linked_table.specs.Sound.{slot_of, IsAllFree}
 use Rattle.linked_table.specs.Listing.{Listing, others, first_of, slots_to, listing_of, IsThreaded}
 use Rattle.linked_table.proofs.Splits.{map_join}
 use Rattle.linked_table.proofs.Members.{In-splits, In-append_left, In-append_right, In-append_cases, In-whole, In-rest}
-use Rattle.linked_table.proofs.Hubs.{hub_apart, cut_inside, cut_before_inside, cut_after_inside, cut_not_before, cut_not_after, cut_gone, HasRing-cut, HasRing-cut_other, push_inside, push_last_inside, HasRing-push, HasRing-push_other}
+use Rattle.linked_table.proofs.Rings.{last_in}
+use Rattle.linked_table.proofs.Hubs.{hub_apart, cut_inside, cut_before_inside, cut_after_inside, cut_not_before, cut_not_after, cut_gone, last_ends, HasRing-cut, HasRing-cut_other, push_inside, push_last_inside, HasRing-push, HasRing-push_other}
 
 -- the slots up to the hub are those of its ring
 slots_to-ring : (links : List Links) (hub most p : ℕ) (nodes : List ℕ) → (In hub nodes → ⊥) → IsRing links p nodes hub → length nodes ≤ most → slots_to links hub most p ≡ map slot_of nodes
@@ -242,6 +243,18 @@ module _ (links : List Links) (max : ℕ) (t : IsThreaded links max) (list : Lis
 
   pub in_list : IsInside links max t slot.0 slot_small
   in_list = taken links max t slot.0 slot_small
+
+  -- a slot that is already last stays where it is
+  pub put_same : slot.0 ≡ (link_at links max).before → list ≡ record list { slots = others list.slots slot ++ slot ∷ [] }
+  put_same last =
+      let listed : In slot.0 t.listed = elim (last_in links max t.listed max t.listed_ring.ring) [ inl hub ↦ absurd (omega (arith, hub, last, slot_small)) | inr h ↦ subst (λ k. In k t.listed) (sym last) h ] in
+      let split = In-splits slot.0 t.listed listed in
+      let has : HasRing links max max (split.before ++ slot.0 ∷ split.after) = subst (λ l. HasRing links max max l) split.splits t.listed_ring in
+      let ends : split.after ≡ [] = last_ends links max max split.before slot.0 split.after has last in
+      let slots : list.slots ≡ map slot_of (split.before ++ slot.0 ∷ split.after) = sym list_slots ∙ (slots_are links max t ∙ ap (map slot_of) split.splits) in
+      let rest : others list.slots slot ≡ map slot_of (split.before ++ split.after) = ap (λ l. others l slot) slots ∙ others_split slot.0 split.before split.after (cut_not_before links max max split.before slot.0 split.after has) (cut_not_after links max max split.before slot.0 split.after has) in
+      let same : list.slots ≡ others list.slots slot ++ slot ∷ [] = rw rest (slots ∙ rw (ends, append-nil) (map_join slot_of split.before (slot.0 ∷ []))) in
+      ap (λ l. record list { slots = l }) same
 
   module _ (cut : List Links) (cut_is : cut ≡ unlinked links slot.0) where
     pub out_of : IsOut cut max slot.0 (others list.slots slot)

@@ -1,12 +1,12 @@
 -- An entry moves to the end of the ring by recency.
-use Rattle.std.proofs.Common.{◌≡◌, ℕ, ◌+◌, ◌<◌, inl, inr, Option, Some, List, [], ◌∷◌, ◌++◌, length, sym, ap, subst, ◌∙◌, arith, length-append}
+use Rattle.std.proofs.Common.{◌≡◌, ℕ, ◌+◌, ◌<◌, inl, inr, Option, Some, List, [], ◌∷◌, ◌++◌, length, refl, sym, ap, subst, ◌∙◌, arith, length-append, append-nil}
 use Rattle.linked_table.specs.declared.ring.Links.{Links}
 use Rattle.linked_table.specs.declared.table.Slot.{Slot}
 use Rattle.linked_table.specs.Rings.{link_at, In, HasRing, walk, unlinked, linked_last}
 use Rattle.linked_table.specs.Sound.{pair_at, entries_of, table_of, IsSound}
 use Rattle.linked_table.specs.Table.{Table, IsIn, without, only}
 use Rattle.linked_table.proofs.Members.{In-splits, In-append_left, In-append_right, In-append_cases, In-whole, In-rest}
-use Rattle.linked_table.proofs.Hubs.{cut_slot, cut_inside, cut_before_inside, cut_after_inside, cut_not_before, cut_not_after, cut_gone, HasRing-cut, HasRing-cut_other, push_inside, push_last_inside, HasRing-push, HasRing-push_other}
+use Rattle.linked_table.proofs.Hubs.{cut_slot, cut_inside, cut_before_inside, cut_after_inside, cut_not_before, cut_not_after, cut_gone, last_ends, HasRing-cut, HasRing-cut_other, push_inside, push_last_inside, HasRing-push, HasRing-push_other}
 use Rattle.linked_table.proofs.Entries.{entries-append, without-entries, only-entries}
 use Rattle.linked_table.proofs.Tables.{walk_ring, entries_are}
 use Rattle.linked_table.proofs.Readings.{used_of}
@@ -125,6 +125,15 @@ module _ {K V : Type 0} (hash : K → ℕ) (pairs : List (Option (K × V))) (rec
     touch_seen table is =
         let walked : walk (linked_last (unlinked recency s) (length pairs) s) len (length pairs) ≡ (at.before ++ at.after) ++ s ∷ [] = walk_ring touch_ring touch_count in
         rw (walked, placed_without table is, placed_only table is, ← is) (ap (λ l. record { entries = l; max = length pairs }) (entries-append pairs (at.before ++ at.after) (s ∷ [])))
+
+    -- a touch of the last entry changes nothing
+    pub last_seen : (hub : ℕ) → hub ≡ length pairs → s ≡ (link_at recency hub).before → (table : Table K V) → table_of pairs recency len ≡ table → table ≡ record table { entries = without table.entries (record { 0 = s }) ++ only table.entries (record { 0 = s }) }
+    last_seen hub hub_is last table is =
+        let ends : at.after ≡ [] = last_ends recency (length pairs) (length pairs) at.before s at.after at.has (rw (← hub_is) last) in
+        let nodes : at.before ++ s ∷ at.after ≡ (at.before ++ at.after) ++ s ∷ [] = rw (ends, append-nil) refl in
+        let entries : table.entries ≡ without table.entries (record { 0 = s }) ++ only table.entries (record { 0 = s }) =
+        rw (placed_without table is, placed_only table is) (placed_entries table is ∙ (ap (entries_of pairs) nodes ∙ entries-append pairs (at.before ++ at.after) (s ∷ []))) in
+        ap (λ l. record table { entries = l }) entries
 
     -- the same of the values that the code wrote
     pub touch_sound_read : (hub : ℕ) → hub ≡ length pairs → (cut : List Links) → cut ≡ unlinked recency s → (new : List Links) → new ≡ linked_last cut hub s → IsSound hash pairs new chains len

@@ -54,6 +54,10 @@ impl SlotList {
         requires { slot.0 < self.old.max }
         ensures { self.new ≡ record self.old { slots = others self.old.slots slot ++ slot ∷ [] } }
     {
+        let last = self.links.before(self.max);
+        if last == slot.0 {
+            return;
+        }
         self.links.unlink(slot.0);
         self.links.link_last(self.max, slot.0);
     }

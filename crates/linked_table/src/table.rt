@@ -227,6 +227,10 @@ impl<K: Key, V> LinkedTable<K, V> {
     {
         let entries = self.pairs.len() as u32;
         let node = slot.0;
+        let newest = self.recency.before(entries);
+        if newest == node {
+            return;
+        }
         self.recency.unlink(node);
         self.recency.link_last(entries, node);
     }

@@ -1,5 +1,5 @@
-use Rattle.std.proofs.Common.{◌≡◌, length, arith}
-use Rattle.linked_table.proofs.Touches.{placed, placed_inside, placed_before_inside, placed_after_inside, placed_cut, touched_node_inside, touched_last_inside, touch_sound_read, touch_seen_read}
+use Rattle.std.proofs.Common.{◌≡◌, length, sym, ◌∙◌, arith}
+use Rattle.linked_table.proofs.Touches.{placed, placed_inside, placed_before_inside, placed_after_inside, placed_cut, touched_node_inside, touched_last_inside, last_seen, touch_sound_read, touch_seen_read}
 use Rattle.linked_table.proofs.table.LinkedTable.touch.Goals as goal
 
 pub unlink-requires-clause-inside : goal.unlink-requires-clause-inside
@@ -27,3 +27,6 @@ invariant_of-self g c = touch_sound_read _ _ _ _ _ c.self.invariant _ (placed _ 
 
 pub returns : goal.returns
 returns g c = touch_seen_read _ _ _ _ _ c.self.invariant _ (placed _ _ _ _ _ c.self.invariant _ c.self.view_is _ c.requires) _ c.self.view_is _ (omega arith) _ c.unlink.ensures _ c.link_last.ensures
+
+pub returns-then-newest-node : goal.returns-then-newest-node
+returns-then-newest-node g c = last_seen _ _ _ _ _ c.self.invariant _ (placed _ _ _ _ _ c.self.invariant _ c.self.view_is _ c.requires) _ (omega arith) (sym c.if-newest-node.true ∙ c.before-newest.ensures) _ c.self.view_is
