@@ -292,36 +292,19 @@ def times(out, count, chance, _size):
 
 # Four-tuples of one bucket
 
-MASK = 2**64 - 1
+PRIME = 2**61 - 1
+# The point of the seed 0.
+POINT = 0x9E3779B97F4A7C15 % 2**60
 
 
-def turned(word, by):
-    return (word << by | word >> (64 - by)) & MASK
+def hash_words(first, second):
+    """Hashes two words under the seed 0, as `linked_table::hash_words` does."""
+    return (first * POINT + second) * POINT % PRIME
 
 
-def sip_round(a, b, c, d):
-    a = (a + b) & MASK
-    b = turned(b, 13) ^ a
-    a = turned(a, 32)
-    c = (c + d) & MASK
-    d = turned(d, 16) ^ c
-    a = (a + d) & MASK
-    d = turned(d, 21) ^ a
-    c = (c + b) & MASK
-    b = turned(b, 17) ^ c
-    return a, b, turned(c, 32), d
-
-
-def sip_hash(words):
-    """Hashes words of 64 bits by SipHash-1-3 with both keys 0, as std's hasher does."""
-    a, b, c, d = 0x736F6D6570736575, 0x646F72616E646F6D, 0x6C7967656E657261, 0x7465646279746573
-    for word in (*words, len(words) * 8 << 56):
-        a, b, c, d = sip_round(a, b, c, d ^ word)
-        a ^= word
-    c ^= 0xFF
-    for _ in range(3):
-        a, b, c, d = sip_round(a, b, c, d)
-    return a ^ b ^ c ^ d
+def bucket_of(hashed, buckets):
+    """Picks the bucket of a hash, as `linked_table` does."""
+    return hashed % 2**32 * (hashed >> 32) % 2**32 * buckets >> 32
 
 
 def in_one_bucket(count):
@@ -329,7 +312,7 @@ def in_one_bucket(count):
     ends, inside = [], INSIDE << 16 | 80
     for number in itertools.count():
         outside, port = 0x66000000 + number // 60000, 1024 + number % 60000
-        if sip_hash((0, outside << 16 | port, inside)) % (count + 1) == 0:
+        if bucket_of(hash_words(outside << 16 | port, inside), count + 1) == 0:
             ends.append((outside, port))
             if len(ends) == count:
                 return ends
