@@ -294,7 +294,7 @@ def times(out, count, chance, _size):
 
 PRIME = 2**61 - 1
 # The point of the seed 0.
-POINT = 0x9E3779B97F4A7C15 % 2**60
+POINT = 0x9E3779B97F4A7C15 % 2**60 + 1
 
 
 def hash_words(first, second):

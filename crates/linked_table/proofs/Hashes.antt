@@ -20,11 +20,11 @@ value_same point first second =
     let inner_same : inner % prime ≡ (first * point + second) % prime = fold_same (folded first * point + folded second) ∙ terms in
     fold_same (inner * point) ∙ mul_same inner (first * point + second) point inner_same
 
-value_below : (point first second : ℕ) → point < 2 ^ 60 → first < 2 ^ 64 → second < 2 ^ 64 → folded (folded (folded first * point + folded second) * point) < 2 * prime
+value_below : (point first second : ℕ) → point ≤ 2 ^ 60 → first < 2 ^ 64 → second < 2 ^ 64 → folded (folded (folded first * point + folded second) * point) < 2 * prime
 value_below point first second point_small first_small second_small =
     let inner = folded (folded first * point + folded second) in
-    let inner_product : folded first * point ≤ (2 ^ 61 + 7) * (2 ^ 60 - 1) = mul-le (folded first) point (2 ^ 61 + 7) (2 ^ 60 - 1) (omega arith) (omega arith) in
-    let outer_product : inner * point ≤ (2 ^ 61 + 2 ^ 60 + 7) * (2 ^ 60 - 1) = mul-le inner point (2 ^ 61 + 2 ^ 60 + 7) (2 ^ 60 - 1) (omega arith) (omega arith) in
+    let inner_product : folded first * point ≤ (2 ^ 61 + 7) * 2 ^ 60 = mul-le (folded first) point (2 ^ 61 + 7) (2 ^ 60) (omega arith) (omega arith) in
+    let outer_product : inner * point ≤ (2 ^ 61 + 2 ^ 60 + 7) * 2 ^ 60 = mul-le inner point (2 ^ 61 + 2 ^ 60 + 7) (2 ^ 60) (omega arith) (omega arith) in
     omega arith
 
 module _ (seed first second : ℕ) (seed_small : seed < 2 ^ 64) (first_small : first < 2 ^ 64) (second_small : second < 2 ^ 64) where

@@ -15,21 +15,21 @@ fn fold(number: u128) -> u64
 }
 
 /// Returns the hash of two words under a seed: the value of the polynomial
-/// `first * x^2 + second * x` modulo 2^61 - 1 at a point x below 2^60 that the seed chooses.
-/// Two different pairs of words below 2^61 - 1 have the same hash at no more than two of the
-/// points, since a polynomial of degree two has at most two roots (Carter and Wegman, "Universal
-/// classes of hash functions", 1979). So pairs that share a bucket cannot be chosen without the
-/// seed; nothing here proves it.
+/// `first * x^2 + second * x` modulo the prime 2^61 - 1 at a point x from 1 to 2^60 that the seed
+/// chooses. Two different pairs of words below the prime have the same hash at no more than one of
+/// the points: divided by x, the difference of their polynomials has degree one at most, so one
+/// root at most. So pairs that share a hash are hard to choose without the seed, and few of those
+/// chosen anyhow share a bucket; nothing here proves it.
 #[inline]
 pub fn hash_words(seed: u64, first: u64, second: u64) -> u64
     ensures { result ≡ hash_of_words seed first second }
 {
-    // The folds of words that the caller is seen to keep below 2^61 cost nothing.
+    // The compiler removes these two folds where it knows that the word is below 2^61.
     let first = u128::from(fold(u128::from(first)));
     let second = u128::from(fold(u128::from(second)));
-    let point = u128::from(seed.wrapping_add(0x9e37_79b9_7f4a_7c15) % (1 << 60));
+    let point = u128::from(seed.wrapping_add(0x9e37_79b9_7f4a_7c15) % (1 << 60) + 1);
     let inner = u128::from(fold(first * point + second));
     let outer = fold(inner * point);
-    // Below twice the prime, since the point is below 2^60.
+    // Below twice the prime, since the point is at most 2^60.
     if outer < PRIME { outer } else { outer - PRIME }
 }

@@ -54,8 +54,9 @@ fn hub_of<K: Key>(hashed: &Hashed<K>, seed: u64, slots: u32, chains: &Rings) -> 
 {
     let buckets = (chains.len() - slots as usize) as u64;
     let hash = hashed.hash_under(seed);
-    // Keys in sequence have hashes in arithmetic progression, whose low bits alone may fall into few
-    // buckets. The products of their halves spread.
+    // Keys in sequence have hashes in arithmetic progression, of which the low bits alone may fall
+    // into few buckets: 33 of 65,536 connections in sequence into one, with the product of the
+    // halves at most 9.
     let mixed = (hash % (1 << 32)) * (hash >> 32) % (1 << 32);
     slots + ((mixed * buckets) >> 32) as u32
 }

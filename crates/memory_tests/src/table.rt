@@ -143,14 +143,16 @@ fn a_pattern_of_calls_is_the_same_on_a_list(rt: HostRuntime) -> Result<(), Fail>
 
 #[test]
 fn a_hash_is_of_the_seed_and_both_words(rt: HostRuntime) {
-    // first * x^2 + second * x modulo 2^61 - 1, where x is seed + 0x9e37_79b9_7f4a_7c15 modulo 2^60,
-    // as computed by Python.
-    assert_eq!(rt; hash_words(0, 1, 2), 0x0204_0b44_58eb_146e);
-    assert_eq!(rt; hash_words(7, 1, 2), 0x090c_b369_4efd_ddd9);
-    assert_eq!(rt; hash_words(7, 2, 1), 0x0772_f9a6_201c_475d);
+    // first * x^2 + second * x modulo 2^61 - 1, as computed by Python, where x is 1 more than
+    // seed + 0x9e37_79b9_7f4a_7c15 modulo 2^60.
+    assert_eq!(rt; hash_words(0, 1, 2), 0x1e72_feb7_5780_0c9b);
+    assert_eq!(rt; hash_words(7, 1, 2), 0x057b_a6dc_4d92_d615);
+    // A seed of which the point is 1.
+    assert_eq!(rt; hash_words(0x61c8_8646_80b5_83eb, 1, 2), 3);
+    assert_eq!(rt; hash_words(7, 2, 1), 0x0050_e08c_1d46_37d2);
     assert_eq!(rt;
         hash_words(u64::MAX, u64::MAX, u64::MAX - 1),
-        0x1557_d8ed_7e06_e52b
+        0x1c60_8112_7419_ae56
     );
 }
 
