@@ -211,9 +211,10 @@ impl Pool {
         ensures taken { IfSome result
             (λ cell. TakesAfter self.old self.new chain.0 after (empty_cell cell block)) }
     {
-        let taken = self.take(chain, after, block)?;
-        self.mark_taken(chain, after, taken, block);
-        Some(taken)
+        match after {
+            Some(after) => self.take_behind(chain, after, block),
+            None => self.take_front(chain, block),
+        }
     }
 
     /// Frees the cell after the given one, or the first cell.
@@ -222,8 +223,10 @@ impl Pool {
         requires place { HasCellAfter (chain_at self.old chain.0) after }
         ensures { GivesBackAfter self.old self.new chain.0 after }
     {
-        self.mark_given(chain, after);
-        self.give(chain, after);
+        match after {
+            Some(after) => self.give_behind(chain, after),
+            None => self.give_front(chain),
+        }
     }
 
     /// Writes an octet into the cell at `at`.
@@ -257,81 +260,6 @@ impl Pool {
         cell.octets.clear_below(at)
     }
 
-    fn block_at(&self, cell: Option<CellId>) -> Option<u64> {
-        Some(self.cells.get(cell?.0 as usize)?.block)
-    }
-
-    // Returns the cell after `after`, or the first cell.
-    fn behind(&self, chain: ChainId, after: Option<CellId>) -> Option<CellId> {
-        match after {
-            Some(cell) => self.cells.get(cell.0 as usize)?.next,
-            None => self.heads.get(chain.0 as usize)?.first,
-        }
-    }
-
-    // Updates the landmarks after `taken` was taken in behind `after`, with this block number.
-    fn mark_taken(&mut self, chain: ChainId, after: Option<CellId>, taken: CellId, block: u64)
-        ensures { self.new ≡ self.old }
-    {
-        let before = self.block_at(after);
-        if let Some(before) = before {
-            self.trees.mark(&self.cells, chain, taken, before, block);
-        }
-        if let Some(cell) = self.cells.get(taken.0 as usize) {
-            let next = cell.next;
-            self.trees
-                .remark(&self.cells, chain, next, before, Some(block));
-        }
-    }
-
-    // Updates the landmarks before the cell after `after`, or the first cell, is freed.
-    fn mark_given(&mut self, chain: ChainId, after: Option<CellId>)
-        ensures { self.new ≡ self.old }
-    {
-        let before = self.block_at(after);
-        let Some(given) = self.behind(chain, after) else {
-            return;
-        };
-        let Some(cell) = self.cells.get(given.0 as usize) else {
-            return;
-        };
-        let next = cell.next;
-        let block = cell.block;
-        if after.is_some() {
-            self.trees
-                .remark(&self.cells, chain, Some(given), before, None);
-        }
-        self.trees
-            .remark(&self.cells, chain, next, Some(block), before);
-    }
-
-    // Takes a free cell into the chain, after the given cell or at the front.
-    fn take(&mut self, chain: ChainId, after: Option<CellId>, block: u64) -> Option<CellId>
-        requires chain_in_range { chain.0 < length self.old.chains }
-        requires place { HasPlaceFor (chain_at self.old chain.0) after block }
-        ensures full { IsNone result ↔ (self.old.free ≡ 0) }
-        ensures unchanged { IfNone result (self.new ≡ self.old) }
-        ensures taken { IfSome result
-            (λ cell. TakesAfter self.old self.new chain.0 after (empty_cell cell block)) }
-    {
-        match after {
-            Some(after) => self.take_behind(chain, after, block),
-            None => self.take_front(chain, block),
-        }
-    }
-
-    // Frees the cell after the given one, or the first cell.
-    fn give(&mut self, chain: ChainId, after: Option<CellId>)
-        requires chain_in_range { chain.0 < length self.old.chains }
-        requires place { HasCellAfter (chain_at self.old chain.0) after }
-        ensures { GivesBackAfter self.old self.new chain.0 after }
-    {
-        match after {
-            Some(after) => self.give_behind(chain, after),
-            None => self.give_front(chain),
-        }
-    }
-
     fn take_front(&mut self, chain: ChainId, block: u64) -> Option<CellId>
         requires chain_in_range { chain.0 < length self.old.chains }
         requires order { BeginsAbove block (chain_at self.old chain.0) }
@@ -351,6 +279,8 @@ impl Pool {
             count: head.count + 1,
         };
         self.free -= 1;
+        self.trees
+            .mark_second(&self.cells, chain, head.first, block);
         Some(taken)
     }
 
@@ -364,7 +294,9 @@ impl Pool {
     {
         let taken = ready(&mut self.cells, &mut self.trees, self.spare)?;
         let spare = self.cells[taken.0 as usize].next;
-        let next = self.cells[after.0 as usize].next;
+        let link = &self.cells[after.0 as usize];
+        let before = link.block;
+        let next = link.next;
         set_next(&mut self.cells, after, Some(taken));
         let cell = &mut self.cells[taken.0 as usize];
         cell.begin(next, chain, block);
@@ -372,6 +304,8 @@ impl Pool {
         head.count += 1;
         self.spare = spare;
         self.free -= 1;
+        self.trees
+            .mark_taken(&self.cells, chain, taken, before, block);
         Some(taken)
     }
 
@@ -385,13 +319,16 @@ impl Pool {
             unreachable!()
         };
         let cell = &mut self.cells[given.0 as usize];
+        let next = cell.next;
+        let block = cell.block;
         self.heads[chain.0 as usize] = Head {
-            first: cell.next,
+            first: next,
             count: head.count - 1,
         };
         cell.release(self.spare);
         self.spare = Some(given);
         self.free += 1;
+        self.trees.unmark_second(&self.cells, chain, next, block);
     }
 
     fn give_behind(&mut self, chain: ChainId, after: CellId)
@@ -399,9 +336,12 @@ impl Pool {
         requires place { HasCellAfter (chain_at self.old chain.0) (Some after) }
         ensures { GivesBackAfter self.old self.new chain.0 (Some after) }
     {
-        let Some(given) = self.cells[after.0 as usize].next else {
+        let link = &self.cells[after.0 as usize];
+        let before = link.block;
+        let Some(given) = link.next else {
             unreachable!()
         };
+        self.trees.unmark_given(&self.cells, chain, given, before);
         let next = self.cells[given.0 as usize].next;
         set_next(&mut self.cells, after, next);
         let cell = &mut self.cells[given.0 as usize];

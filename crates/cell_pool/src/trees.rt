@@ -55,11 +55,30 @@ fn block_of(cells: &[Cell], name: CellId) -> Option<u64> {
     Some(cells.get(name.0 as usize)?.block)
 }
 
-// Returns whether a cell is a landmark: the cell before it is in another region.
-fn is_landmark(before: Option<u64>, block: u64) -> bool {
-    match before {
-        Some(before) => before / REGION != block / REGION,
-        None => false,
+// Returns whether two block numbers are in one region. A cell is a landmark if the cell before it is
+// in another region; the first cell of a chain is no landmark.
+fn is_one_region(before: u64, block: u64) -> bool {
+    before / REGION == block / REGION
+}
+
+// Returns the cell after `name` if it is in the same region.
+fn next_in_region(cells: &[Cell], name: CellId) -> Option<CellId> {
+    let cell = cells.get(name.0 as usize)?;
+    let next = cell.next?;
+    if is_one_region(cell.block, block_of(cells, next)?) {
+        Some(next)
+    } else {
+        None
+    }
+}
+
+// Returns the given cell if `block` is in another region.
+fn beyond(cells: &[Cell], cell: Option<CellId>, block: u64) -> Option<CellId> {
+    let name = cell?;
+    if is_one_region(block, block_of(cells, name)?) {
+        None
+    } else {
+        Some(name)
     }
 }
 
@@ -148,52 +167,80 @@ impl Trees {
         }
     }
 
-    /// Makes a cell of this block number a landmark, if the cell before it, whose block number is
-    /// `before`, is in another region.
+    /// Updates the landmarks after `taken`, of this block number, was taken in behind a cell of
+    /// block number `before`.
     #[inline]
-    pub(crate) fn mark(
+    pub(crate) fn mark_taken(
         &mut self,
         cells: &[Cell],
         chain: ChainId,
-        name: CellId,
+        taken: CellId,
         before: u64,
         block: u64,
     ) {
-        if is_landmark(Some(before), block) {
-            self.change(cells, chain, name, block, true);
+        if !is_one_region(before, block) {
+            self.begin_region(cells, chain, taken);
         }
     }
 
-    /// Updates the landmarks when the block number before `cell` changes from `was` to `is`. Either
-    /// is none if the cell is at the front or in no chain.
-    #[inline]
-    pub(crate) fn remark(
+    /// Updates the landmarks before `given` is freed, the cell behind one of block number `before`.
+    pub(crate) fn unmark_given(
         &mut self,
         cells: &[Cell],
         chain: ChainId,
-        cell: Option<CellId>,
-        was: Option<u64>,
-        is: Option<u64>,
+        given: CellId,
+        before: u64,
     ) {
-        let Some(name) = cell else {
-            return;
-        };
-        let Some(block) = block_of(cells, name) else {
-            return;
-        };
-        let old = is_landmark(was, block);
-        let new = is_landmark(is, block);
-        if old != new {
-            self.change(cells, chain, name, block, new);
+        if beyond(cells, Some(given), before).is_some() {
+            self.end_region(cells, chain, given);
         }
     }
 
+    /// Updates the landmarks after a cell of this block number was taken in at the front, before
+    /// `second`.
+    #[inline]
+    pub(crate) fn mark_second(
+        &mut self,
+        cells: &[Cell],
+        chain: ChainId,
+        second: Option<CellId>,
+        block: u64,
+    ) {
+        if let Some(name) = beyond(cells, second, block) {
+            self.insert(cells, chain, name);
+        }
+    }
+
+    /// Updates the landmarks after the first cell, of this block number, was freed; `second` was
+    /// the cell after it.
+    #[inline]
+    pub(crate) fn unmark_second(
+        &mut self,
+        cells: &[Cell],
+        chain: ChainId,
+        second: Option<CellId>,
+        block: u64,
+    ) {
+        if let Some(name) = beyond(cells, second, block) {
+            self.remove(cells, chain, name);
+        }
+    }
+
+    // Makes `taken` a landmark, and no longer the cell after it in its region.
     #[cold]
-    fn change(&mut self, cells: &[Cell], chain: ChainId, name: CellId, block: u64, is: bool) {
-        if is {
-            self.insert(cells, chain, name, block);
-        } else {
-            self.remove(cells, chain, name, block);
+    fn begin_region(&mut self, cells: &[Cell], chain: ChainId, taken: CellId) {
+        self.insert(cells, chain, taken);
+        if let Some(next) = next_in_region(cells, taken) {
+            self.remove(cells, chain, next);
+        }
+    }
+
+    // Makes the cell after `given` in its region a landmark in its place.
+    #[cold]
+    fn end_region(&mut self, cells: &[Cell], chain: ChainId, given: CellId) {
+        self.remove(cells, chain, given);
+        if let Some(next) = next_in_region(cells, given) {
+            self.insert(cells, chain, next);
         }
     }
 
@@ -271,7 +318,11 @@ impl Trees {
         }
     }
 
-    fn insert(&mut self, cells: &[Cell], chain: ChainId, name: CellId, block: u64) {
+    #[cold]
+    fn insert(&mut self, cells: &[Cell], chain: ChainId, name: CellId) {
+        let Some(block) = block_of(cells, name) else {
+            return;
+        };
         let leaf = Branch::Leaf(name);
         let Some(way) = self.way(cells, chain, block) else {
             self.set_root(chain, Some(leaf));
@@ -295,7 +346,11 @@ impl Trees {
 
     // Removes a landmark and the fork above it. The fork that had the landmark's identifier takes
     // that of the removed fork.
-    fn remove(&mut self, cells: &[Cell], chain: ChainId, name: CellId, block: u64) {
+    #[cold]
+    fn remove(&mut self, cells: &[Cell], chain: ChainId, name: CellId) {
+        let Some(block) = block_of(cells, name) else {
+            return;
+        };
         let Some(way) = self.way(cells, chain, block) else {
             return;
         };

@@ -5,8 +5,8 @@ use Rattle.cell_pool.proofs.Updates.{update_sound, update_seen}
 use Rattle.cell_pool.proofs.Views.{shown, free_is}
 use Rattle.cell_pool.proofs.pool.Pool.give_behind.Goals as goal
 
-pub index-requires : goal.index-requires
-index-requires c = omega (
+pub index-link-requires : goal.index-link-requires
+index-link-requires c = omega (
   arith,
   behind_inside (shown c.self.invariant c.self.view_is)
       c.requires.chain_in_range c.requires.place,
@@ -14,15 +14,15 @@ index-requires c = omega (
 
 pub unreachable-requires : goal.unreachable-requires
 unreachable-requires c = behind_given (shown c.self.invariant c.self.view_is)
-    c.requires.chain_in_range c.index.ensures c.requires.place c.in_default.is
+    c.requires.chain_in_range c.index-link.ensures c.requires.place c.in_default.is
 
-pub index-requires-2 : goal.index-requires-2
-index-requires-2 c =
-    let next : c.index.result.now.next ≡ Some c.in-Some.given = cc in
+pub index-requires : goal.index-requires
+index-requires c =
+    let next : c.index-link.result.now.next ≡ Some c.in-Some.given = cc in
     omega (
       arith,
       given_inside (shown c.self.invariant c.self.view_is)
-          c.requires.chain_in_range c.index.ensures next c.requires.place,
+          c.requires.chain_in_range c.index-link.ensures next c.requires.place,
     )
 
 pub set_next-requires : goal.set_next-requires
@@ -30,11 +30,11 @@ set_next-requires c = behind_inside (shown c.self.invariant c.self.view_is) c.re
 
 pub index_mut-cell-requires : goal.index_mut-cell-requires
 index_mut-cell-requires c =
-    let next : c.index.result.now.next ≡ Some c.in-Some.given = cc in
+    let next : c.index-link.result.now.next ≡ Some c.in-Some.given = cc in
     omega (
       arith,
       given_inside (shown c.self.invariant c.self.view_is)
-          c.requires.chain_in_range c.index.ensures next c.requires.place,
+          c.requires.chain_in_range c.index-link.ensures next c.requires.place,
       ap length c.set_next.ensures.items
           ∙ length-set _ _ _,
     )
@@ -46,17 +46,17 @@ overflow_sub-head c = has_count (shown c.self.invariant c.self.view_is)
 pub invariant_of-self : goal.invariant_of-self
 invariant_of-self c =
     let shows = shown c.self.invariant c.self.view_is in
-    let next : c.index.result.now.next ≡ Some c.in-Some.given = cc in
-    rw c.set_next.ensures.room (update_sound shows c.requires.chain_in_range (give_behind shows c.requires.chain_in_range _ c.index.ensures next
-    c.index-2.ensures c.set_next.ensures.items (ap (λ (k : Cell). k.next) c.release.ensures)
+    let next : c.index-link.result.now.next ≡ Some c.in-Some.given = cc in
+    rw c.set_next.ensures.room (update_sound shows c.requires.chain_in_range (give_behind shows c.requires.chain_in_range _ c.index-link.ensures next
+    c.index.ensures c.set_next.ensures.items (ap (λ (k : Cell). k.next) c.release.ensures)
     (ap (λ (k : Cell). k.owner) c.release.ensures) c.index_mut-head.ensures.value c.requires.place.place)
     (give_rises shows c.requires.chain_in_range c.requires.place))
 
 pub returns : goal.returns
 returns c before x rest place =
     let shows = shown c.self.invariant c.self.view_is in
-    let next : c.index.result.now.next ≡ Some c.in-Some.given = cc in
-    rw c.set_next.ensures.room (update_seen shows c.requires.chain_in_range (give_behind shows c.requires.chain_in_range _ c.index.ensures next
-    c.index-2.ensures c.set_next.ensures.items (ap (λ (k : Cell). k.next) c.release.ensures)
+    let next : c.index-link.result.now.next ≡ Some c.in-Some.given = cc in
+    rw c.set_next.ensures.room (update_seen shows c.requires.chain_in_range (give_behind shows c.requires.chain_in_range _ c.index-link.ensures next
+    c.index.ensures c.set_next.ensures.items (ap (λ (k : Cell). k.next) c.release.ensures)
     (ap (λ (k : Cell). k.owner) c.release.ensures) c.index_mut-head.ensures.value place)
     (ap (λ n. n + 1) (free_is shows)))

@@ -1,7 +1,7 @@
 use Rattle.std.proofs.Common.{subst}
 use Rattle.cell_pool.specs.Lists.{HasPlaceFor, chain_at}
 use Rattle.cell_pool.proofs.Takes.{front_order, takes_at_front}
-use Rattle.cell_pool.proofs.pool.Pool.take.Goals as goal
+use Rattle.cell_pool.proofs.pool.Pool.take_after.Goals as goal
 
 pub take_behind-requires-clause-place : goal.take_behind-requires-clause-place
 take_behind-requires-clause-place c = subst (λ k. HasPlaceFor (chain_at c.args.self.now c.args.chain.0)
