@@ -36,19 +36,18 @@ impl Model for Pool {
     ghost invariant = { λ p. IsSound p.heads.items p.cells.items p.spare p.free (vec_capacity p.cells) };
 }
 
-// Returns a free cell: the first from `spare` on or, where that list is empty, one that it makes if
-// not all are made. It allocates nothing: `open` reserved the memory.
+// Makes a cell and has `spare` lead to it where the free list is empty, if not all cells are made. It
+// allocates nothing: `open` reserved the memory.
 #[inline]
-fn ready(cells: &mut Vec<Cell>, trees: &mut Trees, spare: Option<CellId>) -> Option<CellId>
+fn ready(cells: &mut Vec<Cell>, trees: &mut Trees, spare: &mut Option<CellId>)
     requires { vec_capacity cells.old < 2 ^ 32 }
-    ensures none { IsNone result ↔ ((spare ≡ None) × (length cells.old.items ≡ vec_capacity cells.old)) }
-    ensures unchanged { IfNone result (cells.new.items ≡ cells.old.items) }
-    ensures ready { IfSome result (IsReady cells.old.items (vec_capacity cells.old) spare cells.new.items) }
+    ensures none { IsNone spare.new ↔ ((spare.old ≡ None) × (length cells.old.items ≡ vec_capacity cells.old)) }
+    ensures unchanged { IfNone spare.new (cells.new.items ≡ cells.old.items) }
+    ensures ready { IfSome spare.new (IsReady cells.old.items (vec_capacity cells.old) spare.old cells.new.items) }
     ensures room { vec_capacity cells.new ≡ vec_capacity cells.old }
 {
-    match spare {
-        Some(first) => Some(first),
-        None => make(cells, trees),
+    if spare.is_none() {
+        *spare = make(cells, trees);
     }
 }
 
@@ -269,7 +268,8 @@ impl Pool {
             (λ cell. let cells = empty_cell cell block ∷ chain_at self.old chain.0 in
             self.new ≡ with_chain self.old chain.0 cells (self.old.free - 1)) }
     {
-        let taken = ready(&mut self.cells, &mut self.trees, self.spare)?;
+        ready(&mut self.cells, &mut self.trees, &mut self.spare);
+        let taken = self.spare?;
         let head = self.heads[chain.0 as usize];
         let cell = &mut self.cells[taken.0 as usize];
         self.spare = cell.next;
@@ -292,7 +292,8 @@ impl Pool {
         ensures taken { IfSome result
             (λ cell. TakesAfter self.old self.new chain.0 (Some after) (empty_cell cell block)) }
     {
-        let taken = ready(&mut self.cells, &mut self.trees, self.spare)?;
+        ready(&mut self.cells, &mut self.trees, &mut self.spare);
+        let taken = self.spare?;
         let spare = self.cells[taken.0 as usize].next;
         let link = &self.cells[after.0 as usize];
         let before = link.block;
