@@ -1,5 +1,5 @@
 //! The position of a block in a chain of the pool.
-ghost use Rattle.std.specs.Prelude.{◌≡◌, ◌<◌, ◌%◌, length, IsTrue};
+ghost use Rattle.std.specs.Prelude.{◌≡◌, ◌<◌, ◌%◌, length, IsTrue, Some};
 ghost use Rattle.cell_pool.specs.Lists.{chain_at, IsRising};
 ghost use Rattle.retain_store.specs.Seats.{blocks_in, IsNear, IsSeat, IsWalk};
 ghost use Rattle.retain_store.specs.Maps.{octet_at, IsWithin};
@@ -31,14 +31,13 @@ pub(crate) fn seek(pool: &Pool, chain: ChainId, near: Option<CellId>, block: u64
             return Seat::Cell(cell);
         }
         if reached < block {
-            let next = pool.next_of(cell);
-            if next.is_none() {
+            let Some(next) = pool.next_of(cell) else {
                 return Seat::After(near);
-            }
+            };
             if block - reached < CLOSE {
-                return walk(pool, chain, near, next, block);
+                return walk(pool, chain, near, Some(next), block);
             }
-            return seek_behind(pool, chain, near, next, block);
+            return seek_behind(pool, chain, cell, next, block);
         }
     }
     seek_far(pool, chain, block)
@@ -46,21 +45,13 @@ pub(crate) fn seek(pool: &Pool, chain: ChainId, near: Option<CellId>, block: u64
 
 // Finds the seat of a block 16 or more blocks after the cell `near`; `next` is the cell after `near`.
 #[inline(never)]
-fn seek_behind(
-    pool: &Pool,
-    chain: ChainId,
-    near: Option<CellId>,
-    next: Option<CellId>,
-    block: u64,
-) -> Seat
+fn seek_behind(pool: &Pool, chain: ChainId, near: CellId, next: CellId, block: u64) -> Seat
     requires chain_in_range { chain.0 < length pool.now.chains }
-    requires begun { IsWalk (chain_at pool.now chain.0) block near next 0 }
+    requires begun { IsWalk (chain_at pool.now chain.0) block (Some near) (Some next) 0 }
     ensures { IsSeat (chain_at pool.now chain.0) block result }
 {
-    if let Some(cell) = next {
-        if pool.block(cell) > block {
-            return Seat::After(near);
-        }
+    if pool.block(next) > block {
+        return Seat::After(Some(near));
     }
     seek_far(pool, chain, block)
 }
@@ -82,15 +73,19 @@ pub(crate) fn nearest(
     }
 }
 
-// Finds the seat of a block from a landmark, or from the front if no landmark is before the block.
+// Finds the seat of a block from the front if the first block is less than 16 blocks before,
+// otherwise from a landmark, or from the front if no landmark is before the block.
 #[inline(never)]
 fn seek_far(pool: &Pool, chain: ChainId, block: u64) -> Seat
     requires { chain.0 < length pool.now.chains }
     ensures { IsSeat (chain_at pool.now chain.0) block result }
 {
     let first = pool.first(chain);
-    if first.is_none() {
+    let Some(front) = first else {
         return Seat::After(None);
+    };
+    if block.saturating_sub(pool.block(front)) < CLOSE {
+        return walk(pool, chain, None, first, block);
     }
     let Some(cell) = pool.landmark(chain, block) else {
         return walk(pool, chain, None, first, block);
