@@ -115,10 +115,10 @@ fn walk(
             return Seat::After(after);
         };
         let reached = pool.block(cell);
-        if reached == block {
-            return Seat::Cell(cell);
-        }
-        if reached > block {
+        if reached >= block {
+            if reached == block {
+                return Seat::Cell(cell);
+            }
             return Seat::After(after);
         }
         after = next;

@@ -12,13 +12,13 @@ pub returns-then-reached-block : goal.returns-then-reached-block
 returns-then-reached-block c =
     let reached = walk_reaches c.loop.invariant c.in-Some.is in
     let block = c.block-reached.ensures _ _ _ _ (stands c.requires.chain_in_range reached.at) in
-    is_cell reached (sym block ∙ c.if-reached-block.true)
+    stops_before reached (omega (arith, block, c.if-reached-block.true, c.if-reached-block-2.false))
 
 pub returns-then-reached-block-2 : goal.returns-then-reached-block-2
 returns-then-reached-block-2 c =
     let reached = walk_reaches c.loop.invariant c.in-Some.is in
     let block = c.block-reached.ensures _ _ _ _ (stands c.requires.chain_in_range reached.at) in
-    stops_before reached (omega (arith, block))
+    is_cell reached (sym block ∙ c.if-reached-block-2.true)
 
 pub next_of-next-requires : goal.next_of-next-requires
 next_of-next-requires c = is_held c.requires.chain_in_range (walk_reaches c.loop.invariant c.in-Some.is).at
