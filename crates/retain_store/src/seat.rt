@@ -1,6 +1,6 @@
 //! The position of a block in a chain of the pool.
 ghost use Rattle.std.specs.Prelude.{◌≡◌, ◌<◌, ◌%◌, length, IsTrue, Some};
-ghost use Rattle.cell_pool.specs.Lists.{chain_at, IsRising};
+ghost use Rattle.cell_pool.specs.Lists.{chain_at, first_id, IsRising};
 ghost use Rattle.retain_store.specs.Seats.{blocks_in, IsNear, IsSeat, IsWalk};
 ghost use Rattle.retain_store.specs.Maps.{octet_at, IsWithin};
 
@@ -40,7 +40,7 @@ pub(crate) fn seek(pool: &Pool, chain: ChainId, near: Option<CellId>, block: u64
             return seek_behind(pool, chain, cell, next, block);
         }
     }
-    seek_far(pool, chain, block)
+    seek_apart(pool, chain, block)
 }
 
 // Finds the seat of a block 16 or more blocks after the cell `near`; `next` is the cell after `near`.
@@ -53,7 +53,7 @@ fn seek_behind(pool: &Pool, chain: ChainId, near: CellId, next: CellId, block: u
     if pool.block(next) > block {
         return Seat::After(Some(near));
     }
-    seek_far(pool, chain, block)
+    seek_apart(pool, chain, block)
 }
 
 /// Returns the cell of a block, or the one before it: a cell at which the next walk may start.
@@ -73,22 +73,31 @@ pub(crate) fn nearest(
     }
 }
 
-// Finds the seat of a block from the front if the first block is less than 16 blocks before,
-// otherwise from a landmark, or from the front if no landmark is before the block.
-#[inline(never)]
-fn seek_far(pool: &Pool, chain: ChainId, block: u64) -> Seat
+// Finds the seat of a block without a cell from which to start.
+#[inline]
+fn seek_apart(pool: &Pool, chain: ChainId, block: u64) -> Seat
     requires { chain.0 < length pool.now.chains }
     ensures { IsSeat (chain_at pool.now chain.0) block result }
 {
-    let first = pool.first(chain);
-    let Some(front) = first else {
-        return Seat::After(None);
-    };
+    match pool.first(chain) {
+        Some(front) => seek_far(pool, chain, front, block),
+        None => Seat::After(None),
+    }
+}
+
+// Finds the seat of a block from the first cell, `front`, if its block is less than 16 blocks before,
+// otherwise from a landmark, or from the front if no landmark is before the block.
+#[inline(never)]
+fn seek_far(pool: &Pool, chain: ChainId, front: CellId, block: u64) -> Seat
+    requires chain_in_range { chain.0 < length pool.now.chains }
+    requires first { Some front ≡ first_id (chain_at pool.now chain.0) }
+    ensures { IsSeat (chain_at pool.now chain.0) block result }
+{
     if block.saturating_sub(pool.block(front)) < CLOSE {
-        return walk(pool, chain, None, first, block);
+        return walk(pool, chain, None, Some(front), block);
     }
     let Some(cell) = pool.landmark(chain, block) else {
-        return walk(pool, chain, None, first, block);
+        return walk(pool, chain, None, Some(front), block);
     };
     if pool.block(cell) == block {
         return Seat::Cell(cell);
