@@ -342,8 +342,11 @@ impl Pool {
         let Some(given) = link.next else {
             unreachable!()
         };
-        self.trees.unmark_given(&self.cells, chain, given, before);
-        let next = self.cells[given.0 as usize].next;
+        let cell = &self.cells[given.0 as usize];
+        let next = cell.next;
+        let block = cell.block;
+        self.trees
+            .unmark_given(&self.cells, chain, given, before, block);
         set_next(&mut self.cells, after, next);
         let cell = &mut self.cells[given.0 as usize];
         cell.release(self.spare);

@@ -167,7 +167,7 @@ impl Trees {
         }
     }
 
-    /// Updates the landmarks after `taken`, of this block number, was taken in behind a cell of
+    /// Updates the landmarks after `taken`, with this block number, was inserted behind a cell with
     /// block number `before`.
     #[inline]
     pub(crate) fn mark_taken(
@@ -183,20 +183,23 @@ impl Trees {
         }
     }
 
-    /// Updates the landmarks before `given` is freed, the cell behind one of block number `before`.
+    /// Updates the landmarks before `given`, with this block number, is freed behind a cell with
+    /// block number `before`.
+    #[inline]
     pub(crate) fn unmark_given(
         &mut self,
         cells: &[Cell],
         chain: ChainId,
         given: CellId,
         before: u64,
+        block: u64,
     ) {
-        if beyond(cells, Some(given), before).is_some() {
+        if !is_one_region(before, block) {
             self.end_region(cells, chain, given);
         }
     }
 
-    /// Updates the landmarks after a cell of this block number was taken in at the front, before
+    /// Updates the landmarks after a cell with this block number was inserted at the front, before
     /// `second`.
     #[inline]
     pub(crate) fn mark_second(
@@ -211,7 +214,7 @@ impl Trees {
         }
     }
 
-    /// Updates the landmarks after the first cell, of this block number, was freed; `second` was
+    /// Updates the landmarks after the first cell, with this block number, was freed; `second` was
     /// the cell after it.
     #[inline]
     pub(crate) fn unmark_second(
@@ -226,7 +229,7 @@ impl Trees {
         }
     }
 
-    // Makes `taken` a landmark, and no longer the cell after it in its region.
+    // Makes `taken` a landmark, in place of the cell after it if that is in the same region.
     #[cold]
     fn begin_region(&mut self, cells: &[Cell], chain: ChainId, taken: CellId) {
         self.insert(cells, chain, taken);
@@ -235,7 +238,7 @@ impl Trees {
         }
     }
 
-    // Makes the cell after `given` in its region a landmark in its place.
+    // Removes the landmark `given`. The cell after it becomes one if it is in the same region.
     #[cold]
     fn end_region(&mut self, cells: &[Cell], chain: ChainId, given: CellId) {
         self.remove(cells, chain, given);

@@ -10,7 +10,7 @@
 //! tested by time alone.
 //!
 //! Choices: a hint is the name of the cell used last, or of the one that `aim` found. A walk begins
-//! there if it is less than 16 blocks before, otherwise at a landmark of the pool, or at the front.
+//! there or at the front if that is less than 16 blocks before, otherwise at a landmark of the pool.
 //! No clause says that `aim` sets a hint: only speed depends on it. An emptied cell is given back at
 //! once, so a chain has as many cells as blocks with an octet. `has_room` counts missing blocks only
 //! if fewer cells are free than blocks are touched. `agrees` exists beside `settle` so that octets

@@ -13,12 +13,13 @@ pub(crate) enum Seat {
     After(Option<CellId>),
 }
 
-// A walk starts at the cell used last if the block is less than this many blocks after it.
+// A walk starts at the cell used last or at the first one if the block is less than this many blocks
+// after it.
 const CLOSE: u64 = 16;
 
 /// Finds the seat of a block: at or after `near` if that is its seat. Otherwise a walk starts at
-/// `near` if that cell is less than 16 blocks before, otherwise at a landmark of the pool, or at the
-/// front if no landmark is before the block.
+/// `near` or at the first cell if it is less than 16 blocks before, otherwise at a landmark of the
+/// pool, or at the front if no landmark is before the block.
 #[inline(always)]
 pub(crate) fn seek(pool: &Pool, chain: ChainId, near: Option<CellId>, block: u64) -> Seat
     requires chain_in_range { chain.0 < length pool.now.chains }

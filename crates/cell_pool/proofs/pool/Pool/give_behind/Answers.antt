@@ -16,8 +16,8 @@ pub unreachable-requires : goal.unreachable-requires
 unreachable-requires c = behind_given (shown c.self.invariant c.self.view_is)
     c.requires.chain_in_range c.index-link.ensures c.requires.place c.in_default.is
 
-pub index-requires : goal.index-requires
-index-requires c =
+pub index-cell-requires : goal.index-cell-requires
+index-cell-requires c =
     let next : c.index-link.result.now.next ≡ Some c.in-Some.given = cc in
     omega (
       arith,
@@ -48,7 +48,7 @@ invariant_of-self c =
     let shows = shown c.self.invariant c.self.view_is in
     let next : c.index-link.result.now.next ≡ Some c.in-Some.given = cc in
     rw c.set_next.ensures.room (update_sound shows c.requires.chain_in_range (give_behind shows c.requires.chain_in_range _ c.index-link.ensures next
-    c.index.ensures c.set_next.ensures.items (ap (λ (k : Cell). k.next) c.release.ensures)
+    c.index-cell.ensures c.set_next.ensures.items (ap (λ (k : Cell). k.next) c.release.ensures)
     (ap (λ (k : Cell). k.owner) c.release.ensures) c.index_mut-head.ensures.value c.requires.place.place)
     (give_rises shows c.requires.chain_in_range c.requires.place))
 
@@ -57,6 +57,6 @@ returns c before x rest place =
     let shows = shown c.self.invariant c.self.view_is in
     let next : c.index-link.result.now.next ≡ Some c.in-Some.given = cc in
     rw c.set_next.ensures.room (update_seen shows c.requires.chain_in_range (give_behind shows c.requires.chain_in_range _ c.index-link.ensures next
-    c.index.ensures c.set_next.ensures.items (ap (λ (k : Cell). k.next) c.release.ensures)
+    c.index-cell.ensures c.set_next.ensures.items (ap (λ (k : Cell). k.next) c.release.ensures)
     (ap (λ (k : Cell). k.owner) c.release.ensures) c.index_mut-head.ensures.value place)
     (ap (λ n. n + 1) (free_is shows)))
