@@ -221,8 +221,30 @@ impl Era {
         }
     }
 
+    /// Changes the era by an inbound SYN that passed.
+    pub fn hear(&mut self, seg: &Seg)
+        requires legal { tcp.are_legal seg.now.flags.0 ≡ true }
+        requires syn { tcp.has_syn seg.now.flags.0 ≡ true }
+        ensures stands { (ws : List Written) → StandsFor self.old ws → StandsFor self.new (ws ++ came seg.now ∷ []) }
+        ensures same { acked_in self.new ≡ acked_in self.old }
+        ensures settled { IsSettled self.new }
+        ensures octets { octets_in self.new ≡ octets_in self.old }
+    {
+        match self {
+            Era::Called(era) => *self = Era::Offered(era.answered(seg)),
+            Era::Offered(era) => era.hear(seg),
+            Era::Warm(era) => {
+                era.hear(seg);
+                if era.is_over() {
+                    *self = Era::Closed(Closed { last: *era });
+                }
+            }
+            Era::Closed(era) => era.last.hear(seg),
+        }
+    }
+
     /// Returns the era after an inbound SYN that passed.
-    pub fn seen_syn(self, seg: &Seg) -> Era
+    pub fn seen_syn(mut self, seg: &Seg) -> Era
         requires legal { tcp.are_legal seg.now.flags.0 ≡ true }
         requires syn { tcp.has_syn seg.now.flags.0 ≡ true }
         ensures stands { (ws : List Written) → StandsFor self ws → StandsFor result (ws ++ came seg.now ∷ []) }
@@ -230,12 +252,8 @@ impl Era {
         ensures settled { IsSettled result }
         ensures octets { octets_in result ≡ octets_in self }
     {
-        match self {
-            Era::Called(era) => Era::Offered(era.answered(seg)),
-            Era::Offered(era) => Era::Offered(era.came(seg)),
-            Era::Warm(era) => Era::settled(era.came(seg)),
-            Era::Closed(era) => Era::settled(era.last.came(seg)),
-        }
+        self.hear(seg);
+        self
     }
 
     /// Returns the offset after all that is acknowledged, was written inwards, or is the end; none

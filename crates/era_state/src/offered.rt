@@ -44,14 +44,13 @@ impl Offered {
         }
     }
 
-    // Returns the era after another inbound SYN.
-    pub(crate) fn came(mut self, seg: &Seg) -> Offered
+    // Changes the era by another inbound SYN.
+    pub(crate) fn hear(&mut self, seg: &Seg)
         requires legal { tcp.are_legal seg.now.flags.0 ≡ true }
         requires syn { tcp.has_syn seg.now.flags.0 ≡ true }
-        ensures stands { (ws : List Written) → OfferedFor self ws → OfferedFor result (ws ++ came seg.now ∷ []) }
+        ensures stands { (ws : List Written) → OfferedFor self.old ws → OfferedFor self.new (ws ++ came seg.now ∷ []) }
     {
         self.syns = self.syns.came(seg);
-        self
     }
 
     // Returns the era after an outbound segment that acknowledges no offset of the stream.

@@ -134,12 +134,11 @@ impl Warm {
         self.out_fin |= seg.flags.fin();
     }
 
-    // Returns the era after an inbound SYN.
-    pub(crate) fn came(mut self, seg: &Seg) -> Warm
-        ensures stands { WarmCalled (came seg.now) self result }
+    // Changes the era by an inbound SYN.
+    pub(crate) fn hear(&mut self, seg: &Seg)
+        ensures stands { WarmCalled (came seg.now) self.old self.new }
     {
         self.syns = self.syns.came(seg);
-        self
     }
 
     // Returns whether both sides have sent a FIN and the inbound FIN is acknowledged.
