@@ -1,5 +1,5 @@
 -- What is kept of an era after a segment that brings no octet inwards: what was kept before, from what is acknowledged on.
-use Rattle.std.proofs.Common.{◌≡◌, ℕ, ◌≤◌, ◌⊎◌, inl, inr, Bool, true, false, cond, List, [], ◌∷◌, ◌++◌, Option, Some, None, is_some, pos, refl, sym, ap, subst, ◌∙◌, arith, append_assoc, ◌-ℤ◌}
+use Rattle.std.proofs.Common.{◌≡◌, ℕ, ◌≤◌, ◌⊎◌, inl, inr, Bool, true, false, cond, List, [], ◌∷◌, ◌++◌, Option, Some, None, is_some, pos, refl, sym, ap, ap₂, subst, ◌∙◌, arith, append_assoc, ◌-ℤ◌}
 use Rattle.std.proofs.lemmas.List.{append-nil}
 use Rattle.std.specs.List.{AllByRecursion}
 use Rattle.std.specs.Prelude.{nat_lt}
@@ -104,6 +104,20 @@ pub keeps_behind : FirstStays → AckedNeverFalls → (old new : Era) (ws more :
     → AllByRecursion BringsNone more → Keeps blocks ws → ForgetsBelow blocks left (acked_in new) → Keeps left (ws ++ more)
 keeps_behind stays grows old new ws more blocks left was is none keeps forgets o =
     forgets o ∙ (ap (λ x. cond (nat_lt o (acked_in new)) None x) (keeps o) ∙ sym (kept_behind stays grows old new ws more was is none o))
+
+twice : (b : Bool) (x : Option ℕ) → cond b None x ≡ cond b None (cond b None x)
+twice true x = refl
+twice false x = refl
+
+-- a chain of which nothing is to be forgotten, since no more is acknowledged
+pub keeps_same : FirstStays → AckedNeverFalls → (old new : Era) (ws more : List Written) (blocks : List Block) → era.StandsFor old ws → era.StandsFor new (ws ++ more) → acked_in new ≡ acked_in old
+    → AllByRecursion BringsNone more → Keeps blocks ws → Keeps blocks (ws ++ more)
+keeps_same stays grows old new ws more blocks was is same none keeps =
+    keeps_behind stays grows old new ws more blocks blocks was is none keeps
+    (λ o.
+    let first_at = first (base_at ws) ws (pos o) in
+    keeps o ∙ (twice (nat_lt o (acked (base_at ws) ws)) first_at
+    ∙ ap₂ (λ a x. cond (nat_lt o a) None x) (sym (same ∙ acked_is old ws was)) (sym (keeps o))))
 
 -- an outbound segment, and one without octets, brings none
 pub outbound_brings_none : (w : Written) → w.inward ≡ false → BringsNone w

@@ -66,3 +66,4 @@ pub mod Read
 pub mod Ruled
 pub mod OfLive
 pub mod Syns
+pub mod Touching

@@ -1,5 +1,6 @@
 -- What is known of the entry in a slot of the table, and of the chain of that slot.
-use Rattle.std.proofs.Common.{◌≡◌, ◌≢◌, ℕ, ◌≤◌, List, [], ◌∷◌, length, map, sym, ap, subst, ◌∙◌, get_or-set_other}
+use Rattle.std.proofs.Common.{◌≡◌, ◌≢◌, ℕ, ◌≤◌, List, [], ◌∷◌, length, map, refl, sym, ap, subst, ◌∙◌, get_or-set_other}
+use Rattle.std.proofs.lemmas.List.{set-get_or}
 use Rattle.std.specs.List.{AllByRecursion, AllPairs}
 use Rattle.wire_base.specs.Segments.{Written}
 use Rattle.norm_settings.specs.Settings.{PlainSettings}
@@ -21,6 +22,10 @@ use Rattle.linked_table.proofs.Parts.{split_at, wherever}
 pub others_same : (store new : Store) (hole : ℕ) → ChangesOnly store new hole → (chain : ℕ) → chain ≢ hole → chain_of new chain ≡ chain_of store chain
 others_same store new hole changed chain ne =
     ap (λ (s : Store). chain_of s chain) changed.others ∙ get_or-set_other store.chains hole chain (chain_of new hole) [] ne
+
+-- nothing has changed
+pub none_changed : (store : Store) (hole : ℕ) → ChangesOnly store store hole
+none_changed store hole = record { number = refl; others = ap (λ l. record store { chains = l }) (sym (set-get_or store.chains hole [])); cells = refl }
 
 -- the era in a slot and its chain represent its segments, and its number was given
 pub record AtSlot (segments : ℕ → List Written) (begun : ℕ) (store : Store) (slot : Slot) (flow : Flow) : Type 0 where

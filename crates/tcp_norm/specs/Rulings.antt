@@ -149,6 +149,25 @@ pub record SendsIn (old new : table.Table EraKey Flow) (slot : Slot) (s : Seg) (
   pub was : table.Wherever old.entries slot (λ e. flow ≡ e.value)
   pub continues : Continues old new slot s now acked flow
 
+-- the entry in this slot had this value, and has this era now, with as much acknowledged and as many octets, and was touched at this time
+pub record Touches (old new : table.Table EraKey Flow) (slot : Slot) (now : ℕ) (flow : Flow) (era : Era) : Type 0 where
+  pub was : table.Wherever old.entries slot (λ e. flow ≡ e.value)
+  pub entries : new ≡ record old { entries = written_back old.entries slot (record { era = era; number = flow.number; touched = now }) }
+  pub same : eraspec.acked_in era ≡ eraspec.acked_in flow.era
+  pub octets_are : eraspec.octets_in era ≡ eraspec.octets_in flow.era
+
+-- only the time of the entry in this slot has changed
+pub record TouchesIn (old new : table.Table EraKey Flow) (slot : Slot) (now : ℕ) : Type 0 where
+  pub flow : Flow
+  pub touches : Touches old new slot now flow flow.era
+
+-- the era of the entry in this slot heard this SYN
+pub record HearsIn (old new : table.Table EraKey Flow) (slot : Slot) (s : Seg) (now : ℕ) : Type 0 where
+  pub flow : Flow
+  pub era : Era
+  pub touches : Touches old new slot now flow era
+  pub stands : (ws : List Written) → eraspec.StandsFor flow.era ws → eraspec.StandsFor era (ws ++ came s ∷ [])
+
 -- the live era was changed by a frame of this interval and touched at this time; `fresh` octets of the frame are the first at their offsets
 pub record TakesIn (old new : table.Table EraKey Flow) (live : Live) (i : Interval) (fresh now : ℕ) : Type 0 where
   pub era : Era
@@ -227,9 +246,9 @@ pub record CanTake (calls : ℕ) (store : Store) (most : Option ℕ) (live : Liv
 -- the change can be made
 abbrev pub IsOpenTo : TcpNorm → Live → Change → Type 0
 IsOpenTo norm live Nothing = Unit {0}
-IsOpenTo norm live Touch = IsHeld norm.table live × IsNear norm.calls live.flow.era
+IsOpenTo norm live Touch = IsHeld norm.table live
 IsOpenTo norm live (Take t) = IsHeld norm.table live × CanTake (norm.calls + 1) norm.store norm.quota live t
-IsOpenTo norm live (Hear s) = IsHeld norm.table live × IsNear norm.calls live.flow.era × IsLegal s × (tcp.has_syn s.flags.0 ≡ true)
+IsOpenTo norm live (Hear s) = IsHeld norm.table live × IsLegal s × (tcp.has_syn s.flags.0 ≡ true)
 IsOpenTo norm live (Reopen o) = IsHeld norm.table live
 
 -- the outcome writes these octets in the era, after the segments before
@@ -243,7 +262,7 @@ pub record Brings (calls : List Call) (scratch : List ℕ) (d : Datagram) (live 
   pub more : List Written
   pub writes : WritesAll d live.flow.number more o
 
--- the outcome writes in the era what brings it no octet, and after that it is this one
+-- the outcome writes in the era what brings it no octet, and then the state of the era is this one
 pub record Extends (calls : List Call) (d : Datagram) (live : Live) (e : Era) (ws : List Written) (o : Outcome) : Type 0 where
   pub key_is : live.key ≡ key_of d
   pub none : AllByRecursion BringsNone ws

@@ -1,11 +1,10 @@
 //! What a segment changes in its live era.
-ghost use Rattle.std.specs.Prelude.{◌≡◌, ◌+◌, ◌<◌, ◌≤◌, ◌^◌, false, length};
+ghost use Rattle.std.specs.Prelude.{◌≡◌, ◌+◌, ◌<◌, ◌≤◌, ◌^◌, false, true, length};
 ghost use Rattle.std.specs.List.{All};
 ghost use Rattle.wire_base.specs.Tcp as tcp;
 ghost use Rattle.era_state.specs.Eras.{GivesTo, acked_in, octets_in};
 ghost use Rattle.linked_table.specs.Table.{IsIn};
-ghost use Rattle.tcp_norm.specs.Rulings.{CanPlace, IsHeld, IsLegal, PlacesOctets, SendsIn, TakesIn, taken};
-ghost use Rattle.tcp_norm.specs.Spare.{CanList, Relists, written_back};
+ghost use Rattle.tcp_norm.specs.Rulings.{CanPlace, HearsIn, IsHeld, IsLegal, PlacesOctets, SendsIn, TakesIn, TouchesIn, taken};
 
 use crate::flow::{Flow, Live};
 use crate::key::EraKey;
@@ -14,7 +13,7 @@ use crate::spare::{chain_is_counted, list_spare};
 use crate::state::TcpNorm;
 use era_state::laws::{acked_never_falls, first_stays, frame_octets, intervals_fit};
 use era_state::{Era, Interval, Offered, Seg};
-use linked_table::{LinkedTable, Slot, SlotList};
+use linked_table::{LinkedTable, Slot};
 use retain_store::{ChainId, Retain};
 
 impl TcpNorm {
@@ -31,7 +30,6 @@ impl TcpNorm {
     ghost use Rattle.tcp_norm.specs.Standing.{IsReady, StandsFor};
     ghost use Rattle.tcp_norm.specs.Rulings.{IsCounted, IsOpenTo, Needs, IsHeld, IsLegal, Brings, CanTake, Extends, Hears, Reopens};
     ghost use Rattle.wire_base.specs.Segments.{Written};
-    ghost use Rattle.tcp_norm.specs.Near.{IsNear};
 
     /// Makes the change of a segment that arrives at this time.
     pub(crate) fn apply(&mut self, live: &Live, change: &Change<'_>, now: u32)
@@ -42,26 +40,49 @@ impl TcpNorm {
     {
         match change {
             Change::Nothing => self.arrive(now),
-            Change::Touch => self.keep_era(live, &live.flow.era, now),
+            Change::Touch => self.touch(live.slot, now),
             Change::Take(taking) => self.take_octets(live, taking, now),
-            Change::Hear(seg) => self.hear(live, seg, now),
+            Change::Hear(seg) => self.hear(live.slot, seg, now),
             Change::Reopen(era) => self.offer(live, era, now),
         }
     }
 
-    // Updates a live era by an inbound SYN that neither reopens it nor is dropped.
-    #[inline(never)]
-    fn hear(&mut self, live: &Live, seg: &Seg, now: u32)
-        requires held { IsHeld self.old.table live.now }
-        requires near { IsNear self.old.calls live.now.flow.era }
+    // Changes the live era in this slot by an inbound SYN that neither reopens it nor is dropped. It acknowledges nothing, so no octet is forgotten.
+    fn hear(&mut self, slot: Slot, seg: &Seg, now: u32)
+        requires inside { IsIn self.old.table.entries slot }
         requires legal { IsLegal seg.now }
         requires syn { tcp.has_syn seg.now.flags.0 ≡ true }
         requires ready { IsReady self.old now }
-        ensures { (settings : PlainSettings) (calls : List Call) (d : Datagram) (o : Outcome) → StandsFor settings self.old calls →
-            Hears calls d live.now seg.now o → IsCounted settings calls d o now self.old self.new }
+        ensures { (settings : PlainSettings) (calls : List Call) (d : Datagram) (key : FlowKey) (flow : Flow) (o : Outcome) → StandsFor settings self.old calls →
+            IsHeld self.old.table (record { key = key; slot = slot; flow = flow }) → Hears calls d (record { key = key; slot = slot; flow = flow }) seg.now o →
+            IsCounted settings calls d o now self.old self.new }
     {
-        let era = live.flow.era.seen_syn(seg);
-        self.keep_era(live, &era, now);
+        first_stays();
+        acked_never_falls();
+        self.entries_are_apart();
+        chain_is_counted(&self.store, ChainId(slot.0));
+        self.calls += 1;
+        self.latest = now;
+        hear_in(&mut self.table, slot, seg, now);
+        list_spare(&mut self.spare, &self.store, slot);
+    }
+
+    // Touches the live era in this slot with a segment that arrives at this time and brings no octet of the stream.
+    fn touch(&mut self, slot: Slot, now: u32)
+        requires inside { IsIn self.old.table.entries slot }
+        requires ready { IsReady self.old now }
+        ensures { (settings : PlainSettings) (calls : List Call) (d : Datagram) (key : FlowKey) (flow : Flow) (ws : List Written) (o : Outcome) → StandsFor settings self.old calls →
+            IsHeld self.old.table (record { key = key; slot = slot; flow = flow }) → Extends calls d (record { key = key; slot = slot; flow = flow }) flow.era ws o →
+            IsCounted settings calls d o now self.old self.new }
+    {
+        first_stays();
+        acked_never_falls();
+        self.entries_are_apart();
+        chain_is_counted(&self.store, ChainId(slot.0));
+        self.calls += 1;
+        self.latest = now;
+        touch_in(&mut self.table, slot, now);
+        list_spare(&mut self.spare, &self.store, slot);
     }
 
     // Ends the live era and begins another by an inbound SYN that arrives at this time.
@@ -73,31 +94,6 @@ impl TcpNorm {
             Reopens self.old d live.now era.now o → IsCounted settings calls d o now self.old self.new }
     {
         self.reopen(live, &Era::Offered(*era), now);
-    }
-
-    /// Makes `era` of the live era, with a segment that arrives at this time and brings no octet of the stream: acknowledged octets are forgotten.
-    pub(crate) fn keep_era(&mut self, live: &Live, era: &Era, now: u32)
-        requires held { IsHeld self.old.table live.now }
-        requires near { IsNear (self.old.calls + 1) era.now }
-        requires ready { IsReady self.old now }
-        ensures { (settings : PlainSettings) (calls : List Call) (d : Datagram) (ws : List Written) (o : Outcome) → StandsFor settings self.old calls →
-            Extends calls d live.now era.now ws o → IsCounted settings calls d o now self.old self.new }
-    {
-        first_stays();
-        acked_never_falls();
-        self.calls += 1;
-        self.latest = now;
-        let chain = ChainId(live.slot.0);
-        chain_is_counted(&self.store, chain);
-        self.store.forget_below(chain, era.acknowledged());
-        write_back(
-            &mut self.table,
-            &mut self.spare,
-            &self.store,
-            live,
-            era,
-            now,
-        );
     }
 
     /// Changes the live era in this slot by an outbound segment that arrives at this time and neither ends nor reopens it: acknowledged octets are forgotten.
@@ -174,6 +170,29 @@ fn send_in(table: &mut LinkedTable<EraKey, Flow>, slot: Slot, seg: &Seg, now: u3
     acked
 }
 
+// Changes the era in a slot by an inbound SYN and touches it at this time.
+fn hear_in(table: &mut LinkedTable<EraKey, Flow>, slot: Slot, seg: &Seg, now: u32)
+    requires inside { IsIn table.old.entries slot }
+    requires legal { IsLegal seg.now }
+    requires syn { tcp.has_syn seg.now.flags.0 ≡ true }
+    ensures { HearsIn table.old table.new slot seg.now now }
+{
+    let flow = table.at_mut(slot);
+    flow.era.hear(seg);
+    flow.touched = now;
+    table.touch(slot);
+}
+
+// Touches the era in a slot at this time.
+fn touch_in(table: &mut LinkedTable<EraKey, Flow>, slot: Slot, now: u32)
+    requires inside { IsIn table.old.entries slot }
+    ensures { TouchesIn table.old table.new slot now }
+{
+    let flow = table.at_mut(slot);
+    flow.touched = now;
+    table.touch(slot);
+}
+
 // Changes a live era in its slot by a frame with these octets and this FIN, of which `fresh` octets are the first at their offsets, and touches it at this
 // time.
 fn take_in(
@@ -194,26 +213,4 @@ fn take_in(
     flow.era.forward(kept, fresh);
     flow.touched = now;
     table.touch(slot);
-}
-
-// Writes the state of a live era into its slot and touches it at this time, and lists the slot where it holds no octet.
-fn write_back(
-    table: &mut LinkedTable<EraKey, Flow>,
-    spare: &mut SlotList,
-    store: &Retain,
-    live: &Live,
-    era: &Era,
-    now: u32,
-)
-    requires held { IsHeld table.old live.now }
-    requires listed { CanList spare.old store.now live.now.slot }
-    ensures entries { table.new ≡ record table.old { entries = written_back table.old.entries live.now.slot (record { era = era.now; number = live.now.flow.number; touched = now }) } }
-    ensures spare { Relists spare.old spare.new store.now live.now.slot }
-{
-    let slot = live.slot;
-    let flow = table.at_mut(slot);
-    flow.era = *era;
-    flow.touched = now;
-    table.touch(slot);
-    list_spare(spare, store, slot);
 }

@@ -1,13 +1,9 @@
-use Rattle.std.proofs.Common.{◌+◌, subst, arith}
+use Rattle.std.proofs.Common.{subst}
 use Rattle.tcp_norm.specs.Rulings.{IsOpenTo, Needs}
-use Rattle.tcp_norm.proofs.Nears.{near_weaker}
 use Rattle.tcp_norm.proofs.state.TcpNorm.apply.Goals as goal
 
-pub keep_era-requires-clause-held : goal.keep_era-requires-clause-held
-keep_era-requires-clause-held c = (subst (IsOpenTo c.args.self.now c.args.live.now) c.in-Touch.is c.requires.fits).0
-
-pub keep_era-requires-clause-near : goal.keep_era-requires-clause-near
-keep_era-requires-clause-near c = near_weaker c.args.self.now.calls (c.args.self.now.calls + 1) c.args.live.now.flow.era (omega arith) (subst (IsOpenTo c.args.self.now c.args.live.now) c.in-Touch.is c.requires.fits).1
+pub touch-requires-clause-inside : goal.touch-requires-clause-inside
+touch-requires-clause-inside c = (subst (IsOpenTo c.args.self.now c.args.live.now) c.in-Touch.is c.requires.fits).inside
 
 pub take_octets-requires-clause-held : goal.take_octets-requires-clause-held
 take_octets-requires-clause-held c = (subst (IsOpenTo c.args.self.now c.args.live.now) c.in-Take.is c.requires.fits).0
@@ -15,17 +11,14 @@ take_octets-requires-clause-held c = (subst (IsOpenTo c.args.self.now c.args.liv
 pub take_octets-requires-clause-can : goal.take_octets-requires-clause-can
 take_octets-requires-clause-can c = (subst (IsOpenTo c.args.self.now c.args.live.now) c.in-Take.is c.requires.fits).1
 
-pub hear-requires-clause-held : goal.hear-requires-clause-held
-hear-requires-clause-held c = (subst (IsOpenTo c.args.self.now c.args.live.now) c.in-Hear.is c.requires.fits).0
-
-pub hear-requires-clause-near : goal.hear-requires-clause-near
-hear-requires-clause-near c = (subst (IsOpenTo c.args.self.now c.args.live.now) c.in-Hear.is c.requires.fits).1
+pub hear-requires-clause-inside : goal.hear-requires-clause-inside
+hear-requires-clause-inside c = (subst (IsOpenTo c.args.self.now c.args.live.now) c.in-Hear.is c.requires.fits).0.inside
 
 pub hear-requires-clause-legal : goal.hear-requires-clause-legal
-hear-requires-clause-legal c = (subst (IsOpenTo c.args.self.now c.args.live.now) c.in-Hear.is c.requires.fits).2
+hear-requires-clause-legal c = (subst (IsOpenTo c.args.self.now c.args.live.now) c.in-Hear.is c.requires.fits).1
 
 pub hear-requires-clause-syn : goal.hear-requires-clause-syn
-hear-requires-clause-syn c = (subst (IsOpenTo c.args.self.now c.args.live.now) c.in-Hear.is c.requires.fits).3
+hear-requires-clause-syn c = (subst (IsOpenTo c.args.self.now c.args.live.now) c.in-Hear.is c.requires.fits).2
 
 pub returns-in-Nothing : goal.returns-in-Nothing
 returns-in-Nothing c settings calls d o st needs =
@@ -34,7 +27,8 @@ returns-in-Nothing c settings calls d o st needs =
 pub returns-in-Touch : goal.returns-in-Touch
 returns-in-Touch c settings calls d o st needs =
     let e = subst (λ x. Needs calls c.args.self.now d c.args.live.now x o) c.in-Touch.is needs in
-    c.keep_era.ensures settings calls d e.0 o st e.1
+    let held = subst (IsOpenTo c.args.self.now c.args.live.now) c.in-Touch.is c.requires.fits in
+    c.touch.ensures settings calls d c.args.live.now.key c.args.live.now.flow e.0 o st held e.1
 
 pub returns-in-Take : goal.returns-in-Take
 returns-in-Take c settings calls d o st needs =
@@ -42,7 +36,8 @@ returns-in-Take c settings calls d o st needs =
 
 pub returns-in-Hear : goal.returns-in-Hear
 returns-in-Hear c settings calls d o st needs =
-    c.hear.ensures settings calls d o st (subst (λ x. Needs calls c.args.self.now d c.args.live.now x o) c.in-Hear.is needs)
+    let held = (subst (IsOpenTo c.args.self.now c.args.live.now) c.in-Hear.is c.requires.fits).0 in
+    c.hear.ensures settings calls d c.args.live.now.key c.args.live.now.flow o st held (subst (λ x. Needs calls c.args.self.now d c.args.live.now x o) c.in-Hear.is needs)
 
 pub offer-requires-clause-held : goal.offer-requires-clause-held
 offer-requires-clause-held c = subst (IsOpenTo c.args.self.now c.args.live.now) c.in-Reopen.is c.requires.fits

@@ -1,18 +1,44 @@
-use Rattle.std.proofs.Common.{[], ◌∷◌, arith}
+use Rattle.std.proofs.Common.{[], ◌∷◌, refl, sym, ap, subst}
+use Rattle.linked_table.specs.Table as table
+use Rattle.era_state.specs.Eras as era
 use Rattle.era_state.specs.Read.{came}
+use Rattle.tcp_norm.specs.declared.flow.Flow.{Flow}
+use Rattle.tcp_norm.specs.declared.flow.Live.{Live}
+use Rattle.tcp_norm.specs.declared.key.EraKey.{EraKey}
 use Rattle.tcp_norm.specs.Calls.{segments}
 use Rattle.tcp_norm.proofs.Calleds.{came_brings_none}
+use Rattle.tcp_norm.proofs.Slots.{none_changed, opened_kept}
+use Rattle.tcp_norm.proofs.Sparing.{touched_listed}
+use Rattle.tcp_norm.proofs.Touching.{near_marked, stands_touched, touched_is}
 use Rattle.tcp_norm.proofs.Writing.{writes_one}
 use Rattle.tcp_norm.proofs.state.TcpNorm.hear.Goals as goal
 
-pub keep_era-requires-clause-near : goal.keep_era-requires-clause-near
-keep_era-requires-clause-near c =
-    let near = c.requires.near in
-    (omega (arith, near.0, c.seen_syn-era.ensures.same), omega (arith, near.1, c.seen_syn-era.ensures.octets))
-
 pub returns : goal.returns
-returns c settings calls d o st e =
-    let live = c.args.live.now in
+returns c settings calls d key flow o st held h =
     let seg = c.args.seg.now in
-    c.keep_era.ensures settings calls d (came seg ∷ []) o st
-    (record { key_is = e.key_is; none = (came_brings_none seg, tt); stands = c.seen_syn-era.ensures.stands (segments live.flow.number calls) e.stood; writes = writes_one d live.flow.number (came seg) o e.does })
+    let self = c.args.self.now in
+    let live : Live = record { key = key; slot = c.args.slot; flow = flow } in
+    let found = c.hear_in.ensures in
+    let before = segments flow.number calls in
+    let same = touched_is self.table _ live c.args.now found.flow found.era held found.touches in
+    let stands = found.stands before (subst (λ (f : Flow). era.StandsFor f.era before) (sym same) h.stood) in
+    record {
+      stands = stands_touched c.first_stays.ensures c.acked_never_falls.ensures settings self _ calls c.args.now d live found.flow found.era (came seg ∷ []) o st
+          (opened_kept settings self _ st.opened (ap (λ (t : table.Table EraKey Flow). t.max) found.touches.entries) refl refl refl refl refl refl refl) refl refl refl c.requires.ready.later refl
+          (record { map = c.chain_is_counted.ensures.map; held = c.chain_is_counted.ensures.held }) held found.touches
+          (record { key_is = h.key_is; none = (came_brings_none seg, tt); stands = stands; writes = writes_one d flow.number (came seg) o h.does });
+      scratch_is = refl;
+    }
+
+pub invariant_of-self-clause-near : goal.invariant_of-self-clause-near
+invariant_of-self-clause-near c =
+    let self = c.args.self.now in
+    let found = c.hear_in.ensures in
+    near_marked self.calls self.table _ c.args.slot c.args.now found.flow found.era c.requires.inside found.touches self.near
+
+pub invariant_of-self-clause-spare_listed : goal.invariant_of-self-clause-spare_listed
+invariant_of-self-clause-spare_listed c =
+    let self = c.args.self.now in
+    let apart = c.entries_are_apart.ensures in
+    touched_listed self.spare _ self.store self.store self.table _ c.args.slot _ c.requires.inside apart.slots_apart apart.keys_apart (none_changed self.store c.args.slot.0)
+    self.spare_listed c.list_spare.ensures (ap (λ (t : table.Table EraKey Flow). t.entries) c.hear_in.ensures.touches.entries)
