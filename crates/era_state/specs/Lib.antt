@@ -5,6 +5,7 @@ pub mod Quantities
 pub mod States
 pub mod Keeping
 pub mod Rules
+pub mod Heard
 pub mod Raised
 pub mod Read
 pub mod Scales

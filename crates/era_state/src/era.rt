@@ -1,10 +1,11 @@
 //! An era, and the transitions of segments.
-ghost use Rattle.std.specs.Prelude.{◌≡◌, ℕ, ◌+◌, ◌^◌, ◌<◌, ◌≤◌, List, [], ◌∷◌, ◌++◌, length, Some, is_none, true, false};
+ghost use Rattle.std.specs.Prelude.{◌≡◌, ℕ, ◌+◌, ◌^◌, ◌<◌, ◌≤◌, List, [], ◌∷◌, ◌++◌, length, Some, is_none, true, false, if◌then◌else◌};
 ghost use Rattle.wire_base.specs.Segments.{Written};
 ghost use Rattle.wire_base.specs.Tcp as tcp;
 ghost use Rattle.era_state.specs.Offsets.{off};
 ghost use Rattle.era_state.specs.Read.{sent, came};
 ghost use Rattle.era_state.specs.Rules.{is_awaited, follows, precedes};
+ghost use Rattle.era_state.specs.declared.era.SynAnswer.TheVariants.{Hear, Reopen, Stray};
 ghost use Rattle.era_state.specs.Standing.{CalledFor, OfferedFor, WarmFor, is_over_in};
 
 use crate::called::Called;
@@ -39,6 +40,19 @@ pub enum Moved {
     Reset,
 }
 
+/// Answer of a live era to an inbound SYN.
+#[derive(Clone, Copy)]
+pub enum SynAnswer {
+    /// T_STATE: it is dropped.
+    Early,
+    /// T_SYN: it is dropped.
+    Stray,
+    /// It ends the era and begins another.
+    Reopen,
+    /// The era hears it.
+    Hear,
+}
+
 // Returns whether the sequence number is at an offset from `acked` to `next`, both included.
 fn is_awaited(base: u32, acked: u64, next: u64, sequence: u32) -> bool
     requires acked { acked < 2 ^ 63 + 2 ^ 32 }
@@ -71,7 +85,22 @@ fn precedes(base: Option<u32>, sequence: u32) -> bool
     }
 }
 
+// Returns the answer of an era of this base to a SYN; `reopens` says whether a SYN of another
+// number reopens the era.
+fn repeated(base: u32, sequence: u32, reopens: bool) -> SynAnswer
+    ensures { result ≡ (if precedes (Some base) sequence then Hear else if reopens then Reopen else Stray) }
+{
+    if sequence_plus(sequence, 1) == base {
+        SynAnswer::Hear
+    } else if reopens {
+        SynAnswer::Reopen
+    } else {
+        SynAnswer::Stray
+    }
+}
+
 impl Era {
+    ghost use Rattle.era_state.specs.Heard.{is_reopen, syn_answer};
     ghost use Rattle.era_state.specs.Rules.{reopens_outward, reopens_outward_at, reopens_inward, t_state, t_syn, takes_reset, t_rst};
     ghost use Rattle.era_state.specs.States.{is_called, is_offered, is_closed};
     ghost use Rattle.era_state.specs.Eras.{StandsFor, IsSettled, MovesSettled, MovesTo, MovesNear, MovesSame, NextIs, is_reset, state_in, base_in, iss_in, acked_in, octets_in, last_in, GivesTo, ForwardsIn};
@@ -386,6 +415,30 @@ impl Era {
         let ack = seg.flags.ack();
         let again = precedes(self.base(), seg.seq);
         syn && !again && !called && (!closed || ack)
+    }
+
+    /// Judges an inbound SYN.
+    pub fn judge_syn(&self, seg: &Seg) -> SynAnswer
+        requires legal { tcp.are_legal seg.now.flags.0 ≡ true }
+        requires syn { tcp.has_syn seg.now.flags.0 ≡ true }
+        ensures answer { (ws : List Written) → StandsFor self.now ws → result ≡ syn_answer ws (came seg.now) }
+        ensures reopens { (ws : List Written) → StandsFor self.now ws → is_reopen result ≡ reopens_inward ws (came seg.now) }
+        ensures alone { result ≡ Reopen → tcp.has_ack seg.now.flags.0 ≡ false }
+    {
+        let ack = seg.flags.ack();
+        match self {
+            Era::Called(era) => {
+                let answers = follows(Some(era.iss), seg.ack);
+                if ack && !answers {
+                    SynAnswer::Early
+                } else {
+                    SynAnswer::Hear
+                }
+            }
+            Era::Offered(era) => repeated(era.base, seg.seq, false),
+            Era::Warm(era) => repeated(era.base, seg.seq, false),
+            Era::Closed(era) => repeated(era.last.base, seg.seq, !ack),
+        }
     }
 
     // Returns whether a reset acknowledges the first SYN, or has an awaited sequence number.

@@ -25,7 +25,7 @@ pub mod syns;
 pub mod warm;
 
 pub use called::Called;
-pub use era::{Closed, Era, Moved};
+pub use era::{Closed, Era, Moved, SynAnswer};
 pub use interval::Interval;
 pub use offered::Offered;
 pub use probe::Probe;

@@ -2,7 +2,7 @@
 ghost use Rattle.std.specs.Prelude.{◌≡◌, true, false};
 ghost use Rattle.wire_base.specs.Tcp as tcp;
 
-use era_state::{Called, Era, Interval, Moved, Offered, Seg, Warm};
+use era_state::{Called, Era, Interval, Moved, Offered, Seg, SynAnswer, Warm};
 use std::process::Abort;
 use wire_base::Flags;
 
@@ -167,6 +167,7 @@ fn closes_and_reopens(rt: HostRuntime) {
     assert!(rt; !era.is_reopened_by(&segment(SYN, 70000, 0, 0)));
     let era = goes_out(&rt, era, &segment(ACK, 5021, 1019, 0));
     assert!(rt; era.is_reopened_by(&segment(SYN, 70000, 0, 0)));
+    assert!(rt; matches!(era.judge_syn(&segment(SYN, 70000, 0, 0)), SynAnswer::Reopen));
     assert!(rt; !era.is_reopened_by(&call));
 }
 
@@ -261,6 +262,12 @@ fn passes_a_turn(rt: HostRuntime) {
 fn answers_the_inside(rt: HostRuntime) {
     let era = Era::Called(Called::call(&segment(SYN, 5000, 0, 0)));
     assert!(rt; era.is_early(&segment(SYN_ACK, 999, 7000, 0)));
+    assert!(rt;
+        matches!(
+            era.judge_syn(&segment(SYN_ACK, 999, 7000, 0)),
+            SynAnswer::Early
+        )
+    );
     let answer = segment(SYN_ACK, 999, 5001, 0);
     assert!(rt; !era.is_early(&answer) && era.next_place() == None);
     let era = era.seen_syn(&answer);
@@ -278,6 +285,8 @@ fn refuses_strays(rt: HostRuntime) {
     assert!(rt;
         era.is_stray_syn(&segment(SYN, 7000, 0, 0)) && !era.is_stray_syn(&segment(SYN, 999, 0, 0))
     );
+    assert!(rt; matches!(era.judge_syn(&segment(SYN, 7000, 0, 0)), SynAnswer::Stray));
+    assert!(rt; matches!(era.judge_syn(&segment(SYN, 999, 0, 0)), SynAnswer::Hear));
     assert!(rt; !era.is_stray_reset(&segment(RST, 1000, 0, 0)));
     let (_, _, era) = comes_in(&rt, era, &segment(PSH_ACK, 1000, 5001, 4));
     let era = goes_out(&rt, era, &segment(ACK, 5001, 1004, 0));
