@@ -58,18 +58,6 @@ step_recalled v w n live inward some =
     let again : reopens v w ≡ true = again_is v w n true live inward some in
     record { era_is = rw (again, live) refl; begun_is = rw (again, live) refl; ended_is = rw (again, live) refl; full_is = rw live refl }
 
--- what reopens has no ACK
-pub again_alone : (ws : List Written) (s : Seg) (again answer : Bool) → again ≡ reopens_inward ws (came s) → answer ≡ tcp.has_ack s.flags.0 → (again && not answer) ≡ reopens_inward ws (came s)
-again_alone ws s again answer is ack =
-    ap₂ (λ a b. a && not b) is ack ∙ alone (is_closed (state_of ws)) (tcp.has_syn s.flags.0) (tcp.has_ack s.flags.0) (not (precedes (base_of ws) s.seq))
-  where
-    alone : (a b c e : Bool) → ((a && ((true && b) && not c) && e) && not c) ≡ (a && ((true && b) && not c) && e)
-    alone true true true e = refl
-    alone true true false true = refl
-    alone true true false false = refl
-    alone true false c e = refl
-    alone false b c e = refl
-
 -- it brings no octet
 pub came_brings_none : (s : Seg) → BringsNone (came s)
 came_brings_none s base at offset = get_none (natural (pos offset -ℤ off base at s.seq))

@@ -29,6 +29,7 @@ impl TcpNorm {
     ghost use Rattle.linked_table.specs.Table as table;
 
     /// Begins an era with a segment that arrives at this time, if there is a slot for it.
+    #[inline(always)]
     pub(crate) fn admit(&mut self, hashed: &Hashed<EraKey>, era: &Era, now: u32) -> Option<Place>
         requires absent { IsAbsent self.old hashed.now.key.0 }
         requires near { IsNear (self.old.calls + 1) era.now }

@@ -65,7 +65,6 @@ impl TcpNorm {
     }
 
     // Decides on a segment of a live era. Only the scratch and the hint of its chain change.
-    #[inline(never)]
     fn decide<'a>(&mut self, live: &Live, arrival: &Arrival<'a>, ruling: &mut Ruling) -> Change<'a>
         requires found { IsFound self.old arrival.now live.now }
         requires ready { IsReady self.old arrival.now.time }

@@ -33,7 +33,6 @@ impl TcpNorm {
         segments_are_read_back();
         are_bits(&arrival.packet.head, arrival.packet.payload);
         let seg = bare_seg(arrival);
-        let changed = options_change(arrival);
         match cold(&seg) {
             ColdAnswer::Refuse => {
                 self.arrive(arrival.time);
@@ -45,6 +44,7 @@ impl TcpNorm {
             }
             ColdAnswer::Probe(probe) => {
                 self.arrive(arrival.time);
+                let changed = options_change(arrival);
                 let rows = rows_beside(arrival, changed, true);
                 *ruling = Ruling::Ask(Question { rows, probe });
             }
@@ -57,6 +57,7 @@ impl TcpNorm {
                     });
                 }
                 Some(place) => {
+                    let changed = options_change(arrival);
                     let rows = rows_beside(arrival, changed, false);
                     *ruling = Ruling::Pass(Passage {
                         step: Step::begun(place),

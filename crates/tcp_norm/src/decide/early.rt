@@ -14,6 +14,7 @@ impl TcpNorm {
     ghost use Rattle.era_state.specs.Eras.{state_in};
     ghost use Rattle.tcp_norm.specs.Rulings.{Decides, IsFound, IsOpenTo, IsPlain, IsShort};
 
+    #[inline(never)]
     pub(super) fn decide_early<'a>(
         &self,
         live: &Live,

@@ -16,6 +16,7 @@ impl TcpNorm {
     ghost use Rattle.wire_base.specs.Tcp as tcp;
     ghost use Rattle.tcp_norm.specs.Rulings.{Decides, IsFound, IsOpenTo, IsShort};
 
+    #[inline(never)]
     pub(super) fn decide_reset<'a>(
         &self,
         live: &Live,

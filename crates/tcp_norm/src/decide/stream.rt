@@ -33,6 +33,7 @@ impl TcpNorm {
     ghost use Rattle.tcp_norm.specs.Rulings.{Decides, IsFound, IsLast, IsOpenTo, IsPlain, IsSame, IsShort};
 
     // `warm` is the state of the era. Only the scratch and the hint of the chain change.
+    #[inline(never)]
     pub(super) fn decide_stream<'a>(
         &mut self,
         live: &Live,

@@ -1,12 +1,11 @@
 //! A SYN of a live era: T_STATE or T_SYN drops it and a probe is sent, or it passes, in its era or as the first segment of another.
 ghost use Rattle.std.specs.Prelude.{◌≡◌, List, true, false, if◌then◌else◌};
 ghost use Rattle.wire_base.specs.Segments.{Written};
-ghost use Rattle.wire_base.specs.Tcp as tcp;
 ghost use Rattle.era_state.specs.Eras as eras;
 ghost use Rattle.era_state.specs.Quantities.{octets_of};
 ghost use Rattle.era_state.specs.Read.{came};
-ghost use Rattle.era_state.specs.Rules.{reopens_inward};
-ghost use Rattle.tcp_norm.specs.Rulings.{IsLegal, refused_by};
+ghost use Rattle.era_state.specs.Heard.{syn_answer, is_reopen};
+ghost use Rattle.tcp_norm.specs.Rulings.{refused_by};
 ghost use Rattle.tcp_norm.specs.Steps.{continued_in, reopened_by};
 
 use crate::arrival::Arrival;
@@ -17,7 +16,7 @@ use crate::ruling::{Change, Passage, Refusal, Ruling};
 use crate::state::TcpNorm;
 use crate::step::Step;
 use cold_start::cold_probe;
-use era_state::{Era, Offered, Seg};
+use era_state::{Era, Offered, Seg, SynAnswer};
 use reset_probe::probe_of;
 use rule_book::Rule;
 use tcp_codec::laws::segments_are_read_back;
@@ -28,6 +27,7 @@ impl TcpNorm {
     ghost use Rattle.tcp_norm.specs.Standing.{IsReady};
     ghost use Rattle.tcp_norm.specs.Rulings.{Decides, IsFound, IsOpenTo, IsShort};
 
+    #[inline(never)]
     pub(super) fn decide_syn<'a>(
         &self,
         live: &Live,
@@ -45,13 +45,14 @@ impl TcpNorm {
         are_bits(&arrival.packet.head, arrival.packet.payload);
         let seg = bare_seg(arrival);
         let era = &live.flow.era;
-        if let Some(refusal) = refusal_of(era, live.flow.number, &seg) {
+        let answer = era.judge_syn(&seg);
+        if let Some(refusal) = refusal_of(answer, era, live.flow.number, &seg) {
             *ruling = Ruling::Drop(refusal);
             return Change::Nothing;
         }
         let changed = options_change(arrival);
         let rows = rows_beside(arrival, changed, false);
-        let again = is_reopened(era, &seg);
+        let again = is_reopen(answer);
         let step = step_of(era, live.flow.number, again, self.begun + 1);
         *ruling = Ruling::Pass(Passage {
             step,
@@ -69,48 +70,38 @@ impl TcpNorm {
 }
 
 // Returns the refusal of a SYN of this era by T_STATE or T_SYN, if one of them holds.
-fn refusal_of(era: &Era, number: u32, seg: &Seg) -> Option<Refusal>
-    requires { IsLegal seg.now }
+fn refusal_of(answer: SynAnswer, era: &Era, number: u32, seg: &Seg) -> Option<Refusal>
+    requires { (ws : List Written) → eras.StandsFor era.now ws → answer ≡ syn_answer ws (came seg.now) }
     ensures { (ws : List Written) → eras.StandsFor era.now ws → result ≡ refused_by ws (came seg.now) number }
 {
-    let early = era.is_early(seg);
-    let stray = era.is_stray_syn(seg);
-    if early {
-        let probe = cold_probe(seg);
-        return Some(Refusal {
+    match answer {
+        SynAnswer::Early => Some(Refusal {
             rule: Rule::TState,
             era: Some(number),
-            probe: Some(probe),
-        });
-    }
-    if stray {
-        let probe = probe_of(era, seg);
-        return Some(Refusal {
+            probe: Some(cold_probe(seg)),
+        }),
+        SynAnswer::Stray => Some(Refusal {
             rule: Rule::TSyn,
             era: Some(number),
-            probe,
-        });
+            probe: probe_of(era, seg),
+        }),
+        SynAnswer::Reopen | SynAnswer::Hear => None,
     }
-    None
 }
 
-// Returns whether a SYN ends this era and begins another; it has no ACK then.
-fn is_reopened(era: &Era, seg: &Seg) -> bool
-    requires { IsLegal seg.now }
-    ensures reopens { (ws : List Written) → eras.StandsFor era.now ws → result ≡ reopens_inward ws (came seg.now) }
-    ensures alone { result ≡ true → tcp.has_ack seg.now.flags.0 ≡ false }
+// Returns whether a SYN ends its era and begins another.
+fn is_reopen(answer: SynAnswer) -> bool
+    ensures { result ≡ is_reopen answer }
 {
-    let again = era.is_reopened_by(seg);
-    let answer = seg.flags.ack();
-    again & !answer
+    matches!(answer, SynAnswer::Reopen)
 }
 
 // Returns what a SYN that passes does to this era: it continues it, or ends it where the era of the next number begins.
 fn step_of(era: &Era, number: u32, again: bool, next: u32) -> Step
     ensures { (ws : List Written) → eras.StandsFor era.now ws → result ≡ (if again then reopened_by number next (octets_of ws) else continued_in number) }
 {
-    let count = era.octets();
     if again {
+        let count = era.octets();
         Step::reopened(next, number, count)
     } else {
         Step::within(number)

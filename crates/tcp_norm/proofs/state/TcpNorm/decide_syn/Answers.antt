@@ -34,9 +34,9 @@ pub returns-then-again-clause-decides : goal.returns-then-again-clause-decides
 returns-then-again-clause-decides c settings calls d st is =
     let n = c.args.live.now.flow.number in
     let seg = c.bare_seg-seg.result in
-    let o = of_syn c.segments_are_read_back.ensures settings calls d c.args.arrival.now c.args.self.now c.args.live.now seg c.options_change-changed.result c.is_reopened-again.result c.rows_beside-rows.result.items c.step_of-step.result st is c.requires.found
+    let o = of_syn c.segments_are_read_back.ensures settings calls d c.args.arrival.now c.args.self.now c.args.live.now seg c.options_change-changed.result c.is_reopen-again.result c.rows_beside-rows.result.items c.step_of-step.result st is c.requires.found
     c.are_bits.ensures c.requires.syn c.bare_seg-seg.ensures.read c.options_change-changed.ensures.changed c.options_change-changed.ensures.words c.options_change-changed.ensures.size c.rows_beside-rows.ensures.rows
-    c.in_default.ensures c.is_reopened-again.ensures.reopens c.step_of-step.ensures in
+    c.in_default.ensures (λ ws stood. c.is_reopen-again.ensures ∙ c.judge_syn-answer.ensures.reopens ws stood) c.step_of-step.ensures in
     record {
       rules = record { outcome_is = o.outcome_is; carried = rewritten_in (view_of settings calls d).segments d c.args.arrival.now _ _ o.side o.carried };
       needs = record {
@@ -53,9 +53,9 @@ pub returns-clause-decides : goal.returns-clause-decides
 returns-clause-decides c settings calls d st is =
     let n = c.args.live.now.flow.number in
     let seg = c.bare_seg-seg.result in
-    let o = of_syn c.segments_are_read_back.ensures settings calls d c.args.arrival.now c.args.self.now c.args.live.now seg c.options_change-changed.result c.is_reopened-again.result c.rows_beside-rows.result.items c.step_of-step.result st is c.requires.found
+    let o = of_syn c.segments_are_read_back.ensures settings calls d c.args.arrival.now c.args.self.now c.args.live.now seg c.options_change-changed.result c.is_reopen-again.result c.rows_beside-rows.result.items c.step_of-step.result st is c.requires.found
     c.are_bits.ensures c.requires.syn c.bare_seg-seg.ensures.read c.options_change-changed.ensures.changed c.options_change-changed.ensures.words c.options_change-changed.ensures.size c.rows_beside-rows.ensures.rows
-    c.in_default.ensures c.is_reopened-again.ensures.reopens c.step_of-step.ensures in
+    c.in_default.ensures (λ ws stood. c.is_reopen-again.ensures ∙ c.judge_syn-answer.ensures.reopens ws stood) c.step_of-step.ensures in
     record {
       rules = record { outcome_is = o.outcome_is; carried = rewritten_in (view_of settings calls d).segments d c.args.arrival.now _ _ o.side o.carried };
       needs = record {

@@ -89,12 +89,12 @@ returns-in-Some-clause-judges c settings calls d st is =
     let stream = cold_stream v w none in
     let probes = begun_probes v w none asked in
     let named = c.rows_beside-rows-in-Some.result.items in
-    let mends = beside_are settings v d a.packet.now.payload.now a.head.now c.options_change-changed.result false named a.read.fields is.octets side stream probes
-    c.options_change-changed.ensures.changed c.rows_beside-rows-in-Some.ensures.rows in
+    let mends = beside_are settings v d a.packet.now.payload.now a.head.now c.options_change-changed-in-Some.result false named a.read.fields is.octets side stream probes
+    c.options_change-changed-in-Some.ensures.changed c.rows_beside-rows-in-Some.ensures.rows in
     let step = subst (IsStep v w) (sym c.begun.ensures) (step_called v w p comes.side none call found) in
     let is_it = in_outcome settings v d c.begun.result d.fixes named _ side refl passes mends step (ap (λ (s : Step). s.full) c.begun.ensures) (packets_begun settings v d named none asked) in
     let writes = bare_writes c.segments_are_read_back.ensures settings v d a.packet.now a.link.now a.head.now false named seg side is
-    c.are_bits.ensures a.read _ refl c.options_change-changed.ensures.words c.options_change-changed.ensures.size marked stream probes mends c.bare_seg-seg.ensures.read in
+    c.are_bits.ensures a.read _ refl c.options_change-changed-in-Some.ensures.words c.options_change-changed-in-Some.ensures.size marked stream probes mends c.bare_seg-seg.ensures.read in
     let does = subst (Does d (came seg) (began p)) (sym is_it) (subst (λ s. Does d (came seg) (began p) (passed s d.fixes named (packet_by settings v.segments d d.fixes named ∷ []))) (sym c.begun.ensures) (in_does d (came seg) (began p) d.fixes named _ writes)) in
     record {
       stands = c.in-Some.ensures.some settings calls d (came seg) (outcome_at settings v d) st key_is c.in-Begin.ensures.fields (none_came seg) does;
