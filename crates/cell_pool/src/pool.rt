@@ -36,8 +36,8 @@ impl Model for Pool {
     ghost invariant = { λ p. IsSound p.heads.items p.cells.items p.spare p.free (vec_capacity p.cells) };
 }
 
-// Makes a cell and has `spare` lead to it where the free list is empty, if not all cells are made. It
-// allocates nothing: `open` reserved the memory.
+// If the free list, which `spare` leads to, is empty, makes a cell and puts it there, unless all
+// cells are made. It allocates nothing: `open` reserved the memory.
 #[inline]
 fn ready(cells: &mut Vec<Cell>, trees: &mut Trees, spare: &mut Option<CellId>)
     requires { vec_capacity cells.old < 2 ^ 32 }

@@ -6,8 +6,8 @@ pub trait Key: Copy + Eq {
     /// Hash as a function of the key and the seed.
     ghost hash_of: { Self → ℕ → ℕ };
 
-    /// Returns the hash of the key under this seed. Both its low and its high 32 bits should vary from
-    /// key to key: a table takes the bucket from their product.
+    /// Returns the hash of the key under this seed. Both its low and its high 32 bits should vary
+    /// from key to key: a table takes the bucket from their product.
     fn hash_with(&self, seed: u64) -> u64
         ensures { result ≡ hash_of self.now seed };
 

@@ -30,8 +30,8 @@ impl Model for Rings {
 }
 
 impl Rings {
-    /// Creates `count` nodes, each in a ring of its own. For 2^32 or more it returns `NoMemory`: their
-    /// numbers do not fit 32 bits.
+    /// Creates `count` nodes, each in a ring of its own. For 2^32 or more it returns `NoMemory`:
+    /// their numbers do not fit 32 bits.
     pub(crate) fn open(alloc: Global, count: usize) -> Result<Rings, NoMemory>
         ensures alone { IfOk result (λ rings. rings ≡ map lone (range_with_len 0 count)) }
         ensures few { IfOk result (λ _. count < 2 ^ 32) }

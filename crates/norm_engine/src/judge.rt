@@ -230,7 +230,9 @@ fn joined(answer: Answer, packet: &mut IpPacket<'_>) -> Decision
     }
 }
 
-// Returns the answer to the datagram of a packet, and fills the header of its segment.
+// Returns the answer to the datagram of a packet, and fills the header of its segment. It is part of
+// the step, and the rules on each protocol are functions of their own, so that a record saves only
+// the registers that its protocol needs.
 #[inline(always)]
 fn judge_datagram(
     settings: &Settings,
@@ -284,8 +286,7 @@ fn quotes_live(norm: &TcpNorm, message: &[u8]) -> bool
     })
 }
 
-// Fills the header of a TCP segment, or returns the first rule on it that holds. Apart from the
-// step, as `judge_udp` is, so that each saves only the registers that it needs.
+// Fills the header of a TCP segment, or returns the first rule on it that holds.
 #[inline(never)]
 fn read_segment(settings: &Settings, packet: &IpPacket<'_>, head: &mut Tcp) -> Answer
     requires { length packet.now.payload.now < 2 ^ 16 }

@@ -13,8 +13,8 @@ pub(crate) enum Seat {
     After(Option<CellId>),
 }
 
-// A walk starts at the cell used last or at the first one if the block is less than this many blocks
-// after it.
+// A walk starts at the cell used last, or at the first one, if the block is less than this many
+// blocks after it.
 const CLOSE: u64 = 16;
 
 /// Finds the seat of a block: at or after `near` if that is its seat. Otherwise a walk starts at

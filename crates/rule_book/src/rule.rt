@@ -303,8 +303,8 @@ impl Rule {
         ALL.iter().copied().find(|rule| rule.has_name(text))
     }
 
-    // Returns whether this is the name of the rule. Nearly all names are told apart by their length or
-    // their last octet, which needs no call.
+    // Returns whether this is the name of the rule. Nearly all names are told apart by their length
+    // or their last octet, which needs no call.
     #[inline(always)]
     fn has_name(self, text: &[u8]) -> bool
         ensures { result ≡ bytes_eq (rule_name self) text.now }

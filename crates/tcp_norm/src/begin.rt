@@ -69,6 +69,7 @@ impl TcpNorm {
     }
 
     // Begins an era of a connection that has none: beside the others, or in the slot of one that holds no octet, or else not at all.
+    #[inline(always)]
     pub(crate) fn place(&mut self, hashed: &Hashed<EraKey>, era: &Era, now: u32) -> Option<Place>
         requires fresh { IsNew self.old hashed.now.key.0 era.now }
         ensures places { (lives : List Alive) (segments : ℕ → List Written) → Holds self.old lives segments → Places self.old self.new hashed.now.key.0 era.now now lives segments result }

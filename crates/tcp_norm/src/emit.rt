@@ -70,6 +70,7 @@ impl TcpNorm {
     }
 
     // Puts the packet of a segment that passes into the empty outbox. Returns true, with nothing in it, only if it is the frame that was read.
+    #[inline(always)]
     fn emit_own(&mut self, passage: &Passage, arrival: &Arrival<'_>, out: &mut Outbox) -> bool
         requires short { Fits arrival.now passage.now }
         requires empty { IsBlank out.old }
