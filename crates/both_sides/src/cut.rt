@@ -111,6 +111,7 @@ fn write_read<K: Sink>(head: &Head, input: &Record<'_>, capture: &mut K) -> Resu
 }
 
 /// Writes the frames of a record as they are.
+#[inline(always)]
 pub fn write_frames<K: Sink>(
     out: &Outbox,
     head: &Head,

@@ -42,7 +42,10 @@ pub struct Parsed<'a> {
 
 impl<'a> Parsed<'a> {
     /// Returns what is to be filled in of a record with this frame.
-    pub fn unread(frame: &'a [u8]) -> Parsed<'a> {
+    pub fn unread(frame: &'a [u8]) -> Parsed<'a>
+        ensures frame { result.packet.frame.now ≡ frame.now }
+        ensures fixes { result.packet.fixes.items ≡ [] }
+    {
         Parsed {
             packet: IpPacket::unread(frame),
             head: UNREAD,
