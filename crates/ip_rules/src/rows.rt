@@ -8,7 +8,7 @@ ghost use Rattle.ip_rules.specs.Rows as table;
 ghost use Rattle.ip_rules.specs.Judged as spec;
 
 use crate::judged::{Fixes, IpJudged, IpKind, IpPacket};
-use ipv4_codec::{IpFault, Ipv4, options, parse};
+use ipv4_codec::{IpFault, Ipv4, options, parse_into};
 use norm_settings::{Settings, side_of};
 use pcap_file::Record;
 use rule_book::Rule;
@@ -89,13 +89,10 @@ fn judge_packet<'a>(
     requires { All (λ prefix. prefix.len ≤ 32) settings.now.prefixes.items }
     ensures { spec.IsJudgedIn (plain_settings settings.now) given frame.now octets.now (spec.judged_with packet.new result) }
 {
-    let head = match parse(octets) {
-        Ok(head) => head,
-        Err(fault) => return IpKind::Drop(None, rule_of(fault)),
-    };
-    // Stored at once, so that no field waits in a register for the rules below.
-    packet.head = head;
-    let side = match side_or_row(settings, given, head.src, head.dst) {
+    if let Err(fault) = parse_into(octets, &mut packet.head) {
+        return IpKind::Drop(None, rule_of(fault));
+    }
+    let side = match side_or_row(settings, given, packet.head.src, packet.head.dst) {
         Ok(side) => side,
         Err(rule) => return IpKind::Drop(None, rule),
     };

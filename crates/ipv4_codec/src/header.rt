@@ -1,12 +1,12 @@
 //! The header of an IPv4 packet.
-ghost use Rattle.std.specs.Prelude.{◌≡◌, ◌≤◌, length, IfOk};
-ghost use Rattle.ipv4_codec.specs.Header.{fields_of, parsed};
+ghost use Rattle.std.specs.Prelude.{◌≡◌, ◌≤◌, length, IfOk, OnOk};
+ghost use Rattle.ipv4_codec.specs.Header.{fields_of, parsed, with_fields};
 
 use thiserror::Error;
 use wire_base::{Addr, sum_right, u16_at, u32_at};
 
 /// The fields of an IPv4 header, without its version and its options (RFC 791 section 3.1).
-#[derive(Clone, Copy, Debug, PartialEq, Eq)]
+#[derive(Clone, Copy, Debug, Default, PartialEq, Eq)]
 pub struct Ipv4 {
     /// The header's length in octets, options included.
     pub header: usize,
@@ -52,6 +52,17 @@ pub fn parse(bytes: &[u8]) -> Result<Ipv4, IpFault>
     ensures header { IfOk result (λ head. (20 ≤ head.header) × (head.header ≤ 60)) }
     ensures total { IfOk result (λ head. (head.header ≤ head.total) × (head.total ≤ length bytes.now)) }
 {
+    let mut head = Ipv4::default();
+    parse_into(bytes, &mut head)?;
+    Ok(head)
+}
+
+/// Parses a header as `parse` does, and fills in its fields if it has no fault.
+pub fn parse_into(bytes: &[u8], head: &mut Ipv4) -> Result<(), IpFault>
+    ensures exact { with_fields head.new result ≡ parsed bytes.now }
+    ensures header { OnOk result ((20 ≤ head.new.header) × (head.new.header ≤ 60)) }
+    ensures total { OnOk result ((head.new.header ≤ head.new.total) × (head.new.total ≤ length bytes.now)) }
+{
     if bytes.len() < 20 {
         return Err(IpFault::Short);
     }
@@ -69,27 +80,26 @@ pub fn parse(bytes: &[u8]) -> Result<Ipv4, IpFault>
     if !sum_right(&bytes[..header], 0) {
         return Err(IpFault::Sum);
     }
-    Ok(fields(bytes))
+    fill_fields(bytes, head);
+    Ok(())
 }
 
-/// Returns the fields, each read at its offset.
-fn fields(bytes: &[u8]) -> Ipv4
+// Fills in the fields, each read at its offset and stored before the next is read.
+fn fill_fields(bytes: &[u8], head: &mut Ipv4)
     requires { 20 ≤ length bytes.now }
-    ensures { result ≡ fields_of bytes.now }
+    ensures { head.new ≡ fields_of bytes.now }
 {
-    Ipv4 {
-        header: 4 * usize::from(bytes[0] % 16),
-        tos: bytes[1],
-        total: u16_at(bytes, 2),
-        ident: u16_at(bytes, 4),
-        reserved: bytes[6] / 128 % 2 == 1,
-        df: bytes[6] / 64 % 2 == 1,
-        more: bytes[6] / 32 % 2 == 1,
-        offset: 8 * u32::from(u16_at(bytes, 6) % 8192),
-        ttl: bytes[8],
-        protocol: bytes[9],
-        sum: u16_at(bytes, 10),
-        src: Addr(u32_at(bytes, 12)),
-        dst: Addr(u32_at(bytes, 16)),
-    }
+    head.header = 4 * usize::from(bytes[0] % 16);
+    head.tos = bytes[1];
+    head.total = u16_at(bytes, 2);
+    head.ident = u16_at(bytes, 4);
+    head.reserved = bytes[6] / 128 % 2 == 1;
+    head.df = bytes[6] / 64 % 2 == 1;
+    head.more = bytes[6] / 32 % 2 == 1;
+    head.offset = 8 * u32::from(u16_at(bytes, 6) % 8192);
+    head.ttl = bytes[8];
+    head.protocol = bytes[9];
+    head.sum = u16_at(bytes, 10);
+    head.src = Addr(u32_at(bytes, 12));
+    head.dst = Addr(u32_at(bytes, 16));
 }

@@ -11,6 +11,6 @@ pub mod header;
 pub mod option_area;
 pub mod write;
 
-pub use header::{IpFault, Ipv4, parse};
+pub use header::{IpFault, Ipv4, parse, parse_into};
 pub use option_area::{BadOption, OptionFacts, options};
 pub use write::write_plain;

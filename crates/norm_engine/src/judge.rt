@@ -29,7 +29,7 @@ use norm_settings::Settings;
 use pcap_file::Record;
 use reassembly::{Assembly, Offered, Piece, Whole};
 use rule_book::Rule;
-use tcp_codec::{SumRule, Tcp, TcpFault};
+use tcp_codec::{SumRule, Tcp, TcpFault, parse_into};
 use tcp_norm::TcpNorm;
 use wire_base::{Flags, FlowKey, Link, Side, protocol, pseudo_sum};
 
@@ -298,11 +298,8 @@ fn read_segment(settings: &Settings, packet: &IpPacket<'_>, head: &mut Tcp) -> A
     let size = packet.payload.len() as u16;
     let pseudo = pseudo_sum(packet.head.src, packet.head.dst, packet.head.protocol, size);
     let rule = sum_rule(settings, packet.side);
-    match tcp_codec::parse(packet.payload, pseudo, rule) {
-        Ok(read) => {
-            *head = read;
-            Answer::Segment
-        }
+    match parse_into(packet.payload, pseudo, rule, head) {
+        Ok(()) => Answer::Segment,
         Err(fault) => Answer::Drop(rule_of(fault)),
     }
 }

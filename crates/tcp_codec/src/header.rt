@@ -1,6 +1,7 @@
 //! The header of a TCP segment.
-ghost use Rattle.std.specs.Prelude.{◌≡◌, ◌≤◌, ◌&&◌, not, true, length, slice_range, IfOk, OnOk};
-ghost use Rattle.tcp_codec.specs.Header.{fields_of, is_judged, parsed};
+ghost use Rattle.std.specs.Prelude.{◌≡◌, ◌≤◌, ◌&&◌, ℕ, not, true, length, slice_range, IfOk, OnOk};
+ghost use Rattle.tcp_codec.specs.Header.{fields_of, is_judged, parsed, with_fields};
+ghost use Rattle.wire_base.specs.Sums.{sum_is_right};
 ghost use Rattle.wire_base.specs.Options.{are_well_formed};
 ghost use Rattle.wire_base.specs.Tcp as tcp;
 
@@ -12,7 +13,7 @@ use wire_base::{Flags, sum_right, u16_at, u32_at};
 const HEADER: usize = 20;
 
 /// The fields of a TCP header, without its checksum and its options (RFC 9293 section 3.1).
-#[derive(Clone, Copy, Debug, PartialEq, Eq)]
+#[derive(Clone, Copy, Debug, Default, PartialEq, Eq)]
 pub struct Tcp {
     /// The source port.
     pub sport: u16,
@@ -80,42 +81,56 @@ pub fn parse(bytes: &[u8], pseudo: u32, rule: SumRule) -> Result<Tcp, TcpFault>
     ensures options { OnOk result (are_well_formed (tcp.options bytes.now) ≡ true) }
     ensures area { IfOk result (λ head. slice_range bytes.now 20 head.header ≡ tcp.options bytes.now) }
 {
-    if bytes.len() < HEADER {
-        return Err(TcpFault::Short);
-    }
-    let head = fields(bytes, pseudo);
-    if head.header < HEADER || bytes.len() < head.header {
-        return Err(TcpFault::DataOffset);
-    }
-    if rule.refuses(head.sum_right) {
-        return Err(TcpFault::Sum);
-    }
-    if !are_legal(head.flags) {
-        return Err(TcpFault::Flags);
-    }
-    if !are_well_formed(&bytes[HEADER..head.header]) {
-        return Err(TcpFault::Options);
-    }
+    let mut head = Tcp::default();
+    parse_into(bytes, pseudo, rule, &mut head)?;
     Ok(head)
 }
 
-// Returns the fields, each read at its offset.
-fn fields(bytes: &[u8], pseudo: u32) -> Tcp
-    requires { 20 ≤ length bytes.now }
-    ensures { result ≡ fields_of pseudo bytes.now }
+/// Parses a header as `parse` does, and fills in its fields if it has no fault.
+pub fn parse_into(bytes: &[u8], pseudo: u32, rule: SumRule, head: &mut Tcp) -> Result<(), TcpFault>
+    ensures exact { with_fields head.new result ≡ parsed rule pseudo bytes.now }
+    ensures header { OnOk result ((20 ≤ head.new.header) × (head.new.header ≤ 60)) }
+    ensures inside { OnOk result (head.new.header ≤ length bytes.now) }
+    ensures flags { OnOk result (tcp.are_legal head.new.flags.0 ≡ true) }
+    ensures options { OnOk result (are_well_formed (tcp.options bytes.now) ≡ true) }
+    ensures area { OnOk result (slice_range bytes.now 20 head.new.header ≡ tcp.options bytes.now) }
 {
-    Tcp {
-        sport: u16_at(bytes, 0),
-        dport: u16_at(bytes, 2),
-        seq: u32_at(bytes, 4),
-        ack: u32_at(bytes, 8),
-        header: 4 * usize::from(bytes[12] / 16),
-        reserved: bytes[12] % 16,
-        flags: Flags(bytes[13]),
-        window: u16_at(bytes, 14),
-        sum_right: sum_right(bytes, pseudo),
-        urgent: u16_at(bytes, 18),
+    if bytes.len() < HEADER {
+        return Err(TcpFault::Short);
     }
+    let header = 4 * usize::from(bytes[12] / 16);
+    if header < HEADER || bytes.len() < header {
+        return Err(TcpFault::DataOffset);
+    }
+    let right = sum_right(bytes, pseudo);
+    if rule.refuses(right) {
+        return Err(TcpFault::Sum);
+    }
+    if !are_legal(Flags(bytes[13])) {
+        return Err(TcpFault::Flags);
+    }
+    if !are_well_formed(&bytes[HEADER..header]) {
+        return Err(TcpFault::Options);
+    }
+    fill_fields(bytes, right, head);
+    Ok(())
+}
+
+// Fills in the fields, each read at its offset and stored before the next is read.
+fn fill_fields(bytes: &[u8], right: bool, head: &mut Tcp)
+    requires { 20 ≤ length bytes.now }
+    ensures { (pseudo : ℕ) → right ≡ sum_is_right bytes.now pseudo → head.new ≡ fields_of pseudo bytes.now }
+{
+    head.sport = u16_at(bytes, 0);
+    head.dport = u16_at(bytes, 2);
+    head.seq = u32_at(bytes, 4);
+    head.ack = u32_at(bytes, 8);
+    head.header = 4 * usize::from(bytes[12] / 16);
+    head.reserved = bytes[12] % 16;
+    head.flags = Flags(bytes[13]);
+    head.window = u16_at(bytes, 14);
+    head.sum_right = right;
+    head.urgent = u16_at(bytes, 18);
 }
 
 // Returns whether the flags set of SYN, FIN, RST and ACK are SYN; SYN ACK; ACK; FIN ACK; RST; or

@@ -17,6 +17,6 @@ mod option_area;
 pub mod write;
 
 pub use cleaning::{clean_options, options_change};
-pub use header::{SumRule, Tcp, TcpFault, parse};
+pub use header::{SumRule, Tcp, TcpFault, parse, parse_into};
 pub use option_area::scale_of;
 pub use write::{SegmentParts, mend, write_cleaned, write_segment};

@@ -63,12 +63,12 @@ refused_row settings d rule pseudo told sums summed read =
 
 pub returns-in-Ok : goal.returns-in-Ok
 returns-in-Ok c = λ header.
-    read_row (plain_settings c.args.settings.now) (datagram_with header c.args.packet.now) c.sum_rule-rule.result c.pseudo_sum-pseudo.result c.in-Ok.read
-    c.sum_rule-rule.ensures c.pseudo_sum-pseudo.ensures (sym c.parse.ensures.exact ∙ c.in-Ok.is)
+    read_row (plain_settings c.args.settings.now) (datagram_with header c.args.packet.now) c.sum_rule-rule.result c.pseudo_sum-pseudo.result c.parse_into.new.head
+    c.sum_rule-rule.ensures c.pseudo_sum-pseudo.ensures (sym c.in-Ok.ensures.exact)
     c.in-Ok.ensures.header c.in-Ok.ensures.inside c.in-Ok.ensures.flags c.in-Ok.ensures.options c.in-Ok.ensures.area
 
 pub returns-in-Err : goal.returns-in-Err
 returns-in-Err c = λ header.
     refused_row (plain_settings c.args.settings.now) (datagram_with header c.args.packet.now) c.sum_rule-rule.result c.pseudo_sum-pseudo.result c.in-Err.fault
-    c.sum_rule-rule.ensures c.pseudo_sum-pseudo.ensures (sym c.parse.ensures.exact ∙ c.in-Err.is)
+    c.sum_rule-rule.ensures c.pseudo_sum-pseudo.ensures (sym c.in-Err.ensures.exact)
     ∙ ap Some (sym c.rule_of.ensures)
