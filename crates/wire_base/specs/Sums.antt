@@ -29,6 +29,10 @@ abbrev pub lowest_first_at : List ℕ → ℕ → ℕ
 lowest_first_at octets at =
     slice_index octets at + 256 * slice_index octets (at + 1) + 65536 * slice_index octets (at + 2) + 16777216 * slice_index octets (at + 3)
 
+-- the 64-bit number at the offset `at`, least significant octet first; octets past the end read as 0
+abbrev pub eight_at : List ℕ → ℕ → ℕ
+eight_at octets at = lowest_first_at octets at + 4294967296 * lowest_first_at octets (at + 4)
+
 -- two totals that count as the same sum: they differ by a multiple of 65,535, and one is 0 exactly if the other is
 pub record CountsAs (a b : ℕ) : Type 0 where
   pub up : ℕ

@@ -5,9 +5,6 @@ ghost use Rattle.wire_base.specs.Sums as sums;
 use crate::Addr;
 use byteorder::{ByteOrder, LittleEndian};
 
-// Number of octets that are summed before the carries are folded.
-const PIECE: usize = 65536;
-
 /// Returns the sum of the pseudo-header of TCP and UDP: the addresses, the protocol, and the length
 /// of the packet's payload in octets (RFC 768, RFC 9293 section 3.1).
 pub fn pseudo_sum(src: Addr, dst: Addr, protocol: u8, len: u16) -> u32
@@ -46,69 +43,75 @@ fn is_right(total: u64) -> bool
     total > 0 && total % 65535 == 0
 }
 
-// Returns the sum of `extra` and the words of the octets, up to multiples of 65,535. A header of 20
+// Returns the sum of `extra` and the words of the octets, up to multiples of 65,535. Adds numbers in
+// the order of this machine, least significant octet first, and multiplies their sum by 256 once:
+// modulo 65,535 that swaps the two octets of each 16-bit word (RFC 1071 section 2). A header of 20
 // octets, which each packet has, takes no loop.
 fn total_sum(bytes: &[u8], extra: u32) -> u64
     ensures { sums.CountsAs result (extra + sums.word_sum bytes.now) }
 {
-    if bytes.len() == 20 {
-        u64::from(extra) + sum_of_twenty(bytes)
-    } else if bytes.len() <= PIECE {
-        u64::from(extra) + sum_of_piece(bytes)
+    let sum = if bytes.len() == 20 {
+        sum_of_twenty(bytes)
+    } else if bytes.len() < 8 {
+        sum_of_few(bytes)
     } else {
-        folded_sum(bytes, extra)
-    }
+        sum_of_many(bytes)
+    };
+    u64::from(extra) + 256 * sum
 }
 
-// Returns the sum of `extra` and the words of the octets, with its carries folded in.
-#[cold]
-fn folded_sum(bytes: &[u8], extra: u32) -> u64
-    ensures { sums.CountsAs result (extra + sums.word_sum bytes.now) }
-{
-    let mut total = u64::from(extra);
-    let mut rest = bytes;
-    while !rest.is_empty() {
-        let (piece, behind) = rest.split_at(rest.len().min(PIECE));
-        total = folded(total + sum_of_piece(piece));
-        rest = behind;
-    }
-    total
-}
-
-// Folds the carries once: adds the bits above the low 16 bits to these.
-fn folded(total: u64) -> u64
-    requires { total < 2 ^ 56 }
-    ensures alike { sums.CountsAs result total }
-    ensures small { result < 2 ^ 41 }
-{
-    (total >> 16) + (total & 0xffff)
-}
-
-// Returns the sum of the words of `piece`, up to multiples of 65,535. Adds 32-bit words in the
-// order of this machine, least significant octet first, and multiplies their sum by 256 once:
-// modulo 65,535 that swaps the two octets of each 16-bit word (RFC 1071 section 2).
-fn sum_of_piece(piece: &[u8]) -> u64
-    requires { length piece.now ≤ PIECE }
-    ensures alike { sums.CountsAs result (sums.word_sum piece.now) }
-    ensures small { result < 2 ^ 55 }
-{
-    let words = piece.len() / 4;
-    let mut sum: u64 = 0;
-    for i in 0..words {
-        sum += u64::from(lowest_first_at(piece, 4 * i));
-    }
-    256 * sum + sum_of_rest(&piece[4 * words..])
-}
-
-// Returns the sum of the words of 20 octets, up to multiples of 65,535, as `sum_of_piece` does.
+// Returns the sum of 20 octets as 32-bit numbers.
 fn sum_of_twenty(header: &[u8]) -> u64
     requires { length header.now ≡ 20 }
-    ensures alike { sums.CountsAs result (sums.word_sum header.now) }
-    ensures small { result < 2 ^ 55 }
+    ensures alike { sums.CountsAs (256 * result) (sums.word_sum header.now) }
+    ensures small { result < 2 ^ 35 }
 {
     let first = u64::from(lowest_first_at(header, 0)) + u64::from(lowest_first_at(header, 4));
     let second = u64::from(lowest_first_at(header, 8)) + u64::from(lowest_first_at(header, 12));
-    256 * (first + second + u64::from(lowest_first_at(header, 16)))
+    first + second + u64::from(lowest_first_at(header, 16))
+}
+
+// Returns the sum of at most 7 octets: they are one number.
+#[cold]
+#[inline(never)]
+fn sum_of_few(bytes: &[u8]) -> u64
+    requires { length bytes.now < 8 }
+    ensures alike { sums.CountsAs (256 * result) (sums.word_sum bytes.now) }
+    ensures small { result < 2 ^ 35 }
+{
+    if bytes.is_empty() {
+        0
+    } else {
+        folded(u128::from(LittleEndian::read_uint(bytes, bytes.len())))
+    }
+}
+
+// Returns the sum of at least 8 octets as 64-bit numbers.
+fn sum_of_many(bytes: &[u8]) -> u64
+    requires { 8 ≤ length bytes.now }
+    ensures alike { sums.CountsAs (256 * result) (sums.word_sum bytes.now) }
+    ensures small { result < 2 ^ 35 }
+{
+    let numbers = bytes.len() / 8;
+    let mut sum: u128 = 0;
+    for i in 0..numbers {
+        sum += u128::from(eight_at(bytes, 8 * i));
+    }
+    let at = 8 * numbers;
+    if at == bytes.len() {
+        folded(sum)
+    } else {
+        folded(sum + u128::from(last_at(bytes, at)))
+    }
+}
+
+// Adds the bits above the low 64 bits to these, and then those above the low 32 bits.
+fn folded(sum: u128) -> u64
+    ensures alike { sums.CountsAs (256 * result) (256 * sum) }
+    ensures small { result < 2 ^ 35 }
+{
+    let carried = (sum >> 64) + (sum & 0xffff_ffff_ffff_ffff);
+    ((carried >> 32) + (carried & 0xffff_ffff)) as u64
 }
 
 // Returns the 32-bit number at the offset `at`, least significant octet first.
@@ -119,16 +122,22 @@ fn lowest_first_at(bytes: &[u8], at: usize) -> u32
     LittleEndian::read_u32(&bytes[at..])
 }
 
-// Returns the sum of the words of the 0 to 3 octets after the 32-bit words.
-fn sum_of_rest(rest: &[u8]) -> u64
-    requires { length rest.now < 4 }
-    ensures exact { result ≡ sums.word_sum rest.now }
-    ensures small { result < 2 ^ 17 }
+// Returns the 64-bit number at the offset `at`, least significant octet first.
+fn eight_at(bytes: &[u8], at: usize) -> u64
+    requires { at + 8 ≤ length bytes.now }
+    ensures { result ≡ sums.eight_at bytes.now at }
 {
-    match *rest {
-        [] => 0,
-        [a] => 256 * u64::from(a),
-        [a, b] => 256 * u64::from(a) + u64::from(b),
-        [a, b, c, ..] => 256 * u64::from(a) + u64::from(b) + 256 * u64::from(c),
-    }
+    LittleEndian::read_u64(&bytes[at..])
+}
+
+// Returns the number in the 1 to 8 octets from the offset `at` to the end, least significant octet
+// first. Reads the last 8 octets, so that it takes no branch on how many there are.
+fn last_at(bytes: &[u8], at: usize) -> u64
+    requires long { 8 ≤ length bytes.now }
+    requires inside { at < length bytes.now }
+    requires last { length bytes.now ≤ at + 8 }
+    ensures { result ≡ sums.eight_at bytes.now at }
+{
+    let front = bytes.len() - 8;
+    eight_at(bytes, front) >> (8 * (at - front))
 }
