@@ -9,6 +9,10 @@ use Rattle.wire_base.proofs.Words.{word_sum-drop}
 pub CountsAs-trans : (a b c : ℕ) → CountsAs a b → CountsAs b c → CountsAs a c
 CountsAs-trans a b c p q = record { up = p.up + q.up; down = p.down + q.down; same = omega (arith, p.same, q.same); zero = λ e. q.zero (p.zero e); back = λ e. p.back (q.back e) }
 
+-- reflexivity
+CountsAs-same : (a : ℕ) → CountsAs a a
+CountsAs-same a = record { up = 0; down = 0; same = refl; zero = λ e. e; back = λ e. e }
+
 -- carries: 2^64 times a number counts as the number, and so does 2^32 times a number
 pub CountsAs-carries : (high low carried rest total : ℕ) → total ≡ 18446744073709551616 * high + low → high + low ≡ 4294967296 * carried + rest → CountsAs (256 * (carried + rest)) (256 * total)
 CountsAs-carries high low carried rest total e f = record { up = 256 * (65537 * carried + 281479271743489 * high); down = 0; same = omega arith; zero = λ z. omega arith; back = λ z. omega arith }
@@ -38,6 +42,15 @@ CountsAs-eight octets sum total at next e before =
     let second = CountsAs-four octets (sum + lowest_first_at octets at) total (at + 4) next (omega arith) first in
     CountsAs-trans _ _ _ (CountsAs-halves (lowest_first_at octets at) (lowest_first_at octets (at + 4)) sum (word_sum (drop next octets))) second
 
+-- 32 octets and those after them count as the octets from the first of them on
+pub CountsAs-half : (octets : List ℕ) (sum at : ℕ) → CountsAs (256 * (sum + eight_at octets at + eight_at octets (at + 8) + eight_at octets (at + 16) + eight_at octets (at + 24)) + word_sum (drop (at + 32) octets)) (256 * sum + word_sum (drop at octets))
+CountsAs-half octets sum at =
+    let total = 256 * sum + word_sum (drop at octets) in
+    let first = CountsAs-eight octets sum total at (at + 8) refl (CountsAs-same total) in
+    let second = CountsAs-eight octets _ total (at + 8) (at + 16) (omega arith) first in
+    let third = CountsAs-eight octets _ total (at + 16) (at + 24) (omega arith) second in
+    CountsAs-eight octets _ total (at + 24) (at + 32) (omega arith) third
+
 -- no octets are left
 pub CountsAs-none : (octets : List ℕ) (sum total at : ℕ) → length octets ≤ at → CountsAs (256 * sum + word_sum (drop at octets)) total → CountsAs (256 * sum) total
 CountsAs-none octets sum total at past before =
@@ -45,7 +58,7 @@ CountsAs-none octets sum total at past before =
     let same : 256 * sum ≡ 256 * sum + word_sum (drop at octets) = omega (arith, none) in
     rw same before
 
--- none are counted at the begin
+-- no octets are summed yet
 pub CountsAs-all : (octets : List ℕ) → CountsAs (256 * 0 + word_sum (drop 0 octets)) (word_sum octets)
 CountsAs-all octets = record { up = 0; down = 0; same = omega arith; zero = λ z. omega arith; back = λ z. omega arith }
 

@@ -1,5 +1,5 @@
 -- Checksums: the ones' complement sum of 16-bit words (RFC 1071 section 1, RFC 791 section 3.1, RFC 768, RFC 792, RFC 9293 section 3.1).
-use Rattle.std.specs.Prelude.{◌≡◌, ℕ, ◌+◌, ◌-◌, ◌*◌, ◌/◌, ◌%◌, ◌==◌, ◌&&◌, nat_lt, Bool, List, [], ◌∷◌, slice_index, if◌then◌else◌}
+use Rattle.std.specs.Prelude.{◌≡◌, ℕ, ◌+◌, ◌-◌, ◌*◌, ◌/◌, ◌%◌, ◌==◌, ◌&&◌, nat_lt, Bool, List, [], ◌∷◌, drop, slice_index, if◌then◌else◌}
 
 -- the sum of the words of two octets each; an odd last octet is the high octet of its word
 abbrev pub word_sum : List ℕ → ℕ
@@ -40,3 +40,7 @@ pub record CountsAs (a b : ℕ) : Type 0 where
   pub same : a + 65535 * up ≡ b + 65535 * down
   pub zero : a ≡ 0 → b ≡ 0
   pub back : b ≡ 0 → a ≡ 0
+
+-- 256 times a sum of numbers, least significant octet first, and the words from the offset `at` on count as all words
+abbrev pub CountsUpTo : ℕ → ℕ → List ℕ → Type 0
+CountsUpTo at sum octets = CountsAs (256 * sum + word_sum (drop at octets)) (word_sum octets)

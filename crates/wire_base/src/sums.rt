@@ -1,5 +1,5 @@
 //! Checksums: sums of 16-bit words (RFC 1071).
-ghost use Rattle.std.specs.Prelude.{◌≡◌, ◌+◌, ◌*◌, ◌≤◌, ◌<◌, ◌^◌, length};
+ghost use Rattle.std.specs.Prelude.{◌≡◌, ◌+◌, ◌*◌, ◌/◌, ◌≤◌, ◌<◌, ◌^◌, length, drop};
 ghost use Rattle.wire_base.specs.Sums as sums;
 
 use crate::Addr;
@@ -45,19 +45,26 @@ fn is_right(total: u64) -> bool
 
 // Returns the sum of `extra` and the words of the octets, up to multiples of 65,535. Adds numbers in
 // the order of this machine, least significant octet first, and multiplies their sum by 256 once:
-// modulo 65,535 that swaps the two octets of each 16-bit word (RFC 1071 section 2). A header of 20
-// octets, which each packet has, takes no loop.
+// modulo 65,535 that swaps the two octets of each 16-bit word (RFC 1071 section 2).
 fn total_sum(bytes: &[u8], extra: u32) -> u64
     ensures { sums.CountsAs result (extra + sums.word_sum bytes.now) }
 {
-    let sum = if bytes.len() == 20 {
+    u64::from(extra) + 256 * sum_of_numbers(bytes)
+}
+
+// Returns the sum of the octets as numbers, least significant octet first. A header of 20 octets,
+// which each packet has, takes no loop.
+fn sum_of_numbers(bytes: &[u8]) -> u64
+    ensures alike { sums.CountsAs (256 * result) (sums.word_sum bytes.now) }
+    ensures small { result < 2 ^ 35 }
+{
+    if bytes.len() == 20 {
         sum_of_twenty(bytes)
     } else if bytes.len() < 8 {
         sum_of_few(bytes)
     } else {
         sum_of_many(bytes)
-    };
-    u64::from(extra) + 256 * sum
+    }
 }
 
 // Returns the sum of 20 octets as 32-bit numbers.
@@ -71,7 +78,8 @@ fn sum_of_twenty(header: &[u8]) -> u64
     first + second + u64::from(lowest_first_at(header, 16))
 }
 
-// Returns the sum of at most 7 octets: they are one number.
+// Returns the sum of at most 7 octets, which are one number. Not inlined: a call among the other
+// lengths would make each of them save registers.
 #[cold]
 #[inline(never)]
 fn sum_of_few(bytes: &[u8]) -> u64
@@ -86,18 +94,15 @@ fn sum_of_few(bytes: &[u8]) -> u64
     }
 }
 
-// Returns the sum of at least 8 octets as 64-bit numbers.
+// Returns the sum of at least 8 octets as 64-bit numbers. Only blocks of 64 octets take a loop, so
+// that a short packet takes none.
 fn sum_of_many(bytes: &[u8]) -> u64
     requires { 8 ≤ length bytes.now }
     ensures alike { sums.CountsAs (256 * result) (sums.word_sum bytes.now) }
     ensures small { result < 2 ^ 35 }
 {
-    let numbers = bytes.len() / 8;
-    let mut sum: u128 = 0;
-    for i in 0..numbers {
-        sum += u128::from(eight_at(bytes, 8 * i));
-    }
-    let at = 8 * numbers;
+    let sum = sum_by_eight(bytes);
+    let at = 8 * (bytes.len() / 8);
     if at == bytes.len() {
         folded(sum)
     } else {
@@ -105,7 +110,73 @@ fn sum_of_many(bytes: &[u8]) -> u64
     }
 }
 
-// Adds the bits above the low 64 bits to these, and then those above the low 32 bits.
+// Returns the sum of all octets but the last 0 to 7 as 64-bit numbers.
+fn sum_by_eight(bytes: &[u8]) -> u128
+    ensures alike { sums.CountsUpTo (8 * (length bytes.now / 8)) result bytes.now }
+    ensures small { result ≤ 18446744073709551615 * (length bytes.now / 8) }
+{
+    let sum = sum_by_sixteen(bytes);
+    if bytes.len() % 16 < 8 {
+        sum
+    } else {
+        sum + u128::from(eight_at(bytes, 16 * (bytes.len() / 16)))
+    }
+}
+
+// Returns the sum of all octets but the last 0 to 15 as 64-bit numbers.
+fn sum_by_sixteen(bytes: &[u8]) -> u128
+    ensures alike { sums.CountsUpTo (16 * (length bytes.now / 16)) result bytes.now }
+    ensures small { result ≤ 18446744073709551615 * (2 * (length bytes.now / 16)) }
+{
+    let sum = sum_by_half(bytes);
+    if bytes.len() % 32 < 16 {
+        sum
+    } else {
+        let at = 32 * (bytes.len() / 32);
+        sum + u128::from(eight_at(bytes, at)) + u128::from(eight_at(bytes, at + 8))
+    }
+}
+
+// Returns the sum of all octets but the last 0 to 31, half a block, as 64-bit numbers.
+fn sum_by_half(bytes: &[u8]) -> u128
+    ensures alike { sums.CountsUpTo (32 * (length bytes.now / 32)) result bytes.now }
+    ensures small { result ≤ 18446744073709551615 * (4 * (length bytes.now / 32)) }
+{
+    let sum = sum_of_blocks(bytes);
+    if bytes.len() % 64 < 32 {
+        sum
+    } else {
+        with_half(sum, bytes, 64 * (bytes.len() / 64))
+    }
+}
+
+// Returns the sum of all octets but the last 0 to 63 as 64-bit numbers. It is below 2^125 for each
+// slice, so that no carry is folded on the way.
+fn sum_of_blocks(bytes: &[u8]) -> u128
+    ensures alike { sums.CountsUpTo (64 * (length bytes.now / 64)) result bytes.now }
+    ensures small { result ≤ 18446744073709551615 * (8 * (length bytes.now / 64)) }
+{
+    let mut sum: u128 = 0;
+    for i in 0..bytes.len() / 64 {
+        let half = with_half(sum, bytes, 64 * i);
+        sum = with_half(half, bytes, 64 * i + 32);
+    }
+    sum
+}
+
+// Returns the sum of `sum` and the half block at the offset `at`.
+fn with_half(sum: u128, bytes: &[u8], at: usize) -> u128
+    requires inside { at + 32 ≤ length bytes.now }
+    requires room { sum < 2 ^ 127 }
+    ensures alike { sums.CountsAs (256 * result + sums.word_sum (drop (at + 32) bytes.now)) (256 * sum + sums.word_sum (drop at bytes.now)) }
+    ensures small { result ≤ sum + 18446744073709551615 * 4 }
+{
+    let first = sum + u128::from(eight_at(bytes, at)) + u128::from(eight_at(bytes, at + 8));
+    first + u128::from(eight_at(bytes, at + 16)) + u128::from(eight_at(bytes, at + 24))
+}
+
+// Returns a sum with its carries folded in: adds the bits above the low 64 to these, and then those
+// above the low 32.
 fn folded(sum: u128) -> u64
     ensures alike { sums.CountsAs (256 * result) (256 * sum) }
     ensures small { result < 2 ^ 35 }
