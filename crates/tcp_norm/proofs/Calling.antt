@@ -13,7 +13,7 @@ use Rattle.tcp_norm.specs.Calls.{Alive, segments, without}
 use Rattle.tcp_norm.specs.Held.{held_of}
 use Rattle.tcp_norm.specs.Spare.{written_back}
 use Rattle.tcp_norm.specs.Rulings.{IsHeld}
-use Rattle.tcp_norm.specs.declared.flow.Live.{Live}
+use Rattle.tcp_norm.specs.Live.{Live}
 use Rattle.linked_table.proofs.Parts.{split_at, wherever}
 use Rattle.tcp_norm.specs.Standing.{HoldsFor, alive_in}
 use Rattle.tcp_norm.specs.Chains.{Keeps}

@@ -156,7 +156,7 @@ passes_stream b settings v d ws n h side live none syn rst enters emitted =
         false≢true (sym (live_row v (era.t_state v.segments w) n live (passed_rows settings v d side none).1.0) ∙ early_now v.segments w (state_of v.segments) refl early side syn rst))
 
     stream : era.is_of_stream v.segments w ≡ true
-    stream = stream_is v.segments w (state_of v.segments) refl settled side syn rst
+    stream = stream_is v.segments w settled side syn rst
 
     by : Enters v w ws → AreEmitted ws (written d (packet_by settings v.segments d d.fixes (mended_by settings v d) ∷ []))
     by (begun m begins empty) = absurd (some_none (sym (stream_begins_none v w (ap is_some live) (of_stream v.segments w stream)) ∙ begins))

@@ -18,7 +18,7 @@ use Rattle.era_state.specs.declared.probe.Probe.{Probe}
 use Rattle.era_state.specs.Quantities.{out, base_of}
 use Rattle.era_state.specs.Keeping.{frame_sequence_of}
 use Rattle.era_state.specs.Silence.{IsSilent}
-use Rattle.era_state.specs.States.{State, state_of, is_acknowledged, is_closed}
+use Rattle.era_state.specs.States.{state_of, is_acknowledged, is_closed}
 use Rattle.era_state.specs.Rules as era
 use Rattle.reset_probe.specs.Rules.{era_probe, probe_with, awaited_number}
 use Rattle.cold_start.specs.Rules.{is_asked}
@@ -106,9 +106,9 @@ pub flags_are : (packet : IpPacket) (link : List ℕ) (d : Datagram) (head : Tcp
 flags_are packet link d head is h = ap (λ (x : Tcp). x.flags.0) h.fields ∙ ap tcp.flags (sym is.octets)
 
 -- a segment of the stream of an era of which an offset is acknowledged
-pub stream_is : (ws : List Written) (w : Written) (s : State) → s ≡ state_of ws → is_acknowledged s ≡ true → w.inward ≡ true → tcp.has_syn w.flags ≡ false → tcp.has_rst w.flags ≡ false
+pub stream_is : (ws : List Written) (w : Written) → is_acknowledged (state_of ws) ≡ true → w.inward ≡ true → tcp.has_syn w.flags ≡ false → tcp.has_rst w.flags ≡ false
     → era.is_of_stream ws w ≡ true
-stream_is ws w s is settled inward syn rst = rw (inward, syn, rst) (ap is_acknowledged (sym is) ∙ settled)
+stream_is ws w settled inward syn rst = rw (inward, syn, rst) settled
 
 pub step_stream : (v : View) (w : Written) (n : ℕ) → v.era ≡ Some n → OfStream v.segments w → IsStep v w (record { era = Some n; begun = None; ended = None; full = false })
 step_stream v w n live f =

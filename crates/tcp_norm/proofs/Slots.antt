@@ -50,11 +50,15 @@ at_slot lives segments begun entries store slot flow h inside slots keys valued 
     subst (λ (s : Slot). AtSlot segments begun store s flow) a.named
     (subst (AtSlot segments begun store a.here.slot) (wherever (λ (e : Entry EraKey Flow). e.value ≡ flow) entries slot a valued) here)
 
+-- a fact of the value in a slot
+pub value_in : (P : Flow → Type 0) (entries : List (Entry EraKey Flow)) (slot : Slot) (flow : Flow) → IsIn entries slot → Wherever entries slot (λ e. flow ≡ e.value) → Wherever entries slot (λ e. P e.value) → P flow
+value_in P entries slot flow (k, x, below, reads, named) was is =
+    let here = ap (λ (e : Entry EraKey Flow). e.slot) reads ∙ named in
+    subst P (sym (was k x below here)) (is k x below here)
+
 -- two values of the entry in a slot are one
 pub same_value : (entries : List (Entry EraKey Flow)) (slot : Slot) (a b : Flow) → IsIn entries slot → Wherever entries slot (λ e. a ≡ e.value) → Wherever entries slot (λ e. e.value ≡ b) → a ≡ b
-same_value entries slot a b (k, x, below, reads, named) first second =
-    let here = ap (λ (e : Entry EraKey Flow). e.slot) reads ∙ named in
-    first k x below here ∙ second k x below here
+same_value entries slot a b inside first second = value_in (λ f. f ≡ b) entries slot a inside first second
 
 -- what was opened is as it was
 pub opened_kept : (settings : PlainSettings) (old new : TcpNorm) → IsFor settings old → new.table.max ≡ old.table.max → length new.store.chains ≡ length old.store.chains → new.store.cells ≡ old.store.cells

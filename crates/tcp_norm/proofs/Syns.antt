@@ -19,7 +19,7 @@ use Rattle.era_state.specs.Quantities.{octets_of}
 use Rattle.cold_start.specs.Rules.{cold_probe_of}
 use Rattle.reset_probe.specs.Rules.{era_probe}
 use Rattle.tcp_norm.specs.declared.arrival.Arrival.{Arrival}
-use Rattle.tcp_norm.specs.declared.flow.Live.{Live}
+use Rattle.tcp_norm.specs.Live.{Live}
 use Rattle.tcp_norm.specs.declared.ruling.Refusal.{Refusal}
 use Rattle.tcp_norm.specs.declared.state.TcpNorm.{TcpNorm}
 use Rattle.tcp_norm.specs.declared.step.Step.{Step}

@@ -11,7 +11,7 @@ use Rattle.era_state.specs.Eras.{acked_in}
 use Rattle.era_state.specs.Laws.{FirstStays, AckedNeverFalls}
 use Rattle.ip_rules.specs.Datagrams.{Datagram}
 use Rattle.tcp_norm.specs.declared.flow.Flow.{Flow}
-use Rattle.tcp_norm.specs.declared.flow.Live.{Live}
+use Rattle.tcp_norm.specs.Live.{Live}
 use Rattle.tcp_norm.specs.declared.key.EraKey.{EraKey}
 use Rattle.tcp_norm.specs.declared.state.TcpNorm.{TcpNorm}
 use Rattle.tcp_norm.specs.Calls.{Call, datagram, Outcome, segments, eras}

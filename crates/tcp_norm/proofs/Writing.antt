@@ -9,7 +9,7 @@ use Rattle.retain_store.specs.Maps.{ChangesOnly, IsMap, IsWithin, chain_of, hold
 use Rattle.era_state.specs.Eras as era
 use Rattle.ip_rules.specs.Datagrams.{Datagram}
 use Rattle.tcp_norm.specs.declared.flow.Flow.{Flow}
-use Rattle.tcp_norm.specs.declared.flow.Live.{Live}
+use Rattle.tcp_norm.specs.Live.{Live}
 use Rattle.tcp_norm.specs.declared.key.EraKey.{EraKey}
 use Rattle.tcp_norm.specs.declared.state.TcpNorm.{TcpNorm}
 use Rattle.tcp_norm.specs.Calls.{Call, datagram, Outcome, segments, eras, key_of, without, begins_by, alive_at, written_by}

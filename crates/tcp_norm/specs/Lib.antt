@@ -14,6 +14,7 @@ pub mod Chains
 pub mod Streams
 pub mod Heads
 pub mod Near
+pub mod Live
 pub mod Spare
 pub mod Steps
 pub mod Passing

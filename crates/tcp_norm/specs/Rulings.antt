@@ -23,7 +23,7 @@ use Rattle.tcp_norm.specs.declared.ruling.Ruling.{Ruling}
 use Rattle.tcp_norm.specs.declared.ruling.Ruling.TheVariants.{Drop, Pass, Ask}
 use Rattle.tcp_norm.specs.declared.ruling.Taking.{Taking}
 use Rattle.tcp_norm.specs.declared.ruling.Change.{Change}
-use Rattle.tcp_norm.specs.declared.flow.Live.{Live}
+use Rattle.tcp_norm.specs.Live.{Live}
 use Rattle.tcp_norm.specs.declared.flow.Flow.{Flow}
 use Rattle.tcp_norm.specs.declared.key.EraKey.{EraKey}
 use Rattle.era_state.specs.declared.era.Era.{Era}
@@ -35,7 +35,7 @@ use Rattle.era_state.specs.Quantities.{base_at, fresh_places}
 use Rattle.era_state.specs.declared.interval.Interval.{Interval}
 use Rattle.linked_table.specs.declared.table.Slot.{Slot}
 use Rattle.tcp_norm.specs.Spare.{written_back}
-use Rattle.era_state.specs.States.{is_acknowledged}
+use Rattle.era_state.specs.States.{is_acknowledged, state_of}
 use Rattle.era_state.specs.Rules.{t_state, t_syn}
 use Rattle.cold_start.specs.Rules.{cold_probe_of}
 use Rattle.reset_probe.specs.Rules.{era_probe}
@@ -168,15 +168,17 @@ pub record HearsIn (old new : table.Table EraKey Flow) (slot : Slot) (s : Seg) (
   pub touches : Touches old new slot now flow era
   pub stands : (ws : List Written) → eraspec.StandsFor flow.era ws → eraspec.StandsFor era (ws ++ came s ∷ [])
 
--- the live era was changed by a frame of this interval and touched at this time; `fresh` octets of the frame are the first at their offsets
-pub record TakesIn (old new : table.Table EraKey Flow) (live : Live) (i : Interval) (fresh now : ℕ) : Type 0 where
+-- the era of the entry in this slot was changed by a frame of this interval and touched at this time; `fresh` octets of the frame are the first at their offsets
+pub record TakesIn (old new : table.Table EraKey Flow) (slot : Slot) (i : Interval) (fresh now : ℕ) : Type 0 where
+  pub flow : Flow
   pub era : Era
-  pub entries : new ≡ record old { entries = written_back old.entries live.slot (record { era = era; number = live.flow.number; touched = now }) }
-  pub value : eraspec.ForwardsIn i fresh live.flow.era era
-  pub stands : (ws : List Written) (w frame : Written) → eraspec.StandsFor live.flow.era ws → KeptOf ws w i → IsFrame ws w i frame → fresh ≡ fresh_places (base_at ws) ws i.lo i.hi
+  pub was : table.Wherever old.entries slot (λ e. flow ≡ e.value)
+  pub entries : new ≡ record old { entries = written_back old.entries slot (record { era = era; number = flow.number; touched = now }) }
+  pub value : eraspec.ForwardsIn i fresh flow.era era
+  pub stands : (ws : List Written) (w frame : Written) → eraspec.StandsFor flow.era ws → KeptOf ws w i → IsFrame ws w i frame → fresh ≡ fresh_places (base_at ws) ws i.lo i.hi
       → eraspec.StandsFor era (ws ++ frame ∷ [])
-  pub same : eraspec.acked_in era ≡ eraspec.acked_in live.flow.era
-  pub octets_are : eraspec.octets_in era ≡ eraspec.octets_in live.flow.era + fresh
+  pub same : eraspec.acked_in era ≡ eraspec.acked_in flow.era
+  pub octets_are : eraspec.octets_in era ≡ eraspec.octets_in flow.era + fresh
 
 -- the flags may be set together
 abbrev pub IsLegal : Seg → Type 0
@@ -206,7 +208,7 @@ pub record IsFound (norm : TcpNorm) (a : Arrival) (live : Live) : Type 0 where
 -- the era is in the state Warm or Closed, with these quantities
 pub record IsLast (era : Era) (warm : Warm) : Type 0 where
   pub settled : (ws : List Written) → eraspec.StandsFor era ws → WarmFor warm ws
-  pub acknowledged : is_acknowledged (eraspec.state_in era) ≡ true
+  pub acknowledged : (ws : List Written) → eraspec.StandsFor era ws → is_acknowledged (state_of ws) ≡ true
   pub acked_is : warm.acked ≡ eraspec.acked_in era
   pub octets_are : warm.octets ≡ eraspec.octets_in era
   pub gives : (i : Interval) → IsGiven warm i → eraspec.GivesTo era i
@@ -232,24 +234,22 @@ pub record PlacesOctets (old new : Store) (chain from : ℕ) (octets : List ℕ)
   pub map : IsMap (chain_of new chain)
   pub held : (n : ℕ) → IsWithin (chain_of new chain) (256 * n) → length (chain_of new chain) ≡ count_by (holds (chain_of new chain)) (range_with_len 0 n)
 
--- the octets can be taken, after this number of calls, with this quota
-pub record CanTake (calls : ℕ) (store : Store) (most : Option ℕ) (live : Live) (t : Taking) : Type 0 where
-  pub given : eraspec.GivesTo live.flow.era t.kept
+-- the era in this slot can take the octets, with this quota
+pub record CanTake (entries : List (table.Entry EraKey Flow)) (store : Store) (most : Option ℕ) (slot : Slot) (t : Taking) : Type 0 where
+  pub given : table.Wherever entries slot (λ e. eraspec.GivesTo e.value.era t.kept)
   pub long : t.kept.lo + t.size ≡ t.kept.hi
   pub own_long : length t.own.now ≡ t.size
   pub fits : t.size ≤ MAX_PAYLOAD
-  pub acked : eraspec.acked_in live.flow.era ≤ calls * 2 ^ 31
-  pub few : eraspec.octets_in live.flow.era + 2 ^ 16 ≤ calls * 2 ^ 16
-  pub room : missing (chain_of store live.slot.0) t.kept.lo t.size ≤ store.free
-  pub quota : IsAtMost most (length (chain_of store live.slot.0) + missing (chain_of store live.slot.0) t.kept.lo t.size)
+  pub room : missing (chain_of store slot.0) t.kept.lo t.size ≤ store.free
+  pub quota : IsAtMost most (length (chain_of store slot.0) + missing (chain_of store slot.0) t.kept.lo t.size)
 
--- the change can be made
-abbrev pub IsOpenTo : TcpNorm → Live → Change → Type 0
-IsOpenTo norm live Nothing = Unit {0}
-IsOpenTo norm live Touch = IsHeld norm.table live
-IsOpenTo norm live (Take t) = IsHeld norm.table live × CanTake (norm.calls + 1) norm.store norm.quota live t
-IsOpenTo norm live (Hear s) = IsHeld norm.table live × IsLegal s × (tcp.has_syn s.flags.0 ≡ true)
-IsOpenTo norm live (Reopen o) = IsHeld norm.table live
+-- the change can be made of the era in this slot
+abbrev pub IsOpenTo : TcpNorm → Slot → Change → Type 0
+IsOpenTo norm slot Nothing = Unit {0}
+IsOpenTo norm slot Touch = Unit {0}
+IsOpenTo norm slot (Take t) = CanTake norm.table.entries norm.store norm.quota slot t
+IsOpenTo norm slot (Hear s) = IsLegal s × (tcp.has_syn s.flags.0 ≡ true)
+IsOpenTo norm slot (Reopen o) = Unit {0}
 
 -- the outcome writes these octets in the era, after the segments before
 pub record Brings (calls : List Call) (scratch : List ℕ) (d : Datagram) (live : Live) (t : Taking) (o : Outcome) : Type 0 where
@@ -302,8 +302,14 @@ Decides a old new live r change =
     (settings : PlainSettings) (calls : List Call) (d : Datagram) → StandsFor settings old calls → IsDatagram a.packet.now a.link.now d
     → IsDecision settings calls d a new live r change
 
+-- the same of the live era in this slot
+abbrev pub DecidesAt : Arrival → (old new : TcpNorm) → Slot → Ruling → Change → Type 0
+DecidesAt a old new slot r change =
+    (key : FlowKey) (flow : Flow) → IsFound old a (record { key = key; slot = slot; flow = flow }) → Decides a old new (record { key = key; slot = slot; flow = flow }) r change
+
 -- only the scratch has changed
 pub record IsSame (old new : TcpNorm) : Type 0 where
+  pub table_is : new.table ≡ old.table
   pub stays : (settings : PlainSettings) (calls : List Call) → StandsFor settings old calls → StandsFor settings new calls
   pub calls_are : new.calls ≡ old.calls
   pub latest_is : new.latest ≡ old.latest

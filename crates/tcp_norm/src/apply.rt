@@ -3,10 +3,10 @@ ghost use Rattle.std.specs.Prelude.{◌≡◌, ◌+◌, ◌<◌, ◌≤◌, ◌^
 ghost use Rattle.std.specs.List.{All};
 ghost use Rattle.wire_base.specs.Tcp as tcp;
 ghost use Rattle.era_state.specs.Eras.{GivesTo, acked_in, octets_in};
-ghost use Rattle.linked_table.specs.Table.{IsIn};
-ghost use Rattle.tcp_norm.specs.Rulings.{CanPlace, HearsIn, IsHeld, IsLegal, PlacesOctets, SendsIn, TakesIn, TouchesIn, taken};
+ghost use Rattle.linked_table.specs.Table.{IsIn, Wherever};
+ghost use Rattle.tcp_norm.specs.Rulings.{CanPlace, HearsIn, IsLegal, PlacesOctets, SendsIn, TakesIn, TouchesIn, taken};
 
-use crate::flow::{Flow, Live};
+use crate::flow::Flow;
 use crate::key::EraKey;
 use crate::ruling::{Change, Taking};
 use crate::spare::{chain_is_counted, list_spare};
@@ -15,12 +15,13 @@ use era_state::laws::{acked_never_falls, first_stays, frame_octets, intervals_fi
 use era_state::{Era, Interval, Offered, Seg};
 use linked_table::{LinkedTable, Slot};
 use retain_store::{ChainId, Retain};
+use wire_base::FlowKey;
 
 impl TcpNorm {
     ghost use Rattle.std.specs.Prelude.{◌≡◌, ◌<◌, ℕ, List, ◌∷◌, ◌+◌, true, false, length};
     ghost use Rattle.wire_base.specs.Tcp as tcp;
     ghost use Rattle.wire_base.specs.declared.address.FlowKey.{FlowKey};
-    ghost use Rattle.linked_table.specs.Table.{IsIn};
+    ghost use Rattle.linked_table.specs.Table.{IsIn, Wherever};
     ghost use Rattle.tcp_norm.specs.Calls.{datagram, segment_in};
     ghost use Rattle.tcp_norm.specs.Steps.{Does, Sends, continued_in};
     ghost use Rattle.tcp_norm.specs.declared.flow.Flow.{Flow};
@@ -31,19 +32,22 @@ impl TcpNorm {
     ghost use Rattle.tcp_norm.specs.Rulings.{IsCounted, IsOpenTo, Needs, IsHeld, IsLegal, Brings, CanTake, Extends, Hears, Reopens};
     ghost use Rattle.wire_base.specs.Segments.{Written};
 
-    /// Makes the change of a segment that arrives at this time.
-    pub(crate) fn apply(&mut self, live: &Live, change: &Change<'_>, now: u32)
-        requires fits { IsOpenTo self.old live.now change.now }
+    /// Makes the change of a segment of this connection, whose live era is in this slot, that arrives at this time.
+    pub(crate) fn apply(&mut self, slot: Slot, key: FlowKey, change: &Change<'_>, now: u32)
+        requires inside { IsIn self.old.table.entries slot }
+        requires keyed { Wherever self.old.table.entries slot (λ e. e.key.0 ≡ key) }
+        requires fits { IsOpenTo self.old slot change.now }
         requires ready { IsReady self.old now }
-        ensures { (settings : PlainSettings) (calls : List Call) (d : Datagram) (o : Outcome) → StandsFor settings self.old calls →
-            Needs calls self.old d live.now change.now o → IsCounted settings calls d o now self.old self.new }
+        ensures { (settings : PlainSettings) (calls : List Call) (d : Datagram) (flow : Flow) (o : Outcome) → StandsFor settings self.old calls →
+            IsHeld self.old.table (record { key = key; slot = slot; flow = flow }) → Needs calls self.old d (record { key = key; slot = slot; flow = flow }) change.now o →
+            IsCounted settings calls d o now self.old self.new }
     {
         match change {
             Change::Nothing => self.arrive(now),
-            Change::Touch => self.touch(live.slot, now),
-            Change::Take(taking) => self.take_octets(live, taking, now),
-            Change::Hear(seg) => self.hear(live.slot, seg, now),
-            Change::Reopen(era) => self.offer(live, era, now),
+            Change::Touch => self.touch(slot, now),
+            Change::Take(taking) => self.take_octets(slot, taking, now),
+            Change::Hear(seg) => self.hear(slot, seg, now),
+            Change::Reopen(era) => self.offer(slot, key, era, now),
         }
     }
 
@@ -85,15 +89,16 @@ impl TcpNorm {
         list_spare(&mut self.spare, &self.store, slot);
     }
 
-    // Ends the live era and begins another by an inbound SYN that arrives at this time.
+    // Ends the live era in this slot and begins another of its connection by an inbound SYN that arrives at this time.
     #[inline(never)]
-    fn offer(&mut self, live: &Live, era: &Offered, now: u32)
-        requires held { IsHeld self.old.table live.now }
+    fn offer(&mut self, slot: Slot, key: FlowKey, era: &Offered, now: u32)
+        requires inside { IsIn self.old.table.entries slot }
+        requires keyed { Wherever self.old.table.entries slot (λ e. e.key.0 ≡ key) }
         requires ready { IsReady self.old now }
-        ensures { (settings : PlainSettings) (calls : List Call) (d : Datagram) (o : Outcome) → StandsFor settings self.old calls →
-            Reopens self.old d live.now era.now o → IsCounted settings calls d o now self.old self.new }
+        ensures { (settings : PlainSettings) (calls : List Call) (d : Datagram) (flow : Flow) (o : Outcome) → StandsFor settings self.old calls →
+            Wherever self.old.table.entries slot (λ e. e.value ≡ flow) → Reopens self.old d (record { key = key; slot = slot; flow = flow }) era.now o → IsCounted settings calls d o now self.old self.new }
     {
-        self.reopen(live, &Era::Offered(*era), now);
+        self.reopen(slot, key, &Era::Offered(*era), now);
     }
 
     /// Changes the live era in this slot by an outbound segment that arrives at this time and neither ends nor reopens it: acknowledged octets are forgotten.
@@ -118,25 +123,28 @@ impl TcpNorm {
         list_spare(&mut self.spare, &self.store, slot);
     }
 
-    /// Takes the octets of a segment, its own or those at the front of the scratch, and its FIN into the live era, with a segment that arrives at this time.
-    pub(crate) fn take_octets(&mut self, live: &Live, taking: &Taking<'_>, now: u32)
-        requires held { IsHeld self.old.table live.now }
-        requires can { CanTake (self.old.calls + 1) self.old.store self.old.quota live.now taking.now }
+    /// Takes the octets of a segment, its own or those at the front of the scratch, and its FIN into the live era in this slot, with a segment that arrives at
+    /// this time.
+    pub(crate) fn take_octets(&mut self, slot: Slot, taking: &Taking<'_>, now: u32)
+        requires inside { IsIn self.old.table.entries slot }
+        requires can { CanTake self.old.table.entries self.old.store self.old.quota slot taking.now }
         requires ready { IsReady self.old now }
-        ensures { (settings : PlainSettings) (calls : List Call) (d : Datagram) (o : Outcome) → StandsFor settings self.old calls →
-            Brings calls self.old.scratch.items d live.now taking.now o → IsCounted settings calls d o now self.old self.new }
+        ensures { (settings : PlainSettings) (calls : List Call) (d : Datagram) (key : FlowKey) (flow : Flow) (o : Outcome) → StandsFor settings self.old calls →
+            IsHeld self.old.table (record { key = key; slot = slot; flow = flow }) → Brings calls self.old.scratch.items d (record { key = key; slot = slot; flow = flow }) taking.now o →
+            IsCounted settings calls d o now self.old self.new }
     {
         first_stays();
         frame_octets();
         intervals_fit();
+        self.entries_are_apart();
         self.calls += 1;
         self.latest = now;
-        let chain = ChainId(live.slot.0);
+        let chain = ChainId(slot.0);
         let kept = &taking.kept;
         let fresh = place_taken(&mut self.store, chain, taking, &self.scratch);
         chain_is_counted(&self.store, chain);
-        take_in(&mut self.table, live, kept, fresh as u32, now);
-        list_spare(&mut self.spare, &self.store, live.slot);
+        take_in(&mut self.table, slot, kept, fresh as u32, now);
+        list_spare(&mut self.spare, &self.store, slot);
     }
 }
 
@@ -193,22 +201,15 @@ fn touch_in(table: &mut LinkedTable<EraKey, Flow>, slot: Slot, now: u32)
     table.touch(slot);
 }
 
-// Changes a live era in its slot by a frame with these octets and this FIN, of which `fresh` octets are the first at their offsets, and touches it at this
+// Changes the era in a slot by a frame with these octets and this FIN, of which `fresh` octets are the first at their offsets, and touches it at this
 // time.
-fn take_in(
-    table: &mut LinkedTable<EraKey, Flow>,
-    live: &Live,
-    kept: &Interval,
-    fresh: u32,
-    now: u32,
-)
-    requires held { IsHeld table.old live.now }
-    requires given { GivesTo live.now.flow.era kept.now }
+fn take_in(table: &mut LinkedTable<EraKey, Flow>, slot: Slot, kept: &Interval, fresh: u32, now: u32)
+    requires inside { IsIn table.old.entries slot }
+    requires given { Wherever table.old.entries slot (λ e. GivesTo e.value.era kept.now) }
     requires fresh { kept.now.lo + fresh ≤ kept.now.hi }
-    requires few { octets_in live.now.flow.era + fresh < 2 ^ 64 }
-    ensures { TakesIn table.old table.new live.now kept.now fresh now }
+    requires few { Wherever table.old.entries slot (λ e. octets_in e.value.era + fresh < 2 ^ 64) }
+    ensures { TakesIn table.old table.new slot kept.now fresh now }
 {
-    let slot = live.slot;
     let flow = table.at_mut(slot);
     flow.era.forward(kept, fresh);
     flow.touched = now;

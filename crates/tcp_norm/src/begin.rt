@@ -1,5 +1,5 @@
 //! Eras begin and end.
-use crate::flow::{Flow, Live};
+use crate::flow::Flow;
 use crate::key::EraKey;
 use crate::spare::list_spare;
 use crate::state::TcpNorm;
@@ -8,6 +8,7 @@ use era_state::Era;
 use linked_table::{Hashed, Slot};
 use retain_store::ChainId;
 use rule_book::{Ended, Reason};
+use wire_base::FlowKey;
 
 impl TcpNorm {
     ghost use Rattle.std.specs.Prelude.{◌≡◌, ◌+◌, ◌-◌, ◌<◌, ℕ, IfSome, IfNone, None, List, [], ◌∷◌, Option, Some, is_some, ◌++◌, length, if◌then◌else◌};
@@ -24,7 +25,7 @@ impl TcpNorm {
     ghost use Rattle.tcp_norm.specs.Standing.{IsAbsent, IsNew, IsReady, StandsFor, Holds, Begins, ChangesTables};
     ghost use Rattle.tcp_norm.specs.declared.key.EraKey.{EraKey};
     ghost use Rattle.tcp_norm.specs.declared.flow.Flow.{Flow};
-    ghost use Rattle.tcp_norm.specs.Rulings.{IsCounted, IsHeld};
+    ghost use Rattle.tcp_norm.specs.Rulings.{IsCounted};
     ghost use Rattle.era_state.specs.Eras as eras;
     ghost use Rattle.linked_table.specs.Table as table;
 
@@ -111,19 +112,21 @@ impl TcpNorm {
         self.begun = number;
     }
 
-    /// Ends the live era and begins another of its connection with a segment that arrives at this time.
-    pub(crate) fn reopen(&mut self, live: &Live, era: &Era, now: u32)
-        requires held { IsHeld self.old.table live.now }
+    /// Ends the live era in this slot and begins another of its connection with a segment that arrives at this time.
+    pub(crate) fn reopen(&mut self, slot: Slot, key: FlowKey, era: &Era, now: u32)
+        requires inside { IsIn self.old.table.entries slot }
+        requires keyed { Wherever self.old.table.entries slot (λ e. e.key.0 ≡ key) }
         requires near { IsNear (self.old.calls + 1) era.now }
         requires ready { IsReady self.old now }
-        ensures { (settings : PlainSettings) (calls : List Call) (d : Datagram) (w : Written) (octets : ℕ) (o : Outcome) → StandsFor settings self.old calls →
-            live.now.key ≡ key_of d → eras.StandsFor era.now (w ∷ []) → ((offset : ℕ) → kept_at (w ∷ []) offset ≡ None) →
-            Does d w (reopened_by live.now.flow.number (self.old.begun + 1) octets) o → IsCounted settings calls d o now self.old self.new }
+        ensures { (settings : PlainSettings) (calls : List Call) (d : Datagram) (w : Written) (flow : Flow) (octets : ℕ) (o : Outcome) → StandsFor settings self.old calls →
+            Wherever self.old.table.entries slot (λ e. e.value ≡ flow) → key ≡ key_of d → eras.StandsFor era.now (w ∷ []) → ((offset : ℕ) → kept_at (w ∷ []) offset ≡ None) →
+            Does d w (reopened_by flow.number (self.old.begun + 1) octets) o → IsCounted settings calls d o now self.old self.new }
     {
+        self.entries_are_apart();
         self.calls += 1;
         self.latest = now;
-        self.end(live.slot);
-        let hashed = self.table.hashed(EraKey(live.key));
+        self.end(slot);
+        let hashed = self.table.hashed(EraKey(key));
         self.begin(&hashed, era, now);
     }
 

@@ -6,12 +6,10 @@ pub(crate) mod stream;
 mod syn;
 
 use crate::arrival::Arrival;
-use crate::flow::Live;
 use crate::key::EraKey;
 use crate::reading::inward_key;
 use crate::ruling::{Change, Ruling};
 use crate::state::TcpNorm;
-use era_state::Era;
 use linked_table::Slot;
 use wire_base::{FlowKey, Side};
 
@@ -19,7 +17,7 @@ impl TcpNorm {
     ghost use Rattle.std.specs.Prelude.{◌≡◌, ◌-◌, ◌<◌, ◌≤◌, ◌^◌};
     ghost use Rattle.wire_base.specs.declared.address.Side.TheVariants.{Inward, Outward};
     ghost use Rattle.tcp_norm.specs.Standing.{IsReady};
-    ghost use Rattle.tcp_norm.specs.Rulings.{Decides, IsFound, IsKeyed, IsOpenTo, IsOutward, IsSame, IsShort, Judges};
+    ghost use Rattle.tcp_norm.specs.Rulings.{DecidesAt, IsKeyed, IsOpenTo, IsOutward, IsSame, IsShort, Judges};
     ghost use Rattle.linked_table.specs.Table.{IsIn, Wherever};
 
     /// Judges a segment and updates the eras.
@@ -59,30 +57,26 @@ impl TcpNorm {
         ensures judges { Judges arrival.now self.old self.new ruling.new }
         ensures short { IsShort arrival.now ruling.new }
     {
-        let live = self.live_at(slot, key);
-        let change = self.decide(&live, arrival, ruling);
-        self.apply(&live, &change, arrival.time);
+        self.entries_are_apart();
+        let change = self.decide(slot, arrival, ruling);
+        self.apply(slot, key, &change, arrival.time);
     }
 
-    // Decides on a segment of a live era. Only the scratch and the hint of its chain change.
-    fn decide<'a>(&mut self, live: &Live, arrival: &Arrival<'a>, ruling: &mut Ruling) -> Change<'a>
-        requires found { IsFound self.old arrival.now live.now }
+    // Decides on a segment of the live era in this slot. Only the scratch and the hint of its chain change.
+    fn decide<'a>(&mut self, slot: Slot, arrival: &Arrival<'a>, ruling: &mut Ruling) -> Change<'a>
+        requires inside { IsIn self.old.table.entries slot }
         requires ready { IsReady self.old arrival.now.time }
-        ensures fits { IsOpenTo self.new live.now result }
+        ensures fits { IsOpenTo self.new slot result }
         ensures short { IsShort arrival.now ruling.new }
         ensures same { IsSame self.old self.new }
-        ensures decides { Decides arrival.now self.old self.new live.now ruling.new result }
+        ensures decides { DecidesAt arrival.now self.old self.new slot ruling.new result }
     {
         if arrival.head.flags.syn() {
-            return self.decide_syn(live, arrival, ruling);
+            return self.decide_syn(slot, arrival, ruling);
         }
         if arrival.head.flags.rst() {
-            return self.decide_reset(live, arrival, ruling);
+            return self.decide_reset(slot, arrival, ruling);
         }
-        match &live.flow.era {
-            Era::Called(_) | Era::Offered(_) => self.decide_early(live, arrival, ruling),
-            Era::Warm(warm) => self.decide_stream(live, warm, arrival, ruling),
-            Era::Closed(era) => self.decide_stream(live, &era.last, arrival, ruling),
-        }
+        self.decide_stream(slot, arrival, ruling)
     }
 }

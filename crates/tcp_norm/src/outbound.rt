@@ -9,7 +9,6 @@ ghost use Rattle.rule_book.specs.declared.rule.Rule.TheVariants as rules;
 
 use crate::arrival::Arrival;
 use crate::emit::put_given;
-use crate::flow::Live;
 use crate::key::EraKey;
 use crate::reading::{outward_key, seg_of};
 use crate::rows::note;
@@ -152,12 +151,7 @@ impl TcpNorm {
         if flow.era.calls_anew(seg) {
             let octets = flow.era.octets();
             let next = self.begun + 1;
-            let live = Live {
-                key,
-                slot,
-                flow: *flow,
-            };
-            self.reopen(&live, &era_of(seg), now);
+            self.reopen(slot, key, &era_of(seg), now);
             return Step::reopened(next, number, octets);
         }
         self.send(slot, seg, now);

@@ -4,7 +4,7 @@ ghost use Rattle.tcp_norm.specs.Near.{AreBounded, AreNear};
 ghost use Rattle.tcp_norm.specs.Spare.{spares};
 ghost use Rattle.wire_base.specs.declared.limits.TheConstants.{MAX_PAYLOAD};
 
-use crate::flow::{Flow, Live};
+use crate::flow::Flow;
 use crate::key::EraKey;
 use edge_io::NoMemory;
 use linked_table::{LinkedTable, Slot, SlotList};
@@ -62,7 +62,7 @@ impl TcpNorm {
     ghost use Rattle.tcp_norm.specs.Standing.{IsReady, StandsFor};
     ghost use Rattle.linked_table.specs.Table.{IsIn, Wherever};
     ghost use Rattle.tcp_norm.specs.Colds.{IsUnheard};
-    ghost use Rattle.tcp_norm.specs.Rulings.{IsCounted, IsHeld};
+    ghost use Rattle.tcp_norm.specs.Rulings.{IsCounted};
     ghost use Rattle.rule_book.specs.declared.rule.Rule.TheVariants as rules;
 
     /// No era is live, and none began.
@@ -139,22 +139,6 @@ impl TcpNorm {
         ensures keys_apart { AllPairs (λ e f. e.key ≢ f.key) self.now.table.entries }
     {
         let _count = self.table.len();
-    }
-
-    // Returns the live era of this connection, in this slot.
-    pub(crate) fn live_at(&self, slot: Slot, key: FlowKey) -> Live
-        requires inside { IsIn self.now.table.entries slot }
-        requires keyed { Wherever self.now.table.entries slot (λ e. e.key.0 ≡ key) }
-        ensures held { IsHeld self.now.table result }
-        ensures near { IsNear self.now.calls result.flow.era }
-        ensures key { result.key ≡ key }
-    {
-        self.entries_are_apart();
-        Live {
-            key,
-            slot,
-            flow: *self.table.at(slot),
-        }
     }
 
     // Borrows the era in this slot.

@@ -1,5 +1,5 @@
 //! A segment of the stream of an era: T_QUOTA or T_ROOM drops it, or it passes with the octets that were sent first.
-ghost use Rattle.std.specs.Prelude.{◌≡◌, ◌==◌, ◌↔◌, ℕ, ◌+◌, ◌-◌, ◌<◌, ◌≤◌, ◌^◌, nat_lt, pos, ◌-ℤ◌, List, length, take, slice_index, false, Some, None, IfNone, IsTrue, if◌then◌else◌};
+ghost use Rattle.std.specs.Prelude.{◌≡◌, ◌==◌, ◌↔◌, ℕ, ◌+◌, ◌-◌, ◌<◌, ◌≤◌, ◌^◌, nat_lt, pos, ◌-ℤ◌, List, length, take, slice_index, false, Some, None, IfNone, IfSome, IsTrue, if◌then◌else◌};
 ghost use Rattle.wire_base.specs.Segments.{Written};
 ghost use Rattle.retain_store.specs.Maps.{IsWithin, Settles, chain_of, missing};
 ghost use Rattle.era_state.specs.Offsets.{off, nat_of};
@@ -8,14 +8,16 @@ ghost use Rattle.era_state.specs.Intervals.{Keeps, KeptOf};
 ghost use Rattle.tcp_norm.specs.Held.{held_of};
 ghost use Rattle.tcp_norm.specs.Rows.{exceeds, wanted_of};
 ghost use Rattle.tcp_norm.specs.Near.{IsAtMost};
-ghost use Rattle.tcp_norm.specs.Rulings.{IsLegal};
+ghost use Rattle.tcp_norm.specs.Rulings.{IsLast, IsLegal};
+ghost use Rattle.era_state.specs.States.{is_acknowledged};
+ghost use Rattle.era_state.specs.Eras.{state_in};
 ghost use Rattle.wire_base.specs.Tcp as tcp;
 ghost use Rattle.rule_book.specs.declared.rule.Rule.TheVariants as rules;
 ghost use Rattle.tcp_norm.specs.Chains as chains;
 ghost use Rattle.wire_base.specs.declared.limits.TheConstants.{MAX_PAYLOAD};
 
+use super::early::refuse_early;
 use crate::arrival::Arrival;
-use crate::flow::Live;
 use crate::laws::streams_are_written;
 use crate::reading::{are_bits, options_change, payload_of, seg_of};
 use crate::rows::rows_of;
@@ -24,50 +26,50 @@ use crate::spare::{cells_are_counted, chain_is_counted};
 use crate::state::TcpNorm;
 use crate::step::Step;
 use era_state::laws::states_are_the_lists;
-use era_state::{Interval, Seg, Warm};
+use era_state::{Era, Interval, Seg, Warm};
 use ip_rules::Fixes;
+use linked_table::Slot;
 use retain_store::{ChainId, Retain};
 use rule_book::Rule;
 
 impl TcpNorm {
-    ghost use Rattle.tcp_norm.specs.Rulings.{Decides, IsFound, IsLast, IsOpenTo, IsPlain, IsSame, IsShort};
+    ghost use Rattle.tcp_norm.specs.Rulings.{DecidesAt, IsOpenTo, IsPlain, IsSame, IsShort};
+    ghost use Rattle.linked_table.specs.Table.{IsIn};
 
-    // `warm` is the state of the era. Only the scratch and the hint of the chain change.
+    // Only the scratch and the hint of the chain change.
     #[inline(never)]
     pub(super) fn decide_stream<'a>(
         &mut self,
-        live: &Live,
-        warm: &Warm,
+        slot: Slot,
         arrival: &Arrival<'a>,
         ruling: &mut Ruling,
     ) -> Change<'a>
-        requires found { IsFound self.old arrival.now live.now }
+        requires inside { IsIn self.old.table.entries slot }
         requires plain { IsPlain arrival.now }
-        requires last { IsLast live.now.flow.era warm.now }
-        ensures fits { IsOpenTo self.new live.now result }
+        ensures fits { IsOpenTo self.new slot result }
         ensures short { IsShort arrival.now ruling.new }
         ensures same { IsSame self.old self.new }
-        ensures decides { Decides arrival.now self.old self.new live.now ruling.new result }
+        ensures decides { DecidesAt arrival.now self.old self.new slot ruling.new result }
     {
         streams_are_written();
-        states_are_the_lists();
         are_bits(&arrival.packet.head, arrival.packet.payload);
         cells_are_counted(&self.store);
+        self.entries_are_apart();
+        let flow = self.table.at(slot);
+        let Some(warm) = last_of(&flow.era) else {
+            refuse_early(flow, arrival, ruling);
+            return Change::Nothing;
+        };
         let seg = seg_of(arrival);
         let kept = warm.interval(&seg);
-        let chain = ChainId(live.slot.0);
-        let ends = aim(&mut self.store, chain, &kept);
+        let ends = aim(&mut self.store, ChainId(slot.0), &kept);
         let piece = Piece {
             store: &self.store,
-            chain,
+            chain: ChainId(slot.0),
             kept: &kept,
         };
         if let Some(rule) = refusal(&piece, self.quota) {
-            *ruling = Ruling::Drop(Refusal {
-                rule,
-                era: Some(live.flow.number),
-                probe: None,
-            });
+            *ruling = Ruling::Drop(Refusal::silent(rule, flow.number));
             return Change::Nothing;
         }
         let own = own_octets(&piece, warm, &seg, payload_of(arrival));
@@ -75,21 +77,33 @@ impl TcpNorm {
         let changed = options_change(arrival);
         let rows = rows_of(arrival.head, changed, &Stream { kept, clash });
         let as_read = fill_kept(&piece, own, &rows, &mut self.scratch);
-        let size = piece.size() as usize;
         *ruling = Ruling::Pass(Passage {
-            step: Step::within(live.flow.number),
+            step: Step::within(flow.number),
             rows,
             seq: warm.frame_sequence(&seg, &kept),
             fin: kept.fin,
-            size,
+            size: own.len(),
             probe: None,
         });
         Change::Take(Taking {
             kept,
-            size,
+            size: own.len(),
             own,
             as_read,
         })
+    }
+}
+
+// Returns the state of an era, if it has an acknowledged offset.
+fn last_of(era: &Era) -> Option<&Warm>
+    ensures some { IfSome result (λ warm. IsLast era.now warm.now) }
+    ensures none { IfNone result (is_acknowledged (state_in era.now) ≡ false) }
+{
+    states_are_the_lists();
+    match era {
+        Era::Called(_) | Era::Offered(_) => None,
+        Era::Warm(warm) => Some(warm),
+        Era::Closed(era) => Some(&era.last),
     }
 }
 

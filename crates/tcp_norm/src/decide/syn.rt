@@ -9,7 +9,6 @@ ghost use Rattle.tcp_norm.specs.Rulings.{refused_by};
 ghost use Rattle.tcp_norm.specs.Steps.{continued_in, reopened_by};
 
 use crate::arrival::Arrival;
-use crate::flow::Live;
 use crate::reading::{are_bits, bare_seg, options_change};
 use crate::rows::rows_beside;
 use crate::ruling::{Change, Passage, Refusal, Ruling};
@@ -17,6 +16,7 @@ use crate::state::TcpNorm;
 use crate::step::Step;
 use cold_start::cold_probe;
 use era_state::{Era, Offered, Seg, SynAnswer};
+use linked_table::Slot;
 use reset_probe::probe_of;
 use rule_book::Rule;
 use tcp_codec::laws::segments_are_read_back;
@@ -25,35 +25,37 @@ impl TcpNorm {
     ghost use Rattle.std.specs.Prelude.{◌≡◌, ◌-◌, ◌<◌, true};
     ghost use Rattle.wire_base.specs.Tcp as tcp;
     ghost use Rattle.tcp_norm.specs.Standing.{IsReady};
-    ghost use Rattle.tcp_norm.specs.Rulings.{Decides, IsFound, IsOpenTo, IsShort};
+    ghost use Rattle.tcp_norm.specs.Rulings.{DecidesAt, IsOpenTo, IsShort};
+    ghost use Rattle.linked_table.specs.Table.{IsIn};
 
     #[inline(never)]
     pub(super) fn decide_syn<'a>(
         &self,
-        live: &Live,
+        slot: Slot,
         arrival: &Arrival<'a>,
         ruling: &mut Ruling,
     ) -> Change<'a>
-        requires found { IsFound self.now arrival.now live.now }
+        requires inside { IsIn self.now.table.entries slot }
         requires ready { IsReady self.now arrival.now.time }
         requires syn { tcp.has_syn arrival.now.head.now.flags.0 ≡ true }
-        ensures fits { IsOpenTo self.now live.now result }
+        ensures fits { IsOpenTo self.now slot result }
         ensures short { IsShort arrival.now ruling.new }
-        ensures decides { Decides arrival.now self.now self.now live.now ruling.new result }
+        ensures decides { DecidesAt arrival.now self.now self.now slot ruling.new result }
     {
         segments_are_read_back();
         are_bits(&arrival.packet.head, arrival.packet.payload);
         let seg = bare_seg(arrival);
-        let era = &live.flow.era;
+        let flow = self.table.at(slot);
+        let era = &flow.era;
         let answer = era.judge_syn(&seg);
-        if let Some(refusal) = refusal_of(answer, era, live.flow.number, &seg) {
+        if let Some(refusal) = refusal_of(answer, era, flow.number, &seg) {
             *ruling = Ruling::Drop(refusal);
             return Change::Nothing;
         }
         let changed = options_change(arrival);
         let rows = rows_beside(arrival, changed, false);
         let again = is_reopen(answer);
-        let step = step_of(era, live.flow.number, again, self.begun + 1);
+        let step = step_of(era, flow.number, again, self.begun + 1);
         *ruling = Ruling::Pass(Passage {
             step,
             rows,

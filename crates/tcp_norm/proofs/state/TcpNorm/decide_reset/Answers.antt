@@ -13,6 +13,10 @@ use Rattle.tcp_norm.specs.Resets.{WritesAll}
 use Rattle.tcp_norm.specs.Steps.{IsStep}
 use Rattle.tcp_norm.specs.Writes.{BringsNone}
 use Rattle.tcp_norm.specs.declared.step.Step.{Step}
+use Rattle.tcp_norm.specs.Live.{Live}
+use Rattle.tcp_norm.specs.Rulings.{outcome_of}
+use Rattle.tcp_norm.specs.declared.ruling.Refusal.{Refusal}
+use Rattle.tcp_norm.specs.declared.ruling.Ruling.TheVariants.{Drop}
 use Rattle.linked_table.proofs.Splits.{all_weaker}
 use Rattle.tcp_norm.proofs.Acks.{silent_brings_none, silent_stands}
 use Rattle.tcp_norm.proofs.Calleds.{step_seen}
@@ -21,17 +25,17 @@ use Rattle.tcp_norm.proofs.Bares.{bare_anew}
 use Rattle.tcp_norm.proofs.Beside.{beside_are}
 use Rattle.tcp_norm.proofs.Entering.{in_dropped, in_unheard, in_outcome, packets_reset}
 use Rattle.tcp_norm.proofs.Marked.{bare_writes, reset_stream, reset_probes, rst_marked, no_recall, reset_silent, probes_silent, first_is, writes_all}
-use Rattle.tcp_norm.proofs.OfLive.{of_live}
+use Rattle.tcp_norm.proofs.OfLive.{decides_at, of_live}
 use Rattle.tcp_norm.proofs.Ruled.{bare_carried, rewritten_in}
 use Rattle.tcp_norm.proofs.state.TcpNorm.decide_reset.Goals as goal
 
 pub returns-in-Refuse-clause-decides : goal.returns-in-Refuse-clause-decides
-returns-in-Refuse-clause-decides c settings calls d st is =
+returns-in-Refuse-clause-decides c = decides_at c.args.arrival.now c.args.self.now c.args.self.now c.args.slot c.at-flow.result.now _ _ c.requires.inside c.at-flow.ensures (λ key found settings calls d st is.
     let a = c.args.arrival.now in
-    let here = c.args.live.now in
+    let here : Live = record { key = key; slot = c.args.slot; flow = c.at-flow.result.now } in
     let n = here.flow.number in
     let seg = c.bare_seg-seg.result in
-    let l = of_live settings calls d a c.args.self.now here st is c.requires.found in
+    let l = of_live settings calls d a c.args.self.now here st is found in
     let comes = l.comes seg c.bare_seg-seg.ensures.read in
     let v = view_of settings calls d in
     let rst = sym (ap tcp.has_rst l.flags) ∙ c.requires.rst in
@@ -41,17 +45,17 @@ returns-in-Refuse-clause-decides c settings calls d st is =
     let drops = reset_dropped settings v d n l.side l.live.era_is rst syn
     ∙ ap (λ b. cond b (Some rules.TRst) None) (asked ∙ refused_alone (segments n calls) (came seg) (answered ∙ c.in-Refuse.is)) in
     record {
-      rules = record { outcome_is = in_dropped settings v d rules.TRst (Some n) [] drops l.live.era_is refl; carried = c.requires.found.keyed.side };
+      rules = record { outcome_is = in_dropped settings v d rules.TRst (Some n) [] drops l.live.era_is refl ∙ ap (λ (r : Refusal). outcome_of settings v.segments d (Drop r)) (sym c.silent.ensures); carried = found.keyed.side };
       needs = in_unheard settings v d rules.TRst drops;
-    }
+    })
 
 pub returns-in-Pass-clause-decides : goal.returns-in-Pass-clause-decides
-returns-in-Pass-clause-decides c settings calls d st is =
+returns-in-Pass-clause-decides c = decides_at c.args.arrival.now c.args.self.now c.args.self.now c.args.slot c.at-flow.result.now _ _ c.requires.inside c.at-flow.ensures (λ key found settings calls d st is.
     let a = c.args.arrival.now in
-    let here = c.args.live.now in
+    let here : Live = record { key = key; slot = c.args.slot; flow = c.at-flow.result.now } in
     let n = here.flow.number in
     let seg = c.bare_seg-seg.result in
-    let l = of_live settings calls d a c.args.self.now here st is c.requires.found in
+    let l = of_live settings calls d a c.args.self.now here st is found in
     let comes = l.comes seg c.bare_seg-seg.ensures.read in
     let v = view_of settings calls d in
     let w = segment_in d in
@@ -91,4 +95,4 @@ returns-in-Pass-clause-decides c settings calls d st is =
           writes = subst (WritesAll d n written) (sym is_it) (writes_all d n c.within-step.result d.fixes named packets c.within-step.ensures);
         },
       );
-    }
+    })

@@ -1,5 +1,5 @@
 use Rattle.std.proofs.Common.{rules, ◌≡◌, ℕ, ◌+◌, ◌-◌, ◌<◌, ◌≤◌, ◌^◌, ◌%◌, ◌&&◌, ◌∙◌, Bool, true, false, cond, Some, None, List, [], ◌∷◌, ◌++◌, length, map, take, drop, is_some, sym, ap, ap₂, subst, arith, refl}
-use Rattle.std.specs.Prelude.{nat_lt}
+use Rattle.std.specs.Prelude.{nat_lt, IsTrue}
 use Rattle.std.specs.List.{refill}
 use Rattle.std.proofs.Math.Seq.{take-append_seam}
 use Rattle.std.proofs.lemmas.List.{length-drop, length-take-le}
@@ -8,11 +8,12 @@ use Rattle.wire_base.specs.Options.{cleaned}
 use Rattle.wire_base.specs.Segments.{Written}
 use Rattle.ipv4_codec.specs.declared.header.Ipv4.{Ipv4}
 use Rattle.tcp_codec.specs.declared.header.Tcp.{Tcp}
-use Rattle.retain_store.specs.Maps.{Store, chain_of, missing}
+use Rattle.retain_store.specs.Maps.{Store, IsWithin, chain_of, missing}
 use Rattle.tcp_norm.specs.Near.{AreBounded, IsAtMost}
 use Rattle.tcp_norm.specs.Spare.{spares}
 use Rattle.rule_book.specs.declared.rule.Rule.TheVariants as variants
-use Rattle.era_state.specs.States.{state_of}
+use Rattle.era_state.specs.States.{is_acknowledged, state_of}
+use Rattle.era_state.specs.Eras.{GivesTo}
 use Rattle.era_state.specs.Standing.{WarmFor}
 use Rattle.era_state.specs.Read.{received}
 use Rattle.era_state.specs.Intervals.{KeptOf}
@@ -24,7 +25,10 @@ use Rattle.tcp_norm.specs.declared.flow.Flow.{Flow}
 use Rattle.tcp_norm.specs.declared.key.EraKey.{EraKey}
 use Rattle.tcp_norm.specs.declared.state.TcpNorm.{TcpNorm}
 use Rattle.tcp_norm.specs.Calls.{eras, read, segment_in, segments}
-use Rattle.tcp_norm.specs.Rulings.{IsSame}
+use Rattle.tcp_norm.specs.Live.{Live}
+use Rattle.tcp_norm.specs.declared.ruling.Refusal.{Refusal}
+use Rattle.tcp_norm.specs.declared.ruling.Ruling.TheVariants.{Drop}
+use Rattle.tcp_norm.specs.Rulings.{IsSame, outcome_of}
 use Rattle.tcp_norm.specs.Standing.{HoldsFor, IsTimely}
 use Rattle.tcp_norm.proofs.Slots.{opened_kept}
 use Rattle.tcp_norm.specs.Views.{view_of}
@@ -36,7 +40,7 @@ use Rattle.tcp_norm.specs.Emits.{packet_by, octets_sent}
 use Rattle.tcp_norm.specs.Resets.{WritesAll}
 use Rattle.tcp_norm.specs.Steps.{IsStep}
 use Rattle.tcp_norm.specs.declared.step.Step.{Step}
-use Rattle.tcp_norm.proofs.OfLive.{of_live}
+use Rattle.tcp_norm.proofs.OfLive.{decides_at, of_live}
 use Rattle.tcp_norm.proofs.Holding.{held_is}
 use Rattle.tcp_norm.proofs.Judging.{of_stream, stream_dropped}
 use Rattle.tcp_norm.proofs.Fitting.{stream_fits}
@@ -73,8 +77,8 @@ invariant_of-piece c =
       short = omega (arith, a.short, a.read.inside, c.interval-kept.ensures.short, c.seg_of-seg.ensures.len, payload_long a.packet.now.payload.now a.head.now a.read.fields);
     }
 
-pub invariant_of-self : goal.invariant_of-self
-invariant_of-self c =
+pub invariant_of-self-in-Some-refusal : goal.invariant_of-self-in-Some-refusal
+invariant_of-self-in-Some-refusal c =
     let self = c.args.self.now in
     record {
       sized = ap (λ (s : Store). length s.chains) c.aim-ends.ensures.same ∙ self.sized;
@@ -91,16 +95,24 @@ invariant_of-self c =
 pub invariant_of-self-2-clause-sized : goal.invariant_of-self-2-clause-sized
 invariant_of-self-2-clause-sized c = ap (λ (s : Store). length s.chains) c.aim-ends.ensures.same ∙ c.args.self.now.sized
 
+pub invariant_of-self-2-clause-near : goal.invariant_of-self-2-clause-near
+invariant_of-self-2-clause-near c = c.args.self.now.near
+
 pub invariant_of-self-2-clause-spare_listed : goal.invariant_of-self-2-clause-spare_listed
 invariant_of-self-2-clause-spare_listed c = c.args.self.now.spare_listed ∙ ap (λ s. spares s c.args.self.now.table.entries) (sym c.aim-ends.ensures.same)
 
 pub invariant_of-self-2-clause-bounded : goal.invariant_of-self-2-clause-bounded
 invariant_of-self-2-clause-bounded c = subst (AreBounded c.args.self.now.quota) (sym c.aim-ends.ensures.same) c.args.self.now.bounded
 
+pub clashes-clash-requires-clause-ends : goal.clashes-clash-requires-clause-ends
+clashes-clash-requires-clause-ends c =
+    subst (λ s. IsTrue c.aim-ends.result → IsWithin (chain_of s c.args.slot.0) c.interval-kept.result.lo) (sym c.aim-ends.ensures.same) c.aim-ends.ensures.ends
+
 -- the store is as it was
 same_store : (old new : TcpNorm) → new.store ≡ old.store → new.table ≡ old.table → new.cells ≡ old.cells → new.hops ≡ old.hops → new.idle ≡ old.idle → new.offload ≡ old.offload → new.quota ≡ old.quota
     → new.begun ≡ old.begun → new.calls ≡ old.calls → new.latest ≡ old.latest → IsSame old new
 same_store old new store tables cells hops idle offload quota begun calls latest = record {
+  table_is = tables;
   stays = λ settings cs st. record {
     opened = opened_kept settings old new st.opened (ap (λ (t : table.Table EraKey Flow). t.max) tables) (ap (λ (s : Store). length s.chains) store) (ap (λ (s : Store). s.cells) store) cells hops idle offload quota;
     holds = subst (λ s. HoldsFor (eras cs) (λ n. segments n cs) new.begun new.table.entries s) (sym store)
@@ -114,8 +126,8 @@ same_store old new store tables cells hops idle offload quota begun calls latest
   latest_is = latest;
 }
 
-pub returns-in-Some-clause-same : goal.returns-in-Some-clause-same
-returns-in-Some-clause-same c = same_store c.args.self.now _ c.aim-ends.ensures.same refl refl refl refl refl refl refl refl refl
+pub returns-in-Some-refusal-clause-same : goal.returns-in-Some-refusal-clause-same
+returns-in-Some-refusal-clause-same c = same_store c.args.self.now _ c.aim-ends.ensures.same refl refl refl refl refl refl refl refl refl
 
 pub returns-clause-same : goal.returns-clause-same
 returns-clause-same c = same_store c.args.self.now _ c.aim-ends.ensures.same refl refl refl refl refl refl refl refl refl
@@ -123,31 +135,34 @@ returns-clause-same c = same_store c.args.self.now _ c.aim-ends.ensures.same ref
 pub returns-clause-fits : goal.returns-clause-fits
 returns-clause-fits c =
     let a = c.args.arrival.now in
-    let here = c.args.live.now in
-    let near = c.requires.found.near in
+    let slot = c.args.slot in
     let store = c.aim-ends.new.store in
     let seg = c.seg_of-seg.result in
-    let kept = c.interval-kept.result in (
-      c.requires.found.held,
-      record {
-        given = c.requires.last.gives kept (record { sequence = seg.seq; len = seg.len; fin = tcp.has_fin seg.flags.0; keeps = c.interval-kept.ensures.value });
-        long = omega (arith, c.size-size.ensures.size, c.interval-kept.ensures.order);
-        own_long = omega (arith, c.size-size.ensures.size, c.own_octets-own.ensures.long);
-        fits = omega (arith, a.short, a.read.inside, c.interval-kept.ensures.short, c.size-size.ensures.size, c.seg_of-seg.ensures.len, payload_long a.packet.now.payload.now a.head.now a.read.fields);
-        acked = omega (arith, near.0);
-        few = omega (arith, near.1);
-        room = subst (λ n. missing (chain_of store here.slot.0) kept.lo n ≤ store.free) (sym c.size-size.ensures.size) c.in_default.ensures.free;
-        quota = subst (λ n. IsAtMost c.args.self.now.quota (length (chain_of store here.slot.0) + missing (chain_of store here.slot.0) kept.lo n)) (sym c.size-size.ensures.size) c.in_default.ensures.within;
-      },
-    )
+    let kept = c.interval-kept.result in
+    let long = c.own_octets-own.ensures.long in
+    let given = c.in-Some.ensures.some.gives kept (record { sequence = seg.seq; len = seg.len; fin = tcp.has_fin seg.flags.0; keeps = c.interval-kept.ensures.value }) in
+    record {
+      given = λ k x below here. subst (λ (f : Flow). GivesTo f.era kept) (c.at-flow.ensures k x below here) given;
+      long = omega (arith, long, c.interval-kept.ensures.order);
+      own_long = refl;
+      fits = omega (arith, a.short, a.read.inside, c.interval-kept.ensures.short, long, c.seg_of-seg.ensures.len, payload_long a.packet.now.payload.now a.head.now a.read.fields);
+      room = subst (λ n. missing (chain_of store slot.0) kept.lo n ≤ store.free) (sym long) c.in_default-refusal.ensures.free;
+      quota = subst (λ n. IsAtMost c.args.self.now.quota (length (chain_of store slot.0) + missing (chain_of store slot.0) kept.lo n)) (sym long) c.in_default-refusal.ensures.within;
+    }
 
-pub returns-in-Some-clause-decides : goal.returns-in-Some-clause-decides
-returns-in-Some-clause-decides c settings calls d st is =
+pub returns-in_default-clause-decides : goal.returns-in_default-clause-decides
+returns-in_default-clause-decides c = decides_at c.args.arrival.now c.args.self.now _ c.args.slot c.at-flow.result.now _ _ c.requires.inside c.at-flow.ensures (λ key found settings calls d st is.
+    let refused = c.refuse_early.ensures.decides c.args.self.now key c.args.slot found settings calls d st is in
+    record { rules = refused.rules; needs = refused.needs })
+
+pub returns-in-Some-refusal-clause-decides : goal.returns-in-Some-refusal-clause-decides
+returns-in-Some-refusal-clause-decides c = decides_at c.args.arrival.now c.args.self.now _ c.args.slot c.at-flow.result.now _ _ c.requires.inside c.at-flow.ensures (λ key found settings calls d st is.
+    let here : Live = record { key = key; slot = c.args.slot; flow = c.at-flow.result.now } in
+    let last = c.in-Some.ensures.some in
     let a = c.args.arrival.now in
-    let here = c.args.live.now in
-    let h = c.requires.found.held in
+    let h = found.held in
     let n = here.flow.number in
-    let l = of_live settings calls d a c.args.self.now here st is c.requires.found in
+    let l = of_live settings calls d a c.args.self.now here st is found in
     let v = view_of settings calls d in
     let w = segment_in d in
     let side = l.side in
@@ -156,9 +171,9 @@ returns-in-Some-clause-decides c settings calls d st is =
     let flags = l.flags in
     let syn : tcp.has_syn w.flags ≡ false = sym (ap tcp.has_syn flags) ∙ c.requires.plain.no_syn in
     let rst : tcp.has_rst w.flags ≡ false = sym (ap tcp.has_rst flags) ∙ c.requires.plain.no_rst in
-    let stream = stream_is v.segments w _ ((c.states_are_the_lists.ensures here.flow.era (segments n calls) stood).state_is ∙ ap state_of (sym live.segments_are)) c.requires.last.acknowledged side syn rst in
+    let stream = stream_is v.segments w (subst (λ ws. is_acknowledged (state_of ws) ≡ true) (sym live.segments_are) (last.acknowledged (segments n calls) stood)) side syn rst in
     let f = of_stream v.segments w stream in
-    let warm = subst (WarmFor c.args.warm.now) (sym live.segments_are) (c.requires.last.settled (segments n calls) stood) in
+    let warm = subst (WarmFor c.in-Some.warm.now) (sym live.segments_are) (last.settled (segments n calls) stood) in
     let total = held_is calls _ _ _ _ st.holds (st.opened.chains ∙ sym st.opened.flows) h.below h.slots_apart in
     let store = c.aim-ends.new.store in
     let roomy : v.room ≡ store.free = omega (arith, total, c.cells_are_counted.ensures.total, st.opened.store, ap (λ (s : Store). s.free) c.aim-ends.ensures.same) in
@@ -177,19 +192,24 @@ returns-in-Some-clause-decides c settings calls d st is =
     ∙ (ap₂ (λ a b. cond (a && b && exceeds settings.quota (held_of v.segments + wanted_of v.segments w)) (Some variants.TQuota)
     (cond (a && b && nat_lt v.room (wanted_of v.segments w)) (Some variants.TRoom) None)) is_live' stream
     ∙ (ap₂ (λ q f. cond (exceeds q (held_of v.segments + wanted_of v.segments w)) (Some variants.TQuota) (cond (nat_lt f (wanted_of v.segments w)) (Some variants.TRoom) None)) (sym bound) roomy
-    ∙ sym (c.in-Some.ensures.value v.segments w keeps count keptof))) in
+    ∙ sym (c.in-Some-refusal.ensures.value v.segments w keeps count keptof))) in
     record {
-      rules = record { outcome_is = in_dropped settings v d c.in-Some.rule (Some n) [] drops live.era_is (no_probe_behind settings v d c.in-Some.rule drops is_live' f); carried = c.requires.found.keyed.side };
-      needs = in_unheard settings v d c.in-Some.rule drops;
-    }
+      rules = record {
+        outcome_is = in_dropped settings v d c.in-Some-refusal.rule (Some n) [] drops live.era_is (no_probe_behind settings v d c.in-Some-refusal.rule drops is_live' f)
+            ∙ ap (λ (r : Refusal). outcome_of settings v.segments d (Drop r)) (sym c.silent.ensures);
+        carried = found.keyed.side;
+      };
+      needs = in_unheard settings v d c.in-Some-refusal.rule drops;
+    })
 
 pub returns-clause-decides : goal.returns-clause-decides
-returns-clause-decides c settings calls d st is =
+returns-clause-decides c = decides_at c.args.arrival.now c.args.self.now _ c.args.slot c.at-flow.result.now _ _ c.requires.inside c.at-flow.ensures (λ key found settings calls d st is.
+    let here : Live = record { key = key; slot = c.args.slot; flow = c.at-flow.result.now } in
+    let last = c.in-Some.ensures.some in
     let a = c.args.arrival.now in
-    let here = c.args.live.now in
-    let h = c.requires.found.held in
+    let h = found.held in
     let n = here.flow.number in
-    let l = of_live settings calls d a c.args.self.now here st is c.requires.found in
+    let l = of_live settings calls d a c.args.self.now here st is found in
     let v = view_of settings calls d in
     let w = segment_in d in
     let side = l.side in
@@ -198,9 +218,9 @@ returns-clause-decides c settings calls d st is =
     let flags = l.flags in
     let syn : tcp.has_syn w.flags ≡ false = sym (ap tcp.has_syn flags) ∙ c.requires.plain.no_syn in
     let rst : tcp.has_rst w.flags ≡ false = sym (ap tcp.has_rst flags) ∙ c.requires.plain.no_rst in
-    let stream = stream_is v.segments w _ ((c.states_are_the_lists.ensures here.flow.era (segments n calls) stood).state_is ∙ ap state_of (sym live.segments_are)) c.requires.last.acknowledged side syn rst in
+    let stream = stream_is v.segments w (subst (λ ws. is_acknowledged (state_of ws) ≡ true) (sym live.segments_are) (last.acknowledged (segments n calls) stood)) side syn rst in
     let f = of_stream v.segments w stream in
-    let warm = subst (WarmFor c.args.warm.now) (sym live.segments_are) (c.requires.last.settled (segments n calls) stood) in
+    let warm = subst (WarmFor c.in-Some.warm.now) (sym live.segments_are) (last.settled (segments n calls) stood) in
     let total = held_is calls _ _ _ _ st.holds (st.opened.chains ∙ sym st.opened.flows) h.below h.slots_apart in
     let store = c.aim-ends.new.store in
     let roomy : v.room ≡ store.free = omega (arith, total, c.cells_are_counted.ensures.total, st.opened.store, ap (λ (s : Store). s.free) c.aim-ends.ensures.same) in
@@ -217,7 +237,7 @@ returns-clause-decides c settings calls d st is =
     let long : length c.payload_of.result.now ≡ c.seg_of-seg.result.len = ap length c.payload_of.ensures ∙ sym c.seg_of-seg.ensures.len in
     let kept_here = c.interval-kept.ensures.list v.segments c.payload_of.result.now long warm in
     let keptof : KeptOf v.segments w kept = subst (λ (w : Written). KeptOf v.segments w kept) w_is kept_here in
-    let open' = none_dropped _ _ (c.in_default.ensures.value v.segments w keeps count keptof) in
+    let open' = none_dropped _ _ (c.in_default-refusal.ensures.value v.segments w keeps count keptof) in
     let enough : nat_lt v.room (wanted_of v.segments w) ≡ false = ap (λ f. nat_lt f (wanted_of v.segments w)) roomy ∙ open'.1 in
     let within : exceeds settings.quota (held_of v.segments + wanted_of v.segments w) ≡ false = ap (λ q. exceeds q (held_of v.segments + wanted_of v.segments w)) (sym bound) ∙ open'.0 in
     let quota : t_quota settings v w ≡ false = last_false (is_live v) (era.is_of_stream v.segments w) _ within in
@@ -229,15 +249,14 @@ returns-clause-decides c settings calls d st is =
     let filled = take (length own) written in
     let filled_long : length filled ≡ length own = length-take-le (length own) written
     (omega (arith, owned.long, c.interval-kept.ensures.short, c.seg_of-seg.ensures.len, a.short, a.read.inside, c.fill_kept-as_read.auto.scratch, c.deref_mut.ensures.len, c.args.self.now.room, payload_long a.packet.now.payload.now a.head.now a.read.fields)) in
-    let clash = clash_is c.args.warm.now v.segments seen_w kept _ own c.clashes-clash.result warm kept_here keeps owned.long owned.own c.clashes-clash.ensures ∙ ap (clashes v.segments) w_is in
+    let clash = clash_is c.in-Some.warm.now v.segments seen_w kept _ own c.clashes-clash.result warm kept_here keeps owned.long owned.own c.clashes-clash.ensures ∙ ap (clashes v.segments) w_is in
     let front = refilled c.args.self.now.scratch.len c.args.self.now.scratch.items written (c.fill_kept-as_read.auto.scratch ∙ c.deref_mut.ensures.len) in
     let as_read = c.fill_kept-as_read.result in
-    let settled = take c.size-size.result (refill c.args.self.now.scratch.len c.args.self.now.scratch.items written) in
+    let settled = take (length own) (refill c.args.self.now.scratch.len c.args.self.now.scratch.items written) in
     let settled_are : as_read ≡ false → settled ≡ octets_sent v.segments w = λ some.
-    ap (take c.size-size.result) front ∙ (ap (λ m. take m written) (c.size-size.ensures.size ∙ sym owned.long)
-    ∙ (settled_is c.args.warm.now v.segments seen_w kept _ own filled warm kept_here keeps owned.long filled_long owned.own (c.fill_kept-as_read.ensures.settled some) ∙ ap (octets_sent v.segments) w_is)) in
+    ap (take (length own)) front ∙ (settled_is c.in-Some.warm.now v.segments seen_w kept _ own filled warm kept_here keeps owned.long filled_long owned.own (c.fill_kept-as_read.ensures.settled some) ∙ ap (octets_sent v.segments) w_is) in
     let own_are : as_read ≡ true → own ≡ octets_sent v.segments w = λ none.
-    settled_is c.args.warm.now v.segments seen_w kept _ own own warm kept_here keeps owned.long refl owned.own
+    settled_is c.in-Some.warm.now v.segments seen_w kept _ own own warm kept_here keeps owned.long refl owned.own
     (c.clashes-clash.ensures.0 (none_clash _ _ _ _ _ _ _ _ c.rows_of-rows.ensures.rows (sym c.fill_kept-as_read.ensures.as_read ∙ none))) ∙ ap (octets_sent v.segments) w_is in
     let sent = cond as_read own settled in
     let sent_are : sent ≡ octets_sent v.segments w = either_are as_read own settled (octets_sent v.segments w) own_are settled_are in
@@ -258,15 +277,15 @@ returns-clause-decides c settings calls d st is =
     let number : w.seq < 2 ^ 32 =
     subst (λ m. tcp.sequence m < 2 ^ 32) (sym octets) (omega (arith, c.are_bits.ensures.each 4, c.are_bits.ensures.each 5, c.are_bits.ensures.each 6, c.are_bits.ensures.each 7)) in
     let sized = sent_long v.segments w in
-    let count_sent : length (octets_sent v.segments w) ≡ c.size-size.result = sized ∙ omega (arith, keptof.spans.lo_is, keptof.spans.hi_is, c.size-size.ensures.size) in
+    let count_sent : length (octets_sent v.segments w) ≡ length own = sized ∙ omega (arith, keptof.spans.lo_is, keptof.spans.hi_is, owned.long) in
     let fits = stream_fits v.segments d bits (ap (λ k. k % 4) (sym wide) ∙ c.options_change-changed.ensures.words)
-    (omega (arith, wide, c.options_change-changed.ensures.size, a.read.most)) (omega (arith, wide, count_sent, c.options_change-changed.ensures.size, a.short, a.read.inside, c.interval-kept.ensures.short, c.size-size.ensures.size, c.seg_of-seg.ensures.len, payload_long a.packet.now.payload.now a.head.now a.read.fields)) in
+    (omega (arith, wide, c.options_change-changed.ensures.size, a.read.most)) (omega (arith, wide, count_sent, c.options_change-changed.ensures.size, a.short, a.read.inside, c.interval-kept.ensures.short, owned.long, c.seg_of-seg.ensures.len, payload_long a.packet.now.payload.now a.head.now a.read.fields)) in
     record {
       rules = record {
         outcome_is = is_it;
         carried = rewritten_if v.segments d a _ _ side (λ some. stream_anew v.segments d a.packet.now a.link.now a.head.now c.frame_sequence.result kept.fin settled is a.read syn rst seq keptof.spans.fin_is (settled_are (c.fill_kept-as_read.ensures.as_read ∙ some)));
       };
-      needs = passes c.streams_are_written.ensures settings v d c.args.warm.now kept n 0 (segments n calls) sent live.era_is live.segments_are warm stream keptof quota room number fits sent_are
+      needs = passes c.streams_are_written.ensures settings v d c.in-Some.warm.now kept n 0 (segments n calls) sent live.era_is live.segments_are warm stream keptof quota room number fits sent_are
           _
           (λ frame warm_for kept_of framed same wrote. record {
             key_is = sym l.key_is;
@@ -278,4 +297,4 @@ returns-clause-decides c settings calls d st is =
             more = more;
             writes = writes;
           });
-    }
+    })

@@ -3,12 +3,13 @@ use Rattle.wire_base.specs.Tcp as tcp
 use Rattle.era_state.specs.Quantities.{octets_of}
 use Rattle.era_state.specs.Read.{came}
 use Rattle.tcp_norm.specs.Calls.{segments, segment_in}
+use Rattle.tcp_norm.specs.Live.{Live}
 use Rattle.tcp_norm.specs.Views.{view_of}
 use Rattle.tcp_norm.specs.Outcomes.{outcome_at}
 use Rattle.tcp_norm.specs.Steps.{Does, continued_in, reopened_by}
 use Rattle.tcp_norm.proofs.Calleds.{no_reset}
 use Rattle.tcp_norm.proofs.Entering.{in_unheard}
-use Rattle.tcp_norm.proofs.OfLive.{of_live}
+use Rattle.tcp_norm.proofs.OfLive.{decides_at, of_live}
 use Rattle.tcp_norm.proofs.Ruled.{rewritten_in}
 use Rattle.tcp_norm.proofs.Syns.{syn_refused, of_syn}
 use Rattle.tcp_norm.proofs.state.TcpNorm.decide_syn.Goals as goal
@@ -17,24 +18,25 @@ pub overflow_add-self : goal.overflow_add-self
 overflow_add-self c = omega (arith, c.args.self.now.few, c.requires.ready.few)
 
 pub returns-in-Some-clause-decides : goal.returns-in-Some-clause-decides
-returns-in-Some-clause-decides c settings calls d st is =
+returns-in-Some-clause-decides c = decides_at c.args.arrival.now c.args.self.now c.args.self.now c.args.slot c.at-flow.result.now _ _ c.requires.inside c.at-flow.ensures (λ key found settings calls d st is.
+    let here : Live = record { key = key; slot = c.args.slot; flow = c.at-flow.result.now } in
     let a = c.args.arrival.now in
-    let here = c.args.live.now in
     let n = here.flow.number in
-    let l = of_live settings calls d a c.args.self.now here st is c.requires.found in
+    let l = of_live settings calls d a c.args.self.now here st is found in
     let v = view_of settings calls d in
     let seg = c.bare_seg-seg.result in
     let syn : tcp.has_syn (segment_in d).flags ≡ true = sym (ap tcp.has_syn l.flags) ∙ c.requires.syn in
     let rst = no_reset (segment_in d).flags (sym (ap tcp.are_legal l.flags) ∙ a.read.legal) syn in
     let r = c.in-Some.refusal in
     let drops = syn_refused settings v d n (segments n calls) here.key seg (Some r) l.live.era_is l.live.segments_are (l.comes seg c.bare_seg-seg.ensures.read) syn rst (c.in-Some.ensures (segments n calls) l.stood) in
-    record { rules = record { outcome_is = drops.outcome_is; carried = c.requires.found.keyed.side }; needs = in_unheard settings v d r.rule drops.drops }
+    record { rules = record { outcome_is = drops.outcome_is; carried = found.keyed.side }; needs = in_unheard settings v d r.rule drops.drops })
 
 pub returns-then-again-clause-decides : goal.returns-then-again-clause-decides
-returns-then-again-clause-decides c settings calls d st is =
-    let n = c.args.live.now.flow.number in
+returns-then-again-clause-decides c = decides_at c.args.arrival.now c.args.self.now c.args.self.now c.args.slot c.at-flow.result.now _ _ c.requires.inside c.at-flow.ensures (λ key found settings calls d st is.
+    let here : Live = record { key = key; slot = c.args.slot; flow = c.at-flow.result.now } in
+    let n = here.flow.number in
     let seg = c.bare_seg-seg.result in
-    let o = of_syn c.segments_are_read_back.ensures settings calls d c.args.arrival.now c.args.self.now c.args.live.now seg c.options_change-changed.result c.is_reopen-again.result c.rows_beside-rows.result.items c.step_of-step.result st is c.requires.found
+    let o = of_syn c.segments_are_read_back.ensures settings calls d c.args.arrival.now c.args.self.now here seg c.options_change-changed.result c.is_reopen-again.result c.rows_beside-rows.result.items c.step_of-step.result st is found
     c.are_bits.ensures c.requires.syn c.bare_seg-seg.ensures.read c.options_change-changed.ensures.changed c.options_change-changed.ensures.words c.options_change-changed.ensures.size c.rows_beside-rows.ensures.rows
     c.in_default.ensures (λ ws stood. c.is_reopen-again.ensures ∙ c.judge_syn-answer.ensures.reopens ws stood) c.step_of-step.ensures in
     record {
@@ -47,13 +49,14 @@ returns-then-again-clause-decides c settings calls d st is =
         does = subst (λ s. Does d (came seg) s (outcome_at settings (view_of settings calls d) d))
             (c.step_of-step.ensures (segments n calls) o.stood ∙ ap (λ b. cond b (reopened_by n (c.args.self.now.begun + 1) (octets_of (segments n calls))) (continued_in n)) c.if-again.true) o.does;
       };
-    }
+    })
 
 pub returns-clause-decides : goal.returns-clause-decides
-returns-clause-decides c settings calls d st is =
-    let n = c.args.live.now.flow.number in
+returns-clause-decides c = decides_at c.args.arrival.now c.args.self.now c.args.self.now c.args.slot c.at-flow.result.now _ _ c.requires.inside c.at-flow.ensures (λ key found settings calls d st is.
+    let here : Live = record { key = key; slot = c.args.slot; flow = c.at-flow.result.now } in
+    let n = here.flow.number in
     let seg = c.bare_seg-seg.result in
-    let o = of_syn c.segments_are_read_back.ensures settings calls d c.args.arrival.now c.args.self.now c.args.live.now seg c.options_change-changed.result c.is_reopen-again.result c.rows_beside-rows.result.items c.step_of-step.result st is c.requires.found
+    let o = of_syn c.segments_are_read_back.ensures settings calls d c.args.arrival.now c.args.self.now here seg c.options_change-changed.result c.is_reopen-again.result c.rows_beside-rows.result.items c.step_of-step.result st is found
     c.are_bits.ensures c.requires.syn c.bare_seg-seg.ensures.read c.options_change-changed.ensures.changed c.options_change-changed.ensures.words c.options_change-changed.ensures.size c.rows_beside-rows.ensures.rows
     c.in_default.ensures (λ ws stood. c.is_reopen-again.ensures ∙ c.judge_syn-answer.ensures.reopens ws stood) c.step_of-step.ensures in
     record {
@@ -64,4 +67,4 @@ returns-clause-decides c settings calls d st is =
         does = subst (λ s. Does d (came seg) s (outcome_at settings (view_of settings calls d) d))
             (c.step_of-step.ensures (segments n calls) o.stood ∙ ap (λ b. cond b (reopened_by n (c.args.self.now.begun + 1) (octets_of (segments n calls))) (continued_in n)) c.if-again.false) o.does;
       };
-    }
+    })

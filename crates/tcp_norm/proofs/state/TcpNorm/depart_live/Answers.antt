@@ -5,7 +5,7 @@ use Rattle.era_state.specs.Quantities.{octets_of}
 use Rattle.era_state.specs.Read.{sent}
 use Rattle.era_state.specs.Rules.{reopens_outward}
 use Rattle.era_state.specs.Eras as era
-use Rattle.tcp_norm.specs.declared.flow.Live.{Live}
+use Rattle.tcp_norm.specs.Live.{Live}
 use Rattle.tcp_norm.specs.Calls.{segments, eras, segment_in}
 use Rattle.tcp_norm.specs.Views.{view_of}
 use Rattle.tcp_norm.specs.Steps.{IsStep, Does, continued_in, reopened_by}
@@ -67,7 +67,7 @@ returns-then-calls_anew c settings calls d octets long st sends =
     record {
       is_step = subst (IsStep v w) (sym (c.reopened.ensures ∙ ap₂ (reopened_by n) next told))
           (subst (λ (w : Written). IsStep v w (reopened_by n v.next (octets_of v.segments))) (sym sends.segment_is) (step_reopened v c.args.seg.now octets n l.live.era_is some));
-      stands = λ o does. (c.reopen.ensures settings calls d w c.octets-octets-then-calls_anew.result o st (sym sends.key_is)
+      stands = λ o does. (c.reopen.ensures settings calls d w here.flow c.octets-octets-then-calls_anew.result o st held.entry (sym sends.key_is)
           (subst (λ (x : Written). era.StandsFor c.era_of.result (x ∷ [])) (sym sends.segment_is) (c.era_of.ensures.stands octets long))
           (none_kept w sends.side) (subst (λ x. Does d w x o) c.reopened.ensures does)).stands;
     }

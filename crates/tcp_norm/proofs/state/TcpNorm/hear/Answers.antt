@@ -3,7 +3,7 @@ use Rattle.linked_table.specs.Table as table
 use Rattle.era_state.specs.Eras as era
 use Rattle.era_state.specs.Read.{came}
 use Rattle.tcp_norm.specs.declared.flow.Flow.{Flow}
-use Rattle.tcp_norm.specs.declared.flow.Live.{Live}
+use Rattle.tcp_norm.specs.Live.{Live}
 use Rattle.tcp_norm.specs.declared.key.EraKey.{EraKey}
 use Rattle.tcp_norm.specs.Calls.{segments}
 use Rattle.tcp_norm.proofs.Calleds.{came_brings_none}

@@ -12,9 +12,8 @@ use Rattle.tcp_norm.proofs.state.TcpNorm.reopen.Goals as goal
 
 pub begin-requires-clause-fresh : goal.begin-requires-clause-fresh
 begin-requires-clause-fresh c =
-    let live = c.args.live.now in
-    let held = c.requires.held in
-    let left : IsAbsent c.end.new.self live.key = rw c.end.ensures.left (key_left c.args.self.now.table.entries live.slot live.key held.inside held.slots_apart held.keys_apart held.keyed) in
+    let apart = c.entries_are_apart.ensures in
+    let left : IsAbsent c.end.new.self c.args.key = rw c.end.ensures.left (key_left c.args.self.now.table.entries c.args.slot c.args.key c.requires.inside apart.slots_apart apart.keys_apart c.requires.keyed) in
     record {
       absent = subst (IsAbsent c.end.new.self) (sym (ap (λ (k : EraKey). k.0) c.hashed-hashed.ensures)) left;
       number = omega (arith, c.args.self.now.few, c.end.ensures.tables.calls_are, c.end.ensures.tables.begun_is);
@@ -23,22 +22,21 @@ begin-requires-clause-fresh c =
 
 pub begin-requires-clause-room : goal.begin-requires-clause-room
 begin-requires-clause-room c =
-    let held = c.requires.held in
-    let less = shorter c.args.self.now.table.entries c.args.live.now.slot held.inside held.slots_apart held.keys_apart in
-    omega (arith, less, ap length c.end.ensures.left, held.bounded, c.end.ensures.max)
+    let apart = c.entries_are_apart.ensures in
+    let less = shorter c.args.self.now.table.entries c.args.slot c.requires.inside apart.slots_apart apart.keys_apart in
+    omega (arith, less, ap length c.end.ensures.left, apart.bounded, c.end.ensures.max)
 
 pub returns : goal.returns
-returns c settings calls d w octets o st key stood none does =
-    let live = c.args.live.now in
-    let held = c.requires.held in
-    let n = live.flow.number in
+returns c settings calls d w flow octets o st valued key stood none does =
+    let apart = c.entries_are_apart.ensures in
+    let n = flow.number in
     let next = c.args.self.now.begun + 1 in
     let was = c.end.ensures.tables.begun_is in
     let before : ℕ → List Written = λ m. segments m calls in
     let later : ℕ → List Written = λ m. segments m (datagram c.args.now d o ∷ calls) in
-    let at = at_slot (eras calls) before _ _ _ live.slot live.flow st.holds held.inside held.slots_apart held.keys_apart held.entry in
+    let at = at_slot (eras calls) before _ _ _ c.args.slot flow st.holds c.requires.inside apart.slots_apart apart.keys_apart valued in
     let begins = begins_with settings c.args.self.now calls c.args.now d w o (reopened_by n next octets) c.args.era.now st refl does stood none in
-    let then' = c.begin.ensures.holds (without (n ∷ []) (eras calls)) before later (c.end.ensures.holds (eras calls) before live.flow st.holds held.entry)
+    let then' = c.begin.ensures.holds (without (n ∷ []) (eras calls)) before later (c.end.ensures.holds (eras calls) before flow st.holds valued)
     (subst (λ b. Begins c.args.era.now (b + 1) before later) (sym was) begins) in
     record {
       stands = begins_then settings c.args.self.now c.begin.new.self calls c.args.now d w o (reopened_by n next octets) (Some n) st

@@ -4,7 +4,7 @@ use Rattle.linked_table.specs.Table as table
 use Rattle.retain_store.specs.Maps.{Store, chain_of, octet_at}
 use Rattle.era_state.specs.Eras as era
 use Rattle.tcp_norm.specs.declared.flow.Flow.{Flow}
-use Rattle.tcp_norm.specs.declared.flow.Live.{Live}
+use Rattle.tcp_norm.specs.Live.{Live}
 use Rattle.tcp_norm.specs.declared.key.EraKey.{EraKey}
 use Rattle.tcp_norm.specs.Calls.{segments, segment_in, eras}
 use Rattle.tcp_norm.specs.Near.{AreNear}

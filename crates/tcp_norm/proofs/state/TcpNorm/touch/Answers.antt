@@ -1,7 +1,7 @@
 use Rattle.std.proofs.Common.{refl, sym, ap, subst}
 use Rattle.linked_table.specs.Table as table
 use Rattle.tcp_norm.specs.declared.flow.Flow.{Flow}
-use Rattle.tcp_norm.specs.declared.flow.Live.{Live}
+use Rattle.tcp_norm.specs.Live.{Live}
 use Rattle.tcp_norm.specs.declared.key.EraKey.{EraKey}
 use Rattle.tcp_norm.specs.Rulings.{Extends}
 use Rattle.tcp_norm.proofs.Slots.{none_changed, opened_kept}

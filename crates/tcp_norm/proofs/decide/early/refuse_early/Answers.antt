@@ -3,17 +3,18 @@ use Rattle.wire_base.specs.Tcp as tcp
 use Rattle.rule_book.specs.declared.rule.Rule.TheVariants as rules
 use Rattle.era_state.specs.States.{state_of}
 use Rattle.tcp_norm.specs.Calls.{segments, segment_in}
+use Rattle.tcp_norm.specs.Live.{Live}
 use Rattle.tcp_norm.specs.Views.{view_of}
 use Rattle.tcp_norm.specs.Emits.{probe_packets}
 use Rattle.tcp_norm.proofs.Colding.{probe_same}
 use Rattle.tcp_norm.proofs.Entering.{in_dropped, in_unheard, early_now, early_dropped}
 use Rattle.tcp_norm.proofs.OfLive.{of_live}
-use Rattle.tcp_norm.proofs.state.TcpNorm.decide_early.Goals as goal
+use Rattle.tcp_norm.proofs.decide.early.refuse_early.Goals as goal
 
 pub returns-clause-decides : goal.returns-clause-decides
-returns-clause-decides c settings calls d st is =
-    let here = c.args.live.now in
-    let l = of_live settings calls d c.args.arrival.now c.args.self.now here st is c.requires.found in
+returns-clause-decides c norm key slot found settings calls d st is =
+    let here : Live = record { key = key; slot = slot; flow = c.args.flow.now } in
+    let l = of_live settings calls d c.args.arrival.now norm here st is found in
     let v = view_of settings calls d in
     let state = (c.states_are_the_lists.ensures here.flow.era (segments here.flow.number calls) l.stood).state_is ∙ ap state_of (sym l.live.segments_are) in
     let early = early_now v.segments (segment_in d) _ state c.requires.early l.side (sym (ap tcp.has_syn l.flags) ∙ c.requires.plain.no_syn) (sym (ap tcp.has_rst l.flags) ∙ c.requires.plain.no_rst) in
@@ -22,7 +23,7 @@ returns-clause-decides c settings calls d st is =
     record {
       rules = record {
         outcome_is = in_dropped settings v d rules.TState (Some here.flow.number) _ drops l.live.era_is (ap (λ p. probe_packets settings d (Some p)) (sym probe));
-        carried = c.requires.found.keyed.side;
+        carried = found.keyed.side;
       };
       needs = in_unheard settings v d rules.TState drops;
     }
