@@ -1,12 +1,8 @@
 -- What holds of an inbound segment of a live era.
-use Rattle.std.proofs.Common.{◌≡◌, ◌≢◌, ◌<◌, ◌≤◌, true, List, ◌∷◌, ◌++◌, length, refl, sym, ap, subst, ◌∙◌}
+use Rattle.std.proofs.Common.{◌≡◌, ◌≢◌, ◌<◌, ◌≤◌, true, List, length, Option, sym, ap, subst, ◌∙◌}
 use Rattle.std.specs.List.{All, AllPairs}
-use Rattle.std.proofs.lemmas.List.Elements.{All-from_recursion}
-use Rattle.wire_base.specs.declared.address.FlowKey.{FlowKey}
 use Rattle.linked_table.specs.declared.table.Slot.{Slot}
 use Rattle.linked_table.specs.Table as table
-use Rattle.linked_table.proofs.Splits.{all_weaker, all_join}
-use Rattle.linked_table.proofs.Parts.{split_at}
 use Rattle.tcp_norm.specs.declared.flow.Flow.{Flow}
 use Rattle.tcp_norm.specs.declared.key.EraKey.{EraKey}
 use Rattle.norm_settings.specs.Settings.{PlainSettings}
@@ -20,14 +16,15 @@ use Rattle.tcp_norm.specs.declared.state.TcpNorm.{TcpNorm}
 use Rattle.tcp_norm.specs.Calls.{Call, segment_in, segments, eras, key_of}
 use Rattle.tcp_norm.proofs.Coming.{Comes}
 use Rattle.tcp_norm.specs.Inwards.{bare_read}
-use Rattle.tcp_norm.specs.declared.ruling.Change.{Change}
 use Rattle.tcp_norm.specs.declared.ruling.Ruling.{Ruling}
-use Rattle.tcp_norm.specs.Near.{AreNear}
-use Rattle.tcp_norm.specs.Rulings.{Decides, DecidesAt, IsFound, IsHeld, IsKeyed}
+use Rattle.tcp_norm.specs.declared.ruling.Taking.{Taking}
+use Rattle.tcp_norm.specs.Rulings.{Decides, DecidesIn, IsCounted, IsFound, IsHeld, IsJudged, IsLiveIn, IsRuling}
 use Rattle.tcp_norm.specs.Standing.{StandsFor}
+use Rattle.tcp_norm.specs.Views.{view_of}
+use Rattle.tcp_norm.specs.Outcomes.{outcome_at}
 use Rattle.tcp_norm.proofs.Outwards.{IsLive, view_live}
 use Rattle.tcp_norm.proofs.Nears.{near_at}
-use Rattle.tcp_norm.proofs.Slots.{AtSlot, at_slot, same_value}
+use Rattle.tcp_norm.proofs.Slots.{AtSlot, at_slot}
 use Rattle.tcp_norm.proofs.Bares.{comes_bare}
 use Rattle.tcp_norm.proofs.Entering.{keyed}
 use Rattle.tcp_norm.proofs.Probing.{side_is}
@@ -38,37 +35,26 @@ pub is_held : (t : table.Table EraKey Flow) (here : Live) → table.IsIn t.entri
     → length t.entries ≤ t.max → All (λ e. e.slot.0 < t.max) t.entries → AllPairs (λ e f. e.slot ≢ f.slot) t.entries → AllPairs (λ e f. e.key ≢ f.key) t.entries → IsHeld t here
 is_held t here inside entry keyed bounded below slots keys = record { inside = inside; entry = entry; keyed = keyed; bounded = bounded; below = below; slots_apart = slots; keys_apart = keys }
 
--- the entry in a slot has one value
-here_valued : (entries : List (table.Entry EraKey Flow)) (slot : Slot) (a : table.SplitAt entries slot) → table.Wherever entries slot (λ e. e.value ≡ a.here.value)
-here_valued entries slot a =
-    let P : table.Entry EraKey Flow → Type 0 = λ e. e.slot ≡ slot → e.value ≡ a.here.value in
-    let other : (e : table.Entry EraKey Flow) → e.slot ≢ a.here.slot → P e = λ e ne same. absurd (ne (same ∙ sym a.named)) in
-    subst (λ l. table.Wherever l slot (λ e. e.value ≡ a.here.value)) (sym a.splits)
-    (All-from_recursion P (a.before ++ a.here ∷ a.after)
-    (all_join P a.before (a.here ∷ a.after) (all_weaker _ P other a.before a.slots_before) ((λ same. refl), all_weaker _ P other a.after a.slots_after)))
+-- what is decided of the value in a slot is decided of a live era of the segment's connection
+pub decides_in : (a : Arrival) (old new : TcpNorm) (slot : Slot) (flow : Flow) (r : Ruling) (taking : Option Taking) (live : IsLiveIn old a slot) → table.Wherever old.table.entries slot (λ e. flow ≡ e.value)
+    → length old.table.entries ≤ old.table.max → All (λ e. e.slot.0 < old.table.max) old.table.entries → AllPairs (λ e f. e.slot ≢ f.slot) old.table.entries → AllPairs (λ e f. e.key ≢ f.key) old.table.entries
+    → (IsFound old a (record { key = live.key; slot = slot; flow = flow }) → Decides a old new (record { key = live.key; slot = slot; flow = flow }) r taking) → DecidesIn a old new slot r taking
+decides_in a old new slot flow r taking live was bounded below slots keys decides =
+    let here : Live = record { key = live.key; slot = slot; flow = flow } in
+    let found : IsFound old a here = record {
+      held = is_held old.table here live.inside (λ k x lt same. sym (was k x lt same)) live.of_key bounded below slots keys;
+      near = near_at old.calls old.table.entries slot flow live.inside was old.near;
+      keyed = live.keyed;
+    } in
+    record { key = live.key; flow = flow; found = found; decides = decides found }
 
--- the live era in a slot, by what is known of the table
-pub of_entry : (norm : TcpNorm) (a : Arrival) (slot : Slot) (key : FlowKey) → table.IsIn norm.table.entries slot → table.Wherever norm.table.entries slot (λ e. e.key.0 ≡ key) → IsKeyed a key
-    → length norm.table.entries ≤ norm.table.max → All (λ e. e.slot.0 < norm.table.max) norm.table.entries → AllPairs (λ e f. e.slot ≢ f.slot) norm.table.entries
-    → AllPairs (λ e f. e.key ≢ f.key) norm.table.entries → AreNear norm.calls norm.table.entries → (flow : Flow) × IsFound norm a (record { key = key; slot = slot; flow = flow })
-of_entry norm a slot key inside of_key keyed bounded below slots keys near =
-    let here = split_at norm.table.entries slot inside slots keys in
-    let valued = here_valued norm.table.entries slot here in (
-      here.here.value,
-      record {
-        held = is_held norm.table (record { key = key; slot = slot; flow = here.here.value }) inside valued of_key bounded below slots keys;
-        near = near_at norm.calls norm.table.entries slot here.here.value inside (λ k x lt same. sym (valued k x lt same)) near;
-        keyed = keyed;
-      },
-    )
-
--- what is decided with the value in the slot is decided with that of each live era of the slot
-pub decides_at : (a : Arrival) (old new : TcpNorm) (slot : Slot) (flow : Flow) (r : Ruling) (change : Change) → table.IsIn old.table.entries slot → table.Wherever old.table.entries slot (λ e. flow ≡ e.value)
-    → ((key : FlowKey) → IsFound old a (record { key = key; slot = slot; flow = flow }) → Decides a old new (record { key = key; slot = slot; flow = flow }) r change) → DecidesAt a old new slot r change
-decides_at a old new slot flow r change inside was decides key other found =
-    let same = same_value old.table.entries slot flow other inside was found.held.entry in
-    subst (λ (f : Flow). Decides a old new (record { key = key; slot = slot; flow = f }) r change) same
-    (decides key (subst (λ (f : Flow). IsFound old a (record { key = key; slot = slot; flow = f })) (sym same) found))
+-- the ruling is that of the rule table, and the datagram is counted
+pub judged : (settings : PlainSettings) (calls : List Call) (d : Datagram) (a : Arrival) (old new : TcpNorm) (r : Ruling) → IsRuling settings (view_of settings calls d) d a old.scratch.items r
+    → IsCounted settings calls d (outcome_at settings (view_of settings calls d) d) a.time old new → IsJudged settings calls d a new r
+judged settings calls d a old new r ruled counted = record {
+  stands = counted.stands;
+  rules = subst (λ s. IsRuling settings (view_of settings calls d) d a s.items r) (sym counted.scratch_is) ruled;
+}
 
 -- what was asked of the calls before, of a connection whose live era the table has
 pub record HeldLive (settings : PlainSettings) (calls : List Call) (d : Datagram) (norm : TcpNorm) (here : Live) : Type 0 where

@@ -22,7 +22,6 @@ use Rattle.tcp_norm.specs.declared.ruling.Passage.{Passage}
 use Rattle.tcp_norm.specs.declared.ruling.Ruling.{Ruling}
 use Rattle.tcp_norm.specs.declared.ruling.Ruling.TheVariants.{Drop, Pass, Ask}
 use Rattle.tcp_norm.specs.declared.ruling.Taking.{Taking}
-use Rattle.tcp_norm.specs.declared.ruling.Change.{Change}
 use Rattle.tcp_norm.specs.Live.{Live}
 use Rattle.tcp_norm.specs.declared.flow.Flow.{Flow}
 use Rattle.tcp_norm.specs.declared.key.EraKey.{EraKey}
@@ -49,7 +48,6 @@ use Rattle.wire_base.specs.Sums.{pseudo_sum}
 use Rattle.tcp_codec.specs.Header.{fields_of}
 use Rattle.rule_book.specs.declared.entry.Reason.TheVariants as reasons
 use Rattle.tcp_norm.specs.Steps.{Does}
-use Rattle.tcp_norm.specs.declared.ruling.Change.TheVariants.{Nothing, Touch, Take, Hear, Reopen}
 use Rattle.tcp_norm.specs.Calls.{Call, datagram, Outcome, key_at, key_of, segment_in, segments, written_by}
 use Rattle.tcp_norm.specs.Views.{View, view_of}
 use Rattle.tcp_norm.specs.Near.{IsNear, IsAtMost}
@@ -205,6 +203,13 @@ pub record IsFound (norm : TcpNorm) (a : Arrival) (live : Live) : Type 0 where
   pub near : IsNear norm.calls live.flow.era
   pub keyed : IsKeyed a live.key
 
+-- the live era in this slot is that of the segment's connection
+pub record IsLiveIn (norm : TcpNorm) (a : Arrival) (slot : Slot) : Type 0 where
+  pub key : FlowKey
+  pub inside : table.IsIn norm.table.entries slot
+  pub of_key : table.Wherever norm.table.entries slot (λ e. e.key.0 ≡ key)
+  pub keyed : IsKeyed a key
+
 -- the era is in the state Warm or Closed, with these quantities
 pub record IsLast (era : Era) (warm : Warm) : Type 0 where
   pub settled : (ws : List Written) → eraspec.StandsFor era ws → WarmFor warm ws
@@ -243,14 +248,6 @@ pub record CanTake (entries : List (table.Entry EraKey Flow)) (store : Store) (m
   pub room : missing (chain_of store slot.0) t.kept.lo t.size ≤ store.free
   pub quota : IsAtMost most (length (chain_of store slot.0) + missing (chain_of store slot.0) t.kept.lo t.size)
 
--- the change can be made of the era in this slot
-abbrev pub IsOpenTo : TcpNorm → Slot → Change → Type 0
-IsOpenTo norm slot Nothing = Unit {0}
-IsOpenTo norm slot Touch = Unit {0}
-IsOpenTo norm slot (Take t) = CanTake norm.table.entries norm.store norm.quota slot t
-IsOpenTo norm slot (Hear s) = IsLegal s × (tcp.has_syn s.flags.0 ≡ true)
-IsOpenTo norm slot (Reopen o) = Unit {0}
-
 -- the outcome writes these octets in the era, after the segments before
 pub record Brings (calls : List Call) (scratch : List ℕ) (d : Datagram) (live : Live) (t : Taking) (o : Outcome) : Type 0 where
   pub key_is : live.key ≡ key_of d
@@ -283,29 +280,28 @@ pub record Reopens (norm : TcpNorm) (d : Datagram) (live : Live) (era : Offered)
   pub octets : ℕ
   pub does : Does d (came first) (record { era = Some (norm.begun + 1); begun = Some (norm.begun + 1); ended = Some (record { era = live.flow.number; reason = reasons.Reopened; octets = Some octets }); full = false }) o
 
--- the outcome needs this change
-abbrev pub Needs : List Call → TcpNorm → Datagram → Live → Change → Outcome → Type 0
-Needs calls norm d live Nothing o = IsUnheard o
-Needs calls norm d live Touch o = (ws : List Written) × Extends calls d live live.flow.era ws o
-Needs calls norm d live (Take t) o = Brings calls norm.scratch.items d live t o
-Needs calls norm d live (Hear s) o = Hears calls d live s o
-Needs calls norm d live (Reopen era) o = Reopens norm d live era o
+-- the outcome needs that the era takes these octets, or nothing
+abbrev pub Needs : List Call → TcpNorm → Datagram → Live → Option Taking → Outcome → Type 0
+Needs calls norm d live None o = IsUnheard o
+Needs calls norm d live (Some t) o = Brings calls norm.scratch.items d live t o
 
--- the ruling on a datagram, and the change that its outcome needs
-pub record IsDecision (settings : PlainSettings) (calls : List Call) (d : Datagram) (a : Arrival) (norm : TcpNorm) (live : Live) (r : Ruling) (change : Change) : Type 0 where
+-- the ruling on a datagram, and what its outcome needs
+pub record IsDecision (settings : PlainSettings) (calls : List Call) (d : Datagram) (a : Arrival) (norm : TcpNorm) (live : Live) (r : Ruling) (taking : Option Taking) : Type 0 where
   pub rules : IsRuling settings (view_of settings calls d) d a norm.scratch.items r
-  pub needs : Needs calls norm d live change (outcome_at settings (view_of settings calls d) d)
+  pub needs : Needs calls norm d live taking (outcome_at settings (view_of settings calls d) d)
 
 -- after any calls
-abbrev pub Decides : Arrival → (old new : TcpNorm) → Live → Ruling → Change → Type 0
-Decides a old new live r change =
+abbrev pub Decides : Arrival → (old new : TcpNorm) → Live → Ruling → Option Taking → Type 0
+Decides a old new live r taking =
     (settings : PlainSettings) (calls : List Call) (d : Datagram) → StandsFor settings old calls → IsDatagram a.packet.now a.link.now d
-    → IsDecision settings calls d a new live r change
+    → IsDecision settings calls d a new live r taking
 
 -- the same of the live era in this slot
-abbrev pub DecidesAt : Arrival → (old new : TcpNorm) → Slot → Ruling → Change → Type 0
-DecidesAt a old new slot r change =
-    (key : FlowKey) (flow : Flow) → IsFound old a (record { key = key; slot = slot; flow = flow }) → Decides a old new (record { key = key; slot = slot; flow = flow }) r change
+pub record DecidesIn (a : Arrival) (old new : TcpNorm) (slot : Slot) (r : Ruling) (taking : Option Taking) : Type 0 where
+  pub key : FlowKey
+  pub flow : Flow
+  pub found : IsFound old a (record { key = key; slot = slot; flow = flow })
+  pub decides : Decides a old new (record { key = key; slot = slot; flow = flow }) r taking
 
 -- only the scratch has changed
 pub record IsSame (old new : TcpNorm) : Type 0 where

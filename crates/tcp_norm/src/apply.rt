@@ -8,7 +8,7 @@ ghost use Rattle.tcp_norm.specs.Rulings.{CanPlace, HearsIn, IsLegal, PlacesOctet
 
 use crate::flow::Flow;
 use crate::key::EraKey;
-use crate::ruling::{Change, Taking};
+use crate::ruling::Taking;
 use crate::spare::{chain_is_counted, list_spare};
 use crate::state::TcpNorm;
 use era_state::laws::{acked_never_falls, first_stays, frame_octets, intervals_fit};
@@ -29,30 +29,11 @@ impl TcpNorm {
     ghost use Rattle.ip_rules.specs.Datagrams.{Datagram};
     ghost use Rattle.tcp_norm.specs.Calls.{Call, Outcome};
     ghost use Rattle.tcp_norm.specs.Standing.{IsReady, StandsFor};
-    ghost use Rattle.tcp_norm.specs.Rulings.{IsCounted, IsOpenTo, Needs, IsHeld, IsLegal, Brings, CanTake, Extends, Hears, Reopens};
+    ghost use Rattle.tcp_norm.specs.Rulings.{IsCounted, IsHeld, IsLegal, Brings, CanTake, Extends, Hears, Reopens};
     ghost use Rattle.wire_base.specs.Segments.{Written};
 
-    /// Makes the change of a segment of this connection, whose live era is in this slot, that arrives at this time.
-    pub(crate) fn apply(&mut self, slot: Slot, key: FlowKey, change: &Change<'_>, now: u32)
-        requires inside { IsIn self.old.table.entries slot }
-        requires keyed { Wherever self.old.table.entries slot (λ e. e.key.0 ≡ key) }
-        requires fits { IsOpenTo self.old slot change.now }
-        requires ready { IsReady self.old now }
-        ensures { (settings : PlainSettings) (calls : List Call) (d : Datagram) (flow : Flow) (o : Outcome) → StandsFor settings self.old calls →
-            IsHeld self.old.table (record { key = key; slot = slot; flow = flow }) → Needs calls self.old d (record { key = key; slot = slot; flow = flow }) change.now o →
-            IsCounted settings calls d o now self.old self.new }
-    {
-        match change {
-            Change::Nothing => self.arrive(now),
-            Change::Touch => self.touch(slot, now),
-            Change::Take(taking) => self.take_octets(slot, taking, now),
-            Change::Hear(seg) => self.hear(slot, seg, now),
-            Change::Reopen(era) => self.offer(slot, key, era, now),
-        }
-    }
-
-    // Changes the live era in this slot by an inbound SYN that neither reopens it nor is dropped. It acknowledges nothing, so no octet is forgotten.
-    fn hear(&mut self, slot: Slot, seg: &Seg, now: u32)
+    /// Changes the live era in this slot by an inbound SYN that neither reopens it nor is dropped. It acknowledges nothing, so no octet is forgotten.
+    pub(crate) fn hear(&mut self, slot: Slot, seg: &Seg, now: u32)
         requires inside { IsIn self.old.table.entries slot }
         requires legal { IsLegal seg.now }
         requires syn { tcp.has_syn seg.now.flags.0 ≡ true }
@@ -71,8 +52,8 @@ impl TcpNorm {
         list_spare(&mut self.spare, &self.store, slot);
     }
 
-    // Touches the live era in this slot with a segment that arrives at this time and brings no octet of the stream.
-    fn touch(&mut self, slot: Slot, now: u32)
+    /// Touches the live era in this slot with a segment that arrives at this time and brings no octet of the stream.
+    pub(crate) fn touch(&mut self, slot: Slot, now: u32)
         requires inside { IsIn self.old.table.entries slot }
         requires ready { IsReady self.old now }
         ensures { (settings : PlainSettings) (calls : List Call) (d : Datagram) (key : FlowKey) (flow : Flow) (ws : List Written) (o : Outcome) → StandsFor settings self.old calls →
@@ -89,9 +70,9 @@ impl TcpNorm {
         list_spare(&mut self.spare, &self.store, slot);
     }
 
-    // Ends the live era in this slot and begins another of its connection by an inbound SYN that arrives at this time.
+    /// Ends the live era in this slot and begins another of its connection by an inbound SYN that arrives at this time.
     #[inline(never)]
-    fn offer(&mut self, slot: Slot, key: FlowKey, era: &Offered, now: u32)
+    pub(crate) fn offer(&mut self, slot: Slot, key: FlowKey, era: &Offered, now: u32)
         requires inside { IsIn self.old.table.entries slot }
         requires keyed { Wherever self.old.table.entries slot (λ e. e.key.0 ≡ key) }
         requires ready { IsReady self.old now }

@@ -8,7 +8,7 @@ mod syn;
 use crate::arrival::Arrival;
 use crate::key::EraKey;
 use crate::reading::inward_key;
-use crate::ruling::{Change, Ruling};
+use crate::ruling::Ruling;
 use crate::state::TcpNorm;
 use linked_table::Slot;
 use wire_base::{FlowKey, Side};
@@ -17,7 +17,7 @@ impl TcpNorm {
     ghost use Rattle.std.specs.Prelude.{◌≡◌, ◌-◌, ◌<◌, ◌≤◌, ◌^◌};
     ghost use Rattle.wire_base.specs.declared.address.Side.TheVariants.{Inward, Outward};
     ghost use Rattle.tcp_norm.specs.Standing.{IsReady};
-    ghost use Rattle.tcp_norm.specs.Rulings.{DecidesAt, IsKeyed, IsOpenTo, IsOutward, IsSame, IsShort, Judges};
+    ghost use Rattle.tcp_norm.specs.Rulings.{IsKeyed, IsOutward, IsShort, Judges};
     ghost use Rattle.linked_table.specs.Table.{IsIn, Wherever};
 
     /// Judges a segment and updates the eras.
@@ -57,26 +57,15 @@ impl TcpNorm {
         ensures judges { Judges arrival.now self.old self.new ruling.new }
         ensures short { IsShort arrival.now ruling.new }
     {
-        self.entries_are_apart();
-        let change = self.decide(slot, arrival, ruling);
-        self.apply(slot, key, &change, arrival.time);
-    }
-
-    // Decides on a segment of the live era in this slot. Only the scratch and the hint of its chain change.
-    fn decide<'a>(&mut self, slot: Slot, arrival: &Arrival<'a>, ruling: &mut Ruling) -> Change<'a>
-        requires inside { IsIn self.old.table.entries slot }
-        requires ready { IsReady self.old arrival.now.time }
-        ensures fits { IsOpenTo self.new slot result }
-        ensures short { IsShort arrival.now ruling.new }
-        ensures same { IsSame self.old self.new }
-        ensures decides { DecidesAt arrival.now self.old self.new slot ruling.new result }
-    {
         if arrival.head.flags.syn() {
-            return self.decide_syn(slot, arrival, ruling);
+            return self.judge_syn(slot, key, arrival, ruling);
         }
         if arrival.head.flags.rst() {
-            return self.decide_reset(slot, arrival, ruling);
+            return self.judge_reset(slot, arrival, ruling);
         }
-        self.decide_stream(slot, arrival, ruling)
+        match self.decide_stream(slot, arrival, ruling) {
+            None => self.arrive(arrival.time),
+            Some(taking) => self.take_octets(slot, &taking, arrival.time),
+        }
     }
 }

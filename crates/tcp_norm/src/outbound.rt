@@ -138,7 +138,6 @@ impl TcpNorm {
         requires ready { IsReady self.old now }
         ensures { Makes self.old self.new key seg.now now result }
     {
-        self.entries_are_apart();
         let flow = self.flow_at(slot);
         let number = flow.number;
         if seg.flags.rst() {

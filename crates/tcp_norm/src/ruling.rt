@@ -2,7 +2,7 @@
 ghost use Rattle.std.specs.Prelude.{◌≤◌, length};
 
 use crate::step::Step;
-use era_state::{Interval, Offered, Probe, Seg};
+use era_state::{Interval, Probe};
 use ip_rules::Fixes;
 use rule_book::Rule;
 
@@ -75,14 +75,4 @@ pub(crate) struct Taking<'a> {
     pub(crate) size: usize,
     pub(crate) own: &'a [u8],
     pub(crate) as_read: bool,
-}
-
-/// What becomes of a live era: nothing; it is touched; it takes octets; it hears a SYN; or it ends and another begins.
-#[derive(Clone, Copy)]
-pub(crate) enum Change<'a> {
-    Nothing,
-    Touch,
-    Take(Taking<'a>),
-    Hear(Seg),
-    Reopen(Offered),
 }

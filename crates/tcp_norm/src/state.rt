@@ -62,7 +62,8 @@ impl TcpNorm {
     ghost use Rattle.tcp_norm.specs.Standing.{IsReady, StandsFor};
     ghost use Rattle.linked_table.specs.Table.{IsIn, Wherever};
     ghost use Rattle.tcp_norm.specs.Colds.{IsUnheard};
-    ghost use Rattle.tcp_norm.specs.Rulings.{IsCounted};
+    ghost use Rattle.tcp_norm.specs.Rulings.{IsCounted, IsHeld};
+    ghost use Rattle.wire_base.specs.declared.address.FlowKey.{FlowKey};
     ghost use Rattle.rule_book.specs.declared.rule.Rule.TheVariants as rules;
 
     /// No era is live, and none began.
@@ -144,6 +145,7 @@ impl TcpNorm {
     // Borrows the era in this slot.
     pub(crate) fn flow_at(&self, slot: Slot) -> &Flow
         requires { IsIn self.now.table.entries slot }
+        ensures held { (key : FlowKey) → Wherever self.now.table.entries slot (λ e. e.key.0 ≡ key) → IsHeld self.now.table (record { key = key; slot = slot; flow = result.now }) }
         ensures value { Wherever self.now.table.entries slot (λ e. e.value ≡ result.now) }
         ensures near { IsNear self.now.calls result.now.era }
     {

@@ -1,12 +1,11 @@
 //! A segment with neither SYN nor RST of an era that has no acknowledged offset: T_STATE drops it, and a probe is sent.
-ghost use Rattle.std.specs.Prelude.{◌≡◌, false};
+ghost use Rattle.std.specs.Prelude.{◌≡◌, false, None};
 ghost use Rattle.wire_base.specs.declared.address.FlowKey.{FlowKey};
 ghost use Rattle.linked_table.specs.declared.table.Slot.{Slot};
 ghost use Rattle.era_state.specs.States.{is_acknowledged};
 ghost use Rattle.era_state.specs.Eras.{state_in};
 ghost use Rattle.tcp_norm.specs.declared.state.TcpNorm.{TcpNorm};
 ghost use Rattle.tcp_norm.specs.Rulings.{Decides, IsFound, IsPlain, IsShort};
-ghost use Rattle.tcp_norm.specs.declared.ruling.Change.TheVariants.{Nothing};
 
 use crate::arrival::Arrival;
 use crate::flow::Flow;
@@ -22,7 +21,7 @@ pub(super) fn refuse_early(flow: &Flow, arrival: &Arrival<'_>, ruling: &mut Ruli
     requires early { is_acknowledged (state_in flow.now.era) ≡ false }
     ensures short { IsShort arrival.now ruling.new }
     ensures decides { (norm : TcpNorm) (key : FlowKey) (slot : Slot) → IsFound norm arrival.now (record { key = key; slot = slot; flow = flow.now }) →
-        Decides arrival.now norm norm (record { key = key; slot = slot; flow = flow.now }) ruling.new Nothing }
+        Decides arrival.now norm norm (record { key = key; slot = slot; flow = flow.now }) ruling.new None }
 {
     states_are_the_lists();
     let seg = bare_seg(arrival);

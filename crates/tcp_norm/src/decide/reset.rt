@@ -2,7 +2,7 @@
 use crate::arrival::Arrival;
 use crate::reading::{are_bits, bare_seg, options_change};
 use crate::rows::rows_beside;
-use crate::ruling::{Change, Passage, Refusal, Ruling};
+use crate::ruling::{Passage, Refusal, Ruling};
 use crate::state::TcpNorm;
 use crate::step::Step;
 use era_state::laws::silence_stands;
@@ -14,37 +14,33 @@ use tcp_codec::laws::segments_are_read_back;
 impl TcpNorm {
     ghost use Rattle.std.specs.Prelude.{◌≡◌, true};
     ghost use Rattle.wire_base.specs.Tcp as tcp;
-    ghost use Rattle.tcp_norm.specs.Rulings.{DecidesAt, IsOpenTo, IsShort};
-    ghost use Rattle.linked_table.specs.Table.{IsIn};
+    ghost use Rattle.tcp_norm.specs.Standing.{IsReady};
+    ghost use Rattle.tcp_norm.specs.Rulings.{IsLiveIn, IsShort, Judges};
 
     #[inline(never)]
-    pub(super) fn decide_reset<'a>(
-        &self,
-        slot: Slot,
-        arrival: &Arrival<'a>,
-        ruling: &mut Ruling,
-    ) -> Change<'a>
-        requires inside { IsIn self.now.table.entries slot }
+    pub(super) fn judge_reset(&mut self, slot: Slot, arrival: &Arrival<'_>, ruling: &mut Ruling)
+        requires live { IsLiveIn self.old arrival.now slot }
         requires rst { tcp.has_rst arrival.now.head.now.flags.0 ≡ true }
-        ensures fits { IsOpenTo self.now slot result }
+        requires ready { IsReady self.old arrival.now.time }
+        ensures judges { Judges arrival.now self.old self.new ruling.new }
         ensures short { IsShort arrival.now ruling.new }
-        ensures decides { DecidesAt arrival.now self.now self.now slot ruling.new result }
     {
         segments_are_read_back();
         silence_stands();
         are_bits(&arrival.packet.head, arrival.packet.payload);
         let seg = bare_seg(arrival);
-        let flow = self.table.at(slot);
+        let flow = self.flow_at(slot);
+        let number = flow.number;
         let answer = judge_reset(&flow.era, &seg);
         match answer {
             ResetAnswer::Refuse => {
-                *ruling = Ruling::Drop(Refusal::silent(Rule::TRst, flow.number));
-                Change::Nothing
+                *ruling = Ruling::Drop(Refusal::silent(Rule::TRst, number));
+                self.arrive(arrival.time);
             }
             ResetAnswer::Pass(probe) => {
                 let changed = options_change(arrival);
                 let rows = rows_beside(arrival, changed, probe.is_some());
-                let step = Step::within(flow.number);
+                let step = Step::within(number);
                 *ruling = Ruling::Pass(Passage {
                     step,
                     rows,
@@ -53,7 +49,7 @@ impl TcpNorm {
                     size: 0,
                     probe,
                 });
-                Change::Touch
+                self.touch(slot, arrival.time);
             }
         }
     }

@@ -21,7 +21,7 @@ use crate::arrival::Arrival;
 use crate::laws::streams_are_written;
 use crate::reading::{are_bits, options_change, payload_of, seg_of};
 use crate::rows::rows_of;
-use crate::ruling::{Change, Passage, Refusal, Ruling, Taking};
+use crate::ruling::{Passage, Refusal, Ruling, Taking};
 use crate::spare::{cells_are_counted, chain_is_counted};
 use crate::state::TcpNorm;
 use crate::step::Step;
@@ -33,23 +33,22 @@ use retain_store::{ChainId, Retain};
 use rule_book::Rule;
 
 impl TcpNorm {
-    ghost use Rattle.tcp_norm.specs.Rulings.{DecidesAt, IsOpenTo, IsPlain, IsSame, IsShort};
-    ghost use Rattle.linked_table.specs.Table.{IsIn};
+    ghost use Rattle.tcp_norm.specs.Rulings.{CanTake, DecidesIn, IsLiveIn, IsPlain, IsSame, IsShort};
 
-    // Only the scratch and the hint of the chain change.
+    // Returns what the era takes, if no rule drops the segment. Only the scratch and the hint of the chain change.
     #[inline(never)]
     pub(super) fn decide_stream<'a>(
         &mut self,
         slot: Slot,
         arrival: &Arrival<'a>,
         ruling: &mut Ruling,
-    ) -> Change<'a>
-        requires inside { IsIn self.old.table.entries slot }
+    ) -> Option<Taking<'a>>
+        requires live { IsLiveIn self.old arrival.now slot }
         requires plain { IsPlain arrival.now }
-        ensures fits { IsOpenTo self.new slot result }
+        ensures takes { IfSome result (λ taking. CanTake self.new.table.entries self.new.store self.new.quota slot taking) }
         ensures short { IsShort arrival.now ruling.new }
         ensures same { IsSame self.old self.new }
-        ensures decides { DecidesAt arrival.now self.old self.new slot ruling.new result }
+        ensures decides { DecidesIn arrival.now self.old self.new slot ruling.new result }
     {
         streams_are_written();
         are_bits(&arrival.packet.head, arrival.packet.payload);
@@ -58,7 +57,7 @@ impl TcpNorm {
         let flow = self.table.at(slot);
         let Some(warm) = last_of(&flow.era) else {
             refuse_early(flow, arrival, ruling);
-            return Change::Nothing;
+            return None;
         };
         let seg = seg_of(arrival);
         let kept = warm.interval(&seg);
@@ -70,7 +69,7 @@ impl TcpNorm {
         };
         if let Some(rule) = refusal(&piece, self.quota) {
             *ruling = Ruling::Drop(Refusal::silent(rule, flow.number));
-            return Change::Nothing;
+            return None;
         }
         let own = own_octets(&piece, warm, &seg, payload_of(arrival));
         let clash = clashes(&piece, own, ends);
@@ -85,7 +84,7 @@ impl TcpNorm {
             size: own.len(),
             probe: None,
         });
-        Change::Take(Taking {
+        Some(Taking {
             kept,
             size: own.len(),
             own,

@@ -11,7 +11,7 @@ ghost use Rattle.tcp_norm.specs.Steps.{continued_in, reopened_by};
 use crate::arrival::Arrival;
 use crate::reading::{are_bits, bare_seg, options_change};
 use crate::rows::rows_beside;
-use crate::ruling::{Change, Passage, Refusal, Ruling};
+use crate::ruling::{Passage, Refusal, Ruling};
 use crate::state::TcpNorm;
 use crate::step::Step;
 use cold_start::cold_probe;
@@ -20,37 +20,40 @@ use linked_table::Slot;
 use reset_probe::probe_of;
 use rule_book::Rule;
 use tcp_codec::laws::segments_are_read_back;
+use wire_base::FlowKey;
 
 impl TcpNorm {
     ghost use Rattle.std.specs.Prelude.{◌≡◌, ◌-◌, ◌<◌, true};
     ghost use Rattle.wire_base.specs.Tcp as tcp;
     ghost use Rattle.tcp_norm.specs.Standing.{IsReady};
-    ghost use Rattle.tcp_norm.specs.Rulings.{DecidesAt, IsOpenTo, IsShort};
-    ghost use Rattle.linked_table.specs.Table.{IsIn};
+    ghost use Rattle.tcp_norm.specs.Rulings.{IsKeyed, IsShort, Judges};
+    ghost use Rattle.linked_table.specs.Table.{IsIn, Wherever};
 
     #[inline(never)]
-    pub(super) fn decide_syn<'a>(
-        &self,
+    pub(super) fn judge_syn(
+        &mut self,
         slot: Slot,
-        arrival: &Arrival<'a>,
+        key: FlowKey,
+        arrival: &Arrival<'_>,
         ruling: &mut Ruling,
-    ) -> Change<'a>
-        requires inside { IsIn self.now.table.entries slot }
-        requires ready { IsReady self.now arrival.now.time }
+    )
+        requires inside { IsIn self.old.table.entries slot }
+        requires of_key { Wherever self.old.table.entries slot (λ e. e.key.0 ≡ key) }
+        requires keyed { IsKeyed arrival.now key }
+        requires ready { IsReady self.old arrival.now.time }
         requires syn { tcp.has_syn arrival.now.head.now.flags.0 ≡ true }
-        ensures fits { IsOpenTo self.now slot result }
+        ensures judges { Judges arrival.now self.old self.new ruling.new }
         ensures short { IsShort arrival.now ruling.new }
-        ensures decides { DecidesAt arrival.now self.now self.now slot ruling.new result }
     {
         segments_are_read_back();
         are_bits(&arrival.packet.head, arrival.packet.payload);
         let seg = bare_seg(arrival);
-        let flow = self.table.at(slot);
+        let flow = self.flow_at(slot);
         let era = &flow.era;
         let answer = era.judge_syn(&seg);
         if let Some(refusal) = refusal_of(answer, era, flow.number, &seg) {
             *ruling = Ruling::Drop(refusal);
-            return Change::Nothing;
+            return self.arrive(arrival.time);
         }
         let changed = options_change(arrival);
         let rows = rows_beside(arrival, changed, false);
@@ -65,9 +68,9 @@ impl TcpNorm {
             probe: None,
         });
         if again {
-            return Change::Reopen(Offered::offer(&seg));
+            return self.offer(slot, key, &Offered::offer(&seg), arrival.time);
         }
-        Change::Hear(seg)
+        self.hear(slot, &seg, arrival.time);
     }
 }
 

@@ -40,7 +40,7 @@ use Rattle.tcp_norm.specs.Emits.{packet_by, octets_sent}
 use Rattle.tcp_norm.specs.Resets.{WritesAll}
 use Rattle.tcp_norm.specs.Steps.{IsStep}
 use Rattle.tcp_norm.specs.declared.step.Step.{Step}
-use Rattle.tcp_norm.proofs.OfLive.{decides_at, of_live}
+use Rattle.tcp_norm.proofs.OfLive.{decides_in, of_live}
 use Rattle.tcp_norm.proofs.Holding.{held_is}
 use Rattle.tcp_norm.proofs.Judging.{of_stream, stream_dropped}
 use Rattle.tcp_norm.proofs.Fitting.{stream_fits}
@@ -132,8 +132,8 @@ returns-in-Some-refusal-clause-same c = same_store c.args.self.now _ c.aim-ends.
 pub returns-clause-same : goal.returns-clause-same
 returns-clause-same c = same_store c.args.self.now _ c.aim-ends.ensures.same refl refl refl refl refl refl refl refl refl
 
-pub returns-clause-fits : goal.returns-clause-fits
-returns-clause-fits c =
+pub returns-clause-takes : goal.returns-clause-takes
+returns-clause-takes c =
     let a = c.args.arrival.now in
     let slot = c.args.slot in
     let store = c.aim-ends.new.store in
@@ -151,12 +151,18 @@ returns-clause-fits c =
     }
 
 pub returns-in_default-clause-decides : goal.returns-in_default-clause-decides
-returns-in_default-clause-decides c = decides_at c.args.arrival.now c.args.self.now _ c.args.slot c.at-flow.result.now _ _ c.requires.inside c.at-flow.ensures (λ key found settings calls d st is.
+returns-in_default-clause-decides c =
+    let apart = c.entries_are_apart.ensures in
+    let key = c.requires.live.key in
+    decides_in c.args.arrival.now c.args.self.now _ c.args.slot c.at-flow.result.now _ _ c.requires.live c.at-flow.ensures apart.bounded apart.slots_below apart.slots_apart apart.keys_apart (λ found settings calls d st is.
     let refused = c.refuse_early.ensures.decides c.args.self.now key c.args.slot found settings calls d st is in
     record { rules = refused.rules; needs = refused.needs })
 
 pub returns-in-Some-refusal-clause-decides : goal.returns-in-Some-refusal-clause-decides
-returns-in-Some-refusal-clause-decides c = decides_at c.args.arrival.now c.args.self.now _ c.args.slot c.at-flow.result.now _ _ c.requires.inside c.at-flow.ensures (λ key found settings calls d st is.
+returns-in-Some-refusal-clause-decides c =
+    let apart = c.entries_are_apart.ensures in
+    let key = c.requires.live.key in
+    decides_in c.args.arrival.now c.args.self.now _ c.args.slot c.at-flow.result.now _ _ c.requires.live c.at-flow.ensures apart.bounded apart.slots_below apart.slots_apart apart.keys_apart (λ found settings calls d st is.
     let here : Live = record { key = key; slot = c.args.slot; flow = c.at-flow.result.now } in
     let last = c.in-Some.ensures.some in
     let a = c.args.arrival.now in
@@ -203,7 +209,10 @@ returns-in-Some-refusal-clause-decides c = decides_at c.args.arrival.now c.args.
     })
 
 pub returns-clause-decides : goal.returns-clause-decides
-returns-clause-decides c = decides_at c.args.arrival.now c.args.self.now _ c.args.slot c.at-flow.result.now _ _ c.requires.inside c.at-flow.ensures (λ key found settings calls d st is.
+returns-clause-decides c =
+    let apart = c.entries_are_apart.ensures in
+    let key = c.requires.live.key in
+    decides_in c.args.arrival.now c.args.self.now _ c.args.slot c.at-flow.result.now _ _ c.requires.live c.at-flow.ensures apart.bounded apart.slots_below apart.slots_apart apart.keys_apart (λ found settings calls d st is.
     let here : Live = record { key = key; slot = c.args.slot; flow = c.at-flow.result.now } in
     let last = c.in-Some.ensures.some in
     let a = c.args.arrival.now in

@@ -10,7 +10,7 @@ use Rattle.tcp_norm.specs.Calls.{segments, eras, segment_in}
 use Rattle.tcp_norm.specs.Views.{view_of}
 use Rattle.tcp_norm.specs.Steps.{IsStep, Does, continued_in, reopened_by}
 use Rattle.tcp_norm.proofs.Moves.{ends_within, none_kept, tables_go_on}
-use Rattle.tcp_norm.proofs.OfLive.{held_live, is_held}
+use Rattle.tcp_norm.proofs.OfLive.{held_live}
 use Rattle.tcp_norm.proofs.Outwards.{step_next, step_reset, step_reopened}
 use Rattle.tcp_norm.proofs.Slots.{opened_kept}
 use Rattle.tcp_norm.proofs.state.TcpNorm.depart_live.Goals as goal
@@ -18,8 +18,7 @@ use Rattle.tcp_norm.proofs.state.TcpNorm.depart_live.Goals as goal
 pub returns : goal.returns
 returns c settings calls d octets long st sends =
     let here : Live = record { key = c.args.key; slot = c.args.slot; flow = c.flow_at-flow.result.now } in
-    let apart = c.entries_are_apart.ensures in
-    let held = is_held c.args.self.now.table here c.requires.inside c.flow_at-flow.ensures.value c.requires.keyed apart.bounded apart.slots_below apart.slots_apart apart.keys_apart in
+    let held = c.flow_at-flow.ensures.held c.args.key c.requires.keyed in
     let n = here.flow.number in
     let v = view_of settings calls d in
     let w = segment_in d in
@@ -35,8 +34,7 @@ pub returns-then-rst : goal.returns-then-rst
 returns-then-rst c settings calls d octets long st sends =
     let here : Live = record { key = c.args.key; slot = c.args.slot; flow = c.flow_at-flow.result.now } in
     let self = c.args.self.now in
-    let apart = c.entries_are_apart.ensures in
-    let held = is_held self.table here c.requires.inside c.flow_at-flow.ensures.value c.requires.keyed apart.bounded apart.slots_below apart.slots_apart apart.keys_apart in
+    let held = c.flow_at-flow.ensures.held c.args.key c.requires.keyed in
     let n = here.flow.number in
     let v = view_of settings calls d in
     let w = segment_in d in
@@ -55,8 +53,7 @@ returns-then-rst c settings calls d octets long st sends =
 pub returns-then-calls_anew : goal.returns-then-calls_anew
 returns-then-calls_anew c settings calls d octets long st sends =
     let here : Live = record { key = c.args.key; slot = c.args.slot; flow = c.flow_at-flow.result.now } in
-    let apart = c.entries_are_apart.ensures in
-    let held = is_held c.args.self.now.table here c.requires.inside c.flow_at-flow.ensures.value c.requires.keyed apart.bounded apart.slots_below apart.slots_apart apart.keys_apart in
+    let held = c.flow_at-flow.ensures.held c.args.key c.requires.keyed in
     let n = here.flow.number in
     let v = view_of settings calls d in
     let w = segment_in d in

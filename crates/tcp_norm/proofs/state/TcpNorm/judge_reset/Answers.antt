@@ -14,7 +14,7 @@ use Rattle.tcp_norm.specs.Steps.{IsStep}
 use Rattle.tcp_norm.specs.Writes.{BringsNone}
 use Rattle.tcp_norm.specs.declared.step.Step.{Step}
 use Rattle.tcp_norm.specs.Live.{Live}
-use Rattle.tcp_norm.specs.Rulings.{outcome_of}
+use Rattle.tcp_norm.specs.Rulings.{IsFound, outcome_of}
 use Rattle.tcp_norm.specs.declared.ruling.Refusal.{Refusal}
 use Rattle.tcp_norm.specs.declared.ruling.Ruling.TheVariants.{Drop}
 use Rattle.linked_table.proofs.Splits.{all_weaker}
@@ -25,14 +25,17 @@ use Rattle.tcp_norm.proofs.Bares.{bare_anew}
 use Rattle.tcp_norm.proofs.Beside.{beside_are}
 use Rattle.tcp_norm.proofs.Entering.{in_dropped, in_unheard, in_outcome, packets_reset}
 use Rattle.tcp_norm.proofs.Marked.{bare_writes, reset_stream, reset_probes, rst_marked, no_recall, reset_silent, probes_silent, first_is, writes_all}
-use Rattle.tcp_norm.proofs.OfLive.{decides_at, of_live}
+use Rattle.tcp_norm.proofs.OfLive.{judged, of_live}
 use Rattle.tcp_norm.proofs.Ruled.{bare_carried, rewritten_in}
-use Rattle.tcp_norm.proofs.state.TcpNorm.decide_reset.Goals as goal
+use Rattle.tcp_norm.proofs.state.TcpNorm.judge_reset.Goals as goal
 
-pub returns-in-Refuse-clause-decides : goal.returns-in-Refuse-clause-decides
-returns-in-Refuse-clause-decides c = decides_at c.args.arrival.now c.args.self.now c.args.self.now c.args.slot c.at-flow.result.now _ _ c.requires.inside c.at-flow.ensures (λ key found settings calls d st is.
+pub returns-in-Refuse-clause-judges : goal.returns-in-Refuse-clause-judges
+returns-in-Refuse-clause-judges c settings calls d st is =
     let a = c.args.arrival.now in
-    let here : Live = record { key = key; slot = c.args.slot; flow = c.at-flow.result.now } in
+    let key = c.requires.live.key in
+    let here : Live = record { key = key; slot = c.args.slot; flow = c.flow_at-flow.result.now } in
+    let flow = c.flow_at-flow.ensures in
+    let found : IsFound c.args.self.now c.args.arrival.now here = record { held = flow.held key c.requires.live.of_key; near = flow.near; keyed = c.requires.live.keyed } in
     let n = here.flow.number in
     let seg = c.bare_seg-seg.result in
     let l = of_live settings calls d a c.args.self.now here st is found in
@@ -44,15 +47,20 @@ returns-in-Refuse-clause-decides c = decides_at c.args.arrival.now c.args.self.n
     let answered = sym (c.judge_reset-answer.ensures (segments n calls) l.stood) in
     let drops = reset_dropped settings v d n l.side l.live.era_is rst syn
     ∙ ap (λ b. cond b (Some rules.TRst) None) (asked ∙ refused_alone (segments n calls) (came seg) (answered ∙ c.in-Refuse.is)) in
-    record {
-      rules = record { outcome_is = in_dropped settings v d rules.TRst (Some n) [] drops l.live.era_is refl ∙ ap (λ (r : Refusal). outcome_of settings v.segments d (Drop r)) (sym c.silent.ensures); carried = found.keyed.side };
-      needs = in_unheard settings v d rules.TRst drops;
+    judged settings calls d a c.args.self.now _ _
+    (record {
+      outcome_is = in_dropped settings v d rules.TRst (Some n) [] drops l.live.era_is refl ∙ ap (λ (r : Refusal). outcome_of settings v.segments d (Drop r)) (sym c.silent.ensures);
+      carried = found.keyed.side;
     })
+    (c.arrive.ensures settings calls d _ st (in_unheard settings v d rules.TRst drops))
 
-pub returns-in-Pass-clause-decides : goal.returns-in-Pass-clause-decides
-returns-in-Pass-clause-decides c = decides_at c.args.arrival.now c.args.self.now c.args.self.now c.args.slot c.at-flow.result.now _ _ c.requires.inside c.at-flow.ensures (λ key found settings calls d st is.
+pub returns-in-Pass-clause-judges : goal.returns-in-Pass-clause-judges
+returns-in-Pass-clause-judges c settings calls d st is =
     let a = c.args.arrival.now in
-    let here : Live = record { key = key; slot = c.args.slot; flow = c.at-flow.result.now } in
+    let key = c.requires.live.key in
+    let here : Live = record { key = key; slot = c.args.slot; flow = c.flow_at-flow.result.now } in
+    let flow = c.flow_at-flow.ensures in
+    let found : IsFound c.args.self.now c.args.arrival.now here = record { held = flow.held key c.requires.live.of_key; near = flow.near; keyed = c.requires.live.keyed } in
     let n = here.flow.number in
     let seg = c.bare_seg-seg.result in
     let l = of_live settings calls d a c.args.self.now here st is found in
@@ -81,18 +89,12 @@ returns-in-Pass-clause-decides c = decides_at c.args.arrival.now c.args.self.now
     c.are_bits.ensures a.read _ refl c.options_change-changed.ensures.words c.options_change-changed.ensures.size marked stream probes mends c.bare_seg-seg.ensures.read) in
     let silent = subst IsSilent (sym first) (reset_silent seg c.bare_seg-seg.ensures.flags (comes.syn ∙ syn) (comes.rst ∙ rst)) in
     let written = map (λ p. read (goes_in d.side) p.octets) packets in
-    record {
-      rules = record {
-        outcome_is = is_it;
-        carried = rewritten_in v.segments d a _ _ l.side (bare_carried v.segments d a.packet.now a.link.now a.head.now is a.read (bare_anew v.segments d marked));
-      };
-      needs = (
-        written,
-        record {
-          key_is = sym l.key_is;
-          none = all_weaker IsSilent BringsNone silent_brings_none written (silent, probes_silent settings d c.in-Pass.probe l.side);
-          stands = silent_stands c.silence_stands.ensures here.flow.era (segments n calls) written (silent, probes_silent settings d c.in-Pass.probe l.side) l.stood;
-          writes = subst (WritesAll d n written) (sym is_it) (writes_all d n c.within-step.result d.fixes named packets c.within-step.ensures);
-        },
-      );
-    })
+    judged settings calls d a c.args.self.now _ _
+    (record { outcome_is = is_it; carried = rewritten_in v.segments d a _ _ l.side (bare_carried v.segments d a.packet.now a.link.now a.head.now is a.read (bare_anew v.segments d marked)) })
+    (c.touch.ensures settings calls d key here.flow written _ st found.held
+    (record {
+      key_is = sym l.key_is;
+      none = all_weaker IsSilent BringsNone silent_brings_none written (silent, probes_silent settings d c.in-Pass.probe l.side);
+      stands = silent_stands c.silence_stands.ensures here.flow.era (segments n calls) written (silent, probes_silent settings d c.in-Pass.probe l.side) l.stood;
+      writes = subst (WritesAll d n written) (sym is_it) (writes_all d n c.within-step.result d.fixes named packets c.within-step.ensures);
+    }))

@@ -1,0 +1,75 @@
+use Rattle.std.proofs.Common.{◌≡◌, ◌+◌, ◌∙◌, true, cond, Some, sym, ap, subst, arith}
+use Rattle.wire_base.specs.Tcp as tcp
+use Rattle.era_state.specs.Quantities.{octets_of}
+use Rattle.era_state.specs.Read.{came}
+use Rattle.tcp_norm.specs.Calls.{segments, segment_in}
+use Rattle.tcp_norm.specs.Live.{Live}
+use Rattle.tcp_norm.specs.Rulings.{IsFound}
+use Rattle.tcp_norm.specs.Views.{view_of}
+use Rattle.tcp_norm.specs.Outcomes.{outcome_at}
+use Rattle.tcp_norm.specs.Steps.{Does, continued_in, reopened_by}
+use Rattle.tcp_norm.proofs.Calleds.{no_reset}
+use Rattle.tcp_norm.proofs.Entering.{in_unheard}
+use Rattle.tcp_norm.proofs.OfLive.{judged, of_live}
+use Rattle.tcp_norm.proofs.Ruled.{rewritten_in}
+use Rattle.tcp_norm.proofs.Syns.{syn_refused, of_syn}
+use Rattle.tcp_norm.proofs.state.TcpNorm.judge_syn.Goals as goal
+
+pub overflow_add-self : goal.overflow_add-self
+overflow_add-self c = omega (arith, c.args.self.now.few, c.requires.ready.few)
+
+pub returns-in-Some-clause-judges : goal.returns-in-Some-clause-judges
+returns-in-Some-clause-judges c settings calls d st is =
+    let here : Live = record { key = c.args.key; slot = c.args.slot; flow = c.flow_at-flow.result.now } in
+    let flow = c.flow_at-flow.ensures in
+    let found : IsFound c.args.self.now c.args.arrival.now here = record { held = flow.held c.args.key c.requires.of_key; near = flow.near; keyed = c.requires.keyed } in
+    let a = c.args.arrival.now in
+    let n = here.flow.number in
+    let l = of_live settings calls d a c.args.self.now here st is found in
+    let v = view_of settings calls d in
+    let seg = c.bare_seg-seg.result in
+    let syn : tcp.has_syn (segment_in d).flags ≡ true = sym (ap tcp.has_syn l.flags) ∙ c.requires.syn in
+    let rst = no_reset (segment_in d).flags (sym (ap tcp.are_legal l.flags) ∙ a.read.legal) syn in
+    let r = c.in-Some.refusal in
+    let drops = syn_refused settings v d n (segments n calls) here.key seg (Some r) l.live.era_is l.live.segments_are (l.comes seg c.bare_seg-seg.ensures.read) syn rst (c.in-Some.ensures (segments n calls) l.stood) in
+    judged settings calls d a c.args.self.now _ _ (record { outcome_is = drops.outcome_is; carried = found.keyed.side }) (c.arrive.ensures settings calls d _ st (in_unheard settings v d r.rule drops.drops))
+
+pub returns-then-again-clause-judges : goal.returns-then-again-clause-judges
+returns-then-again-clause-judges c settings calls d st is =
+    let here : Live = record { key = c.args.key; slot = c.args.slot; flow = c.flow_at-flow.result.now } in
+    let flow = c.flow_at-flow.ensures in
+    let found : IsFound c.args.self.now c.args.arrival.now here = record { held = flow.held c.args.key c.requires.of_key; near = flow.near; keyed = c.requires.keyed } in
+    let n = here.flow.number in
+    let seg = c.bare_seg-seg.result in
+    let o = of_syn c.segments_are_read_back.ensures settings calls d c.args.arrival.now c.args.self.now here seg c.options_change-changed.result c.is_reopen-again.result c.rows_beside-rows.result.items c.step_of-step.result st is found
+    c.are_bits.ensures c.requires.syn c.bare_seg-seg.ensures.read c.options_change-changed.ensures.changed c.options_change-changed.ensures.words c.options_change-changed.ensures.size c.rows_beside-rows.ensures.rows
+    c.in_default.ensures (λ ws stood. c.is_reopen-again.ensures ∙ c.judge_syn-answer.ensures.reopens ws stood) c.step_of-step.ensures in
+    judged settings calls d c.args.arrival.now c.args.self.now _ _ (record { outcome_is = o.outcome_is; carried = rewritten_in (view_of settings calls d).segments d c.args.arrival.now _ _ o.side o.carried })
+    (c.offer-then-again.ensures settings calls d here.flow _ st found.held.entry
+    (record {
+      key_is = o.key_is;
+      first = seg;
+      stands = c.offer.ensures.stands;
+      octets = octets_of (segments n calls);
+      does = subst (λ s. Does d (came seg) s (outcome_at settings (view_of settings calls d) d))
+          (c.step_of-step.ensures (segments n calls) o.stood ∙ ap (λ b. cond b (reopened_by n (c.args.self.now.begun + 1) (octets_of (segments n calls))) (continued_in n)) c.if-again.true) o.does;
+    }))
+
+pub returns-clause-judges : goal.returns-clause-judges
+returns-clause-judges c settings calls d st is =
+    let here : Live = record { key = c.args.key; slot = c.args.slot; flow = c.flow_at-flow.result.now } in
+    let flow = c.flow_at-flow.ensures in
+    let found : IsFound c.args.self.now c.args.arrival.now here = record { held = flow.held c.args.key c.requires.of_key; near = flow.near; keyed = c.requires.keyed } in
+    let n = here.flow.number in
+    let seg = c.bare_seg-seg.result in
+    let o = of_syn c.segments_are_read_back.ensures settings calls d c.args.arrival.now c.args.self.now here seg c.options_change-changed.result c.is_reopen-again.result c.rows_beside-rows.result.items c.step_of-step.result st is found
+    c.are_bits.ensures c.requires.syn c.bare_seg-seg.ensures.read c.options_change-changed.ensures.changed c.options_change-changed.ensures.words c.options_change-changed.ensures.size c.rows_beside-rows.ensures.rows
+    c.in_default.ensures (λ ws stood. c.is_reopen-again.ensures ∙ c.judge_syn-answer.ensures.reopens ws stood) c.step_of-step.ensures in
+    judged settings calls d c.args.arrival.now c.args.self.now _ _ (record { outcome_is = o.outcome_is; carried = rewritten_in (view_of settings calls d).segments d c.args.arrival.now _ _ o.side o.carried })
+    (c.hear.ensures settings calls d c.args.key here.flow _ st found.held
+    (record {
+      key_is = o.key_is;
+      stood = o.stood;
+      does = subst (λ s. Does d (came seg) s (outcome_at settings (view_of settings calls d) d))
+          (c.step_of-step.ensures (segments n calls) o.stood ∙ ap (λ b. cond b (reopened_by n (c.args.self.now.begun + 1) (octets_of (segments n calls))) (continued_in n)) c.if-again.false) o.does;
+    }))
