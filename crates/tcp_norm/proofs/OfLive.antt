@@ -4,7 +4,6 @@ use Rattle.std.specs.List.{All, AllPairs}
 use Rattle.linked_table.specs.declared.table.Slot.{Slot}
 use Rattle.linked_table.specs.Table as table
 use Rattle.tcp_norm.specs.declared.flow.Flow.{Flow}
-use Rattle.tcp_norm.specs.declared.key.EraKey.{EraKey}
 use Rattle.norm_settings.specs.Settings.{PlainSettings}
 use Rattle.era_state.specs.declared.segment.Seg.{Seg}
 use Rattle.era_state.specs.Eras as era
@@ -30,11 +29,6 @@ use Rattle.tcp_norm.proofs.Entering.{keyed}
 use Rattle.tcp_norm.proofs.Probing.{side_is}
 use Rattle.tcp_norm.proofs.Marked.{flags_are}
 
--- the table has the era in its slot, by what its lookup says
-pub is_held : (t : table.Table EraKey Flow) (here : Live) → table.IsIn t.entries here.slot → table.Wherever t.entries here.slot (λ e. e.value ≡ here.flow) → table.Wherever t.entries here.slot (λ e. e.key.0 ≡ here.key)
-    → length t.entries ≤ t.max → All (λ e. e.slot.0 < t.max) t.entries → AllPairs (λ e f. e.slot ≢ f.slot) t.entries → AllPairs (λ e f. e.key ≢ f.key) t.entries → IsHeld t here
-is_held t here inside entry keyed bounded below slots keys = record { inside = inside; entry = entry; keyed = keyed; bounded = bounded; below = below; slots_apart = slots; keys_apart = keys }
-
 -- what is decided of the value in a slot is decided of a live era of the segment's connection
 pub decides_in : (a : Arrival) (old new : TcpNorm) (slot : Slot) (flow : Flow) (r : Ruling) (taking : Option Taking) (live : IsLiveIn old a slot) → table.Wherever old.table.entries slot (λ e. flow ≡ e.value)
     → length old.table.entries ≤ old.table.max → All (λ e. e.slot.0 < old.table.max) old.table.entries → AllPairs (λ e f. e.slot ≢ f.slot) old.table.entries → AllPairs (λ e f. e.key ≢ f.key) old.table.entries
@@ -42,7 +36,7 @@ pub decides_in : (a : Arrival) (old new : TcpNorm) (slot : Slot) (flow : Flow) (
 decides_in a old new slot flow r taking live was bounded below slots keys decides =
     let here : Live = record { key = live.key; slot = slot; flow = flow } in
     let found : IsFound old a here = record {
-      held = is_held old.table here live.inside (λ k x lt same. sym (was k x lt same)) live.of_key bounded below slots keys;
+      held = record { inside = live.inside; entry = λ k x lt same. sym (was k x lt same); keyed = live.of_key; bounded = bounded; below = below; slots_apart = slots; keys_apart = keys };
       near = near_at old.calls old.table.entries slot flow live.inside was old.near;
       keyed = live.keyed;
     } in

@@ -11,14 +11,13 @@ use crate::reading::inward_key;
 use crate::ruling::Ruling;
 use crate::state::TcpNorm;
 use linked_table::Slot;
-use wire_base::{FlowKey, Side};
+use wire_base::Side;
 
 impl TcpNorm {
     ghost use Rattle.std.specs.Prelude.{◌≡◌, ◌-◌, ◌<◌, ◌≤◌, ◌^◌};
     ghost use Rattle.wire_base.specs.declared.address.Side.TheVariants.{Inward, Outward};
     ghost use Rattle.tcp_norm.specs.Standing.{IsReady};
-    ghost use Rattle.tcp_norm.specs.Rulings.{IsKeyed, IsOutward, IsShort, Judges};
-    ghost use Rattle.linked_table.specs.Table.{IsIn, Wherever};
+    ghost use Rattle.tcp_norm.specs.Rulings.{IsLiveIn, IsOutward, IsShort, Judges};
 
     /// Judges a segment and updates the eras.
     pub(crate) fn judge(&mut self, arrival: &Arrival<'_>, ruling: &mut Ruling)
@@ -40,25 +39,22 @@ impl TcpNorm {
         ensures judges { Judges arrival.now self.old self.new ruling.new }
         ensures short { IsShort arrival.now ruling.new }
     {
-        let key = inward_key(arrival);
-        let hashed = self.table.hashed(EraKey(key));
+        let hashed = self.table.hashed(EraKey(inward_key(arrival)));
         match self.table.find_hashed(&hashed) {
             None => self.judge_cold(&hashed, arrival, ruling),
-            Some(slot) => self.judge_live(slot, key, arrival, ruling),
+            Some(slot) => self.judge_live(slot, arrival, ruling),
         }
     }
 
     // Judges a segment of the live era in this slot and updates the era.
-    fn judge_live(&mut self, slot: Slot, key: FlowKey, arrival: &Arrival<'_>, ruling: &mut Ruling)
-        requires inside { IsIn self.old.table.entries slot }
-        requires of_key { Wherever self.old.table.entries slot (λ e. e.key.0 ≡ key) }
-        requires keyed { IsKeyed arrival.now key }
+    fn judge_live(&mut self, slot: Slot, arrival: &Arrival<'_>, ruling: &mut Ruling)
+        requires live { IsLiveIn self.old arrival.now slot }
         requires ready { IsReady self.old arrival.now.time }
         ensures judges { Judges arrival.now self.old self.new ruling.new }
         ensures short { IsShort arrival.now ruling.new }
     {
         if arrival.head.flags.syn() {
-            return self.judge_syn(slot, key, arrival, ruling);
+            return self.judge_syn(slot, arrival, ruling);
         }
         if arrival.head.flags.rst() {
             return self.judge_reset(slot, arrival, ruling);

@@ -9,7 +9,7 @@ ghost use Rattle.tcp_norm.specs.Rulings.{refused_by};
 ghost use Rattle.tcp_norm.specs.Steps.{continued_in, reopened_by};
 
 use crate::arrival::Arrival;
-use crate::reading::{are_bits, bare_seg, options_change};
+use crate::reading::{are_bits, bare_seg, inward_key, options_change};
 use crate::rows::rows_beside;
 use crate::ruling::{Passage, Refusal, Ruling};
 use crate::state::TcpNorm;
@@ -20,26 +20,16 @@ use linked_table::Slot;
 use reset_probe::probe_of;
 use rule_book::Rule;
 use tcp_codec::laws::segments_are_read_back;
-use wire_base::FlowKey;
 
 impl TcpNorm {
     ghost use Rattle.std.specs.Prelude.{◌≡◌, ◌-◌, ◌<◌, true};
     ghost use Rattle.wire_base.specs.Tcp as tcp;
     ghost use Rattle.tcp_norm.specs.Standing.{IsReady};
-    ghost use Rattle.tcp_norm.specs.Rulings.{IsKeyed, IsShort, Judges};
-    ghost use Rattle.linked_table.specs.Table.{IsIn, Wherever};
+    ghost use Rattle.tcp_norm.specs.Rulings.{IsLiveIn, IsShort, Judges};
 
     #[inline(never)]
-    pub(super) fn judge_syn(
-        &mut self,
-        slot: Slot,
-        key: FlowKey,
-        arrival: &Arrival<'_>,
-        ruling: &mut Ruling,
-    )
-        requires inside { IsIn self.old.table.entries slot }
-        requires of_key { Wherever self.old.table.entries slot (λ e. e.key.0 ≡ key) }
-        requires keyed { IsKeyed arrival.now key }
+    pub(super) fn judge_syn(&mut self, slot: Slot, arrival: &Arrival<'_>, ruling: &mut Ruling)
+        requires live { IsLiveIn self.old arrival.now slot }
         requires ready { IsReady self.old arrival.now.time }
         requires syn { tcp.has_syn arrival.now.head.now.flags.0 ≡ true }
         ensures judges { Judges arrival.now self.old self.new ruling.new }
@@ -68,6 +58,7 @@ impl TcpNorm {
             probe: None,
         });
         if again {
+            let key = inward_key(arrival);
             return self.offer(slot, key, &Offered::offer(&seg), arrival.time);
         }
         self.hear(slot, &seg, arrival.time);

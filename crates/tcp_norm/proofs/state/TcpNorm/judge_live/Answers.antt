@@ -11,12 +11,6 @@ use Rattle.tcp_norm.specs.declared.state.TcpNorm.{TcpNorm}
 use Rattle.tcp_norm.proofs.OfLive.{judged}
 use Rattle.tcp_norm.proofs.state.TcpNorm.judge_live.Goals as goal
 
-pub judge_reset-requires-clause-live : goal.judge_reset-requires-clause-live
-judge_reset-requires-clause-live c = record { key = c.args.key; inside = c.requires.inside; of_key = c.requires.of_key; keyed = c.requires.keyed }
-
-pub decide_stream-requires-clause-live : goal.decide_stream-requires-clause-live
-decide_stream-requires-clause-live c = record { key = c.args.key; inside = c.requires.inside; of_key = c.requires.of_key; keyed = c.requires.keyed }
-
 still_ready : (old new : TcpNorm) (now : ℕ) → IsSame old new → IsReady old now → IsReady new now
 still_ready old new now same ready = record { few = omega (arith, same.calls_are, ready.few); later = omega (arith, same.latest_is, ready.later) }
 
@@ -24,7 +18,7 @@ pub arrive-requires : goal.arrive-requires
 arrive-requires c = record { ready = still_ready c.args.self.now _ c.args.arrival.now.time c.decide_stream.ensures.same c.requires.ready }
 
 pub take_octets-requires-clause-inside : goal.take_octets-requires-clause-inside
-take_octets-requires-clause-inside c = subst (λ (t : Table EraKey Flow). IsIn t.entries c.args.slot) (sym c.decide_stream.ensures.same.table_is) c.requires.inside
+take_octets-requires-clause-inside c = subst (λ (t : Table EraKey Flow). IsIn t.entries c.args.slot) (sym c.decide_stream.ensures.same.table_is) c.requires.live.inside
 
 pub take_octets-requires-clause-ready : goal.take_octets-requires-clause-ready
 take_octets-requires-clause-ready c = still_ready c.args.self.now _ c.args.arrival.now.time c.decide_stream.ensures.same c.requires.ready

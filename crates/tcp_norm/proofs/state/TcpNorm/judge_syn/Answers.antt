@@ -1,5 +1,6 @@
 use Rattle.std.proofs.Common.{◌≡◌, ◌+◌, ◌∙◌, true, cond, Some, sym, ap, subst, arith}
 use Rattle.wire_base.specs.Tcp as tcp
+use Rattle.linked_table.specs.Table.{Wherever}
 use Rattle.era_state.specs.Quantities.{octets_of}
 use Rattle.era_state.specs.Read.{came}
 use Rattle.tcp_norm.specs.Calls.{segments, segment_in}
@@ -20,9 +21,10 @@ overflow_add-self c = omega (arith, c.args.self.now.few, c.requires.ready.few)
 
 pub returns-in-Some-clause-judges : goal.returns-in-Some-clause-judges
 returns-in-Some-clause-judges c settings calls d st is =
-    let here : Live = record { key = c.args.key; slot = c.args.slot; flow = c.flow_at-flow.result.now } in
+    let key = c.requires.live.key in
+    let here : Live = record { key = key; slot = c.args.slot; flow = c.flow_at-flow.result.now } in
     let flow = c.flow_at-flow.ensures in
-    let found : IsFound c.args.self.now c.args.arrival.now here = record { held = flow.held c.args.key c.requires.of_key; near = flow.near; keyed = c.requires.keyed } in
+    let found : IsFound c.args.self.now c.args.arrival.now here = record { held = flow.held key c.requires.live.of_key; near = flow.near; keyed = c.requires.live.keyed } in
     let a = c.args.arrival.now in
     let n = here.flow.number in
     let l = of_live settings calls d a c.args.self.now here st is found in
@@ -34,11 +36,17 @@ returns-in-Some-clause-judges c settings calls d st is =
     let drops = syn_refused settings v d n (segments n calls) here.key seg (Some r) l.live.era_is l.live.segments_are (l.comes seg c.bare_seg-seg.ensures.read) syn rst (c.in-Some.ensures (segments n calls) l.stood) in
     judged settings calls d a c.args.self.now _ _ (record { outcome_is = drops.outcome_is; carried = found.keyed.side }) (c.arrive.ensures settings calls d _ st (in_unheard settings v d r.rule drops.drops))
 
+pub offer-requires-then-again-clause-keyed : goal.offer-requires-then-again-clause-keyed
+offer-requires-then-again-clause-keyed c =
+    let live = c.requires.live in
+    subst (λ k. Wherever c.args.self.now.table.entries c.args.slot (λ e. e.key.0 ≡ k)) (live.keyed.key_is ∙ sym c.inward_key-key.ensures) live.of_key
+
 pub returns-then-again-clause-judges : goal.returns-then-again-clause-judges
 returns-then-again-clause-judges c settings calls d st is =
-    let here : Live = record { key = c.args.key; slot = c.args.slot; flow = c.flow_at-flow.result.now } in
+    let key = c.requires.live.key in
+    let here : Live = record { key = key; slot = c.args.slot; flow = c.flow_at-flow.result.now } in
     let flow = c.flow_at-flow.ensures in
-    let found : IsFound c.args.self.now c.args.arrival.now here = record { held = flow.held c.args.key c.requires.of_key; near = flow.near; keyed = c.requires.keyed } in
+    let found : IsFound c.args.self.now c.args.arrival.now here = record { held = flow.held key c.requires.live.of_key; near = flow.near; keyed = c.requires.live.keyed } in
     let n = here.flow.number in
     let seg = c.bare_seg-seg.result in
     let o = of_syn c.segments_are_read_back.ensures settings calls d c.args.arrival.now c.args.self.now here seg c.options_change-changed.result c.is_reopen-again.result c.rows_beside-rows.result.items c.step_of-step.result st is found
@@ -47,7 +55,7 @@ returns-then-again-clause-judges c settings calls d st is =
     judged settings calls d c.args.arrival.now c.args.self.now _ _ (record { outcome_is = o.outcome_is; carried = rewritten_in (view_of settings calls d).segments d c.args.arrival.now _ _ o.side o.carried })
     (c.offer-then-again.ensures settings calls d here.flow _ st found.held.entry
     (record {
-      key_is = o.key_is;
+      key_is = c.inward_key-key.ensures ∙ (sym c.requires.live.keyed.key_is ∙ o.key_is);
       first = seg;
       stands = c.offer.ensures.stands;
       octets = octets_of (segments n calls);
@@ -57,16 +65,17 @@ returns-then-again-clause-judges c settings calls d st is =
 
 pub returns-clause-judges : goal.returns-clause-judges
 returns-clause-judges c settings calls d st is =
-    let here : Live = record { key = c.args.key; slot = c.args.slot; flow = c.flow_at-flow.result.now } in
+    let key = c.requires.live.key in
+    let here : Live = record { key = key; slot = c.args.slot; flow = c.flow_at-flow.result.now } in
     let flow = c.flow_at-flow.ensures in
-    let found : IsFound c.args.self.now c.args.arrival.now here = record { held = flow.held c.args.key c.requires.of_key; near = flow.near; keyed = c.requires.keyed } in
+    let found : IsFound c.args.self.now c.args.arrival.now here = record { held = flow.held key c.requires.live.of_key; near = flow.near; keyed = c.requires.live.keyed } in
     let n = here.flow.number in
     let seg = c.bare_seg-seg.result in
     let o = of_syn c.segments_are_read_back.ensures settings calls d c.args.arrival.now c.args.self.now here seg c.options_change-changed.result c.is_reopen-again.result c.rows_beside-rows.result.items c.step_of-step.result st is found
     c.are_bits.ensures c.requires.syn c.bare_seg-seg.ensures.read c.options_change-changed.ensures.changed c.options_change-changed.ensures.words c.options_change-changed.ensures.size c.rows_beside-rows.ensures.rows
     c.in_default.ensures (λ ws stood. c.is_reopen-again.ensures ∙ c.judge_syn-answer.ensures.reopens ws stood) c.step_of-step.ensures in
     judged settings calls d c.args.arrival.now c.args.self.now _ _ (record { outcome_is = o.outcome_is; carried = rewritten_in (view_of settings calls d).segments d c.args.arrival.now _ _ o.side o.carried })
-    (c.hear.ensures settings calls d c.args.key here.flow _ st found.held
+    (c.hear.ensures settings calls d key here.flow _ st found.held
     (record {
       key_is = o.key_is;
       stood = o.stood;
