@@ -2,7 +2,7 @@
 mod cold;
 mod early;
 mod reset;
-pub(crate) mod stream;
+mod stream;
 mod syn;
 
 use crate::arrival::Arrival;

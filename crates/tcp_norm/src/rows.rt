@@ -5,8 +5,8 @@ ghost use Rattle.tcp_norm.specs.Streams.{stream_rows, bare_rows};
 ghost use Rattle.ip_rules.specs.Judged.{where_holds};
 
 use crate::arrival::Arrival;
-use crate::decide::stream::Stream;
 use arrayvec::ArrayVec;
+use era_state::Interval;
 use rule_book::Rule;
 use tcp_codec::Tcp;
 
@@ -30,11 +30,11 @@ fn is_urgent(head: &Tcp) -> bool
     flag || pointer
 }
 
-/// Returns the rules that hold; `options` says whether options change.
-pub(crate) fn rows_of(head: &Tcp, options: bool, stream: &Stream) -> ArrayVec<Rule, 16>
+/// Returns the rules that hold of a segment of which these octets go inwards; `options` says whether options change, `clash` whether an octet does.
+pub(crate) fn rows_of(head: &Tcp, options: bool, kept: &Interval, clash: bool) -> ArrayVec<Rule, 16>
     ensures few { length result.items ≤ 7 }
     ensures rows { result.items ≡ stream_rows (not (head.now.reserved == 0)) (tcp.has_urg head.now.flags.0 || not (head.now.urgent == 0)) options
-        stream.now.kept.below stream.now.kept.window stream.now.kept.end stream.now.clash }
+        kept.now.below kept.now.window kept.now.end clash }
 {
     let mut rules = ArrayVec::new();
     let reserved = head.reserved != 0;
@@ -42,10 +42,10 @@ pub(crate) fn rows_of(head: &Tcp, options: bool, stream: &Stream) -> ArrayVec<Ru
     note(&mut rules, Rule::TRes, reserved);
     note(&mut rules, Rule::TUrg, urgent);
     note(&mut rules, Rule::TOpt, options);
-    note(&mut rules, Rule::TOld, stream.kept.below);
-    note(&mut rules, Rule::TWindow, stream.kept.window);
-    note(&mut rules, Rule::TEnd, stream.kept.end);
-    note(&mut rules, Rule::TClash, stream.clash);
+    note(&mut rules, Rule::TOld, kept.below);
+    note(&mut rules, Rule::TWindow, kept.window);
+    note(&mut rules, Rule::TEnd, kept.end);
+    note(&mut rules, Rule::TClash, clash);
     rules
 }
 

@@ -74,7 +74,7 @@ impl TcpNorm {
         let own = own_octets(&piece, warm, &seg, payload_of(arrival));
         let clash = clashes(&piece, own, ends);
         let changed = options_change(arrival);
-        let rows = rows_of(arrival.head, changed, &Stream { kept, clash });
+        let rows = rows_of(arrival.head, changed, &kept, clash);
         let as_read = fill_kept(&piece, own, &rows, &mut self.scratch);
         *ruling = Ruling::Pass(Passage {
             step: Step::within(flow.number),
@@ -104,13 +104,6 @@ fn last_of(era: &Era) -> Option<&Warm>
         Era::Warm(warm) => Some(warm),
         Era::Closed(era) => Some(&era.last),
     }
-}
-
-/// The octets that go inwards, and whether one of them differs from the segment's own.
-#[derive(Clone, Copy)]
-pub(crate) struct Stream {
-    pub(crate) kept: Interval,
-    pub(crate) clash: bool,
 }
 
 /// An interval of a segment, no longer than the longest segment, and the chain of its era in the store.
