@@ -1,5 +1,5 @@
 //! The lines of a record.
-ghost use Rattle.std.specs.Prelude.{◌≡◌, ◌≤◌, ◌++◌, length, take, IfSome, option_map};
+ghost use Rattle.std.specs.Prelude.{◌≡◌, ◌++◌, IfSome, option_map};
 ghost use Rattle.edge_io.specs.Faults.{HasCause};
 ghost use Rattle.edge_io.specs.Octets.{Puts};
 ghost use Rattle.rule_book.specs.Entries.{plain, IsOfVersion};
@@ -22,7 +22,7 @@ pub fn write_line<R: Sink>(
     ensures octets { Puts (R.held report.old) (R.held report.new) result (entry_text (plain entry.now)) }
     ensures cause { HasCause (R.fault_count report.old) (R.fault_count report.new) result }
 {
-    let size = put_line(entry, &mut line[..]);
+    let size = entry_line(entry, &mut line[..]);
     report.put(&line[..size])
 }
 
@@ -37,18 +37,6 @@ pub fn write_answer<R: Sink>(answer: &Option<Entry>, report: &mut R) -> Result<(
     };
     let mut line = [0u8; LINE + 1];
     line[0] = b'/';
-    let size = put_line(entry, &mut line[1..]);
+    let size = entry_line(entry, &mut line[1..]);
     report.put(&line[..size + 1])
-}
-
-// Puts the line of an entry into a buffer and returns its length. The one call of `entry_line`, so
-// that the parts of a line are inlined here.
-#[inline(never)]
-fn put_line(entry: &Entry, buf: &mut [u8]) -> usize
-    requires octets { IsOfVersion 2 (plain entry.now) }
-    requires room { 400 ≤ length buf.old }
-    ensures text { take result buf.new ≡ entry_text (plain entry.now) }
-    ensures bound { result ≤ 376 }
-{
-    entry_line(entry, buf)
 }

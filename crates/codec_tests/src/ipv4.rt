@@ -1,5 +1,5 @@
 //! Headers with fields that all differ, each fault, option areas, and headers written.
-use ipv4_codec::{BadOption, IpFault, Ipv4, OptionFacts, options, parse, write_plain};
+use ipv4_codec::{BadOption, IpFault, Ipv4, OptionFacts, options, parse, parse_into, write_plain};
 use wire_base::{Addr, protocol, u32_at};
 
 /// A UDP datagram of 30 octets from 198.51.100.7 to 10.0.0.1.
@@ -59,6 +59,11 @@ fn fields_stand_where_the_standard_puts_them(rt: HostRuntime) {
     };
     assert_eq!(rt; parse(&DATAGRAM), Ok(datagram));
     assert_eq!(rt; parse(&PIECE), Ok(piece));
+    let mut head = piece;
+    assert_eq!(rt; parse_into(&DATAGRAM, &mut head), Ok(()));
+    assert_eq!(rt; head, datagram);
+    assert_eq!(rt; parse_into(&DATAGRAM[..19], &mut head), Err(IpFault::Short));
+    assert_eq!(rt; head, datagram);
 }
 
 #[test]

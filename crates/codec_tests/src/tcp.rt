@@ -4,8 +4,8 @@ ghost use Rattle.std.specs.Prelude.{◌≡◌, []};
 use arrayvec::ArrayVec;
 use std::test::Fail;
 use tcp_codec::{
-    SegmentParts, SumRule, Tcp, TcpFault, clean_options, options_change, parse, scale_of,
-    write_cleaned, write_segment,
+    SegmentParts, SumRule, Tcp, TcpFault, clean_options, options_change, parse, parse_into,
+    scale_of, write_cleaned, write_segment,
 };
 use wire_base::{Addr, Flags, protocol, pseudo_sum};
 
@@ -65,6 +65,17 @@ fn fields_stand_where_the_standard_puts_them(rt: HostRuntime) {
     };
     assert_eq!(rt; parse(&SEGMENT, pseudo(24), SumRule::Must), Ok(segment));
     assert_eq!(rt; parse(&MARKED, pseudo(31), SumRule::Must), Ok(marked));
+    let mut head = marked;
+    assert_eq!(rt;
+        parse_into(&SEGMENT, pseudo(24), SumRule::Must, &mut head),
+        Ok(())
+    );
+    assert_eq!(rt; head, segment);
+    assert_eq!(rt;
+        parse_into(&SEGMENT, 0, SumRule::Must, &mut head),
+        Err(TcpFault::Sum)
+    );
+    assert_eq!(rt; head, segment);
 }
 
 // The checksum; the data offset; flags; options that reach past the header, with one octet or a

@@ -2,7 +2,7 @@
 use arrayvec::ArrayVec;
 use ipv4_codec::Ipv4;
 use rule_book::Rule;
-use wire_base::{Addr, Side};
+use wire_base::Side;
 
 /// The fix rules that hold of a packet, in the order of their numbers.
 pub type Fixes = ArrayVec<Rule, 16>;
@@ -30,30 +30,13 @@ impl<'a> IpPacket<'a> {
     {
         IpPacket {
             side: Side::Inward,
-            head: UNREAD,
+            head: Ipv4::default(),
             frame,
             payload: frame,
             fixes: Fixes::new(),
         }
     }
 }
-
-// The header of a packet that is to be filled in.
-const UNREAD: Ipv4 = Ipv4 {
-    header: 0,
-    tos: 0,
-    total: 0,
-    ident: 0,
-    reserved: false,
-    df: false,
-    more: false,
-    offset: 0,
-    ttl: 0,
-    protocol: 0,
-    sum: 0,
-    src: Addr(0),
-    dst: Addr(0),
-};
 
 /// The result of judging a record whose packet is filled in beside it.
 #[derive(Clone, Copy, Debug)]

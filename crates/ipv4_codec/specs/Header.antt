@@ -1,5 +1,5 @@
 -- The header of an IPv4 packet as a record, and the first fault of one (RFC 791 section 3.1).
-use Rattle.std.specs.Prelude.{ℕ, List, Option, Some, None, Result, Ok, Err, if◌then◌else◌}
+use Rattle.std.specs.Prelude.{ℕ, List, Option, Some, None, Result, if◌then◌else◌}
 use Rattle.wire_base.specs.Reading.{value_or_fault}
 use Rattle.wire_base.specs.Ipv4 as ip
 use Rattle.ipv4_codec.specs.declared.header.Ipv4.{Ipv4}
@@ -38,8 +38,3 @@ fault_of packet =
 -- the result of parsing a packet: its fields, or its first fault
 abbrev pub parsed : List ℕ → Result Ipv4 IpFault
 parsed packet = value_or_fault (fields_of packet) (fault_of packet)
-
--- the result of parsing a packet whose fields are filled in beside it
-abbrev pub with_fields : Ipv4 → Result (Unit {0}) IpFault → Result Ipv4 IpFault
-with_fields head (Ok _) = Ok head
-with_fields head (Err fault) = Err fault

@@ -1,6 +1,7 @@
 //! The header of an IPv4 packet.
-ghost use Rattle.std.specs.Prelude.{◌≡◌, ◌≤◌, length, IfOk, OnOk};
-ghost use Rattle.ipv4_codec.specs.Header.{fields_of, parsed, with_fields};
+ghost use Rattle.std.specs.Prelude.{◌≡◌, ◌≤◌, length, IfOk, OnOk, OnErr};
+ghost use Rattle.ipv4_codec.specs.Header.{fields_of, parsed};
+ghost use Rattle.wire_base.specs.Reading.{stored};
 
 use thiserror::Error;
 use wire_base::{Addr, sum_right, u16_at, u32_at};
@@ -57,9 +58,11 @@ pub fn parse(bytes: &[u8]) -> Result<Ipv4, IpFault>
     Ok(head)
 }
 
-/// Parses a header as `parse` does, and fills in its fields if it has no fault.
+/// Parses a header as `parse` does and stores its fields in `head`; after a fault `head` is
+/// unchanged.
 pub fn parse_into(bytes: &[u8], head: &mut Ipv4) -> Result<(), IpFault>
-    ensures exact { with_fields head.new result ≡ parsed bytes.now }
+    ensures exact { stored head.new result ≡ parsed bytes.now }
+    ensures kept { OnErr result (head.new ≡ head.old) }
     ensures header { OnOk result ((20 ≤ head.new.header) × (head.new.header ≤ 60)) }
     ensures total { OnOk result ((head.new.header ≤ head.new.total) × (head.new.total ≤ length bytes.now)) }
 {
@@ -80,12 +83,13 @@ pub fn parse_into(bytes: &[u8], head: &mut Ipv4) -> Result<(), IpFault>
     if !sum_right(&bytes[..header], 0) {
         return Err(IpFault::Sum);
     }
-    fill_fields(bytes, head);
+    store_fields(bytes, head);
     Ok(())
 }
 
-// Fills in the fields, each read at its offset and stored before the next is read.
-fn fill_fields(bytes: &[u8], head: &mut Ipv4)
+// Stores the fields, each read at its offset. Each is stored before the next is read, so that none
+// waits in a register.
+fn store_fields(bytes: &[u8], head: &mut Ipv4)
     requires { 20 ≤ length bytes.now }
     ensures { head.new ≡ fields_of bytes.now }
 {

@@ -31,7 +31,7 @@ use reassembly::{Assembly, Offered, Piece, Whole};
 use rule_book::Rule;
 use tcp_codec::{SumRule, Tcp, TcpFault, parse_into};
 use tcp_norm::TcpNorm;
-use wire_base::{Flags, FlowKey, Link, Side, protocol, pseudo_sum};
+use wire_base::{FlowKey, Link, Side, protocol, pseudo_sum};
 
 /// The packet of a record and the header of its segment, filled in as the rules on them are tested.
 #[derive(Drop)]
@@ -41,31 +41,17 @@ pub struct Parsed<'a> {
 }
 
 impl<'a> Parsed<'a> {
-    /// Returns what is to be filled in of a record with this frame.
+    /// Returns a packet of this frame and a header, with no field read yet.
     pub fn unread(frame: &'a [u8]) -> Parsed<'a>
         ensures frame { result.packet.frame.now ≡ frame.now }
         ensures fixes { result.packet.fixes.items ≡ [] }
     {
         Parsed {
             packet: IpPacket::unread(frame),
-            head: UNREAD,
+            head: Tcp::default(),
         }
     }
 }
-
-// The header of a segment that is to be filled in.
-const UNREAD: Tcp = Tcp {
-    sport: 0,
-    dport: 0,
-    seq: 0,
-    ack: 0,
-    header: 0,
-    reserved: 0,
-    flags: Flags(0),
-    window: 0,
-    sum_right: false,
-    urgent: 0,
-};
 
 /// Decision on a record.
 #[derive(Clone, Copy, Debug)]

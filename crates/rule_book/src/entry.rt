@@ -102,8 +102,8 @@ impl Reason {
 }
 
 /// Writes the line of an entry, with its line feed, in version 2 of the report: each ended era has its octets. Returns
-/// the length of the line in octets.
-#[inline(always)]
+/// the length of the line in octets. It is not inlined at its calls, so that the parts of a line are inlined in it.
+#[inline(never)]
 pub fn entry_line(entry: &Entry, buf: &mut [u8]) -> usize
     requires octets { IsOfVersion 2 (plain entry.now) }
     requires room { 400 ≤ length buf.old }

@@ -1,5 +1,5 @@
 -- The header of a TCP segment as a record, and the first fault of one (RFC 9293 section 3.1).
-use Rattle.std.specs.Prelude.{ℕ, ◌&&◌, Bool, true, false, List, Option, Some, None, Result, Ok, Err, if◌then◌else◌}
+use Rattle.std.specs.Prelude.{ℕ, ◌&&◌, Bool, true, false, List, Option, Some, None, Result, if◌then◌else◌}
 use Rattle.wire_base.specs.Reading.{value_or_fault}
 use Rattle.wire_base.specs.Sums.{sum_is_right}
 use Rattle.wire_base.specs.Tcp as tcp
@@ -43,8 +43,3 @@ fault_of rule pseudo segment =
 -- the result of parsing a segment: its fields, or its first fault
 abbrev pub parsed : SumRule → (pseudo : ℕ) → List ℕ → Result Tcp TcpFault
 parsed rule pseudo segment = value_or_fault (fields_of pseudo segment) (fault_of rule pseudo segment)
-
--- the result of parsing a segment whose fields are filled in beside it
-abbrev pub with_fields : Tcp → Result (Unit {0}) TcpFault → Result Tcp TcpFault
-with_fields head (Ok _) = Ok head
-with_fields head (Err fault) = Err fault

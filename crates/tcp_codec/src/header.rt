@@ -1,6 +1,7 @@
 //! The header of a TCP segment.
-ghost use Rattle.std.specs.Prelude.{◌≡◌, ◌≤◌, ◌&&◌, ℕ, not, true, length, slice_range, IfOk, OnOk};
-ghost use Rattle.tcp_codec.specs.Header.{fields_of, is_judged, parsed, with_fields};
+ghost use Rattle.std.specs.Prelude.{◌≡◌, ◌≤◌, ◌&&◌, ℕ, not, true, length, slice_range, IfOk, OnOk, OnErr};
+ghost use Rattle.tcp_codec.specs.Header.{fields_of, is_judged, parsed};
+ghost use Rattle.wire_base.specs.Reading.{stored};
 ghost use Rattle.wire_base.specs.Sums.{sum_is_right};
 ghost use Rattle.wire_base.specs.Options.{are_well_formed};
 ghost use Rattle.wire_base.specs.Tcp as tcp;
@@ -86,9 +87,11 @@ pub fn parse(bytes: &[u8], pseudo: u32, rule: SumRule) -> Result<Tcp, TcpFault>
     Ok(head)
 }
 
-/// Parses a header as `parse` does, and fills in its fields if it has no fault.
+/// Parses a header as `parse` does and stores its fields in `head`; after a fault `head` is
+/// unchanged.
 pub fn parse_into(bytes: &[u8], pseudo: u32, rule: SumRule, head: &mut Tcp) -> Result<(), TcpFault>
-    ensures exact { with_fields head.new result ≡ parsed rule pseudo bytes.now }
+    ensures exact { stored head.new result ≡ parsed rule pseudo bytes.now }
+    ensures kept { OnErr result (head.new ≡ head.old) }
     ensures header { OnOk result ((20 ≤ head.new.header) × (head.new.header ≤ 60)) }
     ensures inside { OnOk result (head.new.header ≤ length bytes.now) }
     ensures flags { OnOk result (tcp.are_legal head.new.flags.0 ≡ true) }
@@ -112,12 +115,13 @@ pub fn parse_into(bytes: &[u8], pseudo: u32, rule: SumRule, head: &mut Tcp) -> R
     if !are_well_formed(&bytes[HEADER..header]) {
         return Err(TcpFault::Options);
     }
-    fill_fields(bytes, right, head);
+    store_fields(bytes, right, head);
     Ok(())
 }
 
-// Fills in the fields, each read at its offset and stored before the next is read.
-fn fill_fields(bytes: &[u8], right: bool, head: &mut Tcp)
+// Stores the fields, each read at its offset. Each is stored before the next is read, so that none
+// waits in a register.
+fn store_fields(bytes: &[u8], right: bool, head: &mut Tcp)
     requires { 20 ≤ length bytes.now }
     ensures { (pseudo : ℕ) → right ≡ sum_is_right bytes.now pseudo → head.new ≡ fields_of pseudo bytes.now }
 {

@@ -280,23 +280,23 @@ pub record Reopens (norm : TcpNorm) (d : Datagram) (live : Live) (era : Offered)
   pub octets : ℕ
   pub does : Does d (came first) (record { era = Some (norm.begun + 1); begun = Some (norm.begun + 1); ended = Some (record { era = live.flow.number; reason = reasons.Reopened; octets = Some octets }); full = false }) o
 
--- the outcome needs that the era takes these octets, or nothing
+-- what the outcome needs: that the era takes these octets, or, without octets to take, that no era hears of the datagram
 abbrev pub Needs : List Call → TcpNorm → Datagram → Live → Option Taking → Outcome → Type 0
 Needs calls norm d live None o = IsUnheard o
 Needs calls norm d live (Some t) o = Brings calls norm.scratch.items d live t o
 
--- the ruling on a datagram, and what its outcome needs
+-- the ruling on a datagram is right, and so is what its outcome needs
 pub record IsDecision (settings : PlainSettings) (calls : List Call) (d : Datagram) (a : Arrival) (norm : TcpNorm) (live : Live) (r : Ruling) (taking : Option Taking) : Type 0 where
   pub rules : IsRuling settings (view_of settings calls d) d a norm.scratch.items r
   pub needs : Needs calls norm d live taking (outcome_at settings (view_of settings calls d) d)
 
--- after any calls
+-- that decision is right after all calls that the state stands for
 abbrev pub Decides : Arrival → (old new : TcpNorm) → Live → Ruling → Option Taking → Type 0
 Decides a old new live r taking =
     (settings : PlainSettings) (calls : List Call) (d : Datagram) → StandsFor settings old calls → IsDatagram a.packet.now a.link.now d
     → IsDecision settings calls d a new live r taking
 
--- the same of the live era in this slot
+-- a decision on the live era in this slot is right
 pub record DecidesIn (a : Arrival) (old new : TcpNorm) (slot : Slot) (r : Ruling) (taking : Option Taking) : Type 0 where
   pub key : FlowKey
   pub flow : Flow

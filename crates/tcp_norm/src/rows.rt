@@ -30,7 +30,8 @@ fn is_urgent(head: &Tcp) -> bool
     flag || pointer
 }
 
-/// Returns the rules that hold of a segment of which these octets go inwards; `options` says whether options change, `clash` whether an octet does.
+/// Returns the rules that hold of a segment. `kept` is the interval that goes inwards, `options` says whether options change, and `clash` whether an octet
+/// differs from the one that was sent first at its offset.
 pub(crate) fn rows_of(head: &Tcp, options: bool, kept: &Interval, clash: bool) -> ArrayVec<Rule, 16>
     ensures few { length result.items ≤ 7 }
     ensures rows { result.items ≡ stream_rows (not (head.now.reserved == 0)) (tcp.has_urg head.now.flags.0 || not (head.now.urgent == 0)) options

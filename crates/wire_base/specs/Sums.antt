@@ -41,6 +41,6 @@ pub record CountsAs (a b : ℕ) : Type 0 where
   pub zero : a ≡ 0 → b ≡ 0
   pub back : b ≡ 0 → a ≡ 0
 
--- 256 times a sum of numbers, least significant octet first, and the words from the offset `at` on count as all words
+-- 256 times `sum`, the octets before the offset `at` added as numbers with the least significant octet first, and the words from there on count as all words
 abbrev pub CountsUpTo : ℕ → ℕ → List ℕ → Type 0
 CountsUpTo at sum octets = CountsAs (256 * sum + word_sum (drop at octets)) (word_sum octets)

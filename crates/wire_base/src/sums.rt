@@ -43,17 +43,17 @@ fn is_right(total: u64) -> bool
     total > 0 && total % 65535 == 0
 }
 
-// Returns the sum of `extra` and the words of the octets, up to multiples of 65,535. Adds numbers in
-// the order of this machine, least significant octet first, and multiplies their sum by 256 once:
-// modulo 65,535 that swaps the two octets of each 16-bit word (RFC 1071 section 2).
+// Returns the sum of `extra` and the words of the octets, up to multiples of 65,535. Adds numbers
+// whose least significant octet is first, and multiplies their sum by 256 once: modulo 65,535 that
+// swaps the two octets of each 16-bit word (RFC 1071 section 2).
 fn total_sum(bytes: &[u8], extra: u32) -> u64
     ensures { sums.CountsAs result (extra + sums.word_sum bytes.now) }
 {
     u64::from(extra) + 256 * sum_of_numbers(bytes)
 }
 
-// Returns the sum of the octets as numbers, least significant octet first. A header of 20 octets,
-// which each packet has, takes no loop.
+// Returns the sum of the octets as numbers, least significant octet first, up to multiples of
+// 65,535. Nearly each header of IPv4 has 20 octets, which take no other test of their length.
 fn sum_of_numbers(bytes: &[u8]) -> u64
     ensures alike { sums.CountsAs (256 * result) (sums.word_sum bytes.now) }
     ensures small { result < 2 ^ 35 }
@@ -78,8 +78,8 @@ fn sum_of_twenty(header: &[u8]) -> u64
     first + second + u64::from(lowest_first_at(header, 16))
 }
 
-// Returns the sum of at most 7 octets, which are one number. Not inlined: a call among the other
-// lengths would make each of them save registers.
+// Returns the sum of at most 7 octets as one number, up to multiples of 65,535. It is not inlined,
+// since each longer sum would then save registers for the reading of the number.
 #[cold]
 #[inline(never)]
 fn sum_of_few(bytes: &[u8]) -> u64
@@ -94,8 +94,8 @@ fn sum_of_few(bytes: &[u8]) -> u64
     }
 }
 
-// Returns the sum of at least 8 octets as 64-bit numbers. Only blocks of 64 octets take a loop, so
-// that a short packet takes none.
+// Returns the sum of at least 8 octets as 64-bit numbers, up to multiples of 65,535. Only blocks of
+// 64 octets take a loop, so that a short packet takes none.
 fn sum_of_many(bytes: &[u8]) -> u64
     requires { 8 ≤ length bytes.now }
     ensures alike { sums.CountsAs (256 * result) (sums.word_sum bytes.now) }
@@ -137,7 +137,7 @@ fn sum_by_sixteen(bytes: &[u8]) -> u128
     }
 }
 
-// Returns the sum of all octets but the last 0 to 31, half a block, as 64-bit numbers.
+// Returns the sum of all octets but the last 0 to 31 as 64-bit numbers.
 fn sum_by_half(bytes: &[u8]) -> u128
     ensures alike { sums.CountsUpTo (32 * (length bytes.now / 32)) result bytes.now }
     ensures small { result ≤ 18446744073709551615 * (4 * (length bytes.now / 32)) }

@@ -1,4 +1,5 @@
-//! A segment of the stream of an era: T_QUOTA or T_ROOM drops it, or it passes with the octets that were sent first.
+//! A segment without SYN and RST: T_STATE drops it in an era without an acknowledged offset, T_QUOTA or T_ROOM if its octets do not fit, or it passes with
+//! the octets that were sent first.
 ghost use Rattle.std.specs.Prelude.{◌≡◌, ◌==◌, ◌↔◌, ℕ, ◌+◌, ◌-◌, ◌<◌, ◌≤◌, ◌^◌, nat_lt, pos, ◌-ℤ◌, List, length, take, slice_index, false, Some, None, IfNone, IfSome, IsTrue, if◌then◌else◌};
 ghost use Rattle.wire_base.specs.Segments.{Written};
 ghost use Rattle.retain_store.specs.Maps.{IsWithin, Settles, chain_of, missing};
@@ -55,7 +56,7 @@ impl TcpNorm {
         cells_are_counted(&self.store);
         self.entries_are_apart();
         let flow = self.table.at(slot);
-        let Some(warm) = last_of(&flow.era) else {
+        let Some(warm) = warm_of(&flow.era) else {
             refuse_early(flow, arrival, ruling);
             return None;
         };
@@ -94,7 +95,7 @@ impl TcpNorm {
 }
 
 // Returns the state of an era, if it has an acknowledged offset.
-fn last_of(era: &Era) -> Option<&Warm>
+fn warm_of(era: &Era) -> Option<&Warm>
     ensures some { IfSome result (λ warm. IsLast era.now warm.now) }
     ensures none { IfNone result (is_acknowledged (state_in era.now) ≡ false) }
 {

@@ -8,10 +8,10 @@ pub returns-clause-exact : goal.returns-clause-exact
 returns-clause-exact c =
     let packet = c.args.bytes.now in
     let none : fault_of packet ≡ None = grind (arith, nat_tests) in
-    ap Ok c.fill_fields.ensures ∙ sym (ap (value_or_fault (fields_of packet)) none)
+    ap Ok c.store_fields.ensures ∙ sym (ap (value_or_fault (fields_of packet)) none)
 
 pub returns-clause-header : goal.returns-clause-header
-returns-clause-header c = rw c.fill_fields.ensures (omega arith, omega arith)
+returns-clause-header c = rw c.store_fields.ensures (omega arith, omega arith)
 
 pub returns-clause-total : goal.returns-clause-total
-returns-clause-total c = rw c.fill_fields.ensures (omega arith, omega arith)
+returns-clause-total c = rw c.store_fields.ensures (omega arith, omega arith)

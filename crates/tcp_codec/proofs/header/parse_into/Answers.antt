@@ -22,7 +22,7 @@ returns-clause-exact c =
     let header : tcp.header_length m ≡ 4 * c.from-header.result = ap (λ n. 4 * n) (sym c.from-header.ensures) in
     let judged : (is_judged c.args.rule && not (sum_is_right m c.args.pseudo)) ≡ false =
     ap (λ right. is_judged c.args.rule && not right) (sym c.sum_right-right.ensures) ∙ sym c.refuses.ensures ∙ c.if-refuses.false in
-    ap Ok (c.fill_fields.ensures c.args.pseudo c.sum_right-right.ensures) ∙
+    ap Ok (c.store_fields.ensures c.args.pseudo c.sum_right-right.ensures) ∙
     sym (parsed-options c.args.rule c.args.pseudo m (fields_of c.args.pseudo m) true refl (omega arith) (omega arith) (omega arith) judged
     (sym c.are_legal.ensures ∙ c.if-not-are_legal.false)
     (ap (λ h. are_well_formed (take (h - 20) (drop 20 m))) header ∙ sym c.are_well_formed.ensures ∙ c.if-not-are_well_formed.false))
@@ -34,5 +34,5 @@ returns-clause-options c =
 
 pub returns-clause-area : goal.returns-clause-area
 returns-clause-area c =
-    let header : c.fill_fields.new.head.header ≡ tcp.header_length c.args.bytes.now = ap (λ h. h.header) (c.fill_fields.ensures c.args.pseudo c.sum_right-right.ensures) in
+    let header : c.store_fields.new.head.header ≡ tcp.header_length c.args.bytes.now = ap (λ h. h.header) (c.store_fields.ensures c.args.pseudo c.sum_right-right.ensures) in
     area_is c.args.bytes.now _ header (omega arith)
