@@ -56,10 +56,15 @@ static void put_low32(uint8_t *p, uint32_t v) { for (int i = 0; i < 4; i++) p[i]
 /* The sum of the words of these octets and of `extra`, in 16 bits. The words are added as the machine reads them (RFC 1071 section 2). */
 static uint32_t sum_of(const uint8_t *p, size_t n, uint64_t extra) {
     uint64_t sum = 0;
-    uint32_t word;
-    size_t i = 0;
-    for (; i + 4 <= n; i += 4) { memcpy(&word, p + i, 4); sum += word; }
-    if (i < n) { word = 0; memcpy(&word, p + i, n - i); sum += word; }
+    uint32_t word, header[5];
+    if (n == sizeof header) {
+        memcpy(header, p, sizeof header);
+        sum = (uint64_t)header[0] + header[1] + header[2] + header[3] + header[4];
+    } else {
+        size_t i = 0;
+        for (; i + 4 <= n; i += 4) { memcpy(&word, p + i, 4); sum += word; }
+        if (i < n) { word = 0; memcpy(&word, p + i, n - i); sum += word; }
+    }
     while (sum >> 16) sum = (sum & 0xffff) + (sum >> 16);
     sum = ntohs((uint16_t)sum) + extra;
     while (sum >> 16) sum = (sum & 0xffff) + (sum >> 16);
