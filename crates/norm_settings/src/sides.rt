@@ -1,7 +1,7 @@
 //! The side of a packet.
 ghost use Rattle.std.specs.Prelude.{◌≡◌, ◌≤◌, All, None};
 ghost use Rattle.norm_settings.specs.Settings.{plain_settings};
-ghost use Rattle.norm_settings.specs.Side.{is_listed as is_in_some, is_trusted as is_trusted_by, side};
+ghost use Rattle.norm_settings.specs.Side.{is_listed, side};
 
 use crate::Settings;
 use wire_base::{Addr, Prefix, Side};
@@ -12,26 +12,31 @@ pub fn side_of(settings: &Settings, src: Addr, dst: Addr) -> Option<Side>
     requires { All (λ prefix. prefix.len ≤ 32) settings.now.prefixes.items }
     ensures { result ≡ side (plain_settings settings.now) None src.0 dst.0 }
 {
-    match (is_trusted(settings, src), is_trusted(settings, dst)) {
-        (true, false) => Some(Side::Outward),
-        (false, true) => Some(Side::Inward),
-        _ => None,
+    let listed = are_listed(&settings.prefixes, src, dst);
+    if listed.0 == listed.1 {
+        None
+    } else if listed.1 == settings.mirror {
+        Some(Side::Outward)
+    } else {
+        Some(Side::Inward)
     }
 }
 
-// Returns whether the address is trusted.
-fn is_trusted(settings: &Settings, address: Addr) -> bool
-    requires { All (λ prefix. prefix.len ≤ 32) settings.now.prefixes.items }
-    ensures { result ≡ is_trusted_by (plain_settings settings.now) address.0 }
-{
-    let listed = is_listed(&settings.prefixes, address);
-    if settings.mirror { !listed } else { listed }
-}
-
-// Returns whether one of the prefixes holds the address.
-fn is_listed(prefixes: &[Prefix], address: Addr) -> bool
+// Returns of each of two addresses whether one of the prefixes holds it, in one pass over the
+// prefixes.
+fn are_listed(prefixes: &[Prefix], src: Addr, dst: Addr) -> (bool, bool)
     requires { All (λ prefix. prefix.len ≤ 32) prefixes.now }
-    ensures { result ≡ is_in_some prefixes.now address.0 }
+    ensures source { result.0 ≡ is_listed prefixes.now src.0 }
+    ensures destination { result.1 ≡ is_listed prefixes.now dst.0 }
 {
-    prefixes.iter().any(|prefix| prefix.holds(address))
+    let mut source = false;
+    let mut destination = false;
+    for prefix in prefixes {
+        source |= prefix.holds(src);
+        destination |= prefix.holds(dst);
+        if source && destination {
+            break;
+        }
+    }
+    (source, destination)
 }
