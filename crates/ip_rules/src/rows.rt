@@ -30,6 +30,7 @@ pub fn judge_ip<'a>(settings: &Settings, link: Link, input: &Record<'a>) -> IpJu
 
 /// Judges a record by the first rule on the link, the header or the protocol that holds. Fills the
 /// packet if none drops the record and it carries IPv4.
+#[inline(always)]
 pub fn judge_ip_into<'a>(
     settings: &Settings,
     link: Link,
@@ -79,6 +80,7 @@ fn is_snapped(input: &Record<'_>) -> bool
 }
 
 // Judges the packet of a frame by the rules on the packet; `given` is the side of its record.
+#[inline(always)]
 fn judge_packet<'a>(
     settings: &Settings,
     given: Option<Side>,

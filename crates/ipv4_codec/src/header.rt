@@ -60,6 +60,7 @@ pub fn parse(bytes: &[u8]) -> Result<Ipv4, IpFault>
 
 /// Parses a header as `parse` does and stores its fields in `head`; after a fault `head` is
 /// unchanged.
+#[inline(always)]
 pub fn parse_into(bytes: &[u8], head: &mut Ipv4) -> Result<(), IpFault>
     ensures exact { stored head.new result ≡ parsed bytes.now }
     ensures kept { OnErr result (head.new ≡ head.old) }
@@ -89,6 +90,7 @@ pub fn parse_into(bytes: &[u8], head: &mut Ipv4) -> Result<(), IpFault>
 
 // Stores the fields, each read at its offset. Each is stored before the next is read, so that none
 // waits in a register.
+#[inline(always)]
 fn store_fields(bytes: &[u8], head: &mut Ipv4)
     requires { 20 ≤ length bytes.now }
     ensures { head.new ≡ fields_of bytes.now }

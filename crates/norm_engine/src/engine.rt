@@ -158,6 +158,10 @@ impl Engine {
     /// Fills the entry of this record after all before it, and replaces the frames in the outbox by
     /// its frames. Returns true only if its one frame is the record as it was read; the outbox is
     /// then empty. Allocates no memory.
+    // The loop over records has a copy of it, with each function that nearly every record goes
+    // through, so that no registers are saved for a record. These functions would not be inlined
+    // otherwise, since `step` has a copy too.
+    #[inline(always)]
     pub fn step_into(&mut self, input: &Record<'_>, out: &mut Outbox, entry: &mut Entry) -> bool
         requires { self.old.records < 2 ^ 32 - 1 }
         ensures settings { self.new.settings ≡ self.old.settings }

@@ -29,6 +29,7 @@ pub fn blank_entry() -> Entry
 }
 
 /// Makes this the entry of the record with this number, before it is judged.
+#[inline(always)]
 pub fn renew(entry: &mut Entry, number: u32)
     ensures { plain entry.new ≡ spec.entry_written number None [] [] }
 {
@@ -45,6 +46,7 @@ pub fn renew(entry: &mut Entry, number: u32)
 
 /// Fills the entry of a record with this decision, which is not a segment, and moves the rules of
 /// its packet there. Its number and the eras that ended stay.
+#[inline(always)]
 pub fn tell(decision: Decision, packet: &mut IpPacket<'_>, entry: &mut Entry)
     requires rules { entry.old.rules.items ≡ [] }
     requires era { entry.old.era ≡ None }

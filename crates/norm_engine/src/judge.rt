@@ -85,6 +85,7 @@ pub enum Answer {
 /// Judges a record by the rules before those of eras. A fragment is offered to those held. If it
 /// completes its datagram, the datagram is written to the front of the buffer and judged. Fills what
 /// is read of the record.
+#[inline(always)]
 pub fn judge<'a>(
     settings: &Settings,
     link: Link,
@@ -118,6 +119,7 @@ pub fn judge<'a>(
 
 // Judges a fragment by the rules on fragments, and the datagram that it completes by the rules
 // after them.
+#[inline(always)]
 fn judge_piece<'a>(
     settings: &Settings,
     norm: &TcpNorm,

@@ -17,6 +17,7 @@ use wire_base::{Link, link_octets, pseudo_sum};
 
 /// Puts the frame of a record with this decision into the outbox, which is empty, or returns true
 /// if the record is written as it was read: it is ARP, or no rule rewrites it.
+#[inline(always)]
 pub fn send(
     decision: Decision,
     packet: &IpPacket<'_>,

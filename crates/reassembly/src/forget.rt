@@ -52,6 +52,7 @@ impl Assembly {
 
     // Removes the datagrams that began too long before `now`, from the first one on, and returns
     // their number.
+    #[inline(always)]
     fn forget_old(&mut self, now: u32) -> u32
         ensures number { (settings : PlainSettings) (calls : List Call) → KeepsFor settings self.old calls →
             result ≡ count_by (is_old settings.frag_time now) (gathered settings.frag_time calls) }
@@ -69,6 +70,7 @@ impl Assembly {
 
     /// Removes each datagram whose first fragment arrived more than `time` seconds before `now`,
     /// and returns their number.
+    #[inline(always)]
     pub fn expire(&mut self, now: u32) -> u32
         requires { last_time self.old ≤ now }
         ensures number { (settings : PlainSettings) (calls : List Call) → StandsFor settings self.old calls →

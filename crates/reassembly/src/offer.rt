@@ -136,6 +136,7 @@ impl Assembly {
     }
 
     // Takes a fragment, whether or not other fragments of its datagram are held.
+    #[inline(always)]
     fn judge(&mut self, now: u32, piece: &Piece<'_>, buf: &mut [u8]) -> Offered
         requires piece { IsPiece (fragment_of piece.now) }
         requires buffer { MAX_PAYLOAD ≤ length buf.old }
@@ -161,6 +162,7 @@ impl Assembly {
 
     /// Takes a fragment: it is held, it completes its datagram, whose octets are then at the front
     /// of the buffer, or a rule drops it.
+    #[inline(always)]
     pub fn offer(&mut self, now: u32, piece: &Piece<'_>, buf: &mut [u8]) -> Offered
         requires piece { IsPiece (fragment_of piece.now) }
         requires buffer { MAX_PAYLOAD ≤ length buf.old }
