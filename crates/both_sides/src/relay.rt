@@ -83,10 +83,11 @@ impl Relay {
     pub fn is_full(&self) -> bool
         ensures { result ≡ is_full_of self.now }
     {
-        match &self.engines {
-            Engines::One(engine) => engine.records() >= u32::MAX,
-            Engines::Two(both) => both.records() >= u32::MAX / 2,
-        }
+        let most = match &self.engines {
+            Engines::One(_) => u32::MAX,
+            Engines::Two(_) => u32::MAX / 2,
+        };
+        self.records() >= most
     }
 
     /// Judges one record, writes all its frames and then its lines, and returns the number of

@@ -75,7 +75,9 @@ fn judge_both(both: &mut Both, out: &mut Outbox, behind: &mut Outbox, input: &Re
     ensures link { both.new.first.link ≡ both.old.first.link }
 {
     items_are_counted();
-    let own = both.front(input);
+    // A copy, so that a run with one engine needs no record in memory.
+    let record = *input;
+    let own = both.front(&record);
     let first = answer_next(both, out);
     let second = answer_next(both, behind);
     Told { own, first, second }
