@@ -1,7 +1,7 @@
 -- The rings of hubs, after a slot was unlinked from one or linked in as its last.
 use Rattle.std.proofs.Common.{◌≡◌, ◌≢◌, ℕ, ◌<◌, inl, inr, List, [], ◌∷◌, ◌++◌, length, refl, sym, subst, ◌∙◌, arith}
 use Rattle.linked_table.specs.declared.ring.Links.{Links}
-use Rattle.linked_table.specs.Rings.{link_at, In, IsRing, HasRing, unlinked, linked_last}
+use Rattle.linked_table.specs.Rings.{link_at, In, Joins, IsRing, HasRing, unlinked, linked_last}
 use Rattle.linked_table.proofs.Members.{In-append_left, In-append_right, In-append_cases, In-whole}
 use Rattle.linked_table.proofs.Rings.{ring_tail, not_before, not_after, before_in, after_in, last_in, joined_before, joined_after, joined_last}
 use Rattle.linked_table.proofs.Writes.{Unlinks, unlinks, IsRing-unlinked, IsRing-unlinked_other, LinksLast, links_last, IsRing-linked, IsRing-linked_other}
@@ -80,6 +80,10 @@ module _ (links : List Links) (slots hub : ℕ) (before : List ℕ) (s : ℕ) (a
         hub_in = omega (arith, others.hub_in, cut_writes.number);
       }
 
+  -- a node in a ring of its own stays alone
+  pub Joins-cut : (node : ℕ) → node ≢ s → Joins links node node → Joins (unlinked links s) node node
+  Joins-cut node other alone = IsRing-unlinked_other links (unlinked links s) s cut_writes cut_back cut_on node [] node other (λ h. h) other alone
+
   pub length-cut : length (unlinked links s) ≡ length links
   length-cut = cut_writes.number
 
@@ -132,6 +136,9 @@ module _ (links : List Links) (slots hub : ℕ) (nodes : List ℕ) (has : HasRin
         past = has_other.past;
         hub_in = omega (arith, has_other.hub_in, push_writes.number);
       }
+
+  pub Joins-push : (node : ℕ) → node ≢ s → node ≢ hub → Joins links node node → Joins (linked_last links hub s) node node
+  Joins-push node other not_hub alone = IsRing-linked_other links (linked_last links hub s) hub s push_writes push_joined node [] node other (λ h. h) other (λ h. h) not_hub alone
 
   pub length-push : length (linked_last links hub s) ≡ length links
   length-push = push_writes.number

@@ -1,17 +1,38 @@
 -- A slot is put last in the list, or removed from it.
-use Rattle.std.proofs.Common.{◌≡◌, ◌≢◌, ℕ, zero, suc, ◌+◌, ◌<◌, ◌≤◌, ◌^◌, ◌==◌, Bool, true, false, inl, inr, ◌⊎◌, Some, None, List, [], ◌∷◌, ◌++◌, length, map, refl, sym, ap, subst, ◌∙◌, arith, length-append, append-nil}
-use Rattle.std.specs.List.{range_with_len}
-use Rattle.std.proofs.lemmas.Bool.{eq-eqb, ne_eqb}
-use Rattle.std.proofs.lemmas.List.FromFn.{length-range_with_len}
+use Rattle.std.proofs.Common.{◌≡◌, ◌≢◌, ℕ, zero, suc, ◌+◌, ◌<◌, ◌≤◌, eqb, true, false, inl, inr, ◌⊎◌, Some, None, List, [], ◌∷◌, ◌++◌, length, map, set, refl, sym, ap, subst, ◌∙◌, arith, length-set, get_or-set_same, get_or-set_other, append-nil}
+use Rattle.std.specs.List.{AllByRecursion, IsDistinct, list_any, range_with_len}
+use Rattle.std.proofs.lemmas.Bool.{cases_eq, eq-eqb, ne_eqb}
+use Rattle.std.proofs.lemmas.List.{set-get_or}
+use Rattle.std.proofs.lemmas.Map.Steps.{length-le_from_distinct_below}
 use Rattle.linked_table.specs.declared.ring.Links.{Links}
 use Rattle.linked_table.specs.declared.table.Slot.{Slot}
-use Rattle.linked_table.specs.Rings.{link_at, In, IsRing, HasRing, unlinked, linked_last}
-use Rattle.linked_table.specs.Sound.{slot_of, IsAllFree}
+use Rattle.linked_table.specs.Rings.{lone, link_at, In, Joins, IsRing, HasRing, with_after, with_before, unlinked, isolated, linked_last}
+use Rattle.linked_table.specs.Sound.{slot_of}
 use Rattle.linked_table.specs.Listing.{Listing, others, first_of, slots_to, listing_of, IsThreaded}
 use Rattle.linked_table.proofs.Splits.{map_join}
-use Rattle.linked_table.proofs.Members.{In-splits, In-append_left, In-append_right, In-append_cases, In-whole, In-rest}
-use Rattle.linked_table.proofs.Rings.{last_in}
-use Rattle.linked_table.proofs.Hubs.{hub_apart, cut_inside, cut_before_inside, cut_after_inside, cut_not_before, cut_not_after, cut_gone, last_ends, HasRing-cut, HasRing-cut_other, push_inside, push_last_inside, HasRing-push, HasRing-push_other}
+use Rattle.linked_table.proofs.Members.{In-splits, In-append_left, In-append_right, In-append_cases, In-rest}
+use Rattle.linked_table.proofs.Rings.{ring_tail, not_after, after_in, last_in}
+use Rattle.linked_table.proofs.Hubs.{hub_apart, cut_slot, cut_before_inside, cut_after_inside, cut_not_before, cut_not_after, cut_gone, last_ends, HasRing-cut, Joins-cut, push_last_inside, HasRing-push, Joins-push}
+use Rattle.linked_table.proofs.Opens.{HasRing-lone}
+
+-- the nodes of a ring are at most as many as there are slots
+differs : (node : ℕ) (nodes : List ℕ) → (In node nodes → ⊥) → AllByRecursion (λ y. eqb node y ≡ false) nodes
+differs node [] apart = tt
+differs node (x ∷ xs) apart = (ne_eqb node x (λ same. apart (inl (sym same))), differs node xs (λ h. apart (inr h)))
+
+distinct : (links : List Links) (hub p : ℕ) (nodes : List ℕ) → (In hub nodes → ⊥) → IsRing links p nodes hub → IsDistinct eqb nodes
+unfolding IsDistinct
+distinct links hub p [] not_hub ring = tt
+distinct links hub p (x ∷ xs) not_hub ring = (differs x xs (not_after links hub p [] x xs not_hub ring), distinct links hub x xs (λ h. not_hub (inr h)) ring.1)
+
+In-from_any : (node : ℕ) (nodes : List ℕ) → list_any (eqb node) nodes ≡ true → In node nodes
+In-from_any node [] has = cc
+In-from_any node (x ∷ xs) has =
+    elim (cases_eq x node) [ inl same ↦ inl same | inr other ↦ inr (In-from_any node xs (rw (ne_eqb node x (λ same. other (sym same))) at has)) ]
+
+few_nodes : {links : List Links} {slots hub : ℕ} {nodes : List ℕ} → HasRing links slots hub nodes → length nodes ≤ slots
+few_nodes {links} {slots} {hub} {nodes} has =
+    length-le_from_distinct_below nodes slots (distinct links hub hub nodes (hub_apart has) has.ring) (λ node listed. has.inside node (In-from_any node nodes listed))
 
 -- the slots up to the hub are those of its ring
 slots_to-ring : (links : List Links) (hub most p : ℕ) (nodes : List ℕ) → (In hub nodes → ⊥) → IsRing links p nodes hub → length nodes ≤ most → slots_to links hub most p ≡ map slot_of nodes
@@ -21,8 +42,8 @@ slots_to-ring links hub (suc most) p [] not_hub ring few = rw (ring.on, eq-eqb h
 slots_to-ring links hub (suc most) p (x ∷ xs) not_hub ring few =
     rw (ring.0.on, ne_eqb x hub (λ same. not_hub (inl same))) (ap (λ l. slot_of x ∷ l) (slots_to-ring links hub most x xs (λ h. not_hub (inr h)) ring.1 (omega (arith, few))))
 
-ring_slots : (links : List Links) (max : ℕ) (nodes : List ℕ) → HasRing links max max nodes → length nodes ≤ max → slots_to links max max max ≡ map slot_of nodes
-ring_slots links max nodes has few = slots_to-ring links max max max nodes (hub_apart has) has.ring few
+ring_slots : (links : List Links) (max : ℕ) (nodes : List ℕ) → HasRing links max max nodes → slots_to links max max max ≡ map slot_of nodes
+ring_slots links max nodes has = slots_to-ring links max max max nodes (hub_apart has) has.ring (few_nodes has)
 
 others_none : (s : ℕ) (nodes : List ℕ) → (In s nodes → ⊥) → others (map slot_of nodes) (slot_of s) ≡ map slot_of nodes
 others_none s [] none = refl
@@ -33,27 +54,45 @@ others_split s [] after not_before not_after = rw (eq-eqb s s refl) (others_none
 others_split s (x ∷ xs) after not_before not_after =
     rw (ne_eqb x s (λ same. not_before (inl same))) (ap (λ l. slot_of x ∷ l) (others_split s xs after (λ h. not_before (inr h)) not_after))
 
--- the slot is in neither ring, and the listed ones are these
+-- a slot in a ring of its own
+module _ (links : List Links) (s : ℕ) (alone : Joins links s s) where
+  alone_apart : (slots hub : ℕ) (nodes : List ℕ) → HasRing links slots hub nodes → In s nodes → ⊥
+  alone_apart slots hub nodes ring h =
+      let split = In-splits s nodes h in
+      let has : HasRing links slots hub (split.before ++ s ∷ split.after) = subst (λ l. HasRing links slots hub l) split.splits ring in
+      let next : In s (split.after ++ hub ∷ []) = subst (λ k. In k (split.after ++ hub ∷ [])) alone.on (after_in links s split.after hub (ring_tail links hub split.before s split.after hub has.ring)) in
+      elim (In-append_cases s split.after (hub ∷ []) next) [
+        | inl later ↦ cut_not_after links slots hub split.before s split.after has later
+        | inr last ↦ elim last [ inl same ↦ omega (arith, same, has.past, cut_slot links slots hub split.before s split.after has) | inr none ↦ none ]
+      ]
+
+  alone_after : with_after links s s ≡ links
+  alone_after = ap (λ k. set links s (record (link_at links s) { after = k })) (sym alone.on) ∙ set-get_or links s (record { before = 0; after = 0 })
+
+  alone_before : with_before links s s ≡ links
+  alone_before = ap (λ k. set links s (record (link_at links s) { before = k })) (sym alone.back) ∙ set-get_or links s (record { before = 0; after = 0 })
+
+  -- to unlink it changes nothing
+  alone_unlinked : unlinked links s ≡ links
+  alone_unlinked =
+      ap (λ p. with_before (with_after links p (link_at links s).after) (link_at links s).after p) alone.back
+      ∙ (ap (λ n. with_before (with_after links s n) n s) alone.on ∙ (ap (λ l. with_before l s s) alone_after ∙ alone_before))
+
+-- the slot is not listed, and the listed ones are these
 pub record IsOut (links : List Links) (max s : ℕ) (slots : List Slot) : Type 0 where
   pub listed : List ℕ
-  pub rest : List ℕ
-  pub listed_ring : HasRing links max max listed
-  pub rest_ring : HasRing links max (max + 1) rest
-  pub not_listed : In s listed → ⊥
-  pub not_rest : In s rest → ⊥
-  pub either : (node : ℕ) → node < max → (s ≡ node) ⊎ (In node listed ⊎ In node rest)
-  pub apart : (node : ℕ) → In node listed → In node rest → ⊥
-  pub total : length listed + length rest + 1 ≡ max
+  pub ring : HasRing links max max listed
+  pub gone : In s listed → ⊥
+  pub others_alone : (node : ℕ) → node < max → node ≢ s → In node listed ⊎ Joins links node node
   pub slots_are : map slot_of listed ≡ slots
 
 module _ (links : List Links) (max : ℕ) (t : IsThreaded links max) where
   pub slots_are : slots_to links max max max ≡ map slot_of t.listed
-  slots_are = ring_slots links max t.listed t.listed_ring (omega (arith, t.total))
+  slots_are = ring_slots links max t.listed t.ring
 
   module _ (s : ℕ) (small : s < max) where
-    -- the node and its neighbours are nodes
+    -- the neighbours of the slot are nodes
     pub record IsInside : Type 0 where
-      pub node : s < length links
       pub before : (link_at links s).before < length links
       pub after : (link_at links s).after < length links
       pub out : IsOut (unlinked links s) max s (others (slots_to links max max max) (slot_of s))
@@ -61,148 +100,129 @@ module _ (links : List Links) (max : ℕ) (t : IsThreaded links max) where
     out_of_listed : In s t.listed → IsInside
     out_of_listed h =
         let split = In-splits s t.listed h in
-        let has : HasRing links max max (split.before ++ s ∷ split.after) = subst (λ l. HasRing links max max l) split.splits t.listed_ring in
-        let apart : In s t.others → ⊥ = λ k. t.apart s h k in
+        let has : HasRing links max max (split.before ++ s ∷ split.after) = subst (λ l. HasRing links max max l) split.splits t.ring in
         let not_before = cut_not_before links max max split.before s split.after has in
         let not_after = cut_not_after links max max split.before s split.after has in
         record {
-          node = cut_inside links max max split.before s split.after has;
           before = cut_before_inside links max max split.before s split.after has;
           after = cut_after_inside links max max split.before s split.after has;
           out = record {
             listed = split.before ++ split.after;
-            rest = t.others;
-            listed_ring = HasRing-cut links max max split.before s split.after has;
-            rest_ring = HasRing-cut_other links max max split.before s split.after has (max + 1) t.others t.others_ring apart;
-            not_listed = cut_gone links max max split.before s split.after has;
-            not_rest = apart;
-            either = λ node below. elim (t.either node below) [
-              | inl k ↦ elim (In-rest node s split.before split.after (subst (λ l. In node l) split.splits k)) [ inl same ↦ inl same | inr other ↦ inr (inl other) ]
-              | inr k ↦ inr (inr k)
+            ring = HasRing-cut links max max split.before s split.after has;
+            gone = cut_gone links max max split.before s split.after has;
+            others_alone = λ node below other. elim (t.others_alone node below) [
+              | inl k ↦ elim (In-rest node s split.before split.after (subst (λ l. In node l) split.splits k)) [ inl same ↦ absurd (other (sym same)) | inr rest ↦ inl rest ]
+              | inr alone ↦ inr (Joins-cut links max max split.before s split.after has node other alone)
             ];
-            apart = λ node k m. t.apart node (subst (λ l. In node l) (sym split.splits) (In-whole node s split.before split.after k)) m;
-            total = omega (arith, t.total, ap length split.splits, length-append split.before (s ∷ split.after), length-append split.before split.after);
             slots_are = sym (ap (λ l. others l (slot_of s)) (slots_are ∙ ap (map slot_of) split.splits) ∙ others_split s split.before split.after not_before not_after);
           };
         }
 
-    out_of_others : In s t.others → IsInside
-    out_of_others h =
-        let split = In-splits s t.others h in
-        let has : HasRing links max (max + 1) (split.before ++ s ∷ split.after) = subst (λ l. HasRing links max (max + 1) l) split.splits t.others_ring in
-        let apart : In s t.listed → ⊥ = λ k. t.apart s k h in
+    out_of_alone : Joins links s s → IsInside
+    out_of_alone alone =
+        let gone = alone_apart links s alone max max t.listed t.ring in
+        let still : IsOut links max s (others (slots_to links max max max) (slot_of s)) = record {
+          listed = t.listed;
+          ring = t.ring;
+          gone = gone;
+          others_alone = λ node below other. t.others_alone node below;
+          slots_are = sym (ap (λ l. others l (slot_of s)) slots_are ∙ others_none s t.listed gone);
+        } in
         record {
-          node = cut_inside links max (max + 1) split.before s split.after has;
-          before = cut_before_inside links max (max + 1) split.before s split.after has;
-          after = cut_after_inside links max (max + 1) split.before s split.after has;
-          out = record {
-            listed = t.listed;
-            rest = split.before ++ split.after;
-            listed_ring = HasRing-cut_other links max (max + 1) split.before s split.after has max t.listed t.listed_ring apart;
-            rest_ring = HasRing-cut links max (max + 1) split.before s split.after has;
-            not_listed = apart;
-            not_rest = cut_gone links max (max + 1) split.before s split.after has;
-            either = λ node below. elim (t.either node below) [
-              | inl k ↦ inr (inl k)
-              | inr k ↦ elim (In-rest node s split.before split.after (subst (λ l. In node l) split.splits k)) [ inl same ↦ inl same | inr other ↦ inr (inr other) ]
-            ];
-            apart = λ node k m. t.apart node k (subst (λ l. In node l) (sym split.splits) (In-whole node s split.before split.after m));
-            total = omega (arith, t.total, ap length split.splits, length-append split.before (s ∷ split.after), length-append split.before split.after);
-            slots_are = sym (ap (λ l. others l (slot_of s)) slots_are ∙ others_none s t.listed apart);
-          };
+          before = omega (arith, alone.back, t.ring.hub_in);
+          after = omega (arith, alone.on, t.ring.hub_in);
+          out = subst (λ l. IsOut l max s (others (slots_to links max max max) (slot_of s))) (sym (alone_unlinked links s alone)) still;
         }
 
     pub taken : IsInside
-    taken = elim (t.either s small) [ inl h ↦ out_of_listed h | inr h ↦ out_of_others h ]
+    taken = elim (t.others_alone s small) [ inl h ↦ out_of_listed h | inr alone ↦ out_of_alone alone ]
 
--- the slot that is in neither ring is linked into one
-module _ (links : List Links) (max s : ℕ) (slots : List Slot) (small : s < max) (room : max + 1 < 2 ^ 32) (o : IsOut links max s slots) where
-  pub out_inside : s < length links
-  out_inside = push_inside links max max o.listed o.listed_ring s small o.not_listed
+-- a node gets a ring of its own
+module _ (links : List Links) (s : ℕ) (inside : s < length links) where
+  link_at-isolated : (node : ℕ) → node ≢ s → link_at (isolated links s) node ≡ link_at links node
+  link_at-isolated node other = get_or-set_other links s node (lone s) (record { before = 0; after = 0 }) other
 
-  pub out_hub_inside : max + 1 < length links
-  out_hub_inside = o.rest_ring.hub_in
+  Joins-isolated : (a b : ℕ) → a ≢ s → b ≢ s → Joins links a b → Joins (isolated links s) a b
+  Joins-isolated a b not_a not_b joins = record {
+    on = ap (λ (l : Links). l.after) (link_at-isolated a not_a) ∙ joins.on;
+    back = ap (λ (l : Links). l.before) (link_at-isolated b not_b) ∙ joins.back;
+  }
 
+  IsRing-isolated : (p : ℕ) (nodes : List ℕ) (q : ℕ) → p ≢ s → (In s nodes → ⊥) → q ≢ s → IsRing links p nodes q → IsRing (isolated links s) p nodes q
+  IsRing-isolated p [] q not_p not_in not_q ring = Joins-isolated p q not_p not_q ring
+  IsRing-isolated p (x ∷ xs) q not_p not_in not_q ring =
+      (Joins-isolated p x not_p (λ same. not_in (inl same)) ring.0, IsRing-isolated x xs q (λ same. not_in (inl same)) (λ h. not_in (inr h)) not_q ring.1)
+
+  isolated_alone : Joins (isolated links s) s s
+  isolated_alone =
+      let is : link_at (isolated links s) s ≡ lone s = get_or-set_same links s (lone s) (record { before = 0; after = 0 }) inside in
+      record { on = ap (λ (l : Links). l.after) is; back = ap (λ (l : Links). l.before) is }
+
+-- the slot that is not listed is linked in as the last, or is left alone
+module _ (links : List Links) (max s : ℕ) (slots : List Slot) (small : s < max) (o : IsOut links max s slots) where
   pub out_last_inside : (link_at links max).before < length links
-  out_last_inside = push_last_inside links max max o.listed o.listed_ring s small o.not_listed
+  out_last_inside = push_last_inside links max max o.listed o.ring s small o.gone
 
-  pub out_rest_inside : (link_at links (max + 1)).before < length links
-  out_rest_inside = push_last_inside links max (max + 1) o.rest o.rest_ring s small o.not_rest
+  put_ring : HasRing (linked_last links max s) max max (o.listed ++ s ∷ [])
+  put_ring = HasRing-push links max max o.listed o.ring s small o.gone
 
   pub put_threaded : IsThreaded (linked_last links max s) max
   put_threaded = record {
     listed = o.listed ++ s ∷ [];
-    others = o.rest;
-    listed_ring = HasRing-push links max max o.listed o.listed_ring s small o.not_listed;
-    others_ring = HasRing-push_other links max max o.listed o.listed_ring s small o.not_listed (max + 1) o.rest o.rest_ring (λ same. omega (arith, same)) o.not_rest;
-    either = λ node below. elim (o.either node below) [
+    ring = put_ring;
+    others_alone = λ node below. elim (cases_eq s node) [
       | inl same ↦ inl (In-append_right node o.listed (s ∷ []) (inl same))
-      | inr k ↦ elim k [ inl m ↦ inl (In-append_left node o.listed (s ∷ []) m) | inr m ↦ inr m ]
+      | inr other ↦ elim (o.others_alone node below (λ same. other (sym same))) [
+        | inl h ↦ inl (In-append_left node o.listed (s ∷ []) h)
+        | inr alone ↦ inr (Joins-push links max max o.listed o.ring s small o.gone node (λ same. other (sym same)) (λ same. omega (arith, same, below)) alone)
+      ]
     ];
-    apart = λ node k m. elim (In-append_cases node o.listed (s ∷ []) k) [
-      | inl h ↦ o.apart node h m
-      | inr h ↦ elim h [ inl same ↦ o.not_rest (subst (λ n. In n o.rest) (sym same) m) | inr none ↦ absurd none ]
-    ];
-    total = omega (arith, o.total, length-append o.listed (s ∷ []));
-    room = room;
   }
 
   pub put_slots : slots_to (linked_last links max s) max max max ≡ slots ++ slot_of s ∷ []
   put_slots =
-      let has = HasRing-push links max max o.listed o.listed_ring s small o.not_listed in
-      let few : length (o.listed ++ s ∷ []) ≤ max = omega (arith, o.total, length-append o.listed (s ∷ [])) in
       let listed : map slot_of (o.listed ++ s ∷ []) ≡ map slot_of o.listed ++ slot_of s ∷ [] = map_join slot_of o.listed (s ∷ []) in
-      ring_slots (linked_last links max s) max (o.listed ++ s ∷ []) has few ∙ (listed ∙ ap (λ l. l ++ slot_of s ∷ []) o.slots_are)
+      ring_slots (linked_last links max s) max (o.listed ++ s ∷ []) put_ring ∙ (listed ∙ ap (λ l. l ++ slot_of s ∷ []) o.slots_are)
 
-  pub left_threaded : IsThreaded (linked_last links (max + 1) s) max
+  out_inside : s < length links
+  out_inside = omega (arith, small, o.ring.hub_in)
+
+  left_ring : HasRing (isolated links s) max max o.listed
+  left_ring =
+      let hub_not : max ≢ s = λ same. omega (arith, same, small) in
+      record {
+        ring = IsRing-isolated links s out_inside max o.listed max hub_not o.gone hub_not o.ring.ring;
+        inside = o.ring.inside;
+        past = o.ring.past;
+        hub_in = omega (arith, o.ring.hub_in, length-set links s (lone s));
+      }
+
+  pub left_threaded : IsThreaded (isolated links s) max
   left_threaded = record {
     listed = o.listed;
-    others = o.rest ++ s ∷ [];
-    listed_ring = HasRing-push_other links max (max + 1) o.rest o.rest_ring s small o.not_rest max o.listed o.listed_ring (λ same. omega (arith, same)) o.not_listed;
-    others_ring = HasRing-push links max (max + 1) o.rest o.rest_ring s small o.not_rest;
-    either = λ node below. elim (o.either node below) [
-      | inl same ↦ inr (In-append_right node o.rest (s ∷ []) (inl same))
-      | inr k ↦ elim k [ inl m ↦ inl m | inr m ↦ inr (In-append_left node o.rest (s ∷ []) m) ]
+    ring = left_ring;
+    others_alone = λ node below. elim (cases_eq node s) [
+      | inl same ↦ inr (rw same (isolated_alone links s out_inside))
+      | inr other ↦ elim (o.others_alone node below other) [ inl h ↦ inl h | inr alone ↦ inr (Joins-isolated links s out_inside node node other other alone) ]
     ];
-    apart = λ node k m. elim (In-append_cases node o.rest (s ∷ []) m) [
-      | inl h ↦ o.apart node k h
-      | inr h ↦ elim h [ inl same ↦ o.not_listed (subst (λ n. In n o.listed) (sym same) k) | inr none ↦ absurd none ]
-    ];
-    total = omega (arith, o.total, length-append o.rest (s ∷ []));
-    room = room;
   }
 
-  pub left_slots : slots_to (linked_last links (max + 1) s) max max max ≡ slots
-  left_slots =
-      let has = HasRing-push_other links max (max + 1) o.rest o.rest_ring s small o.not_rest max o.listed o.listed_ring (λ same. omega (arith, same)) o.not_listed in
-      let few : length o.listed ≤ max = omega (arith, o.total) in
-      ring_slots (linked_last links (max + 1) s) max o.listed has few ∙ o.slots_are
+  pub left_slots : slots_to (isolated links s) max max max ≡ slots
+  left_slots = ring_slots (isolated links s) max o.listed left_ring ∙ o.slots_are
 
-from_or_after : (from node : ℕ) → from ≤ node → (from ≡ node) ⊎ (from + 1 ≤ node)
-from_or_after from node low = by (from == node) refl
-  where
-    by : (b : Bool) → (from == node) ≡ b → (from ≡ node) ⊎ (from + 1 ≤ node)
-    by true e = inl (grind arith)
-    by false e = inr (let apart : from ≢ node = grind arith in omega (arith, low, apart))
-
--- all slots are free
-module _ (links : List Links) (max : ℕ) (free : IsAllFree links max) where
-  in_range : (node from n : ℕ) → from ≤ node → node < from + n → In node (range_with_len from n)
-  in_range node from zero low high = absurd (omega (arith, low, high))
-  in_range node from (suc n) low high =
-      elim (from_or_after from node low) [ inl same ↦ inl same | inr later ↦ inr (in_range node (from + 1) n later (omega (arith, high))) ]
-
-  pub free_threaded : IsThreaded links max
-  free_threaded = record {
+-- no slot is listed
+module _ (links : List Links) (max : ℕ) (is : links ≡ map lone (range_with_len 0 (max + 1))) where
+  pub open_threaded : IsThreaded links max
+  open_threaded = rw is (record {
     listed = [];
-    others = range_with_len 0 max;
-    listed_ring = free.none_used;
-    others_ring = free.all_free;
-    either = λ node below. inr (in_range node 0 max (omega arith) (omega (arith, below)));
-    apart = λ node k m. absurd k;
-    total = omega (arith, length-range_with_len 0 max);
-    room = free.room;
-  }
+    ring = HasRing-lone (max + 1) max max (omega arith) (omega arith);
+    others_alone = λ node below. inr (HasRing-lone (max + 1) 0 node (omega arith) (omega (arith, below))).ring;
+  })
+
+  pub open_seen : listing_of links max ≡ record { slots = []; max = max }
+  open_seen =
+      let none : slots_to links max max max ≡ [] = rw is (ring_slots (map lone (range_with_len 0 (max + 1))) max [] (HasRing-lone (max + 1) max max (omega arith) (omega arith))) in
+      rw none refl
 
 -- the node after the hub, if these slots are listed
 pub record IsFirst (max : ℕ) (slots : List Slot) (node : ℕ) : Type 0 where
@@ -212,7 +232,7 @@ pub record IsFirst (max : ℕ) (slots : List Slot) (node : ℕ) : Type 0 where
 
 module _ (links : List Links) (max : ℕ) (t : IsThreaded links max) where
   pub first_is : IsFirst max (slots_to links max max max) (link_at links max).after
-  first_is = rw (slots_are links max t) (go t.listed t.listed_ring.inside t.listed_ring.ring)
+  first_is = rw (slots_are links max t) (go t.listed t.ring.inside t.ring.ring)
     where
       go : (nodes : List ℕ) → ((node : ℕ) → In node nodes → node < max) → IsRing links max nodes max → IsFirst max (map slot_of nodes) (link_at links max).after
       go [] inside ring = record { none = λ _. refl; some = λ other. absurd (other ring.on); below = λ other. absurd (other ring.on) }
@@ -247,9 +267,9 @@ module _ (links : List Links) (max : ℕ) (t : IsThreaded links max) (list : Lis
   -- a slot that is already last stays where it is
   pub put_same : slot.0 ≡ (link_at links max).before → list ≡ record list { slots = others list.slots slot ++ slot ∷ [] }
   put_same last =
-      let listed : In slot.0 t.listed = elim (last_in links max t.listed max t.listed_ring.ring) [ inl hub ↦ absurd (omega (arith, hub, last, slot_small)) | inr h ↦ subst (λ k. In k t.listed) (sym last) h ] in
+      let listed : In slot.0 t.listed = elim (last_in links max t.listed max t.ring.ring) [ inl hub ↦ absurd (omega (arith, hub, last, slot_small)) | inr h ↦ subst (λ k. In k t.listed) (sym last) h ] in
       let split = In-splits slot.0 t.listed listed in
-      let has : HasRing links max max (split.before ++ slot.0 ∷ split.after) = subst (λ l. HasRing links max max l) split.splits t.listed_ring in
+      let has : HasRing links max max (split.before ++ slot.0 ∷ split.after) = subst (λ l. HasRing links max max l) split.splits t.ring in
       let ends : split.after ≡ [] = last_ends links max max split.before slot.0 split.after has last in
       let slots : list.slots ≡ map slot_of (split.before ++ slot.0 ∷ split.after) = sym list_slots ∙ (slots_are links max t ∙ ap (map slot_of) split.splits) in
       let rest : others list.slots slot ≡ map slot_of (split.before ++ split.after) = ap (λ l. others l slot) slots ∙ others_split slot.0 split.before split.after (cut_not_before links max max split.before slot.0 split.after has) (cut_not_after links max max split.before slot.0 split.after has) in
@@ -264,26 +284,20 @@ module _ (links : List Links) (max : ℕ) (t : IsThreaded links max) (list : Lis
         subst (λ l. IsOut l max slot.0 (others list.slots slot)) (sym cut_is) out
 
     pub last_inside : (link_at cut max).before < length cut
-    last_inside = out_last_inside cut max slot.0 (others list.slots slot) slot_small t.room out_of
-
-    pub rest_inside : (link_at cut (max + 1)).before < length cut
-    rest_inside = out_rest_inside cut max slot.0 (others list.slots slot) slot_small t.room out_of
-
-    pub hub_inside : max + 1 < length cut
-    hub_inside = out_of.rest_ring.hub_in
+    last_inside = out_last_inside cut max slot.0 (others list.slots slot) slot_small out_of
 
     pub put_sound : (new : List Links) → new ≡ linked_last cut max slot.0 → IsThreaded new max
-    put_sound new new_is = rw new_is (put_threaded cut max slot.0 (others list.slots slot) slot_small t.room out_of)
+    put_sound new new_is = rw new_is (put_threaded cut max slot.0 (others list.slots slot) slot_small out_of)
 
     pub put_seen : (new : List Links) → new ≡ linked_last cut max slot.0 → listing_of new max ≡ record list { slots = others list.slots slot ++ slot ∷ [] }
     put_seen new new_is =
-        let slots : slots_to new max max max ≡ others list.slots slot ++ slot ∷ [] = rw new_is (put_slots cut max slot.0 (others list.slots slot) slot_small t.room out_of) in
+        let slots : slots_to new max max max ≡ others list.slots slot ++ slot ∷ [] = rw new_is (put_slots cut max slot.0 (others list.slots slot) slot_small out_of) in
         rw (slots, list_max) refl
 
-    pub left_sound : (new : List Links) → new ≡ linked_last cut (max + 1) slot.0 → IsThreaded new max
-    left_sound new new_is = rw new_is (left_threaded cut max slot.0 (others list.slots slot) slot_small t.room out_of)
+    pub left_sound : (new : List Links) → new ≡ isolated cut slot.0 → IsThreaded new max
+    left_sound new new_is = rw new_is (left_threaded cut max slot.0 (others list.slots slot) slot_small out_of)
 
-    pub left_seen : (new : List Links) → new ≡ linked_last cut (max + 1) slot.0 → listing_of new max ≡ record list { slots = others list.slots slot }
+    pub left_seen : (new : List Links) → new ≡ isolated cut slot.0 → listing_of new max ≡ record list { slots = others list.slots slot }
     left_seen new new_is =
-        let slots : slots_to new max max max ≡ others list.slots slot = rw new_is (left_slots cut max slot.0 (others list.slots slot) slot_small t.room out_of) in
+        let slots : slots_to new max max max ≡ others list.slots slot = rw new_is (left_slots cut max slot.0 (others list.slots slot) slot_small out_of) in
         rw (slots, list_max) refl

@@ -29,7 +29,7 @@ abbrev lones : ℕ → List Links
 lones n = map lone (range_with_len 0 n)
 
 -- a node alone is a ring
-HasRing-lone : (n slots hub : ℕ) → slots ≤ hub → hub < n → HasRing (lones n) slots hub []
+pub HasRing-lone : (n slots hub : ℕ) → slots ≤ hub → hub < n → HasRing (lones n) slots hub []
 HasRing-lone n slots hub past inside =
     let is : link_at (lones n) hub ≡ lone hub = get_or-map-range_with_len lone 0 n hub hub (record { before = 0; after = 0 }) inside (omega arith) in
     let joins : Joins (lones n) hub hub = record { on = ap (λ (l : Links). l.after) is; back = ap (λ (l : Links). l.before) is } in

@@ -1,8 +1,8 @@
 -- An ordered list of slots, and how it is linked (this project's profile).
-use Rattle.std.specs.Prelude.{◌≡◌, ℕ, zero, suc, ◌+◌, ◌<◌, ◌^◌, ◌⊎◌, ◌==◌, not, Option, Some, None, List, [], ◌∷◌, length, filter, if◌then◌else◌}
+use Rattle.std.specs.Prelude.{ℕ, zero, suc, ◌<◌, ◌⊎◌, ◌==◌, not, Option, Some, None, List, [], ◌∷◌, filter, if◌then◌else◌}
 use Rattle.linked_table.specs.declared.ring.Links.{Links}
 use Rattle.linked_table.specs.declared.table.Slot.{Slot}
-use Rattle.linked_table.specs.Rings.{In, HasRing, link_at}
+use Rattle.linked_table.specs.Rings.{In, Joins, HasRing, link_at}
 use Rattle.linked_table.specs.Sound.{slot_of}
 
 -- The listed slots, in order, and the number below which each slot is.
@@ -25,17 +25,12 @@ slots_to links hub zero from = []
 slots_to links hub (suc most) from =
     if (link_at links from).after == hub then [] else slot_of (link_at links from).after ∷ slots_to links hub most (link_at links from).after
 
--- What contracts see of nodes for `max` slots, followed by two hubs: the slots of the first hub's ring.
+-- What contracts see of nodes for `max` slots, followed by their hub: the slots of the hub's ring.
 abbrev pub listing_of : List Links → (max : ℕ) → Listing
 listing_of links max = record { slots = slots_to links max max max; max = max }
 
--- Each slot is in exactly one of two rings, that of the listed slots and that of the others.
+-- Each slot is in the ring of the listed slots, or in a ring of its own.
 pub record IsThreaded (links : List Links) (max : ℕ) : Type 0 where
   pub listed : List ℕ
-  pub others : List ℕ
-  pub listed_ring : HasRing links max max listed
-  pub others_ring : HasRing links max (max + 1) others
-  pub either : (node : ℕ) → node < max → In node listed ⊎ In node others
-  pub apart : (node : ℕ) → In node listed → In node others → ⊥
-  pub total : length listed + length others ≡ max
-  pub room : max + 1 < 2 ^ 32
+  pub ring : HasRing links max max listed
+  pub others_alone : (node : ℕ) → node < max → In node listed ⊎ Joins links node node

@@ -50,6 +50,10 @@ abbrev pub unlinked : List Links → ℕ → List Links
 unlinked links node =
     with_before (with_after links (link_at links node).before (link_at links node).after) (link_at links node).after (link_at links node).before
 
+-- The links, with this node in a ring of its own.
+abbrev pub isolated : List Links → ℕ → List Links
+isolated links node = slice_set links node (lone node)
+
 -- The links, with this node as the last before the hub.
 abbrev pub linked_last : List Links → ℕ → ℕ → List Links
 linked_last links hub node =

@@ -3,7 +3,7 @@ ghost use Rattle.std.specs.Prelude.{◌≡◌, ◌<◌, [], ◌∷◌, ◌++◌,
 ghost use Rattle.linked_table.specs.Listing.{first_of, others};
 
 use crate::ring::Rings;
-use crate::table::{Slot, free_ring};
+use crate::table::Slot;
 use edge_io::NoMemory;
 use std::alloc::Global;
 use std::marker::Model;
@@ -11,7 +11,8 @@ use std::marker::Model;
 /// Some of the slots of a table, in order, none of them twice.
 #[derive(Drop)]
 pub struct SlotList {
-    // One node for each slot, and two hubs: the ring of the listed slots, then that of the others.
+    // One node for each slot, and the hub of the listed slots. A slot that is not listed is in a
+    // ring of its own: to unlink it changes nothing, so taking out has no branch.
     links: Rings,
     max: u32,
 }
@@ -27,12 +28,12 @@ impl Model for SlotList {
 }
 
 impl SlotList {
-    /// Creates an empty list, for slots below `max`. For a `max` of 2^32 - 2 or more it returns
-    /// `NoMemory`: the numbers of the nodes do not fit 32 bits.
+    /// Creates an empty list, for slots below `max`. For a `max` of 2^32 - 1 it returns `NoMemory`:
+    /// the number of nodes does not fit 32 bits.
     pub fn open(alloc: Global, max: u32) -> Result<SlotList, NoMemory>
         ensures { IfOk result (λ list. list ≡ record { slots = []; max = max }) }
     {
-        let links = free_ring(alloc, max)?;
+        let links = Rings::open(alloc, max as usize + 1)?;
         Ok(SlotList { links, max })
     }
 
@@ -68,6 +69,6 @@ impl SlotList {
         ensures { self.new ≡ record self.old { slots = others self.old.slots slot } }
     {
         self.links.unlink(slot.0);
-        self.links.link_last(self.max + 1, slot.0);
+        self.links.isolate(slot.0);
     }
 }

@@ -1,7 +1,7 @@
 //! Rings of nodes linked by index.
 ghost use Rattle.std.specs.Prelude.{◌≡◌, ◌<◌, ◌^◌, length, map, IfOk};
 ghost use Rattle.std.specs.List.{range_with_len};
-ghost use Rattle.linked_table.specs.Rings.{lone, link_at, unlinked, linked_last};
+ghost use Rattle.linked_table.specs.Rings.{lone, link_at, unlinked, isolated, linked_last};
 
 use edge_io::NoMemory;
 use std::alloc::Global;
@@ -82,6 +82,17 @@ impl Rings {
         let Links { before, after } = links[node as usize];
         links[before as usize].after = after;
         links[after as usize].before = before;
+    }
+
+    /// Puts a node that is in no other ring into a ring of its own.
+    pub(crate) fn isolate(&mut self, node: u32)
+        requires { node < length self.old }
+        ensures { self.new ≡ isolated self.old node }
+    {
+        self.links[node as usize] = Links {
+            before: node,
+            after: node,
+        };
     }
 
     /// Links a node that is in no ring as the last before this hub.

@@ -1,7 +1,10 @@
-use Rattle.std.proofs.Common.{ap, arith}
+use Rattle.std.proofs.Common.{ap, arith, sym}
 use Rattle.linked_table.specs.Listing.{Listing}
 use Rattle.linked_table.proofs.Listings.{first_seen}
 use Rattle.linked_table.proofs.list.SlotList.first.Goals as goal
+
+pub returns-clause-first : goal.returns-clause-first
+returns-clause-first c = sym ((first_seen _ _ c.self.invariant _ c.self.view_is _ c.after-node.ensures).some c.if-node-hub.false)
 
 pub returns-clause-below : goal.returns-clause-below
 returns-clause-below c =
