@@ -1,5 +1,5 @@
 -- What holds of an inbound segment of a live era.
-use Rattle.std.proofs.Common.{◌≡◌, ◌≢◌, ◌<◌, ◌≤◌, true, List, length, Option, sym, ap, subst, ◌∙◌}
+use Rattle.std.proofs.Common.{◌≡◌, ◌≢◌, ◌<◌, true, List, Option, sym, ap, subst, ◌∙◌}
 use Rattle.std.specs.List.{All, AllPairs}
 use Rattle.linked_table.specs.declared.table.Slot.{Slot}
 use Rattle.linked_table.specs.Table as table
@@ -22,7 +22,6 @@ use Rattle.tcp_norm.specs.Standing.{StandsFor}
 use Rattle.tcp_norm.specs.Views.{view_of}
 use Rattle.tcp_norm.specs.Outcomes.{outcome_at}
 use Rattle.tcp_norm.proofs.Outwards.{IsLive, view_live}
-use Rattle.tcp_norm.proofs.Nears.{near_at}
 use Rattle.tcp_norm.proofs.Slots.{AtSlot, at_slot}
 use Rattle.tcp_norm.proofs.Bares.{comes_bare}
 use Rattle.tcp_norm.proofs.Entering.{keyed}
@@ -31,13 +30,12 @@ use Rattle.tcp_norm.proofs.Marked.{flags_are}
 
 -- what is decided of the value in a slot is decided of a live era of the segment's connection
 pub decides_in : (a : Arrival) (old new : TcpNorm) (slot : Slot) (flow : Flow) (r : Ruling) (taking : Option Taking) (live : IsLiveIn old a slot) → table.Wherever old.table.entries slot (λ e. flow ≡ e.value)
-    → length old.table.entries ≤ old.table.max → All (λ e. e.slot.0 < old.table.max) old.table.entries → AllPairs (λ e f. e.slot ≢ f.slot) old.table.entries → AllPairs (λ e f. e.key ≢ f.key) old.table.entries
+    → All (λ e. e.slot.0 < old.table.max) old.table.entries → AllPairs (λ e f. e.slot ≢ f.slot) old.table.entries → AllPairs (λ e f. e.key ≢ f.key) old.table.entries
     → (IsFound old a (record { key = live.key; slot = slot; flow = flow }) → Decides a old new (record { key = live.key; slot = slot; flow = flow }) r taking) → DecidesIn a old new slot r taking
-decides_in a old new slot flow r taking live was bounded below slots keys decides =
+decides_in a old new slot flow r taking live was below slots keys decides =
     let here : Live = record { key = live.key; slot = slot; flow = flow } in
     let found : IsFound old a here = record {
-      held = record { inside = live.inside; entry = λ k x lt same. sym (was k x lt same); keyed = live.of_key; bounded = bounded; below = below; slots_apart = slots; keys_apart = keys };
-      near = near_at old.calls old.table.entries slot flow live.inside was old.near;
+      held = record { inside = live.inside; entry = λ k x lt same. sym (was k x lt same); keyed = live.of_key; below = below; slots_apart = slots; keys_apart = keys };
       keyed = live.keyed;
     } in
     record { key = live.key; flow = flow; found = found; decides = decides found }

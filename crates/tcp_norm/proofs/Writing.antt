@@ -1,5 +1,5 @@
 -- A call that writes in one live era and begins and ends none.
-use Rattle.std.proofs.Common.{◌≡◌, true, false, ℕ, ◌+◌, ◌*◌, ◌≤◌, cond, List, [], ◌∷◌, ◌++◌, length, map, take, is_some, sym, ap, ap₂, subst, ◌∙◌, arith}
+use Rattle.std.proofs.Common.{◌≡◌, true, false, ℕ, ◌+◌, ◌*◌, ◌≤◌, cond, List, [], ◌∷◌, ◌++◌, length, map, take, is_some, refl, sym, ap, ap₂, subst, ◌∙◌, arith}
 use Rattle.std.proofs.lemmas.List.{append-nil, length-take-le}
 use Rattle.std.specs.List.{count_by, range_with_len}
 use Rattle.wire_base.specs.Segments.{Written}
@@ -39,8 +39,10 @@ pub writes_one : (d : Datagram) (n : ℕ) (w : Written) (o : Outcome) → Does d
 writes_one d n w o does = record { written = does.written; era_is = does.era_is; begun_is = does.begun_is; ended_are = does.ended_are; packets_are = does.packets_are }
 
 -- as many octets are taken as the interval has
-pub taken_long : (t : Taking) (scratch : List ℕ) → length t.own.now ≡ t.size → t.size ≤ length scratch → length (taken t scratch) ≡ t.size
-taken_long t scratch own room = elim t.as_read as (λ b. length (cond b t.own.now (take t.size scratch)) ≡ t.size) [ true ↦ own | false ↦ length-take-le t.size scratch room ]
+pub taken_long : (t : Taking) (scratch : List ℕ) → length t.own.now ≤ length scratch → length (taken t scratch) ≡ length t.own.now
+taken_long t scratch room =
+    let size = length t.own.now in
+    elim t.as_read as (λ b. length (cond b t.own.now (take size scratch)) ≡ size) [ true ↦ refl | false ↦ length-take-le size scratch room ]
 
 -- the entry of the era has another value, its era these segments more, and its chain what is kept of them
 pub stands_written : (settings : PlainSettings) (old new : TcpNorm) (cs : List Call) (now : ℕ) (d : Datagram) (live : Live) (value : Flow) (ws : List Written) (o : Outcome)

@@ -50,7 +50,7 @@ use Rattle.rule_book.specs.declared.entry.Reason.TheVariants as reasons
 use Rattle.tcp_norm.specs.Steps.{Does}
 use Rattle.tcp_norm.specs.Calls.{Call, datagram, Outcome, key_at, key_of, segment_in, segments, written_by}
 use Rattle.tcp_norm.specs.Views.{View, view_of}
-use Rattle.tcp_norm.specs.Near.{IsNear, IsAtMost}
+use Rattle.tcp_norm.specs.Near.{IsAtMost}
 use Rattle.tcp_norm.specs.Emits.{packet_by, probe_packet, probe_packets, segment_anew}
 use Rattle.tcp_norm.specs.Anews.{anew_segment}
 use Rattle.tcp_norm.specs.Inwards.{passed}
@@ -127,7 +127,6 @@ pub record IsHeld (t : table.Table EraKey Flow) (live : Live) : Type 0 where
   pub inside : table.IsIn t.entries live.slot
   pub entry : table.Wherever t.entries live.slot (λ e. e.value ≡ live.flow)
   pub keyed : table.Wherever t.entries live.slot (λ e. e.key.0 ≡ live.key)
-  pub bounded : length t.entries ≤ t.max
   pub below : All (λ e. e.slot.0 < t.max) t.entries
   pub slots_apart : AllPairs (λ e f. e.slot ≢ f.slot) t.entries
   pub keys_apart : AllPairs (λ e f. e.key ≢ f.key) t.entries
@@ -197,10 +196,9 @@ pub record IsOutward (a : Arrival) : Type 0 where
   pub side : a.packet.now.side ≡ Outward
   pub fields : a.head.now ≡ fields_of (pseudo_sum a.packet.now.head.src.0 a.packet.now.head.dst.0 6 (length a.packet.now.payload.now)) a.packet.now.payload.now
 
--- the era is in the table, near the calls, and is that of the segment's connection
+-- the era is in the table, and is that of the segment's connection
 pub record IsFound (norm : TcpNorm) (a : Arrival) (live : Live) : Type 0 where
   pub held : IsHeld norm.table live
-  pub near : IsNear norm.calls live.flow.era
   pub keyed : IsKeyed a live.key
 
 -- the live era in this slot is that of the segment's connection
@@ -214,20 +212,17 @@ pub record IsLiveIn (norm : TcpNorm) (a : Arrival) (slot : Slot) : Type 0 where
 pub record IsLast (era : Era) (warm : Warm) : Type 0 where
   pub settled : (ws : List Written) → eraspec.StandsFor era ws → WarmFor warm ws
   pub acknowledged : (ws : List Written) → eraspec.StandsFor era ws → is_acknowledged (state_of ws) ≡ true
-  pub acked_is : warm.acked ≡ eraspec.acked_in era
-  pub octets_are : warm.octets ≡ eraspec.octets_in era
   pub gives : (i : Interval) → IsGiven warm i → eraspec.GivesTo era i
 
 -- the octets that an era takes: the segment's own, or those at the front of the scratch
 abbrev pub taken : Taking → (scratch : List ℕ) → List ℕ
-taken t scratch = if t.as_read then t.own.now else take t.size scratch
+taken t scratch = if t.as_read then t.own.now else take (length t.own.now) scratch
 
 -- the octets fit into the chain and the scratch; those that are rewritten are in the scratch
 pub record CanPlace (store : Store) (chain : ℕ) (t : Taking) (scratch : List ℕ) : Type 0 where
-  pub offsets : t.kept.lo + t.size ≤ 2 ^ 64 - 1
-  pub own_long : length t.own.now ≡ t.size
-  pub inside : t.size ≤ length scratch
-  pub room : missing (chain_of store chain) t.kept.lo t.size ≤ store.free
+  pub offsets : t.kept.lo + length t.own.now ≤ 2 ^ 64 - 1
+  pub inside : length t.own.now ≤ length scratch
+  pub room : missing (chain_of store chain) t.kept.lo (length t.own.now) ≤ store.free
 
 -- these octets are added to the chain at the offsets that had none; `count` is the number of these offsets
 pub record PlacesOctets (old new : Store) (chain from : ℕ) (octets : List ℕ) (count : ℕ) : Type 0 where
@@ -242,11 +237,10 @@ pub record PlacesOctets (old new : Store) (chain from : ℕ) (octets : List ℕ)
 -- the era in this slot can take the octets, with this quota
 pub record CanTake (entries : List (table.Entry EraKey Flow)) (store : Store) (most : Option ℕ) (slot : Slot) (t : Taking) : Type 0 where
   pub given : table.Wherever entries slot (λ e. eraspec.GivesTo e.value.era t.kept)
-  pub long : t.kept.lo + t.size ≡ t.kept.hi
-  pub own_long : length t.own.now ≡ t.size
-  pub fits : t.size ≤ MAX_PAYLOAD
-  pub room : missing (chain_of store slot.0) t.kept.lo t.size ≤ store.free
-  pub quota : IsAtMost most (length (chain_of store slot.0) + missing (chain_of store slot.0) t.kept.lo t.size)
+  pub long : t.kept.lo + length t.own.now ≡ t.kept.hi
+  pub fits : length t.own.now ≤ MAX_PAYLOAD
+  pub room : missing (chain_of store slot.0) t.kept.lo (length t.own.now) ≤ store.free
+  pub quota : IsAtMost most (length (chain_of store slot.0) + missing (chain_of store slot.0) t.kept.lo (length t.own.now))
 
 -- the outcome writes these octets in the era, after the segments before
 pub record Brings (calls : List Call) (scratch : List ℕ) (d : Datagram) (live : Live) (t : Taking) (o : Outcome) : Type 0 where

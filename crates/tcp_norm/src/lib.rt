@@ -20,7 +20,6 @@
 //! the quota.
 #![tactic(auto)]
 
-mod apply;
 mod arrival;
 mod begin;
 mod decide;
@@ -38,5 +37,6 @@ mod ruling;
 mod spare;
 mod state;
 mod step;
+mod update;
 
 pub use state::TcpNorm;

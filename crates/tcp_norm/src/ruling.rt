@@ -72,7 +72,6 @@ impl Ruling {
 #[derive(Clone, Copy)]
 pub(crate) struct Taking<'a> {
     pub(crate) kept: Interval,
-    pub(crate) size: usize,
     pub(crate) own: &'a [u8],
     pub(crate) as_read: bool,
 }

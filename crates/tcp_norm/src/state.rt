@@ -56,7 +56,7 @@ impl TcpNorm {
     ghost use Rattle.ip_rules.specs.Datagrams.{Datagram};
     ghost use Rattle.tcp_norm.specs.Calls.{Call, eras, live, Outcome};
     ghost use Rattle.tcp_norm.specs.Held.{held_all, held_in};
-    ghost use Rattle.tcp_norm.specs.Near.{IsAtMost, IsNear};
+    ghost use Rattle.tcp_norm.specs.Near.{IsAtMost};
     ghost use Rattle.tcp_norm.specs.Rows.{dropped_by};
     ghost use Rattle.tcp_norm.specs.Views.{view_of};
     ghost use Rattle.tcp_norm.specs.Standing.{IsReady, StandsFor};
@@ -147,7 +147,6 @@ impl TcpNorm {
         requires { IsIn self.now.table.entries slot }
         ensures held { (key : FlowKey) → Wherever self.now.table.entries slot (λ e. e.key.0 ≡ key) → IsHeld self.now.table (record { key = key; slot = slot; flow = result.now }) }
         ensures value { Wherever self.now.table.entries slot (λ e. e.value ≡ result.now) }
-        ensures near { IsNear self.now.calls result.now.era }
     {
         self.entries_are_apart();
         self.table.at(slot)

@@ -85,12 +85,7 @@ impl TcpNorm {
             size: own.len(),
             probe: None,
         });
-        Some(Taking {
-            kept,
-            size: own.len(),
-            own,
-            as_read,
-        })
+        Some(Taking { kept, own, as_read })
     }
 }
 

@@ -144,7 +144,6 @@ returns-clause-takes c =
     record {
       given = λ k x below here. subst (λ (f : Flow). GivesTo f.era kept) (c.at-flow.ensures k x below here) given;
       long = omega (arith, long, c.interval-kept.ensures.order);
-      own_long = refl;
       fits = omega (arith, a.short, a.read.inside, c.interval-kept.ensures.short, long, c.seg_of-seg.ensures.len, payload_long a.packet.now.payload.now a.head.now a.read.fields);
       room = subst (λ n. missing (chain_of store slot.0) kept.lo n ≤ store.free) (sym long) c.in_default-refusal.ensures.free;
       quota = subst (λ n. IsAtMost c.args.self.now.quota (length (chain_of store slot.0) + missing (chain_of store slot.0) kept.lo n)) (sym long) c.in_default-refusal.ensures.within;
@@ -154,7 +153,7 @@ pub returns-in_default-clause-decides : goal.returns-in_default-clause-decides
 returns-in_default-clause-decides c =
     let apart = c.entries_are_apart.ensures in
     let key = c.requires.live.key in
-    decides_in c.args.arrival.now c.args.self.now _ c.args.slot c.at-flow.result.now _ _ c.requires.live c.at-flow.ensures apart.bounded apart.slots_below apart.slots_apart apart.keys_apart (λ found settings calls d st is.
+    decides_in c.args.arrival.now c.args.self.now _ c.args.slot c.at-flow.result.now _ _ c.requires.live c.at-flow.ensures apart.slots_below apart.slots_apart apart.keys_apart (λ found settings calls d st is.
     let refused = c.refuse_early.ensures.decides c.args.self.now key c.args.slot found settings calls d st is in
     record { rules = refused.rules; needs = refused.needs })
 
@@ -162,7 +161,7 @@ pub returns-in-Some-refusal-clause-decides : goal.returns-in-Some-refusal-clause
 returns-in-Some-refusal-clause-decides c =
     let apart = c.entries_are_apart.ensures in
     let key = c.requires.live.key in
-    decides_in c.args.arrival.now c.args.self.now _ c.args.slot c.at-flow.result.now _ _ c.requires.live c.at-flow.ensures apart.bounded apart.slots_below apart.slots_apart apart.keys_apart (λ found settings calls d st is.
+    decides_in c.args.arrival.now c.args.self.now _ c.args.slot c.at-flow.result.now _ _ c.requires.live c.at-flow.ensures apart.slots_below apart.slots_apart apart.keys_apart (λ found settings calls d st is.
     let here : Live = record { key = key; slot = c.args.slot; flow = c.at-flow.result.now } in
     let last = c.in-Some.ensures.some in
     let a = c.args.arrival.now in
@@ -212,7 +211,7 @@ pub returns-clause-decides : goal.returns-clause-decides
 returns-clause-decides c =
     let apart = c.entries_are_apart.ensures in
     let key = c.requires.live.key in
-    decides_in c.args.arrival.now c.args.self.now _ c.args.slot c.at-flow.result.now _ _ c.requires.live c.at-flow.ensures apart.bounded apart.slots_below apart.slots_apart apart.keys_apart (λ found settings calls d st is.
+    decides_in c.args.arrival.now c.args.self.now _ c.args.slot c.at-flow.result.now _ _ c.requires.live c.at-flow.ensures apart.slots_below apart.slots_apart apart.keys_apart (λ found settings calls d st is.
     let here : Live = record { key = key; slot = c.args.slot; flow = c.at-flow.result.now } in
     let last = c.in-Some.ensures.some in
     let a = c.args.arrival.now in

@@ -35,7 +35,7 @@ returns-in-Refuse-clause-judges c settings calls d st is =
     let key = c.requires.live.key in
     let here : Live = record { key = key; slot = c.args.slot; flow = c.flow_at-flow.result.now } in
     let flow = c.flow_at-flow.ensures in
-    let found : IsFound c.args.self.now c.args.arrival.now here = record { held = flow.held key c.requires.live.of_key; near = flow.near; keyed = c.requires.live.keyed } in
+    let found : IsFound c.args.self.now c.args.arrival.now here = record { held = flow.held key c.requires.live.of_key; keyed = c.requires.live.keyed } in
     let n = here.flow.number in
     let seg = c.bare_seg-seg.result in
     let l = of_live settings calls d a c.args.self.now here st is found in
@@ -60,7 +60,7 @@ returns-in-Pass-clause-judges c settings calls d st is =
     let key = c.requires.live.key in
     let here : Live = record { key = key; slot = c.args.slot; flow = c.flow_at-flow.result.now } in
     let flow = c.flow_at-flow.ensures in
-    let found : IsFound c.args.self.now c.args.arrival.now here = record { held = flow.held key c.requires.live.of_key; near = flow.near; keyed = c.requires.live.keyed } in
+    let found : IsFound c.args.self.now c.args.arrival.now here = record { held = flow.held key c.requires.live.of_key; keyed = c.requires.live.keyed } in
     let n = here.flow.number in
     let seg = c.bare_seg-seg.result in
     let l = of_live settings calls d a c.args.self.now here st is found in

@@ -24,7 +24,7 @@ returns-in-Some-clause-judges c settings calls d st is =
     let key = c.requires.live.key in
     let here : Live = record { key = key; slot = c.args.slot; flow = c.flow_at-flow.result.now } in
     let flow = c.flow_at-flow.ensures in
-    let found : IsFound c.args.self.now c.args.arrival.now here = record { held = flow.held key c.requires.live.of_key; near = flow.near; keyed = c.requires.live.keyed } in
+    let found : IsFound c.args.self.now c.args.arrival.now here = record { held = flow.held key c.requires.live.of_key; keyed = c.requires.live.keyed } in
     let a = c.args.arrival.now in
     let n = here.flow.number in
     let l = of_live settings calls d a c.args.self.now here st is found in
@@ -46,7 +46,7 @@ returns-then-again-clause-judges c settings calls d st is =
     let key = c.requires.live.key in
     let here : Live = record { key = key; slot = c.args.slot; flow = c.flow_at-flow.result.now } in
     let flow = c.flow_at-flow.ensures in
-    let found : IsFound c.args.self.now c.args.arrival.now here = record { held = flow.held key c.requires.live.of_key; near = flow.near; keyed = c.requires.live.keyed } in
+    let found : IsFound c.args.self.now c.args.arrival.now here = record { held = flow.held key c.requires.live.of_key; keyed = c.requires.live.keyed } in
     let n = here.flow.number in
     let seg = c.bare_seg-seg.result in
     let o = of_syn c.segments_are_read_back.ensures settings calls d c.args.arrival.now c.args.self.now here seg c.options_change-changed.result c.is_reopen-again.result c.rows_beside-rows.result.items c.step_of-step.result st is found
@@ -68,7 +68,7 @@ returns-clause-judges c settings calls d st is =
     let key = c.requires.live.key in
     let here : Live = record { key = key; slot = c.args.slot; flow = c.flow_at-flow.result.now } in
     let flow = c.flow_at-flow.ensures in
-    let found : IsFound c.args.self.now c.args.arrival.now here = record { held = flow.held key c.requires.live.of_key; near = flow.near; keyed = c.requires.live.keyed } in
+    let found : IsFound c.args.self.now c.args.arrival.now here = record { held = flow.held key c.requires.live.of_key; keyed = c.requires.live.keyed } in
     let n = here.flow.number in
     let seg = c.bare_seg-seg.result in
     let o = of_syn c.segments_are_read_back.ensures settings calls d c.args.arrival.now c.args.self.now here seg c.options_change-changed.result c.is_reopen-again.result c.rows_beside-rows.result.items c.step_of-step.result st is found

@@ -1,4 +1,4 @@
-use Rattle.std.proofs.Common.{◌∙◌, ◌+◌, ◌*◌, ◌^◌, ◌≤◌, [], ◌++◌, ◌∷◌, sym, ap, subst, refl, arith}
+use Rattle.std.proofs.Common.{◌∙◌, ◌+◌, ◌*◌, ◌^◌, ◌≤◌, [], ◌++◌, ◌∷◌, length, sym, ap, subst, refl, arith}
 use Rattle.era_state.specs.Eras.{acked_in, octets_in}
 use Rattle.linked_table.specs.Table as table
 use Rattle.retain_store.specs.Maps.{Store, chain_of, fresh, missing}
@@ -30,8 +30,8 @@ returns c settings calls d key flow o st held' b' =
     let ws = segments live.flow.number calls in
     let w = segment_in d in
     let at = at_slot (eras calls) (λ m. segments m calls) _ _ store live.slot live.flow st.holds held.inside held.slots_apart held.keys_apart held.entry in
-    let long = taken_long t c.deref.result.now c.requires.can.own_long (omega (arith, c.deref.ensures.len, c.args.self.now.room, c.requires.can.fits)) in
-    let places = fresh_is c.intervals_fit.ensures ws w t.kept _ t.size _ b.kept_is at.octets c.requires.can.long (placed.fresh ∙ ap (fresh (chain_of store live.slot.0) t.kept.lo) long) in
+    let long = taken_long t c.deref.result.now (omega (arith, c.deref.ensures.len, c.args.self.now.room, c.requires.can.fits)) in
+    let places = fresh_is c.intervals_fit.ensures ws w t.kept _ (length t.own.now) _ b.kept_is at.octets c.requires.can.long (placed.fresh ∙ ap (fresh (chain_of store live.slot.0) t.kept.lo) long) in
     let next = took.stands ws w b.frame at.era b.kept_is b.framed places in
     let keeps = keeps_with c.first_stays.ensures c.frame_octets.ensures c.intervals_fit.ensures c.place_taken-fresh.result took.value.was took.value.is ws w b.frame t.kept
     (chain_of store live.slot.0) (chain_of c.place_taken-fresh.new.store live.slot.0) _ (last_stands live.flow.era took.value.was ws took.value.was_last at.era) (last_stands took.era took.value.is (ws ++ b.frame ∷ []) took.value.is_last next) took.value.with b.kept_is b.framed (b.octets_are ∙ ap (taken t) (sym c.deref.ensures.value)) at.octets placed.places in
@@ -49,14 +49,14 @@ take_in-requires-clause-few c k x below here = omega (
   (c.args.self.now.near k x below).1,
   c.requires.ready.few,
   c.place_taken-fresh.ensures.most,
-  taken_long c.args.taking.now c.deref.result.now c.requires.can.own_long (omega (arith, c.deref.ensures.len, c.args.self.now.room, c.requires.can.fits)),
+  taken_long c.args.taking.now c.deref.result.now (omega (arith, c.deref.ensures.len, c.args.self.now.room, c.requires.can.fits)),
   c.requires.can.fits,
 )
 
 pub invariant_of-self-clause-near : goal.invariant_of-self-clause-near
 invariant_of-self-clause-near c =
     let self = c.args.self.now in
-    let long = taken_long c.args.taking.now c.deref.result.now c.requires.can.own_long (omega (arith, c.deref.ensures.len, self.room, c.requires.can.fits)) in
+    let long = taken_long c.args.taking.now c.deref.result.now (omega (arith, c.deref.ensures.len, self.room, c.requires.can.fits)) in
     let took = c.take_in.ensures in
     let near = near_at self.calls self.table.entries c.args.slot took.flow c.requires.inside took.was self.near in
     let acked : acked_in took.era ≤ (self.calls + 1) * 2 ^ 31 = omega (arith, took.same, near.0) in
@@ -71,7 +71,7 @@ invariant_of-self-clause-bounded c =
     stays_bounded self.quota self.store c.place_taken-fresh.new.store slot self.bounded c.place_taken-fresh.ensures.changed
     (λ most is.
     let le = c.requires.can.quota most is in
-    let long = taken_long c.args.taking.now c.deref.result.now c.requires.can.own_long (omega (arith, c.deref.ensures.len, self.room, c.requires.can.fits)) in
+    let long = taken_long c.args.taking.now c.deref.result.now (omega (arith, c.deref.ensures.len, self.room, c.requires.can.fits)) in
     let more = ap (missing (chain_of self.store slot) c.args.taking.now.kept.lo) long in
     omega (arith, le, more, c.place_taken-fresh.ensures.free, c.place_taken-fresh.ensures.changed.cells))
 

@@ -1,5 +1,5 @@
 use Rattle.tcp_norm.proofs.Steps.{in_valued}
-use Rattle.tcp_norm.proofs.apply.send_in.Goals as goal
+use Rattle.tcp_norm.proofs.update.send_in.Goals as goal
 
 pub touch-requires : goal.touch-requires
 touch-requires c = in_valued c.args.table.now.entries c.args.slot _ c.requires.inside

@@ -139,7 +139,7 @@ fn place_taken(store: &mut Retain, chain: ChainId, taking: &Taking<'_>, scratch:
     if taking.as_read {
         store.place_counting(chain, taking.kept.lo, taking.own)
     } else {
-        store.place_counting(chain, taking.kept.lo, &scratch[..taking.size])
+        store.place_counting(chain, taking.kept.lo, &scratch[..taking.own.len()])
     }
 }
 

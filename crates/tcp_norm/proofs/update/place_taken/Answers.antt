@@ -1,12 +1,12 @@
-use Rattle.std.proofs.Common.{take, cond, sym, subst}
+use Rattle.std.proofs.Common.{length, take, cond, sym, subst}
 use Rattle.tcp_norm.specs.Rulings.{PlacesOctets}
-use Rattle.tcp_norm.proofs.apply.place_taken.Goals as goal
+use Rattle.tcp_norm.proofs.update.place_taken.Goals as goal
 
 pub returns-then-taking : goal.returns-then-taking
 returns-then-taking c =
     let t = c.args.taking.now in
     let e = c.place_counting.ensures in
-    subst (λ b. PlacesOctets c.args.store.now c.place_counting.new.self c.args.chain.0 t.kept.lo (cond b t.own.now (take t.size c.args.scratch.now)) c.place_counting.result) (sym c.if-taking.true)
+    subst (λ b. PlacesOctets c.args.store.now c.place_counting.new.self c.args.chain.0 t.kept.lo (cond b t.own.now (take (length t.own.now) c.args.scratch.now)) c.place_counting.result) (sym c.if-taking.true)
     (record { places = e.octets; fresh = e.fresh; most = e.most; free = e.free; changed = e.changed; map = e.map; held = e.held })
 
 pub returns-else-taking : goal.returns-else-taking
@@ -14,5 +14,5 @@ returns-else-taking c =
     let t = c.args.taking.now in
     let p = c.place_counting-else-taking in
     let e = p.ensures in
-    subst (λ b. PlacesOctets c.args.store.now p.new.self c.args.chain.0 t.kept.lo (cond b t.own.now (take t.size c.args.scratch.now)) p.result) (sym c.if-taking.false)
+    subst (λ b. PlacesOctets c.args.store.now p.new.self c.args.chain.0 t.kept.lo (cond b t.own.now (take (length t.own.now) c.args.scratch.now)) p.result) (sym c.if-taking.false)
     (record { places = e.octets; fresh = e.fresh; most = e.most; free = e.free; changed = e.changed; map = e.map; held = e.held })

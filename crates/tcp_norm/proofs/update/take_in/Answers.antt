@@ -3,7 +3,7 @@ use Rattle.era_state.specs.Eras.{GivesTo, octets_in}
 use Rattle.tcp_norm.specs.declared.flow.Flow.{Flow}
 use Rattle.tcp_norm.proofs.Slots.{value_in}
 use Rattle.tcp_norm.proofs.Steps.{in_valued}
-use Rattle.tcp_norm.proofs.apply.take_in.Goals as goal
+use Rattle.tcp_norm.proofs.update.take_in.Goals as goal
 
 pub forward-requires-clause-given : goal.forward-requires-clause-given
 forward-requires-clause-given c =
