@@ -1,5 +1,6 @@
 pub mod Members
 pub mod Rings
+pub mod Nodes
 pub mod Writes
 pub mod Hubs
 pub mod Lists

@@ -1,5 +1,5 @@
 -- The walk along the ring of one bucket.
-use Rattle.std.proofs.Common.{◌≡◌, ◌≢◌, ℕ, ◌+◌, ◌-◌, ◌<◌, ◌≤◌, Bool, true, false, inl, inr, Option, Some, None, List, [], ◌∷◌, length, get_or, refl, sym, ap, subst, ◌∙◌, arith}
+use Rattle.std.proofs.Common.{◌≡◌, ◌≢◌, ℕ, ◌+◌, ◌-◌, ◌<◌, ◌≤◌, Bool, true, false, inl, inr, Option, Some, None, List, [], ◌∷◌, ◌++◌, length, get_or, refl, sym, ap, subst, ◌∙◌, arith}
 use Rattle.std.specs.Cmp.{IsEquivalence}
 use Rattle.std.specs.List.{All}
 use Rattle.std.proofs.lemmas.List.{get_or_default}
@@ -8,6 +8,7 @@ use Rattle.std.proofs.lemmas.List.Sums.{sum_by-set}
 use Rattle.linked_table.specs.declared.ring.Links.{Links}
 use Rattle.linked_table.specs.declared.table.Slot.{Slot}
 use Rattle.linked_table.specs.Rings.{link_at, In, IsRing}
+use Rattle.linked_table.specs.Nodes.{Columns}
 use Rattle.linked_table.specs.Sound.{bucket_number, slot_of, pair_at, bucket_at, table_of, IsSound}
 use Rattle.linked_table.specs.Table.{Table, Entry, IsIn, HasNone, Wherever}
 use Rattle.linked_table.proofs.Entries.{all_entries, each_entry}
@@ -90,33 +91,33 @@ module _ {K V : Type 0} (pairs : List (Option (K × V))) (chains : List Links) (
       go [] few = refl
       go (x ∷ xs) few = absurd (omega (arith, few, out))
 
-module _ {K V : Type 0} (hash : K → ℕ) (pairs : List (Option (K × V))) (recency chains : List Links) (len : ℕ) (sound : IsSound hash pairs recency chains len) (table : Table K V) (is : table_of pairs recency len ≡ table) (key : K) where
+module _ {K V : Type 0} (hash : K → ℕ) (max : ℕ) (nodes : Columns K V) (hubs : List Links) (len : ℕ) (sound : IsSound hash max nodes hubs len) (table : Table K V) (is : table_of max nodes len ≡ table) (key : K) where
   in_range : bucket_number (hash key) (length sound.buckets) < length sound.buckets
   in_range = bucket_below (hash key) (length sound.buckets) sound.some_bucket
 
   -- the walk begins after the hub of the key's bucket
-  pub begins : (hub : ℕ) → hub ≡ length pairs + bucket_number (hash key) (length sound.buckets) → (node : ℕ) → node ≡ (link_at chains hub).after → IsSearch pairs chains hub key node len
+  pub begins : (hub : ℕ) → hub ≡ max + 2 + bucket_number (hash key) (length sound.buckets) → (node : ℕ) → node ≡ (link_at (nodes.chains ++ hubs) hub).after → IsSearch nodes.pairs (nodes.chains ++ hubs) hub key node len
   begins hub hub_is node node_is =
       let b = bucket_number (hash key) (length sound.buckets) in
       let has = sound.bucket_rings b in_range in
       rw hub_is (record {
         rest = bucket_at sound.buckets b;
-        from = length pairs + b;
+        from = max + 2 + b;
         ring = has.ring;
-        at = node_is ∙ ap (λ k. (link_at chains k).after) hub_is;
+        at = node_is ∙ ap (λ k. (link_at (nodes.chains ++ hubs) k).after) hub_is;
         few = omega (arith, sum_by-set length sound.buckets b [] [] in_range, sound.bucket_total);
-        inside = has.inside;
-        past = has.past;
+        inside = λ i h. omega (arith, has.inside i h, sound.pair_nodes);
+        past = omega (arith, sound.pair_nodes);
         hub_in = has.hub_in;
         held = λ i h none. (let hashed = sound.bucket_hashed b i h in let f : ◌≡◌ {A = Option (K × V)} (Some (hashed.key, hashed.value)) None = sym hashed.pair ∙ none in cc);
         found = λ i value pair. (sound.kept i key value pair).bucket_in;
       })
 
   -- no slot is left, so no entry has the key
-  pub none_has : (hub node left : ℕ) → (search_at : IsSearch pairs chains hub key node left) → search_at.rest ≡ [] → HasNone table.entries key
+  pub none_has : (hub node left : ℕ) → (search_at : IsSearch nodes.pairs (nodes.chains ++ hubs) hub key node left) → search_at.rest ≡ [] → HasNone table.entries key
   none_has hub node left search_at rest_is =
-      rw (entries_are hash pairs recency chains len sound table is) (All-from_recursion (λ (e : Entry K V). e.key ≢ key) _ (all_entries pairs (λ e. e.key ≢ key) sound.used (λ i other value within pair same.
-      let there : pair_at pairs i ≡ Some (key, value) = pair ∙ ap (λ k. Some (k, value)) same in
+      rw (entries_are hash max nodes hubs len sound table is) (All-from_recursion (λ (e : Entry K V). e.key ≢ key) _ (all_entries nodes.pairs (λ e. e.key ≢ key) sound.used (λ i other value within pair same.
+      let there : pair_at nodes.pairs i ≡ Some (key, value) = pair ∙ ap (λ k. Some (k, value)) same in
       let left : In i [] = subst (λ l. In i l) rest_is (search_at.found i value there) in
       left)))
 
@@ -130,17 +131,17 @@ module _ {K V : Type 0} (hash : K → ℕ) (pairs : List (Option (K × V))) (rec
     pub whichever : All (λ e. e.key ≡ key → Some (slot_of node) ≡ Some e.slot) table.entries
     pub some : HasNone table.entries key → ⊥
 
-  pub has_key : (node : ℕ) (own : K) (value : V) → pair_at pairs node ≡ Some (own, value) → own ≡ key → HasKey node
+  pub has_key : (node : ℕ) (own : K) (value : V) → pair_at nodes.pairs node ≡ Some (own, value) → own ≡ key → HasKey node
   has_key node own value pair own_is =
-      let here : pair_at pairs node ≡ Some (key, value) = pair ∙ ap (λ k. Some (k, value)) own_is in
+      let here : pair_at nodes.pairs node ≡ Some (key, value) = pair ∙ ap (λ k. Some (k, value)) own_is in
       let within = (sound.kept node key value here).used_in in
       record {
-        listed = is_in hash pairs recency chains len sound table is node within;
-        same = wherever hash pairs recency chains len sound table is (λ e. e.key ≡ key) (slot_of node) own value pair own_is;
-        whichever = rw (entries_are hash pairs recency chains len sound table is) (All-from_recursion (λ (e : Entry K V). e.key ≡ key → Some (slot_of node) ≡ Some e.slot) _ (all_entries pairs (λ e. e.key ≡ key → Some (slot_of node) ≡ Some e.slot) sound.used (λ i other rest h there other_is.
-            let there_key : pair_at pairs i ≡ Some (key, rest) = there ∙ ap (λ k. Some (k, rest)) other_is in
+        listed = is_in hash max nodes hubs len sound table is node within;
+        same = wherever hash max nodes hubs len sound table is (λ e. e.key ≡ key) (slot_of node) own value pair own_is;
+        whichever = rw (entries_are hash max nodes hubs len sound table is) (All-from_recursion (λ (e : Entry K V). e.key ≡ key → Some (slot_of node) ≡ Some e.slot) _ (all_entries nodes.pairs (λ e. e.key ≡ key → Some (slot_of node) ≡ Some e.slot) sound.used (λ i other rest h there other_is.
+            let there_key : pair_at nodes.pairs i ≡ Some (key, rest) = there ∙ ap (λ k. Some (k, rest)) other_is in
             ap (λ k. Some (slot_of k)) (sound.keys_apart node i key value rest here there_key))));
-        some = λ none. each_entry pairs (λ e. e.key ≢ key) sound.used (rw (← entries_are hash pairs recency chains len sound table is) (recursion_from_All (λ (e : Entry K V). e.key ≢ key) table.entries none)) node own value within pair own_is;
+        some = λ none. each_entry nodes.pairs (λ e. e.key ≢ key) sound.used (rw (← entries_are hash max nodes hubs len sound table is) (recursion_from_All (λ (e : Entry K V). e.key ≢ key) table.entries none)) node own value within pair own_is;
       }
 
 -- a key compares equal to itself

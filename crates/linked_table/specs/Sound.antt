@@ -1,9 +1,10 @@
 -- How a table's entries are linked through its slots (this project's profile).
-use Rattle.std.specs.Prelude.{◌≡◌, ◌≢◌, ℕ, ◌+◌, ◌*◌, ◌/◌, ◌%◌, ◌<◌, ◌^◌, Option, Some, None, List, [], ◌∷◌, length, slice_index_or}
+use Rattle.std.specs.Prelude.{◌≡◌, ◌≢◌, ℕ, ◌+◌, ◌*◌, ◌/◌, ◌%◌, ◌<◌, ◌^◌, Option, Some, None, List, [], ◌∷◌, ◌++◌, length, map, replicate, slice_index_or}
 use Rattle.std.specs.List.{sum_by, range_with_len}
 use Rattle.linked_table.specs.declared.ring.Links.{Links}
 use Rattle.linked_table.specs.declared.table.Slot.{Slot}
-use Rattle.linked_table.specs.Rings.{In, HasRing, walk}
+use Rattle.linked_table.specs.Rings.{lone, In, HasRing, walk}
+use Rattle.linked_table.specs.Nodes.{Columns}
 use Rattle.linked_table.specs.Table.{Entry, Table}
 
 -- The slot of a node.
@@ -18,11 +19,12 @@ bucket_number hash buckets = hash % 2 ^ 32 * (hash / 2 ^ 32) % 2 ^ 32 * buckets 
 abbrev pub bucket_at : List (List ℕ) → ℕ → List ℕ
 bucket_at buckets b = slice_index_or buckets b []
 
--- The nodes of a new table: all slots are free. The numbers of the nodes fit 32 bits.
-pub record IsAllFree (links : List Links) (max : ℕ) : Type 0 where
-  pub none_used : HasRing links max max []
-  pub all_free : HasRing links max (max + 1) (range_with_len 0 max)
-  pub room : max + 1 < 2 ^ 32
+-- The nodes of a new table: all slots are free.
+pub record IsAllFree {K V : Type 0} (max : ℕ) (nodes : Columns K V) : Type 0 where
+  pub none_used : HasRing nodes.recency max max []
+  pub all_free : HasRing nodes.recency max (max + 1) (range_with_len 0 max)
+  pub no_pairs : nodes.pairs ≡ replicate (max + 2) None
+  pub chains : nodes.chains ≡ map lone (range_with_len 0 (max + 2))
 
 -- The slot is in the list by recency and in the bucket of this key.
 pub record IsKept {K : Type 0} (hash : K → ℕ) (used : List ℕ) (buckets : List (List ℕ)) (node : ℕ) (key : K) : Type 0 where
@@ -44,10 +46,9 @@ module _ {K V : Type 0} where
   entries_of pairs [] = []
   entries_of pairs (node ∷ nodes) = cons_entry node (pair_at pairs node) (entries_of pairs nodes)
 
-  -- A table as contracts see it: the entries in the ring by recency.
-  abbrev pub table_of : List (Option (K × V)) → List Links → ℕ → Table K V
-  table_of pairs recency len =
-      record { entries = entries_of pairs (walk recency len (length pairs)); max = length pairs }
+  -- A table as contracts see it: the entries in the ring by recency, whose hub follows the slots.
+  abbrev pub table_of : (max : ℕ) → Columns K V → (len : ℕ) → Table K V
+  table_of max nodes len = record { entries = entries_of nodes.pairs (walk nodes.recency len max); max = max }
 
   -- The slot has a pair, whose key belongs to this bucket.
   pub record IsHashed (hash : K → ℕ) (pairs : List (Option (K × V))) (buckets : List (List ℕ)) (node bucket : ℕ) : Type 0 where
@@ -56,23 +57,26 @@ module _ {K V : Type 0} where
     pub pair : pair_at pairs node ≡ Some (key, value)
     pub bucket_is : bucket_number (hash key) (length buckets) ≡ bucket
 
-  -- The slots with a pair are those in the list by recency, each is in the bucket of its key, and no key occurs twice.
-  pub record IsSound (hash : K → ℕ) (pairs : List (Option (K × V))) (recency chains : List Links) (len : ℕ) : Type 0 where
+  -- The slots with a pair are those in the list by recency, each is in the bucket of its key, and no key occurs twice. Two hubs follow the slots, and then
+  -- those of the buckets.
+  pub record IsSound (hash : K → ℕ) (max : ℕ) (nodes : Columns K V) (hubs : List Links) (len : ℕ) : Type 0 where
     -- The slots of the entries, least recently touched first, the free slots, and the slots of each bucket.
     pub used : List ℕ
     pub free : List ℕ
     pub buckets : List (List ℕ)
-    pub used_ring : HasRing recency (length pairs) (length pairs) used
-    pub free_ring : HasRing recency (length pairs) (length pairs + 1) free
-    pub bucket_rings : (b : ℕ) → b < length buckets → HasRing chains (length pairs) (length pairs + b) (bucket_at buckets b)
-    pub chain_nodes : length chains ≡ length pairs + length buckets
+    pub used_ring : HasRing nodes.recency max max used
+    pub free_ring : HasRing nodes.recency max (max + 1) free
+    pub bucket_rings : (b : ℕ) → b < length buckets → HasRing (nodes.chains ++ hubs) max (max + 2 + b) (bucket_at buckets b)
+    pub pair_nodes : length nodes.pairs ≡ max + 2
+    pub chain_nodes : length nodes.chains ≡ max + 2
+    pub hub_count : length hubs ≡ length buckets
     pub some_bucket : 0 < length buckets
-    pub room : length pairs + length buckets < 2 ^ 32
+    pub room : max + 2 + length buckets < 2 ^ 32
     pub used_count : length used ≡ len
-    pub total : len + length free ≡ length pairs
+    pub total : len + length free ≡ max
     pub bucket_total : sum_by length buckets ≡ len
-    pub used_filled : (node : ℕ) → In node used → pair_at pairs node ≢ None
-    pub free_empty : (node : ℕ) → In node free → pair_at pairs node ≡ None
-    pub bucket_hashed : (b node : ℕ) → In node (bucket_at buckets b) → IsHashed hash pairs buckets node b
-    pub kept : (node : ℕ) (key : K) (value : V) → pair_at pairs node ≡ Some (key, value) → IsKept hash used buckets node key
-    pub keys_apart : (node other : ℕ) (key : K) (value rest : V) → pair_at pairs node ≡ Some (key, value) → pair_at pairs other ≡ Some (key, rest) → node ≡ other
+    pub used_filled : (node : ℕ) → In node used → pair_at nodes.pairs node ≢ None
+    pub free_empty : (node : ℕ) → In node free → pair_at nodes.pairs node ≡ None
+    pub bucket_hashed : (b node : ℕ) → In node (bucket_at buckets b) → IsHashed hash nodes.pairs buckets node b
+    pub kept : (node : ℕ) (key : K) (value : V) → pair_at nodes.pairs node ≡ Some (key, value) → IsKept hash used buckets node key
+    pub keys_apart : (node other : ℕ) (key : K) (value rest : V) → pair_at nodes.pairs node ≡ Some (key, value) → pair_at nodes.pairs other ≡ Some (key, rest) → node ≡ other

@@ -1,5 +1,5 @@
 //! Rings of nodes linked by index.
-ghost use Rattle.std.specs.Prelude.{◌≡◌, ◌<◌, ◌^◌, length, map, IfOk};
+ghost use Rattle.std.specs.Prelude.{◌≡◌, ◌<◌, ◌^◌, ◌+◌, length, map, IfOk};
 ghost use Rattle.std.specs.List.{range_with_len};
 ghost use Rattle.linked_table.specs.Rings.{lone, link_at, unlinked, isolated, linked_last};
 
@@ -12,6 +12,27 @@ use std::marker::Model;
 pub(crate) struct Links {
     pub(crate) before: u32,
     pub(crate) after: u32,
+}
+
+impl Links {
+    /// Returns the links of a node in a ring of its own.
+    pub(crate) fn lone(node: u32) -> Links
+        ensures { result ≡ lone node }
+    {
+        Links {
+            before: node,
+            after: node,
+        }
+    }
+}
+
+/// Returns the links of `count` nodes, from this one on, each in a ring of its own.
+pub(crate) fn lone_links(alloc: Global, first: u32, count: u32) -> Result<Vec<Links>, NoMemory>
+    requires { first + count < 2 ^ 32 }
+    ensures { IfOk result (λ links. links.items ≡ map lone (range_with_len first count)) }
+{
+    let links = (first..first + count).map(Links::lone).collect(alloc)?;
+    Ok(links)
 }
 
 /// Nodes that are linked into rings.
@@ -39,20 +60,8 @@ impl Rings {
         if count > u32::MAX as usize {
             return Err(NoMemory);
         }
-        let links = (0..count as u32)
-            .map(|node| Links {
-                before: node,
-                after: node,
-            })
-            .collect(alloc)?;
+        let links = lone_links(alloc, 0, count as u32)?;
         Ok(Rings { links })
-    }
-
-    /// Returns the number of nodes.
-    pub(crate) fn len(&self) -> usize
-        ensures { result ≡ length self.now }
-    {
-        self.links.len()
     }
 
     /// Returns the node before this one.
@@ -89,10 +98,7 @@ impl Rings {
         requires { node < length self.old }
         ensures { self.new ≡ isolated self.old node }
     {
-        self.links[node as usize] = Links {
-            before: node,
-            after: node,
-        };
+        self.links[node as usize] = Links::lone(node);
     }
 
     /// Links a node that is in no ring as the last before this hub.

@@ -1,12 +1,14 @@
 //! The table: its entries by recency, and its look-up by the hash of a key.
-ghost use Rattle.std.specs.Prelude.{◌≡◌, ◌+◌, ◌-◌, ◌<◌, ◌≤◌, ◌≢◌, ◌^◌, ◌↔◌, [], ◌∷◌, ◌++◌, length, replicate, false, Option, Some, IfOk, IfErr, OnErr, IsErr, IfSome, IfNone, IsNone};
-ghost use Rattle.std.specs.List.{All, AllPairs};
+ghost use Rattle.std.specs.Prelude.{◌≡◌, ◌+◌, ◌-◌, ◌<◌, ◌≤◌, ◌≢◌, ◌^◌, ◌↔◌, [], ◌∷◌, ◌++◌, length, map, false, Option, Some, IfOk, IfErr, OnErr, IsErr, IfSome, IfNone, IsNone};
+ghost use Rattle.std.specs.List.{All, AllPairs, range_with_len};
 ghost use Rattle.std.specs.Borrow.{sem};
 ghost use Rattle.linked_table.specs.Table.{IsIn, IsNotIn, HasNone, SplitAt, Wherever, Answers, IsCallableAt, PassesFirst, without, only, with_value, first_slot};
 ghost use Rattle.linked_table.specs.Sound.{IsAllFree, bucket_number};
+ghost use Rattle.linked_table.specs.Nodes.{columns, lone_node};
 
 use crate::key::{Hashed, Key};
-use crate::ring::Rings;
+use crate::node::{Node, link_chain, link_last, move_last, unlink_chain};
+use crate::ring::{Links, lone_links};
 use edge_io::NoMemory;
 use std::alloc::Global;
 use std::marker::Model;
@@ -20,14 +22,12 @@ pub struct Slot(pub u32);
 #[derive(Drop)]
 pub struct LinkedTable<K: Key, V> {
     seed: u64,
-    // Key and value in each slot.
-    pairs: Vec<Option<(K, V)>>,
-    // One node for each slot, and two hubs: the ring of the entries from the oldest to the newest,
-    // then that of the free slots.
-    recency: Rings,
-    // One node for each slot, and one hub for each bucket: the rings of the entries that share a
-    // bucket.
-    chains: Rings,
+    max: u32,
+    // The slots, and two hubs: of the ring of the entries from the oldest to the newest, then of that
+    // of the free slots.
+    nodes: Vec<Node<K, V>>,
+    // The hubs of the buckets, whose rings have the entries that share a bucket.
+    hubs: Vec<Links>,
     len: u32,
 }
 
@@ -38,49 +38,50 @@ impl<K: Key, V> Model for LinkedTable<K, V> {
 
     ghost coded = { table_code K.code V.code };
 
+    ghost use Rattle.linked_table.specs.Nodes.{columns};
     ghost use Rattle.linked_table.specs.Sound.{table_of, IsSound};
 
-    ghost view = { λ t. table_of t.pairs.items t.recency t.len };
+    ghost view = { λ t. table_of t.max (columns t.nodes.items) t.len };
 
-    ghost invariant = { λ t. IsSound (λ k. K.hash_of k t.seed) t.pairs.items t.recency t.chains t.len };
+    ghost invariant = { λ t. IsSound (λ k. K.hash_of k t.seed) t.max (columns t.nodes.items) t.hubs.items t.len };
 }
 
-// Returns the hub of the bucket of a key: the nodes from `slots` on are the hubs of the buckets.
-fn hub_of<K: Key>(hashed: &Hashed<K>, seed: u64, slots: u32, chains: &Rings) -> u32
-    requires some { slots < length chains.now }
-    requires few { length chains.now < 2 ^ 32 }
-    ensures number { result ≡ slots + bucket_number (K.hash_of hashed.now.key seed) (length chains.now - slots) }
-    ensures inside { result < length chains.now }
+// Returns the bucket of a key, of so many.
+fn bucket_of<K: Key>(hashed: &Hashed<K>, seed: u64, buckets: usize) -> u32
+    requires some { 0 < buckets }
+    requires few { buckets < 2 ^ 32 }
+    ensures number { result ≡ bucket_number (K.hash_of hashed.now.key seed) buckets }
+    ensures inside { result < buckets }
 {
-    let buckets = (chains.len() - slots as usize) as u64;
     let hash = hashed.hash_under(seed);
     // Keys in sequence have hashes in arithmetic progression, of which the low bits alone may fall
     // into few buckets: 33 of 65,536 connections in sequence into one, with the product of the
     // halves at most 9.
     let mixed = (hash % (1 << 32)) * (hash >> 32) % (1 << 32);
-    slots + ((mixed * buckets) >> 32) as u32
+    ((mixed * buckets as u64) >> 32) as u32
 }
 
-// Returns `count` slots without a pair.
-fn empty_slots<K, V>(alloc: Global, count: u32) -> Result<Vec<Option<(K, V)>>, NoMemory>
-    ensures { IfOk result (λ pairs. pairs.items ≡ replicate count None) }
+// Returns the nodes of a table of `max` free slots.
+fn free_nodes<K, V>(alloc: Global, max: u32) -> Result<Vec<Node<K, V>>, NoMemory>
+    requires { max + 2 < 2 ^ 32 }
+    ensures { IfOk result (λ nodes. IsAllFree max (columns nodes.items)) }
 {
-    let mut pairs = Vec::with_capacity(alloc, count as usize)?;
-    for _ in 0..count {
-        pairs.push_reserved(None);
+    let mut nodes = lone_nodes(alloc, max + 2)?;
+    for node in 0..max {
+        link_last(&mut nodes, max + 1, node);
     }
-    Ok(pairs)
+    Ok(nodes)
 }
 
-/// Returns the nodes of `count` free slots, with the hubs of the used and of the free slots.
-pub(crate) fn free_ring(alloc: Global, count: u32) -> Result<Rings, NoMemory>
-    ensures { IfOk result (λ recency. IsAllFree recency count) }
+// Returns `count` nodes, each without a pair and in rings of its own.
+fn lone_nodes<K, V>(alloc: Global, count: u32) -> Result<Vec<Node<K, V>>, NoMemory>
+    ensures { IfOk result (λ nodes. nodes.items ≡ map lone_node (range_with_len 0 count)) }
 {
-    let mut recency = Rings::open(alloc, count as usize + 2)?;
+    let mut nodes = Vec::with_capacity(alloc, count as usize)?;
     for node in 0..count {
-        recency.link_last(count + 1, node);
+        nodes.push_reserved(Node::lone(node));
     }
-    Ok(recency)
+    Ok(nodes)
 }
 
 // Fills an empty slot.
@@ -98,19 +99,21 @@ impl<K: Key, V> LinkedTable<K, V> {
     ghost use Rattle.linked_table.specs.Lends.{lends_value};
 
     /// Creates a table without entries, for at most `max`. The seed decides only which keys share a
-    /// hash chain; no result depends on it. For a `max` of 2^31 or more it returns `NoMemory`: the
+    /// hash chain; no result depends on it. For a `max` of 2^31 - 1 or more it returns `NoMemory`: the
     /// numbers of the nodes do not fit 32 bits.
     pub fn open(alloc: Global, max: u32, seed: u64) -> Result<LinkedTable<K, V>, NoMemory>
         ensures { IfOk result (λ table. table ≡ record { entries = []; max = max }) }
     {
-        let recency = free_ring(alloc, max)?;
-        let chains = Rings::open(alloc, 2 * max as usize + 1)?;
-        let pairs = empty_slots(alloc, max)?;
+        if max > (u32::MAX - 3) / 2 {
+            return Err(NoMemory);
+        }
+        let hubs = lone_links(alloc, max + 2, max + 1)?;
+        let nodes = free_nodes(alloc, max)?;
         Ok(LinkedTable {
             seed,
-            pairs,
-            recency,
-            chains,
+            max,
+            nodes,
+            hubs,
             len: 0,
         })
     }
@@ -119,7 +122,7 @@ impl<K: Key, V> LinkedTable<K, V> {
     pub fn max(&self) -> u32
         ensures { result ≡ self.now.max }
     {
-        self.pairs.len() as u32
+        self.max
     }
 
     /// Returns the number of entries. No slot and no key occurs twice.
@@ -161,19 +164,20 @@ impl<K: Key, V> LinkedTable<K, V> {
         ensures absent { IsNone result ↔ HasNone self.now.entries hashed.now.key }
     {
         let key = &hashed.key;
-        let slots = self.pairs.len() as u32;
-        let hub = hub_of(hashed, self.seed, slots, &self.chains);
-        let mut node = self.chains.after(hub);
+        let bucket = bucket_of(hashed, self.seed, self.hubs.len());
+        let hub = self.nodes.len() as u32 + bucket;
+        let mut node = self.hubs[bucket as usize].after;
         for _ in 0..self.len {
             if node == hub {
                 return None;
             }
-            if let Some((own, _)) = &self.pairs[node as usize] {
+            let found = &self.nodes[node as usize];
+            if let Some((own, _)) = &found.pair {
                 if own == key {
                     return Some(Slot(node));
                 }
             }
-            node = self.chains.after(node);
+            node = found.chain.after;
         }
         None
     }
@@ -183,7 +187,7 @@ impl<K: Key, V> LinkedTable<K, V> {
         requires { IsIn self.now.entries slot }
         ensures { Wherever self.now.entries slot (λ e. result ≡ e.key) }
     {
-        match &self.pairs[slot.0 as usize] {
+        match &self.nodes[slot.0 as usize].pair {
             Some((key, _)) => *key,
             None => unreachable!(),
         }
@@ -194,7 +198,7 @@ impl<K: Key, V> LinkedTable<K, V> {
         requires { IsIn self.now.entries slot }
         ensures { Wherever self.now.entries slot (λ e. result.now ≡ e.value) }
     {
-        match &self.pairs[slot.0 as usize] {
+        match &self.nodes[slot.0 as usize].pair {
             Some((_, value)) => value,
             None => unreachable!(),
         }
@@ -206,7 +210,7 @@ impl<K: Key, V> LinkedTable<K, V> {
         ensures* lends { sem 𝓛 (lends_value K.row V.row K.Key self.entry slot result) }
         ensures value { Wherever self.old.entries slot (λ e. result.now ≡ e.value) }
     {
-        match self.pairs[slot.0 as usize].as_mut() {
+        match self.nodes[slot.0 as usize].pair.as_mut() {
             Some(pair) => &mut pair.1,
             None => unreachable!(),
         }
@@ -226,14 +230,11 @@ impl<K: Key, V> LinkedTable<K, V> {
         requires { IsIn self.old.entries slot }
         ensures { self.new ≡ record self.old { entries = without self.old.entries slot ++ only self.old.entries slot } }
     {
-        let entries = self.pairs.len() as u32;
         let node = slot.0;
-        let newest = self.recency.before(entries);
-        if newest == node {
+        if self.nodes[self.max as usize].recent.before == node {
             return;
         }
-        self.recency.unlink(node);
-        self.recency.link_last(entries, node);
+        move_last(&mut self.nodes, self.max, node);
     }
 
     /// Removes the entry, and returns its key and value.
@@ -242,13 +243,11 @@ impl<K: Key, V> LinkedTable<K, V> {
         ensures taken { Wherever self.old.entries slot (λ e. result ≡ (e.key, e.value)) }
         ensures left { self.new ≡ record self.old { entries = without self.old.entries slot } }
     {
-        let free = self.pairs.len() as u32 + 1;
         let node = slot.0;
-        self.recency.unlink(node);
-        self.recency.link_last(free, node);
-        self.chains.unlink(node);
+        move_last(&mut self.nodes, self.max + 1, node);
+        unlink_chain(&mut self.nodes, &mut self.hubs, node);
         self.len -= 1;
-        match self.pairs[node as usize].take() {
+        match self.nodes[node as usize].pair.take() {
             Some(pair) => pair,
             None => unreachable!(),
         }
@@ -278,18 +277,16 @@ impl<K: Key, V> LinkedTable<K, V> {
         ensures fresh { IfOk result (IsNotIn self.old.entries) }
         ensures added { IfOk result (λ slot. self.new ≡ record self.old { entries = self.old.entries ++ record { slot = slot; key = hashed.now.key; value = value } ∷ [] }) }
     {
-        let slots = self.pairs.len() as u32;
-        if self.len == slots {
+        if self.len == self.max {
             return Err((hashed.key, value));
         }
-        let node = self.recency.before(slots + 1);
-        let hub = hub_of(hashed, self.seed, slots, &self.chains);
-        self.recency.unlink(node);
-        self.recency.link_last(slots, node);
-        self.chains.link_last(hub, node);
-        fill(&mut self.pairs[node as usize], (hashed.key, value));
+        let bucket = bucket_of(hashed, self.seed, self.hubs.len());
+        let free = self.nodes[self.max as usize + 1].recent.before;
+        move_last(&mut self.nodes, self.max, free);
+        link_chain(&mut self.nodes, &mut self.hubs, bucket, free);
+        fill(&mut self.nodes[free as usize].pair, (hashed.key, value));
         self.len += 1;
-        Ok(Slot(node))
+        Ok(Slot(free))
     }
 
     /// Returns the slot of the least recently touched entry.
@@ -297,9 +294,8 @@ impl<K: Key, V> LinkedTable<K, V> {
         ensures first { result ≡ first_slot self.now.entries }
         ensures inside { IfSome result (IsIn self.now.entries) }
     {
-        let entries = self.pairs.len() as u32;
-        let node = self.recency.after(entries);
-        if node == entries {
+        let node = self.nodes[self.max as usize].recent.after;
+        if node == self.max {
             return None;
         }
         Some(Slot(node))
@@ -312,11 +308,12 @@ impl<K: Key, V> LinkedTable<K, V> {
         ensures inside { IfSome result (IsIn self.now.entries) }
         ensures absent { IfNone result (All (λ e. Answers F.Fn test e false) self.now.entries) }
     {
-        let mut node = self.pairs.len() as u32;
+        let mut node = self.max;
         for _ in 0..self.len {
-            node = self.recency.after(node);
+            node = self.nodes[node as usize].recent.after;
             let slot = Slot(node);
-            if let Some((_, value)) = &self.pairs[node as usize] {
+            let found = &self.nodes[node as usize];
+            if let Some((_, value)) = &found.pair {
                 if test(slot, value) {
                     return Some(slot);
                 }

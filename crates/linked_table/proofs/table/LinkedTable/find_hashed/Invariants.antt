@@ -1,6 +1,7 @@
-use Rattle.std.proofs.Common.{◌-◌}
+use Rattle.std.proofs.Common.{◌-◌, ◌++◌}
+use Rattle.linked_table.specs.Nodes.{columns}
 use Rattle.linked_table.proofs.Searches.{IsSearch}
 use Rattle.linked_table.proofs.table.LinkedTable.find_hashed.Given as goal
 
 abbrev pub invariant-loop : goal.invariant-loop
-invariant-loop g l = IsSearch l.self-inside.pairs.items l.self-inside.chains l.hub l.hashed.key l.node (l.end - l.counter)
+invariant-loop g l = IsSearch (columns l.self-inside.nodes.items).pairs ((columns l.self-inside.nodes.items).chains ++ l.self-inside.hubs.items) l.hub l.hashed.key l.node (l.end - l.counter)

@@ -1,12 +1,22 @@
-use Rattle.std.proofs.Common.{arith}
+use Rattle.std.proofs.Common.{ap, arith}
+use Rattle.linked_table.proofs.Nodes.{below, recent_read}
 use Rattle.linked_table.proofs.Readings.{reads_first}
 use Rattle.linked_table.proofs.table.LinkedTable.oldest.Goals as goal
 
-pub returns-then-node-entries-clause-first : goal.returns-then-node-entries-clause-first
-returns-then-node-entries-clause-first g c = (reads_first _ _ _ _ _ c.self.invariant _ c.self.view_is _ (omega arith) _ c.after-node.ensures).none c.if-node-entries.true
+pub index-requires : goal.index-requires
+index-requires g c = omega (arith, below c.self.inside.nodes.items _ c.self.invariant.used_ring.hub_in)
+
+pub returns-then-node-self-clause-first : goal.returns-then-node-self-clause-first
+returns-then-node-self-clause-first g c =
+    let read = recent_read _ _ _ c.index.ensures c.self.invariant.used_ring.hub_in in
+    (reads_first _ _ _ _ _ c.self.invariant _ c.self.view_is _ (ap (λ (l : _). l.after) read)).none c.if-node-self.true
 
 pub returns-clause-first : goal.returns-clause-first
-returns-clause-first g c = (reads_first _ _ _ _ _ c.self.invariant _ c.self.view_is _ (omega arith) _ c.after-node.ensures).some c.if-node-entries.false
+returns-clause-first g c =
+    let read = recent_read _ _ _ c.index.ensures c.self.invariant.used_ring.hub_in in
+    (reads_first _ _ _ _ _ c.self.invariant _ c.self.view_is _ (ap (λ (l : _). l.after) read)).some c.if-node-self.false
 
 pub returns-clause-inside : goal.returns-clause-inside
-returns-clause-inside g c = (reads_first _ _ _ _ _ c.self.invariant _ c.self.view_is _ (omega arith) _ c.after-node.ensures).listed c.if-node-entries.false
+returns-clause-inside g c =
+    let read = recent_read _ _ _ c.index.ensures c.self.invariant.used_ring.hub_in in
+    (reads_first _ _ _ _ _ c.self.invariant _ c.self.view_is _ (ap (λ (l : _). l.after) read)).listed c.if-node-self.false

@@ -1,0 +1,6 @@
+use Rattle.linked_table.specs.Nodes.{columns}
+use Rattle.linked_table.proofs.Opens.{AreFreed}
+use Rattle.linked_table.proofs.table.free_nodes.Given as goal
+
+abbrev pub invariant-loop-node : goal.invariant-loop-node
+invariant-loop-node g l = AreFreed (columns l.nodes.items) l.max l.node

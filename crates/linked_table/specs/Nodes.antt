@@ -1,0 +1,18 @@
+-- What the nodes of a table hold (this project's profile).
+use Rattle.std.specs.Prelude.{ℕ, Option, None, List, map}
+use Rattle.linked_table.specs.declared.ring.Links.{Links}
+use Rattle.linked_table.specs.declared.node.Node.{Node}
+use Rattle.linked_table.specs.Rings.{lone}
+
+-- A node without a pair, in rings of its own.
+abbrev pub lone_node : {K V : Type 0} → ℕ → Node K V
+lone_node node = record { recent = lone node; chain = lone node; pair = None }
+
+-- What the nodes hold, each part in their order: the links by recency, those in buckets, and the pairs.
+pub record Columns (K V : Type 0) : Type 0 where
+  pub recency : List Links
+  pub chains : List Links
+  pub pairs : List (Option (K × V))
+
+abbrev pub columns : {K V : Type 0} → List (Node K V) → Columns K V
+columns nodes = record { recency = map (λ n. n.recent) nodes; chains = map (λ n. n.chain) nodes; pairs = map (λ n. n.pair) nodes }
