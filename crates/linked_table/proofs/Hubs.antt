@@ -139,6 +139,3 @@ module _ (links : List Links) (slots hub : ℕ) (nodes : List ℕ) (has : HasRin
 
   pub Joins-push : (node : ℕ) → node ≢ s → node ≢ hub → Joins links node node → Joins (linked_last links hub s) node node
   Joins-push node other not_hub alone = IsRing-linked_other links (linked_last links hub s) hub s push_writes push_joined node [] node other (λ h. h) other (λ h. h) not_hub alone
-
-  pub length-push : length (linked_last links hub s) ≡ length links
-  length-push = push_writes.number

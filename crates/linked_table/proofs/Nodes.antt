@@ -6,7 +6,7 @@ use Rattle.std.proofs.Math.ListN.{get_or-map as get_or-map_same}
 use Rattle.linked_table.specs.declared.ring.Links.{Links}
 use Rattle.linked_table.specs.declared.node.Node.{Node}
 use Rattle.linked_table.specs.Rings.{link_at, with_after, with_before, unlinked, linked_last}
-use Rattle.linked_table.specs.Nodes.{Columns, columns}
+use Rattle.linked_table.specs.Nodes.{Columns, columns, chains_of, Rechains}
 
 -- the links of no node
 abbrev blank : Links
@@ -70,10 +70,7 @@ module _ {K V : Type 0} where
       let second : columns mid ≡ record (columns nodes) { recency = set (with_after (columns nodes).recency x.recent.before node) node here } = ap columns mid_is ∙ (set_recent led node z z_is here ∙ ap (λ (cols : Columns K V). record cols { recency = set cols.recency node here }) first) in
       recent_before mid hub w w_is (omega (arith, hub_in, led_len, mid_len)) node ∙ (ap (λ (cols : Columns K V). record cols { recency = with_before cols.recency hub node }) second ∙ ap (λ l. record (columns nodes) { recency = with_before (set (with_after (columns nodes).recency l node) node (record { before = l; after = hub })) hub node }) last)
 
-  -- links of the nodes and of the hubs of buckets, in one list
-  abbrev pub chains_of : List (Node K V) → List Links → List Links
-  chains_of nodes hubs = (columns nodes).chains ++ hubs
-
+  -- the links in buckets, of nodes and hubs
   pub hub_read : (nodes : List (Node K V)) (hubs : List Links) (i : ℕ) → length nodes ≤ i → link_at hubs (i - length nodes) ≡ link_at (chains_of nodes hubs) i
   hub_read nodes hubs i past = sym (get_or-append_right (columns nodes).chains hubs (length nodes) i blank (length-map nodes (λ n. n.chain)) past)
 
@@ -132,28 +129,25 @@ module _ {K V : Type 0} where
       sym (length-map new (λ n. n.pair)) ∙ (ap (λ (cols : Columns K V). length cols.pairs) kept ∙ length-map nodes (λ n. n.pair))
 
   -- a node is linked into a bucket as its last
-  module _ (nodes : List (Node K V)) (hubs : List Links) (bucket hub node : ℕ) (hub_is : hub ≡ length nodes + bucket) (first : Links) (first_is : first ≡ get_or hubs bucket first) (bucket_in : bucket < length hubs) (node_in : node < length nodes) (new : List (Node K V)) (new_hubs : List Links) (number : length new_hubs ≡ length hubs) (kept : columns new ≡ record (columns nodes) { chains = (columns new).chains }) (after : chains_of new new_hubs ≡ with_after (chains_of nodes hubs) first.before node) (x : Node K V) (x_is : x ≡ get_or new node x) where
+  module _ (nodes : List (Node K V)) (hubs : List Links) (bucket hub node : ℕ) (hub_is : hub ≡ length nodes + bucket) (first : Links) (first_is : first ≡ get_or hubs bucket first) (bucket_in : bucket < length hubs) (node_in : node < length nodes) (new : List (Node K V)) (new_hubs : List Links) (led : Rechains nodes hubs new new_hubs (with_after (chains_of nodes hubs) first.before node)) (x : Node K V) (x_is : x ≡ get_or new node x) where
     abbrev here : Links
     here = record { before = first.before; after = hub }
 
-    abbrev chained : List (Node K V)
-    chained = set new node (rechained x here)
-
-    node_in_new : node < length new
-    node_in_new = omega (arith, node_in, same_length nodes new _ kept)
-
-    pub chained_kept : columns chained ≡ record (columns nodes) { chains = (columns chained).chains }
-    chained_kept = chain_kept new new_hubs node x x_is node_in_new _ ∙ ap (λ (cols : Columns K V). record cols { chains = (columns chained).chains }) kept
-
-    pub chained_links : (last : Links) → last ≡ get_or new_hubs bucket last → (columns chained).chains ++ set new_hubs bucket (record last { before = node }) ≡ linked_last (chains_of nodes hubs) (length nodes + bucket) node
-    chained_links last last_is =
-        let same : length chained ≡ length nodes = length-set new node _ ∙ same_length nodes new _ kept in
+    pub chained : (last : Links) → last ≡ get_or new_hubs bucket last → Rechains nodes hubs (set new node (rechained x here)) (set new_hubs bucket (record last { before = node })) (linked_last (chains_of nodes hubs) (length nodes + bucket) node)
+    chained last last_is =
+        let done = set new node (rechained x here) in
+        let new_same : length new ≡ length nodes = same_length nodes new _ led.kept in
+        let same : length done ≡ length nodes = length-set new node _ ∙ new_same in
         let at_hub : bucket ≡ hub - length nodes = omega arith in
-        let at_new : bucket ≡ hub - length chained = omega arith in
+        let at_new : bucket ≡ hub - length done = omega arith in
         let found : first ≡ link_at (chains_of nodes hubs) hub = first_is ∙ (get_or_default hubs bucket first blank bucket_in ∙ (ap (link_at hubs) at_hub ∙ hub_read nodes hubs hub (omega arith))) in
-        let linked : chains_of chained new_hubs ≡ set (with_after (chains_of nodes hubs) first.before node) node here = chain_set new new_hubs node x x_is node_in_new _ ∙ ap (λ l. set l node here) after in
-        let written : (columns chained).chains ++ set new_hubs bucket (record last { before = node }) ≡ with_before (chains_of chained new_hubs) hub node = before_in_hub chained new_hubs hub bucket (omega (arith, same, hub_is)) at_new (omega (arith, same, bucket_in, number, hub_is)) last last_is node in
-        written ∙ (ap (λ l. with_before l hub node) linked ∙ (ap (λ (l : Links). with_before (set (with_after (chains_of nodes hubs) l.before node) node (record { before = l.before; after = hub })) hub node) found ∙ ap (λ k. linked_last (chains_of nodes hubs) k node) hub_is))
+        let linked : chains_of done new_hubs ≡ set (with_after (chains_of nodes hubs) first.before node) node here = chain_set new new_hubs node x x_is (omega arith) _ ∙ ap (λ l. set l node here) led.links_are in
+        let written : (columns done).chains ++ set new_hubs bucket (record last { before = node }) ≡ with_before (chains_of done new_hubs) hub node = before_in_hub done new_hubs hub bucket (omega (arith, same, hub_is)) at_new (omega (arith, same, bucket_in, led.number, hub_is)) last last_is node in
+        record {
+          number = length-set new_hubs bucket _ ∙ led.number;
+          kept = chain_kept new new_hubs node x x_is (omega arith) _ ∙ ap (λ (cols : Columns K V). record cols { chains = (columns done).chains }) led.kept;
+          links_are = written ∙ (ap (λ l. with_before l hub node) linked ∙ (ap (λ (l : Links). with_before (set (with_after (chains_of nodes hubs) l.before node) node (record { before = l.before; after = hub })) hub node) found ∙ ap (λ k. linked_last (chains_of nodes hubs) k node) hub_is));
+        }
 
   -- the same after a move by recency
   module _ (nodes new : List (Node K V)) (hubs recency : List Links) (moved : columns new ≡ record (columns nodes) { recency = recency }) where

@@ -1,5 +1,5 @@
 -- What the nodes of a table hold (this project's profile).
-use Rattle.std.specs.Prelude.{ℕ, Option, None, List, map}
+use Rattle.std.specs.Prelude.{◌≡◌, ℕ, Option, None, List, ◌++◌, length, map}
 use Rattle.linked_table.specs.declared.ring.Links.{Links}
 use Rattle.linked_table.specs.declared.node.Node.{Node}
 use Rattle.linked_table.specs.Rings.{lone}
@@ -16,3 +16,13 @@ pub record Columns (K V : Type 0) : Type 0 where
 
 abbrev pub columns : {K V : Type 0} → List (Node K V) → Columns K V
 columns nodes = record { recency = map (λ n. n.recent) nodes; chains = map (λ n. n.chain) nodes; pairs = map (λ n. n.pair) nodes }
+
+-- The links in buckets: those of the nodes, then those of the hubs of the buckets.
+abbrev pub chains_of : {K V : Type 0} → List (Node K V) → List Links → List Links
+chains_of nodes hubs = (columns nodes).chains ++ hubs
+
+-- Only the links in buckets changed, of the nodes and of as many hubs as before: they are these.
+pub record Rechains {K V : Type 0} (nodes : List (Node K V)) (hubs : List Links) (new : List (Node K V)) (new_hubs links : List Links) : Type 0 where
+  pub number : length new_hubs ≡ length hubs
+  pub kept : columns new ≡ record (columns nodes) { chains = (columns new).chains }
+  pub links_are : chains_of new new_hubs ≡ links

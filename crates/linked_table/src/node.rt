@@ -1,7 +1,7 @@
 //! The slots of a table, linked by index.
-ghost use Rattle.std.specs.Prelude.{◌≡◌, ◌+◌, ◌<◌, ◌^◌, ◌++◌, length};
+ghost use Rattle.std.specs.Prelude.{◌≡◌, ◌+◌, ◌<◌, ◌^◌, length};
 ghost use Rattle.linked_table.specs.Rings.{link_at, unlinked, linked_last, with_after, with_before};
-ghost use Rattle.linked_table.specs.Nodes.{columns, lone_node};
+ghost use Rattle.linked_table.specs.Nodes.{columns, chains_of, Rechains, lone_node};
 
 use crate::ring::Links;
 
@@ -74,9 +74,7 @@ pub(crate) fn move_last<K, V>(nodes: &mut Vec<Node<K, V>>, hub: u32, node: u32)
 // Sets the node after a node or hub of a bucket.
 fn set_after<K, V>(nodes: &mut Vec<Node<K, V>>, hubs: &mut Vec<Links>, at: u32, after: u32)
     requires { at < length nodes.old.items + length hubs.old.items }
-    ensures number { length hubs.new.items ≡ length hubs.old.items }
-    ensures kept { columns nodes.new.items ≡ record (columns nodes.old.items) { chains = (columns nodes.new.items).chains } }
-    ensures after { (columns nodes.new.items).chains ++ hubs.new.items ≡ with_after ((columns nodes.old.items).chains ++ hubs.old.items) at after }
+    ensures { Rechains nodes.old.items hubs.old.items nodes.new.items hubs.new.items (with_after (chains_of nodes.old.items hubs.old.items) at after) }
 {
     let at = at as usize;
     if at < nodes.len() {
@@ -89,9 +87,7 @@ fn set_after<K, V>(nodes: &mut Vec<Node<K, V>>, hubs: &mut Vec<Links>, at: u32, 
 // Sets the node before a node or hub of a bucket.
 fn set_before<K, V>(nodes: &mut Vec<Node<K, V>>, hubs: &mut Vec<Links>, at: u32, before: u32)
     requires { at < length nodes.old.items + length hubs.old.items }
-    ensures number { length hubs.new.items ≡ length hubs.old.items }
-    ensures kept { columns nodes.new.items ≡ record (columns nodes.old.items) { chains = (columns nodes.new.items).chains } }
-    ensures before { (columns nodes.new.items).chains ++ hubs.new.items ≡ with_before ((columns nodes.old.items).chains ++ hubs.old.items) at before }
+    ensures { Rechains nodes.old.items hubs.old.items nodes.new.items hubs.new.items (with_before (chains_of nodes.old.items hubs.old.items) at before) }
 {
     let at = at as usize;
     if at < nodes.len() {
@@ -104,11 +100,9 @@ fn set_before<K, V>(nodes: &mut Vec<Node<K, V>>, hubs: &mut Vec<Links>, at: u32,
 /// Links the neighbours of this node in its bucket to each other.
 pub(crate) fn unlink_chain<K, V>(nodes: &mut Vec<Node<K, V>>, hubs: &mut Vec<Links>, node: u32)
     requires inside { node < length nodes.old.items }
-    requires before_inside { (link_at ((columns nodes.old.items).chains ++ hubs.old.items) node).before < length nodes.old.items + length hubs.old.items }
-    requires after_inside { (link_at ((columns nodes.old.items).chains ++ hubs.old.items) node).after < length nodes.old.items + length hubs.old.items }
-    ensures number { length hubs.new.items ≡ length hubs.old.items }
-    ensures kept { columns nodes.new.items ≡ record (columns nodes.old.items) { chains = (columns nodes.new.items).chains } }
-    ensures unlinked { (columns nodes.new.items).chains ++ hubs.new.items ≡ unlinked ((columns nodes.old.items).chains ++ hubs.old.items) node }
+    requires before_inside { (link_at (chains_of nodes.old.items hubs.old.items) node).before < length nodes.old.items + length hubs.old.items }
+    requires after_inside { (link_at (chains_of nodes.old.items hubs.old.items) node).after < length nodes.old.items + length hubs.old.items }
+    ensures { Rechains nodes.old.items hubs.old.items nodes.new.items hubs.new.items (unlinked (chains_of nodes.old.items hubs.old.items) node) }
 {
     let here = nodes[node as usize].chain;
     set_after(nodes, hubs, here.before, here.after);
@@ -125,10 +119,8 @@ pub(crate) fn link_chain<K, V>(
     requires inside { node < length nodes.old.items }
     requires bucket_inside { bucket < length hubs.old.items }
     requires few { length nodes.old.items + length hubs.old.items < 2 ^ 32 }
-    requires last_inside { (link_at ((columns nodes.old.items).chains ++ hubs.old.items) (length nodes.old.items + bucket)).before < length nodes.old.items + length hubs.old.items }
-    ensures number { length hubs.new.items ≡ length hubs.old.items }
-    ensures kept { columns nodes.new.items ≡ record (columns nodes.old.items) { chains = (columns nodes.new.items).chains } }
-    ensures linked { (columns nodes.new.items).chains ++ hubs.new.items ≡ linked_last ((columns nodes.old.items).chains ++ hubs.old.items) (length nodes.old.items + bucket) node }
+    requires last_inside { (link_at (chains_of nodes.old.items hubs.old.items) (length nodes.old.items + bucket)).before < length nodes.old.items + length hubs.old.items }
+    ensures { Rechains nodes.old.items hubs.old.items nodes.new.items hubs.new.items (linked_last (chains_of nodes.old.items hubs.old.items) (length nodes.old.items + bucket) node) }
 {
     let hub = nodes.len() as u32 + bucket;
     let last = hubs[bucket as usize].before;

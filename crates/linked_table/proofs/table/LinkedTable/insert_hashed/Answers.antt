@@ -50,7 +50,7 @@ invariant_of-self g c =
     let count : c.len.result ≡ length c.self.invariant.buckets = omega (arith, c.self.invariant.hub_count) in
     let bucket = c.bucket_of-bucket.ensures.number ∙ ap (bucket_number (g.K.Key.hash_of c.args.hashed.now.key c.self.inside.seed)) count in
     let hub : length c.move_last.new.nodes.items + c.bucket_of-bucket.result ≡ c.self.inside.max + 2 + bucket_number (g.K.Key.hash_of c.args.hashed.now.key c.self.inside.seed) (length c.self.invariant.buckets) = omega (arith, bucket, moved_length c.self.inside.nodes.items _ c.self.inside.hubs.items _ c.move_last.ensures, length-columns c.self.inside.nodes.items, c.self.invariant.pair_nodes) in
-    insert_sound_read _ _ _ _ _ c.self.invariant _ (spare _ _ _ _ _ c.self.invariant _ (ap (λ (l : _). l.before) (recent_read c.self.inside.nodes.items _ _ c.index.ensures c.self.invariant.free_ring.hub_in)) c.if-self.false) _ _ _ c.move_last.ensures _ c.link_chain.ensures.kept _ c.fill.ensures _ (set_pair c.link_chain.new.nodes.items _ _ c.index_mut.ensures.value _) _ c.self.view_is c.requires _ hub c.link_chain.new.hubs.items c.link_chain.ensures.linked (chains_count c.self.inside.nodes.items _ c.self.inside.hubs.items _ c.move_last.ensures _ _ c.link_chain.ensures.kept) c.link_chain.ensures.number
+    insert_sound_read _ _ _ _ _ c.self.invariant _ (spare _ _ _ _ _ c.self.invariant _ (ap (λ (l : _). l.before) (recent_read c.self.inside.nodes.items _ _ c.index.ensures c.self.invariant.free_ring.hub_in)) c.if-self.false) _ _ _ c.move_last.ensures _ c.link_chain.ensures.kept _ c.fill.ensures _ (set_pair c.link_chain.new.nodes.items _ _ c.index_mut.ensures.value _) _ c.self.view_is c.requires _ hub c.link_chain.new.hubs.items c.link_chain.ensures.links_are (chains_count c.self.inside.nodes.items _ c.self.inside.hubs.items _ c.move_last.ensures _ _ c.link_chain.ensures.kept) c.link_chain.ensures.number
 
 pub returns-clause-full : goal.returns-clause-full
 returns-clause-full g c = ((λ t. absurd cc), (λ e. absurd (not_full _ _ _ _ _ c.self.invariant _ c.self.view_is c.if-self.false e)))

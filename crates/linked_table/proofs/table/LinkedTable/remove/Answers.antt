@@ -38,7 +38,7 @@ unreachable-requires g c = read_some _ _ _ _ _ c.self.invariant _ c.self.view_is
 
 pub invariant_of-self : goal.invariant_of-self
 invariant_of-self g c =
-    remove_sound_read _ _ _ _ _ c.self.invariant _ (placed _ _ _ _ _ c.self.invariant _ c.self.view_is _ c.requires) _ c.move_last.ensures _ c.unlink_chain.ensures.kept _ c.take.ensures.after _ (set_pair _ _ _ c.index_mut.ensures.value _) _ (c.unlink_chain.ensures.unlinked ∙ ap (λ l. unlinked l c.args.slot.0) (moved_chains _ _ _ _ c.move_last.ensures)) (chains_count _ _ c.self.inside.hubs.items _ c.move_last.ensures _ _ c.unlink_chain.ensures.kept) c.unlink_chain.ensures.number
+    remove_sound_read _ _ _ _ _ c.self.invariant _ (placed _ _ _ _ _ c.self.invariant _ c.self.view_is _ c.requires) _ c.move_last.ensures _ c.unlink_chain.ensures.kept _ c.take.ensures.after _ (set_pair _ _ _ c.index_mut.ensures.value _) _ (c.unlink_chain.ensures.links_are ∙ ap (λ l. unlinked l c.args.slot.0) (moved_chains _ _ _ _ c.move_last.ensures)) (chains_count _ _ c.self.inside.hubs.items _ c.move_last.ensures _ _ c.unlink_chain.ensures.kept) c.unlink_chain.ensures.number
 
 pub returns-clause-taken : goal.returns-clause-taken
 returns-clause-taken g c =
