@@ -29,9 +29,6 @@ module _ {K V : Type 0} where
     pub pair_read : x.pair ≡ get_or (columns nodes).pairs i x.pair
     pair_read = ap (λ (n : Node K V). n.pair) is ∙ sym (get_or-map_same (λ (n : Node K V). n.pair) nodes i x)
 
-    pub recent_read : i < length (columns nodes).recency → x.recent ≡ link_at (columns nodes).recency i
-    recent_read inside = ap (λ (n : Node K V). n.recent) is ∙ sym (get_or-map (λ (n : Node K V). n.recent) nodes i x blank (below nodes i inside))
-
     pub set_pair : (pair : Option (K × V)) → columns (set nodes i (record x { pair = pair })) ≡ record (columns nodes) { pairs = set (columns nodes).pairs i pair }
     set_pair pair =
         rw (map-set (λ (n : Node K V). n.pair) nodes i (record x { pair = pair }), map-set_same (λ (n : Node K V). n.recent) nodes i (record x { pair = pair }) x (ap (λ (n : Node K V). n.recent) is), map-set_same (λ (n : Node K V). n.chain) nodes i (record x { pair = pair }) x (ap (λ (n : Node K V). n.chain) is)) refl
@@ -42,6 +39,9 @@ module _ {K V : Type 0} where
 
     recent_here : i < length nodes → x.recent ≡ link_at (columns nodes).recency i
     recent_here inside = ap (λ (n : Node K V). n.recent) is ∙ sym (get_or-map (λ (n : Node K V). n.recent) nodes i x blank inside)
+
+    pub recent_read : i < length (columns nodes).recency → x.recent ≡ link_at (columns nodes).recency i
+    recent_read inside = recent_here (below nodes i inside)
 
     recent_after : i < length nodes → (after : ℕ) → columns (set nodes i (relinked x (record x.recent { after = after }))) ≡ record (columns nodes) { recency = with_after (columns nodes).recency i after }
     recent_after inside after =
@@ -70,7 +70,7 @@ module _ {K V : Type 0} where
       let second : columns mid ≡ record (columns nodes) { recency = set (with_after (columns nodes).recency x.recent.before node) node here } = ap columns mid_is ∙ (set_recent led node z z_is here ∙ ap (λ (cols : Columns K V). record cols { recency = set cols.recency node here }) first) in
       recent_before mid hub w w_is (omega (arith, hub_in, led_len, mid_len)) node ∙ (ap (λ (cols : Columns K V). record cols { recency = with_before cols.recency hub node }) second ∙ ap (λ l. record (columns nodes) { recency = with_before (set (with_after (columns nodes).recency l node) node (record { before = l; after = hub })) hub node }) last)
 
-  -- the links in buckets, of nodes and hubs
+  -- a hub of a bucket, read and written, in the list of all links in buckets
   pub hub_read : (nodes : List (Node K V)) (hubs : List Links) (i : ℕ) → length nodes ≤ i → link_at hubs (i - length nodes) ≡ link_at (chains_of nodes hubs) i
   hub_read nodes hubs i past = sym (get_or-append_right (columns nodes).chains hubs (length nodes) i blank (length-map nodes (λ n. n.chain)) past)
 
@@ -115,11 +115,8 @@ module _ {K V : Type 0} where
   pub length-columns : (nodes : List (Node K V)) → length (columns nodes).pairs ≡ length nodes
   length-columns nodes = length-map nodes (λ n. n.pair)
 
-  pub nodes_length : (nodes : List (Node K V)) → length nodes ≡ length (columns nodes).pairs
-  nodes_length nodes = sym (length-columns nodes)
-
-  -- the first node of a bucket, and the next one of a node that was read
-  pub first_read : (nodes : List (Node K V)) (hubs : List Links) (bucket : ℕ) (x : Links) → x ≡ get_or hubs bucket x → bucket < length hubs → x.after ≡ (link_at ((columns nodes).chains ++ hubs) (length nodes + bucket)).after
+  -- the first node of a bucket
+  pub first_read : (nodes : List (Node K V)) (hubs : List Links) (bucket : ℕ) (x : Links) → x ≡ get_or hubs bucket x → bucket < length hubs → x.after ≡ (link_at (chains_of nodes hubs) (length nodes + bucket)).after
   first_read nodes hubs bucket x is inside =
       let here : bucket ≡ length nodes + bucket - length nodes = omega arith in
       ap (λ (l : Links). l.after) (is ∙ (get_or_default hubs bucket x blank inside ∙ (ap (link_at hubs) here ∙ hub_read nodes hubs (length nodes + bucket) (omega arith))))
@@ -158,9 +155,9 @@ module _ {K V : Type 0} where
     moved_chains = ap (λ (cols : Columns K V). cols.chains ++ hubs) moved
 
     -- a number below that of the links in buckets is below that of nodes and hubs
-    pub moved_below : (at : List Links → ℕ) → at ((columns nodes).chains ++ hubs) < length ((columns nodes).chains ++ hubs) → at ((columns new).chains ++ hubs) < length new + length hubs
+    pub moved_below : (at : List Links → ℕ) → at (chains_of nodes hubs) < length (chains_of nodes hubs) → at ((columns new).chains ++ hubs) < length new + length hubs
     moved_below at inside =
-        let same : at ((columns new).chains ++ hubs) ≡ at ((columns nodes).chains ++ hubs) = ap at moved_chains in
+        let same : at ((columns new).chains ++ hubs) ≡ at (chains_of nodes hubs) = ap at moved_chains in
         omega (arith, inside, same, moved_length, length-append (columns nodes).chains hubs, length-map nodes (λ n. n.chain))
 
     -- and after a change of the links in buckets

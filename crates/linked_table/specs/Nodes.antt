@@ -14,6 +14,7 @@ pub record Columns (K V : Type 0) : Type 0 where
   pub chains : List Links
   pub pairs : List (Option (K × V))
 
+-- The columns of these nodes.
 abbrev pub columns : {K V : Type 0} → List (Node K V) → Columns K V
 columns nodes = record { recency = map (λ n. n.recent) nodes; chains = map (λ n. n.chain) nodes; pairs = map (λ n. n.pair) nodes }
 
@@ -21,7 +22,7 @@ columns nodes = record { recency = map (λ n. n.recent) nodes; chains = map (λ 
 abbrev pub chains_of : {K V : Type 0} → List (Node K V) → List Links → List Links
 chains_of nodes hubs = (columns nodes).chains ++ hubs
 
--- Only the links in buckets changed, of the nodes and of as many hubs as before: they are these.
+-- From these nodes and hubs to the new ones only the links in buckets change: they are now `links`. The number of hubs stays.
 pub record Rechains {K V : Type 0} (nodes : List (Node K V)) (hubs : List Links) (new : List (Node K V)) (new_hubs links : List Links) : Type 0 where
   pub number : length new_hubs ≡ length hubs
   pub kept : columns new ≡ record (columns nodes) { chains = (columns new).chains }

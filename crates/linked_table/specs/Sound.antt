@@ -19,7 +19,7 @@ bucket_number hash buckets = hash % 2 ^ 32 * (hash / 2 ^ 32) % 2 ^ 32 * buckets 
 abbrev pub bucket_at : List (List ℕ) → ℕ → List ℕ
 bucket_at buckets b = slice_index_or buckets b []
 
--- The nodes of a new table: all slots are free.
+-- The nodes of a new table: all slots are free, no node has a pair, and none is in a bucket.
 pub record IsAllFree {K V : Type 0} (max : ℕ) (nodes : Columns K V) : Type 0 where
   pub none_used : HasRing nodes.recency max max []
   pub all_free : HasRing nodes.recency max (max + 1) (range_with_len 0 max)
@@ -57,8 +57,8 @@ module _ {K V : Type 0} where
     pub pair : pair_at pairs node ≡ Some (key, value)
     pub bucket_is : bucket_number (hash key) (length buckets) ≡ bucket
 
-  -- The slots with a pair are those in the list by recency, each is in the bucket of its key, and no key occurs twice. Two hubs follow the slots, and then
-  -- those of the buckets.
+  -- The slots with a pair are those in the list by recency, each is in the bucket of its key, and no key occurs twice. The
+  -- nodes after the slots are two hubs, of the entries and of the free slots; the hubs of the buckets are numbered after them.
   pub record IsSound (hash : K → ℕ) (max : ℕ) (nodes : Columns K V) (hubs : List Links) (len : ℕ) : Type 0 where
     -- The slots of the entries, least recently touched first, the free slots, and the slots of each bucket.
     pub used : List ℕ

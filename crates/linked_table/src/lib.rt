@@ -9,13 +9,13 @@
 //! the value of a polynomial over its two words, modulo a prime, at a point that the seed chooses.
 //! That words which share a bucket are hard to choose without the seed is not proved.
 //!
-//! Choices: the slots are one vector. A slot has its key and value, its neighbours by recency or among
-//! the free slots, and its neighbours in its bucket, so that a look-up which finds its entry reads
-//! the bucket and the slot alone. The hubs of the two rings by recency follow the slots, so that
-//! linking and unlinking there has no branch. The hubs of the buckets have a vector of their own, of
-//! 8 octets each. There is one bucket more than slots, so never none. A bucket is picked by
-//! products, which are faster than a division. The slot freed last is filled first, so that few
-//! live entries touch little memory.
+//! Choices: the slots are one vector. A slot has its key and value, its neighbours by recency or
+//! among the free slots, and its neighbours in its bucket: a look-up reads the hub of the bucket
+//! and the slots there up to its own, nothing else. Two hubs follow the slots, of the entries and
+//! of the free slots, so linking and unlinking in these rings has no branch. The hubs of the
+//! buckets are a vector of their own, of 8 octets each, one more than slots, so never none. A
+//! bucket is picked by products, which are faster than a division. The slot freed last is filled
+//! first, so that few live entries touch little memory.
 #![tactic(auto)]
 
 mod hash;

@@ -10,8 +10,7 @@ use crate::ring::Links;
 pub(crate) struct Node<K, V> {
     /// Neighbours in the ring of the used or of the free slots.
     pub(crate) recent: Links,
-    /// Neighbours in the ring of a bucket. The number of a bucket's hub is that of the bucket, after
-    /// those of the nodes.
+    /// Neighbours in the ring of a bucket. The hub of bucket `b` has the number `nodes.len() + b`.
     pub(crate) chain: Links,
     /// Key and value of an entry.
     pub(crate) pair: Option<(K, V)>,

@@ -26,7 +26,7 @@ impl Links {
     }
 }
 
-/// Returns the links of `count` nodes, from this one on, each in a ring of its own.
+/// Returns the links of `count` nodes, numbered from `first` on, each in a ring of its own.
 pub(crate) fn lone_links(alloc: Global, first: u32, count: u32) -> Result<Vec<Links>, NoMemory>
     requires { first + count < 2 ^ 32 }
     ensures { IfOk result (λ links. links.items ≡ map lone (range_with_len first count)) }
@@ -52,10 +52,9 @@ impl Model for Rings {
 
 impl Rings {
     /// Creates `count` nodes, each in a ring of its own. For 2^32 or more it returns `NoMemory`:
-    /// their numbers do not fit 32 bits.
+    /// their number does not fit 32 bits.
     pub(crate) fn open(alloc: Global, count: usize) -> Result<Rings, NoMemory>
-        ensures alone { IfOk result (λ rings. rings ≡ map lone (range_with_len 0 count)) }
-        ensures few { IfOk result (λ _. count < 2 ^ 32) }
+        ensures { IfOk result (λ rings. rings ≡ map lone (range_with_len 0 count)) }
     {
         if count > u32::MAX as usize {
             return Err(NoMemory);

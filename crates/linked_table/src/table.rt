@@ -1,5 +1,5 @@
 //! The table: its entries by recency, and its look-up by the hash of a key.
-ghost use Rattle.std.specs.Prelude.{◌≡◌, ◌+◌, ◌-◌, ◌<◌, ◌≤◌, ◌≢◌, ◌^◌, ◌↔◌, [], ◌∷◌, ◌++◌, length, map, false, Option, Some, IfOk, IfErr, OnErr, IsErr, IfSome, IfNone, IsNone};
+ghost use Rattle.std.specs.Prelude.{◌≡◌, ◌+◌, ◌<◌, ◌≤◌, ◌≢◌, ◌^◌, ◌↔◌, [], ◌∷◌, ◌++◌, length, map, false, Option, Some, IfOk, IfErr, OnErr, IsErr, IfSome, IfNone, IsNone};
 ghost use Rattle.std.specs.List.{All, AllPairs, range_with_len};
 ghost use Rattle.std.specs.Borrow.{sem};
 ghost use Rattle.linked_table.specs.Table.{IsIn, IsNotIn, HasNone, SplitAt, Wherever, Answers, IsCallableAt, PassesFirst, without, only, with_value, first_slot};
@@ -23,10 +23,10 @@ pub struct Slot(pub u32);
 pub struct LinkedTable<K: Key, V> {
     seed: u64,
     max: u32,
-    // The slots, and two hubs: of the ring of the entries from the oldest to the newest, then of that
-    // of the free slots.
+    // The slots, then the hub of the entries, from the oldest to the newest, and the hub of the free
+    // slots.
     nodes: Vec<Node<K, V>>,
-    // The hubs of the buckets, whose rings have the entries that share a bucket.
+    // One hub for each bucket; its ring has the entries of the bucket.
     hubs: Vec<Links>,
     len: u32,
 }
@@ -46,7 +46,7 @@ impl<K: Key, V> Model for LinkedTable<K, V> {
     ghost invariant = { λ t. IsSound (λ k. K.hash_of k t.seed) t.max (columns t.nodes.items) t.hubs.items t.len };
 }
 
-// Returns the bucket of a key, of so many.
+// Returns the bucket of a key among `buckets`.
 fn bucket_of<K: Key>(hashed: &Hashed<K>, seed: u64, buckets: usize) -> u32
     requires some { 0 < buckets }
     requires few { buckets < 2 ^ 32 }
@@ -99,11 +99,12 @@ impl<K: Key, V> LinkedTable<K, V> {
     ghost use Rattle.linked_table.specs.Lends.{lends_value};
 
     /// Creates a table without entries, for at most `max`. The seed decides only which keys share a
-    /// hash chain; no result depends on it. For a `max` of 2^31 - 1 or more it returns `NoMemory`: the
+    /// bucket; no result depends on it. For a `max` of 2^31 - 1 or more it returns `NoMemory`: the
     /// numbers of the nodes do not fit 32 bits.
     pub fn open(alloc: Global, max: u32, seed: u64) -> Result<LinkedTable<K, V>, NoMemory>
         ensures { IfOk result (λ table. table ≡ record { entries = []; max = max }) }
     {
+        // There are 2 * max + 3 nodes and hubs.
         if max > (u32::MAX - 3) / 2 {
             return Err(NoMemory);
         }

@@ -12,18 +12,18 @@ pub fn side_of(settings: &Settings, src: Addr, dst: Addr) -> Option<Side>
     requires { All (λ prefix. prefix.len ≤ 32) settings.now.prefixes.items }
     ensures { result ≡ side (plain_settings settings.now) None src.0 dst.0 }
 {
-    let listed = are_listed(&settings.prefixes, src, dst);
-    if listed.0 == listed.1 {
+    let (source, destination) = are_listed(&settings.prefixes, src, dst);
+    if source == destination {
         None
-    } else if listed.1 == settings.mirror {
-        Some(Side::Outward)
-    } else {
+    } else if source == settings.mirror {
+        // With `mirror` the trusted addresses are those in no prefix.
         Some(Side::Inward)
+    } else {
+        Some(Side::Outward)
     }
 }
 
-// Returns of each of two addresses whether one of the prefixes holds it, in one pass over the
-// prefixes.
+// Returns for each of two addresses whether a prefix holds it, in one pass over the prefixes.
 fn are_listed(prefixes: &[Prefix], src: Addr, dst: Addr) -> (bool, bool)
     requires { All (λ prefix. prefix.len ≤ 32) prefixes.now }
     ensures source { result.0 ≡ is_listed prefixes.now src.0 }

@@ -218,7 +218,7 @@ pub record IsLast (era : Era) (warm : Warm) : Type 0 where
 abbrev pub taken : Taking → (scratch : List ℕ) → List ℕ
 taken t scratch = if t.as_read then t.own.now else take (length t.own.now) scratch
 
--- the octets fit into the chain and the scratch; those that are rewritten are in the scratch
+-- the octets fit into the chain, and the scratch has at least as many
 pub record CanPlace (store : Store) (chain : ℕ) (t : Taking) (scratch : List ℕ) : Type 0 where
   pub offsets : t.kept.lo + length t.own.now ≤ 2 ^ 64 - 1
   pub inside : length t.own.now ≤ length scratch

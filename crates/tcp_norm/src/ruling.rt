@@ -68,7 +68,7 @@ impl Ruling {
     }
 }
 
-/// The octets of an interval that an era takes: the segment's own if it is sent as it was read, and otherwise those at the front of the scratch.
+/// The octets of an interval that an era takes: the segment's own if it is sent as it was read, and otherwise as many at the front of the scratch.
 #[derive(Clone, Copy)]
 pub(crate) struct Taking<'a> {
     pub(crate) kept: Interval,

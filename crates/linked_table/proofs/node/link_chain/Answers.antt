@@ -1,4 +1,4 @@
-use Rattle.std.proofs.Common.{refl, arith}
+use Rattle.std.proofs.Common.{arith}
 use Rattle.linked_table.proofs.Nodes.{chained}
 use Rattle.linked_table.proofs.node.link_chain.Goals as goal
 

@@ -1,6 +1,6 @@
 use Rattle.std.proofs.Common.{◌≡◌, ◌+◌, ◌-◌, None, length, refl, sym, ap, ◌∙◌, arith}
 use Rattle.linked_table.specs.Sound.{bucket_number}
-use Rattle.linked_table.proofs.Nodes.{pair_read, length-columns, nodes_length, first_read, chain_read}
+use Rattle.linked_table.proofs.Nodes.{pair_read, length-columns, first_read, chain_read}
 use Rattle.linked_table.proofs.Parts.{split_at}
 use Rattle.linked_table.proofs.Tables.{hub_read, slots_apart, keys_apart}
 use Rattle.linked_table.proofs.Searches.{begins, next_of, none_left, none_at_end, none_has, none_whichever, has_key, differs}
@@ -12,7 +12,7 @@ loop-init g c =
     let all : c.self.inside.len - 0 ≡ c.self.inside.len = omega arith in
     let count : c.len.result ≡ length c.self.inside.hubs.items = omega arith in
     let nodes : c.len-2.result ≡ length c.self.inside.nodes.items = omega arith in
-    rw (all, nodes) (begins _ _ _ _ _ c.self.invariant _ c.self.view_is c.args.hashed.now.key _ (hub_read _ _ _ _ _ c.self.invariant _ _ _ (nodes_length c.self.inside.nodes.items) (c.bucket_of-bucket.ensures.number ∙ ap (bucket_number _) count)) _ (first_read c.self.inside.nodes.items c.self.inside.hubs.items _ _ c.index.ensures (omega (arith, c.bucket_of-bucket.ensures.inside, count))))
+    rw (all, nodes) (begins _ _ _ _ _ c.self.invariant _ c.self.view_is c.args.hashed.now.key _ (hub_read _ _ _ _ _ c.self.invariant _ _ _ (sym (length-columns c.self.inside.nodes.items)) (c.bucket_of-bucket.ensures.number ∙ ap (bucket_number _) count)) _ (first_read c.self.inside.nodes.items c.self.inside.hubs.items _ _ c.index.ensures (omega (arith, c.bucket_of-bucket.ensures.inside, count))))
 
 pub returns-then-node-hub-clause-whichever : goal.returns-then-node-hub-clause-whichever
 returns-then-node-hub-clause-whichever g c = none_whichever _ _ _ _ _ c.self.invariant _ c.self.view_is c.args.hashed.now.key None (none_has _ _ _ _ _ c.self.invariant _ c.self.view_is c.args.hashed.now.key _ _ _ c.loop.invariant (none_left _ _ _ _ _ _ c.loop.invariant c.if-node-hub.true))
