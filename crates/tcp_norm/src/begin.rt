@@ -50,6 +50,7 @@ impl TcpNorm {
     }
 
     // Ends the least recently touched era that holds no octet, if there is one.
+    #[inline(always)]
     fn evict(&mut self) -> Option<Ended>
         ensures evicts { (lives : List Alive) (segments : ℕ → List Written) → Holds self.old lives segments → Evicts self.old self.new lives segments result }
         ensures absent { (key : EraKey) → HasNone self.old.table.entries key → HasNone self.new.table.entries key }

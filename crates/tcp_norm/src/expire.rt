@@ -14,6 +14,8 @@ impl TcpNorm {
     ghost use Rattle.tcp_norm.specs.Standing.{StandsFor, Holds, ChangesTables};
 
     /// Ends the eras, at most two, in which nothing was written for more than `idle` seconds, the least recently written first, and appends them to the entry.
+    // Few records end an era: the test of the oldest is in the step, so that it makes no call.
+    #[inline(always)]
     pub fn expire(&mut self, now: u32, entry: &mut Entry)
         requires none { entry.old.ended.items ≡ [] }
         requires later { self.old.latest ≤ now }
@@ -37,6 +39,7 @@ impl TcpNorm {
     }
 
     // Ends the least recently touched era, if it is idle.
+    #[inline(always)]
     fn end_idle(&mut self, now: u32) -> Option<Ended>
         ensures ends { (lives : List Alive) (segments : ℕ → List Written) → Holds self.old lives segments → EndsIdle self.old self.new now lives segments result }
         ensures tables { ChangesTables self.old self.new self.old.begun }

@@ -17,7 +17,6 @@ impl TcpNorm {
     ghost use Rattle.tcp_norm.specs.Standing.{IsReady};
     ghost use Rattle.tcp_norm.specs.Rulings.{IsLiveIn, IsShort, Judges};
 
-    #[inline(never)]
     pub(super) fn judge_reset(&mut self, slot: Slot, arrival: &Arrival<'_>, ruling: &mut Ruling)
         requires live { IsLiveIn self.old arrival.now slot }
         requires rst { tcp.has_rst arrival.now.head.now.flags.0 ≡ true }

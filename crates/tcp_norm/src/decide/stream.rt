@@ -37,7 +37,6 @@ impl TcpNorm {
     ghost use Rattle.tcp_norm.specs.Rulings.{CanTake, DecidesIn, IsLiveIn, IsPlain, IsSame, IsShort};
 
     // Returns what the era takes, if no rule drops the segment. Only the scratch and the hint of the chain change.
-    #[inline(never)]
     pub(super) fn decide_stream<'a>(
         &mut self,
         slot: Slot,

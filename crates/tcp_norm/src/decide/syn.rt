@@ -27,7 +27,6 @@ impl TcpNorm {
     ghost use Rattle.tcp_norm.specs.Standing.{IsReady};
     ghost use Rattle.tcp_norm.specs.Rulings.{IsLiveIn, IsShort, Judges};
 
-    #[inline(never)]
     pub(super) fn judge_syn(&mut self, slot: Slot, arrival: &Arrival<'_>, ruling: &mut Ruling)
         requires live { IsLiveIn self.old arrival.now slot }
         requires ready { IsReady self.old arrival.now.time }
