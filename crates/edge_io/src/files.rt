@@ -14,7 +14,7 @@ use std::io::{Read, Stdout, Write};
 use std::marker::Model;
 
 /// Size of the buffer of a file or of standard output, in octets.
-pub const BUFFER_OCTETS: usize = 65_536;
+const BUFFER_OCTETS: usize = 65_536;
 
 /// A file to read from.
 pub type FileSource = BufferedSource<File>;

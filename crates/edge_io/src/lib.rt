@@ -30,7 +30,7 @@ pub mod outbox;
 
 pub use ends::{Sink, Source};
 pub use faults::{Failed, NoMemory};
-pub use files::{BUFFER_OCTETS, BufferedSink, BufferedSource, FileSink, FileSource, LineOut};
+pub use files::{BufferedSink, BufferedSource, FileSink, FileSource, LineOut};
 pub use fill::read_full;
 pub use memory::{MemSink, MemSource};
 pub use outbox::{MAX_FRAME, Outbox};
