@@ -56,7 +56,7 @@ pub const MAX_NAMED: usize = 14;
 pub struct Entry {
     /// The record's number, from 1.
     pub number: u32,
-    /// The direction of its packet. None if a rule drops the record before the direction is known.
+    /// The direction of its packet. None of ARP, and if a rule drops the record before the direction is known.
     pub side: Option<Side>,
     pub verdict: Verdict,
     /// The number of frames written for it.

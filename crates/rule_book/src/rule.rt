@@ -26,9 +26,9 @@ pub enum Rule {
     ILen,
     /// A wrong IPv4 header checksum.
     ISum,
-    /// A source address that no host has, or that equals the destination.
+    /// A source address that begins with 0, 127, or 224 and above, or that equals the destination.
     ISrc,
-    /// A destination address that neither a host nor a group has.
+    /// A destination address that begins with 0, 127, or 240 and above.
     IDst,
     /// The capture gives no side, and both addresses are trusted or neither is.
     ISide,
@@ -66,7 +66,7 @@ pub enum Rule {
     MSum,
     /// An ICMP type that is not 0, 3, 8, 11, 12, 13 or 14.
     MType,
-    /// An inbound ICMP error that quotes no packet of a trusted host.
+    /// An inbound ICMP error that quotes no packet from a trusted to an untrusted address, or a segment without a live era.
     MQuote,
     /// Fewer than 20 octets for the TCP header.
     TShort,
@@ -82,7 +82,7 @@ pub enum Rule {
     TCold,
     /// An inbound segment that does not fit an era that is not open yet.
     TState,
-    /// An inbound SYN with another sequence number in an open era.
+    /// An inbound SYN with another sequence number than the one before its era's first octet.
     TSyn,
     /// An inbound RST outside of what its era accepts.
     TRst,
@@ -119,11 +119,11 @@ pub enum Rule {
     CProbe,
     /// Octets that the trusted host has acknowledged are cut off.
     TOld,
-    /// Octets past the window of the trusted host are cut off.
+    /// Octets more than one past the window of the trusted host are cut off.
     TWindow,
     /// Never holds: streams may pass 2^31 octets. Older reports have its name.
     TTurn,
-    /// Octets past the end of the stream are cut off, or a FIN is cleared.
+    /// Octets past the end of the stream are cut off, or a FIN that cannot be the end is cleared.
     TEnd,
     /// Octets that differ from those first sent at their offsets are replaced by them.
     TClash,
@@ -218,14 +218,14 @@ impl Rule {
         match self {
             Rule::LSnap => ("L_SNAP", "fewer octets were captured than the packet had"),
             Rule::LShort => ("L_SHORT", "an Ethernet frame has fewer than 14 octets"),
-            Rule::LType => ("L_TYPE", "the EtherType is neither IPv4 nor ARP, or an ARP frame is too long"),
+            Rule::LType => ("L_TYPE", "the EtherType is neither IPv4 nor ARP, or an ARP frame has more than 65549 octets"),
             Rule::IShort => ("I_SHORT", "the packet has fewer than 20 octets"),
             Rule::IVersion => ("I_VERSION", "the IP version is not 4"),
             Rule::IHlen => ("I_HLEN", "the header length is below 5 words or longer than the packet"),
             Rule::ILen => ("I_LEN", "the total length is below the header length or longer than the packet"),
             Rule::ISum => ("I_SUM", "the checksum of the IP header is wrong"),
-            Rule::ISrc => ("I_SRC", "the source is an address that no host has, or equals the destination"),
-            Rule::IDst => ("I_DST", "the destination is an address that no host has"),
+            Rule::ISrc => ("I_SRC", "the source begins with 0, 127, or 224 and above, or equals the destination"),
+            Rule::IDst => ("I_DST", "the destination begins with 0, 127, or 240 and above"),
             Rule::ISide => ("I_SIDE", "source and destination are both trusted, or neither is"),
             Rule::IOptBad => ("I_OPT_BAD", "an IP option is malformed"),
             Rule::IRoute => ("I_ROUTE", "the packet has a source route"),
@@ -244,15 +244,15 @@ impl Rule {
             Rule::MShort => ("M_SHORT", "an ICMP message has fewer than 8 octets"),
             Rule::MSum => ("M_SUM", "the ICMP checksum is wrong"),
             Rule::MType => ("M_TYPE", "the ICMP type is not 0, 3, 8, 11, 12, 13 or 14"),
-            Rule::MQuote => ("M_QUOTE", "an inbound ICMP error quotes nothing that a trusted host sent"),
+            Rule::MQuote => ("M_QUOTE", "an inbound ICMP error quotes no packet from a trusted to an untrusted address, or a segment without a live era"),
             Rule::TShort => ("T_SHORT", "a segment has fewer than 20 octets"),
             Rule::THlen => ("T_HLEN", "the data offset is below 5 words or longer than the segment"),
             Rule::TSum => ("T_SUM", "the TCP checksum is wrong"),
-            Rule::TFlags => ("T_FLAGS", "the flags do not go together, as SYN with FIN"),
+            Rule::TFlags => ("T_FLAGS", "the combination of SYN, FIN, RST and ACK is not allowed"),
             Rule::TOptBad => ("T_OPT_BAD", "a TCP option is malformed"),
-            Rule::TCold => ("T_COLD", "an inbound RST, or SYN with ACK, arrives while no era is live"),
+            Rule::TCold => ("T_COLD", "an inbound RST, or SYN with ACK, belongs to no live era"),
             Rule::TState => ("T_STATE", "an inbound segment does not fit an era that is not open yet"),
-            Rule::TSyn => ("T_SYN", "an inbound SYN in an open era has another sequence number"),
+            Rule::TSyn => ("T_SYN", "an inbound SYN has another sequence number than the one before its era's first octet"),
             Rule::TRst => ("T_RST", "an inbound RST is outside of what its era takes"),
             Rule::TFull => ("T_FULL", "an era would begin while the table is full and none can be evicted"),
             Rule::TQuota => ("T_QUOTA", "the connection would hold more cells than --quota allows"),
@@ -262,7 +262,7 @@ impl Rule {
             Rule::IRes => ("I_RES", "the reserved flag of the IP header is cleared"),
             Rule::ITtl => ("I_TTL", "a time to live that is too low for the routers behind norm is raised"),
             Rule::FHeld => ("F_HELD", "the fragment is held until its datagram is complete"),
-            Rule::FDone => ("F_DONE", "the fragment completes its datagram, which is written as one packet"),
+            Rule::FDone => ("F_DONE", "the fragment completes its datagram, which is judged as one packet"),
             Rule::USumOut => ("U_SUM_OUT", "the checksum of an outbound UDP message is computed again"),
             Rule::TSumOut => ("T_SUM_OUT", "the checksum of an outbound TCP segment is computed again"),
             Rule::TRes => ("T_RES", "reserved bits of the TCP header are cleared"),
@@ -271,9 +271,9 @@ impl Rule {
             Rule::TStrip => ("T_STRIP", "the payload of a SYN or RST is cut off"),
             Rule::CProbe => ("C_PROBE", "a keep-alive is sent, in place of the segment or after a RST"),
             Rule::TOld => ("T_OLD", "octets that the receiver has acknowledged are cut off"),
-            Rule::TWindow => ("T_WINDOW", "octets after the window of the receiver are cut off"),
+            Rule::TWindow => ("T_WINDOW", "octets more than one past the window of the receiver are cut off"),
             Rule::TTurn => ("T_TURN", "not used any more, older reports may have it"),
-            Rule::TEnd => ("T_END", "octets or a FIN after the end of the stream are cut off"),
+            Rule::TEnd => ("T_END", "octets after the end of the stream are cut off, or a FIN that cannot be the end is cleared"),
             Rule::TClash => ("T_CLASH", "octets that differ from those first sent at their offsets are replaced"),
             Rule::ECut => ("E_CUT", "the segment is too long for --mtu and is cut into segments that fit"),
             Rule::EMtu => ("E_MTU", "the packet is too long for --mtu and cannot be cut, it is not written"),
