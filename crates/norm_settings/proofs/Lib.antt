@@ -11,3 +11,4 @@ pub mod Rows
 pub mod Walking
 pub mod Telling
 pub mod Together
+pub mod Loads

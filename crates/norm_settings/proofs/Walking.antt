@@ -59,7 +59,7 @@ more w after word rest uses line p e h = record {
 
 -- ---- the names
 
-plain_name : (v : Text) → is_name v ≡ true → IsPlain v
+pub plain_name : (v : Text) → is_name v ≡ true → IsPlain v
 plain_name [] e = cc
 plain_name (x ∷ xs) e = by_test (x == 45) e
   where

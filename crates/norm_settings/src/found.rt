@@ -11,7 +11,7 @@ use clap::ArgMatches;
 use wire_base::Prefix;
 
 /// Returns the settings of the values found, with these prefixes.
-pub fn settings_found(matches: &ArgMatches<'_>, prefixes: ArrayVec<Prefix, 16>) -> Settings
+pub(crate) fn settings_found(matches: &ArgMatches<'_>, prefixes: ArrayVec<Prefix, 16>) -> Settings
     requires { All (λ prefix. prefix.len ≤ 32) prefixes.items }
     ensures exact { plain_settings result ≡ settings_of (value_in matches.now) prefixes.items }
     ensures in_range { AreInRange (plain_settings result) }

@@ -14,7 +14,7 @@
 
 pub mod command;
 pub mod fault;
-pub mod found;
+mod found;
 pub mod laws;
 mod line;
 mod numbers;
@@ -27,7 +27,7 @@ pub mod words;
 pub use command::{Command, Names};
 pub use fault::WordFault;
 pub use numbers::number_within;
-pub use options::{Choice, Kind, MAX_CELLS, Row};
+pub use options::{Choice, Kind, Row};
 pub use settings::Settings;
 pub use sides::side_of;
 pub use words::read_words;

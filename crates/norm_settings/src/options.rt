@@ -5,7 +5,7 @@ ghost use Rattle.norm_settings.specs.Options.{name_of, kind_of, all_choices, sta
 use wire_base::MAX_PACKET;
 
 /// Most cells of 256 octets for streams.
-pub const MAX_CELLS: u64 = 262_144;
+const MAX_CELLS: u64 = 262_144;
 
 /// An option of `run`.
 #[derive(Clone, Copy, Debug, PartialEq, Eq)]

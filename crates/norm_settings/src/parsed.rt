@@ -1,4 +1,4 @@
-//! The clap command that parses the words of a run.
+//! The clap command that parses the words of a run or of a load.
 ghost use Rattle.std.specs.Prelude.{◌≡◌, ◌++◌, ◌∷◌, [], IfOk, IfErr, map, fold, string_bytes, codes, None, Some, true, false};
 ghost use Rattle.clap.specs.Values.{kind_of};
 ghost use Rattle.clap.specs.Walk.{rule_of};
@@ -6,6 +6,7 @@ ghost use Rattle.clap.specs.Simple.{app_of, with_rule};
 ghost use Rattle.norm_settings.specs.Line.{PlainLine, line_of};
 ghost use Rattle.norm_settings.specs.Asked.{is_whole};
 ghost use Rattle.norm_settings.specs.Options.{all_choices};
+ghost use Rattle.norm_settings.specs.Found.{is_pair};
 ghost use Rattle.norm_settings.specs.Found as spec;
 
 use crate::laws::lines_are_those_written;
@@ -28,7 +29,31 @@ pub fn run_matches<'a>(alloc: Global, words: &'a [String]) -> Result<ArgMatches<
     }
 }
 
-// Returns the clap command: an argument for each option, and then the names.
+/// Parses the words after `load` with clap.
+pub(crate) fn load_matches<'a>(alloc: Global, words: &'a [String]) -> Result<ArgMatches<'a>, Error>
+    // Of two names, clap finds both.
+    ensures ok { IfOk result (λ matches. is_pair (map string_bytes words.entry.now) ≡ true → spec.ReadsPair matches (map string_bytes words.entry.now)) }
+    // Two names are refused only if memory could not be allocated.
+    ensures err { IfErr result (λ error. is_pair (map string_bytes words.entry.now) ≡ true → kind_of error ≡ ErrorKind.OutOfMemory) }
+{
+    match load_command(alloc) {
+        Ok(command) => command.try_get_matches_from(words),
+        Err(refused) => Err(Error::from(refused)),
+    }
+}
+
+// Returns the clap command of a load: SEED and COUNT.
+fn load_command<'a>(alloc: Global) -> Result<Command<'a>, AllocError>
+    ensures { IfOk result (λ command. app_of command ≡ spec.load_command) }
+{
+    let seed = Arg::new(alloc, "seed");
+    let count = Arg::new(alloc, "count");
+    let first = bare_command(alloc).arg(seed)?;
+    let second = first.arg(count)?;
+    Ok(second)
+}
+
+// Returns the clap command of a run: an argument for each option, and then the names.
 fn run_command<'a>(alloc: Global) -> Result<Command<'a>, AllocError>
     ensures { IfOk result (λ command. app_of command ≡ spec.run_command) }
 {
@@ -42,7 +67,7 @@ fn run_command<'a>(alloc: Global) -> Result<Command<'a>, AllocError>
     Ok(third)
 }
 
-// Returns the clap command with an argument for each option.
+// Returns the clap command of a run with an argument for each option.
 fn option_command<'a>(alloc: Global) -> Result<Command<'a>, AllocError>
     ensures { IfOk result (λ command. app_of command ≡ fold with_rule spec.bare (map spec.rule_for all_choices)) }
 {
@@ -54,10 +79,11 @@ fn option_command<'a>(alloc: Global) -> Result<Command<'a>, AllocError>
     Ok(command)
 }
 
+// Returns the clap command without arguments.
 fn bare_command<'a>(alloc: Global) -> Command<'a>
     ensures { app_of result ≡ spec.bare }
 {
-    Command::new(alloc, "run")
+    Command::new(alloc, "norm")
         .no_binary_name(true)
         .disable_help_flag(true)
         .args_override_self(true)

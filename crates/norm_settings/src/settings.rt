@@ -37,7 +37,7 @@ pub struct Settings {
     /// Whether the addresses in no prefix are the trusted ones. No word of the command line sets
     /// it.
     pub mirror: bool,
-    /// The name of the inside interface, of 1 to 64 octets.
+    /// The name of the inside interface, of at most 64 octets.
     pub inside: Option<ArrayVec<u8, 64>>,
     /// Maximum length of a written packet in octets, from 576 to 65,535; None for no limit.
     pub mtu: Option<u16>,

@@ -1,17 +1,18 @@
 //! The words of the command line.
-ghost use Rattle.std.specs.Prelude.{◌≡◌, ◌≤◌, ◌⊎◌, All, ℕ, [], map, length, string_bytes, None, Some, Ok, Err, IfOk, IfErr};
+ghost use Rattle.std.specs.Prelude.{◌≡◌, ◌≤◌, ◌⊎◌, All, ℕ, List, [], map, length, string_bytes, option_and_then, None, Some, Ok, Err, IfOk, IfErr};
 ghost use Rattle.std.specs.List.{list_all};
 ghost use Rattle.clap.specs.Values.{kind_of};
+ghost use Rattle.clap.specs.Matches.{found_of, first_value};
 ghost use Rattle.norm_settings.specs.Line.{PlainLine, plain_use, plain_line};
 ghost use Rattle.norm_settings.specs.Line as spec;
 ghost use Rattle.norm_settings.specs.Asked.{asked, asked_run, asked_load, run_of, prefixes_from, plain_command, SettingsAreInRange, SettingsGoTogether};
 ghost use Rattle.norm_settings.specs.Asked.{is_whole as is_whole_line, go_together as do_go_together};
-ghost use Rattle.norm_settings.specs.Options.{is_name as is_name_of};
-ghost use Rattle.norm_settings.specs.Found.{ReadsAs};
+ghost use Rattle.norm_settings.specs.Options.{Text, is_name as is_name_of, number_within as number_of_word};
+ghost use Rattle.norm_settings.specs.Found.{ReadsAs, ReadsPair, is_pair as is_pair_of};
 
 use crate::found::settings_found;
 use crate::line::{Line, Use, is_given, line_of};
-use crate::parsed::run_matches;
+use crate::parsed::{load_matches, run_matches};
 use crate::{Choice, Command, Names, WordFault, number_within};
 use arrayvec::ArrayVec;
 use clap::ArgMatches;
@@ -33,31 +34,55 @@ pub fn read_words(alloc: Global, words: &[String]) -> Result<Command, WordFault>
         return read_run(alloc, words);
     }
     if verb.as_str() == "load" {
-        return read_load(words);
+        return read_load(alloc, words);
     }
     Err(WordFault::Refused)
 }
 
 // Parses the words after `load`.
-fn read_load(words: &[String]) -> Result<Command, WordFault>
+fn read_load(alloc: Global, words: &[String]) -> Result<Command, WordFault>
     ensures ok { IfOk result (λ command. asked_load (map string_bytes words.now) ≡ Ok (plain_command command)) }
     ensures in_range { IfOk result SettingsAreInRange }
     ensures together { IfOk result SettingsGoTogether }
-    ensures err { IfErr result (λ fault. asked_load (map string_bytes words.now) ≡ Err fault) }
+    ensures err { IfErr result (λ fault. (fault ≡ WordFault.NoMemory) ⊎ (asked_load (map string_bytes words.now) ≡ Err fault)) }
 {
-    let [seed, count] = words else {
+    if !is_pair(words) {
+        return Err(WordFault::Refused);
+    }
+    match load_matches(alloc, words) {
+        Ok(matches) => load_found(&matches),
+        Err(error) => match error.kind() {
+            ErrorKind::OutOfMemory => Err(WordFault::NoMemory),
+            _ => Err(WordFault::Refused),
+        },
+    }
+}
+
+// Returns the load from the values that clap found in its words.
+fn load_found(matches: &ArgMatches<'_>) -> Result<Command, WordFault>
+    ensures ok { IfOk result (λ command. (words : List Text) → ReadsPair matches.now words → asked_load words ≡ Ok (plain_command command)) }
+    ensures in_range { IfOk result SettingsAreInRange }
+    ensures together { IfOk result SettingsGoTogether }
+    ensures err { IfErr result (λ fault. (words : List Text) → ReadsPair matches.now words → asked_load words ≡ Err fault) }
+{
+    let Some(seed) = number_in(matches, "seed", 0, u64::MAX) else {
         return Err(WordFault::Refused);
     };
-    let Some(seed) = number_within(seed.as_bytes(), 0, u64::MAX) else {
-        return Err(WordFault::Refused);
-    };
-    let Some(count) = number_within(count.as_bytes(), 1, 1_000_000) else {
+    let Some(count) = number_in(matches, "count", 1, 1_000_000) else {
         return Err(WordFault::Refused);
     };
     Ok(Command::Load {
         seed,
         count: count as u32,
     })
+}
+
+// Returns the number that clap found under this name, if it is in the range.
+fn number_in(matches: &ArgMatches<'_>, name: &str, least: u64, greatest: u64) -> Option<u64>
+    ensures { result ≡ option_and_then (number_of_word least greatest) (first_value (found_of matches.now) name.now) }
+{
+    let value = matches.get_str(name)?;
+    number_within(value.as_bytes(), least, greatest)
 }
 
 // Parses the words after `run`.
@@ -167,5 +192,15 @@ fn is_name(word: &[u8]) -> bool
     match word {
         [] => false,
         [first, ..] => *first != b'-',
+    }
+}
+
+// Returns whether there are two words, none of them empty and none beginning with `-`.
+fn is_pair(words: &[String]) -> bool
+    ensures { result ≡ is_pair_of (map string_bytes words.now) }
+{
+    match words {
+        [first, second] => is_name(first.as_bytes()) && is_name(second.as_bytes()),
+        _ => false,
     }
 }
