@@ -122,7 +122,7 @@ bounded_kept base ws w k h = record {
         subst (λ o. EndLies o (top base (ws ++ w ∷ [])) (edge base (ws ++ w ∷ []))) (sym is) (still (end_of base ws) refl h.end_lies)
 
 -- by induction on the segments
-other_before : (base : ℕ) (ws later : List Written) → HasNoOtherBase base (ws ++ later) → HasNoOtherBase base ws
+pub other_before : (base : ℕ) (ws later : List Written) → HasNoOtherBase base (ws ++ later) → HasNoOtherBase base ws
 other_before base ws later only number e = only number ((written_remains base ws later).base_is number e)
 
 bounded_next : (base : ℕ) (ws : List Written) (w : Written) → HasNoOtherBase base (ws ++ w ∷ []) → IsOutward w ⊎ IsEmitted ws w → Bounded base ws → Bounded base (ws ++ w ∷ [])

@@ -19,5 +19,6 @@ pub mod Remaining
 pub mod Alike
 pub mod Bounded
 pub mod Emitting
+pub mod Near
 pub mod Worked
 pub mod Lists

@@ -1,5 +1,5 @@
 -- What later segments preserve of written ones, and what holds of emitted ones.
-use Rattle.std.specs.Prelude.{◌≡◌, ◌↔◌, ℕ, ◌+◌, ◌%◌, ◌^◌, ◌<◌, ◌<ℤ◌, ◌++◌, ◌∷◌, [], true, false, List, length, ℤ, pos, ◌+ℤ◌, Some, None, slice_get}
+use Rattle.std.specs.Prelude.{◌≡◌, ◌↔◌, ℕ, ◌+◌, ◌%◌, ◌^◌, ◌<◌, ◌<ℤ◌, ◌≤ℤ◌, ◌++◌, ◌∷◌, [], true, false, List, length, ℤ, pos, ◌+ℤ◌, Some, None, slice_get}
 use Rattle.wire_base.specs.Tcp as tcp
 use Rattle.wire_base.specs.Segments.{Written}
 use Rattle.era_state.specs.declared.era.Era.{Era}
@@ -58,3 +58,17 @@ EmittedOctetsArePlaces = (base : ℕ) (ws : List Written) → base_of ws ≡ Som
 -- before a base is fixed, there is no octet
 abbrev pub UnbasedHasNoOctet : Type 0
 UnbasedHasNoOctet = (base : ℕ) (ws : List Written) → base_of ws ≡ None → AreEmitted [] ws → (offset : ℤ) → first base ws offset ≡ None
+
+-- An octet of the segment is at Acked or up to 2^30 past it. Its FIN is at an offset of the stream, at most 2^30 past Acked; a FIN that is written again may be
+-- below Acked.
+pub record IsNear (base : ℕ) (ws : List Written) (w : Written) : Type 0 where
+  pub octets :
+      (index : ℕ) → index < length w.octets →
+      (pos (acked base ws) ≤ℤ (off base (acked base ws) w.seq +ℤ pos index)) × ((off base (acked base ws) w.seq +ℤ pos index) ≤ℤ pos (acked base ws + 2 ^ 30))
+  pub fin :
+      tcp.has_fin w.flags ≡ true →
+      (pos 0 ≤ℤ (off base (acked base ws) w.seq +ℤ pos (length w.octets))) × ((off base (acked base ws) w.seq +ℤ pos (length w.octets)) ≤ℤ pos (acked base ws + 2 ^ 30))
+
+-- this holds of each inward segment that is emitted after emitted ones
+abbrev pub EmittedIsNear : Type 0
+EmittedIsNear = (base : ℕ) (ws : List Written) (w : Written) → HasNoOtherBase base (ws ++ w ∷ []) → AreEmitted [] ws → IsEmitted ws w → IsNear base ws w

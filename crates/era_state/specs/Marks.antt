@@ -51,7 +51,7 @@ abbrev pub edge_place : Option ℕ → (shift : ℕ) → Written → ℕ
 edge_place None shift w = 0
 edge_place (Some place) shift w = place + w.window * (if tcp.has_syn w.flags then 1 else 2 ^ shift)
 
--- the offset after the octets of an inward segment, or 0 if there are none
+-- the offset after the octets of an inward segment, or 0 if there are none or all of them are below offset 0
 abbrev pub top_place : (base acked : ℕ) → Written → ℕ
 top_place base acked w = if w.inward && has_octets w then nat_of (off base acked w.seq +ℤ pos (length w.octets)) else 0
 

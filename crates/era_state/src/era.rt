@@ -114,17 +114,7 @@ impl Era {
         ensures same { acked_in result ≡ last.acked }
         ensures settled { IsSettled result }
         ensures octets { octets_in result ≡ last.octets }
-    {
-        Era::of_last(last)
-    }
-
-    // Returns the era with these quantities.
-    fn of_last(last: Warm) -> Era
-        ensures stands { (ws : List Written) → WarmFor last ws → StandsFor result ws }
-        ensures settled { IsSettled result }
         ensures last { last_in result ≡ Some last }
-        ensures same { acked_in result ≡ last.acked }
-        ensures octets { octets_in result ≡ last.octets }
     {
         if last.is_over() {
             Era::Closed(Closed { last })
@@ -236,6 +226,7 @@ impl Era {
         ensures value { ForwardsIn kept.now fresh self.old self.new }
         ensures list { (ws : List Written) (w frame : Written) → StandsFor self.old ws → KeptOf ws w kept.now → IsFrame ws w kept.now frame → fresh ≡ fresh_places (base_at ws) ws kept.now.lo kept.now.hi → StandsFor self.new (ws ++ frame ∷ []) }
         ensures same { acked_in self.new ≡ acked_in self.old }
+        ensures settled { IsSettled self.new }
         ensures octets { octets_in self.new ≡ octets_in self.old + fresh }
     {
         match self {
@@ -246,7 +237,7 @@ impl Era {
                     *self = Era::Closed(Closed { last: *era });
                 }
             }
-            Era::Closed(era) => *self = Era::of_last(era.last.forwarded(kept, fresh)),
+            Era::Closed(era) => *self = Era::settled(era.last.forwarded(kept, fresh)),
         }
     }
 

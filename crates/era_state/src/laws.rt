@@ -4,7 +4,7 @@ ghost use Rattle.era_state.specs.Eras.{StatesAreTheLists, SilenceStands};
 ghost use Rattle.era_state.specs.Laws.{AckedNeverFalls, AckedGrowsNear, AckedIsGreatest, FirstStays, IntervalsFit, KeptOctetsAreNear, OctetsAreBelowTop, FrameOctets, FinStandsAtEnd, ShiftIsOfTheMoment};
 ghost use Rattle.era_state.specs.Silence.{SilenceChangesNothing};
 ghost use Rattle.era_state.specs.Alike.{AlikeChangesAlike, AlikeStands};
-ghost use Rattle.era_state.specs.Emitted.{WrittenRemains, InwardsAcknowledgeNothing, UnacknowledgedHasNoOctet, EmittedJoins, EmittedIsTold, EmittedOctetsArePlaces, UnbasedHasNoOctet};
+ghost use Rattle.era_state.specs.Emitted.{WrittenRemains, InwardsAcknowledgeNothing, UnacknowledgedHasNoOctet, EmittedJoins, EmittedIsNear, EmittedIsTold, EmittedOctetsArePlaces, UnbasedHasNoOctet};
 ghost use Rattle.era_state.specs.Worked.{SettledIsEmitted, ClashIsNotEmitted, TurnedIsEmitted};
 
 /// Proves that the offset of a number is the one from `at` - 2^31 to below `at` + 2^31.
@@ -121,6 +121,12 @@ pub fn emitted_joins()
 /// end, and that its SYN has the number before the base.
 pub fn emitted_is_told()
     ensures { EmittedIsTold }
+{}
+
+/// Proves that the octets of an emitted segment are at Acked or up to 2^30 past it, and its FIN at an
+/// offset of the stream at most 2^30 past Acked.
+pub fn emitted_is_near()
+    ensures { EmittedIsNear }
 {}
 
 /// Proves that an octet of emitted segments is at an offset from 0 to below Top, and below the end.

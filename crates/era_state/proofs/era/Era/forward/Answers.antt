@@ -22,4 +22,4 @@ returns-else-is_over-clause-list c ws w frame h kept framed fresh =
 
 pub returns-in-Closed-clause-value : goal.returns-in-Closed-clause-value
 returns-in-Closed-clause-value c =
-    record { was = c.in-Closed.era.last; is = c.forwarded.result; was_last = ap last_in c.in-Closed.is; is_last = c.of_last.ensures.last; with = c.forwarded.ensures.value }
+    record { was = c.in-Closed.era.last; is = c.forwarded.result; was_last = ap last_in c.in-Closed.is; is_last = c.settled.ensures.last; with = c.forwarded.ensures.value }
