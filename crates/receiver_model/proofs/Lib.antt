@@ -1,6 +1,13 @@
 pub mod Sound
 pub mod Near
 pub mod Members
+pub mod Kept
+pub mod Monitors
+pub mod Caught
+pub mod InOrder
+pub mod Timely
+pub mod StreamMonitors
+pub mod Messages
 pub mod Places
 pub mod Waits
 pub mod Steps

@@ -1,5 +1,5 @@
 -- What a receiver knows at any time, if each octet and each FIN that it may be given is one of a single stream's.
-use Rattle.std.proofs.Common.{◌≡◌, ◌⊎◌, ℕ, ◌+◌, List, [], ◌∷◌, ◌++◌, length, Some, Option, true, refl, sym, ap, ◌∙◌, subst, inl, inr, ⊎_elim, arith, append-nil}
+use Rattle.std.proofs.Common.{◌≡◌, ◌⊎◌, ℕ, suc, ◌+◌, List, [], ◌∷◌, ◌++◌, length, Some, Option, true, refl, sym, ap, ◌∙◌, subst, inl, inr, ⊎_elim, arith, append-nil}
 use Rattle.std.specs.Prelude.{ℤ, pos, ◌<ℤ◌}
 use Rattle.std.proofs.lemmas.Int.{ints}
 use Rattle.wire_base.specs.Segments.{Segment}
@@ -35,6 +35,31 @@ read_waiting C waiting at (x ∷ xs) all w = (all (pos at) x w.0, read_waiting C
 read_append : (C : ℤ → ℕ → Type 0) (at : ℕ) (xs ys : List ℕ) → ReadFrom C at xs → ReadFrom C (at + length xs) ys → ReadFrom C at (xs ++ ys)
 read_append C at [] ys r s = subst (λ n. ReadFrom C n ys) (omega arith) s
 read_append C at (x ∷ xs) ys r s = (r.0, read_append C (at + 1) xs ys r.1 (subst (λ n. ReadFrom C n ys) (omega arith) s))
+
+read_more : (C D : ℤ → ℕ → Type 0) (at : ℕ) (xs : List ℕ) → ((offset : ℤ) (x : ℕ) → C offset x → D offset x) → ReadFrom C at xs → ReadFrom D at xs
+read_more C D at [] more r = tt
+read_more C D at (x ∷ xs) more r = (more (pos at) x r.0, read_more C D (at + 1) xs more r.1)
+
+-- what is sound of a part of the stream is sound of the stream
+pub sound_more : (C D : ℤ → ℕ → Type 0) (F G : ℤ → Type 0) (start : ℕ) (r : Receiver) → ((offset : ℤ) (x : ℕ) → C offset x → D offset x)
+    → ((offset : ℤ) → F offset → G offset) → Sound C F start r → Sound D G start r
+sound_more C D F G start r more also h = record {
+  waits = λ offset x e. more offset x (h.waits offset x e);
+  keeps = λ offset e. also offset (h.keeps offset e);
+  read = read_more C D start r.stream more h.read;
+  ends = λ e. also (pos (start + length r.stream)) (h.ends e);
+}
+
+-- nothing was read, or the octet before the next offset is the stream's
+pub read_end : (C : ℤ → ℕ → Type 0) (at : ℕ) (xs : List ℕ) → ReadFrom C at xs
+    → (at + length xs ≡ at) ⊎ ((last : ℕ) × (x : ℕ) × (at + length xs ≡ last + 1) × C (pos last) x)
+read_end C at [] r = inl (omega arith)
+read_end C at (x ∷ xs) r = by (read_end C (at + 1) xs r.1)
+  where
+    by : (at + 1 + length xs ≡ at + 1) ⊎ ((last : ℕ) × (y : ℕ) × (at + 1 + length xs ≡ last + 1) × C (pos last) y)
+        → (at + suc (length xs) ≡ at) ⊎ ((last : ℕ) × (y : ℕ) × (at + suc (length xs) ≡ last + 1) × C (pos last) y)
+    by (inl none) = inr (at, x, omega arith, r.0)
+    by (inr some) = let e = some.2 in inr (some.0, some.1, omega (arith, e), some.3)
 
 apart : (at : ℕ) → pos at <ℤ pos at → ⊥
 apart at h = omega (arith, ints)
@@ -90,7 +115,7 @@ prefixes C at (x ∷ xs) (y ∷ ys) one r s =
     (λ (p : IsPrefixOf ys xs). inr (p.0, λ i. sym same i ∷ p.1 i))
     (prefixes C (at + 1) xs ys one r.1 s.1)
 
-read_rest : (C : ℤ → ℕ → Type 0) (at : ℕ) (xs rest : List ℕ) → ReadFrom C at (xs ++ rest) → ReadFrom C (at + length xs) rest
+pub read_rest : (C : ℤ → ℕ → Type 0) (at : ℕ) (xs rest : List ℕ) → ReadFrom C at (xs ++ rest) → ReadFrom C (at + length xs) rest
 read_rest C at [] rest r = subst (λ n. ReadFrom C n rest) (omega arith) r
 read_rest C at (x ∷ xs) rest r = subst (λ n. ReadFrom C n rest) (omega arith) (read_rest C (at + 1) xs rest r.1)
 
@@ -115,3 +140,16 @@ sound_agree C F start a b is h k = record { prefix = prefix; first = first; seco
 
     both : a.ended ≡ true → b.ended ≡ true → a.stream ≡ b.stream
     both e f = ⊎_elim (λ p. first e p) (λ p. sym (second f p)) prefix
+
+-- where the stream has no octet at the next offset of a receiver, no other receiver has more
+pub none_has_more : (C : ℤ → ℕ → Type 0) (F : ℤ → Type 0) (start : ℕ) (r other : Receiver) → IsStream C F → Sound C F start r → Sound C F start other
+    → ((x : ℕ) → C (pos (start + length r.stream)) x → ⊥) → IsPrefixOf other.stream r.stream
+none_has_more C F start r other is h k none = by (prefixes C start other.stream r.stream is.one_octet k.read h.read)
+  where
+    no_rest : (rest : List ℕ) → r.stream ++ rest ≡ other.stream → IsPrefixOf other.stream r.stream
+    no_rest [] e = ([], append-nil other.stream ∙ sym e ∙ append-nil r.stream)
+    no_rest (x ∷ rest) e = absurd (none x (read_rest C start r.stream (x ∷ rest) (subst (ReadFrom C start) (sym e) k.read)).0)
+
+    by : IsPrefixOf other.stream r.stream ⊎ IsPrefixOf r.stream other.stream → IsPrefixOf other.stream r.stream
+    by (inl p) = p
+    by (inr p) = no_rest p.0 p.1

@@ -129,7 +129,7 @@ takes_chosen s old new small short t = record { carried = carried; others = othe
     soon e = t.ended ∙ ended_soon old.ended new.fin (old.start + length new.octets) e
 
 -- a TCP packet's segment is its fields
-segment_is : (p : List ℕ) → ip.protocol p ≡ 6 → segment_of p ≡ Some (fields_of p)
+pub segment_is : (p : List ℕ) → ip.protocol p ≡ 6 → segment_of p ≡ Some (fields_of p)
 segment_is p h = rw h refl
 
 -- the stream took a packet by fields that were read in it

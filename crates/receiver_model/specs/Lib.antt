@@ -9,5 +9,7 @@ pub mod Policies
 pub mod Streams
 pub mod Marks
 pub mod Families
+pub mod Monitors
+pub mod Messages
 pub mod Tests
 pub mod Written

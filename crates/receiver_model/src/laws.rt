@@ -1,10 +1,38 @@
 //! Laws over the definitions alone.
 ghost use Rattle.receiver_model.specs.Agreement.{MembersAgree};
+ghost use Rattle.receiver_model.specs.Messages.{PlainIsReadAlike};
+ghost use Rattle.receiver_model.specs.Monitors.{MonitorsAreInTime, MonitorsMissNothing, StreamsAreMonitors};
 ghost use Rattle.receiver_model.specs.Written.{AreRead};
 
 /// Proves that frames which describe one stream make any two members agree.
 pub fn members_agree()
     ensures { MembersAgree }
+{}
+
+/// Proves that a monitor misses nothing of frames that describe one stream: a member that hears
+/// every frame, keeps each octet not yet read and delivers all that it can has a stream of which
+/// every other member's is a prefix. It hears them in any order, each in time; or in order, whenever
+/// they arrive, if they stay near what was acknowledged.
+pub fn monitors_miss_nothing()
+    ensures { MonitorsMissNothing }
+{}
+
+/// Proves that a monitor which takes the frames in order, from an offset of at most 2^31 on, hears
+/// each in time, if before each frame with an octet or a FIN its next offset is less than 2^30 below
+/// what was acknowledged.
+pub fn monitors_are_in_time()
+    ensures { MonitorsAreInTime }
+{}
+
+/// Proves that a `Stream` which has taken every frame in order is a monitor, whatever its policy.
+pub fn streams_are_monitors()
+    ensures { StreamsAreMonitors }
+{}
+
+/// Proves that any two members read a plain packet as the same segment, UDP datagram or ICMP
+/// message.
+pub fn plain_packets_are_read_alike()
+    ensures { PlainIsReadAlike }
 {}
 
 /// Proves that a header and a segment, as written, are a plain packet which is read as that
