@@ -1,0 +1,2 @@
+pub mod TwoPackets
+pub mod Premises
