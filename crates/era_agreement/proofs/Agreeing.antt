@@ -1,4 +1,4 @@
--- Emitted segments describe one stream, so that all receivers agree.
+-- Emitted segments describe one stream, so that all receivers agree and a monitor misses nothing.
 use Rattle.std.proofs.Common.{◌≡◌, ℕ, zero, suc, ◌+◌, ◌%◌, ◌^◌, List, [], ◌∷◌, ◌++◌, length, Option, Some, None, Bool, true, false, ◌&&◌, not, refl, sym, ◌∙◌, ap, subst, ⊎_elim, append-nil}
 use Rattle.std.specs.Prelude.{ℤ, All, IfSome, IsTrue, slice_get, if◌then◌else◌}
 use Rattle.std.proofs.lemmas.List.Elements.{All-nil, All-cons, All-append}
@@ -7,10 +7,11 @@ use Rattle.wire_base.specs.Segments.{Segment, Written, segment_of, written_of}
 use Rattle.era_state.specs.Quantities.{base_of, first, end_of}
 use Rattle.era_state.specs.Emission.{IsBare, IsKeptFrame, IsEmitted, AreEmitted}
 use Rattle.era_state.specs.Emitted.{WrittenRemains, EmittedJoins, EmittedOctetsArePlaces, OctetsArePlaces}
-use Rattle.receiver_model.specs.Agreement.{OctetAt, FinAt, HasSynBefore, MembersAgree}
-use Rattle.era_agreement.specs.Sent.{Sent, is_era, inward_packets, aside_packets, written_as, segments_in, written_in, inward_places}
+use Rattle.receiver_model.specs.Agreement.{OctetAt, FinAt, HasSynBefore, TellOneStream, MembersAgree}
+use Rattle.receiver_model.specs.Monitors.{MonitorsMissNothing}
+use Rattle.era_agreement.specs.Sent.{Sent, is_era, inward_packets, aside_packets, written_as, segments_in, written_in, inward_places, inward_acks}
 use Rattle.era_agreement.specs.Agreement.{IsSilentPacket, EraIsSound}
-use Rattle.era_agreement.specs.Laws.{EmittedTellsOneStream, EmittedIsSilent, EmittedAgrees}
+use Rattle.era_agreement.specs.Laws.{EmittedTellsOneStream, EmittedIsSilent, EmittedAgrees, EmittedStaysNearAcks, EmittedMissesNothing}
 use Rattle.era_agreement.proofs.Facts.{EraLaws, IsTold, pushed, inward_emitted}
 use Rattle.era_agreement.proofs.Told.{Each, Told, all_told, all_before, all_behind}
 
@@ -168,3 +169,18 @@ emitted_agrees members tells silent hops sent h era = by (base_of (written_in er
     by : (o : Option ℕ) → base_of (written_in era sent) ≡ o → EraIsSound hops o (λ base. inward_places era base sent) (inward_packets era sent)
     by None is = silent hops era sent (h era) is
     by (Some base) is = members hops base (inward_places era base sent) (inward_packets era sent) (tells hops era base sent (h era) is).stream
+
+pub emitted_misses_nothing : MonitorsMissNothing → EmittedTellsOneStream → EmittedStaysNearAcks → EmittedMissesNothing
+emitted_misses_nothing monitors tells stays hops sent h era base based = record {
+  in_order = monitors.in_order hops base (inward_acks era base sent) zs ps stream (stays hops era base sent (h era) based);
+  in_time = monitors.in_time hops base zs ps stream;
+}
+  where
+    zs : List ℤ
+    zs = inward_places era base sent
+
+    ps : List (List ℕ)
+    ps = inward_packets era sent
+
+    stream : TellOneStream hops base zs ps
+    stream = (tells hops era base sent (h era) based).stream

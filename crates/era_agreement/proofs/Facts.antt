@@ -51,8 +51,8 @@ silent_is_told laws base at ws s bare no_syn no_fin = record {
 pub pushed : (ws : List Written) (w : Written) (vs : List Written) → ws ++ (w ∷ vs) ≡ (ws ++ w ∷ []) ++ vs
 pushed ws w vs = sym (append_assoc ws (w ∷ []) vs)
 
-pub other_before : EraLaws → (base : ℕ) (ws later : List Written) → HasNoOtherBase base (ws ++ later) → HasNoOtherBase base ws
-other_before laws base ws later only number e = only number ((laws.remains base ws later).base_is number e)
+pub other_before : WrittenRemains → (base : ℕ) (ws later : List Written) → HasNoOtherBase base (ws ++ later) → HasNoOtherBase base ws
+other_before remains base ws later only number e = only number ((remains base ws later).base_is number e)
 
 -- an inward segment is emitted, since an outbound one is not inward
 pub inward_emitted : (ws : List Written) (s : Segment) → IsOutward (written_of true s) ⊎ IsEmitted ws (written_of true s) → IsEmitted ws (written_of true s)

@@ -1,3 +1,5 @@
 pub mod Facts
 pub mod Told
 pub mod Agreeing
+pub mod NearAcks
+pub mod Behind

@@ -53,7 +53,7 @@ inward_told laws base a ws (p ∷ ps) same only emitted = by (λ vs. inward_told
         let on : HasNoOtherBase base ((ws ++ w ∷ []) ++ vs) = subst (HasNoOtherBase base) (pushed ws w vs) only in
         let all : AreEmitted [] ((ws ++ w ∷ []) ++ vs) = subst (AreEmitted []) (pushed ws w vs) emitted in
         let first : AreEmitted [] (ws ++ w ∷ []) = ((laws.joins [] (ws ++ w ∷ []) vs).0 all).0 in
-        let told : IsTold base (ws ++ w ∷ []) (off base a s.sequence) s = subst (λ n. IsTold base (ws ++ w ∷ []) (off base n s.sequence) s) (sym same) (step laws base ws s (other_before laws base (ws ++ w ∷ []) vs on) first) in
+        let told : IsTold base (ws ++ w ∷ []) (off base a s.sequence) s = subst (λ n. IsTold base (ws ++ w ∷ []) (off base n s.sequence) s) (sym same) (step laws base ws s (other_before laws.remains base (ws ++ w ∷ []) vs on) first) in
         let here : IsTold base ((ws ++ w ∷ []) ++ vs) (off base a s.sequence) s = told_still laws base (ws ++ w ∷ []) vs (off base a s.sequence) s told in
         let rest = go (ws ++ w ∷ []) (same ∙ sym (laws.same base ws w refl)) on all in
         subst (λ us. Each (Told base us) (off base a s.sequence ∷ map (place_of base a) ps) (p ∷ ps)) (sym (pushed ws w vs))
@@ -103,7 +103,7 @@ all_told laws era base (s ∷ older) only emitted silent = by (all_told laws era
     -- those before, and these
     joined : Rest → (vs : List Written) (ys : List ℤ) (qs aside : List (List ℕ)) → HasNoOtherBase base (ws ++ vs) → AreEmitted [] (ws ++ vs) → All IsSilentPacket (beside ++ aside) → Each (Told base (ws ++ vs)) ys qs → Each (Told base (ws ++ vs)) (zs ++ ys) (ps ++ qs)
     joined go vs ys qs aside only emitted silent now =
-        let before = go (other_before laws base ws vs only) ((laws.joins [] ws vs).0 emitted).0 (all_before IsSilentPacket beside aside silent) in
+        let before = go (other_before laws.remains base ws vs only) ((laws.joins [] ws vs).0 emitted).0 (all_before IsSilentPacket beside aside silent) in
         each_append (Told base (ws ++ vs)) zs ps ys qs (each_still laws base ws vs zs ps before) now
 
     by : Rest → (named inward written : Bool) → HasNoOtherBase base (ws ++ new named inward written) → AreEmitted [] (ws ++ new named inward written) → All IsSilentPacket (beside ++ (if named && inward && not written then s.packets else [])) → Each (Told base (ws ++ new named inward written)) (zs ++ (if named && inward then map (place_of base (acked base ws)) s.packets else [])) (ps ++ (if named && inward then s.packets else []))

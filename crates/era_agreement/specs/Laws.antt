@@ -1,11 +1,12 @@
 -- Emitted segments make receivers agree.
-use Rattle.std.specs.Prelude.{◌≡◌, ℕ, List, [], All, ℤ, Some, None}
+use Rattle.std.specs.Prelude.{◌≡◌, ℕ, ◌≤◌, Bool, List, [], All, ℤ, Some, None}
 use Rattle.wire_base.specs.Plain.{Plain}
-use Rattle.era_state.specs.Quantities.{base_of, first, end_of}
+use Rattle.era_state.specs.Quantities.{acked, base_of, first, end_of}
 use Rattle.era_state.specs.Emission.{AreEmitted}
 use Rattle.receiver_model.specs.Agreement.{OctetAt, FinAt, TellOneStream}
-use Rattle.era_agreement.specs.Sent.{Sent, inward_packets, aside_packets, written_in, inward_places}
-use Rattle.era_agreement.specs.Agreement.{IsSilentPacket, Agree}
+use Rattle.receiver_model.specs.Monitors.{CoversEach, StayNearAcks}
+use Rattle.era_agreement.specs.Sent.{Sent, inward_packets, aside_packets, written_in, inward_places, inward_acks}
+use Rattle.era_agreement.specs.Agreement.{IsSilentPacket, Agree, AcknowledgeWhatIsRead, MissesNothing, read_to}
 
 -- all inward packets of an era are plain, all of its segments are emitted, and packets beside them have no octet, SYN or FIN
 pub record IsEmittedEra (hops era : ℕ) (sent : List Sent) : Type 0 where
@@ -32,3 +33,21 @@ EmittedIsSilent =
 -- if this holds of each era, all receivers agree
 abbrev pub EmittedAgrees : Type 0
 EmittedAgrees = (hops : ℕ) (sent : List Sent) → ((era : ℕ) → IsEmittedEra hops era sent) → Agree hops sent
+
+-- The inward packets of an era whose base is fixed stay near what was acknowledged: Acked before the record of each.
+abbrev pub EmittedStaysNearAcks : Type 0
+EmittedStaysNearAcks =
+    (hops era base : ℕ) (sent : List Sent) → IsEmittedEra hops era sent → base_of (written_in era sent) ≡ Some base
+    → StayNearAcks (inward_acks era base sent) (inward_places era base sent) (inward_packets era sent)
+
+-- and a monitor misses nothing
+abbrev pub EmittedMissesNothing : Type 0
+EmittedMissesNothing = (hops : ℕ) (sent : List Sent) → ((era : ℕ) → IsEmittedEra hops era sent) → MissesNothing hops sent
+
+-- A monitor is never behind an acknowledgment, if acknowledgments are those of receivers: it has read as far as Acked, or has ended one before.
+abbrev pub AcknowledgmentsAreBehind : Type 0
+AcknowledgmentsAreBehind =
+    (hops era base start : ℕ) (sent : List Sent) (seen : List ℕ) (ended : Bool)
+    → CoversEach hops base (inward_places era base sent) (inward_packets era sent) start seen ended
+    → AcknowledgeWhatIsRead hops era base start sent
+    → acked base (written_in era sent) ≤ read_to start seen ended

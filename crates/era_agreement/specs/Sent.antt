@@ -52,9 +52,16 @@ abbrev pub place_of : (base acked : ℕ) → List ℕ → ℤ
 place_of base acked p = placed_at base acked (segment_of p)
 
 -- The offsets of the packets that went inwards in an era, each the one nearest to Acked before its record. Before the base is fixed Acked is 0, since no ACK was
--- sent outwards in the era: the first one fixes the base, and a RST with ACK ends the era.
+-- sent outwards in the era: in the traces of norm the first one fixes the base, and a RST with ACK ends the era.
 abbrev pub inward_places : (era base : ℕ) → List Sent → List ℤ
 inward_places era base [] = []
 inward_places era base (s ∷ older) =
     inward_places era base older
     ++ (if is_era era s.era && s.inward then map (place_of base (acked base (written_in era older))) s.packets else [])
+
+-- What was acknowledged before each packet that went inwards in an era: Acked before its record.
+abbrev pub inward_acks : (era base : ℕ) → List Sent → List ℕ
+inward_acks era base [] = []
+inward_acks era base (s ∷ older) =
+    inward_acks era base older
+    ++ (if is_era era s.era && s.inward then map (λ _. acked base (written_in era older)) s.packets else [])

@@ -1,11 +1,11 @@
 //! Laws of what was sent in eras.
-ghost use Rattle.era_agreement.specs.Laws.{EmittedAgrees, EmittedIsSilent, EmittedTellsOneStream};
+ghost use Rattle.era_agreement.specs.Laws.{AcknowledgmentsAreBehind, EmittedAgrees, EmittedIsSilent, EmittedMissesNothing, EmittedStaysNearAcks, EmittedTellsOneStream};
 
 use era_state::laws::{
-    emitted_is_told, emitted_joins, emitted_octets_are_places, inwards_acknowledge_nothing,
-    offsets_are_read, written_remains,
+    acked_never_falls, emitted_is_near, emitted_is_told, emitted_joins, emitted_octets_are_places,
+    inwards_acknowledge_nothing, offsets_are_read, written_remains,
 };
-use receiver_model::laws::members_agree;
+use receiver_model::laws::{members_agree, monitors_miss_nothing};
 
 /// Proves that the inward packets of an era describe one stream, each read at the offset of its
 /// sequence number: the octets written first at their offsets, and the era's end. Premises: all
@@ -39,3 +39,31 @@ pub fn emitted_agrees()
     emitted_tells_one_stream();
     emitted_is_silent();
 }
+
+/// Proves that the inward packets of an era stay near what was acknowledged before the record of
+/// each, by the same premises.
+pub fn emitted_stays_near_acks()
+    ensures { EmittedStaysNearAcks }
+{
+    acked_never_falls();
+    inwards_acknowledge_nothing();
+    written_remains();
+    emitted_joins();
+    emitted_is_near();
+}
+
+/// Proves that a monitor misses nothing if the same premises hold of each era.
+pub fn emitted_misses_nothing()
+    ensures { EmittedMissesNothing }
+{
+    monitors_miss_nothing();
+    emitted_tells_one_stream();
+    emitted_stays_near_acks();
+}
+
+/// Proves that a monitor is never behind an acknowledgment, if each acknowledgment is that of a
+/// receiver which had read so far: the greatest acknowledged offset is at most the monitor's next
+/// offset, or the one after it if the stream has ended.
+pub fn acknowledgments_are_behind()
+    ensures { AcknowledgmentsAreBehind }
+{}

@@ -1,0 +1,274 @@
+-- The inward packets of an era stay near Acked before the record of each.
+use Rattle.std.proofs.Common.{◌≡◌, ◌⊎◌, inl, inr, ⊎_elim, ℕ, zero, suc, ◌+◌, ◌^◌, ◌<◌, ◌≤◌, Bool, true, false, ◌&&◌, not, Option, Some, None}
+use Rattle.std.proofs.Common.{List, [], ◌∷◌, ◌++◌, length, map, refl, ap, sym, ◌∙◌, subst, arith, append-nil}
+use Rattle.std.specs.Prelude.{All, ℤ, pos, ◌+ℤ◌, ◌≤ℤ◌, IsTrue, slice_get, if◌then◌else◌}
+use Rattle.std.proofs.lemmas.List.Elements.{All-head, All-tail}
+use Rattle.std.proofs.lemmas.Option.{slice_get_within}
+use Rattle.wire_base.specs.Tcp as tcp
+use Rattle.wire_base.specs.Segments.{Segment, Written, segment_of, written_of}
+use Rattle.era_state.specs.Offsets.{off}
+use Rattle.era_state.specs.Quantities.{acked}
+use Rattle.era_state.specs.Laws.{AckedNeverFalls}
+use Rattle.era_state.specs.Emission.{AreEmitted}
+use Rattle.era_state.specs.Emitted.{WrittenRemains, InwardsAcknowledgeNothing, EmittedJoins, EmittedIsNear, HasNoOtherBase}
+use Rattle.era_agreement.specs.Sent.{Sent, is_era, inward_packets, aside_packets, inward_places, inward_acks}
+use Rattle.era_agreement.specs.Sent.{written_as, segments_in, written_in, placed_at, place_of}
+use Rattle.era_agreement.specs.Agreement.{IsSilentPacket}
+use Rattle.era_agreement.specs.Laws.{EmittedStaysNearAcks}
+use Rattle.era_agreement.proofs.Facts.{pushed, other_before, inward_emitted}
+use Rattle.era_agreement.proofs.Told.{all_before, all_behind}
+
+-- the laws of eras that are used
+pub record AckLaws : Type 0 where
+  pub near : EmittedIsNear
+  pub joins : EmittedJoins
+  pub same : InwardsAcknowledgeNothing
+  pub remains : WrittenRemains
+  pub grows : AckedNeverFalls
+
+-- each of the packets with its ack and its place, in order
+abbrev Each : (ℕ → ℤ → List ℕ → Type 0) → List ℕ → List ℤ → List (List ℕ) → Type 0
+Each P [] [] [] = Unit {0}
+Each P (w ∷ ws) (z ∷ zs) (p ∷ ps) = P w z p × Each P ws zs ps
+Each P ws zs ps = ⊥
+
+each_append :
+    (P : ℕ → ℤ → List ℕ → Type 0) (ws : List ℕ) (zs : List ℤ) (ps : List (List ℕ)) (vs : List ℕ) (ys : List ℤ) (qs : List (List ℕ)) →
+    Each P ws zs ps → Each P vs ys qs → Each P (ws ++ vs) (zs ++ ys) (ps ++ qs)
+each_append P [] [] [] vs ys qs h k = k
+each_append P (w ∷ ws) (z ∷ zs) (p ∷ ps) vs ys qs h k = (h.0, each_append P ws zs ps vs ys qs h.1 k)
+each_append P ws zs ps vs ys qs h k = absurd h
+
+each_long : (P : ℕ → ℤ → List ℕ → Type 0) (ws : List ℕ) (zs : List ℤ) (ps : List (List ℕ)) → Each P ws zs ps → length ws ≡ length ps
+each_long P [] [] [] h = refl
+each_long P (w ∷ ws) (z ∷ zs) (p ∷ ps) h = ap suc (each_long P ws zs ps h.1)
+each_long P ws zs ps h = absurd h
+
+each_at :
+    (P : ℕ → ℤ → List ℕ → Type 0) (ws : List ℕ) (zs : List ℤ) (ps : List (List ℕ)) (k w : ℕ) (z : ℤ) (p : List ℕ) →
+    Each P ws zs ps → slice_get ws k ≡ Some w → slice_get zs k ≡ Some z → slice_get ps k ≡ Some p → P w z p
+each_at P [] [] [] k w z p h d e f = absurd (cc)
+each_at P (v ∷ ws) (y ∷ zs) (q ∷ ps) zero w z p h d e f =
+    let a : v ≡ w = cc d in
+    let b : y ≡ z = cc e in
+    let c : q ≡ p = cc f in
+    subst (λ (r : ℕ × ℤ × List ℕ). P r.0 r.1 r.2) (λ i. (a i, b i, c i)) h.0
+each_at P (v ∷ ws) (y ∷ zs) (q ∷ ps) (suc k) w z p h d e f = each_at P ws zs ps k w z p h.1 d e f
+each_at P ws zs ps k w z p h d e f = absurd h
+
+-- the octets and the FIN of a segment at this place are in this ack
+record IsIn (ack : ℕ) (place : ℤ) (s : Segment) : Type 0 where
+  octets :
+      (index : ℕ) → index < length s.octets →
+      (pos ack ≤ℤ (place +ℤ pos index)) × ((place +ℤ pos index) ≤ℤ pos (ack + 2 ^ 30))
+  fin :
+      IsTrue (tcp.has_fin s.flags) →
+      (pos 0 ≤ℤ (place +ℤ pos (length s.octets))) × ((place +ℤ pos (length s.octets)) ≤ℤ pos (ack + 2 ^ 30))
+
+-- those of the packet's segment are, if it has one
+abbrev Stays : ℕ → ℤ → List ℕ → Type 0
+Stays ack place p = (s : Segment) → segment_of p ≡ Some s → IsIn ack place s
+
+silent_is_in : (ack : ℕ) (place : ℤ) (s : Segment) → s.octets ≡ [] → tcp.has_fin s.flags ≡ false → IsIn ack place s
+silent_is_in ack place s bare no_fin = record {
+  octets = λ index within. absurd (let none = ap length bare in omega (arith, none, within));
+  fin = λ has. absurd (cc (has, no_fin));
+}
+
+-- packets without octets and FIN
+silent_stay :
+    (base a : ℕ) (ps : List (List ℕ)) → All IsSilentPacket ps → Each Stays (map (λ _. a) ps) (map (place_of base a) ps) ps
+silent_stay base a [] h = tt
+silent_stay base a (p ∷ ps) h = (
+  (λ s says. let quiet = All-head IsSilentPacket p ps h s says in silent_is_in a (place_of base a p) s quiet.0 quiet.2),
+  silent_stay base a ps (All-tail IsSilentPacket p ps h),
+)
+
+-- the last of emitted segments
+near_step :
+    AckLaws → (base a : ℕ) (ws : List Written) (s : Segment) → a ≡ acked base ws →
+    HasNoOtherBase base (ws ++ written_of true s ∷ []) → AreEmitted [] (ws ++ written_of true s ∷ []) → IsIn a (off base a s.sequence) s
+near_step laws base a ws s same only emitted =
+    let parts = (laws.joins [] ws (written_of true s ∷ [])).0 emitted in
+    let near = laws.near base ws (written_of true s) only parts.0 (inward_emitted ws s parts.1.0) in
+    subst (λ n. IsIn n (off base n s.sequence) s) (sym same) (record { octets = near.octets; fin = λ has. near.fin has })
+
+-- the packets of one record that went inwards; `a` is Acked before it
+inward_stay :
+    AckLaws → (base a : ℕ) (ws : List Written) (ps : List (List ℕ)) → a ≡ acked base ws →
+    HasNoOtherBase base (ws ++ segments_in true ps) → AreEmitted [] (ws ++ segments_in true ps) →
+    Each Stays (map (λ _. a) ps) (map (place_of base a) ps) ps
+inward_stay laws base a ws [] same only emitted = tt
+inward_stay laws base a ws (p ∷ ps) same only emitted = by (λ vs. inward_stay laws base a vs ps) (segment_of p) refl only emitted
+  where
+    Holds : List Written → Type 0 → Type 0
+    Holds vs T = HasNoOtherBase base vs → AreEmitted [] vs → T
+
+    Rest : Type 0
+    Rest = (vs : List Written) → a ≡ acked base vs → Holds (vs ++ segments_in true ps) (Each Stays (map (λ _. a) ps) (map (place_of base a) ps) ps)
+
+    by :
+        Rest → (o : Option Segment) → segment_of p ≡ o →
+        Holds (ws ++ (written_as true o ++ segments_in true ps))
+        (Each Stays (a ∷ map (λ _. a) ps) (placed_at base a o ∷ map (place_of base a) ps) (p ∷ ps))
+    by go None is only emitted = ((λ s says. absurd (cc (is, says))), go ws same only emitted)
+    by go (Some s) is only emitted =
+        let w : Written = written_of true s in
+        let vs : List Written = segments_in true ps in
+        let on : HasNoOtherBase base ((ws ++ w ∷ []) ++ vs) = subst (HasNoOtherBase base) (pushed ws w vs) only in
+        let all : AreEmitted [] ((ws ++ w ∷ []) ++ vs) = subst (AreEmitted []) (pushed ws w vs) emitted in
+        let first : AreEmitted [] (ws ++ w ∷ []) = ((laws.joins [] (ws ++ w ∷ []) vs).0 all).0 in
+        let here : IsIn a (off base a s.sequence) s = near_step laws base a ws s same (other_before laws.remains base (ws ++ w ∷ []) vs on) first in (
+          (λ r says. let e : s ≡ r = cc (is, says) in subst (IsIn a (off base a s.sequence)) e here),
+          go (ws ++ w ∷ []) (same ∙ sym (laws.same base ws w refl)) on all,
+        )
+
+-- all records
+all_stay :
+    AckLaws → (era base : ℕ) (sent : List Sent) →
+    HasNoOtherBase base (written_in era sent) → AreEmitted [] (written_in era sent) → All IsSilentPacket (aside_packets era sent) →
+    Each Stays (inward_acks era base sent) (inward_places era base sent) (inward_packets era sent)
+all_stay laws era base [] only emitted silent = tt
+all_stay laws era base (s ∷ older) only emitted silent =
+    by (all_stay laws era base older) (is_era era s.era) s.inward s.written only emitted silent
+  where
+    ws : List Written
+    ws = written_in era older
+
+    a : ℕ
+    a = acked base ws
+
+    beside : List (List ℕ)
+    beside = aside_packets era older
+
+    -- these, if they went inwards in the era
+    these : {A : Type 0} → Bool → List A → List A
+    these goes xs = if goes then xs else []
+
+    -- of the packets so far, and these
+    Stay : List ℕ → List ℤ → List (List ℕ) → Type 0
+    Stay bs ys qs = Each Stays (inward_acks era base older ++ bs) (inward_places era base older ++ ys) (inward_packets era older ++ qs)
+
+    Holds : (vs : List Written) (aside : List (List ℕ)) → Type 0 → Type 0
+    Holds vs aside T = HasNoOtherBase base (ws ++ vs) → AreEmitted [] (ws ++ vs) → All IsSilentPacket (beside ++ aside) → T
+
+    Rest : Type 0
+    Rest =
+        HasNoOtherBase base ws → AreEmitted [] ws → All IsSilentPacket beside →
+        Each Stays (inward_acks era base older) (inward_places era base older) (inward_packets era older)
+
+    joined : Rest → (vs : List Written) (bs : List ℕ) (ys : List ℤ) (qs aside : List (List ℕ)) → Each Stays bs ys qs → Holds vs aside (Stay bs ys qs)
+    joined go vs bs ys qs aside now only emitted silent =
+        let quiet = all_before IsSilentPacket beside aside silent in
+        let before = go (other_before laws.remains base ws vs only) ((laws.joins [] ws vs).0 emitted).0 quiet in
+        each_append Stays (inward_acks era base older) (inward_places era base older) (inward_packets era older) bs ys qs before now
+
+    by :
+        Rest → (named inward written : Bool) →
+        Holds (these (named && written) (segments_in inward s.packets)) (these (named && inward && not written) s.packets)
+        (Stay (these (named && inward) (map (λ _. a) s.packets)) (these (named && inward) (map (place_of base a) s.packets))
+        (these (named && inward) s.packets))
+    by go false inward written = joined go [] [] [] [] [] tt
+    by go true false false = joined go [] [] [] [] [] tt
+    by go true false true = joined go (segments_in false s.packets) [] [] [] [] tt
+    by go true true false = λ only emitted silent.
+        joined go [] (map (λ _. a) s.packets) (map (place_of base a) s.packets) s.packets s.packets
+        (silent_stay base a s.packets (all_behind IsSilentPacket beside s.packets silent)) only emitted silent
+    by go true true true = λ only emitted silent.
+        joined go (segments_in true s.packets) (map (λ _. a) s.packets) (map (place_of base a) s.packets) s.packets []
+        (inward_stay laws base a ws s.packets refl only emitted) only emitted silent
+
+-- acks never go back, and none is past this offset
+record GoOn (limit : ℕ) (acks : List ℕ) : Type 0 where
+  below : (number one : ℕ) → slice_get acks number ≡ Some one → one ≤ limit
+  on : (number later one other : ℕ) → number ≤ later → slice_get acks number ≡ Some one → slice_get acks later ≡ Some other → one ≤ other
+
+constant : (a : ℕ) (ps : List (List ℕ)) (k x : ℕ) → slice_get (map (λ _. a) ps) k ≡ Some x → x ≡ a
+constant a [] k x e = absurd (cc)
+constant a (p ∷ ps) zero x e = cc e
+constant a (p ∷ ps) (suc k) x e = constant a ps k x e
+
+in_parts :
+    (a : ℕ) (ws : List ℕ) (ps : List (List ℕ)) (k x : ℕ) → slice_get (ws ++ map (λ _. a) ps) k ≡ Some x →
+    (slice_get ws k ≡ Some x) ⊎ ((length ws ≤ k) × (x ≡ a))
+in_parts a [] ps k x e = inr (omega arith, constant a ps k x e)
+in_parts a (w ∷ ws) ps zero x e = inl e
+in_parts a (w ∷ ws) ps (suc k) x e = ⊎_elim inl (λ h. let past = h.0 in inr (omega (arith, past), h.1)) (in_parts a ws ps k x e)
+
+-- after acks at the limit so far
+go_on_more :
+    (a limit : ℕ) (ws : List ℕ) (ps : List (List ℕ)) → a ≤ limit → GoOn a ws → GoOn limit (ws ++ map (λ _. a) ps)
+go_on_more a limit ws ps grows h = record { below = below; on = on }
+  where
+    below : (number one : ℕ) → slice_get (ws ++ map (λ _. a) ps) number ≡ Some one → one ≤ limit
+    below number one e =
+        ⊎_elim (λ old. let most = h.below number one old in omega (arith, most)) (λ new. let is = new.1 in omega (arith, is))
+        (in_parts a ws ps number one e)
+
+    on :
+        (number later one other : ℕ) → number ≤ later →
+        slice_get (ws ++ map (λ _. a) ps) number ≡ Some one → slice_get (ws ++ map (λ _. a) ps) later ≡ Some other → one ≤ other
+    on number later one other order e f = ⊎_elim old new (in_parts a ws ps later other f)
+      where
+        old : slice_get ws later ≡ Some other → one ≤ other
+        old last =
+            let within = slice_get_within ws later other last in
+            ⊎_elim (λ first. h.on number later one other order first last) (λ first. let past = first.0 in absurd (omega (arith, past, within)))
+            (in_parts a ws ps number one e)
+
+        new : (length ws ≤ later) × (other ≡ a) → one ≤ other
+        new last =
+            let is = last.1 in
+            ⊎_elim (λ first. let most = h.below number one first in omega (arith, most, is)) (λ first. let too = first.1 in omega (arith, is, too))
+            (in_parts a ws ps number one e)
+
+acked_grows : AckLaws → (base : ℕ) (ws vs : List Written) → acked base ws ≤ acked base (ws ++ vs)
+acked_grows laws base ws [] = subst (λ us. acked base ws ≤ acked base us) (sym (append-nil ws)) (omega arith)
+acked_grows laws base ws (v ∷ vs) =
+    let one = laws.grows base ws v in
+    let rest = acked_grows laws base (ws ++ v ∷ []) vs in
+    subst (λ us. acked base ws ≤ acked base us) (sym (pushed ws v vs)) (omega (arith, one, rest))
+
+acks_go_on : AckLaws → (era base : ℕ) (sent : List Sent) → GoOn (acked base (written_in era sent)) (inward_acks era base sent)
+acks_go_on laws era base [] = record { below = λ number one e. absurd (cc); on = λ number later one other order e f. absurd (cc) }
+acks_go_on laws era base (s ∷ older) =
+    by (acks_go_on laws era base older) (if is_era era s.era && s.written then segments_in s.inward s.packets else [])
+    (is_era era s.era && s.inward)
+  where
+    ws : List Written
+    ws = written_in era older
+
+    before : List ℕ
+    before = inward_acks era base older
+
+    a : ℕ
+    a = acked base ws
+
+    by : GoOn a before → (vs : List Written) (goes : Bool) → GoOn (acked base (ws ++ vs)) (before ++ (if goes then map (λ _. a) s.packets else []))
+    by go vs true = go_on_more a (acked base (ws ++ vs)) before s.packets (acked_grows laws base ws vs) go
+    by go vs false = go_on_more a (acked base (ws ++ vs)) before [] (acked_grows laws base ws vs) go
+
+pub stays_near_acks : AckLaws → EmittedStaysNearAcks
+stays_near_acks laws hops era base sent h based = record {
+  one_each = each_long Stays ws zs ps each;
+  go_on = (acks_go_on laws era base sent).on;
+  octets = λ offset octet ack c has.
+      let stays = each_at Stays ws zs ps c.number ack c.place c.frame each has c.placed c.stands c.segment c.says in
+      let within = slice_get_within c.segment.octets c.index octet c.has in
+      subst (λ z. (pos ack ≤ℤ z) × (z ≤ℤ pos (ack + 2 ^ 30))) (sym c.there) (stays.octets c.index within);
+  fins = λ offset ack c has.
+      let stays = each_at Stays ws zs ps c.number ack c.place c.frame each has c.placed c.stands c.segment c.says in
+      subst (λ z. (pos 0 ≤ℤ z) × (z ≤ℤ pos (ack + 2 ^ 30))) (sym c.there) (stays.fin c.has);
+}
+  where
+    ws : List ℕ
+    ws = inward_acks era base sent
+
+    zs : List ℤ
+    zs = inward_places era base sent
+
+    ps : List (List ℕ)
+    ps = inward_packets era sent
+
+    each : Each Stays ws zs ps
+    each = all_stay laws era base sent (λ number e. cc (based, e)) h.emitted h.silent
