@@ -12,5 +12,6 @@ pub mod Each
 pub mod PlainSent
 pub mod PartsOfStreams
 pub mod Streams
+pub mod NearAcks
 pub mod Facts
 pub mod Outgoing

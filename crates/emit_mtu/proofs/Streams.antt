@@ -60,7 +60,7 @@ each_all P Q zs ps h f k d inside =
     let long = each_long P zs ps h in
     f _ _ (each_at P zs ps k _ _ h (slice_get-get_or zs k (pos 0) (omega arith)) (slice_get-get_or ps k d inside))
 
-all_at : (Q : List ℕ → Type 0) (ps : List (List ℕ)) (k : ℕ) (p : List ℕ) → All Q ps → slice_get ps k ≡ Some p → Q p
+pub all_at : (Q : List ℕ → Type 0) (ps : List (List ℕ)) (k : ℕ) (p : List ℕ) → All Q ps → slice_get ps k ≡ Some p → Q p
 all_at Q ps k p all e = subst Q (get_or_from_slice_get ps k p p e) (all k p (slice_get_within ps k p e))
 
 -- a packet is in the list, with its offset

@@ -10,6 +10,7 @@ use Rattle.wire_base.specs.Plain.{IsPlainHeader, Plain}
 use Rattle.tcp_codec.specs.declared.header.SumRule.TheVariants.{Skip}
 use Rattle.tcp_codec.specs.Header.{fault_of}
 use Rattle.receiver_model.specs.Agreement.{TellOneStream}
+use Rattle.receiver_model.specs.Monitors.{StayNearAcks}
 use Rattle.emit_mtu.specs.declared.long.LongKind.{LongKind}
 use Rattle.emit_mtu.specs.declared.long.LongKind.TheVariants.{Fits, Cut, Drop}
 use Rattle.emit_mtu.specs.Frames.{AreOctets, IsSent, IsWhole, link_size, parts_of}
@@ -70,3 +71,16 @@ abbrev pub CutTellsOneStream : Type 0
 CutTellsOneStream =
     (hops base mtu : ℕ) (places : List ℤ) (packets : List (List ℕ)) → 576 ≤ mtu → mtu < 2 ^ 16 → All AreOctets packets → TellOneStream hops base places packets
     → TellOneStream hops base (places_for mtu places packets) (packets_for mtu packets)
+
+-- the acks of the packets that are written instead of these, in order
+abbrev pub acks_for : (mtu : ℕ) → (acks : List ℕ) → (packets : List (List ℕ)) → List ℕ
+acks_for mtu [] packets = []
+acks_for mtu (ack ∷ acks) [] = []
+acks_for mtu (ack ∷ acks) (packet ∷ packets) = map (λ _. ack) (frames_for Raw mtu packet) ++ acks_for mtu acks packets
+
+-- packets of one stream that stay near what was acknowledged still do so after the long ones are cut or dropped
+abbrev pub CutStaysNearAcks : Type 0
+CutStaysNearAcks =
+    (hops base mtu : ℕ) (acks : List ℕ) (places : List ℤ) (packets : List (List ℕ)) → 576 ≤ mtu → mtu < 2 ^ 16 → All AreOctets packets → TellOneStream hops base places packets
+    → StayNearAcks acks places packets
+    → StayNearAcks (acks_for mtu acks packets) (places_for mtu places packets) (packets_for mtu packets)

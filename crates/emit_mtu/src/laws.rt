@@ -1,6 +1,6 @@
 //! Laws over the definitions alone.
 ghost use Rattle.emit_mtu.specs.Laws.{AreFew, ArePlain, AreReadAsPieces, AreSent, CarryThePayload, FlagsAreKept, NoneIsLong};
-ghost use Rattle.emit_mtu.specs.Streams.{CutTellsOneStream, NothingLongGoesOut, PacketsGoOutAlike, PlainHeadersAreWhole, PlainIsSent};
+ghost use Rattle.emit_mtu.specs.Streams.{CutStaysNearAcks, CutTellsOneStream, NothingLongGoesOut, PacketsGoOutAlike, PlainHeadersAreWhole, PlainIsSent};
 
 /// States that the packets of the segments of a frame have at most MTU octets, that there are at
 /// most 132 segments, and that no frame that is written is long.
@@ -43,7 +43,9 @@ pub fn plain_packets_go_out()
     ensures alike { PacketsGoOutAlike }
 {}
 
-/// States that packets that describe one stream still do so after the long ones are cut or dropped.
+/// States that packets that describe one stream still do so after the long ones are cut or dropped,
+/// and that they still stay near what was acknowledged if they did.
 pub fn cut_packets_tell_one_stream()
-    ensures { CutTellsOneStream }
+    ensures stream { CutTellsOneStream }
+    ensures acks { CutStaysNearAcks }
 {}
