@@ -1,17 +1,21 @@
--- What fragments make together, with one fragment more.
-use Rattle.std.proofs.Common.{◌≡◌, ℕ, zero, suc, ◌+◌, ◌-◌, ◌==◌, ◌<◌, ◌≤◌, max, Bool, true, false, cond, not, List, [], ◌∷◌, length, Option, Some, None, is_some, is_none, refl, sym, ap, ap₂, ◌∙◌, arith, ◌||◌, ◌&&◌}
-use Rattle.std.specs.Prelude.{nat_lt, slice_get}
+-- The fragments of one datagram: what one more changes, and the octets and blocks that they hold.
 use Rattle.std.specs.List.{count_by, range_with_len}
-use Rattle.std.specs.Option.{option_or}
+use Rattle.std.specs.Option.{option_or, unwrap_or}
 use Rattle.std.proofs.lemmas.Bool.Decides.{nat_tests}
-use Rattle.retain_store.specs.Maps.{Block, Places, octet_in, octet_at, fresh}
-use Rattle.reassembly.specs.declared.progress.Progress.{Progress}
-use Rattle.reassembly.specs.Pieces.{Fragment, end_of, octet_of, total_of, reach, front_of, is_filled, is_whole, whole_with, whole_if, whole_of, filled_in}
-use Rattle.reassembly.specs.Rows.{ends_otherwise, f_df, f_empty, f_align, f_end, own_rows, first_row}
 use Rattle.rule_book.specs.declared.rule.Rule.{Rule}
 use Rattle.rule_book.specs.declared.rule.Rule.TheVariants.{FDf, FEmpty, FAlign, FBig}
+use Rattle.reassembly.specs.declared.progress.Progress.{Progress}
 use Rattle.reassembly.specs.Standing.{Keeps, ProgressOf}
-use Rattle.retain_store.proofs.Counts.{agree, count_most, none_counted, parts, either, full}
+use Rattle.std.proofs.Common.{max, is_none, ◌≡◌, ℕ, zero, suc, ◌+◌, ◌-◌, ◌==◌, ◌<◌, ◌≤◌, Bool, true, false, cond, not, List, [], ◌∷◌, length, Option, Some, None, is_some, refl, sym, ap, ap₂, ◌∙◌, arith, ◌||◌, ◌&&◌, ◌*◌, ◌/◌}
+use Rattle.std.specs.Prelude.{◌↔◌, nat_lt, slice_get, slice_index}
+use Rattle.std.proofs.lemmas.Bool.{or_parts, false_from_ne_true}
+use Rattle.retain_store.specs.Maps.{Agrees, IsMap, IsWithin, holds, Block, Places, octet_in, octet_at, fresh}
+use Rattle.retain_store.proofs.Counts.{agree, count_most, none_counted, either, full, parts}
+use Rattle.retain_store.proofs.Kept.{count_is}
+use Rattle.reassembly.specs.Pieces.{filled_in, Fragment, end_of, octet_of, total_of, reach, front_of, is_filled, is_whole, whole_with, whole_if, whole_of, cells_of}
+use Rattle.reassembly.specs.Rows.{differs, ends_otherwise, f_df, f_empty, f_align, f_end, own_rows, first_row, clashes}
+
+-- What fragments make together, with one fragment more.
 
 -- a fragment has an octet exactly from its offset to its end
 pub in_piece : (from : ℕ) (xs : List ℕ) (o : ℕ) → is_some (octet_in from xs o) ≡ true → (from ≤ o) × (o < from + length xs)
@@ -58,16 +62,12 @@ below_reach (p ∷ ps) o some = reach_step p ps o (octet_of ps o) (below_reach p
 pub placed : (old new : List Block) (p : Fragment) (ps : List Fragment) → Keeps old ps → Places old new p.offset p.octets → Keeps new (p ∷ ps)
 placed old new p ps keeps places o = places o ∙ ap (λ x. option_or x (octet_in p.offset p.octets o)) (keeps o)
 
-pub some_false : (b : Bool) → (b ≡ true → ⊥) → b ≡ false
-some_false true no_way = absurd (no_way refl)
-some_false false no_way = refl
-
 -- counted to any number past the reach
 filled_to : (ps : List Fragment) (n : ℕ) → reach ps ≤ n → count_by (λ o. is_some (octet_of ps o)) (range_with_len 0 n) ≡ filled_in ps
 filled_to ps n le =
     let p : ℕ → Bool = λ o. is_some (octet_of ps o) in
     let sum : reach ps + (n - reach ps) ≡ n = omega arith in
-    let rest = none_counted p (0 + reach ps) (n - reach ps) (λ m low high. some_false (p m) (λ e. let under = below_reach ps m e in absurd (omega arith))) in
+    let rest = none_counted p (0 + reach ps) (n - reach ps) (λ m low high. false_from_ne_true (p m) (λ e. let under = below_reach ps m e in absurd (omega arith))) in
     let both = parts p 0 (reach ps) (n - reach ps) in
     let whole : count_by p (range_with_len 0 (reach ps + (n - reach ps))) ≡ count_by p (range_with_len 0 n) = ap (λ k. count_by p (range_with_len 0 k)) sum in
     omega (arith, rest, both, whole)
@@ -92,7 +92,7 @@ brought p ps n le =
     omega (arith, before, past, one, two, whole, middle, moved)
   where
     outside : (m : ℕ) → (is_some (octet_in p.offset p.octets m) ≡ true → ⊥) → (is_some (octet_in p.offset p.octets m) && not (is_some (octet_of ps m))) ≡ false
-    outside m no_way = ap (λ b. b && not (is_some (octet_of ps m))) (some_false (is_some (octet_in p.offset p.octets m)) no_way)
+    outside m no_way = ap (λ b. b && not (is_some (octet_of ps m))) (false_from_ne_true (is_some (octet_in p.offset p.octets m)) no_way)
 
     none_is : (a : Option ℕ) → not (is_some a) ≡ is_none a
     none_is None = refl
@@ -127,10 +127,6 @@ ends_more total r p ends fits t is = by_total total refl
         let above : r ≤ end_of p = grind (arith, nat_tests, test) in
         omega (arith, last, above)
 
-    first_false : (a b : Bool) → (a || b) ≡ false → a ≡ false
-    first_false true b e = e
-    first_false false b e = refl
-
     by_total : (own : Option ℕ) → total ≡ own → max r (end_of p) ≡ t
     by_total None e =
         let test : (not p.more && (false || nat_lt (end_of p) r)) ≡ false = sym (ap (λ o. ends_otherwise o r p) e) ∙ fits in
@@ -140,7 +136,7 @@ ends_more total r p ends fits t is = by_total total refl
         let same : u ≡ t = let got : Some u ≡ Some t = sym (ap (λ o. option_or o (cond p.more None (Some (end_of p)))) e) ∙ is in cc in
         let at : r ≡ u = ends u e in
         let under : nat_lt u (end_of p) ≡ false =
-        first_false (nat_lt u (end_of p)) (not p.more && (not (u == end_of p) || nat_lt (end_of p) r)) (sym (ap (λ o. ends_otherwise o r p) e) ∙ fits) in
+        (or_parts _ _ (sym (ap (λ o. ends_otherwise o r p) e) ∙ fits)).0 in
         let below : end_of p ≤ u = grind (arith, nat_tests, under) in
         omega (arith, same, at, below)
 
@@ -193,3 +189,49 @@ whole_is v ps h = by_total (total_of ps) refl
         ∙ (ap (λ f. cond (v.filled == t) (Some (whole_with (Some t) f)) None) h.front_is
         ∙ (ap (λ b. cond b (Some (whole_with (Some t) (front_of ps))) None) (ap (λ n. n == t) count ∙ sym counted)
         ∙ sym (ap (λ u. cond (is_filled ps u) (Some (whole_with u (front_of ps))) None) e)))
+
+-- Whether the octets of a fragment differ from those held.
+
+differs_not : (a : Option ℕ) (x : ℕ) → unwrap_or a x ≡ x → differs a x ≡ false
+differs_not None x same = refl
+differs_not (Some y) x same = let test : (y == x) ≡ true = grind arith in ap not test
+
+not_differs : (a : Option ℕ) (x : ℕ) → differs a x ≡ false → unwrap_or a x ≡ x
+not_differs None x none = refl
+not_differs (Some y) x none = grind arith
+
+none_clash : (ps : List Fragment) (from : ℕ) (xs : List ℕ) → ((i : ℕ) → i < length xs → unwrap_or (octet_of ps (from + i)) (slice_index xs i) ≡ slice_index xs i)
+    → clashes ps from xs ≡ false
+none_clash ps from [] same = refl
+none_clash ps from (x ∷ xs) same =
+    let here : differs (octet_of ps from) x ≡ false = differs_not (octet_of ps from) x (ap (λ o. unwrap_or (octet_of ps o) x) (omega arith) ∙ same 0 (omega arith)) in
+    let rest = none_clash ps (from + 1) xs (λ i lt. ap (λ o. unwrap_or (octet_of ps o) (slice_index xs i)) (omega arith) ∙ same (suc i) (omega arith)) in
+    ap₂ (λ a b. a || b) here rest
+
+pub clash_none : (ps : List Fragment) (from : ℕ) (xs : List ℕ) → clashes ps from xs ≡ false → (i : ℕ) → i < length xs → unwrap_or (octet_of ps (from + i)) (slice_index xs i) ≡ slice_index xs i
+clash_none ps from [] none i lt = absurd (omega arith)
+clash_none ps from (x ∷ xs) none zero lt =
+    ap (λ o. unwrap_or (octet_of ps o) x) (omega arith) ∙ not_differs (octet_of ps from) x (or_parts _ _ none).0
+clash_none ps from (x ∷ xs) none (suc i) lt =
+    ap (λ o. unwrap_or (octet_of ps o) (slice_index xs i)) (omega arith)
+    ∙ clash_none ps (from + 1) xs (or_parts _ _ none).1 i (omega arith)
+
+tests_agree : (a b : Bool) → (a ≡ true → b ≡ false) → (b ≡ false → a ≡ true) → not a ≡ b
+tests_agree true true to back = sym (to refl)
+tests_agree true false to back = refl
+tests_agree false true to back = refl
+tests_agree false false to back = sym (back refl)
+
+pub clash_is : (blocks : List Block) (ps : List Fragment) (from : ℕ) (octets : List ℕ) (agreed : Bool) → Keeps blocks ps
+    → ((agreed ≡ true) ↔ Agrees blocks from octets) → not agreed ≡ clashes ps from octets
+clash_is blocks ps from octets agreed keeps says =
+    tests_agree agreed (clashes ps from octets)
+    (λ yes. none_clash ps from octets (λ i lt. ap (λ o. unwrap_or o (slice_index octets i)) (sym (keeps (from + i))) ∙ says.0 yes i lt))
+    (λ none. says.1 (λ i lt. ap (λ o. unwrap_or o (slice_index octets i)) (keeps (from + i)) ∙ clash_none ps from octets none i lt))
+
+-- A chain that has the octets of a datagram's fragments has as many blocks as they take.
+
+pub cells_are : (blocks : List Block) (ps : List Fragment) → IsMap blocks → Keeps blocks ps
+    → ((n : ℕ) → IsWithin blocks (256 * n) → length blocks ≡ count_by (holds blocks) (range_with_len 0 n)) → length blocks ≡ cells_of ps
+cells_are blocks ps map keeps counted =
+    count_is blocks (octet_of ps) (reach ps / 256 + 1) map keeps (λ o some. let under = below_reach ps o some in omega arith) counted

@@ -4,8 +4,10 @@ use Rattle.std.specs.List.{AllByRecursion}
 use Rattle.linked_table.specs.Table.{Pairwise}
 use Rattle.norm_settings.specs.Settings.{PlainSettings}
 use Rattle.reassembly.specs.declared.assembly.Assembly.{Assembly}
-use Rattle.reassembly.specs.Calls.{Call, Gathered, gathered, latest, is_old}
-use Rattle.reassembly.specs.Rows.{AreAnswered}
+use Rattle.reassembly.specs.declared.piece.Offered.{Offered}
+use Rattle.reassembly.specs.Pieces.{Fragment, whole_of}
+use Rattle.reassembly.specs.Calls.{Answer, Call, Gathered, after, gathered, latest, is_old, pieces_in}
+use Rattle.reassembly.specs.Rows.{AreAnswered, Carries, offered}
 use Rattle.reassembly.specs.Standing.{HoldsFor}
 
 -- the first fragments arrived in this order, the last of them by this time
@@ -26,6 +28,13 @@ pub record KeepsFor (settings : PlainSettings) (a : Assembly) (calls : List Call
   pub opened : IsFor settings a
   pub holds : HoldsFor (gathered settings.frag_time calls) a.table.entries a.store
   pub order : AreInOrder (gathered settings.frag_time calls) (latest calls)
+
+-- With these datagrams held, a fragment got this answer at this time: what was returned, the datagrams held afterwards, and the buffer, `old` before it and
+-- `new` after it.
+pub record IsAnswered (now : ℕ) (gs : List Gathered) (p : Fragment) (answer : Answer) (result : Offered) (old new : List ℕ) (a : Assembly) : Type 0 where
+  pub says : result ≡ offered answer (whole_of (p ∷ pieces_in gs p.id))
+  pub holds : HoldsFor (after now p answer gs) a.table.entries a.store
+  pub octets : Carries result old new (p ∷ pieces_in gs p.id)
 
 -- the greatest time of the calls so far, or 0 before the first
 abbrev pub last_time : Assembly → ℕ

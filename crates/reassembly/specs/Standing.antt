@@ -1,5 +1,5 @@
 -- What the table of datagrams and the store of octets represent (this project's profile).
-use Rattle.std.specs.Prelude.{◌≡◌, ◌≢◌, ℕ, ◌≤◌, List, [], ◌∷◌, length, Some}
+use Rattle.std.specs.Prelude.{◌≡◌, ◌≢◌, ℕ, ◌≤◌, false, List, [], ◌∷◌, length, Some, None}
 use Rattle.std.specs.List.{AllByRecursion}
 use Rattle.linked_table.specs.Table.{Entry}
 use Rattle.retain_store.specs.Maps.{Block, Store, chain_of, octet_at}
@@ -7,6 +7,7 @@ use Rattle.reassembly.specs.declared.id.DatagramId.{DatagramId}
 use Rattle.reassembly.specs.declared.progress.Progress.{Progress}
 use Rattle.reassembly.specs.Pieces.{Fragment, octet_of, total_of, reach, front_of, filled_in, cells_of}
 use Rattle.reassembly.specs.Calls.{Gathered}
+use Rattle.reassembly.specs.Rows.{f_end, first_row, own_rows}
 use Rattle.wire_base.specs.declared.limits.TheConstants.{MAX_PAYLOAD}
 
 -- the values kept of a datagram's fragments besides their octets; no octet is past the longest datagram, and the last fragment ends at the last octet
@@ -21,6 +22,12 @@ pub record ProgressOf (v : Progress) (ps : List Fragment) : Type 0 where
 -- a chain has the octets of these fragments, and no others
 abbrev pub Keeps : List Block → List Fragment → Type 0
 Keeps blocks ps = (offset : ℕ) → octet_at blocks offset ≡ octet_of ps offset
+
+-- a fragment joined others: the chain has the octets of all, and if it contradicts none, the values kept are those of all
+pub record IsJoined (ps : List Fragment) (p : Fragment) (old new : Progress) (blocks : List Block) : Type 0 where
+  pub progress : ProgressOf old ps → first_row (own_rows p) ≡ None → f_end ps p ≡ false → ProgressOf new (p ∷ ps)
+  pub octets : Keeps blocks (p ∷ ps)
+  pub count : length blocks ≡ cells_of (p ∷ ps)
 
 -- An entry represents a datagram: its identification, the time it began, the values kept of its fragments, the octets in the chain of its slot, and the number
 -- of blocks that they take.

@@ -8,7 +8,7 @@ use wire_base::Addr;
 
 /// Fields that the fragments of one datagram have in common (RFC 791 section 3.2).
 #[derive(Clone, Copy, PartialEq, Eq)]
-pub struct DatagramId {
+pub(crate) struct DatagramId {
     pub src: Addr,
     pub dst: Addr,
     pub protocol: u8,

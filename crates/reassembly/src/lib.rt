@@ -9,7 +9,7 @@
 //! alone.
 //!
 //! Choices: rules see a view of the calls: the fragments of the datagram, whether as many datagrams
-//! are held as may be, and the free cells. F_END asks for the end of the longest held fragment,
+//! are held as may be, and the free cells. F_END asks for the greatest end of the held fragments,
 //! since none is empty. A datagram is complete if its last fragment is held and as many octets are
 //! held as it has. The first fragment of a datagram is judged before it takes a slot, so one that
 //! is dropped for lack of room changes nothing. `offer` and `expire` require times that do not
@@ -28,5 +28,4 @@ mod rows;
 mod take;
 
 pub use assembly::Assembly;
-pub use id::DatagramId;
 pub use piece::{Offered, Piece, Whole};

@@ -11,15 +11,15 @@ use retain_store::{ChainId, blocks_touched};
 use rule_book::Rule;
 
 impl Assembly {
-    ghost use Rattle.std.specs.Prelude.{◌≡◌, ◌≤◌, ◌<◌, ℕ, Bool, List, [], ◌∷◌, length, nat_le, true, false, None};
+    ghost use Rattle.std.specs.Prelude.{◌≡◌, ◌≤◌, ℕ, Bool, List, ◌∷◌, length, nat_le, false, None};
     ghost use Rattle.linked_table.specs.Table.{IsIn, HasNone, Wherever};
     ghost use Rattle.norm_settings.specs.Settings.{PlainSettings};
     ghost use Rattle.retain_store.specs.Maps.{chain_of, missing};
-    ghost use Rattle.reassembly.specs.Pieces.{fragment_of, IsPiece, is_whole, whole_of};
-    ghost use Rattle.reassembly.specs.Calls.{Call, Gathered, gathered, latest, pieces_in, after};
-    ghost use Rattle.reassembly.specs.Rows.{ends_otherwise, own_rows, first_row, answer_by, answer_at, offered, offered_at, view_in, view_of, is_none_held, call_of, Carries, IsShort, JoinsPieces};
+    ghost use Rattle.reassembly.specs.Pieces.{fragment_of, IsPiece, is_whole};
+    ghost use Rattle.reassembly.specs.Calls.{Call, Gathered, gathered, pieces_in};
+    ghost use Rattle.reassembly.specs.Rows.{ends_otherwise, own_rows, first_row, answer_by, answer_at, offered_at, view_in, view_of, is_none_held, call_of, Carries, IsShort, JoinsPieces};
     ghost use Rattle.reassembly.specs.Standing.{HoldsFor};
-    ghost use Rattle.reassembly.specs.Assemblies.{IsFor, KeepsFor, StandsFor, last_time};
+    ghost use Rattle.reassembly.specs.Assemblies.{IsAnswered, IsFor, KeepsFor, StandsFor, last_time};
     ghost use Rattle.wire_base.specs.declared.limits.TheConstants.{MAX_PAYLOAD};
 
     // Takes a fragment that no rule drops, in the slot of its datagram.
@@ -38,11 +38,8 @@ impl Assembly {
         requires ends { ends_otherwise progress.now.total progress.now.reach (fragment_of piece.now) ≡ false }
         requires room { let p = fragment_of piece.now in missing (chain_of self.old.store slot.0) p.offset (length p.octets) ≤ self.old.store.free }
         requires buffer { MAX_PAYLOAD ≤ length buf.old }
-        ensures answer { let p = fragment_of piece.now in (gs : List Gathered) → HoldsFor gs self.old.table.entries self.old.store →
-            let ps = p ∷ pieces_in gs p.id in result ≡ offered (answer_by None (is_whole ps)) (whole_of ps) }
-        ensures holds { let p = fragment_of piece.now in (now : ℕ) (gs : List Gathered) → HoldsFor gs self.old.table.entries self.old.store →
-            HoldsFor (after now p (answer_by None (is_whole (p ∷ pieces_in gs p.id))) gs) self.new.table.entries self.new.store }
-        ensures octets { let p = fragment_of piece.now in (gs : List Gathered) → HoldsFor gs self.old.table.entries self.old.store → Carries result buf.old buf.new (p ∷ pieces_in gs p.id) }
+        ensures answered { let p = fragment_of piece.now in (now : ℕ) (gs : List Gathered) → HoldsFor gs self.old.table.entries self.old.store →
+            IsAnswered now gs p (answer_by None (is_whole (p ∷ pieces_in gs p.id))) result buf.old buf.new self.new }
         ensures short { IsShort result }
         ensures opened { (settings : PlainSettings) → IsFor settings self.old → IsFor settings self.new }
     {
@@ -70,12 +67,9 @@ impl Assembly {
         requires piece { IsPiece (fragment_of piece.now) }
         requires own { first_row (own_rows (fragment_of piece.now)) ≡ None }
         requires buffer { MAX_PAYLOAD ≤ length buf.old }
-        ensures answer { let p = fragment_of piece.now in (gs : List Gathered) (full : Bool) → HoldsFor gs self.old.table.entries self.old.store →
-            is_none_held (pieces_in gs p.id) ≡ false → result ≡ offered_at (view_in gs full self.old.store.free p) p }
-        ensures holds { let p = fragment_of piece.now in (now : ℕ) (gs : List Gathered) (full : Bool) → HoldsFor gs self.old.table.entries self.old.store →
+        ensures answered { let p = fragment_of piece.now in (now : ℕ) (gs : List Gathered) (full : Bool) → HoldsFor gs self.old.table.entries self.old.store →
             is_none_held (pieces_in gs p.id) ≡ false →
-            HoldsFor (after now p (answer_at (view_in gs full self.old.store.free p) p) gs) self.new.table.entries self.new.store }
-        ensures octets { let p = fragment_of piece.now in (gs : List Gathered) → HoldsFor gs self.old.table.entries self.old.store → Carries result buf.old buf.new (p ∷ pieces_in gs p.id) }
+            IsAnswered now gs p (answer_at (view_in gs full self.old.store.free p) p) result buf.old buf.new self.new }
         ensures short { IsShort result }
         ensures opened { (settings : PlainSettings) → IsFor settings self.old → IsFor settings self.new }
     {
@@ -109,11 +103,8 @@ impl Assembly {
         requires piece { IsPiece (fragment_of piece.now) }
         requires own { first_row (own_rows (fragment_of piece.now)) ≡ None }
         requires buffer { MAX_PAYLOAD ≤ length buf.old }
-        ensures answer { let p = fragment_of piece.now in (gs : List Gathered) → HoldsFor gs self.old.table.entries self.old.store →
-            result ≡ offered_at (view_in gs (nat_le self.old.table.max (length gs)) self.old.store.free p) p }
-        ensures holds { let p = fragment_of piece.now in (gs : List Gathered) → HoldsFor gs self.old.table.entries self.old.store →
-            HoldsFor (after now p (answer_at (view_in gs (nat_le self.old.table.max (length gs)) self.old.store.free p) p) gs) self.new.table.entries self.new.store }
-        ensures octets { let p = fragment_of piece.now in (gs : List Gathered) → HoldsFor gs self.old.table.entries self.old.store → Carries result buf.old buf.new (p ∷ pieces_in gs p.id) }
+        ensures answered { let p = fragment_of piece.now in (gs : List Gathered) → HoldsFor gs self.old.table.entries self.old.store →
+            IsAnswered now gs p (answer_at (view_in gs (nat_le self.old.table.max (length gs)) self.old.store.free p) p) result buf.old buf.new self.new }
         ensures short { IsShort result }
         ensures opened { (settings : PlainSettings) → IsFor settings self.old → IsFor settings self.new }
     {
@@ -140,13 +131,10 @@ impl Assembly {
     fn judge(&mut self, now: u32, piece: &Piece<'_>, buf: &mut [u8]) -> Offered
         requires piece { IsPiece (fragment_of piece.now) }
         requires buffer { MAX_PAYLOAD ≤ length buf.old }
-        ensures answer { let p = fragment_of piece.now in (settings : PlainSettings) (calls : List Call) → KeepsFor settings self.old calls →
-            result ≡ offered_at (view_of settings calls p) p }
-        ensures octets { let p = fragment_of piece.now in (settings : PlainSettings) (calls : List Call) → KeepsFor settings self.old calls →
-            Carries result buf.old buf.new (p ∷ (view_of settings calls p).pieces) }
+        ensures answered { let p = fragment_of piece.now in (settings : PlainSettings) (calls : List Call) → KeepsFor settings self.old calls →
+            IsAnswered now (gathered settings.frag_time calls) p (answer_at (view_of settings calls p) p) result buf.old buf.new self.new }
         ensures short { IsShort result }
-        ensures keeps { let p = fragment_of piece.now in (settings : PlainSettings) (calls : List Call) → KeepsFor settings self.old calls → latest calls ≤ now →
-            KeepsFor settings self.new (call_of settings calls now p ∷ calls) }
+        ensures opened { (settings : PlainSettings) → IsFor settings self.old → IsFor settings self.new }
     {
         if let Some(rule) = own_row(piece) {
             return Offered::Drop(rule);

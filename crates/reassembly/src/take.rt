@@ -1,9 +1,8 @@
 //! Addition of a fragment's octets to its datagram.
-ghost use Rattle.std.specs.Prelude.{◌≡◌, ◌<◌, ◌≤◌, List, ◌∷◌, length, None, false};
+ghost use Rattle.std.specs.Prelude.{◌≡◌, ◌<◌, ◌≤◌, List, length};
 ghost use Rattle.retain_store.specs.Maps.{chain_of, missing, ChangesOnly};
-ghost use Rattle.reassembly.specs.Pieces.{Fragment, fragment_of, cells_of, IsPiece};
-ghost use Rattle.reassembly.specs.Rows.{f_end, first_row, own_rows};
-ghost use Rattle.reassembly.specs.Standing.{Keeps, ProgressOf};
+ghost use Rattle.reassembly.specs.Pieces.{Fragment, fragment_of, IsPiece};
+ghost use Rattle.reassembly.specs.Standing.{IsJoined, Keeps};
 ghost use Rattle.wire_base.specs.declared.limits.TheConstants.{MAX_PAYLOAD};
 
 use crate::piece::Piece;
@@ -23,10 +22,8 @@ pub(crate) fn take(
     requires room { let p = fragment_of piece.now in missing (chain_of store.old chain.0) p.offset (length p.octets) ≤ store.old.free }
     ensures changed { ChangesOnly store.old store.new chain.0 }
     ensures since { result.since ≡ progress.now.since }
-    ensures progress { let p = fragment_of piece.now in (ps : List Fragment) → Keeps (chain_of store.old chain.0) ps → ProgressOf progress.now ps →
-        first_row (own_rows p) ≡ None → f_end ps p ≡ false → ProgressOf result (p ∷ ps) }
-    ensures octets { let p = fragment_of piece.now in (ps : List Fragment) → Keeps (chain_of store.old chain.0) ps → Keeps (chain_of store.new chain.0) (p ∷ ps) }
-    ensures count { let p = fragment_of piece.now in (ps : List Fragment) → Keeps (chain_of store.old chain.0) ps → length (chain_of store.new chain.0) ≡ cells_of (p ∷ ps) }
+    ensures joined { let p = fragment_of piece.now in (ps : List Fragment) → Keeps (chain_of store.old chain.0) ps →
+        IsJoined ps p progress.now result (chain_of store.new chain.0) }
 {
     let from = u64::from(piece.offset);
     let fresh = store.place_counting(chain, from, piece.bytes);

@@ -1,7 +1,7 @@
 use Rattle.std.proofs.Common.{◌∙◌, ap}
 use Rattle.retain_store.specs.Maps.{chain_of}
 use Rattle.reassembly.specs.Rows.{clashes}
-use Rattle.reassembly.proofs.Clashes.{clash_is}
+use Rattle.reassembly.proofs.Pieces.{clash_is}
 use Rattle.reassembly.proofs.odds.clashes.Goals as goal
 
 pub returns : goal.returns

@@ -1,90 +1,58 @@
-use Rattle.std.proofs.Common.{◌≡◌, [], ◌∷◌, ◌++◌, length, true, false, None, sym, ap, subst, ◌∙◌, arith}
+use Rattle.std.proofs.Common.{◌≡◌, [], ◌∷◌, ◌++◌, List, length, true, false, sym, ap, subst, ◌∙◌, arith}
 use Rattle.std.specs.Prelude.{nat_lt, nat_le}
 use Rattle.std.specs.Coded.{le_prop}
 use Rattle.std.proofs.Math.Logic.{∥∥₁_map, ∥∥₁_elim}
 use Rattle.retain_store.specs.Maps.{chain_of, missing}
 use Rattle.linked_table.specs.Table.{HasNone, IsIn}
 use Rattle.rule_book.specs.declared.rule.Rule.TheVariants.{FMany, FRoom}
-use Rattle.reassembly.specs.Pieces.{fragment_of, is_whole, missing_of, whole_of}
-use Rattle.reassembly.specs.Calls.{after, pieces_in}
-use Rattle.reassembly.specs.Rows.{answer_by, view_in, offered, Carries}
+use Rattle.reassembly.specs.Pieces.{fragment_of, missing_of}
+use Rattle.reassembly.specs.Calls.{Gathered, pieces_in}
+use Rattle.reassembly.specs.Rows.{view_in, f_many}
 use Rattle.reassembly.specs.Standing.{HoldsFor}
-use Rattle.reassembly.proofs.Stands.{lengths, pieces_none}
-use Rattle.reassembly.proofs.Deciding.{many_drops, room_drops, none_drops, drop_answer, room_is, room_not}
-use Rattle.reassembly.proofs.Beginning.{fresh_datagram, fresh_entry, none_has, no_odds_in, is_many, not_full, touched_at, blocks_missing, blocks_missing_of, blank_holds, blank_pieces, blank_after, chain_free, inserted, entries_added, max_stays, in_added}
+use Rattle.reassembly.specs.Assemblies.{IsAnswered}
+use Rattle.reassembly.proofs.Rules.{many_drops, room_drops, none_drops, dropped_is, room_is, room_not}
+use Rattle.reassembly.proofs.Offers.{IsFirst, is_first, fresh_datagram, fresh_entry, is_many, not_full, touched_at, blocks_missing, blocks_missing_of, blank_holds, blank_answered, chain_free, inserted, entries_added, max_stays, in_added}
 use Rattle.reassembly.proofs.assembly.Assembly.begin.Goals as goal
+use Rattle.reassembly.proofs.assembly.Assembly.begin.Goals.{After-free-free}
 
-pub returns-then-count-max-clause-answer : goal.returns-then-count-max-clause-answer
-returns-then-count-max-clause-answer c gs h =
-    let p = fragment_of c.args.piece.now in
-    let entries = c.args.self.now.table.entries in
-    let store = c.args.self.now.store in
-    let max = c.args.self.now.table.max in
-    let ps = pieces_in gs p.id in
-    let v = view_in gs (nat_le max (length gs)) store.free p in
-    let has = none_has gs entries store p.id h c.requires.absent in
-    let none : ps ≡ [] = pieces_none gs p.id has in
-    let odd = no_odds_in ps p none in
-    let long : length entries ≡ length gs = lengths store entries gs h.each in
-    let drops = many_drops v p c.requires.own odd (is_many ps max (length gs) none (omega (arith, long, c.if-count-max.true, c.len-count.ensures.number, c.max-max.ensures))) in
-    drop_answer v p FMany drops
+-- it is the first fragment, a further datagram may be held, and `need` cells are missing
+record Fits (c : After-free-free) (gs : List Gathered) : Type 0 where
+  first : IsFirst gs (fragment_of c.args.piece.now) c.args.self.now.table.entries
+  many : f_many (view_in gs (nat_le c.args.self.now.table.max (length gs)) c.args.self.now.store.free (fragment_of c.args.piece.now)) ≡ false
+  wanted : c.blocks_touched-need.result ≡ missing_of (pieces_in gs (fragment_of c.args.piece.now).id) (fragment_of c.args.piece.now).offset (length (fragment_of c.args.piece.now).octets)
 
-pub returns-then-count-max-clause-holds : goal.returns-then-count-max-clause-holds
-returns-then-count-max-clause-holds c gs h =
+fits : (c : After-free-free) (gs : List Gathered) → HoldsFor gs c.args.self.now.table.entries c.args.self.now.store → Fits c gs
+fits c gs h =
     let p = fragment_of c.args.piece.now in
-    let entries = c.args.self.now.table.entries in
-    let store = c.args.self.now.store in
-    let max = c.args.self.now.table.max in
-    let ps = pieces_in gs p.id in
-    let v = view_in gs (nat_le max (length gs)) store.free p in
-    let has = none_has gs entries store p.id h c.requires.absent in
-    let none : ps ≡ [] = pieces_none gs p.id has in
-    let odd = no_odds_in ps p none in
-    let long : length entries ≡ length gs = lengths store entries gs h.each in
-    let drops = many_drops v p c.requires.own odd (is_many ps max (length gs) none (omega (arith, long, c.if-count-max.true, c.len-count.ensures.number, c.max-max.ensures))) in
-    subst (λ a. HoldsFor (after c.args.now p a gs) entries store) (sym drops) h
+    let a = c.args.self.now in
+    let first = is_first gs a.table.entries a.store p h c.requires.absent in
+    let long = first.long in
+    let need = c.blocks_touched-need.result in
+    record {
+      first = first;
+      many = not_full (pieces_in gs p.id) a.table.max (length gs) first.none (omega (arith, long, c.if-count-max.false, c.len-count.ensures.number, c.len-count.ensures.bounded, c.max-max.ensures));
+      wanted = sym (ap (λ l. missing_of l p.offset (length p.octets)) first.none
+          ∙ blocks_missing_of p.offset (length p.octets) need (touched_at c.from.result c.len.result p.offset (length p.octets) need c.from.ensures c.len.ensures c.blocks_touched-need.ensures));
+    }
 
-pub returns-then-need-free-clause-answer : goal.returns-then-need-free-clause-answer
-returns-then-need-free-clause-answer c gs h =
+pub returns-then-count-max-clause-answered : goal.returns-then-count-max-clause-answered
+returns-then-count-max-clause-answered c gs h =
     let p = fragment_of c.args.piece.now in
-    let entries = c.args.self.now.table.entries in
-    let store = c.args.self.now.store in
-    let max = c.args.self.now.table.max in
-    let ps = pieces_in gs p.id in
-    let v = view_in gs (nat_le max (length gs)) store.free p in
-    let has = none_has gs entries store p.id h c.requires.absent in
-    let none : ps ≡ [] = pieces_none gs p.id has in
-    let odd = no_odds_in ps p none in
-    let long : length entries ≡ length gs = lengths store entries gs h.each in
-    let many = not_full ps max (length gs) none (omega (arith, long, c.if-count-max.false, c.len-count.ensures.number, c.len-count.ensures.bounded, c.max-max.ensures)) in
-    let wanted : c.blocks_touched-need.result ≡ missing_of ps p.offset (length p.octets) =
-    sym (ap (λ l. missing_of l p.offset (length p.octets)) none
-    ∙ blocks_missing_of p.offset (length p.octets) c.blocks_touched-need.result (touched_at c.from.result c.len.result p.offset (length p.octets) c.blocks_touched-need.result c.from.ensures c.len.ensures c.blocks_touched-need.ensures)) in
-    let room : nat_lt store.free (missing_of ps p.offset (length p.octets)) ≡ true =
-    room_is store.free c.blocks_touched-need.result (missing_of ps p.offset (length p.octets)) wanted (omega (arith, c.if-need-free.true, c.free-free.ensures.value)) in
-    let drops = room_drops v p c.requires.own odd many room in
-    drop_answer v p FRoom drops
+    let a = c.args.self.now in
+    let v = view_in gs (nat_le a.table.max (length gs)) a.store.free p in
+    let f = is_first gs a.table.entries a.store p h c.requires.absent in
+    let long = f.long in
+    let many = is_many v.pieces a.table.max (length gs) f.none (omega (arith, long, c.if-count-max.true, c.len-count.ensures.number, c.max-max.ensures)) in
+    dropped_is c.args.now gs p _ FMany c.args.buf.now a (many_drops v p c.requires.own f.odd many) h
 
-pub returns-then-need-free-clause-holds : goal.returns-then-need-free-clause-holds
-returns-then-need-free-clause-holds c gs h =
+pub returns-then-need-free-clause-answered : goal.returns-then-need-free-clause-answered
+returns-then-need-free-clause-answered c gs h =
     let p = fragment_of c.args.piece.now in
-    let entries = c.args.self.now.table.entries in
-    let store = c.args.self.now.store in
-    let max = c.args.self.now.table.max in
-    let ps = pieces_in gs p.id in
-    let v = view_in gs (nat_le max (length gs)) store.free p in
-    let has = none_has gs entries store p.id h c.requires.absent in
-    let none : ps ≡ [] = pieces_none gs p.id has in
-    let odd = no_odds_in ps p none in
-    let long : length entries ≡ length gs = lengths store entries gs h.each in
-    let many = not_full ps max (length gs) none (omega (arith, long, c.if-count-max.false, c.len-count.ensures.number, c.len-count.ensures.bounded, c.max-max.ensures)) in
-    let wanted : c.blocks_touched-need.result ≡ missing_of ps p.offset (length p.octets) =
-    sym (ap (λ l. missing_of l p.offset (length p.octets)) none
-    ∙ blocks_missing_of p.offset (length p.octets) c.blocks_touched-need.result (touched_at c.from.result c.len.result p.offset (length p.octets) c.blocks_touched-need.result c.from.ensures c.len.ensures c.blocks_touched-need.ensures)) in
-    let room : nat_lt store.free (missing_of ps p.offset (length p.octets)) ≡ true =
-    room_is store.free c.blocks_touched-need.result (missing_of ps p.offset (length p.octets)) wanted (omega (arith, c.if-need-free.true, c.free-free.ensures.value)) in
-    let drops = room_drops v p c.requires.own odd many room in
-    subst (λ a. HoldsFor (after c.args.now p a gs) entries store) (sym drops) h
+    let a = c.args.self.now in
+    let v = view_in gs (nat_le a.table.max (length gs)) a.store.free p in
+    let f = fits (goal.at.returns-then-need-free-clause-answered c).After-free-free gs h in
+    let room : nat_lt a.store.free (missing_of v.pieces p.offset (length p.octets)) ≡ true = room_is a.store.free c.blocks_touched-need.result _ f.wanted (omega (arith, c.if-need-free.true, c.free-free.ensures.value)) in
+    dropped_is c.args.now gs p _ FRoom c.args.buf.now a (room_drops v p c.requires.own f.first.odd f.many room) h
 
 pub invariant_of-self : goal.invariant_of-self
 invariant_of-self c = record {
@@ -111,73 +79,18 @@ accept-requires-clause-room c = ∥∥₁_elim c.args.self.now.sound le_prop (λ
     ∙ blocks_missing p.offset (length p.octets) c.blocks_touched-need.result (touched_at c.from.result c.len.result p.offset (length p.octets) c.blocks_touched-need.result c.from.ensures c.len.ensures c.blocks_touched-need.ensures) in
     omega (arith, wanted, c.if-need-free.false, c.free-free.ensures.value))
 
-pub returns-clause-answer : goal.returns-clause-answer
-returns-clause-answer c gs h =
+pub returns-clause-answered : goal.returns-clause-answered
+returns-clause-answered c gs h =
     let p = fragment_of c.args.piece.now in
-    let entries = c.args.self.now.table.entries in
-    let store = c.args.self.now.store in
-    let max = c.args.self.now.table.max in
-    let ps = pieces_in gs p.id in
-    let v = view_in gs (nat_le max (length gs)) store.free p in
-    let has = none_has gs entries store p.id h c.requires.absent in
-    let none : ps ≡ [] = pieces_none gs p.id has in
-    let odd = no_odds_in ps p none in
-    let long : length entries ≡ length gs = lengths store entries gs h.each in
-    let many = not_full ps max (length gs) none (omega (arith, long, c.if-count-max.false, c.len-count.ensures.number, c.len-count.ensures.bounded, c.max-max.ensures)) in
-    let wanted : c.blocks_touched-need.result ≡ missing_of ps p.offset (length p.octets) =
-    sym (ap (λ l. missing_of l p.offset (length p.octets)) none
-    ∙ blocks_missing_of p.offset (length p.octets) c.blocks_touched-need.result (touched_at c.from.result c.len.result p.offset (length p.octets) c.blocks_touched-need.result c.from.ensures c.len.ensures c.blocks_touched-need.ensures)) in
-    let room : nat_lt store.free (missing_of ps p.offset (length p.octets)) ≡ false =
-    room_not store.free c.blocks_touched-need.result (missing_of ps p.offset (length p.octets)) wanted (omega (arith, c.if-need-free.false, c.free-free.ensures.value)) in
-    let taken = none_drops v p c.requires.own odd many room in
+    let a = c.args.self.now in
+    let v = view_in gs (nat_le a.table.max (length gs)) a.store.free p in
+    let f = fits (goal.at.returns-clause-answered c).After-free-free gs h in
+    let room : nat_lt a.store.free (missing_of v.pieces p.offset (length p.octets)) ≡ false = room_not a.store.free c.blocks_touched-need.result _ f.wanted (omega (arith, c.if-need-free.false, c.free-free.ensures.value)) in
     let gt = gs ++ fresh_datagram p.id c.args.now ∷ [] in
-    let grown = entries_added c.args.self.now.table c.insert_hashed.new.self c.in-Ok.slot c.args.id.now.key p.id c.none-progress.result c.args.now c.in-Ok.ensures.added c.requires.keyed c.none-progress.ensures in
-    let ht : HoldsFor gt c.insert_hashed.new.self.entries store = subst (λ l. HoldsFor gt l store) (sym grown) (blank_holds gs entries store c.in-Ok.slot p.id c.args.now h c.in-Ok.ensures.fresh) in
-    let same : pieces_in gt p.id ≡ ps = blank_pieces gs p.id c.args.now has in
-    c.accept.ensures.answer gt ht
-    ∙ (ap (λ l. offered (answer_by None (is_whole (p ∷ l))) (whole_of (p ∷ l))) same
-    ∙ sym (ap (λ a. offered a (whole_of (p ∷ ps))) taken))
-
-pub returns-clause-holds : goal.returns-clause-holds
-returns-clause-holds c gs h =
-    let p = fragment_of c.args.piece.now in
-    let entries = c.args.self.now.table.entries in
-    let store = c.args.self.now.store in
-    let max = c.args.self.now.table.max in
-    let ps = pieces_in gs p.id in
-    let v = view_in gs (nat_le max (length gs)) store.free p in
-    let has = none_has gs entries store p.id h c.requires.absent in
-    let none : ps ≡ [] = pieces_none gs p.id has in
-    let odd = no_odds_in ps p none in
-    let long : length entries ≡ length gs = lengths store entries gs h.each in
-    let many = not_full ps max (length gs) none (omega (arith, long, c.if-count-max.false, c.len-count.ensures.number, c.len-count.ensures.bounded, c.max-max.ensures)) in
-    let wanted : c.blocks_touched-need.result ≡ missing_of ps p.offset (length p.octets) =
-    sym (ap (λ l. missing_of l p.offset (length p.octets)) none
-    ∙ blocks_missing_of p.offset (length p.octets) c.blocks_touched-need.result (touched_at c.from.result c.len.result p.offset (length p.octets) c.blocks_touched-need.result c.from.ensures c.len.ensures c.blocks_touched-need.ensures)) in
-    let room : nat_lt store.free (missing_of ps p.offset (length p.octets)) ≡ false =
-    room_not store.free c.blocks_touched-need.result (missing_of ps p.offset (length p.octets)) wanted (omega (arith, c.if-need-free.false, c.free-free.ensures.value)) in
-    let taken = none_drops v p c.requires.own odd many room in
-    let gt = gs ++ fresh_datagram p.id c.args.now ∷ [] in
-    let grown = entries_added c.args.self.now.table c.insert_hashed.new.self c.in-Ok.slot c.args.id.now.key p.id c.none-progress.result c.args.now c.in-Ok.ensures.added c.requires.keyed c.none-progress.ensures in
-    let ht : HoldsFor gt c.insert_hashed.new.self.entries store = subst (λ l. HoldsFor gt l store) (sym grown) (blank_holds gs entries store c.in-Ok.slot p.id c.args.now h c.in-Ok.ensures.fresh) in
-    let same : pieces_in gt p.id ≡ ps = blank_pieces gs p.id c.args.now has in
-    subst (λ a. HoldsFor (after c.args.now p a gs) c.accept.new.self.table.entries c.accept.new.self.store) (sym taken)
-    (subst (λ l. HoldsFor l c.accept.new.self.table.entries c.accept.new.self.store) (blank_after gs p c.args.now (is_whole (p ∷ ps)) has)
-    (subst (λ l. HoldsFor (after c.args.now p (answer_by None (is_whole (p ∷ l))) gt) c.accept.new.self.table.entries c.accept.new.self.store) same
-    (c.accept.ensures.holds c.args.now gt ht)))
-
-pub returns-clause-octets : goal.returns-clause-octets
-returns-clause-octets c gs h =
-    let p = fragment_of c.args.piece.now in
-    let entries = c.args.self.now.table.entries in
-    let store = c.args.self.now.store in
-    let ps = pieces_in gs p.id in
-    let has = none_has gs entries store p.id h c.requires.absent in
-    let gt = gs ++ fresh_datagram p.id c.args.now ∷ [] in
-    let grown = entries_added c.args.self.now.table c.insert_hashed.new.self c.in-Ok.slot c.args.id.now.key p.id c.none-progress.result c.args.now c.in-Ok.ensures.added c.requires.keyed c.none-progress.ensures in
-    let ht : HoldsFor gt c.insert_hashed.new.self.entries store = subst (λ l. HoldsFor gt l store) (sym grown) (blank_holds gs entries store c.in-Ok.slot p.id c.args.now h c.in-Ok.ensures.fresh) in
-    let same : pieces_in gt p.id ≡ ps = blank_pieces gs p.id c.args.now has in
-    subst (λ l. Carries c.accept.result c.args.buf.now c.accept.new.buf (p ∷ l)) same (c.accept.ensures.octets gt ht)
+    let grown = entries_added a.table c.insert_hashed.new.self c.in-Ok.slot c.args.id.now.key p.id c.none-progress.result c.args.now c.in-Ok.ensures.added c.requires.keyed c.none-progress.ensures in
+    let ht : HoldsFor gt c.insert_hashed.new.self.entries a.store = subst (λ l. HoldsFor gt l a.store) (sym grown) (blank_holds gs a.table.entries a.store c.in-Ok.slot p.id c.args.now h c.in-Ok.ensures.fresh) in
+    subst (λ x. IsAnswered c.args.now gs p x c.accept.result c.args.buf.now c.accept.new.buf c.accept.new.self) (sym (none_drops v p c.requires.own f.first.odd f.many room))
+    (blank_answered c.args.now gs p c.accept.result c.args.buf.now c.accept.new.buf c.accept.new.self f.first.new (c.accept.ensures.answered c.args.now gt ht))
 
 pub returns-clause-opened : goal.returns-clause-opened
 returns-clause-opened c settings o =

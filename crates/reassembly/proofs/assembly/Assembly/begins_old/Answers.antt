@@ -1,6 +1,6 @@
 use Rattle.std.proofs.Common.{◌+◌, ◌∙◌, ap₂, sym}
 use Rattle.std.specs.Prelude.{nat_lt}
-use Rattle.reassembly.proofs.Expiring.{first_old}
+use Rattle.reassembly.proofs.Order.{first_old}
 use Rattle.reassembly.proofs.assembly.Assembly.begins_old.Goals as goal
 
 pub returns : goal.returns

@@ -1,5 +1,5 @@
 use Rattle.std.proofs.Common.{◌∙◌, sym, arith}
-use Rattle.reassembly.proofs.Holding.{held_is}
+use Rattle.reassembly.proofs.Entries.{held_is}
 use Rattle.reassembly.proofs.assembly.Assembly.cells.Goals as goal
 
 pub returns-clause-number : goal.returns-clause-number

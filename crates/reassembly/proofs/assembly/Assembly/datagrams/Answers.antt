@@ -1,5 +1,5 @@
 use Rattle.std.proofs.Common.{◌∙◌}
-use Rattle.reassembly.proofs.Stands.{lengths}
+use Rattle.reassembly.proofs.Entries.{lengths}
 use Rattle.reassembly.proofs.assembly.Assembly.datagrams.Goals as goal
 
 pub returns-clause-number : goal.returns-clause-number

@@ -1,6 +1,6 @@
 use Rattle.std.proofs.Common.{◌∷◌, refl, arith}
 use Rattle.reassembly.specs.Calls.{expiry}
-use Rattle.reassembly.proofs.Passing.{later}
+use Rattle.reassembly.proofs.Offers.{later}
 use Rattle.reassembly.proofs.assembly.Assembly.expire.Goals as goal
 
 pub returns-clause-number : goal.returns-clause-number

@@ -1,6 +1,6 @@
 use Rattle.std.proofs.Common.{sym, subst, ◌∙◌}
 use Rattle.reassembly.specs.Standing.{HoldsFor}
-use Rattle.reassembly.proofs.Expiring.{first_goes, empty_stays}
+use Rattle.reassembly.proofs.Order.{first_goes, empty_stays}
 use Rattle.reassembly.proofs.assembly.Assembly.forget_first.Goals as goal
 
 pub returns-in-Some-clause-first : goal.returns-in-Some-clause-first

@@ -4,8 +4,8 @@ use Rattle.norm_settings.specs.Settings.{PlainSettings}
 use Rattle.reassembly.specs.Calls.{Call, Gathered, gathered, latest, is_old}
 use Rattle.reassembly.specs.Assemblies.{KeepsFor, begins_old}
 use Rattle.reassembly.specs.Standing.{HoldsFor}
-use Rattle.reassembly.proofs.Stands.{lengths}
-use Rattle.reassembly.proofs.Expiring.{drop_more, old_more, none_past, Expired, expired}
+use Rattle.reassembly.proofs.Entries.{lengths}
+use Rattle.reassembly.proofs.Order.{drop_more, old_more, none_past, Expired, expired}
 use Rattle.reassembly.proofs.assembly.Assembly.forget_old.Goals as goal
 
 pub loop-index-preserved : goal.loop-index-preserved

@@ -2,18 +2,19 @@
 use Rattle.std.proofs.Common.{◌≡◌, ℕ, zero, suc, ◌+◌, ◌-◌, ◌*◌, ◌/◌, ◌<◌, ◌≤◌, ◌==◌, ◌||◌, ◌&&◌, not, Bool, true, false, cond, List, [], ◌∷◌, length, is_some, refl, sym, ap, subst, ◌∙◌, arith}
 use Rattle.std.specs.Prelude.{nat_lt, nat_le}
 use Rattle.std.specs.List.{filter, count_by, list_any, range_with_len}
+use Rattle.std.proofs.lemmas.Bool.{false_from_ne_true}
 use Rattle.std.proofs.lemmas.Bool.Decides.{nat_tests}
 use Rattle.std.proofs.lemmas.List.Sums.{sum_by-cons}
 use Rattle.norm_settings.specs.Settings.{PlainSettings}
 use Rattle.retain_store.specs.Maps.{octet_in}
-use Rattle.retain_store.proofs.Counts.{none_counted, parts}
 use Rattle.reassembly.specs.Pieces.{Fragment, end_of, octet_of, reach, has_block, cells_of, missing_of}
 use Rattle.reassembly.specs.Calls.{Answer, held, done, dropped, Call, expiry, offer, Gathered, gathered, after, with_piece, of_others, pieces_in, cells_in, is_id, is_old, forgets}
 use Rattle.reassembly.specs.Rows.{is_none_held, answer_at, view_of, AreAnswered}
+use Rattle.retain_store.proofs.Counts.{none_counted, parts}
 use Rattle.reassembly.specs.Laws.{AnsweredIsWithin}
-use Rattle.reassembly.proofs.Beginning.{any_none}
-use Rattle.reassembly.proofs.Held.{FitsIn, fits_in, held_not_dropped}
-use Rattle.reassembly.proofs.Pieces.{in_piece, below_reach, some_or, some_false}
+use Rattle.reassembly.proofs.Offers.{any_none}
+use Rattle.reassembly.proofs.Wholes.{FitsIn, fits_in, held_not_dropped}
+use Rattle.reassembly.proofs.Pieces.{in_piece, below_reach, some_or}
 
 -- fewer numbers pass the narrower test
 count_less : (p q : ℕ → Bool) (a n : ℕ) → ((m : ℕ) → a ≤ m → m < a + n → p m ≡ true → q m ≡ true)
@@ -77,7 +78,7 @@ any_less f g a (suc n) implies some =
 -- a block past the reach has no octet
 past_reach : (ps : List Fragment) (n : ℕ) → reach ps / 256 + 1 ≤ n → has_block ps n ≡ false
 past_reach ps n le =
-    some_false (has_block ps n) (λ some.
+    false_from_ne_true (has_block ps n) (λ some.
     let bad : false ≡ true = sym (any_none (range_with_len (256 * n) 256))
     ∙ any_less (λ o. is_some (octet_of ps o)) (λ o. false) (256 * n) 256 (λ o low high is. let under = below_reach ps o is in absurd (omega arith)) some in
     cc)

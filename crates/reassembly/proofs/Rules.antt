@@ -1,14 +1,17 @@
--- Which rule decides.
-use Rattle.std.proofs.Common.{◌≡◌, ℕ, ◌<◌, ◌≤◌, Bool, true, false, cond, List, [], ◌∷◌, ◌++◌, Option, Some, None, refl, sym, ap, ◌∙◌, arith, ◌&&◌}
+-- Which rule decides of a fragment.
+use Rattle.std.proofs.Common.{◌≡◌, ℕ, ◌<◌, ◌≤◌, Bool, true, false, cond, List, [], ◌∷◌, ◌++◌, Option, Some, None, refl, sym, ap, subst, ◌∙◌, arith, ◌&&◌}
 use Rattle.std.specs.Prelude.{nat_lt}
 use Rattle.std.specs.Option.{option_or}
 use Rattle.std.proofs.lemmas.Bool.Decides.{nat_tests}
 use Rattle.rule_book.specs.declared.rule.Rule.{Rule}
 use Rattle.rule_book.specs.declared.rule.Rule.TheVariants.{FDf, FEmpty, FAlign, FBig, FMany, FRoom}
+use Rattle.reassembly.specs.Pieces.{Fragment, is_whole}
+use Rattle.reassembly.specs.Calls.{Answer, dropped, Gathered, forgets, of_others}
+use Rattle.reassembly.specs.declared.assembly.Assembly.{Assembly}
+use Rattle.reassembly.specs.Standing.{HoldsFor}
+use Rattle.reassembly.specs.Assemblies.{IsAnswered}
 use Rattle.reassembly.specs.declared.piece.Offered.TheVariants as offers
-use Rattle.reassembly.specs.Pieces.{Fragment, is_whole, whole_of}
-use Rattle.reassembly.specs.Calls.{dropped}
-use Rattle.reassembly.specs.Rows.{View, Row, first_row, own_rows, odd_rows, f_df, f_empty, f_align, f_big, f_many, f_room, is_none_held, answer_by, answer_at, offered, offered_at}
+use Rattle.reassembly.specs.Rows.{Row, f_big, View, first_row, own_rows, odd_rows, f_df, f_empty, f_align, f_many, f_room, is_none_held, answer_by, answer_at}
 use Rattle.reassembly.specs.Laws.{FirstRowDrops}
 
 join_step : (b : Bool) (rule : Rule) (joined left right : Option Rule) → joined ≡ option_or left right → cond b (Some rule) joined ≡ option_or (cond b (Some rule) left) right
@@ -54,8 +57,11 @@ none_drops v p own odd many room =
     ∙ (ap (λ b. answer_by (cond b (Some FMany) (cond (f_room v p) (Some FRoom) None)) (is_whole (p ∷ v.pieces))) many
     ∙ ap (λ b. answer_by (cond b (Some FRoom) None) (is_whole (p ∷ v.pieces))) room))
 
-pub drop_answer : (v : View) (p : Fragment) (rule : Rule) → answer_at v p ≡ dropped rule → offers.Drop rule ≡ offered_at v p
-drop_answer v p rule e = sym (ap (λ a. offered a (whole_of (p ∷ v.pieces))) e)
+-- the answer of a fragment that is dropped; its datagram goes if the rule forgets it
+pub dropped_is : (now : ℕ) (gs : List Gathered) (p : Fragment) (answer : Answer) (rule : Rule) (buf : List ℕ) (a : Assembly) → answer ≡ dropped rule
+    → HoldsFor (cond (forgets rule) (of_others p.id gs) gs) a.table.entries a.store → IsAnswered now gs p answer (offers.Drop rule) buf buf a
+dropped_is now gs p answer rule buf a is h =
+    subst (λ x. IsAnswered now gs p x (offers.Drop rule) buf buf a) (sym is) (record { says = refl; holds = h; octets = refl })
 
 -- if fragments of the datagram are held, F_MANY does not hold
 pub not_many : (ps : List Fragment) (full : Bool) → is_none_held ps ≡ false → (is_none_held ps && full) ≡ false
