@@ -26,12 +26,11 @@ use Rattle.tcp_norm.specs.Rows.{is_live, holds_era, mends, dropped_by, mended_by
 use Rattle.tcp_norm.specs.Emits.{packet_by, packets_passed, probe_packet, probe_packets, segment_sent, segment_anew, bare_segment, stream_segment, sum_mended}
 use Rattle.tcp_norm.specs.Outcomes.{outcome_at, outcome_by}
 use Rattle.tcp_norm.specs.Segments.{IsSegment, KeepsPayload}
-use Rattle.tcp_norm.proofs.Verbatim.{Own, own, or_false}
-use Rattle.tcp_norm.proofs.Written.{own_octets}
-use Rattle.tcp_norm.proofs.OwnPackets.{bare_fits_here, stream_fits_here}
-use Rattle.tcp_norm.proofs.EmittingBare.{packet_sent}
-use Rattle.tcp_norm.proofs.Bares.{empty, behind}
-use Rattle.tcp_norm.proofs.LivesLists.{found_none}
+use Rattle.tcp_norm.proofs.StreamFrames.{Own, own, or_false, own_octets}
+use Rattle.tcp_norm.proofs.Packets.{bare_fits_here, stream_fits_here}
+use Rattle.tcp_norm.proofs.Emitted.{packet_sent}
+use Rattle.tcp_norm.proofs.BareSegments.{empty, behind}
+use Rattle.tcp_norm.proofs.Numbers.{found_none}
 
 -- a rule that is not named does not hold
 unnamed : (t p : Rule → Bool) (xs : List Rule) → list_any t (filter p xs) ≡ false → AllByRecursion (λ x. t x ≡ true → p x ≡ false) xs

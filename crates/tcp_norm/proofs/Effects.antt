@@ -1,28 +1,38 @@
--- What the call of a datagram leaves of the live eras, by what it does.
-use Rattle.std.proofs.Common.{◌≡◌, ◌≢◌, ℕ, ◌+◌, ◌<◌, ◌≤◌, ◌&&◌, not, Bool, true, false, cond, List, [], ◌∷◌, ◌++◌, map, filter, Option, Some, None, is_some, refl, sym, ap, ap₂, subst, ◌∙◌, arith}
+-- What the call of a datagram does to the live eras.
+use Rattle.std.proofs.Common.{◌≡◌, ◌≢◌, ℕ, ◌+◌, ◌<◌, ◌≤◌, ◌&&◌, not, Bool, true, false, cond, List, [], ◌∷◌, ◌++◌, map, filter, Option, Some, None, is_some, refl, sym, ap, ap₂, subst, ◌∙◌, arith, pos, ◌==◌}
 use Rattle.std.proofs.lemmas.List.{append-nil}
 use Rattle.std.proofs.lemmas.List.Elements.{filter-append}
 use Rattle.std.specs.List.{AllByRecursion}
+use Rattle.std.specs.Prelude.{nat_lt}
 use Rattle.wire_base.specs.Segments.{Written}
 use Rattle.wire_base.specs.declared.address.FlowKey.{FlowKey}
 use Rattle.norm_settings.specs.Settings.{PlainSettings}
 use Rattle.linked_table.specs.Table.{Entry}
 use Rattle.retain_store.specs.Maps.{Store}
+use Rattle.ip_rules.specs.Datagrams.{Datagram, Packet, goes_in}
+use Rattle.linked_table.proofs.Splits.{all_weaker, all_join}
+use Rattle.linked_table.proofs.Filters.{filter_all, filter_under}
+use Rattle.era_state.specs.Quantities.{base_at, acked, first}
+use Rattle.rule_book.specs.declared.entry.Ended.{Ended}
+use Rattle.rule_book.specs.declared.entry.Reason.{Reason}
+use Rattle.era_state.specs.declared.era.Era.{Era}
+use Rattle.era_state.specs.Eras as era
 use Rattle.tcp_norm.specs.declared.flow.Flow.{Flow}
 use Rattle.tcp_norm.specs.declared.key.EraKey.{EraKey}
 use Rattle.tcp_norm.specs.declared.state.TcpNorm.{TcpNorm}
 use Rattle.tcp_norm.specs.declared.step.Step.{Step}
-use Rattle.ip_rules.specs.Datagrams.{Datagram, Packet, goes_in}
-use Rattle.tcp_norm.specs.Calls.{Call, expiry, datagram, Outcome, Alive, read, is_era, is_written, segments, eras, written_by, touched_by, ended_by, begins_by, asks_by, time_of, alive_at, key_of, without, numbers_of, is_among}
-use Rattle.tcp_norm.specs.Standing.{HoldsFor, IsFor, IsTimely, StandsFor, EntryStands, alive_in}
-use Rattle.tcp_norm.specs.Steps.{listed, one, Does}
-use Rattle.linked_table.proofs.Splits.{all_weaker, all_join}
-use Rattle.tcp_norm.proofs.Splits.{all_unmap, pairs_push}
-use Rattle.linked_table.proofs.Filters.{filter_all}
-use Rattle.tcp_norm.proofs.Nears.{all_filter}
-use Rattle.tcp_norm.proofs.LivesLists.{pairs_passed}
-use Rattle.tcp_norm.proofs.Steps.{number_other, number_same, still}
-use Rattle.tcp_norm.proofs.Beginning.{others_before}
+use Rattle.tcp_norm.specs.Calls.{Call, expiry, datagram, Outcome, Alive, read, is_era, is_written, segments, eras, written_by, touched_by, ended_by, begins_by, asks_by, time_of, alive_at, key_of, without, numbers_of, is_among, names}
+use Rattle.tcp_norm.specs.Standing.{HoldsFor, IsFor, IsTimely, StandsFor, EntryStands, alive_in, Holds, Begins, ChangesTables}
+use Rattle.tcp_norm.specs.Steps.{listed, one, Does, number_ended, place_of}
+use Rattle.tcp_norm.specs.Held.{kept_at}
+use Rattle.tcp_norm.specs.declared.step.Place.{Place}
+use Rattle.tcp_norm.specs.Colds.{IsUnheard}
+use Rattle.tcp_norm.specs.Laws.{Leaves, of_era}
+use Rattle.tcp_norm.proofs.Lists.{all_unmap, pairs_push, everywhere}
+use Rattle.tcp_norm.proofs.Numbers.{all_filter, pairs_passed}
+use Rattle.tcp_norm.proofs.Represented.{number_other, number_same, still, others_before, none_left}
+
+-- What the call of a datagram leaves of the live eras, by what it does.
 
 -- what is written in the era that it names, and in no other
 pub own_by : (now n : ℕ) (d : Datagram) (o : Outcome) → o.era ≡ Some n → is_written o.verdict ≡ true → written_by n (datagram now d o) ≡ map (λ (p : Packet). read (goes_in d.side) p.octets) o.packets
@@ -166,3 +176,184 @@ relabel lives segments later begun entries store same fresh h = record {
         → AllByRecursion (EntryStands segments store) es → AllByRecursion (EntryStands later store) es
     each_still [] same each = tt
     each_still (e ∷ es) same each = (still segments later store store e refl each.0 same.0, each_still es same.1 each.1)
+
+-- What was kept represents the calls with the one of an outbound segment, by what it does.
+
+-- what was opened stays, and the numbers of what is kept go on by one call
+pub record GoesOn (settings : PlainSettings) (old new : TcpNorm) (now more : ℕ) : Type 0 where
+  pub opened : IsFor settings new
+  pub begun : new.begun ≡ old.begun + more
+  pub calls : new.calls ≡ old.calls + 1
+  pub latest : new.latest ≡ now
+  pub later : old.latest ≤ now
+
+-- where the tables change after a call was counted
+pub tables_go_on : (settings : PlainSettings) (old counted new : TcpNorm) (now more begun : ℕ) → ChangesTables counted new begun → begun ≡ old.begun + more → IsFor settings counted → counted.calls ≡ old.calls + 1
+    → counted.latest ≡ now → old.latest ≤ now → GoesOn settings old new now more
+tables_go_on settings old counted new now more begun changes same opened calls latest later = record {
+  opened = changes.opened settings opened;
+  begun = changes.begun_is ∙ same;
+  calls = changes.calls_are ∙ calls;
+  latest = changes.latest_is ∙ latest;
+  later = later;
+}
+
+-- the segments with those of one more call: in the era that it names, and in another
+own_then : (cs : List Call) (now n : ℕ) (d : Datagram) (w : Written) (s : Step) (o : Outcome) → Does d w s o → s.era ≡ Some n
+    → segments n (datagram now d o ∷ cs) ≡ segments n cs ++ w ∷ []
+own_then cs now n d w s o does era = ap (λ l. segments n cs ++ l) (own_by now n d o (does.era_is ∙ era) does.written ∙ does.packets_are)
+
+other_then : (cs : List Call) (now n m : ℕ) (d : Datagram) (w : Written) (s : Step) (o : Outcome) → Does d w s o → s.era ≡ Some n → m ≢ n
+    → segments m (datagram now d o ∷ cs) ≡ segments m cs
+other_then cs now n m d w s o does era ne = ap (λ l. segments m cs ++ l) (others_by now n m d o (does.era_is ∙ era) ne) ∙ append-nil (segments m cs)
+
+-- a segment that ends its era
+pub ends_within : (settings : PlainSettings) (old new : TcpNorm) (cs : List Call) (now n : ℕ) (d : Datagram) (w : Written) (o : Outcome) (reason : Reason) (octets : Option ℕ)
+    → StandsFor settings old cs → GoesOn settings old new now 0 → n ≤ old.begun
+    → Does d w (record { era = Some n; begun = None; ended = Some (record { era = n; reason = reason; octets = octets }); full = false }) o
+    → Holds new (without (n ∷ []) (eras cs)) (λ m. segments m cs) → StandsFor settings new (datagram now d o ∷ cs)
+ends_within settings old new cs now n d w o reason octets st goes given does holds =
+    let s : Step = record { era = Some n; begun = None; ended = Some (record { era = n; reason = reason; octets = octets }); full = false } in
+    let c = datagram now d o in
+    let begins = begins_of now d w s o None does refl in
+    let other : (m : ℕ) → m ≢ n → segments m (c ∷ cs) ≡ segments m cs = λ m ne. other_then cs now n m d w s o does refl ne in
+    stands_next settings old new cs c (without (n ∷ []) (eras cs)) st goes.opened
+    (relabel (without (n ∷ []) (eras cs)) (λ m. segments m cs) (λ m. segments m (c ∷ cs)) new.begun new.table.entries new.store
+    (all_weaker (λ (a : Alive). a.number ≢ n) (λ (a : Alive). segments a.number (c ∷ cs) ≡ segments a.number cs) (λ a ne. other a.number ne) (without (n ∷ []) (eras cs)) (none_left n (eras cs)))
+    (λ m above. other m (λ same. absurd (omega (arith, goes.begun, given, above, same))) ∙ holds.given.fresh m above) holds)
+    (lives_end c cs (record { number = n; key = key_of d; touched = now }) (ended_of now d w s o does) (touched_of now d w s o (Some n) does refl))
+    (omega (arith, goes.begun, begins)) goes.latest goes.later goes.calls
+
+-- a segment that begins an era, where another may end
+pub begins_then : (settings : PlainSettings) (old new : TcpNorm) (cs : List Call) (now : ℕ) (d : Datagram) (w : Written) (o : Outcome) (s : Step) (out : Option ℕ)
+    → StandsFor settings old cs → GoesOn settings old new now 1 → ((k : ℕ) → out ≡ Some k → k ≤ old.begun)
+    → s.era ≡ Some (old.begun + 1) → s.begun ≡ Some (old.begun + 1) → map (λ e. e.era) (listed s.ended) ≡ one out → Does d w s o
+    → Holds new (without (one out) (eras cs) ++ record { number = old.begun + 1; key = key_of d; touched = now } ∷ []) (λ m. segments m (datagram now d o ∷ cs))
+    → StandsFor settings new (datagram now d o ∷ cs)
+begins_then settings old new cs now d w o s out st goes given era begun ended does holds =
+    let n = old.begun + 1 in
+    let c = datagram now d o in
+    let begins = begins_of now d w s o (Some n) does begun in
+    stands_next settings old new cs c _ st goes.opened holds
+    (lives_begin c cs (record { number = n; key = key_of d; touched = now }) old.begun out st.holds.given.below (omega arith)
+    (λ k is same. let le = given k is in absurd (omega (arith, le, same)))
+    (ended_of now d w s o does ∙ ended) (touched_of now d w s o (Some n) does era))
+    (omega (arith, goes.begun, begins)) goes.latest goes.later goes.calls
+
+-- its first segment
+pub begins_with : (settings : PlainSettings) (old : TcpNorm) (cs : List Call) (now : ℕ) (d : Datagram) (w : Written) (o : Outcome) (s : Step) (e : Era) → StandsFor settings old cs → s.era ≡ Some (old.begun + 1) → Does d w s o
+    → era.StandsFor e (w ∷ []) → ((offset : ℕ) → kept_at (w ∷ []) offset ≡ None) → Begins e (old.begun + 1) (λ m. segments m cs) (λ m. segments m (datagram now d o ∷ cs))
+begins_with settings old cs now d w o s e st named does stands none =
+    let n = old.begun + 1 in
+    let own : segments n (datagram now d o ∷ cs) ≡ w ∷ [] = own_then cs now n d w s o does named ∙ ap (λ l. l ++ w ∷ []) (st.holds.given.fresh n (omega arith)) in
+    record {
+      stands = subst (era.StandsFor e) (sym own) stands;
+      none = λ offset. ap (λ l. kept_at l offset) own ∙ none offset;
+      others = λ m ne. other_then cs now n m d w s o does named ne;
+    }
+
+-- of an era of one outbound segment nothing is kept
+pub none_kept : (w : Written) → w.inward ≡ false → (offset : ℕ) → kept_at (w ∷ []) offset ≡ None
+none_kept w out offset = cases (nat_lt offset (acked (base_at (w ∷ [])) (w ∷ [])))
+  where
+    nothing : first (base_at (w ∷ [])) (w ∷ []) (pos offset) ≡ None
+    nothing = rw out refl
+
+    cases : (b : Bool) → cond b None (first (base_at (w ∷ [])) (w ∷ []) (pos offset)) ≡ None
+    cases true = refl
+    cases false = nothing
+
+pub given_some : {begun : ℕ} (n k : ℕ) → n ≤ begun → Some n ≡ Some k → k ≤ begun
+given_some n k le is = let same : n ≡ k = cc in omega (arith, le, same)
+
+-- the era that ends is the one whose slot is taken
+pub ended_by_place : (out : Option Ended) → map (λ e. e.era) (listed out) ≡ one (number_ended out)
+ended_by_place None = refl
+ended_by_place (Some k) = refl
+
+-- an era that begins is the next one
+pub begun_place : (full : Bool) (first : Option Ended) (next : ℕ) (p : Place) → Some p ≡ place_of full first next → p.begun ≡ next
+begun_place false first next p is = let same : p ≡ record { begun = next; evicted = None } = cc in ap (λ (q : Place). q.begun) same
+begun_place true None next p is = cc
+begun_place true (Some k) next p is = let same : p ≡ record { begun = next; evicted = Some k } = cc in ap (λ (q : Place). q.begun) same
+
+-- A call of which no era hears leaves them all.
+
+none_written : (now m : ℕ) (d : Datagram) (o : Outcome) (b : Bool) → is_written o.verdict ≡ b → IsUnheard o → written_by m (datagram now d o) ≡ []
+none_written now m d o true e u = ap (λ a. cond (is_era m a && is_written o.verdict) (map (λ (p : Packet). read (goes_in d.side) p.octets) o.packets) []) (u.era e)
+none_written now m d o false e u = ap (λ b. cond (is_era m o.era && b) (map (λ (p : Packet). read (goes_in d.side) p.octets) o.packets) []) e ∙ never (is_era m o.era) _
+  where
+    never : {X : Type 0} (a : Bool) (xs : List X) → cond (a && false) xs [] ≡ []
+    never true xs = refl
+    never false xs = refl
+
+none_touched : (now : ℕ) (d : Datagram) (o : Outcome) (b : Bool) → is_written o.verdict ≡ b → IsUnheard o → touched_by (datagram now d o) ≡ []
+none_touched now d o true e u = ap₂ (λ b a. cond b (alive_at now (key_of d) a) []) e (u.era e)
+none_touched now d o false e u = ap (λ b. cond b (alive_at now (key_of d) o.era) []) e
+
+-- a segment of no era
+pub outside_unheard : (d : Datagram) (w : Written) (o : Outcome) (full : Bool) → Does d w (record { era = None; begun = None; ended = None; full = full }) o → IsUnheard o
+outside_unheard d w o full does = record { era = λ written. does.era_is; begun = does.begun_is; ended = does.ended_are }
+
+pub stays_unheard : (settings : PlainSettings) (old new : TcpNorm) (cs : List Call) (now : ℕ) (d : Datagram) (o : Outcome)
+    → StandsFor settings old cs → GoesOn settings old new now 0 → IsUnheard o → Holds new (eras cs) (λ m. segments m cs) → StandsFor settings new (datagram now d o ∷ cs)
+stays_unheard settings old new cs now d o st goes u holds =
+    let c = datagram now d o in
+    let same : (m : ℕ) → segments m (c ∷ cs) ≡ segments m cs = λ m. ap (λ l. segments m cs ++ l) (none_written now m d o (is_written o.verdict) refl u) ∙ append-nil (segments m cs) in
+    let begins : begins_by c ≡ 0 = ap (λ b. cond {A = ℕ} (is_some b) 1 0) u.begun in
+    stands_next settings old new cs c (eras cs) st goes.opened
+    (relabel (eras cs) (λ m. segments m cs) (λ m. segments m (c ∷ cs)) new.begun new.table.entries new.store (everywhere (λ (a : Alive). segments a.number (c ∷ cs) ≡ segments a.number cs) (eras cs) (λ a. same a.number)) (λ m above. same m ∙ holds.given.fresh m above) holds)
+    (lives_stay c cs (ap (map (λ e. e.era)) u.ended) (none_touched now d o (is_written o.verdict) refl u))
+    (omega (arith, goes.begun, begins)) goes.latest goes.later goes.calls
+
+-- A call leaves each era that it neither names nor ends.
+
+-- nothing is written in it
+written_nothing : (era : ℕ) (c : Call) → names c era ≡ false → written_by era c ≡ []
+written_nothing era (expiry now ended) e = refl
+written_nothing era (datagram now asked outcome) e = rw e refl
+
+-- it is not touched
+alive_other : (era now : ℕ) (d : Datagram) (named : Option ℕ) → is_era era named ≡ false → of_era era (alive_at now (key_of d) named) ≡ []
+alive_other era now d None e = refl
+alive_other era now d (Some n) e = rw e refl
+
+touched_other : (era : ℕ) (c : Call) → names c era ≡ false → of_era era (touched_by c) ≡ []
+touched_other era (expiry now ended) e = refl
+touched_other era (datagram now asked outcome) e =
+    elim (is_written outcome.verdict) as (λ b. of_era era (cond b (alive_at now (key_of asked) outcome.era) []) ≡ []) [
+      | true ↦ alive_other era now asked outcome.era e
+      | false ↦ refl
+    ]
+
+-- its number is not among those of what is touched
+untouched : (era : ℕ) (c : Call) → names c era ≡ false → is_among (numbers_of (touched_by c)) era ≡ false
+untouched era (expiry now ended) e = refl
+untouched era (datagram now asked outcome) e =
+    elim (is_written outcome.verdict) as (λ b. is_among (numbers_of (cond b (alive_at now (key_of asked) outcome.era) [])) era ≡ false) [
+      | true ↦ in_named outcome.era e
+      | false ↦ refl
+    ]
+  where
+    in_named : (named : Option ℕ) → is_era era named ≡ false → is_among (numbers_of (alive_at now (key_of asked) named)) era ≡ false
+    in_named None h = refl
+    in_named (Some n) h = rw h refl
+
+-- the entries of an era stay where the others of some numbers are left out
+pub kept_without : (era : ℕ) (numbers : List ℕ) (lives : List Alive) → is_among numbers era ≡ false → of_era era (without numbers lives) ≡ of_era era lives
+kept_without era numbers lives e =
+    filter_under (λ (a : Alive). a.number == era) (λ (a : Alive). not (is_among numbers a.number)) (λ (a : Alive) same. here a same) lives
+  where
+    here : (a : Alive) → (a.number == era) ≡ true → not (is_among numbers a.number) ≡ true
+    here a same = let is : a.number ≡ era = grind arith in rw is (rw e refl)
+
+pub leaves : (era : ℕ) (c : Call) (cs : List Call) → names c era ≡ false → is_among (ended_by c) era ≡ false → Leaves era c cs
+leaves era c cs unnamed stays = record {
+  segments_are = ap (λ l. segments era cs ++ l) (written_nothing era c unnamed) ∙ append-nil (segments era cs);
+  live_is =
+      kept_without era (ended_by c) (without (numbers_of (touched_by c)) (eras cs) ++ touched_by c) stays
+      ∙ (filter-append (λ (a : Alive). a.number == era) (without (numbers_of (touched_by c)) (eras cs)) (touched_by c)
+      ∙ (ap (λ l. of_era era (without (numbers_of (touched_by c)) (eras cs)) ++ l) (touched_other era c unnamed)
+      ∙ (append-nil (of_era era (without (numbers_of (touched_by c)) (eras cs)))
+      ∙ kept_without era (numbers_of (touched_by c)) (eras cs) (untouched era c unnamed))));
+}

@@ -10,7 +10,7 @@ use Rattle.wire_base.specs.Segments.{Written}
 use Rattle.norm_settings.specs.Settings.{PlainSettings}
 use Rattle.era_state.specs.Emission.{AreEmitted}
 use Rattle.era_state.specs.States.{state_of, is_acknowledged}
-use Rattle.tcp_norm.proofs.Judging.{both_true}
+use Rattle.tcp_norm.proofs.StreamRules.{both_true}
 use Rattle.ip_rules.specs.Datagrams.{Datagram}
 use Rattle.tcp_norm.specs.Calls.{Call, expiry, datagram, Alive, segment_in, key_of, segments, eras, live, is_key, is_among, written_by, touched_by, ended_by, begun_in, numbers_of, without}
 use Rattle.tcp_norm.specs.Held.{held_all, held_in, held_of}
@@ -22,19 +22,17 @@ use Rattle.tcp_norm.specs.Lives.{AreMade, made_of, writes_in}
 use Rattle.tcp_norm.specs.Segments.{IsSegment, AsksSegment, AreOfSegments, CallsAreEmitted, IsBounded, HeldIsBounded, QuotaLeavesRoom}
 use Rattle.tcp_norm.specs.Writes.{BringsNone}
 use Rattle.linked_table.proofs.Splits.{all_weaker, all_join}
-use Rattle.tcp_norm.proofs.Nears.{all_filter}
+use Rattle.tcp_norm.proofs.Numbers.{all_filter, all_passed, found_is}
 use Rattle.retain_store.proofs.Sums.{sum_agree}
-use Rattle.tcp_norm.proofs.Steps.{number_same}
-use Rattle.tcp_norm.proofs.Quotas.{at_most}
-use Rattle.tcp_norm.proofs.Bounds.{never_for_room}
-use Rattle.tcp_norm.proofs.LivesLists.{all_passed, found_is}
-use Rattle.tcp_norm.proofs.Splits.{everywhere}
-use Rattle.tcp_norm.proofs.LivesKinds.{Moves, Kind, stays, goes_on, ends_own, begins_beside, evicts, reopens_one, kind}
-use Rattle.tcp_norm.proofs.LivesCount.{flows_are_bounded}
-use Rattle.tcp_norm.proofs.HeldGrowth.{Laws, silent_all, frame_grows}
+use Rattle.tcp_norm.proofs.Represented.{number_same}
+use Rattle.tcp_norm.proofs.Quotas.{at_most, never_for_room}
+use Rattle.tcp_norm.proofs.Lists.{everywhere}
+use Rattle.tcp_norm.proofs.LiveCalls.{Moves, Kind, stays, goes_on, ends_own, begins_beside, evicts, reopens_one, kind}
+use Rattle.tcp_norm.proofs.LiveCounts.{flows_are_bounded}
+use Rattle.tcp_norm.proofs.HeldBlocks.{Laws, silent_all, frame_grows}
 use Rattle.tcp_norm.proofs.HeldWrites.{Writes, silent, framed, call_writes, first_is_silent}
-use Rattle.tcp_norm.proofs.EmittingStream.{acknowledged_based}
-use Rattle.tcp_norm.proofs.EmittingCalls.{unwritten, none_to_come}
+use Rattle.tcp_norm.proofs.Emitted.{acknowledged_based}
+use Rattle.tcp_norm.proofs.EmittedCalls.{unwritten, none_to_come}
 
 -- an era in which the call does not write
 same_in : (cs : List Call) (c : Call) (n : ℕ) → writes_in n c ≡ false → segments n (c ∷ cs) ≡ segments n cs

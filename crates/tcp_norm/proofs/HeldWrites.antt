@@ -25,15 +25,15 @@ use Rattle.tcp_norm.specs.Emits.{packet_by, packets_passed, probe_packets, segme
 use Rattle.tcp_norm.specs.Outcomes.{outcome_at, outcome_by, outcome_dropped, outcome_passed}
 use Rattle.tcp_norm.specs.Segments.{IsSegment}
 use Rattle.tcp_norm.specs.Writes.{BringsNone}
-use Rattle.tcp_norm.proofs.Acks.{outbound_brings_none}
-use Rattle.tcp_norm.proofs.Verbatim.{or_false}
-use Rattle.tcp_norm.proofs.OwnPackets.{bare_fits_here, stream_fits_here}
-use Rattle.tcp_norm.proofs.EmittingBare.{packet_sent}
-use Rattle.tcp_norm.proofs.Bares.{empty, behind}
-use Rattle.tcp_norm.proofs.Rewritten.{sent_long}
-use Rattle.tcp_norm.proofs.LivesLists.{found_none}
+use Rattle.tcp_norm.proofs.KeptOctets.{outbound_brings_none}
+use Rattle.tcp_norm.proofs.StreamFrames.{or_false}
+use Rattle.tcp_norm.proofs.Packets.{bare_fits_here, stream_fits_here}
+use Rattle.tcp_norm.proofs.Emitted.{packet_sent}
+use Rattle.tcp_norm.proofs.BareSegments.{empty, behind}
+use Rattle.tcp_norm.proofs.StreamRules.{sent_long}
+use Rattle.tcp_norm.proofs.Numbers.{found_none}
 use Rattle.tcp_norm.proofs.Clean.{clean, packets_if, Streams, streams, owned}
-use Rattle.tcp_norm.proofs.HeldGrowth.{Laws, Stands, own_stands, anew_stands}
+use Rattle.tcp_norm.proofs.HeldBlocks.{Laws, Stands, own_stands, anew_stands}
 
 -- What is written: nothing that brings an octet, or, in a live era and where T_QUOTA and T_ROOM do not hold, one frame.
 pub data Writes (settings : PlainSettings) (v : View) (d : Datagram) (more : List Written) : Type 0 where

@@ -1,18 +1,21 @@
--- Each live era is the one last begun for its four-tuple and not ended: a call keeps this true, by what it does to the eras.
+-- Each live era is the one last begun for its four-tuple and not ended.
 use Rattle.std.proofs.Common.{◌≡◌, ◌≢◌, ℕ, ◌+◌, ◌==◌, ◌≤◌, ◌||◌, not, Bool, true, false, cond, length, ◌<◌, List, [], ◌∷◌, ◌++◌, filter, Option, Some, None, refl, sym, ap, subst, ◌∙◌, arith}
 use Rattle.std.proofs.lemmas.Bool.{false≢true, not-true, not_from_false, or_from, or_parts, true_from_ne_false}
 use Rattle.std.proofs.lemmas.List.Elements.{filter-append}
 use Rattle.std.specs.List.{AllByRecursion}
 use Rattle.std.specs.Option.{option_or}
 use Rattle.wire_base.specs.declared.address.FlowKey.{FlowKey}
-use Rattle.tcp_norm.specs.Calls.{Call, Alive, eras, is_among, ended_by, begun_in, begins_by, touched_by, time_of, numbers_of}
 use Rattle.linked_table.specs.Table.{Pairwise}
-use Rattle.tcp_norm.specs.Lives.{begun_for, last_begun, has_ended, writes_in, last_touch, touch_place, IsLast}
 use Rattle.linked_table.proofs.Splits.{all_join, all_weaker, all_before, all_after}
-use Rattle.tcp_norm.proofs.Splits.{some_same}
-use Rattle.tcp_norm.proofs.Nears.{all_filter}
-use Rattle.tcp_norm.proofs.Steps.{number_other}
-use Rattle.tcp_norm.proofs.LivesLists.{all_passed, all_unfiltered, all_two, pairs_passed, pairs_join, pairs_weaker, pairs_alone}
+use Rattle.tcp_norm.specs.Calls.{Call, Alive, eras, is_among, ended_by, begun_in, begins_by, touched_by, time_of, numbers_of, live, is_key}
+use Rattle.tcp_norm.specs.Lives.{begun_for, last_begun, has_ended, writes_in, last_touch, touch_place, IsLast}
+use Rattle.tcp_norm.specs.Views.{number_of}
+use Rattle.tcp_norm.proofs.Lists.{some_same}
+use Rattle.tcp_norm.proofs.Numbers.{all_filter, all_passed, all_unfiltered, all_two, pairs_passed, pairs_join, pairs_weaker, pairs_alone, found_is, found_none}
+use Rattle.tcp_norm.proofs.Represented.{number_other}
+use Rattle.tcp_norm.proofs.Finding.{key_is, key_same}
+
+-- Each live era is the one last begun for its four-tuple and not ended: a call keeps this true, by what it does to the eras.
 
 -- What a call does to the eras: those that end were given; one that it begins is the next, written in by it, and no live era of its four-tuple is
 -- left; one that it writes in is the one last begun for its four-tuple, and goes on.
@@ -261,3 +264,30 @@ lasts_next cs c f s = record {
   order = subst (Pairwise (Before (c ∷ cs))) (sym (eras_next cs c)) (order_next cs c f s);
   whole = λ k n none is. whole_next cs c f s k n (subst (AllByRecursion (λ (a : Alive). a.key ≢ k)) (eras_next cs c) none) is;
 }
+
+-- What is live is what was begun last and has not ended.
+
+-- what is live is the last begun, and has not ended
+pub live_last : (cs : List Call) → Lasts cs → (key : FlowKey) (era : ℕ) → number_of (live cs key) ≡ Some era → (last_begun key cs ≡ Some era) × (has_ended era cs ≡ false)
+live_last cs s key era is = cases (live cs key) refl is
+  where
+    cases : (l : Option Alive) → live cs key ≡ l → number_of l ≡ Some era → (last_begun key cs ≡ Some era) × (has_ended era cs ≡ false)
+    cases None e is = cc
+    cases (Some a) e is =
+        let f = found_is (IsLast cs) (λ (a : Alive). is_key a.key key) (eras cs) a s.each e in
+        let number : a.number ≡ era = some_same is in
+        (ap (λ k. last_begun k cs) (sym (key_is a.key key f.1)) ∙ (f.0.last ∙ is), ap (λ n. has_ended n cs) (sym number) ∙ f.0.goes_on)
+
+pub last_live : (cs : List Call) → Lasts cs → (key : FlowKey) (era : ℕ) → last_begun key cs ≡ Some era → has_ended era cs ≡ false → number_of (live cs key) ≡ Some era
+last_live cs s key era is on = cases (live cs key) refl
+  where
+    cases : (l : Option Alive) → live cs key ≡ l → number_of (live cs key) ≡ Some era
+    cases None e =
+        absurd (false≢true (sym on ∙ s.whole key era (all_weaker (λ (a : Alive). is_key a.key key ≡ false) (λ (a : Alive). a.key ≢ key)
+        (λ a no same. false≢true (sym no ∙ (ap (λ k. is_key k key) same ∙ key_same key))) (eras cs) (found_none (λ (a : Alive). is_key a.key key) (eras cs) e)) is))
+    cases (Some a) e =
+        let f = found_is (IsLast cs) (λ (a : Alive). is_key a.key key) (eras cs) a s.each e in
+        ap number_of e ∙ (sym f.0.last ∙ (ap (λ k. last_begun k cs) (key_is a.key key f.1) ∙ is))
+
+pub all_given : (cs : List Call) → Lasts cs → AllByRecursion (λ a. a.number ≤ begun_in cs) (eras cs)
+all_given cs s = all_weaker (IsLast cs) (λ (a : Alive). a.number ≤ begun_in cs) (λ a is. s.given a.key a.number is.last) (eras cs) s.each

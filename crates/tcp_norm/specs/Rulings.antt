@@ -1,4 +1,4 @@
--- Rulings on inbound segments: the outcome that each represents, what is rewritten, and what changes in the tables (this project's profile).
+-- Rulings on segments of either side: the outcome that each represents, what is rewritten, and what changes in the tables (this project's profile).
 use Rattle.std.specs.Prelude.{◌≡◌, ◌≢◌, ◌==◌, ℕ, true, false, ◌+◌, ◌-◌, ◌*◌, ◌^◌, ◌<◌, ◌≤◌, length, List, [], ◌∷◌, ◌++◌, take, Option, Some, None, if◌then◌else◌}
 use Rattle.std.specs.List.{All, AllByRecursion, AllPairs, count_by, range_with_len}
 use Rattle.wire_base.specs.Segments.{Written}

@@ -1,4 +1,4 @@
-//! What becomes of an inbound segment.
+//! What becomes of a segment.
 ghost use Rattle.std.specs.Prelude.{◌≤◌, length};
 
 use crate::step::Step;

@@ -5,7 +5,7 @@ use Rattle.reset_probe.specs.Write.{probe_octets}
 use Rattle.edge_io.specs.Outboxes.{last_frame, extended}
 use Rattle.ip_rules.specs.Datagrams.{raised}
 use Rattle.tcp_norm.specs.Rulings.{probe_frames}
-use Rattle.tcp_norm.proofs.Probing.{extended_last, last_of}
+use Rattle.tcp_norm.proofs.InboundSegments.{extended_last, last_of}
 use Rattle.tcp_norm.proofs.emit.put_probe.Goals as goal
 
 pub append-requires-clause-room : goal.append-requires-clause-room

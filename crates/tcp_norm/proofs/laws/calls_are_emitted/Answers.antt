@@ -1,4 +1,4 @@
-use Rattle.tcp_norm.proofs.EmittingCalls.{calls_are_emitted}
+use Rattle.tcp_norm.proofs.EmittedCalls.{calls_are_emitted}
 use Rattle.tcp_norm.proofs.laws.calls_are_emitted.Goals as goal
 
 pub returns : goal.returns

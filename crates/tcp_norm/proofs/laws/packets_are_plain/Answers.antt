@@ -4,9 +4,7 @@ use Rattle.wire_base.specs.Plain.{Plain}
 use Rattle.ip_rules.specs.Datagrams.{Packet, head_sent}
 use Rattle.tcp_norm.specs.Rows.{mended_by}
 use Rattle.tcp_norm.specs.Emits.{packet_by}
-use Rattle.tcp_norm.proofs.Outgoing.{each_packet}
-use Rattle.tcp_norm.proofs.OwnPackets.{own_packet}
-use Rattle.tcp_norm.proofs.PlainSegments.{plain_packet, own_plain}
+use Rattle.tcp_norm.proofs.Packets.{each_packet, own_packet, plain_packet, own_plain}
 use Rattle.tcp_norm.proofs.laws.packets_are_plain.Goals as goal
 
 pub returns : goal.returns

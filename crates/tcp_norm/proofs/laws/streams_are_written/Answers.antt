@@ -3,9 +3,9 @@ use Rattle.era_state.specs.Offsets.{number_in}
 use Rattle.era_state.specs.Quantities.{end_of}
 use Rattle.tcp_norm.specs.Rows.{clashes}
 use Rattle.tcp_norm.specs.Calls.{segment_in}
-use Rattle.tcp_norm.proofs.Judging.{of_stream}
-use Rattle.tcp_norm.proofs.Passing.{stream_writes}
-use Rattle.tcp_norm.proofs.Written.{writes_frame}
+use Rattle.tcp_norm.proofs.StreamRules.{of_stream}
+use Rattle.tcp_norm.proofs.Calls.{stream_writes}
+use Rattle.tcp_norm.proofs.StreamFrames.{writes_frame}
 use Rattle.tcp_norm.proofs.laws.streams_are_written.Goals as goal
 
 pub returns : goal.returns

@@ -1,6 +1,6 @@
 use Rattle.std.proofs.Common.{◌∙◌, ap}
 use Rattle.wire_base.specs.Tcp as tcp
-use Rattle.tcp_norm.proofs.Bares.{legal_without_32}
+use Rattle.tcp_norm.proofs.BareSegments.{legal_without_32}
 use Rattle.tcp_norm.proofs.reading.bare_seg.Goals as goal
 
 pub returns-clause-flags : goal.returns-clause-flags

@@ -1,7 +1,7 @@
 use Rattle.std.proofs.Common.{sym, ap₂, ◌∙◌}
 use Rattle.wire_base.specs.Tcp as tcp
 use Rattle.wire_base.specs.Options.{cleaned}
-use Rattle.tcp_norm.proofs.Differing.{differ_is}
+use Rattle.tcp_norm.proofs.Lists.{differ_is}
 use Rattle.tcp_norm.proofs.reading.options_change.Goals as goal
 
 pub returns-clause-changed : goal.returns-clause-changed

@@ -1,5 +1,5 @@
 use Rattle.std.proofs.Common.{sym}
-use Rattle.tcp_norm.proofs.Entering.{fix_is}
+use Rattle.tcp_norm.proofs.InboundSegments.{fix_is}
 use Rattle.tcp_norm.proofs.report.passed_verdict.Goals as goal
 
 pub returns-then-not-is_empty : goal.returns-then-not-is_empty

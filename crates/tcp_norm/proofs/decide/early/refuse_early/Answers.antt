@@ -6,9 +6,8 @@ use Rattle.tcp_norm.specs.Calls.{segments, segment_in}
 use Rattle.tcp_norm.specs.Live.{Live}
 use Rattle.tcp_norm.specs.Views.{view_of}
 use Rattle.tcp_norm.specs.Emits.{probe_packets}
-use Rattle.tcp_norm.proofs.Colding.{probe_same}
-use Rattle.tcp_norm.proofs.Entering.{in_dropped, in_unheard, early_now, early_dropped}
-use Rattle.tcp_norm.proofs.OfLive.{of_live}
+use Rattle.tcp_norm.proofs.Connections.{cold_probe_same}
+use Rattle.tcp_norm.proofs.InboundSegments.{in_dropped, in_unheard, early_now, early_dropped, of_live}
 use Rattle.tcp_norm.proofs.decide.early.refuse_early.Goals as goal
 
 pub returns-clause-decides : goal.returns-clause-decides
@@ -19,7 +18,7 @@ returns-clause-decides c norm key slot found settings calls d st is =
     let state = (c.states_are_the_lists.ensures here.flow.era (segments here.flow.number calls) l.stood).state_is ∙ ap state_of (sym l.live.segments_are) in
     let early = early_now v.segments (segment_in d) _ state c.requires.early l.side (sym (ap tcp.has_syn l.flags) ∙ c.requires.plain.no_syn) (sym (ap tcp.has_rst l.flags) ∙ c.requires.plain.no_rst) in
     let drops = early_dropped settings v d here.flow.number l.side l.live.era_is early in
-    let probe = c.cold_probe-probe.ensures ∙ probe_same d _ c.bare_seg-seg.result (l.comes c.bare_seg-seg.result c.bare_seg-seg.ensures.read) in
+    let probe = c.cold_probe-probe.ensures ∙ cold_probe_same d _ c.bare_seg-seg.result (l.comes c.bare_seg-seg.result c.bare_seg-seg.ensures.read) in
     record {
       rules = record {
         outcome_is = in_dropped settings v d rules.TState (Some here.flow.number) _ drops l.live.era_is (ap (λ p. probe_packets settings d (Some p)) (sym probe));

@@ -6,7 +6,7 @@ use Rattle.tcp_norm.specs.Rows.{exceeds, wanted_of}
 use Rattle.retain_store.specs.Maps.{chain_of, missing}
 use Rattle.retain_store.proofs.Kept.{no_room, some_room}
 use Rattle.tcp_norm.proofs.Quotas.{at_most}
-use Rattle.tcp_norm.proofs.Settling.{wanted_is}
+use Rattle.tcp_norm.proofs.ChainOctets.{wanted_is}
 use Rattle.tcp_norm.proofs.decide.stream.refusal.Goals as goal
 
 pub returns-then-over-clause-value : goal.returns-then-over-clause-value

@@ -5,9 +5,8 @@ use Rattle.tcp_norm.specs.Calls.{datagram, segments, eras, without}
 use Rattle.tcp_norm.specs.Views.{view_of}
 use Rattle.tcp_norm.specs.Steps.{began, place_of, one, number_ended, first_empty}
 use Rattle.tcp_norm.specs.Standing.{Holds}
-use Rattle.tcp_norm.proofs.Moves.{begins_then, begins_with, ended_by_place, begun_place, tables_go_on}
-use Rattle.tcp_norm.proofs.Slots.{opened_kept}
-use Rattle.tcp_norm.proofs.Unheard.{stays_unheard}
+use Rattle.tcp_norm.proofs.Effects.{begins_then, begins_with, ended_by_place, begun_place, tables_go_on, stays_unheard}
+use Rattle.tcp_norm.proofs.Represented.{opened_kept}
 use Rattle.tcp_norm.proofs.state.TcpNorm.admit.Goals as goal
 
 pub returns-in-None-clause-answer : goal.returns-in-None-clause-answer

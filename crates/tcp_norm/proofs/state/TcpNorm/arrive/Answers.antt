@@ -1,6 +1,6 @@
 use Rattle.std.proofs.Common.{refl, arith}
-use Rattle.tcp_norm.proofs.Slots.{opened_kept}
-use Rattle.tcp_norm.proofs.Unheard.{stays_unheard}
+use Rattle.tcp_norm.proofs.Represented.{opened_kept}
+use Rattle.tcp_norm.proofs.Effects.{stays_unheard}
 use Rattle.tcp_norm.proofs.state.TcpNorm.arrive.Goals as goal
 
 pub returns : goal.returns

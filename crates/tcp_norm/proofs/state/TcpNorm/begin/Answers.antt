@@ -4,10 +4,9 @@ use Rattle.tcp_norm.specs.declared.flow.Flow.{Flow}
 use Rattle.tcp_norm.specs.declared.key.EraKey.{EraKey}
 use Rattle.tcp_norm.specs.Standing.{HoldsFor}
 use Rattle.tcp_norm.specs.Near.{AreNear}
-use Rattle.tcp_norm.proofs.Beginning.{begin_holds}
-use Rattle.tcp_norm.proofs.Nears.{near_added}
-use Rattle.tcp_norm.proofs.Slots.{opened_kept}
-use Rattle.tcp_norm.proofs.Sparing.{added_listed}
+use Rattle.tcp_norm.proofs.Represented.{begin_holds, opened_kept}
+use Rattle.tcp_norm.proofs.Numbers.{near_added}
+use Rattle.tcp_norm.proofs.Finding.{added_listed}
 use Rattle.tcp_norm.proofs.state.TcpNorm.begin.Goals as goal
 
 pub returns-clause-holds : goal.returns-clause-holds

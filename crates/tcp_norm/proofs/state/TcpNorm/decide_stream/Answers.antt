@@ -30,7 +30,7 @@ use Rattle.tcp_norm.specs.declared.ruling.Refusal.{Refusal}
 use Rattle.tcp_norm.specs.declared.ruling.Ruling.TheVariants.{Drop}
 use Rattle.tcp_norm.specs.Rulings.{IsSame, outcome_of}
 use Rattle.tcp_norm.specs.Standing.{HoldsFor, IsTimely}
-use Rattle.tcp_norm.proofs.Slots.{opened_kept}
+use Rattle.tcp_norm.proofs.Represented.{opened_kept}
 use Rattle.tcp_norm.specs.Views.{view_of}
 use Rattle.tcp_norm.specs.Heads.{AreBits, seen}
 use Rattle.tcp_norm.specs.Held.{held_of}
@@ -40,16 +40,12 @@ use Rattle.tcp_norm.specs.Emits.{packet_by, octets_sent}
 use Rattle.tcp_norm.specs.Resets.{WritesAll}
 use Rattle.tcp_norm.specs.Steps.{IsStep}
 use Rattle.tcp_norm.specs.declared.step.Step.{Step}
-use Rattle.tcp_norm.proofs.OfLive.{decides_in, of_live}
-use Rattle.tcp_norm.proofs.Holding.{held_is}
-use Rattle.tcp_norm.proofs.Judging.{of_stream, stream_dropped}
-use Rattle.tcp_norm.proofs.Fitting.{stream_fits}
-use Rattle.tcp_norm.proofs.Rewritten.{sent_long}
-use Rattle.tcp_norm.proofs.Settling.{settled_is, clash_is, either_are, none_clash}
-use Rattle.tcp_norm.proofs.Passes.{passes, rows_are}
-use Rattle.tcp_norm.proofs.Entering.{in_dropped, in_unheard, in_outcome, packets_live}
-use Rattle.tcp_norm.proofs.Marked.{no_probe_behind, stream_is, step_stream, stream_anew, writes_all}
-use Rattle.tcp_norm.proofs.Ruled.{rewritten_if}
+use Rattle.tcp_norm.proofs.InboundSegments.{decides_in, of_live, in_dropped, in_unheard, in_outcome, packets_live}
+use Rattle.tcp_norm.proofs.Finding.{held_is}
+use Rattle.tcp_norm.proofs.StreamRules.{of_stream, stream_dropped, sent_long, passes, rows_are}
+use Rattle.tcp_norm.proofs.SynsAndResets.{stream_fits, no_probe_behind, stream_is, step_stream, stream_anew, writes_all}
+use Rattle.tcp_norm.proofs.ChainOctets.{settled_is, clash_is, either_are, none_clash}
+use Rattle.tcp_norm.proofs.Syns.{rewritten_if}
 use Rattle.tcp_norm.proofs.state.TcpNorm.decide_stream.Goals as goal
 
 last_false : (a b t : Bool) → t ≡ false → (a && b && t) ≡ false

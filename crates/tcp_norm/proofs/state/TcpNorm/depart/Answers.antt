@@ -1,7 +1,7 @@
 use Rattle.std.proofs.Common.{◌∙◌, ap, sym}
 use Rattle.tcp_norm.specs.declared.key.EraKey.{EraKey}
 use Rattle.wire_base.specs.Tcp as tcp
-use Rattle.tcp_norm.proofs.Sent.{sends_it}
+use Rattle.tcp_norm.proofs.OutboundSegments.{sends_it}
 use Rattle.tcp_norm.proofs.state.TcpNorm.depart.Goals as goal
 
 pub returns-in-Some : goal.returns-in-Some

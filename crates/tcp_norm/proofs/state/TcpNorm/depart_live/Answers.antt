@@ -9,10 +9,10 @@ use Rattle.tcp_norm.specs.Live.{Live}
 use Rattle.tcp_norm.specs.Calls.{segments, eras, segment_in}
 use Rattle.tcp_norm.specs.Views.{view_of}
 use Rattle.tcp_norm.specs.Steps.{IsStep, Does, continued_in, reopened_by}
-use Rattle.tcp_norm.proofs.Moves.{ends_within, none_kept, tables_go_on}
-use Rattle.tcp_norm.proofs.OfLive.{held_live}
-use Rattle.tcp_norm.proofs.Outwards.{step_next, step_reset, step_reopened}
-use Rattle.tcp_norm.proofs.Slots.{opened_kept}
+use Rattle.tcp_norm.proofs.Effects.{ends_within, none_kept, tables_go_on}
+use Rattle.tcp_norm.proofs.InboundSegments.{held_live}
+use Rattle.tcp_norm.proofs.Connections.{step_next, step_reset, step_reopened}
+use Rattle.tcp_norm.proofs.Represented.{opened_kept}
 use Rattle.tcp_norm.proofs.state.TcpNorm.depart_live.Goals as goal
 
 pub returns : goal.returns

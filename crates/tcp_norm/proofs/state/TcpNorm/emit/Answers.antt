@@ -2,7 +2,7 @@ use Rattle.std.proofs.Common.{◌≡◌, ◌∙◌, ◌∷◌, ◌++◌, length,
 use Rattle.ip_rules.specs.Datagrams.{goes_in, frames_of, raised}
 use Rattle.tcp_norm.specs.Emits.{packet_by, probe_packets}
 use Rattle.tcp_norm.specs.Rulings.{probe_frames, outcome_of, IsCarried, IsShort}
-use Rattle.tcp_norm.proofs.Ruled.{given_one, inward_of, probes_are}
+use Rattle.tcp_norm.proofs.Syns.{given_one, inward_of, probes_are}
 use Rattle.tcp_norm.proofs.state.TcpNorm.emit.Goals as goal
 
 pub emit_own-requires-clause-short : goal.emit_own-requires-clause-short

@@ -1,6 +1,6 @@
 use Rattle.std.proofs.Common.{◌∙◌, sym}
-use Rattle.tcp_norm.proofs.Probing.{head_given, frame_headed}
-use Rattle.tcp_norm.proofs.Sending.{frame_read}
+use Rattle.tcp_norm.proofs.InboundSegments.{head_given, frame_headed}
+use Rattle.tcp_norm.proofs.OutboundSegments.{frame_read}
 use Rattle.tcp_norm.proofs.state.TcpNorm.emit_own.Goals as goal
 
 pub emit_rewritten-requires-clause-some : goal.emit_rewritten-requires-clause-some

@@ -2,8 +2,8 @@ use Rattle.std.proofs.Common.{◌≤◌, ◌∙◌, take, sym, ap, subst, arith}
 use Rattle.tcp_codec.specs.declared.header.Tcp.{Tcp}
 use Rattle.ip_rules.specs.Datagrams.{goes_in}
 use Rattle.tcp_norm.specs.Anews.{rewritten}
-use Rattle.tcp_norm.proofs.Probing.{head_given, frame_rewritten}
-use Rattle.tcp_norm.proofs.Sending.{frame_mended}
+use Rattle.tcp_norm.proofs.InboundSegments.{head_given, frame_rewritten}
+use Rattle.tcp_norm.proofs.OutboundSegments.{frame_mended}
 use Rattle.tcp_norm.proofs.state.TcpNorm.emit_rewritten.Goals as goal
 
 pub put_mended-requires-clause-long : goal.put_mended-requires-clause-long

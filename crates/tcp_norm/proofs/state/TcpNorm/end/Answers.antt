@@ -6,12 +6,10 @@ use Rattle.tcp_norm.specs.declared.key.EraKey.{EraKey}
 use Rattle.tcp_norm.specs.Calls.{without}
 use Rattle.tcp_norm.specs.Standing.{HoldsFor}
 use Rattle.tcp_norm.specs.Near.{AreNear}
-use Rattle.tcp_norm.proofs.Ending.{end_holds}
-use Rattle.tcp_norm.proofs.Nears.{near_left}
+use Rattle.tcp_norm.proofs.Represented.{end_holds, others_same, opened_kept}
+use Rattle.tcp_norm.proofs.Numbers.{near_left, numbered}
 use Rattle.tcp_norm.proofs.Quotas.{stays_bounded}
-use Rattle.tcp_norm.proofs.Slots.{others_same, opened_kept}
-use Rattle.tcp_norm.proofs.Sparing.{left_listed}
-use Rattle.tcp_norm.proofs.Tables.{numbered}
+use Rattle.tcp_norm.proofs.Finding.{left_listed}
 use Rattle.tcp_norm.proofs.state.TcpNorm.end.Goals as goal
 
 pub returns-clause-holds : goal.returns-clause-holds

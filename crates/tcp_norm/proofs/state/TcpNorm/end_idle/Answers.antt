@@ -3,8 +3,8 @@ use Rattle.rule_book.specs.declared.entry.Reason.TheVariants as reasons
 use Rattle.tcp_norm.specs.Standing.{Holds}
 use Rattle.tcp_norm.specs.Steps.{EndsIdle}
 use Rattle.tcp_norm.proofs.Effects.{without_none}
-use Rattle.tcp_norm.proofs.Idle.{oldest_first, oldest_none, if_is, if_is_not}
-use Rattle.tcp_norm.proofs.Slots.{at_slot}
+use Rattle.tcp_norm.proofs.LiveCounts.{oldest_first, oldest_none, if_is, if_is_not}
+use Rattle.tcp_norm.proofs.Represented.{at_slot}
 use Rattle.tcp_norm.proofs.state.TcpNorm.end_idle.Goals as goal
 
 pub returns-in_err-slot-clause-ends : goal.returns-in_err-slot-clause-ends

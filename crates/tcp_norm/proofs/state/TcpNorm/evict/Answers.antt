@@ -8,11 +8,10 @@ use Rattle.rule_book.specs.declared.entry.Reason.TheVariants as reasons
 use Rattle.tcp_norm.specs.Standing.{Holds}
 use Rattle.tcp_norm.specs.Steps.{Evicts}
 use Rattle.linked_table.proofs.Splits.{all_after}
-use Rattle.tcp_norm.proofs.Effects.{without_none}
-use Rattle.tcp_norm.proofs.Firsts.{ended_at, found, first_is, first_none}
-use Rattle.tcp_norm.proofs.Moves.{given_some}
-use Rattle.tcp_norm.proofs.Slots.{at_slot}
-use Rattle.tcp_norm.proofs.Tables.{none_left, shorter}
+use Rattle.tcp_norm.proofs.Effects.{without_none, given_some}
+use Rattle.tcp_norm.proofs.Finding.{ended_at, found, first_is, first_none}
+use Rattle.tcp_norm.proofs.Represented.{at_slot}
+use Rattle.tcp_norm.proofs.Numbers.{none_left, shorter}
 use Rattle.tcp_norm.proofs.state.TcpNorm.evict.Goals as goal
 
 never : {P : Type 0} {number : ℕ} → None ≡ Some number → P

@@ -5,8 +5,8 @@ use Rattle.tcp_norm.specs.Calls.{expiry, eras, segments, without}
 use Rattle.tcp_norm.specs.Steps.{first_old, idled}
 use Rattle.tcp_norm.specs.Standing.{StandsFor, Holds}
 use Rattle.tcp_norm.proofs.Effects.{without_none}
-use Rattle.tcp_norm.proofs.Idle.{idle_zero, idle_one, idle_two, expired, without_two}
-use Rattle.tcp_norm.proofs.Slots.{opened_kept, then_changes}
+use Rattle.tcp_norm.proofs.LiveCounts.{idle_zero, idle_one, idle_two, expired, without_two}
+use Rattle.tcp_norm.proofs.Represented.{opened_kept, then_changes}
 use Rattle.tcp_norm.proofs.state.TcpNorm.expire.Goals as goal
 
 pub returns-in_default-clause-stands : goal.returns-in_default-clause-stands

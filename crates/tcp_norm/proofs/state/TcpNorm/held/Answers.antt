@@ -5,8 +5,8 @@ use Rattle.tcp_norm.specs.Calls.{Alive, eras}
 use Rattle.tcp_norm.specs.Held.{held_in}
 use Rattle.tcp_norm.specs.Near.{IsAtMost}
 use Rattle.tcp_norm.specs.Standing.{alive_in}
-use Rattle.tcp_norm.proofs.Bounds.{each_at_most, never_for_room}
-use Rattle.tcp_norm.proofs.Holding.{held_is}
+use Rattle.tcp_norm.proofs.Quotas.{each_at_most, never_for_room}
+use Rattle.tcp_norm.proofs.Finding.{held_is}
 use Rattle.tcp_norm.proofs.state.TcpNorm.held.Goals as goal
 
 pub returns-clause-number : goal.returns-clause-number

@@ -9,14 +9,11 @@ use Rattle.tcp_norm.specs.Inwards.{bare_read, passed}
 use Rattle.tcp_norm.specs.Outcomes.{outcome_at}
 use Rattle.tcp_norm.specs.Steps.{IsStep, Does, began}
 use Rattle.tcp_norm.specs.declared.step.Step.{Step}
-use Rattle.tcp_norm.proofs.Outwards.{view_cold}
-use Rattle.tcp_norm.proofs.Colding.{cold_same, asked_same, call_same, probe_same, cold_refused, cold_full, cold_passes, no_call_no_begin, full_is, full_not, step_called, none_came}
-use Rattle.tcp_norm.proofs.Bares.{comes_bare, bare_anew}
-use Rattle.tcp_norm.proofs.Beside.{beside_are}
-use Rattle.tcp_norm.proofs.Entering.{in_dropped, in_unheard, in_outcome, in_does, keyed, asks, step_asked, packets_asked, packets_begun}
-use Rattle.tcp_norm.proofs.Probing.{side_is}
-use Rattle.tcp_norm.proofs.Marked.{bare_writes, called_marked, cold_probes, begun_probes, cold_stream}
-use Rattle.tcp_norm.proofs.Ruled.{bare_carried, rewritten_in}
+use Rattle.tcp_norm.proofs.Connections.{view_cold, cold_same, asked_same, call_same, cold_probe_same, cold_refused, cold_full, cold_passes, no_call_no_begin, full_is, full_not, step_called, none_came}
+use Rattle.tcp_norm.proofs.BareSegments.{comes_bare, bare_anew, beside_are}
+use Rattle.tcp_norm.proofs.InboundSegments.{in_dropped, in_unheard, in_outcome, in_does, keyed, asks, step_asked, packets_asked, packets_begun, side_is}
+use Rattle.tcp_norm.proofs.SynsAndResets.{bare_writes, called_marked, cold_probes, begun_probes, cold_stream}
+use Rattle.tcp_norm.proofs.Syns.{bare_carried, rewritten_in}
 use Rattle.tcp_norm.proofs.state.TcpNorm.judge_cold.Goals as goal
 
 pub returns-in-Refuse-clause-judges : goal.returns-in-Refuse-clause-judges
@@ -59,7 +56,7 @@ returns-in-Probe-clause-judges c settings calls d st is =
     let call = sym (call_same d c.args.hashed.now.key.0 c.bare_seg-seg.result comes) ∙ sym c.in-Probe.ensures.begins in
     let asked = sym (asked_same d c.args.hashed.now.key.0 c.bare_seg-seg.result comes) ∙ sym c.in-Probe.ensures.asks in
     let passes = cold_passes settings v d comes.side none (sym (cold_same d c.args.hashed.now.key.0 c.bare_seg-seg.result comes) ∙ sym c.in-Probe.ensures.refuses) (no_call_no_begin v w comes.side call) in
-    let probe = c.in-Probe.ensures.fields ∙ probe_same d c.args.hashed.now.key.0 c.bare_seg-seg.result comes in
+    let probe = c.in-Probe.ensures.fields ∙ cold_probe_same d c.args.hashed.now.key.0 c.bare_seg-seg.result comes in
     let named = c.rows_beside-rows.result.items in
     let mends = beside_are settings v d a.packet.now.payload.now a.head.now c.options_change-changed.result true named a.read.fields is.octets side (cold_stream v w none) (cold_probes v w none asked)
     c.options_change-changed.ensures.changed c.rows_beside-rows.ensures.rows in

@@ -8,7 +8,7 @@ use Rattle.tcp_norm.specs.Outcomes.{outcome_at}
 use Rattle.tcp_norm.specs.Rulings.{IsHeld, IsSame, Needs}
 use Rattle.tcp_norm.specs.Standing.{IsReady}
 use Rattle.tcp_norm.specs.declared.state.TcpNorm.{TcpNorm}
-use Rattle.tcp_norm.proofs.OfLive.{judged}
+use Rattle.tcp_norm.proofs.InboundSegments.{judged}
 use Rattle.tcp_norm.proofs.state.TcpNorm.judge_live.Goals as goal
 
 still_ready : (old new : TcpNorm) (now : ℕ) → IsSame old new → IsReady old now → IsReady new now

@@ -6,7 +6,7 @@ use Rattle.tcp_norm.specs.Views.{view_of}
 use Rattle.tcp_norm.specs.Emits.{packet_by}
 use Rattle.tcp_norm.specs.Inwards.{passed}
 use Rattle.tcp_norm.specs.Outcomes.{outcome_at}
-use Rattle.tcp_norm.proofs.Sent.{out_outcome, out_does, sum_wrong}
+use Rattle.tcp_norm.proofs.OutboundSegments.{out_outcome, out_does, sum_wrong}
 use Rattle.tcp_norm.proofs.state.TcpNorm.judge_outward.Goals as goal
 
 pub returns-clause-judges : goal.returns-clause-judges

@@ -9,11 +9,9 @@ use Rattle.tcp_norm.specs.Rulings.{IsFound}
 use Rattle.tcp_norm.specs.Views.{view_of}
 use Rattle.tcp_norm.specs.Outcomes.{outcome_at}
 use Rattle.tcp_norm.specs.Steps.{Does, continued_in, reopened_by}
-use Rattle.tcp_norm.proofs.Calleds.{no_reset}
-use Rattle.tcp_norm.proofs.Entering.{in_unheard}
-use Rattle.tcp_norm.proofs.OfLive.{judged, of_live}
-use Rattle.tcp_norm.proofs.Ruled.{rewritten_in}
-use Rattle.tcp_norm.proofs.Syns.{syn_refused, of_syn}
+use Rattle.tcp_norm.proofs.Connections.{no_reset}
+use Rattle.tcp_norm.proofs.InboundSegments.{in_unheard, judged, of_live}
+use Rattle.tcp_norm.proofs.Syns.{rewritten_in, syn_refused, of_syn}
 use Rattle.tcp_norm.proofs.state.TcpNorm.judge_syn.Goals as goal
 
 pub overflow_add-self : goal.overflow_add-self

@@ -1,4 +1,4 @@
-use Rattle.tcp_norm.proofs.Colding.{none_came}
+use Rattle.tcp_norm.proofs.Connections.{none_came}
 use Rattle.tcp_norm.proofs.state.TcpNorm.offer.Goals as goal
 
 pub returns : goal.returns

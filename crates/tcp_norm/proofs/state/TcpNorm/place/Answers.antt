@@ -7,7 +7,7 @@ use Rattle.tcp_norm.specs.Standing.{Holds, Begins, ChangesTables, alive_in}
 use Rattle.tcp_norm.specs.declared.step.Place.{Place}
 use Rattle.tcp_norm.specs.Steps.{Places, first_empty, place_of}
 use Rattle.tcp_norm.proofs.Effects.{without_none}
-use Rattle.tcp_norm.proofs.Slots.{then_changes}
+use Rattle.tcp_norm.proofs.Represented.{then_changes}
 use Rattle.tcp_norm.proofs.state.TcpNorm.place.Goals as goal
 
 pub returns-then-len-max-clause-places : goal.returns-then-len-max-clause-places

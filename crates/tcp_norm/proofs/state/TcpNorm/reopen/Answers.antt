@@ -5,9 +5,9 @@ use Rattle.tcp_norm.specs.Near.{IsNear}
 use Rattle.tcp_norm.specs.Steps.{reopened_by}
 use Rattle.tcp_norm.specs.declared.key.EraKey.{EraKey}
 use Rattle.tcp_norm.specs.Standing.{Holds, Begins, IsAbsent}
-use Rattle.tcp_norm.proofs.Moves.{begins_then, begins_with, given_some, tables_go_on}
-use Rattle.tcp_norm.proofs.Slots.{at_slot, opened_kept, then_changes}
-use Rattle.tcp_norm.proofs.Tables.{key_left, shorter}
+use Rattle.tcp_norm.proofs.Effects.{begins_then, begins_with, given_some, tables_go_on}
+use Rattle.tcp_norm.proofs.Represented.{at_slot, opened_kept, then_changes}
+use Rattle.tcp_norm.proofs.Numbers.{key_left, shorter}
 use Rattle.tcp_norm.proofs.state.TcpNorm.reopen.Goals as goal
 
 pub begin-requires-clause-fresh : goal.begin-requires-clause-fresh

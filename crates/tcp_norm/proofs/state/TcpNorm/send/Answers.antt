@@ -9,12 +9,12 @@ use Rattle.tcp_norm.specs.declared.key.EraKey.{EraKey}
 use Rattle.tcp_norm.specs.Calls.{segments, segment_in, eras}
 use Rattle.tcp_norm.specs.Near.{AreNear}
 use Rattle.tcp_norm.specs.Rulings.{Continues}
-use Rattle.tcp_norm.proofs.Acks.{keeps_behind, outbound_brings_none}
-use Rattle.tcp_norm.proofs.Nears.{acked_small, near_at, nears_weaker, near_touched}
+use Rattle.tcp_norm.proofs.KeptOctets.{keeps_behind, outbound_brings_none}
+use Rattle.tcp_norm.proofs.Numbers.{acked_small, near_at, nears_weaker, near_touched}
 use Rattle.tcp_norm.proofs.Quotas.{shorter_below, stays_bounded}
-use Rattle.tcp_norm.proofs.Slots.{at_slot, opened_kept, same_value}
-use Rattle.tcp_norm.proofs.Sparing.{touched_listed}
-use Rattle.tcp_norm.proofs.Writing.{stands_written, writes_one}
+use Rattle.tcp_norm.proofs.Represented.{at_slot, opened_kept, same_value}
+use Rattle.tcp_norm.proofs.Finding.{touched_listed}
+use Rattle.tcp_norm.proofs.Calls.{stands_written, writes_one}
 use Rattle.tcp_norm.proofs.state.TcpNorm.send.Goals as goal
 
 pub send_in-acked-requires-clause-small : goal.send_in-acked-requires-clause-small

@@ -2,7 +2,7 @@ use Rattle.std.proofs.Common.{◌∙◌, sym, ap, subst}
 use Rattle.ip_rules.specs.Datagrams.{frames_of}
 use Rattle.tcp_norm.specs.Views.{view_of}
 use Rattle.tcp_norm.specs.Passing.{Reports}
-use Rattle.tcp_norm.proofs.Read.{is_read}
+use Rattle.tcp_norm.proofs.OutboundSegments.{is_read}
 use Rattle.tcp_norm.proofs.state.TcpNorm.take_into.Goals as goal
 
 pub invariant_of-arrival-clause-read : goal.invariant_of-arrival-clause-read

@@ -6,14 +6,14 @@ use Rattle.tcp_norm.specs.declared.flow.Flow.{Flow}
 use Rattle.tcp_norm.specs.declared.key.EraKey.{EraKey}
 use Rattle.tcp_norm.specs.Calls.{segments, segment_in, eras}
 use Rattle.tcp_norm.specs.Near.{AreNear}
-use Rattle.tcp_norm.proofs.Nears.{near_at, nears_weaker, near_touched}
+use Rattle.tcp_norm.proofs.Numbers.{near_at, nears_weaker, near_touched}
 use Rattle.tcp_norm.proofs.Quotas.{stays_bounded}
-use Rattle.tcp_norm.proofs.Slots.{at_slot, opened_kept, same_value}
-use Rattle.tcp_norm.proofs.Sparing.{touched_listed}
-use Rattle.tcp_norm.proofs.Streams.{fresh_is, keeps_with, last_stands}
+use Rattle.tcp_norm.proofs.Represented.{at_slot, opened_kept, same_value}
+use Rattle.tcp_norm.proofs.Finding.{touched_listed}
+use Rattle.tcp_norm.proofs.ChainOctets.{fresh_is, keeps_with, last_stands}
 use Rattle.tcp_norm.specs.Live.{Live}
 use Rattle.tcp_norm.specs.Rulings.{Brings, IsHeld, taken}
-use Rattle.tcp_norm.proofs.Writing.{stands_written, wrote_these, taken_long}
+use Rattle.tcp_norm.proofs.Calls.{stands_written, wrote_these, taken_long}
 use Rattle.tcp_norm.proofs.state.TcpNorm.take_octets.Goals as goal
 
 pub returns : goal.returns

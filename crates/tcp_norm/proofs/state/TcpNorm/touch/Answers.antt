@@ -4,9 +4,9 @@ use Rattle.tcp_norm.specs.declared.flow.Flow.{Flow}
 use Rattle.tcp_norm.specs.Live.{Live}
 use Rattle.tcp_norm.specs.declared.key.EraKey.{EraKey}
 use Rattle.tcp_norm.specs.Rulings.{Extends}
-use Rattle.tcp_norm.proofs.Slots.{none_changed, opened_kept}
-use Rattle.tcp_norm.proofs.Sparing.{touched_listed}
-use Rattle.tcp_norm.proofs.Touching.{near_marked, stands_touched, touched_is}
+use Rattle.tcp_norm.proofs.Represented.{none_changed, opened_kept}
+use Rattle.tcp_norm.proofs.Finding.{touched_listed}
+use Rattle.tcp_norm.proofs.Calls.{near_marked, stands_touched, touched_is}
 use Rattle.tcp_norm.proofs.state.TcpNorm.touch.Goals as goal
 
 pub returns : goal.returns

@@ -1,0 +1,190 @@
+-- The octets kept of an era, from what is acknowledged to Top, and what is kept of them after a segment without octets.
+use Rattle.std.proofs.Common.{◌≡◌, ℕ, zero, suc, ◌<◌, max, Bool, true, false, List, [], ◌∷◌, length, Option, Some, None, is_some, ℤ, pos, negsuc, ◌+ℤ◌, ◌-ℤ◌, ◌<ℤ◌, refl, arith, ◌≤◌, ◌⊎◌, inl, inr, cond, ◌++◌, sym, ap, ap₂, subst, ◌∙◌, append_assoc}
+use Rattle.std.specs.Prelude.{slice_get, nat_lt}
+use Rattle.std.specs.Option.{option_or}
+use Rattle.std.proofs.lemmas.Int.{ints}
+use Rattle.std.proofs.lemmas.Bool.Decides.{nat_tests}
+use Rattle.std.proofs.lemmas.List.{append-nil}
+use Rattle.std.specs.List.{AllByRecursion}
+use Rattle.wire_base.specs.Segments.{Written}
+use Rattle.era_state.specs.Words.{first_of, greatest, Moment, moments}
+use Rattle.era_state.specs.Offsets.{off, natural, nat_of, number_in}
+use Rattle.era_state.specs.Marks.{octet_at, top_place, get_at, has_octets, fixes}
+use Rattle.era_state.specs.Quantities.{acked, first, top, base_of, base_at}
+use Rattle.era_state.specs.declared.era.Era.{Era}
+use Rattle.era_state.specs.declared.era.Era.TheVariants.{Called, Offered, Warm, Closed}
+use Rattle.era_state.specs.Silence.{IsSilent}
+use Rattle.era_state.specs.Eras.{acked_in, SilenceStands}
+use Rattle.era_state.specs.Eras as era
+use Rattle.era_state.specs.Laws.{FirstStays, AckedNeverFalls}
+use Rattle.retain_store.specs.Maps.{Block, ForgetsBelow}
+use Rattle.tcp_norm.specs.Held.{kept_at}
+use Rattle.tcp_norm.specs.Chains.{Keeps}
+use Rattle.tcp_norm.specs.Writes.{BringsNone}
+
+-- An octet that is First is below Top.
+
+pub got_inside : (xs : List ℕ) (i : ℕ) → is_some (slice_get xs i) ≡ true → i < length xs
+got_inside [] i some = cc
+got_inside (x ∷ xs) zero some = omega arith
+got_inside (x ∷ xs) (suc i) some = let rest = got_inside xs i some in omega arith
+
+above : (n : ℕ) (z : ℤ) → pos n <ℤ z → n < nat_of z
+above n (pos m) lt = omega (arith, ints)
+above n (negsuc m) lt = absurd (omega (arith, ints))
+
+record Inside (o : ℕ) (s : ℤ) (octets : List ℕ) : Type 0 where
+  some : 0 < length octets
+  below : o < nat_of (s +ℤ pos (length octets))
+
+inside_at : (o : ℕ) (s : ℤ) (octets : List ℕ) (z : ℤ) → pos o -ℤ s ≡ z → is_some (get_at octets (natural z)) ≡ true → Inside o s octets
+inside_at o s octets (pos i) is got =
+    let within = got_inside octets i got in
+    record { some = omega arith; below = above o (s +ℤ pos (length octets)) (omega (arith, ints)) }
+inside_at o s octets (negsuc i) is got = cc
+
+octet_below : (base at o : ℕ) (w : Written) → is_some (octet_at base at (pos o) w) ≡ true → o < top_place base at w
+octet_below base at o w got = cases w.inward refl
+  where
+    cases : (b : Bool) → w.inward ≡ b → o < top_place base at w
+    cases true e =
+        let i = inside_at o (off base at w.seq) w.octets (pos o -ℤ off base at w.seq) refl (rw e at got) in
+        let full : has_octets w ≡ true = grind (arith, nat_tests, i.some) in
+        rw (e, full) i.below
+    cases false e = let none = rw e at got in cc
+
+first_below : (base o : ℕ) (ms : List (Moment Written))
+    → is_some (first_of (λ (m : Moment Written). octet_at base (acked base m.before) (pos o) m.now) ms) ≡ true
+    → o < greatest (λ (m : Moment Written). top_place base (acked base m.before) m.now) ms
+first_below base o [] some = cc
+first_below base o (m ∷ ms) some =
+    let here = octet_below base (acked base m.before) o m.now in
+    let later = first_below base o ms in
+    split (octet_at base (acked base m.before) (pos o) m.now) here later some
+  where
+    split : (x : Option ℕ) → (is_some x ≡ true → o < top_place base (acked base m.before) m.now)
+        → (is_some (first_of (λ (m : Moment Written). octet_at base (acked base m.before) (pos o) m.now) ms) ≡ true → o < greatest (λ (m : Moment Written). top_place base (acked base m.before) m.now) ms)
+        → is_some (option_or x (first_of (λ (m : Moment Written). octet_at base (acked base m.before) (pos o) m.now) ms)) ≡ true
+        → o < max (top_place base (acked base m.before) m.now) (greatest (λ (m : Moment Written). top_place base (acked base m.before) m.now) ms)
+    split None here later got = let below = later got in omega arith
+    split (Some x) here later got = let below = here refl in omega arith
+
+pub first_is_below : (base : ℕ) (ws : List Written) (o : ℕ) → is_some (first base ws (pos o)) ≡ true → o < top base ws
+first_is_below base ws o some = first_below base o (moments ws) some
+
+-- What is kept of an era after a segment that brings no octet inwards: what was kept before, from what is acknowledged on.
+
+-- what an era says is acknowledged is what its list says
+pub acked_is : (e : Era) (ws : List Written) → era.StandsFor e ws → acked_in e ≡ acked (base_at ws) ws
+acked_is (Called e) ws h = sym (h.untouched (base_at ws)).acked_is
+acked_is (Offered e) ws h = sym (ap (λ b. acked (number_in b) ws) h.base_is ∙ h.untouched.acked_is)
+acked_is (Warm e) ws h = h.0.acked_is ∙ sym (ap (λ b. acked (number_in b) ws) h.0.base_is)
+acked_is (Closed e) ws h = h.acked_is ∙ sym (ap (λ b. acked (number_in b) ws) h.base_is)
+
+none_of : (x : Option ℕ) → (is_some x ≡ true → ⊥) → x ≡ None
+none_of None never = refl
+none_of (Some x) never = absurd (never refl)
+
+-- a base is fixed, or none is and there is no octet, whatever the base
+abbrev Based : List Written → Type 0
+Based ws = ((base_of ws ≡ None) × ((base o : ℕ) → first base ws (pos o) ≡ None)) ⊎ ((base : ℕ) × (base_of ws ≡ Some base))
+
+based : (e : Era) (ws : List Written) → era.StandsFor e ws → Based ws
+based (Called e) ws h = inl (h.unbased, (λ base o. none_of (first base ws (pos o)) (λ some. let below = first_is_below base ws o some in absurd (omega (arith, (h.untouched base).top_is)))))
+based (Offered e) ws h = inr (e.base, h.base_is)
+based (Warm e) ws h = inr (e.base, h.0.base_is)
+based (Closed e) ws h = inr (e.last.base, h.base_is)
+
+or_some : (f : Option ℕ) (rest more : Option ℕ) (base : ℕ) → option_or f rest ≡ Some base → (rest ≡ Some base → more ≡ Some base) → option_or f more ≡ Some base
+or_some None rest more base is goes = goes is
+or_some (Some b) rest more base is goes = is
+
+pub first_stays_of : (xs more : List Written) (base : ℕ) → first_of fixes xs ≡ Some base → first_of fixes (xs ++ more) ≡ Some base
+first_stays_of [] more base is = cc
+first_stays_of (x ∷ xs) more base is = or_some (fixes x) (first_of fixes xs) (first_of fixes (xs ++ more)) base is (first_stays_of xs more base)
+
+or_nothing : (x : Option ℕ) → option_or x None ≡ x
+or_nothing None = refl
+or_nothing (Some x) = refl
+
+-- behind segments that bring no octet no first octet is another, and no less is acknowledged
+none_more : FirstStays → (base : ℕ) (ws more : List Written) (o : ℕ) → AllByRecursion BringsNone more → first base (ws ++ more) (pos o) ≡ first base ws (pos o)
+none_more stays base ws [] o none = ap (λ l. first base l (pos o)) (append-nil ws)
+none_more stays base ws (w ∷ more) o none =
+    ap (λ l. first base l (pos o)) (sym (append_assoc ws (w ∷ []) more))
+    ∙ (none_more stays base (ws ++ w ∷ []) more o none.1
+    ∙ (stays base ws w (pos o) ∙ (ap (option_or (first base ws (pos o))) (none.0 base (acked base ws) o) ∙ or_nothing (first base ws (pos o)))))
+
+acked_grows : AckedNeverFalls → (base : ℕ) (ws more : List Written) → acked base ws ≤ acked base (ws ++ more)
+acked_grows grows base ws [] = subst (λ l. acked base ws ≤ acked base l) (sym (append-nil ws)) (omega arith)
+acked_grows grows base ws (w ∷ more) =
+    let one = grows base ws w in
+    let rest = acked_grows grows base (ws ++ w ∷ []) more in
+    subst (λ l. acked base ws ≤ acked base l) (append_assoc ws (w ∷ []) more) (omega (arith, one, rest))
+
+kept_behind : FirstStays → AckedNeverFalls → (old new : Era) (ws more : List Written) → era.StandsFor old ws → era.StandsFor new (ws ++ more) → AllByRecursion BringsNone more
+    → (o : ℕ) → kept_at (ws ++ more) o ≡ cond (nat_lt o (acked_in new)) None (kept_at ws o)
+kept_behind stays grows old new ws more was is none o =
+    ap (λ a. cond (nat_lt o a) None (first (base_at (ws ++ more)) (ws ++ more) (pos o))) (sym (acked_is new (ws ++ more) is)) ∙ by_base (based old ws was)
+  where
+    both : (b c : Bool) (x y : Option ℕ) → x ≡ None → y ≡ None → cond b None x ≡ cond b None (cond c None y)
+    both true c x y e f = refl
+    both false true x y e f = e
+    both false false x y e f = e ∙ sym f
+
+    inner : (a b : ℕ) (x : Option ℕ) → a ≤ b → cond (nat_lt o b) None x ≡ cond (nat_lt o b) None (cond (nat_lt o a) None x)
+    inner a b x le = cases (nat_lt o b) refl
+      where
+        cases : (t : Bool) → nat_lt o b ≡ t → cond t None x ≡ cond t None (cond (nat_lt o a) None x)
+        cases true e = refl
+        cases false e = let f : nat_lt o a ≡ false = grind (arith, nat_tests, e, le) in sym (ap (λ t. cond t None x) f)
+
+    by_base : Based ws → cond (nat_lt o (acked_in new)) None (first (base_at (ws ++ more)) (ws ++ more) (pos o)) ≡ cond (nat_lt o (acked_in new)) None (kept_at ws o)
+    by_base (inl (unbased, empty)) =
+        both (nat_lt o (acked_in new)) (nat_lt o (acked (base_at ws) ws)) _ _ (none_more stays (base_at (ws ++ more)) ws more o none ∙ empty (base_at (ws ++ more)) o) (empty (base_at ws) o)
+    by_base (inr (base, fixed)) =
+        let here : base_at ws ≡ base = ap number_in fixed in
+        let then' : base_at (ws ++ more) ≡ base = ap number_in (first_stays_of ws more base fixed) in
+        let le : acked (base_at ws) ws ≤ acked_in new =
+        subst (λ b. acked b ws ≤ acked_in new) (sym here) (subst (λ a. acked base ws ≤ a) (ap (λ b. acked b (ws ++ more)) (sym then') ∙ sym (acked_is new (ws ++ more) is)) (acked_grows grows base ws more)) in
+        ap (λ b. cond (nat_lt o (acked_in new)) None (first b (ws ++ more) (pos o))) (then' ∙ sym here)
+        ∙ (ap (λ x. cond (nat_lt o (acked_in new)) None x) (none_more stays (base_at ws) ws more o none)
+        ∙ inner (acked (base_at ws) ws) (acked_in new) (first (base_at ws) ws (pos o)) le)
+
+-- a chain of which the octets below are forgotten
+pub keeps_behind : FirstStays → AckedNeverFalls → (old new : Era) (ws more : List Written) (blocks left : List Block) → era.StandsFor old ws → era.StandsFor new (ws ++ more)
+    → AllByRecursion BringsNone more → Keeps blocks ws → ForgetsBelow blocks left (acked_in new) → Keeps left (ws ++ more)
+keeps_behind stays grows old new ws more blocks left was is none keeps forgets o =
+    forgets o ∙ (ap (λ x. cond (nat_lt o (acked_in new)) None x) (keeps o) ∙ sym (kept_behind stays grows old new ws more was is none o))
+
+twice : (b : Bool) (x : Option ℕ) → cond b None x ≡ cond b None (cond b None x)
+twice true x = refl
+twice false x = refl
+
+-- a chain of which nothing is to be forgotten, since no more is acknowledged
+pub keeps_same : FirstStays → AckedNeverFalls → (old new : Era) (ws more : List Written) (blocks : List Block) → era.StandsFor old ws → era.StandsFor new (ws ++ more) → acked_in new ≡ acked_in old
+    → AllByRecursion BringsNone more → Keeps blocks ws → Keeps blocks (ws ++ more)
+keeps_same stays grows old new ws more blocks was is same none keeps =
+    keeps_behind stays grows old new ws more blocks blocks was is none keeps
+    (λ o.
+    let first_at = first (base_at ws) ws (pos o) in
+    keeps o ∙ (twice (nat_lt o (acked (base_at ws) ws)) first_at
+    ∙ ap₂ (λ a x. cond (nat_lt o a) None x) (sym (same ∙ acked_is old ws was)) (sym (keeps o))))
+
+-- an outbound segment, and one without octets, brings none
+pub outbound_brings_none : (w : Written) → w.inward ≡ false → BringsNone w
+outbound_brings_none w out base at o = rw out refl
+
+-- silent segments bring none, and an era represents them behind its own
+pub silent_brings_none : (w : Written) → IsSilent w → BringsNone w
+silent_brings_none w silent base at o = rw silent.no_octets (none_in w.inward (natural (pos o -ℤ off base at w.seq)))
+  where
+    none_in : (b : Bool) (x : Option ℕ) → cond b (get_at [] x) None ≡ None
+    none_in true None = refl
+    none_in true (Some i) = refl
+    none_in false x = refl
+
+pub silent_stands : SilenceStands → (e : Era) (ws more : List Written) → AllByRecursion IsSilent more → era.StandsFor e ws → era.StandsFor e (ws ++ more)
+silent_stands stays e ws [] all stands = subst (era.StandsFor e) (sym (append-nil ws)) stands
+silent_stands stays e ws (w ∷ more) all stands =
+    subst (era.StandsFor e) (append_assoc ws (w ∷ []) more) (silent_stands stays e (ws ++ w ∷ []) more all.1 (stays e ws w all.0 stands))
