@@ -17,7 +17,7 @@ use Rattle.ip_rules.specs.Datagrams.{Datagram, Packet, DatagramsAreKnown, IsPack
 use Rattle.era_state.specs.Emission.{AreEmitted}
 use Rattle.era_agreement.specs.Sent.{Sent, is_era, inward_packets, aside_packets, written_as, segments_in, written_in}
 use Rattle.era_agreement.specs.Agreement.{IsSilentPacket}
-use Rattle.era_agreement.specs.Laws.{EmittedAgrees, EmittedTellsOneStream, IsEmittedEra}
+use Rattle.era_agreement.specs.Laws.{EmittedAgrees, EmittedMissesNothing, EmittedStaysNearAcks, EmittedTellsOneStream, IsEmittedEra}
 use Rattle.tcp_norm.specs.Calls.{Call, Outcome, expiry, datagram, read, segments, is_written}
 use Rattle.tcp_norm.specs.Views.{view_of}
 use Rattle.tcp_norm.specs.Segments.{IsSegment, PacketsAreItsOwn, PacketsArePlain, ProbesAreSilent, CallsAreEmitted, IsSilentPacket as Silent}
@@ -27,7 +27,8 @@ use Rattle.norm_engine.specs.Calls.{segment_after, datagram_after, past_of, flow
 use Rattle.norm_engine.specs.Trace.{item_of, read_after, dropped_by, outcome_of, era_by}
 use Rattle.norm_engine.specs.Clean.{HasOctets, HaveOctets}
 use Rattle.norm_engine.specs.Agreement.{sent_for, sent_in}
-use Rattle.norm_engine.specs.Laws.{IsSound, LawfulAgrees, LawfulCallsAreMade, LawfulTellsStreams}
+use Rattle.norm_engine.specs.Certain.{LawfulIsEmitted}
+use Rattle.norm_engine.specs.Laws.{IsSound, LawfulAgrees, LawfulCallsAreMade, LawfulMissesNothing, LawfulStaysNearAcks, LawfulTellsStreams}
 use Rattle.norm_engine.proofs.Reading.{behind}
 use Rattle.norm_engine.proofs.Stepping.{AreOfEra, era_told, sides, segment_frames, segment_verdict}
 use Rattle.norm_engine.proofs.Joining.{inward_is, made_of}
@@ -227,3 +228,13 @@ agrees laws emitted agree made settings link trace sound = agree settings.hops (
 pub tells : PacketLaws → CallsAreEmitted → EmittedTellsOneStream → LawfulCallsAreMade → LawfulTellsStreams
 tells laws emitted tell made settings link trace sound era base based =
     tell settings.hops era base (sent_in link trace) (emitted_era laws emitted made settings link trace sound era) based
+
+pub misses : EmittedMissesNothing → LawfulIsEmitted → LawfulMissesNothing
+misses miss emitted settings link [] sound = miss settings.hops (sent_in link []) (emitted settings link [] sound)
+misses miss emitted settings link (item ∷ older) sound = (
+  misses miss emitted settings link older (record { hops = sound.hops; octets = sound.octets.0; lawful = sound.lawful.0 }),
+  miss settings.hops (sent_in link (item ∷ older)) (emitted settings link (item ∷ older) sound),
+)
+
+pub near_acks : EmittedStaysNearAcks → LawfulIsEmitted → LawfulStaysNearAcks
+near_acks stay emitted settings link trace sound era base based = stay settings.hops era base (sent_in link trace) (emitted settings link trace sound era) based

@@ -45,7 +45,7 @@ use Rattle.tcp_norm.specs.Rows.{pseudo_of, holds_era, mended_by}
 use Rattle.tcp_norm.specs.Emits.{packet_by, segment_anew, segment_sent, sum_mended}
 use Rattle.tcp_norm.specs.Outcomes.{outcome_at, outcome_by}
 use Rattle.tcp_norm.specs.Segments.{IsSegment}
-use Rattle.tcp_norm.proofs.Passing.{fixed_or_passed}
+use Rattle.tcp_norm.proofs.Calls.{fixed_or_passed}
 use Rattle.norm_engine.specs.Items.{Item}
 use Rattle.norm_engine.specs.Rows.{side_of_record, holds_tcp, is_segment}
 use Rattle.norm_engine.specs.Fragments.{Offering, datagram_made, head_of_whole, pieces_with, offering_of, holds_offered, completes, joined_in, pieces_before}

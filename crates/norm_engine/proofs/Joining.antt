@@ -31,7 +31,7 @@ use Rattle.tcp_norm.specs.Rows as era
 use Rattle.reassembly.specs.Pieces.{Fragment, is_whole, whole_of, datagram_octets}
 use Rattle.reassembly.specs.Rows as fragments
 use Rattle.reassembly.specs.Calls as reassembly
-use Rattle.reassembly.proofs.Deciding.{first_row_drops}
+use Rattle.reassembly.proofs.Rules.{first_row_drops}
 use Rattle.norm_engine.specs.Rows.{side_of_record, is_tcp, holds_tcp, is_segment}
 use Rattle.norm_engine.specs.Fragments.{Offering, fragment_with, fragment_in, offering_of, offering_in, holds_offered, pieces_with, completes, i_ttl, head_of_whole, datagram_made, joined_in}
 use Rattle.norm_engine.specs.Calls.{Past, where_passes, datagram_by}

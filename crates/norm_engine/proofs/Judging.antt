@@ -37,7 +37,7 @@ use Rattle.reassembly.specs.Pieces.{Fragment, IsPiece, is_whole, whole_of, datag
 use Rattle.reassembly.specs.Calls.{Answer, held, done, dropped, Call}
 use Rattle.reassembly.specs.Rows as fragments
 use Rattle.reassembly.specs.Rows.{answer_by, answer_at, view_of, call_of, offered, offered_at, is_held, is_done, holds_fragment}
-use Rattle.reassembly.proofs.Deciding.{first_row_drops}
+use Rattle.reassembly.proofs.Rules.{first_row_drops}
 use Rattle.norm_engine.specs.Rows.{side_of_record, holds_tcp, is_segment}
 use Rattle.norm_engine.specs.Fragments.{Offering, fragment_with, fragment_in, with_offered, offering_of, offering_in, holds_offered, pieces_with, completes, i_ttl, head_of_whole, datagram_made, joined_in}
 use Rattle.norm_engine.specs.Calls.{Past, where_passes, datagram_by}

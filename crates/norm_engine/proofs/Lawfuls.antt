@@ -24,7 +24,7 @@ use Rattle.reassembly.specs.Pieces.{Fragment}
 use Rattle.reassembly.specs.Calls as reassembly
 use Rattle.reassembly.specs.Rows.{AreAnswered, is_done}
 use Rattle.reassembly.specs.Laws.{IsSized, AreSized}
-use Rattle.reassembly.proofs.Sizes.{wholes_are_sized}
+use Rattle.reassembly.proofs.Wholes.{wholes_are_sized}
 use Rattle.dgram_rules.specs.Rows as dgram
 use Rattle.tcp_norm.specs.Calls.{Call}
 use Rattle.tcp_norm.specs.Views.{view_of}

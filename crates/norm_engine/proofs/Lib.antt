@@ -15,3 +15,4 @@ pub mod Certain
 pub mod Outgoing
 pub mod Naming
 pub mod Sending
+pub mod Waiting

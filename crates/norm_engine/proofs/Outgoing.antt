@@ -44,8 +44,7 @@ use Rattle.tcp_norm.specs.Views.{View, view_of}
 use Rattle.tcp_norm.specs.Emits.{packet_by, probe_packets, segment_anew, segment_sent, sum_mended}
 use Rattle.tcp_norm.specs.Outcomes.{outcome_at, outcome_by}
 use Rattle.tcp_norm.specs.Segments.{IsSegment, PacketsAreItsOwn}
-use Rattle.tcp_norm.proofs.Outgoing.{each_packet}
-use Rattle.tcp_norm.proofs.PlainSegments.{IsPlainSegment, own_plain}
+use Rattle.tcp_norm.proofs.Packets.{each_packet, IsPlainSegment, own_plain}
 use Rattle.norm_engine.specs.Items.{Item}
 use Rattle.norm_engine.specs.Fragments.{Offering, completes, datagram_made, head_of_whole, holds_offered, pieces_with, joined_in, offering_in, offering_of, pieces_before}
 use Rattle.norm_engine.specs.Frames.{octets_sent, frame_by}

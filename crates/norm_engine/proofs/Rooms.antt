@@ -16,7 +16,7 @@ use Rattle.tcp_norm.specs.Calls.{Call}
 use Rattle.tcp_norm.specs.Segments.{AreOfSegments, QuotaLeavesRoom}
 use Rattle.norm_engine.specs.Items.{Item}
 use Rattle.reassembly.specs.Rows.{holds_fragment}
-use Rattle.reassembly.proofs.Deciding.{first_row_drops}
+use Rattle.reassembly.proofs.Rules.{first_row_drops}
 use Rattle.norm_engine.specs.Rows.{holds_tcp}
 use Rattle.norm_engine.specs.Fragments.{Offering}
 use Rattle.norm_engine.specs.Calls.{past_of}

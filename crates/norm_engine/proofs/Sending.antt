@@ -9,7 +9,7 @@ use Rattle.wire_base.specs.declared.address.Link.{Link}
 use Rattle.wire_base.specs.declared.address.Link.TheVariants.{Ethernet, Raw}
 use Rattle.wire_base.specs.declared.frame.FrameKind.TheVariants.{Ip, Arp, Short, Other}
 use Rattle.wire_base.specs.Frames.{ethertype, kind_of, link_octets, packet_in}
-use Rattle.wire_base.specs.Plain.{IsPlainHeader}
+use Rattle.wire_base.specs.Plain.{IsPlainHeader, Plain}
 use Rattle.wire_base.specs.Segments.{Written}
 use Rattle.pcap_file.specs.Records as records
 use Rattle.rule_book.specs.declared.rule.Rule.{Rule}
@@ -23,7 +23,8 @@ use Rattle.tcp_norm.specs.Outcomes.{outcome_at}
 use Rattle.tcp_norm.specs.Rows as era
 use Rattle.tcp_norm.specs.Segments.{IsSegment, PacketsAreItsOwn}
 use Rattle.tcp_norm.specs.Views.{view_of}
-use Rattle.tcp_norm.proofs.Outgoing.{each_packet}
+use Rattle.tcp_norm.proofs.Packets.{each_packet}
+use Rattle.receiver_model.specs.Messages as receivers
 use Rattle.norm_engine.specs.Items.{Item}
 use Rattle.norm_engine.specs.Frames.{frame_by, octets_sent}
 use Rattle.norm_engine.specs.Rows.{is_segment, side_of_record}
@@ -33,7 +34,7 @@ use Rattle.norm_engine.specs.Certain.{ItemsAreCertain}
 use Rattle.norm_engine.specs.Clean.{HasOctets, HaveOctets}
 use Rattle.norm_engine.specs.Laws.{IsSound}
 use Rattle.norm_engine.specs.Outgoing.{GoesOut, ItemsGoOut}
-use Rattle.norm_engine.specs.Sending.{HasShortFrames, IsPlainInwards, LawfulIsPlainInwards, LawfulIsShort}
+use Rattle.norm_engine.specs.Sending.{HasShortFrames, IsPlainInwards, LawfulIsPlainInwards, LawfulIsShort, PlainIsReadAlike}
 use Rattle.norm_engine.proofs.Joined.{rows_are_of_eras}
 use Rattle.norm_engine.proofs.Joining.{bare_row, made_of}
 use Rattle.norm_engine.proofs.Lawfuls.{both_of, datagram_known, segment_is}
@@ -232,3 +233,14 @@ lawful_plain_inwards known certain settings link (item ∷ older) sound = (
   }),
   lawful_plain_inwards known certain settings link older (before settings link item older sound),
 )
+
+-- ---- what is plain is read alike
+
+frames_alike : receivers.PlainIsReadAlike → (hops : ℕ) (link : Link) (frames : List (List ℕ)) → AllByRecursion (λ frame. Plain hops (packet_in link frame)) frames
+    → AllByRecursion (λ frame. receivers.IsReadAlike hops (packet_in link frame)) frames
+frames_alike alike hops link [] plain = tt
+frames_alike alike hops link (frame ∷ frames) plain = (alike hops (packet_in link frame) plain.0, frames_alike alike hops link frames plain.1)
+
+pub read_alike : receivers.PlainIsReadAlike → PlainIsReadAlike
+read_alike alike hops link [] plain = tt
+read_alike alike hops link (item ∷ older) plain = (λ side. frames_alike alike hops link item.frames (plain.0.inward side), read_alike alike hops link older plain.1)

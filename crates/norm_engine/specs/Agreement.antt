@@ -1,5 +1,5 @@
 -- Agreement of receivers on what was written inwards in each era of a trace (this project's profile).
-use Rattle.std.specs.Prelude.{ℕ, List, map}
+use Rattle.std.specs.Prelude.{ℕ, List, [], ◌∷◌, map}
 use Rattle.wire_base.specs.declared.address.Link.{Link}
 use Rattle.wire_base.specs.Frames.{packet_in}
 use Rattle.ip_rules.specs.Rows.{is_inward}
@@ -27,3 +27,14 @@ sent_in link trace = map (sent_for link) trace
 -- shorter, whichever packets reach them in time, how often and in which order. An era without a base has no octet, no SYN and no FIN inwards.
 abbrev pub Agree : (hops : ℕ) → Link → List Item → Type 0
 Agree hops link trace = eras.Agree hops (sent_in link trace)
+
+-- In each era of the trace whose base is fixed, a monitor behind at most `hops` routers, which takes every packet written inwards, keeps each octet not yet read
+-- and delivers all that it can, has a stream of which every other receiver's is a prefix, if both start at the same offset. It has ended if the other's has. It
+-- takes the packets in the order in which they were written, whenever each arrives; or in any order, each in time.
+abbrev pub MissesNothing : (hops : ℕ) → Link → List Item → Type 0
+MissesNothing hops link trace = eras.MissesNothing hops (sent_in link trace)
+
+-- this holds of each history of a trace: before its first record and after each
+abbrev pub AtEachHistory : (List Item → Type 0) → List Item → Type 0
+AtEachHistory P [] = P []
+AtEachHistory P (item ∷ older) = AtEachHistory P older × P (item ∷ older)

@@ -7,7 +7,8 @@ use Rattle.rule_book.specs.declared.rule.Rule.TheVariants as rules
 use Rattle.rule_book.specs.Entries.{IsOfVersion}
 use Rattle.norm_settings.specs.Settings.{PlainSettings}
 use Rattle.era_state.specs.Quantities.{base_of}
-use Rattle.era_agreement.specs.Sent.{written_in}
+use Rattle.receiver_model.specs.Monitors.{StayNearAcks}
+use Rattle.era_agreement.specs.Sent.{inward_packets, inward_places, inward_acks, written_in}
 use Rattle.era_agreement.specs.Laws.{TellsItsStream}
 use Rattle.tcp_norm.specs.Calls.{eras}
 use Rattle.tcp_norm.specs.Segments.{AreOfSegments, IsBounded}
@@ -17,7 +18,7 @@ use Rattle.norm_engine.specs.Fragments.{piece_calls}
 use Rattle.norm_engine.specs.Calls.{flow_calls}
 use Rattle.norm_engine.specs.Trace.{Lawful, item_of}
 use Rattle.norm_engine.specs.Clean.{HaveOctets, CleanIsKept}
-use Rattle.norm_engine.specs.Agreement.{Agree, sent_in}
+use Rattle.norm_engine.specs.Agreement.{Agree, AtEachHistory, MissesNothing, sent_in}
 
 -- a trace of records of octets that is lawful for settings of at most 254 routers
 pub record IsSound (settings : PlainSettings) (link : Link) (trace : List Item) : Type 0 where
@@ -76,9 +77,21 @@ LawfulLeavesRoom =
 abbrev pub LawfulAgrees : Type 0
 LawfulAgrees = (settings : PlainSettings) (link : Link) (trace : List Item) → IsSound settings link trace → Agree settings.hops link trace
 
+-- At each history of every lawful trace, a monitor misses nothing of what was written inwards in an era so far.
+abbrev pub LawfulMissesNothing : Type 0
+LawfulMissesNothing =
+    (settings : PlainSettings) (link : Link) (trace : List Item) → IsSound settings link trace → AtEachHistory (MissesNothing settings.hops link) trace
+
 -- In each era of a lawful trace whose base is fixed, the frames written inwards describe one stream, each at the offset of its number: each of their octets is
 -- the first at its offset, and each FIN is the end of the era.
 abbrev pub LawfulTellsStreams : Type 0
 LawfulTellsStreams =
     (settings : PlainSettings) (link : Link) (trace : List Item) → IsSound settings link trace
     → (era base : ℕ) → base_of (written_in era (sent_in link trace)) ≡ Some base → TellsItsStream settings.hops era base (sent_in link trace)
+
+-- They stay near what was acknowledged before the record of each.
+abbrev pub LawfulStaysNearAcks : Type 0
+LawfulStaysNearAcks =
+    (settings : PlainSettings) (link : Link) (trace : List Item) → IsSound settings link trace
+    → (era base : ℕ) → let sent = sent_in link trace in
+    base_of (written_in era sent) ≡ Some base → StayNearAcks (inward_acks era base sent) (inward_places era base sent) (inward_packets era sent)

@@ -13,3 +13,4 @@ pub mod Engine
 pub mod Certain
 pub mod Outgoing
 pub mod Sending
+pub mod Waiting

@@ -7,6 +7,7 @@ use Rattle.wire_base.specs.declared.frame.FrameKind.TheVariants.{Arp}
 use Rattle.wire_base.specs.Frames.{kind_of, packet_in}
 use Rattle.wire_base.specs.Plain.{Plain}
 use Rattle.norm_settings.specs.Settings.{PlainSettings}
+use Rattle.receiver_model.specs.Messages.{IsReadAlike}
 use Rattle.norm_engine.specs.Items.{Item}
 use Rattle.norm_engine.specs.Laws.{IsSound}
 use Rattle.wire_base.specs.declared.limits.TheConstants.{MAX_FRAME}
@@ -30,3 +31,12 @@ ArePlainInwards hops link trace = AllByRecursion (IsPlainInwards hops link) trac
 
 abbrev pub LawfulIsPlainInwards : Type 0
 LawfulIsPlainInwards = (settings : PlainSettings) (link : Link) (trace : List Item) → IsSound settings link trace → ArePlainInwards settings.hops link trace
+
+-- Any two members read each packet written inwards as one segment or as none, and as one UDP or ICMP message or as none.
+abbrev pub AreReadAlike : (hops : ℕ) → Link → List Item → Type 0
+AreReadAlike hops link trace =
+    AllByRecursion (λ item. item.entry.side ≡ Some Inward → AllByRecursion (λ frame. IsReadAlike hops (packet_in link frame)) item.frames) trace
+
+-- this holds where each of these packets is plain
+abbrev pub PlainIsReadAlike : Type 0
+PlainIsReadAlike = (hops : ℕ) (link : Link) (trace : List Item) → ArePlainInwards hops link trace → AreReadAlike hops link trace

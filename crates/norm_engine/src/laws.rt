@@ -1,12 +1,16 @@
 //! Laws of lawful traces.
 ghost use Rattle.norm_engine.specs.Certain.{ItemsAreCertain, LawfulIsEmitted};
-ghost use Rattle.norm_engine.specs.Laws.{ItemsAreCounted, LawfulAgrees, LawfulCallsAreMade, LawfulIsOne, LawfulIsWithin, LawfulKeepsClean, LawfulLeavesRoom, LawfulTellsStreams};
+ghost use Rattle.norm_engine.specs.Laws.{ItemsAreCounted, LawfulAgrees, LawfulCallsAreMade, LawfulIsOne, LawfulIsWithin, LawfulKeepsClean, LawfulLeavesRoom, LawfulMissesNothing, LawfulStaysNearAcks, LawfulTellsStreams};
 ghost use Rattle.norm_engine.specs.Outgoing.{ItemsGoOut};
-ghost use Rattle.norm_engine.specs.Sending.{LawfulIsPlainInwards, LawfulIsShort};
+ghost use Rattle.norm_engine.specs.Waiting.{WaitingIsFew, WaitingIsKept};
+ghost use Rattle.norm_engine.specs.Sending.{LawfulIsPlainInwards, LawfulIsShort, PlainIsReadAlike};
 
-use era_agreement::laws::{emitted_agrees, emitted_tells_one_stream};
+use era_agreement::laws::{
+    emitted_agrees, emitted_misses_nothing, emitted_stays_near_acks, emitted_tells_one_stream,
+};
 use ip_rules::laws::{anew_is_packet, datagrams_are_known};
 use reassembly::laws::answered_is_within;
+use receiver_model::laws::plain_packets_are_read_alike;
 use tcp_codec::laws::{mended_say_the_same, options_are_cleaned, segments_are_read_back};
 use tcp_norm::laws::{
     calls_are_emitted, clean_keeps_payload, flows_are_bounded, held_is_bounded,
@@ -91,6 +95,24 @@ pub fn lawful_tells_streams()
     lawful_calls_are_made();
 }
 
+/// Proves that the frames written inwards in an era of a lawful trace stay near what was
+/// acknowledged before the record of each.
+pub fn lawful_stays_near_acks()
+    ensures { LawfulStaysNearAcks }
+{
+    emitted_stays_near_acks();
+    lawful_is_emitted();
+}
+
+/// Proves that after each record of a lawful trace a monitor misses nothing of the frames written
+/// inwards in an era so far.
+pub fn lawful_misses_nothing()
+    ensures { LawfulMissesNothing }
+{
+    emitted_misses_nothing();
+    lawful_is_emitted();
+}
+
 /// Proves that what is written for a record is read in one way: inwards by every host, and as a TCP
 /// segment if it belongs to an era.
 pub fn items_are_certain()
@@ -147,4 +169,26 @@ pub fn lawful_is_plain_inwards()
 {
     datagrams_are_known();
     items_are_certain();
+}
+
+/// Proves that any two members read each packet written inwards alike, if it is plain: a segment, a
+/// UDP datagram or an ICMP message.
+pub fn messages_are_read_alike()
+    ensures { PlainIsReadAlike }
+{
+    plain_packets_are_read_alike();
+}
+
+/// Proves of a receiver that hears the frames of an era in time and has read up to all that is
+/// acknowledged: each octet that waits in it at or past its next offset is the first one there, and
+/// if the era is live, at most 256 wait for each cell that norm holds of it.
+pub fn monitors_need_cells()
+    ensures kept { WaitingIsKept }
+    ensures few { WaitingIsFew }
+{
+    lawful_tells_streams();
+    datagrams_are_known();
+    packets_are_its_own();
+    packets_are_plain();
+    probes_are_silent();
 }
