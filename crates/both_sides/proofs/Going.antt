@@ -12,7 +12,7 @@ use Rattle.norm_engine.specs.Trace.{Lawful, item_of}
 use Rattle.both_sides.specs.Traces.{behind, mirrored, record_of, records_for}
 use Rattle.both_sides.specs.Cut.{item_written, written}
 use Rattle.both_sides.specs.Frames.{frame_count, frames_octets, item_octets}
-use Rattle.both_sides.specs.RelayLaws.{Begins, PutsItsTrace, RunsGoOn}
+use Rattle.both_sides.specs.RunLaws.{Begins, PutsItsTrace, RunsGoOn}
 use Rattle.both_sides.specs.Outputs.{heading}
 use Rattle.both_sides.specs.Puts.{count_put, octets_put, put_by_two, puts, puts_by_two, text_put}
 use Rattle.both_sides.specs.Runs.{answers, empty_run, one, two}

@@ -10,7 +10,7 @@ use Rattle.norm_engine.specs.Items.{Item, packets}
 use Rattle.norm_engine.specs.Laws.{LawfulIsOne}
 use Rattle.both_sides.specs.Traces.{behind, mirrored, record_of, records_of}
 use Rattle.both_sides.specs.Frames.{frame_count, frames_octets, item_octets}
-use Rattle.both_sides.specs.RelayLaws.{LawfulRunsAreOne, TwoPutTheirMirror}
+use Rattle.both_sides.specs.RunLaws.{LawfulRunsAreOne, TwoPutTheirMirror}
 use Rattle.both_sides.specs.Puts.{answers_frames, count_put, octets_put, put_by_two, put_octets, puts_by_two}
 use Rattle.both_sides.specs.Runs.{one, two}
 

@@ -7,7 +7,7 @@ use Rattle.norm_settings.specs.Settings.{AreInRange, PlainSettings}
 use Rattle.norm_engine.specs.Items.{Item}
 use Rattle.norm_engine.specs.Engine.{Engaged}
 use Rattle.norm_engine.specs.Engine as single
-use Rattle.norm_engine.specs.Laws.{IsSound, LawfulIsWithin, LawfulKeepsClean}
+use Rattle.norm_engine.specs.Laws.{IsSound, LawfulIsWithin, LawfulKeepsClean, LawfulMissesNothing}
 use Rattle.norm_engine.specs.Sending.{LawfulIsPlainInwards, LawfulIsShort}
 use Rattle.both_sides.specs.Both.{Joined}
 use Rattle.both_sides.specs.Both as double
@@ -17,7 +17,7 @@ use Rattle.both_sides.specs.declared.engines.Engines.{Engines}
 use Rattle.both_sides.specs.declared.engines.Engines.TheVariants.{One, Two}
 use Rattle.both_sides.specs.declared.fault.RelayFault.{RelayFault}
 use Rattle.both_sides.specs.Cut.{LawfulIsWrittenSoundly}
-use Rattle.both_sides.specs.RelayLaws.{RunsAreWrittenSoundly}
+use Rattle.both_sides.specs.RunLaws.{RunsAreWrittenSoundly}
 use Rattle.both_sides.specs.Puts.{next_put}
 use Rattle.both_sides.specs.Relays.{CanRead, IsKept, IsReady, StandsForRun, link_of, settings_of}
 use Rattle.both_sides.specs.Runs.{RunHasOctets, RunTrace, empty_run, next_run, one, two}
@@ -105,6 +105,7 @@ pub record SoundLaws : Type 0 where
   pub within : LawfulIsWithin
   pub through : FramesGoThrough
   pub agree : BothAgree
+  pub misses : LawfulMissesNothing
   pub plain : LawfulIsPlainInwards
   pub short : LawfulIsShort
 
@@ -124,6 +125,8 @@ soundly laws settings link (two trace mirror) range together lawful octets sidel
       within_behind = laws.within (mirrored settings) link mirror back;
       agree = agree.0;
       agree_behind = agree.1;
+      monitor = laws.misses settings link trace front;
+      monitor_behind = laws.misses (mirrored settings) link mirror back;
       through = laws.through settings link trace mirror pair;
       plain = laws.plain settings link trace front;
       plain_behind = laws.plain (mirrored settings) link mirror back;

@@ -1,5 +1,5 @@
 -- What is written of a lawful trace.
-use Rattle.std.proofs.Common.{◌≡◌, ℕ, ◌+◌, ◌<◌, ◌≤◌, ◌==◌, ◌&&◌, ◌||◌, not, nat_lt, Bool, true, false, cond, All, List, [], ◌∷◌, ◌++◌, length, map, drop, get_or, suc, Option, Some, None, inl, inr, refl, sym, ap, ap₂, subst, ◌∙◌, arith, append-nil}
+use Rattle.std.proofs.Common.{ℤ, ◌≡◌, ℕ, ◌+◌, ◌<◌, ◌≤◌, ◌==◌, ◌&&◌, ◌||◌, not, nat_lt, Bool, true, false, cond, All, List, [], ◌∷◌, ◌++◌, length, map, drop, get_or, suc, Option, Some, None, inl, inr, refl, sym, ap, ap₂, subst, ◌∙◌, arith, append-nil}
 use Rattle.std.specs.Prelude.{IfSome}
 use Rattle.std.specs.List.{AllByRecursion, flat_map, list_any}
 use Rattle.std.proofs.lemmas.Grind.{flat_map-append}
@@ -17,14 +17,15 @@ use Rattle.wire_base.specs.Segments.{fields_of, segment_of}
 use Rattle.rule_book.specs.declared.rule.Rule.{Rule}
 use Rattle.norm_settings.specs.Settings.{PlainSettings}
 use Rattle.ip_rules.specs.Rows.{carries_ip, is_inward}
-use Rattle.receiver_model.specs.Agreement.{MembersAgree}
+use Rattle.receiver_model.specs.Agreement.{MembersAgree, TellOneStream}
+use Rattle.receiver_model.specs.Monitors.{EraMissesNothing, MonitorsMissNothing, StayNearAcks}
 use Rattle.era_state.specs.Quantities.{base_of}
-use Rattle.era_agreement.specs.Sent.{Sent, inward_packets, inward_places, is_era, written_in}
+use Rattle.era_agreement.specs.Sent.{Sent, inward_packets, inward_places, inward_acks, is_era, written_in}
 use Rattle.era_agreement.specs.Agreement.{EraIsSound, IsSilentPacket}
 use Rattle.norm_engine.specs.Items.{Item}
 use Rattle.norm_engine.specs.Clean.{CleanIsKept, KeepsPayload, payload_in, payload_of}
-use Rattle.norm_engine.specs.Agreement.{sent_in}
-use Rattle.norm_engine.specs.Laws.{IsSound, LawfulAgrees, LawfulTellsStreams}
+use Rattle.norm_engine.specs.Agreement.{AtEachHistory, sent_in}
+use Rattle.norm_engine.specs.Laws.{IsSound, LawfulAgrees, LawfulStaysNearAcks, LawfulTellsStreams}
 use Rattle.norm_engine.specs.Outgoing.{CarriesWhole, GoesOut, IsOutgoing, ItemsGoOut}
 use Rattle.emit_mtu.specs.declared.long.LongKind.{LongKind}
 use Rattle.emit_mtu.specs.declared.long.LongKind.TheVariants.{Fits, Cut, Drop}
@@ -32,10 +33,10 @@ use Rattle.emit_mtu.specs.Frames.{AreOctets, IsSent, link_size}
 use Rattle.emit_mtu.specs.Laws as cuts
 use Rattle.emit_mtu.specs.Laws.{AreFew, CarryThePayload, IsToBeCut}
 use Rattle.emit_mtu.specs.Long.{e_cut, e_mtu, is_ip, is_long, is_marked, long_kind, may_be_cut}
-use Rattle.emit_mtu.specs.Streams.{CutTellsOneStream, NothingLongGoesOut, PacketsGoOutAlike, PlainHeadersAreWhole, frames_for, frames_of, packets_for, places_for}
+use Rattle.emit_mtu.specs.Streams.{CutStaysNearAcks, CutTellsOneStream, NothingLongGoesOut, PacketsGoOutAlike, PlainHeadersAreWhole, frames_for, frames_of, packets_for, places_for, acks_for}
 use Rattle.emit_mtu.proofs.Facts.{both, neither}
 use Rattle.emit_mtu.proofs.Sent.{octets_in}
-use Rattle.both_sides.specs.Cut.{AgreeAsWritten, AgreesWhole, CleanIsWritten, FramesHaveOctets, HaveFrameOctets, NoneIsLong, WritesPayload, WrittenWhole, cuts_some, frames_written, is_of_cuts, item_written, keeps_some_back, places_written, rules_cut, verdict_cut}
+use Rattle.both_sides.specs.Cut.{AgreeAsWritten, AgreesWhole, CleanIsWritten, FramesHaveOctets, HaveFrameOctets, MissesNothingAsWritten, MissesNothingWhole, NoneIsLong, WritesPayload, WrittenWhole, cuts_some, frames_written, is_of_cuts, item_written, keeps_some_back, places_written, rules_cut, verdict_cut}
 
 -- ---- without an MTU
 
@@ -59,6 +60,21 @@ agrees_whole settings link trace none =
     let P = AgreesUnder settings link trace in (
       (λ agree. subst (λ (m : Option ℕ). P m trace) none (subst (λ (t : List Item). P settings.mtu t) same agree)),
       (λ agree. subst (λ (t : List Item). P settings.mtu t) (sym same) (subst (λ (m : Option ℕ). P m trace) (sym none) agree)),
+    )
+
+-- the same of monitors
+abbrev MissesUnder : (settings : PlainSettings) (link : Link) (trace : List Item) → (mtu : Option ℕ) (as_written : List Item) → Type 0
+MissesUnder settings link trace mtu as_written =
+    (era base : ℕ) → let sent = sent_in link trace in
+    base_of (written_in era sent) ≡ Some base
+    → EraMissesNothing settings.hops base (places_written mtu (inward_places era base sent) (inward_packets era sent)) (inward_packets era (sent_in link as_written))
+
+pub misses_whole : MissesNothingWhole
+misses_whole settings link trace none =
+    let same = written_whole settings link trace none in
+    let P = MissesUnder settings link trace in (
+      (λ misses. subst (λ (m : Option ℕ). P m trace) none (subst (λ (t : List Item). P settings.mtu t) same misses)),
+      (λ misses. subst (λ (t : List Item). P settings.mtu t) (sym same) (subst (λ (m : Option ℕ). P m trace) (sym none) misses)),
     )
 
 -- ---- the frames of an item are written
@@ -323,15 +339,57 @@ silent_by mtu packet silent Cut is = absurd (uncut (is_long Raw mtu packet) (may
 silent_cut : (mtu : ℕ) (packets : List (List ℕ)) → All IsSilentPacket packets → All IsSilentPacket (packets_for mtu packets)
 silent_cut mtu packets all = all_flat IsSilentPacket (frames_for Raw mtu) packets (λ k d l. silent_by mtu (get_or packets k d) (all k d l) (long_kind Raw mtu (get_or packets k d)) refl)
 
--- ---- receivers agree on what was written
+-- ---- receivers agree on what was written, and a monitor misses nothing of it
 
 -- the laws that this is based on
 pub record StreamLaws : Type 0 where
   pub agree : LawfulAgrees
   pub tells : LawfulTellsStreams
+  pub near : LawfulStaysNearAcks
   pub alike : PacketsGoOutAlike
   pub cut : CutTellsOneStream
+  pub cut_acks : CutStaysNearAcks
   pub members : MembersAgree
+  pub monitors : MonitorsMissNothing
+
+-- what is written in an era with a base describes one stream
+tells_by : StreamLaws → (mtu : Option ℕ) (settings : PlainSettings) (link : Link) (trace : List Item) → InRange mtu → IsSound settings link trace → AllByRecursion (IsOutgoing link) trace
+    → HaveFrameOctets mtu trace → (era base : ℕ) → base_of (written_in era (sent_in link trace)) ≡ Some base
+    → TellOneStream settings.hops base (places_written mtu (inward_places era base (sent_in link trace)) (inward_packets era (sent_in link trace)))
+    (inward_packets era (sent_in link (map (item_written mtu link) trace)))
+tells_by laws None settings link trace range sound each octets era base is =
+    subst (λ t. TellOneStream settings.hops base (inward_places era base (sent_in link trace)) (inward_packets era (sent_in link t))) (sym (same_trace link trace))
+    (laws.tells settings link trace sound era base is).stream
+tells_by laws (Some mtu) settings link trace range sound each octets era base is =
+    let sent = sent_in link trace in
+    let packets = inward_packets era sent in
+    let most = range.1 in
+    subst (TellOneStream settings.hops base (places_for mtu (inward_places era base sent) packets)) (sym (inward_cut link mtu laws.alike era trace each))
+    (laws.cut settings.hops base mtu (inward_places era base sent) packets range.0 (omega (arith, most)) (inward_octets link mtu laws.alike era trace octets)
+    (laws.tells settings link trace sound era base is).stream)
+
+-- and stays near what was acknowledged
+record StayNearSome (places : List ℤ) (packets : List (List ℕ)) : Type 0 where
+  acks : List ℕ
+  stay : StayNearAcks acks places packets
+
+stays_by : StreamLaws → (mtu : Option ℕ) (settings : PlainSettings) (link : Link) (trace : List Item) → InRange mtu → IsSound settings link trace → AllByRecursion (IsOutgoing link) trace
+    → HaveFrameOctets mtu trace → (era base : ℕ) → base_of (written_in era (sent_in link trace)) ≡ Some base
+    → StayNearSome (places_written mtu (inward_places era base (sent_in link trace)) (inward_packets era (sent_in link trace)))
+    (inward_packets era (sent_in link (map (item_written mtu link) trace)))
+stays_by laws None settings link trace range sound each octets era base is =
+    subst (λ t. StayNearSome (inward_places era base (sent_in link trace)) (inward_packets era (sent_in link t))) (sym (same_trace link trace))
+    (record { acks = inward_acks era base (sent_in link trace); stay = laws.near settings link trace sound era base is })
+stays_by laws (Some mtu) settings link trace range sound each octets era base is =
+    let sent = sent_in link trace in
+    let packets = inward_packets era sent in
+    let most = range.1 in
+    subst (StayNearSome (places_for mtu (inward_places era base sent) packets)) (sym (inward_cut link mtu laws.alike era trace each)) (record {
+      acks = acks_for mtu (inward_acks era base sent) packets;
+      stay =
+          laws.cut_acks settings.hops base mtu (inward_acks era base sent) (inward_places era base sent) packets range.0 (omega (arith, most))
+          (inward_octets link mtu laws.alike era trace octets) (laws.tells settings link trace sound era base is).stream (laws.near settings link trace sound era base is);
+    })
 
 agree_by : StreamLaws → (mtu : Option ℕ) (settings : PlainSettings) (link : Link) (trace : List Item) → InRange mtu → IsSound settings link trace → AllByRecursion (IsOutgoing link) trace
     → HaveFrameOctets mtu trace → (era : ℕ)
@@ -355,13 +413,29 @@ agree_by laws (Some mtu) settings link trace range sound each octets era = by (b
         let silent : All IsSilentPacket packets = subst (λ b. EraIsSound settings.hops b (λ base. inward_places era base sent) packets) is (laws.agree settings link trace sound era) in
         subst (All IsSilentPacket) (sym (inward_cut link mtu laws.alike era trace each)) (silent_cut mtu packets silent)
     by (Some base) is =
-        let most = range.1 in
-        let stream = (laws.tells settings link trace sound era base is).stream in
-        let places = places_for mtu (inward_places era base sent) packets in
-        subst (λ ps. EraIsSound settings.hops (Some base) (λ b. places_for mtu (inward_places era b sent) packets) ps) (sym (inward_cut link mtu laws.alike era trace each))
-        (laws.members settings.hops base places (packets_for mtu packets)
-        (laws.cut settings.hops base mtu (inward_places era base sent) packets range.0 (omega (arith, most)) (inward_octets link mtu laws.alike era trace octets) stream))
+        laws.members settings.hops base (places_for mtu (inward_places era base sent) packets) (inward_packets era (sent_in link (map (item_written (Some mtu) link) trace)))
+        (tells_by laws (Some mtu) settings link trace range sound each octets era base is)
 
 pub agree_as_written : StreamLaws → (settings : PlainSettings) (link : Link) (trace : List Item) → InRange settings.mtu → IsSound settings link trace → AllByRecursion (IsOutgoing link) trace
     → HaveFrameOctets settings.mtu trace → AgreeAsWritten settings link trace
 agree_as_written laws settings link trace range sound each octets = agree_by laws settings.mtu settings link trace range sound each octets
+
+misses_as_written : StreamLaws → (settings : PlainSettings) (link : Link) (trace : List Item) → InRange settings.mtu → IsSound settings link trace → AllByRecursion (IsOutgoing link) trace
+    → HaveFrameOctets settings.mtu trace → MissesNothingAsWritten settings link trace
+misses_as_written laws settings link trace range sound each octets era base is =
+    let places = places_written settings.mtu (inward_places era base (sent_in link trace)) (inward_packets era (sent_in link trace)) in
+    let packets = inward_packets era (sent_in link (map (item_written settings.mtu link) trace)) in
+    let tells = tells_by laws settings.mtu settings link trace range sound each octets era base is in
+    let some = stays_by laws settings.mtu settings link trace range sound each octets era base is in
+    record {
+      in_order = laws.monitors.in_order settings.hops base some.acks places packets tells some.stay;
+      in_time = laws.monitors.in_time settings.hops base places packets tells;
+    }
+
+pub always_misses : StreamLaws → (settings : PlainSettings) (link : Link) (trace : List Item) → InRange settings.mtu → IsSound settings link trace → AllByRecursion (IsOutgoing link) trace
+    → HaveFrameOctets settings.mtu trace → AtEachHistory (MissesNothingAsWritten settings link) trace
+always_misses laws settings link [] range sound each octets = misses_as_written laws settings link [] range sound each octets
+always_misses laws settings link (item ∷ older) range sound each octets = (
+  always_misses laws settings link older range (record { hops = sound.hops; octets = sound.octets.0; lawful = sound.lawful.0 }) each.1 octets.1,
+  misses_as_written laws settings link (item ∷ older) range sound each octets,
+)

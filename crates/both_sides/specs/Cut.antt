@@ -10,12 +10,14 @@ use Rattle.rule_book.specs.declared.entry.Verdict.{Verdict}
 use Rattle.rule_book.specs.declared.entry.Verdict.TheVariants as verdicts
 use Rattle.rule_book.specs.Entries.{PlainEntry}
 use Rattle.norm_settings.specs.Settings.{AreInRange, PlainSettings}
+use Rattle.receiver_model.specs.Monitors.{EraMissesNothing}
 use Rattle.era_state.specs.Quantities.{base_of}
 use Rattle.era_agreement.specs.Sent.{inward_packets, inward_places, written_in}
 use Rattle.era_agreement.specs.Agreement.{EraIsSound}
 use Rattle.norm_engine.specs.Items.{Item}
 use Rattle.norm_engine.specs.Clean.{KeepsPayload, is_clean, payload_in}
-use Rattle.norm_engine.specs.Agreement.{Agree, sent_in}
+use Rattle.norm_engine.specs.Agreement as norm_engine
+use Rattle.norm_engine.specs.Agreement.{Agree, AtEachHistory, sent_in}
 use Rattle.norm_engine.specs.Laws.{IsAlwaysWithin, IsSound}
 use Rattle.norm_engine.specs.Sending.{ArePlainInwards, HasShortFrames}
 use Rattle.emit_mtu.specs.Frames.{AreOctets, IsSent}
@@ -103,10 +105,24 @@ AgreeAsWritten settings link trace =
     EraIsSound settings.hops (base_of (written_in era sent)) (λ base. places_written settings.mtu (inward_places era base sent) (inward_packets era sent))
     (inward_packets era (sent_in link (written settings link trace)))
 
+-- In each era whose base is fixed, a monitor misses nothing of the packets that are written inwards. The base and the offsets are those of the lawful trace.
+abbrev pub MissesNothingAsWritten : PlainSettings → Link → List Item → Type 0
+MissesNothingAsWritten settings link trace =
+    (era base : ℕ) → let sent = sent_in link trace in
+    base_of (written_in era sent) ≡ Some base →
+    EraMissesNothing settings.hops base (places_written settings.mtu (inward_places era base sent) (inward_packets era sent))
+    (inward_packets era (sent_in link (written settings link trace)))
+
 -- without an MTU that is agreement on the trace itself
 abbrev pub AgreesWhole : Type 0
 AgreesWhole = (settings : PlainSettings) (link : Link) (trace : List Item) → settings.mtu ≡ None
     → (AgreeAsWritten settings link trace → Agree settings.hops link trace) × (Agree settings.hops link trace → AgreeAsWritten settings link trace)
+
+-- and a monitor misses nothing of what is written exactly if it misses nothing of the trace
+abbrev pub MissesNothingWhole : Type 0
+MissesNothingWhole = (settings : PlainSettings) (link : Link) (trace : List Item) → settings.mtu ≡ None
+    → (MissesNothingAsWritten settings link trace → norm_engine.MissesNothing settings.hops link trace)
+    × (norm_engine.MissesNothing settings.hops link trace → MissesNothingAsWritten settings link trace)
 
 -- no IPv4 packet of a frame has a total length above the MTU, if there is one
 abbrev pub NoneIsLong : (mtu : Option ℕ) → Link → List Item → Type 0
@@ -114,12 +130,13 @@ NoneIsLong None link trace = Unit {0}
 NoneIsLong (Some mtu) link trace = AllByRecursion (λ item. All (λ frame. is_long link mtu frame ≡ false) item.frames) trace
 
 -- What is written of a trace. Each clean record has one frame with the record's payload, or the segments that carry it, unless a frame of the record is too
--- long and dropped; receivers agree on what is written; no frame of it is too long, by the MTU or for a capture; each frame written inwards is plain, except
--- ARP; and after no record more is held than the settings allow.
+-- long and dropped; receivers agree on what is written, and before the first record and after each a monitor has missed nothing; no frame of it is too long, by
+-- the MTU or for a capture; each frame written inwards is plain, except ARP; and after no record more is held than the settings allow.
 pub record IsWrittenSoundly (settings : PlainSettings) (link : Link) (trace : List Item) : Type 0 where
   pub clean_kept : CleanIsWritten settings link trace
   pub within : IsAlwaysWithin settings link trace
   pub agree : AgreeAsWritten settings link trace
+  pub monitor : AtEachHistory (MissesNothingAsWritten settings link) trace
   pub none_long : NoneIsLong settings.mtu link (written settings link trace)
   pub plain : ArePlainInwards settings.hops link (written settings link trace)
   pub short : AllByRecursion HasShortFrames (written settings link trace)

@@ -10,4 +10,4 @@ pub mod Puts
 pub mod Relays
 pub mod Steps
 pub mod Judged
-pub mod RelayLaws
+pub mod RunLaws

@@ -12,7 +12,7 @@
 //!
 //! Proved of `Relay::relay`: all frames that the record has are written, and then its lines; if a
 //! sink fails, a prefix of these. The engines then represent the run with this record, and what is
-//! written for it is what the definitions say. Laws (`relay_laws`): records have one lawful run.
+//! written for it is what the definitions say. Laws (`laws`): records have one lawful run.
 //! Without `--mtu` one engine writes its trace itself; two engines write the frames of the second
 //! trace. In a lawful run clean records keep their payload (with `--mtu` in one frame or in
 //! segments, unless a frame is too long and cannot be cut), no more is held than the settings
@@ -35,7 +35,6 @@ pub mod laws;
 mod lines;
 mod one;
 mod relay;
-pub mod relay_laws;
 mod room;
 mod two;
 

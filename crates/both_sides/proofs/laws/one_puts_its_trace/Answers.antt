@@ -1,5 +1,5 @@
 use Rattle.both_sides.proofs.Going.{puts_trace}
-use Rattle.both_sides.proofs.relay_laws.one_puts_its_trace.Goals as goal
+use Rattle.both_sides.proofs.laws.one_puts_its_trace.Goals as goal
 
 pub returns : goal.returns
 returns c = puts_trace

@@ -1,6 +1,6 @@
 use Rattle.std.proofs.Common.{refl}
 use Rattle.both_sides.proofs.Going.{begun, goes_on}
-use Rattle.both_sides.proofs.relay_laws.runs_go_on.Goals as goal
+use Rattle.both_sides.proofs.laws.runs_go_on.Goals as goal
 
 pub returns-clause-begin : goal.returns-clause-begin
 returns-clause-begin c = λ settings link. begun settings link settings.both refl

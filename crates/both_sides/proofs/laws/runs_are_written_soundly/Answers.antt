@@ -1,5 +1,5 @@
 use Rattle.both_sides.proofs.RelayStanding.{soundly}
-use Rattle.both_sides.proofs.relay_laws.runs_are_written_soundly.Goals as goal
+use Rattle.both_sides.proofs.laws.runs_are_written_soundly.Goals as goal
 
 pub returns : goal.returns
 returns c = soundly (record {
@@ -8,6 +8,7 @@ returns c = soundly (record {
   within = c.lawful_is_within.ensures;
   through = c.frames_go_through.ensures;
   agree = c.both_agree.ensures;
+  misses = c.lawful_misses_nothing.ensures;
   plain = c.lawful_is_plain_inwards.ensures;
   short = c.lawful_is_short.ensures;
 })

@@ -1,5 +1,5 @@
 use Rattle.both_sides.proofs.Mirrors.{puts_mirror}
-use Rattle.both_sides.proofs.relay_laws.two_put_their_mirror.Goals as goal
+use Rattle.both_sides.proofs.laws.two_put_their_mirror.Goals as goal
 
 pub returns : goal.returns
 returns c = puts_mirror

@@ -1,5 +1,5 @@
 use Rattle.both_sides.proofs.Mirrors.{runs_one}
-use Rattle.both_sides.proofs.relay_laws.lawful_runs_are_one.Goals as goal
+use Rattle.both_sides.proofs.laws.lawful_runs_are_one.Goals as goal
 
 pub returns : goal.returns
 returns c = runs_one c.lawful_is_one.ensures

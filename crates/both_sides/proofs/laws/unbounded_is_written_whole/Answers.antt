@@ -1,0 +1,11 @@
+use Rattle.both_sides.proofs.Writtens.{agrees_whole, misses_whole, written_whole}
+use Rattle.both_sides.proofs.laws.unbounded_is_written_whole.Goals as goal
+
+pub returns-clause-whole : goal.returns-clause-whole
+returns-clause-whole c = written_whole
+
+pub returns-clause-agree : goal.returns-clause-agree
+returns-clause-agree c = agrees_whole
+
+pub returns-clause-monitor : goal.returns-clause-monitor
+returns-clause-monitor c = misses_whole
