@@ -9,3 +9,4 @@ pub mod Broken
 pub mod Rows
 pub mod Tallying
 pub mod Loading
+pub mod Messages

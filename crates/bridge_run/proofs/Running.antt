@@ -21,7 +21,7 @@ use Rattle.norm_engine.specs.Items.{Item, packets}
 use Rattle.both_sides.specs.declared.engines.Engines.{Engines}
 use Rattle.both_sides.specs.declared.engines.Engines.TheVariants.{One, Two}
 use Rattle.both_sides.specs.declared.fault.RelayFault.{RelayFault}
-use Rattle.both_sides.specs.RelayLaws.{Begins, GoesOn, RunIsWrittenSoundly, RunsAreWrittenSoundly, RunsBegin, RunsGoOn}
+use Rattle.both_sides.specs.RunLaws.{Begins, GoesOn, RunIsWrittenSoundly, RunsAreWrittenSoundly, RunsBegin, RunsGoOn}
 use Rattle.both_sides.specs.Outputs.{Given, heading}
 use Rattle.both_sides.specs.Outputs as relayed
 use Rattle.both_sides.specs.Puts.{Put, count_put, next_put, puts, put_outputs, text_put}
@@ -32,7 +32,7 @@ use Rattle.bridge_run.specs.declared.stop.Stop.{Stop}
 use Rattle.bridge_run.specs.Moments.{Moment, NoneRose}
 use Rattle.bridge_run.specs.Outputs.{BreaksOff, end_outputs, outputs_of, stop_by}
 use Rattle.bridge_run.specs.Run.{Begun, Ended, IsFew}
-use Rattle.bridge_run.specs.Promises.{CleanKeepPayload, FramesFit, HaveTimes, InwardArePlain, ReceiversAgree, StateIsBounded}
+use Rattle.bridge_run.specs.Promises.{CleanKeepPayload, FramesFit, HaveTimes, InwardArePlain, MonitorMissesNothing, ReceiversAgree, StateIsBounded}
 use Rattle.bridge_run.specs.Theorem.{Normalized}
 use Rattle.bridge_run.proofs.Going.{Going}
 use Rattle.bridge_run.specs.Stopped.{StopsAtEnd, StopsAtPacket, StopsAtRecord, StopsAtTooMany}
@@ -43,6 +43,10 @@ module _ (settings : PlainSettings) (link : Link) where
   agree_in : (run : RunTrace) → RunIsWrittenSoundly settings link run → ReceiversAgree settings link run
   agree_in (one trace) sound = sound.agree
   agree_in (two trace mirror) sound = (sound.agree, sound.agree_behind, sound.through)
+
+  monitor_in : (run : RunTrace) → RunIsWrittenSoundly settings link run → MonitorMissesNothing settings link run
+  monitor_in (one trace) sound = sound.monitor
+  monitor_in (two trace mirror) sound = (sound.monitor, sound.monitor_behind)
 
   within_in : (run : RunTrace) → RunIsWrittenSoundly settings link run → StateIsBounded settings link run
   within_in (one trace) sound = sound.within
@@ -288,6 +292,7 @@ module _ (settings : PlainSettings) (head : Head) (a b : Moment) (engines : Engi
           head = head;
           run = run;
           agree = agree_in settings head.link run sound;
+          monitor = monitor_in settings head.link run sound;
           lawful = now.lawful;
           within = within_in settings head.link run sound;
           clean = clean_in settings head.link run sound;

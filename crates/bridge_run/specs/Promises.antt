@@ -4,13 +4,13 @@ use Rattle.std.specs.List.{AllByRecursion}
 use Rattle.wire_base.specs.declared.address.Link.{Link}
 use Rattle.pcap_file.specs.Records.{Packet}
 use Rattle.norm_settings.specs.Settings.{PlainSettings}
-use Rattle.norm_engine.specs.Agreement.{Agree}
+use Rattle.norm_engine.specs.Agreement.{Agree, AtEachHistory, MissesNothing}
 use Rattle.norm_engine.specs.Clean.{CleanIsKept}
 use Rattle.norm_engine.specs.Laws.{IsAlwaysWithin}
-use Rattle.norm_engine.specs.Sending.{ArePlainInwards, HasShortFrames}
+use Rattle.norm_engine.specs.Sending.{ArePlainInwards, AreReadAlike, HasShortFrames}
 use Rattle.both_sides.specs.Laws.{InwardGoesThrough}
 use Rattle.both_sides.specs.Traces.{mirrored}
-use Rattle.both_sides.specs.Cut.{AgreeAsWritten, CleanIsWritten, NoneIsLong, written}
+use Rattle.both_sides.specs.Cut.{AgreeAsWritten, CleanIsWritten, MissesNothingAsWritten, NoneIsLong, written}
 use Rattle.both_sides.specs.Runs.{RunTrace, one, two}
 
 -- In each era any two receivers of the family that start at the same offset deliver streams of which one is a prefix of the other, whichever of the frames
@@ -19,6 +19,14 @@ use Rattle.both_sides.specs.Runs.{RunTrace, one, two}
 abbrev pub ReceiversAgree : PlainSettings → Link → RunTrace → Type 0
 ReceiversAgree settings link (one trace) = AgreeAsWritten settings link trace
 ReceiversAgree settings link (two trace mirror) = Agree settings.hops link trace × Agree settings.hops link mirror × InwardGoesThrough trace mirror
+
+-- Before the first record and after each, and in each era with a base, a monitor that took every frame written inwards so far, kept each octet not yet read and
+-- delivered all that it could misses nothing: the stream of each receiver of the family that starts at the same offset is a prefix of the monitor's. It took the
+-- frames in the order in which they were written, whenever each arrived; or in any order, each in time. If both sides are protected, that holds of either side.
+abbrev pub MonitorMissesNothing : PlainSettings → Link → RunTrace → Type 0
+MonitorMissesNothing settings link (one trace) = AtEachHistory (MissesNothingAsWritten settings link) trace
+MonitorMissesNothing settings link (two trace mirror) =
+    AtEachHistory (MissesNothing settings.hops link) trace × AtEachHistory (MissesNothing settings.hops link) mirror
 
 -- Before the first record and after each, no more is held than the settings allow.
 abbrev pub StateIsBounded : PlainSettings → Link → RunTrace → Type 0
@@ -34,6 +42,12 @@ CleanKeepPayload settings link (two trace mirror) = CleanIsKept settings link tr
 abbrev pub InwardArePlain : PlainSettings → Link → RunTrace → Type 0
 InwardArePlain settings link (one trace) = ArePlainInwards settings.hops link (written settings link trace)
 InwardArePlain settings link (two trace mirror) = ArePlainInwards settings.hops link trace × ArePlainInwards settings.hops link mirror
+
+-- Any two receivers of the family read each packet written inwards alike, as a segment, a UDP datagram or an ICMP message; if both sides are protected, also each
+-- packet written outwards.
+abbrev pub MessagesAreReadAlike : PlainSettings → Link → RunTrace → Type 0
+MessagesAreReadAlike settings link (one trace) = AreReadAlike settings.hops link (written settings link trace)
+MessagesAreReadAlike settings link (two trace mirror) = AreReadAlike settings.hops link trace × AreReadAlike settings.hops link mirror
 
 -- No frame written has more than 65,549 octets. With an MTU, which only one engine may have, no packet written is longer than it, except ARP.
 abbrev pub FramesFit : PlainSettings → Link → RunTrace → Type 0

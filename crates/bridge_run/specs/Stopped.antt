@@ -45,7 +45,7 @@ pub record StopsAtRecord (settings : PlainSettings) (fault : InputFault) (offset
   pub place : offset ≡ place_behind walk
   pub given : Given (outputs_of settings.both head (puts settings head.link run)) before.sinks now.sinks
 
--- This fault is the first, and at most the octets of the head, record or block that has it were taken; if the source failed there, not all of them.
+-- This fault is the first, and at most the octets of its head, record or block were taken, or 12 of a shorter block; if the source failed there, not all of them.
 abbrev pub Faulty : PlainSettings → InputFault → (offset : ℕ) → (before now : Moment) → Type 0
 Faulty settings fault offset before now = StopsAtHead settings fault offset before now ⊎ StopsAtRecord settings fault offset before now
 

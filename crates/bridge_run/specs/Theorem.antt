@@ -1,5 +1,5 @@
--- The headline: what `run` has written when it returns 0 after reading a capture to its end. docs/STATEMENT.md has its first promise for a run by one engine
--- without an MTU, with every definition that it rests on.
+-- The headline: what `run` has written when it returns 0 after reading a capture to its end. docs/STATEMENT.md has its first two promises for a run by one
+-- engine without an MTU, with every definition that they rest on.
 use Rattle.std.specs.Prelude.{◌≡◌, ℕ, ◌-◌, ◌^◌, ◌≤◌, true, List, ◌++◌, length, Option}
 use Rattle.std.specs.Io.KnownBytes.{Appends}
 use Rattle.pcap_file.specs.declared.head.Head.{Head}
@@ -9,7 +9,7 @@ use Rattle.rule_book.specs.declared.last.Last.TheVariants.{End}
 use Rattle.norm_settings.specs.Settings.{PlainSettings}
 use Rattle.both_sides.specs.Puts.{count_put, octets_put, puts, report_of}
 use Rattle.both_sides.specs.Runs.{LawfulRun, RunHasOctets, RunTrace, packets_of}
-use Rattle.bridge_run.specs.Promises.{CleanKeepPayload, FramesFit, HaveTimes, InwardArePlain, ReceiversAgree, StateIsBounded}
+use Rattle.bridge_run.specs.Promises.{CleanKeepPayload, FramesFit, HaveTimes, InwardArePlain, MessagesAreReadAlike, MonitorMissesNothing, ReceiversAgree, StateIsBounded}
 
 -- A capture was normalized under these settings. `source` has the octets not yet read before the run, source' those after it; `capture` and `report` have the
 -- octets that each sink held before the run, capture' and report' those after it. None means that the octets are unknown, and then nothing is claimed of them.
@@ -21,6 +21,12 @@ pub record Normalized (settings : PlainSettings) (source source' capture capture
   -- that has ended is not the shorter one, whichever of the frames written inwards in that era reach each of them in time, how often and in which order. An era
   -- without a base sends no octet, SYN or FIN inwards. If both sides are protected, this holds of each engine.
   pub agree : ReceiversAgree settings head.link run
+  -- In each era with a base, before the first record and after each, a monitor misses nothing. It took every frame written inwards in the era so far, and kept
+  -- each octet not yet read where none waited, and a FIN if it had none. It took them in the order in which they were written, from an offset of at most 2^31 on,
+  -- and delivered after each all that it could; or in any order, each in time, and has delivered all that it can. The stream of each receiver from the same
+  -- offset, which any of these frames reach in time, is a prefix of the monitor's; if it has ended, both are equal and the monitor's has ended. With both sides
+  -- protected this holds of each engine.
+  pub monitor : MonitorMissesNothing settings head.link run
   -- The trace is the lawful one: each record has the entry and the frames that the rules require, so each drop and rewrite names a rule whose condition holds.
   pub lawful : LawfulRun settings head.link run
   -- Before the first record and after each, no engine holds more state than the settings allow, counted from its trace.
@@ -45,3 +51,9 @@ pub record Normalized (settings : PlainSettings) (source source' capture capture
   pub frames_written : Appends capture capture' (head_octets head ++ octets_put head.order (puts settings head.link run))
   pub report_written : let output = puts settings head.link run in
       Appends report report' (report_of settings.both output (End (length (packets_of run)) (count_put output)))
+
+-- Of each capture that was normalized any two receivers read alike each packet written inwards.
+abbrev pub NormalizedIsReadAlike : Type 0
+NormalizedIsReadAlike =
+    (settings : PlainSettings) (source source' capture capture' report report' : Option (List ℕ)) (n : Normalized settings source source' capture capture' report report')
+    → MessagesAreReadAlike settings n.head.link n.run

@@ -3,6 +3,9 @@ ghost use Rattle.std.specs.Prelude.{◌⊎◌};
 ghost use Rattle.bridge_run.specs.Rows.{Leaves, UnderWords, UnderLoad, EndsSummed, EndsSummedInPart, EndsRefused, EndsFaulty, EndsCut, EndsUnread, EndsUnwritten, EndsUntold};
 ghost use Rattle.bridge_run.specs.Stopped.{Finishes, SaysOnly};
 ghost use Rattle.bridge_run.specs.Stops.{memory_line};
+ghost use Rattle.bridge_run.specs.Theorem.{NormalizedIsReadAlike};
+
+use norm_engine::laws::messages_are_read_alike;
 
 /// Proves that at 0 the capture was normalized, or the report was given the summary of a load, and
 /// no fault count rose.
@@ -55,3 +58,11 @@ pub fn failed_reports_leave_a_prefix()
 pub fn want_of_memory_leaves_a_line()
     ensures { Leaves 8 (λ words before now. SaysOnly memory_line before now) }
 {}
+
+/// Proves that at 0 any two receivers of the family read alike each UDP and ICMP message, and each
+/// segment, that was written inwards.
+pub fn written_messages_are_read_alike()
+    ensures { NormalizedIsReadAlike }
+{
+    messages_are_read_alike();
+}

@@ -21,7 +21,7 @@ use crate::stop::{
     tell_words,
 };
 use both_sides::Relay;
-use both_sides::relay_laws::{runs_are_written_soundly, runs_go_on};
+use both_sides::laws::{runs_are_written_soundly, runs_go_on};
 use capture_input::Input;
 use capture_input::laws::{
     fault_excludes_end, fault_is_one, head_stops_are_faults, nothing_is_left, stops_are_faults,

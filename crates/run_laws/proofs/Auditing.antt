@@ -23,7 +23,7 @@ use Rattle.norm_engine.specs.Sending.{HasShortFrames}
 use Rattle.norm_engine.specs.Trace.{Lawful}
 use Rattle.both_sides.specs.Cut.{WrittenWhole, written}
 use Rattle.both_sides.specs.Frames.{frame_count, frames_octets, item_octets}
-use Rattle.both_sides.specs.RelayLaws.{OnePutsItsTrace}
+use Rattle.both_sides.specs.RunLaws.{OnePutsItsTrace}
 use Rattle.both_sides.specs.Puts.{Put, count_put, octets_put, puts, report_of}
 use Rattle.both_sides.specs.Runs.{LawfulRun, RunHasOctets, RunTrace, one, packets_of, two}
 use Rattle.bridge_run.specs.Promises.{FramesFit, HaveTimes}

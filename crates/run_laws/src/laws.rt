@@ -2,7 +2,7 @@
 ghost use Rattle.run_laws.specs.Audit.{RunsAreAuditedYes};
 ghost use Rattle.run_laws.specs.ReadBack.{RunsAreReadBack};
 
-use both_sides::relay_laws::{one_puts_its_trace, unbounded_is_written_whole};
+use both_sides::laws::{one_puts_its_trace, unbounded_is_written_whole};
 use norm_engine::laws::items_are_counted;
 use pcap_file::laws::{head_is_read_back, record_is_read_back};
 use run_audit::laws::{answers_are_one, items_are_written_in_order, written_is_yes};
