@@ -13,15 +13,16 @@ use Rattle.era_state.specs.Offsets.{off}
 use Rattle.era_state.specs.Quantities.{base_of, acked, first, end_of}
 use Rattle.era_state.specs.Emitted.{HasNoOtherBase}
 use Rattle.era_state.specs.Silence.{IsSilent, SilenceChangesNothing}
+use Rattle.receiver_model.specs.Monitors.{MonitorsMissNothing}
 use Rattle.receiver_model.specs.Agreement.{OctetAt, FinAt, HasSynBefore, TellOneStream, MembersAgree}
 use Rattle.era_agreement.specs.Sent.{is_era, inward_packets, written_as, segments_in, written_in, place_of, placed_at, inward_places}
-use Rattle.era_agreement.specs.Agreement.{IsSilentPacket, EraIsSound}
+use Rattle.era_agreement.specs.Agreement.{IsSilentPacket, EraIsSound, MissesNothingInTime}
 use Rattle.era_agreement.proofs.Facts.{EraLaws, IsTold, told_still, other_before}
 use Rattle.era_agreement.proofs.Told.{Each, Told}
 use Rattle.run_audit.specs.Faults.{in_stream, lacks_base, has_other_syn, has_other_octet, has_other_fin, IsWellReadAs, IsFaultless}
 use Rattle.run_audit.specs.FirstFault.{AreFaultless}
 use Rattle.run_audit.specs.Frames.{Frame, is_based, is_inward, sent}
-use Rattle.run_audit.specs.Sound.{FaultlessAgrees}
+use Rattle.run_audit.specs.Sound.{FaultlessAgrees, FaultlessMissesNothing}
 use Rattle.run_audit.proofs.Telling.{IsRight, EndsBehind, told, silent_unbased, ends_on, ends_silent, ends_outward}
 
 -- the laws that are cited
@@ -127,10 +128,10 @@ era_tells laws hops era base (f ∷ older) h only = by (era_tells laws hops era 
 
     -- the frame went outwards
     outward : Rest → (o : Option Segment) → HasNoOtherBase base (ws ++ (written_as false o ++ [])) → EraTells hops base (ws ++ (written_as false o ++ [])) (zs ++ []) (ps ++ [])
-    outward go None only = let before = go (other_before laws.eras base ws [] only) in goes_on laws.eras hops base ws [] zs [] ps [] before tt (still base ws before.ends) (All-nil (λ q. Plain hops q))
+    outward go None only = let before = go (other_before laws.eras.remains base ws [] only) in goes_on laws.eras hops base ws [] zs [] ps [] before tt (still base ws before.ends) (All-nil (λ q. Plain hops q))
     outward go (Some s) only =
         let w : Written = written_of false s in
-        let before = go (other_before laws.eras base ws (w ∷ []) only) in
+        let before = go (other_before laws.eras.remains base ws (w ∷ []) only) in
         goes_on laws.eras hops base ws (w ∷ []) zs [] ps [] before tt (ends_outward base ws w refl before.ends) (All-nil (λ q. Plain hops q))
 
     -- the frame went inwards
@@ -159,7 +160,7 @@ era_tells laws hops era base (f ∷ older) h only = by (era_tells laws hops era 
         only_one = let Q : Option Segment → Type 0 = λ o. HasNoOtherBase base (ws ++ (written_as true o ++ [])) in subst Q is only
 
         before : EraTells hops base ws zs ps
-        before = go (other_before laws.eras base ws (w ∷ []) only_one)
+        before = go (other_before laws.eras.remains base ws (w ∷ []) only_one)
 
         right : IsRight ws w
         right = right_of hops era older f s h.1 side named is
@@ -283,3 +284,16 @@ faultless_agrees laws members hops frames h era = by (base_of ws) refl
     by (Some base) e =
         members hops base (inward_places era base (sent frames)) (inward_packets era (sent frames))
         (one_stream hops base ws (inward_places era base (sent frames)) (inward_packets era (sent frames)) (era_tells laws hops era base frames h (λ number f. let same : Some number ≡ Some base = sym f ∙ e in cc same)))
+
+faultless_misses_now : Laws → MonitorsMissNothing → (hops : ℕ) (frames : List Frame) → AreFaultless hops frames → MissesNothingInTime hops (sent frames)
+faultless_misses_now laws monitors hops frames h era base e =
+    let ws = written_in era (sent frames) in
+    let places = inward_places era base (sent frames) in
+    let packets = inward_packets era (sent frames) in
+    monitors.in_time hops base places packets
+    (one_stream hops base ws places packets (era_tells laws hops era base frames h (λ number f. let same : Some number ≡ Some base = sym f ∙ e in cc same)))
+
+pub faultless_misses : Laws → MonitorsMissNothing → FaultlessMissesNothing
+faultless_misses laws monitors hops [] h = faultless_misses_now laws monitors hops [] h
+faultless_misses laws monitors hops (f ∷ older) h =
+    (faultless_misses laws monitors hops older h.0, faultless_misses_now laws monitors hops (f ∷ older) h)

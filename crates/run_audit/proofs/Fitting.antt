@@ -29,8 +29,8 @@ use Rattle.tcp_norm.specs.Rows as era
 use Rattle.tcp_norm.specs.Segments.{CallsAreEmitted}
 use Rattle.tcp_norm.specs.Steps.{idle_end, idled}
 use Rattle.tcp_norm.specs.Views.{View, head_of, idle_at, number_of, segments_of, view_of}
-use Rattle.tcp_norm.proofs.Nears.{all_filter}
-use Rattle.tcp_norm.proofs.Splits.{all_map, all_weaker}
+use Rattle.tcp_norm.proofs.Numbers.{all_filter}
+use Rattle.tcp_norm.proofs.Lists.{all_map, all_weaker}
 use Rattle.norm_engine.specs.Calls.{expiry_in, flow_calls, outcome_in, packet_of, segment_after, with_asked}
 use Rattle.norm_engine.specs.Clean.{HasOctets}
 use Rattle.norm_engine.specs.Items.{Item, entries, now_with}

@@ -27,12 +27,12 @@ use Rattle.tcp_norm.specs.Outcomes.{begun_with, call_of, ended_with, ends, outco
 use Rattle.tcp_norm.specs.Lives.{AreMade, has_ended, made_of, writes_in}
 use Rattle.tcp_norm.specs.Segments.{AreOfSegments, AsksSegment, IsSegment}
 use Rattle.tcp_norm.specs.Steps.{Does, IsStep, listed}
-use Rattle.tcp_norm.proofs.EmittingCalls.{unwritten}
-use Rattle.tcp_norm.proofs.LivesEffects.{effect_made}
-use Rattle.tcp_norm.proofs.LivesLaws.{lasts_made}
-use Rattle.tcp_norm.proofs.LivesLists.{among_is}
-use Rattle.tcp_norm.proofs.Sent.{out_does}
-use Rattle.tcp_norm.proofs.Splits.{all_map}
+use Rattle.tcp_norm.proofs.EmittedCalls.{unwritten}
+use Rattle.tcp_norm.proofs.LiveCalls.{effect_made}
+use Rattle.tcp_norm.proofs.LiveCounts.{lasts_made}
+use Rattle.tcp_norm.proofs.Numbers.{among_is}
+use Rattle.tcp_norm.proofs.OutboundSegments.{out_does}
+use Rattle.tcp_norm.proofs.Lists.{all_map}
 use Rattle.norm_engine.specs.Agreement.{sent_in}
 use Rattle.norm_engine.specs.Calls.{flow_calls}
 use Rattle.norm_engine.specs.Items.{Item}

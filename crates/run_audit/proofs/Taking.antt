@@ -14,7 +14,7 @@ use Rattle.pcap_file.specs.Records.{Packet, captured, front_of, packet_of, sized
 use Rattle.pcap_file.specs.Capture.{ReadsTo}
 use Rattle.ip_rules.specs.Datagrams.{AreOctets}
 use Rattle.ip_rules.proofs.Octets.{dropped, four_below, taken}
-use Rattle.tcp_norm.proofs.Splits.{all_after, all_before, all_map, all_weaker}
+use Rattle.tcp_norm.proofs.Lists.{all_after, all_before, all_map, all_weaker}
 use Rattle.norm_engine.specs.Clean.{HaveOctets}
 use Rattle.norm_engine.specs.Items.{Item, packets}
 use Rattle.run_audit.specs.Lawful.{RecordFits, RunIsYes, WrittenIsYes, frames_written, record_with, records_written}

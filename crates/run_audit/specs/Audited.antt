@@ -15,6 +15,7 @@ use Rattle.run_audit.specs.Named.{eras_named}
 use Rattle.run_audit.specs.Reported.{IsFinished, IsUnfinished}
 use Rattle.run_audit.specs.Told.{Tells}
 use Rattle.run_audit.specs.Words.{asked}
+use Rattle.run_audit.specs.Sound.{AlwaysMissesNothing}
 
 -- a source before and after an audit: the octets that it had left, if they are known, and its counts of faults
 pub record Seen : Type 0 where
@@ -68,12 +69,14 @@ pub record Answered (words : List (List ℕ)) (capture report : Seen) (old new :
   pub says : Says words capture report answer
   pub told : Tells answer old new before now answered
 
--- The octets are a capture, and in each era that these entries name all receivers of the family agree on the frames that it has there.
+-- The octets are a capture, and in each era that these entries name all receivers of the family agree on the frames that it has there; and before the first frame
+-- and after each, a monitor that heard those so far in time misses nothing.
 pub record FramesAgree (hops : ℕ) (entries : List PlainEntry) (capture : List ℕ) : Type 0 where
   pub head : Head
   pub packets : List Packet
   pub is : IsCapture capture head packets
   pub agree : Agree hops (sent (owned head.link (owners entries) (frames_of packets)))
+  pub monitor : AlwaysMissesNothing hops (owned head.link (owners entries) (frames_of packets))
 
 -- the answer is neither that a source failed nor that memory could not be allocated: it is one about the words and the two files alone
 abbrev pub IsExact : Answer → Type 0

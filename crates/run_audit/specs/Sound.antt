@@ -3,13 +3,22 @@ use Rattle.std.specs.Prelude.{◌≡◌, ℕ, true, List, [], ◌∷◌, map, No
 use Rattle.wire_base.specs.Segments.{Written}
 use Rattle.era_state.specs.Quantities.{base_of, acked}
 use Rattle.era_agreement.specs.Sent.{written_in}
-use Rattle.era_agreement.specs.Agreement.{Agree}
+use Rattle.era_agreement.specs.Agreement.{Agree, MissesNothingInTime}
 use Rattle.run_audit.specs.Frames.{Frame, is_inward, sent}
 use Rattle.run_audit.specs.FirstFault.{AreFaultless}
 
 -- In each era any two receivers of the family behind at most `hops` routers agree on the frames that went inwards, each at its offset.
 abbrev pub FaultlessAgrees : Type 0
 FaultlessAgrees = (hops : ℕ) (frames : List Frame) → AreFaultless hops frames → Agree hops (sent frames)
+
+-- Before the first of these frames and after each, a monitor that heard those so far in time misses nothing.
+abbrev pub AlwaysMissesNothing : (hops : ℕ) → List Frame → Type 0
+AlwaysMissesNothing hops [] = MissesNothingInTime hops (sent [])
+AlwaysMissesNothing hops (f ∷ older) = AlwaysMissesNothing hops older × MissesNothingInTime hops (sent (f ∷ older))
+
+-- this holds of frames without a fault
+abbrev pub FaultlessMissesNothing : Type 0
+FaultlessMissesNothing = (hops : ℕ) (frames : List Frame) → AreFaultless hops frames → AlwaysMissesNothing hops frames
 
 -- the segments of all frames of an era, counted or not
 abbrev pub all_written : (era : ℕ) → List Frame → List Written
