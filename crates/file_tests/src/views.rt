@@ -271,7 +271,7 @@ end 3 5
 
 const MADE_LINES: &str =
     "1 1970-01-01T00:00:01.000007000Z in 198.51.100.7:40000 > 10.0.0.1:80 tcp PA seq 1000 ack 5001 len 4 fix era 1 C_PROBE (a keep-alive is sent, in place of the segment or after a RST) frames 2; frame 2 probe tcp S seq 999 ack 0 len 0
-2 1970-01-01T00:00:02.000007000Z in 198.51.100.7:40000 > 10.0.0.1:80 tcp PA seq 1000 ack 5001 len 4 fix era 1 F_DONE (the fragment completes its datagram, which is written as one packet) frames 1; frame 1 datagram tcp PA seq 1000 ack 5001 len 4
+2 1970-01-01T00:00:02.000007000Z in 198.51.100.7:40000 > 10.0.0.1:80 tcp PA seq 1000 ack 5001 len 4 fix era 1 F_DONE (the fragment completes its datagram, which is judged as one packet) frames 1; frame 1 datagram tcp PA seq 1000 ack 5001 len 4
 3 1970-01-01T00:00:03.000007000Z in 198.51.100.7:40000 > 10.0.0.1:80 tcp PA seq 1000 ack 5001 len 4 pass era 1 frames 1
 ";
 
@@ -279,7 +279,7 @@ const MADE_BOTH_LINES: &str =
     "1 1970-01-01T00:00:01.000007000Z in 198.51.100.7:40000 > 10.0.0.1:80 tcp PA seq 1000 ack 5001 len 4 fix era 1 C_PROBE (a keep-alive is sent, in place of the segment or after a RST) frames 2
 1/1 1970-01-01T00:00:01.000007000Z out 198.51.100.7:40000 > 10.0.0.1:80 tcp PA seq 1000 ack 5001 len 4 pass era 1 frames 1
 1/2 1970-01-01T00:00:01.000007000Z out 198.51.100.7:40000 > 10.0.0.1:80 tcp PA seq 1000 ack 5001 len 4 pass era 1 frames 1; frame 1 probe tcp S seq 999 ack 0 len 0
-2 1970-01-01T00:00:02.000007000Z in 198.51.100.7:40000 > 10.0.0.1:80 tcp PA seq 1000 ack 5001 len 4 fix era 1 F_DONE (the fragment completes its datagram, which is written as one packet) frames 1
+2 1970-01-01T00:00:02.000007000Z in 198.51.100.7:40000 > 10.0.0.1:80 tcp PA seq 1000 ack 5001 len 4 fix era 1 F_DONE (the fragment completes its datagram, which is judged as one packet) frames 1
 2/3 1970-01-01T00:00:02.000007000Z out 198.51.100.7:40000 > 10.0.0.1:80 tcp PA seq 1000 ack 5001 len 4 fix era 1 T_OLD (octets that the receiver has acknowledged are cut off) frames 1; frame 1 datagram tcp PA seq 1000 ack 5001 len 4
 3 1970-01-01T00:00:03.000007000Z in 198.51.100.7:40000 > 10.0.0.1:80 tcp PA seq 1000 ack 5001 len 4 pass era 1 frames 1
 3/4 1970-01-01T00:00:03.000007000Z out 198.51.100.7:40000 > 10.0.0.1:80 tcp PA seq 1000 ack 5001 len 4 fix era 1 C_PROBE (a keep-alive is sent, in place of the segment or after a RST) frames 2; frame 2 probe tcp S seq 999 ack 0 len 0
@@ -309,42 +309,57 @@ fn frames_that_the_first_engine_made_are_named(rt: HostRuntime) -> Result<(), Fa
     Ok(())
 }
 
-/// The last line of a view of a report of two engines, or of one with a line of a second.
+/// The last line and the status of a view of a report of two engines, or of one with a line of a second.
 #[test]
 fn views_of_two_engines_stop(rt: HostRuntime) -> Result<(), Fail> {
     let alloc = rt.alloc();
     let rows = [
-        ("norm 2 both\n1 in pass 1\n2 in pass 1\n", "stop report 3\n"),
-        ("norm 2 both\n1 in pass 1\nend 1 0\n", "stop report 3\n"),
+        (
+            "norm 2 both\n1 in pass 1\n2 in pass 1\n",
+            "stop report 3\n",
+            9,
+        ),
+        ("norm 2 both\n1 in pass 1\nend 1 0\n", "stop report 3\n", 9),
         (
             "norm 2 both\n1 in pass 1\n/2 in pass 1\n",
             "stop report 3\n",
+            9,
         ),
         (
             "norm 2 both\n1 in drop 0\n/1 in pass 1\n",
             "stop report 3\n",
+            9,
         ),
-        ("norm 2\n1 in pass 1\n/1 in pass 1\n", "stop report 3\n"),
+        ("norm 2\n1 in pass 1\n/1 in pass 1\n", "stop report 3\n", 9),
         (
             "norm 2 both\n1 in drop 0\n2 - drop 0\n3 in pass 2\n/1 in pass 1\n/2 in pass 1\nend 3 2\nx",
             "stop report 8\n",
+            9,
         ),
         (
             "norm 2 both\n1 in drop 0\n2 in drop 0\n3 in drop 0\n4 in drop 0\n",
             "no record 4\n",
+            1,
         ),
         (
             "norm 2 both\n1 in drop 0\n2 in drop 0\nend 2 0\n",
             "no record 3\n",
+            1,
         ),
-        ("norm 2 both\n1 in pass 3\n/1 in pass 3\n", "no frame 3\n"),
+        (
+            "norm 2 both\n1 in pass 3\n/1 in pass 3\n",
+            "no frame 3\n",
+            1,
+        ),
         (
             "norm 2 both\n1 in drop 0\n2 in pass 1\n/1 out pass 1\n3 in drop 0\nend 3 1\n",
             "no frame 2\n",
+            1,
         ),
     ];
-    for (report, line) in rows {
-        let (_, text) = run_viewed(alloc, &FILES, report, [0; 4])?;
+    for (report, line, wanted) in rows {
+        let (status, text) = run_viewed(alloc, &FILES, report, [0; 4])?;
+        assert_eq!(rt; status, wanted);
         assert_eq!(rt; text.as_slice(), line.as_bytes());
     }
     Ok(())

@@ -1,5 +1,4 @@
-//! The store compared with a plain map from chain and offset to octet, and a chain that takes all
-//! cells.
+//! The store compared with a plain map from chain and offset to octet.
 ghost use Rattle.std.specs.Prelude.{◌≡◌, ◌+◌, ◌<◌, ◌≤◌, ◌^◌, length};
 
 use retain_store::{ChainId, Retain};
@@ -35,42 +34,6 @@ fn overlapped(store: &mut Retain) -> Option<[u8; 5]>
 fn the_octet_that_came_first_stays(rt: HostRuntime) -> Result<(), Fail> {
     let mut store = Retain::open(rt.alloc(), 3, 2)?;
     assert!(rt; overlapped(&mut store) == Some(*b"abcZW"));
-    Ok(())
-}
-
-#[test]
-fn calls_at_the_end_of_a_long_chain_walk_nothing(rt: HostRuntime) -> Result<(), Fail> {
-    let mut store = Retain::open(rt.alloc(), 65_536, 1)?;
-    let mut octets = [7; 256];
-    for block in 0..65_536 {
-        let from = 256 * block;
-        assert_eq!(rt; store.need(ChainId(0), from, 256), 1);
-        assert!(rt; store.free() >= 1);
-        assert_eq!(rt; store.place_counting(ChainId(0), from, &octets), 256);
-        assert!(rt; !store.settle(ChainId(0), from, &mut octets));
-    }
-    assert_eq!(rt; store.free(), 0);
-    assert_eq!(rt; store.held(ChainId(0)), 65_536);
-    // A call at the end of the chain starts its walk there, even while the front is removed.
-    for at in 0..1_000_000 {
-        store.forget_below(ChainId(0), at);
-        assert!(rt; !store.settle(ChainId(0), 256 * 65_535, &mut octets[..1]));
-    }
-    assert_eq!(rt; store.free(), 3_906);
-    Ok(())
-}
-
-#[test]
-fn calls_anywhere_in_a_long_chain_walk_little(rt: HostRuntime) -> Result<(), Fail> {
-    let mut store = Retain::open(rt.alloc(), 65_536, 1)?;
-    // Each block is far from the one placed before it, and far from its neighbours in the chain.
-    for index in 0..65_536 {
-        let from = 16_384 * (40_503 * index % 65_536);
-        assert_eq!(rt; store.need(ChainId(0), from, 1), 1);
-        assert!(rt; store.free() >= 1);
-        assert_eq!(rt; store.place_counting(ChainId(0), from, b"a"), 1);
-    }
-    assert_eq!(rt; store.free(), 0);
     Ok(())
 }
 

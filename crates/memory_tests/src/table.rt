@@ -31,8 +31,9 @@ fn a_table_of_one_hands_the_second_pair_back(rt: HostRuntime) -> Result<(), Fail
     Ok(())
 }
 
+// A search from end to end would look at more than 10^11 slots.
 #[test]
-fn a_full_table_looks_up_fast(rt: HostRuntime) -> Result<(), Fail> {
+fn eight_million_lookups_in_a_full_table_end_within_a_minute(rt: HostRuntime) -> Result<(), Fail> {
     let mut table = LinkedTable::open(rt.alloc(), 65_536, 0)?;
     for number in 0..65_536 {
         let key = Number(number);

@@ -96,3 +96,69 @@ fn is_regular(file: &File) -> bool {
         Err(_) => true,
     }
 }
+
+#[cfg(test)]
+mod tests {
+    use super::opened;
+    use bridge_run::run;
+    use edge_io::{FileSink, FileSource, MemSink};
+    use norm_settings::Names;
+    use std::alloc::{AllocError, Global};
+    use std::test::Fail;
+    use std::{env, fs, process};
+
+    // The capture of the stored run: one UDP message that passes. Norm writes a head as this one is.
+    const SAMPLE: [u8; 70] = [
+        0xd4, 0xc3, 0xb2, 0xa1, 2, 0, 4, 0, 0, 0, 0, 0, 0, 0, 0, 0, 0, 0, 4, 0, 101, 0, 0, 0, 0, 0,
+        0, 0, 0, 0, 0, 0, 30, 0, 0, 0, 30, 0, 0, 0, 0x45, 0, 0, 30, 0, 1, 0, 0, 64, 17, 0x46, 0x93,
+        198, 51, 100, 7, 10, 0, 0, 1, 0x9c, 0x40, 0, 53, 0, 10, 0xc6, 0xbf, b'h', b'i',
+    ];
+
+    // Returns a name of a file of this test in the folder for temporary files.
+    fn name_of(rt: &HostRuntime, end: &str) -> Result<String, Fail> {
+        let name = format!(in rt.alloc(); "norm_{}_{end}", process::id(rt.process()))?;
+        Ok(
+            env::temp_dir(rt)?
+                .join(rt.alloc(), name.as_str())?
+                .into_string(),
+        )
+    }
+
+    fn words_of(alloc: Global, words: &[&str]) -> Result<Vec<String>, AllocError> {
+        let mut texts = Vec::new(alloc);
+        for word in words {
+            texts.push(String::from_str(alloc, word)?)?;
+        }
+        Ok(texts)
+    }
+
+    // Normalizes the file of one name into that of the other, and returns the status.
+    fn normalized(rt: &HostRuntime, names: &Names) -> Result<u8, Fail> {
+        let words = words_of(rt.alloc(), &["run", "in", "out", "10.0.0.0/8"])?;
+        let mut report = MemSink::new(rt.alloc(), 100, Vec::new(rt.alloc()))?;
+        let (input, output) = opened(rt, names);
+        Ok(run(
+            rt.alloc(),
+            &words,
+            &mut FileSource::over(input),
+            &mut FileSink::over(output),
+            &mut report,
+        ))
+    }
+
+    #[test]
+    fn the_capture_written_is_the_one_read(rt: HostRuntime) -> Result<(), Fail> {
+        let names = Names {
+            input: name_of(&rt, "in")?,
+            output: name_of(&rt, "out")?,
+        };
+        fs::write(&rt, names.input.as_str(), SAMPLE.as_slice())?;
+        let status = normalized(&rt, &names)?;
+        let written = fs::read(&rt, names.output.as_str())?;
+        fs::remove_file(&rt, names.input.as_str())?;
+        fs::remove_file(&rt, names.output.as_str())?;
+        assert_eq!(rt; status, 0);
+        assert!(rt; written.as_slice() == SAMPLE.as_slice());
+        Ok(())
+    }
+}

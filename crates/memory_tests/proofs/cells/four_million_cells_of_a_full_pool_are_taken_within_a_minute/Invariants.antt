@@ -1,6 +1,6 @@
 use Rattle.std.proofs.Common.{◌-◌}
 use Rattle.cell_pool.proofs.Steps.{HasFirst, IsFilled}
-use Rattle.memory_tests.proofs.cells.a_full_pool_takes_and_gives_back_without_a_search.Given as goal
+use Rattle.memory_tests.proofs.cells.four_million_cells_of_a_full_pool_are_taken_within_a_minute.Given as goal
 
 abbrev pub invariant-loop-block : goal.invariant-loop-block
 invariant-loop-block g l = IsFilled l.pool (262144 - l.block) l.block l.last

@@ -1,6 +1,6 @@
 use Rattle.std.proofs.Common.{◌≡◌, ◌+◌, ◌-◌, suc, [], None, refl, arith}
 use Rattle.cell_pool.proofs.Steps.{opened, in_range, takes, cell_after, gives, has_first, fill_begins, fill_place, fill_step}
-use Rattle.memory_tests.proofs.cells.a_full_pool_takes_and_gives_back_without_a_search.Goals as goal
+use Rattle.memory_tests.proofs.cells.four_million_cells_of_a_full_pool_are_taken_within_a_minute.Goals as goal
 
 pub loop-block-init : goal.loop-block-init
 loop-block-init g c = fill_begins (opened c.in_ok-pool.ensures)
