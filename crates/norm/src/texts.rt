@@ -13,9 +13,9 @@ usage: norm run [OPTION..] IN OUT PREFIX..
 
   IN      the capture to read: classic pcap or pcapng, of Ethernet or raw IP; its
           records are in the order in which the packets crossed the link
-  OUT     the normalized capture to write, as classic pcap; a file that is there is
-          emptied before IN is judged, but neither IN by another name, nor the file
-          of another run, nor the file or pipe that the report goes to
+  OUT     the normalized capture to write, as classic pcap; norm truncates a file
+          that is there before it judges IN, and refuses (6) IN under another name,
+          the file of another run, and the file or pipe that the report goes to
   PREFIX  trusted addresses, as 10.0.0.0/8: four numbers, a slash, a length;
           from 1 to 16 prefixes
   SEED    0 to 18446744073709551615: the number that a load is made from
@@ -39,20 +39,21 @@ Options go before IN, each at most once, as --name=N or --name N, where N is
   --both          default off: protect both sides: a second engine reads what the first writes
 
 With --inside a packet that the capturing machine forwards must be in IN once:
-capture with -f inbound behind each -i of dumpcap, and order the records with
+capture with -f inbound after each -i of dumpcap, and order the records with
 reordercap.
 
 The report goes to standard output: a line for each record, with its side, the
-verdict, the number of frames written and the rules behind the verdict, and a
-last line that says how the run ended; norm-report(5) explains each word. A
-report that ends neither with an end line nor with a stop line is of a run that
-was killed: discard OUT. O is the offset of the first octet of the head, record or
-block at which the run stopped. With --both, which goes neither with --inside nor
-with --mtu, a line with a slash follows for each frame of the first engine, and a
-run holds at most 2147483647 records and twice as much memory.
+verdict, the number of frames written and the rules that hold, and a last line
+that says how the run ended; norm-report(5) explains each word. A report that
+ends neither with an end line nor with a stop line, each with its line feed, is
+that of a run that was killed, or that could not write it: discard OUT. O is the
+offset of the first octet of the head, record or block at which the run stopped.
+With --both, which goes neither with --inside nor with --mtu, a line with a slash
+follows for each frame of the first engine, and a run reads at most 2147483647
+records and takes twice as much memory.
 
 A load reads and writes no file: its records are made from SEED, and judged with
-the standard options and the prefix 10.0.0.0/8. Its report comes at its end and
+the standard options and the prefix 10.0.0.0/8. Its report is printed at its end and
 has the lines load SEED COUNT, records R, packets P and eras E, a line rule NAME N
 for each rule that was named, in the order of first use, and the line end. Its
 statuses are 0, 2, 7 and 8.
@@ -75,11 +76,11 @@ Refused words, in the order in which they are tested, each N with an example:
   1  another form, or an option unknown, twice or out of range: norm run a
   5  IN and OUT are one word: norm run a a 10.0.0.0/8
   3  over 16 prefixes: norm run a b 10.{0..16}.0.0/16
-  2  the first faulty prefix stops the reading: norm run a b 10.0.0/8
+  2  the first malformed prefix stops the reading: norm run a b 10.0.0/8
 
 Usual mistakes of which N is 1, each with the word that is wrong:
 
-     --offload      an option behind IN: norm run a b 10.0.0.0/8 --offload
+     --offload      an option after IN: norm run a b 10.0.0.0/8 --offload
      --hop          no option has this name: norm run --hop 3 a b 10.0.0.0/8
      --hops=300     out of range: norm run --hops=300 a b 10.0.0.0/8
      --hops         no number follows: norm run --hops a b 10.0.0.0/8

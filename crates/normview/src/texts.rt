@@ -27,7 +27,7 @@ and no summary:
   --only WORD  records with this verdict: pass, fix, hold or drop
   --json       a JSON object for each of these records; without a choice for all records and eras
 
-The line of a record has these parts; what a record has not is left out:
+The line of a record has these parts; what a record lacks is left out:
 
   N TIME SIDE SRC:PORT > DST:PORT PROTO FLAGS seq S ack A len L VERDICT
     era E RULE (sentence) frames F; frame I FIELD FROM > TO, FIELD FROM > TO; ..
