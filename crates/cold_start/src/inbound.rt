@@ -13,7 +13,7 @@ use wire_base::sequence_before;
 pub enum ColdAnswer {
     /// It begins this era.
     Begin(Offered),
-    /// It is dropped, and this probe finds out whether the host holds the connection.
+    /// This probe is sent in its place, to find out whether the host holds the connection.
     Probe(Probe),
     /// T_COLD: it is dropped.
     Refuse,

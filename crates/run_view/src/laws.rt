@@ -9,7 +9,7 @@ pub fn eras_are_rows()
 {}
 
 /// States that a view stops only for want of memory if its words are accepted, the three files are
-/// those of a finished run and nothing fails.
+/// an input, an output of its link and a report of the same items, and nothing fails.
 pub fn runs_are_viewed()
     ensures { RunsAreViewed }
 {}

@@ -17,8 +17,9 @@
 //! whole lines behind it, the first of those that end a view of the items; if there are any, the
 //! three files end there. Nothing is claimed of a source or an output without known octets. Laws:
 //! each quantity of an era of either engine is a first, last, count or sum over all items
-//! (`eras_are_rows`); a view of the files of a finished run stops only for want of memory, or if a
-//! count of faults rises (`runs_are_viewed`).
+//! (`eras_are_rows`); a view of an input, an output of its link and a report of the same items stops
+//! only for want of memory, or if a count of faults rises or is at its last value
+//! (`runs_are_viewed`).
 //!
 //! Choices: counts of 64 bits stand still at the last value. A frame of a line of the second engine
 //! is compared with the record, since what the first engine wrote is in no file. A frame that norm
