@@ -1,0 +1,1 @@
+"""Tests of the adapters in contrib/, one module a folder; check/tools runs them."""

@@ -1,0 +1,262 @@
+"""The jq filters of contrib/jq and contrib/community-id: the fields that each published format has, of the right type, with the values of normview."""
+
+import datetime
+import importlib.machinery
+import importlib.util
+import ipaddress
+import itertools
+import json
+import os
+import re
+
+from adapters.common import CONTRIB, Test, example_runs, other_records, random_runs, record_count, run, write
+
+# How many of the random runs are taken: a filter is the same for each record.
+ONE_OF = 10
+
+
+def is_address(value):
+    try:
+        return bool(ipaddress.ip_address(value))
+    except ValueError:
+        return False
+
+
+def is_port(value):
+    return type(value) is int and 0 <= value < 65536
+
+
+def is_text(value):
+    return type(value) is str and value != ""
+
+
+def one_of(*values):
+    return lambda value: value in values
+
+
+def some_of(*values):
+    return lambda value: type(value) is list and value != [] and set(value) <= set(values)
+
+
+def like(pattern):
+    return lambda value: type(value) is str and re.fullmatch(pattern, value) is not None
+
+
+# A field of each format, what it must be, and the name in normview's output without which it may be absent.
+EVE = [
+    ("timestamp", like(r"\d{4}-\d\d-\d\dT\d\d:\d\d:\d\d\.\d{6}[+-]\d{4}"), None),
+    ("event_type", one_of("norm"), None),
+    ("src_ip", is_address, "src_ip"), ("dest_ip", is_address, "dest_ip"), ("src_port", is_port, "src_port"), ("dest_port", is_port, "dest_port"),
+    ("proto", like("TCP|UDP|ICMP|[0-9]+"), "proto"),
+    ("flow_id", lambda value: type(value) is int and 0 < value < 2**63, "era"),
+    ("norm", lambda value: type(value) is dict, None),
+]
+
+ECS = [
+    ("@timestamp", like(r"\d{4}-\d\d-\d\dT\d\d:\d\d:\d\d\.\d{9}Z"), None),
+    ("ecs.version", like(r"8\.\d+\.\d+"), None),
+    ("event.kind", one_of("alert", "asset", "enrichment", "event", "metric", "state", "pipeline_error", "signal"), None),
+    ("event.category", some_of("network"), None),
+    ("event.type", some_of("access", "allowed", "change", "connection", "denied", "end", "info", "protocol", "start"), None),
+    ("event.outcome", one_of("success", "failure", "unknown"), None),
+    ("event.action", is_text, None), ("event.module", is_text, None), ("event.dataset", is_text, None),
+    ("source.ip", is_address, "src_ip"), ("source.port", is_port, "src_port"), ("destination.ip", is_address, "dest_ip"),
+    ("destination.port", is_port, "dest_port"),
+    ("network.direction", one_of("inbound", "outbound", "unknown"), None),
+    ("network.type", one_of("ipv4"), "src_ip"), ("network.iana_number", like("[0-9]+"), "proto"),
+    ("rule.name", lambda value: type(value) is list and value != [] and all(map(is_text, value)), "rules"),
+]
+
+ZEEK = [
+    ("ts", lambda value: type(value) in (int, float), None), ("uid", is_text, None),
+    ("id.orig_h", is_address, "src_ip"), ("id.resp_h", is_address, "dest_ip"), ("id.orig_p", is_port, "src_port"), ("id.resp_p", is_port, "dest_port"),
+    ("proto", like("tcp|udp|icmp|[0-9]+"), "proto"), ("is_orig", lambda value: type(value) is bool, None),
+]
+
+
+def value_at(event, path):
+    """The value of a field: under its whole name, or in objects."""
+    if path in event:
+        return event[path]
+    for name in path.split("."):
+        event = event.get(name) if isinstance(event, dict) else None
+    return event
+
+
+def compare_fields(test, name, fields, event, line):
+    for path, right, needed in fields:
+        value = value_at(event, path)
+        wanted = needed is None or line[needed] not in (None, [])
+        test.same("%s: %s of record %d" % (name, path, line["record"]), (wanted, True), (value is not None, value is None or right(value)))
+
+
+# What a line of normview is in each format
+
+def eve_values(line, _):
+    number = None if line["era"] is None else line["era"] + 2**32 * (line["by"] == "second")
+    return {"timestamp": line["time"][:26] + "+0000", "src_ip": line["src_ip"], "src_port": line["src_port"], "dest_ip": line["dest_ip"],
+            "dest_port": line["dest_port"], "proto": line["proto"] and line["proto"].upper(), "flow_id": number, "norm.record": line["record"],
+            "norm.verdict": line["verdict"], "norm.rules": line["rules"], "norm.changes": line["changes"]}
+
+
+def ecs_values(line, _):
+    inwards = {"in": "inbound", "out": "outbound", None: "unknown"}
+    turned = {"in": "outbound", "out": "inbound", None: "unknown"}
+    return {"@timestamp": line["time"], "source.ip": line["src_ip"], "source.port": line["src_port"], "destination.ip": line["dest_ip"],
+            "destination.port": line["dest_port"], "event.action": line["verdict"], "event.sequence": line["record"],
+            "event.outcome": {"drop": "failure", "hold": "unknown"}.get(line["verdict"], "success"), "rule.name": line["rules"] or None,
+            "network.transport": line["proto"] if line["proto"] in ("tcp", "udp", "icmp") else None,
+            "network.direction": (inwards if line["by"] == "first" else turned)[line["side"]], "norm.changes": line["changes"]}
+
+
+def zeek_values(line, origins):
+    key = (line["by"], line["era"])
+    ends = [(line["src_ip"], line["src_port"]), (line["dest_ip"], line["dest_port"])]
+    if line["begun"] is not None:
+        origins[line["by"], line["begun"]] = ends[0]
+    turned = origins.get(key, ends[0]) != ends[0]
+    orig, resp = ends[::-1] if turned else ends
+    for one in line["ended"]:
+        origins.pop((line["by"], one["era"]), None)
+    return {"id.orig_h": orig[0], "id.orig_p": orig[1], "id.resp_h": resp[0], "id.resp_p": resp[1], "is_orig": not turned, "verdict": line["verdict"],
+            "rules": line["rules"], "record": line["record"],
+            "uid": "%s%d" % (("S" if line["by"] == "second" else "E", line["era"]) if line["era"] is not None else ("R", line["record"]))}
+
+
+FILTERS = [("eve.jq", [], EVE, eve_values), ("ecs.jq", [], ECS, ecs_values), ("zeek.jq", ["-n"], ZEEK, zeek_values)]
+
+
+def seconds_of(text):
+    whole = datetime.datetime.strptime(text[:19], "%Y-%m-%dT%H:%M:%S").replace(tzinfo=datetime.timezone.utc)
+    return int(whole.timestamp()) + int(text[20:26]) / 1000000
+
+
+def viewed(asked, folder, one):
+    done = run([asked.normview, "--json", one.given, one.out, one.report], folder)
+    return done.stdout, done.returncode
+
+
+def whole_view(test, asked, folder, one):
+    """The view of a run, which ends with 0 and has each of its records."""
+    octets, status = viewed(asked, folder, one)
+    test.same("%s: normview's status" % one.name, 0, status)
+    records = [line for line in map(json.loads, octets.splitlines()) if line["event"] == "record" and line["by"] == "first"]
+    test.same("%s: normview's records" % one.name, record_count(one), len(records))
+    return octets
+
+
+def filtered(folder, name, words, octets):
+    done = run(["jq", "-c", *words, "-f", os.path.join(CONTRIB, "jq", name)], folder, input=octets)
+    return [json.loads(line) for line in done.stdout.splitlines()], done.returncode
+
+
+def compare_filters(test, folder, run_name, octets):
+    lines = [line for line in map(json.loads, octets.splitlines()) if line["event"] == "record"]
+    for name, words, fields, values in FILTERS:
+        events, status = filtered(folder, name, words, octets)
+        test.same("%s, %s: status and number" % (run_name, name), (0, len(lines)), (status, len(events)))
+        origins = {}
+        for line, event in zip(lines, events):
+            compare_fields(test, "%s, %s" % (run_name, name), fields, event, line)
+            for path, value in values(line, origins).items():
+                test.same("%s, %s: %s of record %d" % (run_name, name, path, line["record"]), value, value_at(event, path))
+            if name == "zeek.jq":
+                test.same("%s: ts of record %d" % (run_name, line["record"]), True, abs(event["ts"] - seconds_of(line["time"])) < 1e-6)
+    test.same("%s: talkers.jq" % run_name, talkers(lines), filtered(folder, "talkers.jq", ["-n"], octets)[0])
+
+
+def talkers(lines):
+    hosts = {}
+    for line in lines:
+        if line["src_ip"] is not None and line["by"] == "first":
+            host = hosts.setdefault(line["src_ip"], {"host": line["src_ip"], "records": 0, "dropped": 0, "changed": 0, "octets": 0})
+            host["records"] += 1
+            host["dropped"] += line["verdict"] == "drop"
+            host["changed"] += line["verdict"] == "fix"
+            host["octets"] += line["length"]
+    return sorted(hosts.values(), key=lambda host: (-host["records"], host["host"]))
+
+
+def chosen_runs(asked, folder):
+    return itertools.chain(example_runs(asked, folder), itertools.islice(random_runs(asked, folder), max(1, asked.count // ONE_OF)))
+
+
+def test_filters(asked, folder):
+    test = Test("jq: fields and values")
+    if test.lacks("jq"):
+        return test
+    before = None
+    for one in chosen_runs(asked, folder):
+        compare_filters(test, folder, one.name, whole_view(test, asked, folder, one))
+        if other_records(one, before):
+            one.report = write(os.path.join(folder, "other.txt"), before.text.encode())
+            octets, status = viewed(asked, folder, one)
+            test.same("%s: report of another run: normview's status" % one.name, True, status != 0)
+            for name, words, _, _ in FILTERS + [("talkers.jq", ["-n"], [], None)]:
+                test.same("%s: report of another run: the status of %s" % (one.name, name), True, filtered(folder, name, words, octets)[1] != 0)
+        before = one
+    return test
+
+
+# Community ID
+
+# Those published with version 1 of the specification: source, destination, protocol, ports or type and code, seed.
+VECTORS = [
+    ("128.232.110.120", "66.35.250.204", 6, (34855, 80), 0, "1:LQU9qZlK+B5F3KDmev6m5PMibrg="),
+    ("66.35.250.204", "128.232.110.120", 6, (80, 34855), 0, "1:LQU9qZlK+B5F3KDmev6m5PMibrg="),
+    ("128.232.110.120", "66.35.250.204", 6, (34855, 80), 1, "1:3V71V58M3Ksw/yuFALMcW0LAHvc="),
+    ("192.168.1.52", "8.8.8.8", 17, (54585, 53), 0, "1:d/FP5EW3wiY1vCndhwleRRKHowQ="),
+    ("192.168.1.52", "8.8.8.8", 17, (54585, 53), 1, "1:Q9We8WO3piVF8yEQBNJF4uiSVrI="),
+    ("192.168.0.89", "192.168.0.1", 1, (8, 0), 0, "1:X0snYXpgwiv9TZtqg64sgzUn6Dk="),
+    ("192.168.0.1", "192.168.0.89", 1, (0, 0), 0, "1:X0snYXpgwiv9TZtqg64sgzUn6Dk="),
+    ("192.168.0.89", "192.168.0.1", 1, (8, 0), 1, "1:03g6IloqVBdcZlPyX8r0hgoE7kA="),
+    ("fe80::200:86ff:fe05:80da", "fe80::260:97ff:fe07:69ea", 58, (135, 0), 0, "1:dGHyGvjMfljg6Bppwm3bg0LO8TY="),
+    ("192.168.170.8", "192.168.170.56", 132, (7, 80), 0, "1:jQgCxbku+pNGw8WPbEc/TS/uTpQ="),
+]
+
+PROGRAM = os.path.join(CONTRIB, "community-id")
+
+
+def module():
+    loader = importlib.machinery.SourceFileLoader("community_id", PROGRAM)
+    made = importlib.util.module_from_spec(importlib.util.spec_from_loader("community_id", loader))
+    loader.exec_module(made)
+    return made
+
+
+def test_vectors(_, folder):
+    test = Test("community-id: published vectors")
+    for source, destination, protocol, ports, seed, wanted in VECTORS:
+        test.same("%s > %s" % (source, destination), wanted, module().community_id(source, destination, protocol, ports, seed))
+        names = ("icmp_type", "icmp_code") if protocol in (1, 58) else ("src_port", "dest_port")
+        event = {"src_ip": source, "dest_ip": destination, "proto": str(protocol), names[0]: ports[0], names[1]: ports[1]}
+        done = run([PROGRAM, str(seed)], folder, input=json.dumps(event).encode())
+        test.same("%s > %s, as an object" % (source, destination), dict(event, community_id=wanted), json.loads(done.stdout))
+    return test
+
+
+def is_whole_message(event):
+    fragment = any(rule.startswith("F_") for rule in event["rules"])
+    return event["proto"] in ("tcp", "udp") and event["verdict"] != "drop" and not fragment
+
+
+def test_community(asked, folder):
+    """The IDs of a run's records against those of Wireshark, which has them for a capture; of a fragment Wireshark's has no ports."""
+    test = Test("community-id: records, as tshark has them")
+    if test.lacks("tshark"):
+        return test
+    for one in chosen_runs(asked, folder):
+        octets = whole_view(test, asked, folder, one)
+        shown = run(["tshark", "--enable-protocol", "communityid", "-r", one.given, "-T", "fields", "-E", "occurrence=f", "-e", "communityid"], folder)
+        ids = shown.stdout.decode().splitlines()
+        events = [json.loads(line) for line in run([PROGRAM], folder, input=octets).stdout.splitlines()]
+        test.same("%s: number of objects" % one.name, len(octets.splitlines()), len(events))
+        for event in events:
+            if event["event"] == "record" and event["by"] == "first" and is_whole_message(event):
+                test.same("%s: record %d" % (one.name, event["record"]), ids[event["record"] - 1], event.get("community_id"))
+    return test
+
+
+JQ_TESTS = [test_filters]
+
+COMMUNITY_TESTS = [test_vectors, test_community]
