@@ -5,6 +5,7 @@ import re
 import textwrap
 from types import SimpleNamespace
 
+import measured
 from norm_model.capture import read_head, read_records
 from norm_model.formats import read_ipv4
 from norm_model.fragment_rows import is_fragment
@@ -51,13 +52,14 @@ are the octets that receivers deliver.
 
 Four receivers differ at an octet for which another one is already waiting: **First** keeps the one
 that waits, and **Newest** replaces it; **Left** replaces it where the newer segment begins before
-the one that brought it, and **Right** where it ends behind that one. Receivers that differ in
+the one that brought it, and **Right** where it ends after that one. Receivers that differ in
 another way, such as in whether they verify checksums, have a line each, with all four policies. Of
-what norm wrote, all receivers that start at one octet deliver the same.
+what norm wrote, any two receivers that start at the same octet deliver streams of which one is a
+prefix of the other; here, where each gets every frame in order, they deliver the same.
 
 The text below each drawing has the packets that arrive, norm's report, and the packets that norm
 writes. A packet is written as `> PA 1000,5001 abcd`: inbound (`>`) or outbound (`<`), flags,
-sequence number, acknowledgment number and octets, and behind commas the fields that differ from the
+sequence number, acknowledgment number and octets, and after commas the fields that differ from the
 default; `octets 0 to 15` is a fragment with these octets of the segment, from its header's first
 on. README.md explains the lines of the report, and docs/RULES.md the rules. The commands at the end
 of a section repeat it, at the top of the repository and with the built program
@@ -77,7 +79,7 @@ def read_descriptions(text):
     for line in text.splitlines():
         if line.startswith("== "):
             name, _, title = line[3:].partition(": ")
-            cases.append(SimpleNamespace(name=name, title=title, prose={"attack": "", "answer": "", "options": ""}, hosts=[], lines=[], past=[]))
+            cases.append(SimpleNamespace(name=name, title=title, prose={"attack": "", "case": "", "answer": "", "options": ""}, hosts=[], lines=[], past=[]))
         elif cases and line.strip():
             add_line(cases[-1], line)
     return cases
@@ -219,7 +221,7 @@ def wrapped(text):
     return "\n".join(textwrap.wrap(text, WIDTH, break_on_hyphens=False, break_long_words=False))
 
 
-def columns(case, report, frames):
+def columns(case, report, frames, line_of=line_of):
     """What came, the lines of the report, and what was written, side by side."""
     lines = report.splitlines()
     table = [("", lines[0], "")]
@@ -277,7 +279,8 @@ def page(outcomes):
             raise ValueError("%s: %s" % (case.name, fault)) from fault
         sections.append(text)
         table.append(row)
-    return "\n".join([HEAD, "\n".join(table) + "\n"] + sections)
+    pointer, more = measured.sections({case.name: case.title for case, _ in outcomes})
+    return "\n".join([HEAD, "\n".join(table) + "\n"] + [pointer] * bool(pointer) + sections + more)
 
 
 def read_cases():

@@ -3,9 +3,12 @@
 Each takes the packets of one connection, in both directions and in order, and gives those that go inwards as it reads them.
 """
 
-from norm_model.formats import FIN, RST, SYN, TCP, URG, pseudo_sum, read_ipv4, read_tcp, sum_right, write_ipv4, write_tcp
+from norm_model.formats import ACK, FIN, RST, SYN, TCP, URG, pseudo_sum, read_ipv4, read_tcp, sum_right, write_ipv4, write_tcp
 from norm_model.fragment_rows import datagram_key, is_fragment
 from norm_model.packets import INSIDE
+
+# Two no-operations, and the kind and the length of the timestamps option.
+TIMESTAMPS = bytes([1, 1, 8, 10])
 
 
 def fields(packet):
@@ -129,7 +132,92 @@ def refuses_header_options(packets):
     return [packet for packet in inward(packets) if read_ipv4(packet).header == 20]
 
 
+def refuses_older_timestamps(packets):
+    """Drops a segment whose timestamp is below the last one (RFC 7323 section 5); numbers do not come round here."""
+    newest, read = 0, []
+    for packet in inward(packets):
+        value = timestamp(packet)
+        if value is None or value >= newest:
+            newest = newest if value is None else value
+            read.append(packet)
+    return read
+
+
+def timestamp(packet):
+    """The value of the timestamps option, which two no-operations precede, or None."""
+    ip = read_ipv4(packet)
+    tcp = packet[ip.header:]
+    options = tcp[20:tcp[12] // 16 * 4]
+    return int.from_bytes(options[4:8], "big") if options[:4] == TIMESTAMPS else None
+
+
+def refuses_acknowledgments_of_the_future(packets):
+    """Drops a segment that acknowledges more than was sent (RFC 9293 section 3.10.7.4); numbers do not come round here."""
+    sent, read = 0, []
+    for packet in packets:
+        ip, tcp = fields(packet)
+        if ip.dst != INSIDE:
+            sent = max(sent, tcp.seq + len(tcp.payload) + (1 if tcp.flags & (SYN | FIN) else 0))
+        elif not tcp.flags & ACK or tcp.ack <= sent:
+            read.append(packet)
+    return read
+
+
+def has_room_for_four_octets(packets):
+    """Drops a segment that ends more than 4 octets past the next one; numbers do not come round here."""
+    following, read = None, []
+    for packet in inward(packets):
+        tcp = fields(packet)[1]
+        if tcp.flags & SYN:
+            following = tcp.seq + 1
+        end = tcp.seq + len(tcp.payload)
+        if not tcp.payload or end <= following + 4:
+            following = end if tcp.payload and tcp.seq <= following else following
+            read.append(packet)
+    return read
+
+
+def reads_four_octets(packets):
+    """Cuts off what lies past the fourth octet after the SYN; numbers do not come round here."""
+    first, read = None, []
+    for packet in inward(packets):
+        tcp = fields(packet)[1]
+        if tcp.flags & SYN:
+            first = tcp.seq + 1
+        read.append(rewritten(packet, tcp.seq, tcp.flags, tcp.payload[:max(0, first + 4 - tcp.seq)]) if tcp.payload else packet)
+    return read
+
+
+def begins_again_at_a_syn(packets):
+    """Reads from the last SYN on, which it takes for that of another stream."""
+    read = inward(packets)
+    syns = [k for k, packet in enumerate(read) if fields(packet)[1].flags & SYN]
+    return read[syns[-1]:] if syns else read
+
+
+def stops_at_the_fin_of_the_host(packets):
+    read = []
+    for packet in packets:
+        ip, tcp = fields(packet)
+        if ip.dst != INSIDE and tcp.flags & FIN:
+            break
+        read.append(packet)
+    return inward(read)
+
+
+def forgets_after_a_minute(packets):
+    """Reads nothing after 60 seconds without a packet; a packet has its time in `second`."""
+    read, last = [], 0
+    for packet in packets:
+        if packet.second - last > 60:
+            break
+        last = packet.second
+        read.append(packet)
+    return inward(read)
+
+
 READERS = {reader.__name__: reader for reader in (
     every_packet, behind_a_router, takes_the_urgent_octet_out, stops_at_a_reset, verifies_checksums, refuses_reserved_bits,
     keeps_octets_on_a_syn, leaves_octets_on_a_syn, stops_at_a_fin, keeps_to_its_window, refuses_header_options,
-    keeps_the_octet_of_the_first_fragment, keeps_the_octet_of_the_last_fragment)}
+    keeps_the_octet_of_the_first_fragment, keeps_the_octet_of_the_last_fragment, refuses_older_timestamps, refuses_acknowledgments_of_the_future,
+    has_room_for_four_octets, reads_four_octets, begins_again_at_a_syn, stops_at_the_fin_of_the_host, forgets_after_a_minute)}
