@@ -2,7 +2,6 @@
 
 import os
 import re
-import subprocess
 import textwrap
 
 from evasion_page import BASE, TOP, capture_file, check_agreement, first_connection, frames_of, packet_of, rows
@@ -12,7 +11,7 @@ from norm_model.fragment_rows import is_fragment
 from norm_model.packets import INSIDE, LETTERS
 from norm_model.receivers import POLICIES
 from norm_model.report import read_report
-from svg import Picture
+from svg import Picture, number
 
 FOLDER = os.path.join(TOP, "docs", "pictures")
 
@@ -41,6 +40,8 @@ KINDS_OF_OPTION = {131: "source route", 137: "source route"}
 # The legend: the fill of a box or the kind of a mark, and its meaning, in the order in which they are shown.
 LEGEND = (("clash", "sent with two values"), ("rewritten", "rewritten"), ("cut", "cut off"), ("hold", "held"), ("drop", "dropped"))
 
+PAST_NOTE = "Dashed: octets that reached the host past norm and the monitor."
+
 POLICY_NOTE = ("First: the octet that arrived first stays. Newest: the one that arrived last. "
                "Left, Right: the segment that begins further left, or ends further right.")
 
@@ -53,7 +54,7 @@ class Shown:
     def __init__(self, packet):
         self.packet, ip = packet, read_ipv4(packet)
         self.inward = ip.dst == INSIDE
-        self.words, self.marks, self.octets, self.header = {}, {}, {}, None
+        self.words, self.marks, self.octets, self.header, self.number = {}, {}, {}, None, None
         if is_fragment(ip):
             self.read_fragment(ip, packet[ip.header:])
         else:
@@ -75,7 +76,8 @@ class Shown:
             if tcp.flags & LETTERS[letter]:
                 self.words[name] = name
         begin = tcp.seq + (1 if "SYN" in self.words else 0)
-        self.words["seq"] = "%d:%d" % (begin, begin + len(tcp.payload)) if tcp.payload else "%d" % tcp.seq
+        self.number = tcp.seq
+        self.words["seq"] = "%d:%d" % (begin, begin + len(tcp.payload)) if tcp.payload and begin == tcp.seq else "%d" % tcp.seq
         if tcp.ack:
             self.words["ack"] = "ack %d" % tcp.ack
         self.octets = {begin - BASE + i: octet for i, octet in enumerate(tcp.payload)} if self.inward else {}
@@ -89,12 +91,16 @@ class Shown:
 
 
 def words_of(shown, before, which):
-    """Returns the words of a packet: those that norm changed in its colour, those that it removed struck through."""
+    """Returns the words of a packet: those that norm changed in its colour, those that it removed struck through.
+
+    The range of a packet's octets is changed only if its first number is: octets that are cut off are drawn as such.
+    """
     own = getattr(shown, which)
     old = own if before is None else getattr(before, which)
     pairs = []
     for name in [*old, *(name for name in own if name not in old)]:
-        changed = {} if own.get(name) == old.get(name) else {"fill": REWRITTEN, "font_weight": "bold"}
+        same = own.get(name) == old.get(name) or name == "seq" and before is not None and shown.number == before.number
+        changed = {} if same else {"fill": REWRITTEN, "font_weight": "bold"}
         text = own.get(name, old.get(name))
         pairs += [(text, dict(changed, text_decoration="line-through") if name not in own else changed), (" " if which == "words" else ", ", {})]
     return pairs[:-1]
@@ -195,8 +201,8 @@ class EvasionDrawing:
             self.seen.add(kind)
             self.draw_octet(x + self.cell * place, y, octet, FILLS[kind], REWRITTEN if kind == "rewritten" else "#94a3b8")
 
-    def draw_octet(self, x, y, octet, fill, stroke):
-        self.picture.rect(x, y, self.cell, 15, fill, stroke)
+    def draw_octet(self, x, y, octet, fill, stroke, **more):
+        self.picture.rect(x, y, self.cell, 15, fill, stroke, **more)
         self.picture.text(x + self.cell / 2, y + 11.5, chr(octet), 11, mono=True, text_anchor="middle")
 
     def draw_cut(self, x, y, octet):
@@ -276,11 +282,16 @@ class EvasionDrawing:
             lines = textwrap.wrap(label, 50)
             for place, line in enumerate(lines):
                 self.picture.text(28, self.y + 11 + 14 * place, line, 11)
+            for x in (WITHOUT, WITH):
+                self.draw_own(x, row.start)
             self.draw_stream(WITHOUT, row.of_came, row.start, lambda place: "differ" if place in differ else "plain")
             self.draw_stream(WITH, row.of_written, row.start, lambda place: "same")
             self.y += 10 + 14 * len(lines)
         if any(len(row.policies) < len(POLICIES) for row in found):
             self.picture.text(28, self.y + 6, POLICY_NOTE, 9.5, fill=PALE)
+            self.y += 16
+        if self.past:
+            self.picture.text(28, self.y + 6, PAST_NOTE, 9.5, fill=PALE)
             self.y += 16
         for line in textwrap.wrap(self.case.prose["answer"].replace("`", ""), 116):
             self.picture.text(16, self.y + 12, line, 12, fill=INK)
@@ -291,6 +302,12 @@ class EvasionDrawing:
         for x, text, colour in ((16, "Octets that receivers read", INK), (WITHOUT, "without norm", DROPPED), (WITH, "with norm", AGREED)):
             self.picture.text(x, self.y + 6, text, 12, fill=colour, font_weight="bold")
         self.y += 20
+
+    def draw_own(self, x, start):
+        """Draws the octets below `start` that the receiver has from packets past norm."""
+        for shown in self.past.values():
+            for place in sorted(place for place in shown.octets if place < start):
+                self.draw_octet(x + self.cell * place, self.y, shown.octets[place], "none", "#94a3b8", stroke_dasharray="2 2")
 
     def draw_stream(self, x, stream, start, kind):
         places = [start + i for i in range(len(stream.octets))]
@@ -323,14 +340,6 @@ def evasion_drawing(case, report, written):
 
 CRATES = os.path.join(TOP, "crates.txt")
 
-GRAPH = """digraph crates {
-rankdir=TB; ranksep=0.28; nodesep=0.1; bgcolor="#ffffff"; fontname="DejaVu Sans"; fontsize=9; fontcolor="%s"; labelloc=b;
-label="An arrow leads to a crate that is used. Uses that follow from others are left out.";
-node [shape=box, style="rounded,filled", color="#94a3b8", fillcolor="#eef2ff", fontname="DejaVu Sans", fontsize=10, height=0.26, width=0.4, margin="0.07,0.03"];
-edge [color="%s", arrowsize=0.5];
-""" % (PALE, PALE)
-
-
 def layers_of(text):
     """Returns the layers of crates.txt, lowest first: the comment over each, and for each crate the crates that it uses."""
     layers = []
@@ -345,39 +354,54 @@ def layers_of(text):
     return [(title, {name: [low for low in used if low in names] for name, used in crates.items()}) for title, crates in layers]
 
 
-def needed(uses):
-    """Returns the uses that do not follow from others."""
-    below = {}
+def longest_chain(uses, top):
+    """Returns the crates of one of the longest chains of uses below a crate, itself first; of equal ones the next crate is the one that uses most, then the first."""
+    depths = {}
     for name, used in uses.items():
-        below[name] = set(used).union(*(below[low] for low in used))
-    return {name: [low for low in used if not any(low in below[other] for other in used)] for name, used in uses.items()}
+        depths[name] = 1 + max((depths[low] for low in used), default=0)
+    chain = [top]
+    while uses[chain[-1]]:
+        chain.append(max(uses[chain[-1]], key=lambda low: (depths[low], len(uses[low]))))
+    return chain
 
 
-def crates_graph():
-    """Returns the map of the crates in the language of graphviz' dot."""
-    with open(CRATES, encoding="ascii") as file:
-        layers = layers_of(file.read())
-    lines = [GRAPH.rstrip()]
-    for place, (title, crates) in enumerate(layers):
-        label = "\\n".join(textwrap.wrap(title, 18))
-        names = " ".join('"%s";' % name for name in crates)
-        lines.append('{rank=same; "%d" [label="%s", shape=plaintext, style="", fontsize=9, fontcolor="%s"]; %s}' % (place, label, PALE, names))
-        if place:
-            lines.append('"%d" -> "%d" [style=invis, weight=100];' % (place, place - 1))
-    uses = {name: used for _, crates in layers for name, used in crates.items()}
-    lines += ['"%s" -> "%s";' % (name, low) for name, used in needed(uses).items() for low in used]
-    return "\n".join([*lines, "}"]) + "\n"
+# The columns of the map: the titles of the layers, the chain, and the other crates.
+TITLES, CHAIN, OTHERS = 28, 250, 420
+
+BOX, STEP = 112, 30
 
 
 def crates_drawing():
-    """Draws the map by dot, at the width of the other pictures, with the map's text in the picture."""
-    graph = crates_graph()
-    done = subprocess.run(["dot", "-Tsvg"], input=graph, stdout=subprocess.PIPE, text=True, check=True)
-    _, width, height, rest = re.split(r'<svg width="(\d+)pt" height="(\d+)pt"', done.stdout, maxsplit=1)
-    size = '<svg width="%d" height="%d"' % (WIDTH, round(int(height) * WIDTH / int(width)))
-    inside = "<title>The crates</title>\n<metadata><![CDATA[%s]]></metadata>\n" % graph
-    body = rest.replace("\n<g id=", "\n" + inside + "<g id=", 1)
-    return re.sub(r"<title>[^<]*</title>\n", lambda found: found[0] if "The crates" in found[0] else "", re.sub(r"<!--.*?-->\n", "", size + body, flags=re.S))
+    """Draws the layers of crates.txt, the highest at the top, with one of the longest chains below the program norm; the other crates are listed."""
+    with open(CRATES, encoding="ascii") as file:
+        layers = layers_of(file.read())
+    uses = {name: used for _, crates in layers for name, used in crates.items()}
+    chain = longest_chain(uses, "norm")
+    picture = Picture(WIDTH, "The crates", "The crates in layers, with one of the longest chains of uses: " + " uses ".join(chain))
+    picture.text(16, 26, "The crates in layers", 16, font_weight="bold")
+    picture.text(16, 46, "An arrow leads to a crate that is used: one of the longest chains below the program norm, of %d crates. The others of a layer are at the "
+                 "right." % len(chain), 10.5, fill=PALE)
+    y, places = 60, {}
+    for title, crates in reversed(layers):
+        own = [name for name in chain if name in crates]
+        listed = textwrap.wrap(", ".join(name for name in crates if name not in chain), 62)
+        titles = textwrap.wrap(title, 32)
+        height = max(STEP * len(own) + 8, 15 * max(len(listed), len(titles)) + 12)
+        picture.rect(16, y, WIDTH - 32, height, "#f8fafc", "#e2e8f0", rx=4)
+        for x, lines, colour in ((TITLES, titles, PALE), (OTHERS, listed, INK)):
+            for place, line in enumerate(lines):
+                picture.text(x, y + height / 2 + 4 + 15 * (place - (len(lines) - 1) / 2), line, 10.5, fill=colour)
+        for place, name in enumerate(own):
+            places[name] = y + height / 2 + STEP * (place - (len(own) - 1) / 2)
+        y += height + 6
+    for upper, lower in zip(chain, chain[1:]):
+        top, bottom = places[upper] + 10, places[lower] - 10
+        picture.line(CHAIN + BOX / 2, top, CHAIN + BOX / 2, bottom - 6, HELD, stroke_width=1.5)
+        picture.add("path", d="M%s %sl-4 -7l8 0z" % (number(CHAIN + BOX / 2), number(bottom)), fill=HELD)
+    for name in chain:
+        picture.rect(CHAIN, places[name] - 10, BOX, 20, "#eef2ff", HELD, rx=4)
+        picture.text(CHAIN + BOX / 2, places[name] + 4, name, 11, text_anchor="middle", font_weight="bold")
+    return picture.written(y + 4)
 
 
 def kept_in(picture):

@@ -133,3 +133,54 @@ row("a segment is cut to the largest packet", opening() + [segment("> PA 1000,50
 
 row("a datagram that is longer than the largest packet", [p.inward(UDP, p.udp(OUTSIDE, INSIDE, 40000, 53, b"a" * 572))],
     ["1 in drop 0 E_MTU"], {1: []}, words="--mtu 576")
+
+# Edges that random captures seldom reach
+
+row("a fragment that ends with a block takes no more blocks",
+    [p.inward(UDP, b"a" * 65280, mf=True, ident=1), piece(b"a" * 8, 0, True, 2), piece(b"a" * 8, 0, True, 3)],
+    ["1 in hold 0 F_HELD", "2 in hold 0 F_HELD", "3 in drop 0 F_ROOM"], words="--frag-cells 256")
+
+row("a fragment with its last octet in another block",
+    [p.inward(UDP, b"a" * 65024, mf=True, ident=1), piece(b"a" * 9, 248, False, 2), piece(b"a" * 8, 0, True, 3)],
+    ["1 in hold 0 F_HELD", "2 in hold 0 F_HELD", "3 in drop 0 F_ROOM"], words="--frag-cells 256")
+
+row("a SYN from the inside reopens in a full table",
+    opening() + [segment("> PA 1000,5001 ab"), segment("< S 6000")],
+    OPENED + ["4 in pass 1 @1", "5 out pass 1 @2 +2 -1:reopened:2"], words="--flows 1")
+
+row("the empty era is evicted, and not one that holds octets",
+    opening() + [segment("> PA 1000,5001 ab"), segment("> S 999", 40001), segment("> S 999", 40002)],
+    OPENED + ["4 in pass 1 @1", "5 in pass 1 @2 +2", "6 in pass 1 @3 +3 -2:evicted:0"], words="--flows 2")
+
+row("a block whose only octet is acknowledged",
+    opening() + [segment("> PA 1000,5001 a"), segment("< A 5001,1001"), segment("> PA 1256,5001 b")],
+    OPENED + ["4 in pass 1 @1", "5 out pass 1 @1", "6 in pass 1 @1"], words="--quota 1")
+
+row("the first octet of a block after the others",
+    opening() + [segment("> PA 1257,5001", payload=b"b" * 100), segment("> PA 1256,5001 a"), segment("< A 5001,1300"),
+                 segment("> PA 1512,5001 c")],
+    OPENED + ["4 in pass 1 @1", "5 in pass 1 @1", "6 out pass 1 @1", "7 in drop 0 T_QUOTA @1"], words="--quota 1")
+
+row("the last octet of a block after the next block",
+    opening() + [segment("> PA 1256,5001", payload=b"b" * 100), segment("> PA 1255,5001 a"), segment("< A 5001,1300"),
+                 segment("> PA 1512,5001 c")],
+    OPENED + ["4 in pass 1 @1", "5 in pass 1 @1", "6 out pass 1 @1", "7 in pass 1 @1"], words="--quota 2")
+
+row("the answer to a call with the greatest sequence number",
+    [segment("< S 4294967295"), segment("> SA 999,0"), segment("< A 0,1000")],
+    ["1 out pass 1 @1 +1", "2 in pass 1 @1", "3 out pass 1 @1"])
+
+row("octets are acknowledged, and the FIN is not",
+    opening() + [segment("> FPA 1000,5001 ab"), segment("< FA 5001,1002"), segment("> S 7000")],
+    OPENED + ["4 in pass 1 @1", "5 out pass 1 @1", "6 in drop 1 T_SYN @1"], {6: [segment("> A 1001,5002")]})
+
+row("a checksum that comes out as 0 is written as 65535", [p.outward(UDP, p.udp(INSIDE, OUTSIDE, 53, 40000, b"/)", check=1))],
+    ["1 out fix 1 U_SUM_OUT"], {1: [p.outward(UDP, p.udp(INSIDE, OUTSIDE, 53, 40000, b"/)", check=0xffff))]}, words="--offload")
+
+row("an empty record at the end", [segment("> S 999"), b""], ["1 in pass 1 @1 +1", "2 - drop 0 I_SHORT"])
+
+# Here both checksums come out as 0.
+ZERO_SUMS = bytes.fromhex("4500002a46930000 40060000 0a000001 c6336407 00509c40 00001389 000003e8 50102000 00000000 a795")
+
+row("checksums that come out as 0", [segment("< A 5001,1000", payload=bytes.fromhex("a795"), ident=18067, check=1)],
+    ["1 out fix 1 T_SUM_OUT @1 +1"], {1: [ZERO_SUMS]}, words="--offload")

@@ -1,7 +1,11 @@
 """The programs that a check runs: one form of argument for all checks, --norm PROGRAM, --normaudit PROGRAM and --normview PROGRAM."""
 
 import os
+import signal
 import sys
+
+# A check that is stopped ends by an exception, so that its temporary folder goes too.
+signal.signal(signal.SIGTERM, lambda *_: sys.exit(1))
 
 TOP = os.path.dirname(os.path.dirname(os.path.abspath(__file__)))
 
