@@ -275,9 +275,8 @@ def held_syns(path, records, chance, flows):
     return capture.close()
 
 
-def pool(path, records, chance, cells, flows):
-    """Segments of one octet at places far from each other: the cells are filled from the front on, then places are drawn up to twice as far."""
-    capture = Capture(path)
+def filled_pool(capture, cells, flows):
+    """Connections that hold all cells: each has one octet in each of its first blocks of 256 places."""
     connections = [Connection(number) for number in range(flows)]
     for connection in connections:
         ends = connection.outside, connection.sport, connection.inside, 80
@@ -285,12 +284,18 @@ def pool(path, records, chance, cells, flows):
         capture.add(scaled_syn(*ends, (connection.base - 1) % 2**32, 0, SYN, 14))
         capture.add(scaled_syn(*back, 5000, connection.base, SYN | ACK, 14))
         capture.add(connection.outward(5001, connection.base, ACK))
-    each = cells // flows
-    for block in range(each):
+    for block in range(cells // flows):
         for connection in connections:
             capture.add(connection.data(256 * block, 1))
+    return connections
+
+
+def pool(path, records, chance, cells, flows):
+    """Segments of one octet at places far from each other: the cells are filled from the front on, then places are drawn up to twice as far."""
+    capture = Capture(path)
+    connections = filled_pool(capture, cells, flows)
     for _ in range(records):
-        capture.add(connections[chance.randrange(flows)].data(256 * chance.randrange(2 * each), 1))
+        capture.add(connections[chance.randrange(flows)].data(256 * chance.randrange(2 * cells // flows), 1))
     return capture.close()
 
 
@@ -302,6 +307,18 @@ def pool_one(path, records, chance, cells):
 def pool_many(path, records, chance, cells):
     """Segments of one octet over a full pool, sixteen cells held by each connection."""
     return pool(path, records, chance, cells, cells // 16)
+
+
+def pool_end(path, records, _chance, cells):
+    """One connection holds all cells: its last octet again and again, while acknowledgments take one octet after another from the front."""
+    capture = Capture(path)
+    connection, = filled_pool(capture, cells, 1)
+    for number in range(records):
+        if number % 2:
+            capture.add(connection.outward(5001, connection.base + number, ACK))
+        else:
+            capture.add(connection.data(256 * (cells - 1), 1))
+    return capture.close()
 
 
 def resets(path, records, chance, flows):
@@ -383,6 +400,7 @@ KINDS = {
     "chains": (chains, 20, 1024, 64, []),
     "pool-one": (pool_one, 50, 65536, 2048, ["--cells", "{size}"]),
     "pool-many": (pool_many, 5, 65536, 2048, ["--cells", "{size}"]),
+    "pool-end": (pool_end, 5, 65536, 2048, ["--cells", "{size}"]),
     "lone-fragments": (lone, 2, 0, 0, []),
     "resets": (resets, 2, 1024, 256, []),
     "drops": (drops, 1, 0, 0, []),

@@ -38,7 +38,7 @@ def drawn(shown):
         picture.text(x + 18, 67, label, 11)
         x += 46 + 6 * len(label)
     most = max(rate for rates in shown["kinds"].values() for rate in rates.values())
-    y = 86
+    axis, y = len(picture.parts), 86
     for kind, rates in shown["kinds"].items():
         bars = [(colour, rates[name], name) for name, _, colour in PROGRAMS if name in rates]
         picture.text(LEFT - 10, y + BAR * len(bars) / 2 + 4, kind, 11, text_anchor="end")
@@ -49,4 +49,16 @@ def drawn(shown):
             y += BAR
         y += GAP
     picture.line(LEFT, 80, LEFT, y - GAP + 4, "#94a3b8")
-    return picture.written(y + 4)
+    put_axis(picture, axis, most, y - GAP + 4)
+    return picture.written(y + 14)
+
+
+def put_axis(picture, at, most, bottom):
+    """Puts a line and a number for each million behind the bars, which begin at this part of the picture."""
+    lines = Picture(WIDTH, "", "")
+    for million in range(int(most) + 1):
+        x = LEFT + million / most * (WIDTH - LEFT - RIGHT)
+        if million:
+            lines.line(x, 80, x, bottom, "#e2e8f0")
+        lines.text(x, bottom + 14, "%d" % million, 9, fill="#64748b", text_anchor="middle")
+    picture.parts[at:at] = lines.parts
