@@ -1,9 +1,7 @@
 -- Octets that move through the buffer of a reader or a writer.
-use Rattle.std.proofs.Common.{◌≡◌, ℕ, ◌+◌, ◌-◌, ◌≤◌, List, ◌++◌, None, Some, take, drop, slice_range, sym, ap, ◌∙◌, append_assoc, append-nil, arith}
-use Rattle.std.proofs.lemmas.List.{drop-drop}
+use Rattle.std.proofs.Common.{◌≡◌, ℕ, ◌+◌, ◌-◌, ◌≤◌, List, ◌++◌, None, Some, take, drop, slice_range, sym, ap, ◌∙◌, append_assoc, append-nil, arith, drop-drop, Option}
 use Rattle.std.proofs.Math.Seq.{take-add}
 use Rattle.std.specs.Io.KnownBytes.{Keeps, Appends, Consumes, IsAtEnd, append_known, prepend_known}
-use Rattle.std.specs.declared.option.Option.{Option}
 
 pub Keeps-Consumes : (a b c : Option (List ℕ)) (xs : List ℕ) → Keeps a b → Consumes b c xs → Consumes a c xs
 Keeps-Consumes None b c xs p q = tt

@@ -1,5 +1,5 @@
 //! A source and sinks over files and standard output.
-ghost use Rattle.std.specs.Prelude.{◌≡◌, ◌≤◌, None, false, is_some, length, IfOk, OnOk, OnErr, IsErr};
+ghost use Rattle.std.specs.Prelude.{◌≡◌, ◌<◌, ◌≤◌, ◌↔◌, [], None, true, false, is_some, is_ok, length, IfOk, OnOk, OnErr, IsErr, IsSome};
 ghost use Rattle.edge_io.specs.Faults.{HasCause, next_count};
 ghost use Rattle.edge_io.specs.Outside.{OutsideEnd};
 
@@ -10,7 +10,8 @@ use crate::{Failed, Sink, Source};
 use ahead::ReadAhead;
 use behind::WriteBehind;
 use std::fs::File;
-use std::io::{Read, Stdout, Write};
+use std::io;
+use std::io::{ErrorKind, Read, Stdout, Write};
 use std::marker::Model;
 
 /// Size of the buffer of a file or of standard output, in octets.
@@ -25,17 +26,30 @@ pub type FileSink = BufferedSink<File>;
 /// Standard output.
 pub type LineOut = BufferedSink<Stdout>;
 
+// Returns the reader or the writer, or the error of one that is missing.
+fn there<T>(end: Option<T>) -> io::Result<T>
+    ensures { is_ok result ≡ is_some end }
+{
+    match end {
+        Some(end) => Ok(end),
+        None => Err(ErrorKind::NotFound.into()),
+    }
+}
+
 /// A reader outside the program, with a read buffer. Its octets are not known.
 #[derive(Drop)]
 pub struct BufferedSource<R> {
-    ahead: Option<ReadAhead<R>>,
+    /// The reader, or why there is none.
+    ahead: io::Result<ReadAhead<R>>,
     faults: u64,
 }
 
 impl<R> Model for BufferedSource<R> {
     ghost Value = { OutsideEnd };
 
-    ghost view = { λ s. record { is_there = is_some s.ahead; faults = s.faults } };
+    ghost view = { λ s. record { is_there = is_ok s.ahead; faults = s.faults } };
+
+    ghost invariant = { λ s. 0 < s.faults → IfOk s.ahead (λ ahead. IsSome ahead.last_error) };
 }
 
 impl<R: Read + Drop> BufferedSource<R> {
@@ -43,9 +57,30 @@ impl<R: Read + Drop> BufferedSource<R> {
     pub fn over(end: Option<R>) -> BufferedSource<R>
         ensures { result ≡ record { is_there = is_some end; faults = 0 } }
     {
+        BufferedSource::opened(there(end))
+    }
+
+    /// Returns a source over the reader that was opened. If the opening failed, every call fails by
+    /// its error.
+    pub fn opened(end: io::Result<R>) -> BufferedSource<R>
+        ensures { result ≡ record { is_there = is_ok end; faults = 0 } }
+    {
         BufferedSource {
             ahead: end.map(ReadAhead::new),
             faults: 0,
+        }
+    }
+
+    /// Returns the error of the last call that failed.
+    pub fn last_error(&self) -> Option<io::Error>
+        ensures { IsSome result ↔ 0 < self.now.faults }
+    {
+        if self.faults == 0 {
+            return None;
+        }
+        match &self.ahead {
+            Ok(ahead) => ahead.last_error(),
+            Err(error) => Some(*error),
         }
     }
 }
@@ -66,8 +101,8 @@ impl<R: Read + Drop> Source for BufferedSource<R> {
         }) }
     {
         let result = match &mut self.ahead {
-            Some(ahead) => ahead.fetch(buf),
-            None => Err(Failed),
+            Ok(ahead) => ahead.fetch(buf),
+            Err(_) => Err(Failed),
         };
         if result.is_err() {
             self.faults = self.faults.saturating_add(1);
@@ -83,14 +118,17 @@ impl<R: Read + Drop> Source for BufferedSource<R> {
 /// A writer outside the program, with a write buffer. Its octets are not known.
 #[derive(Drop)]
 pub struct BufferedSink<W> {
-    behind: Option<WriteBehind<W>>,
+    /// The writer, or why there is none.
+    behind: io::Result<WriteBehind<W>>,
     faults: u64,
 }
 
 impl<W> Model for BufferedSink<W> {
     ghost Value = { OutsideEnd };
 
-    ghost view = { λ s. record { is_there = is_some s.behind; faults = s.faults } };
+    ghost view = { λ s. record { is_there = is_ok s.behind; faults = s.faults } };
+
+    ghost invariant = { λ s. 0 < s.faults → IfOk s.behind (λ behind. IsSome behind.last_error) };
 }
 
 impl<W: Write + Drop> BufferedSink<W> {
@@ -98,9 +136,42 @@ impl<W: Write + Drop> BufferedSink<W> {
     pub fn over(end: Option<W>) -> BufferedSink<W>
         ensures { result ≡ record { is_there = is_some end; faults = 0 } }
     {
+        BufferedSink::opened(there(end))
+    }
+
+    /// Returns a sink over the writer that was opened. If the opening failed, every call fails by its
+    /// error.
+    pub fn opened(end: io::Result<W>) -> BufferedSink<W>
+        ensures { result ≡ record { is_there = is_ok end; faults = 0 } }
+    {
         BufferedSink {
             behind: end.map(WriteBehind::new),
             faults: 0,
+        }
+    }
+
+    /// Returns the error of the last call that failed.
+    pub fn last_error(&self) -> Option<io::Error>
+        ensures { IsSome result ↔ 0 < self.now.faults }
+    {
+        if self.faults == 0 {
+            return None;
+        }
+        match &self.behind {
+            Ok(behind) => behind.last_error(),
+            Err(error) => Some(*error),
+        }
+    }
+
+    /// Returns the octets that were last written out of the buffer, or that were to be written if
+    /// that failed; none if octets were buffered since.
+    pub fn last_written(&self) -> &[u8]
+        ensures few { length result.now ≤ BUFFER_OCTETS }
+        ensures over_none { self.now.is_there ≡ false → result.now ≡ [] }
+    {
+        match &self.behind {
+            Ok(behind) => behind.last_written(),
+            Err(_) => &[],
         }
     }
 }
@@ -120,8 +191,8 @@ impl<W: Write + Drop> Sink for BufferedSink<W> {
         }) }
     {
         let result = match &mut self.behind {
-            Some(behind) => behind.put(bytes),
-            None => Err(Failed),
+            Ok(behind) => behind.put(bytes),
+            Err(_) => Err(Failed),
         };
         if result.is_err() {
             self.faults = self.faults.saturating_add(1);
@@ -139,8 +210,8 @@ impl<W: Write + Drop> Sink for BufferedSink<W> {
         }) }
     {
         let result = match &mut self.behind {
-            Some(behind) => behind.flush(),
-            None => Err(Failed),
+            Ok(behind) => behind.flush(),
+            Err(_) => Err(Failed),
         };
         if result.is_err() {
             self.faults = self.faults.saturating_add(1);

@@ -12,7 +12,8 @@
 //!
 //! `FileSource`, `FileSink` and `LineOut` have no known octets, so no public clause describes the
 //! octets of a file. Their clauses state that every call without a file fails, how the count of
-//! faults changes, and that a fetch returns at most the length of the buffer. The private
+//! faults changes, that there is a last error if and only if a call failed, and that a fetch returns
+//! at most the length of the buffer. No clause states which error that is. The private
 //! `ReadAhead` and `WriteBehind` are proved to keep buffered octets in order and to lose none
 //! unless a call fails, for readers and writers with known octets; for files this is tested.
 //!

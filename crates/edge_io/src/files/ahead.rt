@@ -1,5 +1,5 @@
 //! Reads through a buffer.
-ghost use Rattle.std.specs.Prelude.{◌≡◌, ◌≤◌, OnOk};
+ghost use Rattle.std.specs.Prelude.{◌≡◌, ◌≤◌, OnOk, OnErr, IsSome};
 ghost use Rattle.std.specs.Io.{ReadsAtMost};
 ghost use Rattle.std.specs.Io.KnownBytes.{Keeps, IsAtEnd, ReadConsumes};
 ghost use Rattle.edge_io.specs.Octets.{Fetches};
@@ -7,6 +7,7 @@ ghost use Rattle.edge_io.specs.declared.files.TheConstants.{BUFFER_OCTETS};
 
 use super::BUFFER_OCTETS;
 use crate::Failed;
+use std::io;
 use std::io::{ErrorKind, Read};
 
 // Number of tries of a read that signals interrupt.
@@ -19,6 +20,8 @@ pub(super) struct ReadAhead<R> {
     buffer: [u8; BUFFER_OCTETS],
     start: usize,
     filled: usize,
+    /// Error of the last read that failed.
+    last_error: Option<io::Error>,
     ghost ordered: { start ≤ filled },
     ghost within: { filled ≤ BUFFER_OCTETS },
 }
@@ -35,14 +38,24 @@ impl<R: Read> ReadAhead<R> {
             buffer: [0; BUFFER_OCTETS],
             start: 0,
             filled: 0,
+            last_error: None,
         }
+    }
+
+    /// Returns the error of the last read that failed.
+    pub(super) fn last_error(&self) -> Option<io::Error>
+        ensures { result ≡ self.now.last_error }
+    {
+        self.last_error
     }
 
     /// Moves octets from the read buffer to the front of `buf`. Returns their number.
     #[inline]
     pub(super) fn fetch(&mut self, buf: &mut [u8]) -> Result<usize, Failed>
-        ensures { Fetches (octets_left R.remaining self.old)
+        ensures octets { Fetches (octets_left R.remaining self.old)
             (octets_left R.remaining self.new) result buf.new }
+        ensures ok { OnOk result (self.new.last_error ≡ self.old.last_error) }
+        ensures failed { OnErr result (IsSome self.new.last_error) }
     {
         let count = buf.len();
         if count > self.filled - self.start {
@@ -57,8 +70,10 @@ impl<R: Read> ReadAhead<R> {
     // Does what `fetch` does where the read buffer may have fewer octets than `buf`.
     #[cold]
     fn fetch_some(&mut self, buf: &mut [u8]) -> Result<usize, Failed>
-        ensures { Fetches (octets_left R.remaining self.old)
+        ensures octets { Fetches (octets_left R.remaining self.old)
             (octets_left R.remaining self.new) result buf.new }
+        ensures ok { OnOk result (self.new.last_error ≡ self.old.last_error) }
+        ensures failed { OnErr result (IsSome self.new.last_error) }
     {
         self.refill()?;
         let count = buf.len().min(self.filled - self.start);
@@ -72,18 +87,27 @@ impl<R: Read> ReadAhead<R> {
         ensures kept { Keeps (octets_left R.remaining self.old) (octets_left R.remaining self.new) }
         ensures end { OnOk result (self.new.start ≡ self.new.filled →
             IsAtEnd (R.remaining self.new.reader)) }
+        ensures ok { OnOk result (self.new.last_error ≡ self.old.last_error) }
+        ensures failed { OnErr result (IsSome self.new.last_error) }
     {
         if self.start == self.filled {
-            let count = read_some(&mut self.reader, &mut self.buffer)?;
-            self.start = 0;
-            self.filled = count;
+            match read_some(&mut self.reader, &mut self.buffer) {
+                Ok(count) => {
+                    self.start = 0;
+                    self.filled = count;
+                }
+                Err(error) => {
+                    self.last_error = Some(error);
+                    return Err(Failed);
+                }
+            }
         }
         Ok(())
     }
 }
 
 // Reads once, and again only if a signal interrupts the read.
-fn read_some<R: Read>(reader: &mut R, buf: &mut [u8]) -> Result<usize, Failed>
+fn read_some<R: Read>(reader: &mut R, buf: &mut [u8]) -> io::Result<usize>
     ensures within { ReadsAtMost result buf.new }
     ensures octets { ReadConsumes (R.remaining reader.old) (R.remaining reader.new) result buf.new }
 {
@@ -91,8 +115,8 @@ fn read_some<R: Read>(reader: &mut R, buf: &mut [u8]) -> Result<usize, Failed>
         match reader.read(buf) {
             Ok(count) => return Ok(count),
             Err(e) if e.kind() == ErrorKind::Interrupted => {}
-            Err(_) => return Err(Failed),
+            Err(e) => return Err(e),
         }
     }
-    Err(Failed)
+    Err(ErrorKind::Interrupted.into())
 }

@@ -1,10 +1,11 @@
 //! Writes through a buffer.
-ghost use Rattle.std.specs.Prelude.{◌≡◌, ◌+◌, ◌<◌, ◌≤◌, OnOk};
+ghost use Rattle.std.specs.Prelude.{◌≡◌, ◌+◌, ◌<◌, ◌≤◌, length, take, OnOk, OnErr, IsSome};
 ghost use Rattle.std.specs.Io.KnownBytes.{Appends, Keeps};
 ghost use Rattle.edge_io.specs.declared.files.TheConstants.{BUFFER_OCTETS};
 
 use super::BUFFER_OCTETS;
 use crate::Failed;
+use std::io;
 use std::io::Write;
 
 /// A writer with a write buffer.
@@ -13,7 +14,12 @@ pub(super) struct WriteBehind<W> {
     writer: W,
     buffer: [u8; BUFFER_OCTETS],
     filled: usize,
+    /// Number of octets that were last written out of the buffer.
+    written: usize,
+    /// Error of the last write that failed.
+    last_error: Option<io::Error>,
     ghost within: { filled ≤ BUFFER_OCTETS },
+    ghost written_within: { written ≤ BUFFER_OCTETS },
 }
 
 impl<W: Write> WriteBehind<W> {
@@ -27,17 +33,21 @@ impl<W: Write> WriteBehind<W> {
             writer,
             buffer: [0; BUFFER_OCTETS],
             filled: 0,
+            written: 0,
+            last_error: None,
         }
     }
 
     /// Buffers the octets; more than `BUFFER_OCTETS` octets are written at once.
     pub(super) fn put(&mut self, piece: &[u8]) -> Result<(), Failed>
-        ensures { OnOk result (Appends (octets_held W.contents self.old)
+        ensures octets { OnOk result (Appends (octets_held W.contents self.old)
             (octets_held W.contents self.new) piece.now) }
+        ensures ok { OnOk result (self.new.last_error ≡ self.old.last_error) }
+        ensures failed { OnErr result (IsSome self.new.last_error) }
     {
         self.make_room(piece.len())?;
         if piece.len() > BUFFER_OCTETS - self.filled {
-            return write_whole(&mut self.writer, piece);
+            return write_whole(&mut self.writer, piece, &mut self.last_error);
         }
         let end = self.filled + piece.len();
         self.buffer[self.filled..end].copy_from_slice(piece);
@@ -50,12 +60,37 @@ impl<W: Write> WriteBehind<W> {
         ensures written { OnOk result (Keeps (octets_held W.contents self.old)
             (W.contents self.new.writer)) }
         ensures empty { self.new.filled ≡ 0 }
+        ensures last { take self.new.written self.new.buffer ≡ take self.old.filled self.old.buffer }
+        ensures ok { OnOk result (self.new.last_error ≡ self.old.last_error) }
+        ensures failed { OnErr result (IsSome self.new.last_error) }
     {
         self.write_out()?;
         match self.writer.flush() {
             Ok(()) => Ok(()),
-            Err(_) => Err(Failed),
+            Err(error) => {
+                self.last_error = Some(error);
+                Err(Failed)
+            }
         }
+    }
+
+    /// Returns the error of the last write that failed.
+    pub(super) fn last_error(&self) -> Option<io::Error>
+        ensures { result ≡ self.now.last_error }
+    {
+        self.last_error
+    }
+
+    /// Returns the octets that were last written out of the buffer; none if octets were buffered
+    /// since.
+    pub(super) fn last_written(&self) -> &[u8]
+        ensures few { length result.now ≤ BUFFER_OCTETS }
+        ensures octets { self.now.filled ≡ 0 → result.now ≡ take self.now.written self.now.buffer }
+    {
+        if self.filled > 0 {
+            return &[];
+        }
+        &self.buffer[..self.written]
     }
 
     // Writes out the buffer if `count` more octets do not fit into it.
@@ -63,6 +98,8 @@ impl<W: Write> WriteBehind<W> {
         ensures kept { OnOk result (Keeps (octets_held W.contents self.old)
             (octets_held W.contents self.new)) }
         ensures room { OnOk result (BUFFER_OCTETS < self.new.filled + count → self.new.filled ≡ 0) }
+        ensures ok { OnOk result (self.new.last_error ≡ self.old.last_error) }
+        ensures failed { OnErr result (IsSome self.new.last_error) }
     {
         if count > BUFFER_OCTETS - self.filled {
             self.write_out()?;
@@ -75,20 +112,37 @@ impl<W: Write> WriteBehind<W> {
         ensures written { OnOk result (Keeps (octets_held W.contents self.old)
             (W.contents self.new.writer)) }
         ensures empty { self.new.filled ≡ 0 }
+        ensures last { take self.new.written self.new.buffer ≡ take self.old.filled self.old.buffer }
+        ensures ok { OnOk result (self.new.last_error ≡ self.old.last_error) }
+        ensures failed { OnErr result (IsSome self.new.last_error) }
     {
         let filled = self.filled;
         self.filled = 0;
-        write_whole(&mut self.writer, &self.buffer[..filled])
+        self.written = filled;
+        write_whole(
+            &mut self.writer,
+            &self.buffer[..filled],
+            &mut self.last_error,
+        )
     }
 }
 
-// Writes all the octets. `write_all` repeats an interrupted write, and fails if a write takes no
-// octet.
-fn write_whole<W: Write>(writer: &mut W, piece: &[u8]) -> Result<(), Failed>
-    ensures { OnOk result (Appends (W.contents writer.old) (W.contents writer.new) piece.now) }
+// Writes all the octets, or keeps the error. `write_all` repeats an interrupted write, and fails if a
+// write takes no octet.
+fn write_whole<W: Write>(
+    writer: &mut W,
+    piece: &[u8],
+    last_error: &mut Option<io::Error>,
+) -> Result<(), Failed>
+    ensures octets { OnOk result (Appends (W.contents writer.old) (W.contents writer.new) piece.now) }
+    ensures ok { OnOk result (last_error.new ≡ last_error.old) }
+    ensures failed { OnErr result (IsSome last_error.new) }
 {
     match writer.write_all(piece) {
         Ok(()) => Ok(()),
-        Err(_) => Err(Failed),
+        Err(error) => {
+            *last_error = Some(error);
+            Err(Failed)
+        }
     }
 }

@@ -1,10 +1,9 @@
-use Rattle.std.proofs.Common.{rules, ◌≡◌, ◌≤◌, ◌+◌, take, drop, length, ap, ◌∙◌, arith}
-use Rattle.std.proofs.lemmas.List.{take_all}
+use Rattle.std.proofs.Common.{rules, ◌≡◌, ◌≤◌, ◌+◌, take, drop, length, ap, ◌∙◌, arith, take_all}
 use Rattle.edge_io.proofs.Buffered.{taken_ahead}
 use Rattle.edge_io.proofs.files.ahead.ReadAhead.fetch.Goals as goal
 
-pub returns : goal.returns
-returns g c =
+pub returns-clause-octets : goal.returns-clause-octets
+returns-clause-octets g c =
     let now = c.args.self.now in
     let n = length c.args.buf.now in
     let got = c.copy_from_slice.new.self in

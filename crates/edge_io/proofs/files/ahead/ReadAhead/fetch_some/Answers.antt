@@ -4,13 +4,13 @@ use Rattle.edge_io.proofs.Moves.{copied}
 use Rattle.edge_io.proofs.Buffered.{Keeps-Consumes, taken_ahead, end_ahead}
 use Rattle.edge_io.proofs.files.ahead.ReadAhead.fetch_some.Goals as goal
 
-pub returns-in_err-refill : goal.returns-in_err-refill
-returns-in_err-refill g c =
+pub returns-in_err-refill-clause-octets : goal.returns-in_err-refill-clause-octets
+returns-in_err-refill-clause-octets g c =
     let p = err_from_is_err_and c.from_residual.result c.from_residual.ensures.1 in
     rw p.1 c.in_err-refill.ensures.kept
 
-pub returns : goal.returns
-returns g c =
+pub returns-clause-octets : goal.returns-clause-octets
+returns-clause-octets g c =
     let now = c.refill.new.self in
     let n = c.min-count.result in
     let got = c.copy_from_slice.new.self in
