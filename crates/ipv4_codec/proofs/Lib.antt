@@ -1,2 +1,1 @@
 pub mod PlainHeaders
-pub mod Walks

@@ -1,10 +1,11 @@
 -- A header without options and its checksum.
-use Rattle.std.proofs.Common.{◌≡◌, zero-add, ℕ, ◌+◌, ◌*◌, ◌/◌, ◌%◌, ◌≤◌, ◌<◌, ◌==◌, Bool, true, false, List, ◌++◌, length, if◌then◌else◌, refl, ap, ◌∙◌, arith}
+use Rattle.std.proofs.Common.{◌≡◌, zero-add, ℕ, ◌+◌, ◌*◌, ◌/◌, ◌%◌, ◌≤◌, ◌==◌, Bool, true, false, List, ◌++◌, length, if◌then◌else◌, refl, ap, ◌∙◌, arith}
 use Rattle.wire_base.specs.Ipv4 as ip
 use Rattle.wire_base.specs.Numbers.{with_u16}
 use Rattle.wire_base.specs.Plain.{IsPlainHeader}
 use Rattle.wire_base.specs.Sums.{word_sum, checksum_for, is_right, sum_is_right}
-use Rattle.wire_base.proofs.Mending.{word_sum-with_u16, checksum_for-below, is_right-checked}
+use Rattle.wire_base.proofs.Checksums.{word_sum-with_u16, checksum_for-below, is_right-checked}
+use Rattle.wire_base.proofs.Octets.{two-octets}
 use Rattle.ipv4_codec.specs.declared.header.Ipv4.{Ipv4}
 use Rattle.ipv4_codec.specs.Header.{fields_of}
 use Rattle.ipv4_codec.specs.Write.{octets_of, plain_fields, plain_header}
@@ -26,10 +27,6 @@ header-sum head size =
     let sum : word_sum (plain_header head size) ≡ word_sum bare + checksum_for (word_sum bare) = word_sum-with_u16 5 bare (checksum_for (word_sum bare)) (omega arith) (checksum_for-below (word_sum bare)) in
     let total : 0 + word_sum (plain_header head size) ≡ word_sum bare + checksum_for (word_sum bare) = omega (arith, sum) in
     ap is_right total ∙ is_right-checked (word_sum bare)
-
--- the two octets of a number give the number
-two-octets : (n : ℕ) → n < 65536 → 256 * (n / 256 % 256) + n % 256 ≡ n
-two-octets n small = omega arith
 
 -- the octet of the flags has neither the reserved flag nor more fragments, and its part of the offset is 0
 no-reserved : (df : Bool) → (((if df then 64 else 0) / 128 % 2) == 1) ≡ false

@@ -1,8 +1,4 @@
-pub mod Faults
+pub mod Segments
 pub mod Walks
-pub mod CleanedWalk
-pub mod Cleanings
-pub mod CleanedCopies
-pub mod Cleaned
-pub mod Written
-pub mod Mended
+pub mod Buffers
+pub mod CleanedAreas

@@ -1,7 +1,4 @@
-pub mod Mending
+pub mod Checksums
 pub mod OptionWalk
 pub mod OptionLists
-pub mod Places
-pub mod Separators
-pub mod Totals
-pub mod Words
+pub mod Octets

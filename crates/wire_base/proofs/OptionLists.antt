@@ -1,10 +1,9 @@
 -- The definitions over the list of options are equal to those by one walk over the octets.
-use Rattle.std.proofs.Common.{◌≡◌, ℕ, zero, suc, ◌+◌, ◌-◌, ◌≤◌, ◌<◌, ◌⊎◌, ◌==◌, ◌&&◌, ◌||◌, nat_le, min, inl, inr, Bool, true, false, List, [], ◌∷◌, ◌++◌, length, get_or, take, drop, Some, option_map, refl, sym, ap, ◌∙◌, ⊎_elim, arith}
+use Rattle.std.proofs.Common.{◌≡◌, ℕ, zero, suc, ◌+◌, ◌-◌, ◌≤◌, ◌<◌, ◌⊎◌, ◌==◌, ◌&&◌, ◌||◌, nat_le, min, inl, inr, Bool, true, false, List, [], ◌∷◌, ◌++◌, length, get_or, take, drop, Some, option_map, refl, sym, ap, ◌∙◌, ⊎_elim, arith, length-take, length-take-le, get_or-take, take-append-drop, append_assoc}
 use Rattle.std.specs.List.{find, flat_map, list_all, list_any}
 use Rattle.std.proofs.Math.Dec.{eqb-suc-zero}
-use Rattle.std.proofs.lemmas.Bool.{cases_lt, ne_eqb, eq-eqb, le-leb, lt-leb}
+use Rattle.std.proofs.lemmas.Bool.{cases_lt, ne_eqb, eq-eqb, le-leb, lt-leb, cases_Bool}
 use Rattle.std.proofs.lemmas.Bool.Decides.{nat_tests}
-use Rattle.std.proofs.lemmas.List.{length-take, length-take-le, get_or-take, take-append-drop, append_assoc}
 use Rattle.wire_base.specs.Options.{Listed, OptionList, with_first, options_from, is_whole, are_well_formed, is_route, has_route, is_scale, shift_of, scale_of}
 use Rattle.wire_base.specs.OptionLaws.{AreTheArea, FollowEachOther, WorkedAreas, follow_from}
 use Rattle.wire_base.proofs.OptionWalk.{formed_from, formed_from-size, formed_from-small, has_from, has_from-size, scale_from, scale_from-size}
@@ -113,11 +112,6 @@ front-scale place kind octets =
     ap (λ n. (kind == 3) && (n == 3)) s.0 ∙ sym (ap (λ b. (kind == 3) && b) other))
     (front-size octets)
 
--- a test is true or false
-pub which : (b : Bool) → (b ≡ true) ⊎ (b ≡ false)
-which true = inl refl
-which false = inr refl
-
 front-shift : (place kind : ℕ) (octets : List ℕ) → ((kind == 3) && (get_or octets 0 0 == 3)) ≡ true → shift_of (at_front place kind octets) ≡ min 14 (get_or octets 1 0)
 front-shift place kind octets e =
     let three : get_or octets 0 0 ≡ 3 = grind (arith, nat_tests) in
@@ -142,7 +136,7 @@ scale_list place zero (suc (suc k) ∷ octets) =
     ∙ rw (front-scale place kind octets) (⊎_elim (λ scale.
     rw scale (ap Some (front-shift place kind octets scale) ∙ sym (scale_from-first kind octets other scale)))
     (λ another. rw another (scale_list (suc place) (size - 1) octets ∙ sym (scale_from-size kind octets other another)))
-    (which ((kind == 3) && (size == 3))))
+    (cases_Bool ((kind == 3) && (size == 3))))
 
 pub scale_of-walk : (area : List ℕ) → scale_of area ≡ scale_from 0 area
 scale_of-walk area = scale_list 0 0 area

@@ -1,10 +1,12 @@
 -- One walk over a list of options, octet by octet: `left` is the number of octets that still belong to the option before. Its steps are stated by the offset
 -- `at` reached: the octets of the area from there on are still to be read.
-use Rattle.std.proofs.Common.{◌≡◌, length-drop, ℕ, zero, suc, ◌+◌, ◌-◌, ◌≤◌, ◌<◌, ◌&&◌, ◌||◌, ◌==◌, nat_le, min, Bool, true, false, Option, Some, None, List, [], ◌∷◌, length, get_or, drop, refl, ap, ◌∙◌, arith}
+use Rattle.std.proofs.Common.{◌≡◌, length-drop, ℕ, zero, suc, ◌+◌, ◌-◌, ◌≤◌, ◌<◌, ◌&&◌, ◌||◌, ◌==◌, nat_le, min, Bool, true, false, Option, Some, None, List, [], ◌∷◌, length, get_or, drop, refl, ap, ◌∙◌, arith, ◌⊎◌, not, nat_lt, sym, ⊎_elim}
 use Rattle.std.proofs.Math.Bool.{and-false}
 use Rattle.std.proofs.Math.Dec.{eqb-suc-zero}
-use Rattle.std.proofs.lemmas.Bool.{ne_eqb, le-leb, lt-leb}
+use Rattle.std.proofs.lemmas.Bool.{ne_eqb, le-leb, lt-leb, cases_lt}
 use Rattle.std.proofs.lemmas.List.{drop_more, drop-drop, get_or-drop}
+use Rattle.std.proofs.lemmas.Bool.Decides.{nat_tests}
+use Rattle.wire_base.specs.Options.{is_route}
 
 -- before the end option or the end of the area every option has a length octet of at least 2 and lies inside the area
 abbrev pub formed_from : (left : ℕ) → List ℕ → Bool
@@ -175,3 +177,56 @@ scale_from-option area at size e two inside other another =
     ∙ ap (λ n. scale_from (n - 1) octets) known
     ∙ scale_from-skip (size - 1) octets (omega arith)
     ∙ ap (scale_from 0) (drop-option area at size (omega arith))
+
+-- the size of an option where at least two octets are left: 1 for a no-operation, and else its length
+pub record IsSize (area : List ℕ) (at size : ℕ) : Type 0 where
+  pub begins : at + 2 ≤ length area
+  pub some : 1 ≤ get_or area at 0
+  pub none : get_or area at 0 ≡ 1 → size ≡ 1
+  pub option : 2 ≤ get_or area at 0 → size ≡ get_or area (at + 1) 0
+
+-- an option that lies inside the area, and one that is refused
+pub formed-step : (area : List ℕ) (at size : ℕ) → IsSize area at size → (2 ≤ get_or area at 0 → 2 ≤ size) → at + size ≤ length area → formed_from 0 (drop at area) ≡ formed_from 0 (drop (at + size) area)
+formed-step area at size is long inside =
+    let begins = is.begins in
+    let kinds = is.some in
+    ⊎_elim (λ bare.
+    let e : get_or area at 0 ≡ 1 = omega arith in
+    formed_from-none area at (omega arith) e ∙ ap (λ n. formed_from 0 (drop (at + n) area)) (sym (is.none e)))
+    (λ other. formed_from-option area at size (sym (is.option other)) (long other) inside other)
+    (cases_lt (get_or area at 0) 2)
+
+pub formed-refused : (area : List ℕ) (at size : ℕ) → IsSize area at size → ((2 ≤ get_or area at 0) × (size < 2)) ⊎ (length area < at + size) → formed_from 0 (drop at area) ≡ false
+formed-refused area at size is refused =
+    let begins = is.begins in
+    let kinds = is.some in
+    ⊎_elim (λ bare.
+    let e : get_or area at 0 ≡ 1 = omega arith in
+    let one = is.none e in
+    absurd (⊎_elim (λ small. omega (arith, small.0)) (λ past. omega arith) refused))
+    (λ other.
+    let e = is.option other in
+    ⊎_elim (λ small. formed_from-bad area at size (omega arith) (sym e) small other)
+    (λ two.
+    let past : length area < at + size = ⊎_elim (λ small. absurd (omega (arith, small.1))) (λ past. past) refused in
+    formed_from-outside area at size begins (sym e) two past other)
+    (cases_lt size 2))
+    (cases_lt (get_or area at 0) 2)
+
+-- an option is a source route or not, and the walk goes on behind it
+pub route-step : (area : List ℕ) (at size : ℕ) → IsSize area at size → (2 ≤ get_or area at 0 → 2 ≤ size) → at + size ≤ length area → has_from is_route 0 (drop at area) ≡ (is_route (get_or area at 0) || has_from is_route 0 (drop (at + size) area))
+route-step area at size is long inside =
+    let begins = is.begins in
+    let kinds = is.some in
+    ⊎_elim (λ bare.
+    let e : get_or area at 0 ≡ 1 = omega arith in
+    ap (has_from is_route 0) (drop-kind area at 1 (omega arith) e) ∙ ap (λ n. has_from is_route 0 (drop (at + n) area)) (sym (is.none e)) ∙ ap (λ kind. is_route kind || has_from is_route 0 (drop (at + size) area)) (sym e))
+    (λ other. has_from-option is_route area at size (sym (is.option other)) (long other) inside other)
+    (cases_lt (get_or area at 0) 2)
+
+-- an option that is not refused is not short, and one that is refused for its length is
+pub option_long : (kind size : ℕ) → (not (kind == 1) && nat_lt size 2) ≡ false → 2 ≤ kind → 2 ≤ size
+option_long kind size e other = grind (arith, nat_tests)
+
+pub option_short : (kind size : ℕ) → (not (kind == 1) && nat_lt size 2) ≡ true → 1 ≤ kind → (2 ≤ kind) × (size < 2)
+option_short kind size e some = (grind (arith, nat_tests), grind (arith, nat_tests))

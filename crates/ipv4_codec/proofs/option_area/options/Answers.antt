@@ -1,18 +1,10 @@
-use Rattle.std.proofs.Common.{◌≡◌, ℕ, ◌+◌, ◌≤◌, ◌<◌, ◌⊎◌, ◌==◌, ◌&&◌, ◌||◌, nat_lt, not, true, false, inl, inr, length, get_or, sym, ap, ◌∙◌, refl, arith}
+use Rattle.std.proofs.Common.{◌≡◌, ◌+◌, ◌≤◌, ◌<◌, ◌⊎◌, ◌||◌, true, false, inl, inr, length, get_or, sym, ap, ◌∙◌, refl, arith}
 use Rattle.std.proofs.Math.Bool.{or_assoc}
-use Rattle.std.proofs.lemmas.Bool.Decides.{nat_tests}
 use Rattle.wire_base.specs.Options.{are_well_formed}
 use Rattle.wire_base.proofs.OptionLists.{are_well_formed-walk, has_route-walk}
-use Rattle.ipv4_codec.proofs.Walks.{IsSize, formed-refused, formed-step, route-step}
+use Rattle.wire_base.proofs.OptionWalk.{IsSize, formed-refused, formed-step, option_long, option_short, route-step}
 use Rattle.ipv4_codec.proofs.option_area.options.Goals as goal
 use Rattle.ipv4_codec.proofs.option_area.options.Goals.{then-short-via-then-short, then-short-via-else-short+then-bytes-at}
-
--- an option that is not refused is not short, and one that is refused for its length is
-long : (kind size : ℕ) → (not (kind == 1) && nat_lt size 2) ≡ false → 2 ≤ kind → 2 ≤ size
-long kind size e other = grind (arith, nat_tests)
-
-short : (kind size : ℕ) → (not (kind == 1) && nat_lt size 2) ≡ true → 1 ≤ kind → (2 ≤ kind) × (size < 2)
-short kind size e some = (grind (arith, nat_tests), grind (arith, nat_tests))
 
 pub loop-at-init : goal.loop-at-init
 loop-at-init c = record { inside = omega arith; formed = are_well_formed-walk c.args.bytes.now; route = has_route-walk c.args.bytes.now }
@@ -25,7 +17,7 @@ returns-then-short c =
     let is : IsSize area at size = record { begins = omega arith; some = omega arith; none = c.size_by-size.ensures.none; option = c.size_by-size.ensures.option } in
     let refused : ((2 ≤ get_or area at 0) × (size < 2)) ⊎ (length area < at + size) =
     elim c.then-short.branch [
-      | then-short-via-then-short w ↦ inl (short (get_or area at 0) size w.if-short.true (omega arith))
+      | then-short-via-then-short w ↦ inl (option_short (get_or area at 0) size w.if-short.true (omega arith))
       | then-short-via-else-short+then-bytes-at w ↦ inr (omega arith)
     ] in
     let none : are_well_formed area ≡ false = c.loop-at.invariant.formed ∙ formed-refused area at size is refused in
@@ -38,7 +30,7 @@ loop-at-preserved c =
     let size = c.size_by-size.result in
     let inside : at + size ≤ length area = omega arith in
     let is : IsSize area at size = record { begins = omega arith; some = omega arith; none = c.size_by-size.ensures.none; option = c.size_by-size.ensures.option } in
-    let two = long (get_or area at 0) size c.if-short.false in
+    let two = option_long (get_or area at 0) size c.if-short.false in
     record {
       inside = inside;
       formed = c.loop-at.invariant.formed ∙ formed-step area at size is two inside;

@@ -1,5 +1,4 @@
-use Rattle.std.proofs.Common.{◌≡◌, ◌+◌, length, drop, ap, ◌∙◌, sym}
-use Rattle.std.proofs.lemmas.List.{length-take-le}
+use Rattle.std.proofs.Common.{◌≡◌, ◌+◌, length, drop, ap, ◌∙◌, sym, length-take-le}
 use Rattle.ipv4_codec.specs.Header.{fields_of}
 use Rattle.ipv4_codec.specs.Write.{octets_of, plain_fields}
 use Rattle.ipv4_codec.proofs.PlainHeaders.{with_u16-octets_of, fields_of-checksum}

@@ -1,7 +1,6 @@
 use Rattle.std.proofs.Common.{rules, ◌≡◌, ◌≤◌, ◌<◌, ◌+◌, ◌-◌, [], ◌∷◌, Bool, length, get_or, take, drop, replicate, if◌then◌else◌, sym, ap, subst, ◌∙◌, arith}
 use Rattle.tcp_codec.specs.Cleaning.{StandsFor}
-use Rattle.tcp_codec.proofs.Cleanings.{filled}
-use Rattle.tcp_codec.proofs.CleanedCopies.{CopiedTo-start, CopiedTo-other, CopiedTo-kept, CopiedTo-end, CopiedTo-whole, copied, kept-kind}
+use Rattle.tcp_codec.proofs.Buffers.{filled, CopiedTo-start, CopiedTo-other, CopiedTo-kept, CopiedTo-end, CopiedTo-whole, copied, kept-kind}
 use Rattle.tcp_codec.proofs.Walks.{last-kind, option_some}
 use Rattle.tcp_codec.proofs.cleaning.clean_into.Goals as goal
 use Rattle.tcp_codec.proofs.cleaning.clean_into.Goals.{then-keeps, else-keeps, then-loop-at-test+else-area-at-ne-END, else-loop-at-test, else-at-area-via-then-at-area+else-area-at-eq-END, else-at-area-via-else-at-area}

@@ -1,5 +1,5 @@
 use Rattle.std.proofs.Common.{◌-◌, length}
-use Rattle.tcp_codec.proofs.CleanedCopies.{CopiedTo}
+use Rattle.tcp_codec.proofs.Buffers.{CopiedTo}
 use Rattle.tcp_codec.proofs.cleaning.clean_into.Given as goal
 
 abbrev pub invariant-loop-at : goal.invariant-loop-at

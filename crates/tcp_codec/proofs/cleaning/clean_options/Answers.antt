@@ -1,6 +1,6 @@
 use Rattle.std.proofs.Common.{rules, ◌≡◌, ◌≤◌, ◌<◌, ◌+◌, ◌-◌, [], ◌∷◌, Bool, length, get_or, take, drop, replicate, if◌then◌else◌, sym, subst, ◌∙◌, arith}
 use Rattle.tcp_codec.specs.Cleaning.{StandsFor}
-use Rattle.tcp_codec.proofs.Cleanings.{SoFar-start, SoFar-none, SoFar-kept, SoFar-blanked, SoFar-end, SoFar-changed, blanked, filled}
+use Rattle.tcp_codec.proofs.Buffers.{SoFar-start, SoFar-none, SoFar-kept, SoFar-blanked, SoFar-end, SoFar-changed, blanked, filled}
 use Rattle.tcp_codec.proofs.cleaning.clean_options.Goals as goal
 use Rattle.tcp_codec.proofs.cleaning.clean_options.Goals.{then-not-keeps, else-not-keeps, then-loop-at-test+else-options-at-ne-END, else-loop-at-test}
 

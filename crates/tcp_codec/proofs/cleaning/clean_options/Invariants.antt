@@ -1,5 +1,5 @@
 use Rattle.std.proofs.Common.{◌-◌, length}
-use Rattle.tcp_codec.proofs.Cleanings.{SoFar}
+use Rattle.tcp_codec.proofs.Buffers.{SoFar}
 use Rattle.tcp_codec.proofs.cleaning.clean_options.Given as goal
 
 abbrev pub invariant-loop-at : goal.invariant-loop-at

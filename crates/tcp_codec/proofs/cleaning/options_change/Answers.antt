@@ -1,6 +1,6 @@
 use Rattle.std.proofs.Common.{rules, ◌≡◌, ◌≤◌, ◌<◌, [], ◌∷◌, Bool, length, get_or, if◌then◌else◌, sym, subst, ◌∙◌, arith}
 use Rattle.tcp_codec.specs.Cleaning.{StandsFor}
-use Rattle.tcp_codec.proofs.Cleanings.{SoFar-start, SoFar-none, SoFar-kept, SoFar-other, SoFar-whole}
+use Rattle.tcp_codec.proofs.Buffers.{SoFar-start, SoFar-none, SoFar-kept, SoFar-other, SoFar-whole}
 use Rattle.tcp_codec.proofs.cleaning.options_change.Goals as goal
 use Rattle.tcp_codec.proofs.cleaning.options_change.Goals.{then-loop-at-test+else-options-at-ne-END, else-loop-at-test}
 

@@ -1,5 +1,5 @@
 use Rattle.std.proofs.Common.{◌-◌, false, length}
-use Rattle.tcp_codec.proofs.Cleanings.{SoFar}
+use Rattle.tcp_codec.proofs.Buffers.{SoFar}
 use Rattle.tcp_codec.proofs.cleaning.options_change.Given as goal
 
 -- the options before the offset are as they are when they are cleaned

@@ -3,7 +3,7 @@ use Rattle.wire_base.specs.Tcp as tcp
 use Rattle.wire_base.specs.Sums.{sum_is_right}
 use Rattle.wire_base.specs.Options.{are_well_formed}
 use Rattle.tcp_codec.specs.Header.{fields_of, is_judged}
-use Rattle.tcp_codec.proofs.Faults.{area_is, parsed-options}
+use Rattle.tcp_codec.proofs.Segments.{area_is, parsed-options}
 use Rattle.tcp_codec.proofs.header.parse_into.Goals as goal
 
 pub returns-then-not-are_well_formed-clause-exact : goal.returns-then-not-are_well_formed-clause-exact

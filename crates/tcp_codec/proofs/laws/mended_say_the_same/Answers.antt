@@ -1,7 +1,7 @@
 use Rattle.std.proofs.Common.{◌+◌}
 use Rattle.wire_base.specs.Numbers.{with_u16}
 use Rattle.wire_base.specs.Sums.{word_sum, checksum_for}
-use Rattle.tcp_codec.proofs.Mended.{says_the_same}
+use Rattle.tcp_codec.proofs.Segments.{says_the_same}
 use Rattle.tcp_codec.proofs.laws.mended_say_the_same.Goals as goal
 
 pub returns : goal.returns

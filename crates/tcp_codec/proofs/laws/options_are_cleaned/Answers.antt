@@ -1,4 +1,4 @@
-use Rattle.tcp_codec.proofs.Cleaned.{cleans_octets, cleans_once, stays_well_formed}
+use Rattle.tcp_codec.proofs.CleanedAreas.{cleans_octets, cleans_once, stays_well_formed}
 use Rattle.tcp_codec.proofs.laws.options_are_cleaned.Goals as goal
 
 pub returns-clause-once : goal.returns-clause-once

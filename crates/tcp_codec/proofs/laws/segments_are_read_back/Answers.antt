@@ -1,4 +1,4 @@
-use Rattle.tcp_codec.proofs.Written.{read_back}
+use Rattle.tcp_codec.proofs.Segments.{read_back}
 use Rattle.tcp_codec.proofs.laws.segments_are_read_back.Goals as goal
 
 pub returns : goal.returns

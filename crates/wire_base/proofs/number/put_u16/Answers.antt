@@ -1,5 +1,5 @@
 use Rattle.std.proofs.Common.{arith}
-use Rattle.wire_base.proofs.Places.{write_at}
+use Rattle.wire_base.proofs.Octets.{write_at}
 use Rattle.wire_base.proofs.number.put_u16.Goals as goal
 
 pub returns : goal.returns

@@ -3,7 +3,7 @@ use Rattle.std.specs.List.{position_or_len}
 use Rattle.std.proofs.lemmas.Iterator.{YieldsList-from_slice}
 use Rattle.std.proofs.lemmas.Iterator.Search.{position_from_yields_List}
 use Rattle.std.proofs.lemmas.List.{take_all, take_rest, drop_all}
-use Rattle.wire_base.proofs.Separators.{found, not_found}
+use Rattle.wire_base.proofs.Octets.{found, not_found}
 use Rattle.wire_base.proofs.prefix.split_at_first.Goals as goal
 
 pub returns-in-Some-clause-before : goal.returns-in-Some-clause-before

@@ -1,9 +1,24 @@
--- Totals that count as the same sum.
-use Rattle.std.proofs.Common.{◌≡◌, ℕ, ◌+◌, ◌≤◌, ◌<◌, List, [], ◌∷◌, length, drop, slice_index, ◌*◌, refl, ap, arith}
+-- Sums of words: which numbers count as the same sum, and a checksum that is written into its field.
+use Rattle.std.proofs.Common.{zero-le, ◌≡◌, ℕ, zero, suc, ◌+◌, List, [], ◌∷◌, drop, refl, arith, ◌≤◌, ◌<◌, length, slice_index, ◌*◌, ap, true}
 use Rattle.std.proofs.lemmas.List.{drop_all}
+use Rattle.std.proofs.lemmas.Bool.Decides.{nat_tests}
 use Rattle.byteorder.specs.Endian.{little_from}
-use Rattle.wire_base.specs.Sums.{CountsAs, eight_at, lowest_first_at, word_sum}
-use Rattle.wire_base.proofs.Words.{word_sum-drop}
+use Rattle.wire_base.specs.Numbers.{u16_at, with_u16}
+use Rattle.wire_base.specs.Sums.{word_sum, CountsAs, eight_at, lowest_first_at, is_right, checksum_for}
+
+-- Sums of words over parts of the octets.
+
+-- the octets from the offset `at` on begin with a word; past the end it is 0
+pub word_sum-drop : (octets : List ℕ) (at : ℕ) → word_sum (drop at octets) ≡ u16_at octets at + word_sum (drop (at + 2) octets)
+word_sum-drop [] at = rw (drop_all {X = ℕ} at [] zero-le, drop_all {X = ℕ} (at + 2) [] zero-le) refl
+word_sum-drop (x ∷ []) zero = omega arith
+word_sum-drop (x ∷ y ∷ octets) zero = omega arith
+word_sum-drop (x ∷ octets) (suc at) =
+    let one : suc at + 1 ≡ suc (at + 1) = omega arith in
+    let two : suc at + 2 ≡ suc (at + 2) = omega arith in
+    rw (one, two) (word_sum-drop octets at)
+
+-- Totals that count as the same sum.
 
 -- transitivity
 pub CountsAs-trans : (a b c : ℕ) → CountsAs a b → CountsAs b c → CountsAs a c
@@ -90,3 +105,23 @@ few_octets (a ∷ b ∷ c ∷ d ∷ e ∷ f ∷ g ∷ h ∷ octets) short = absu
 -- at most eight octets from the offset `at` on are one number
 pub CountsAs-last : (octets : List ℕ) (sum total at : ℕ) → length octets ≤ at + 8 → CountsAs (256 * sum + word_sum (drop at octets)) total → CountsAs (256 * (sum + eight_at octets at)) total
 CountsAs-last octets sum total at past before = CountsAs-none octets _ total (at + 8) past (CountsAs-eight octets sum total at (at + 8) refl before)
+
+-- Checksums written into their fields.
+
+-- a number below 2^16 at an even offset is one of the words
+pub word_sum-with_u16 : (n : ℕ) (octets : List ℕ) (value : ℕ) → 2 * n + 2 ≤ length octets → value < 65536 → word_sum (with_u16 octets (2 * n) value) ≡ word_sum (with_u16 octets (2 * n) 0) + value
+word_sum-with_u16 zero octets value inside small = omega arith
+word_sum-with_u16 (suc n) [] value inside small = absurd (omega arith)
+word_sum-with_u16 (suc n) (x ∷ []) value inside small = absurd (omega arith)
+word_sum-with_u16 (suc n) (x ∷ y ∷ octets) value inside small =
+    let e : 2 * suc n ≡ suc (suc (2 * n)) = omega arith in
+    let past : suc (suc (2 * n)) + 2 ≡ suc (suc (2 * n + 2)) = omega arith in
+    rw (e, past) (omega (arith, word_sum-with_u16 n octets value (omega arith) small))
+
+-- a checksum has 16 bits
+pub checksum_for-below : (total : ℕ) → checksum_for total < 65536
+checksum_for-below total = grind (arith, nat_tests)
+
+-- a total with its checksum is right
+pub is_right-checked : (total : ℕ) → is_right (total + checksum_for total) ≡ true
+is_right-checked total = grind (arith, nat_tests)

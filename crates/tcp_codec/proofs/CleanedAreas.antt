@@ -1,14 +1,14 @@
 -- Laws of cleaned areas.
 use Rattle.std.proofs.Common.{◌≡◌, ℕ, zero, suc, ◌-◌, ◌≤◌, ◌<◌, ◌⊎◌, ◌==◌, ◌&&◌, inl, inr, Bool, true, false, List, [], ◌∷◌, length, get_or, replicate, not, min, Some, None, refl, sym, subst, ap, ◌∙◌, ⊎_elim, arith}
-use Rattle.std.proofs.lemmas.Bool.{cases_lt}
+use Rattle.std.proofs.lemmas.Bool.{cases_lt, cases_Bool}
 use Rattle.std.proofs.lemmas.Bool.Decides.{nat_tests}
 use Rattle.std.proofs.lemmas.List.{length-replicate}
 use Rattle.std.specs.List.{list_any}
 use Rattle.wire_base.specs.Options.{cleaned, end_of}
 use Rattle.wire_base.proofs.OptionWalk.{formed_from, formed_from-size, formed_from-small, scale_from, scale_from-size}
-use Rattle.wire_base.proofs.OptionLists.{are_well_formed-walk, has-first, scale_of-walk, scale_from-first, which}
+use Rattle.wire_base.proofs.OptionLists.{are_well_formed-walk, has-first, scale_of-walk, scale_from-first}
 use Rattle.tcp_codec.specs.Cleaning.{CleansOctets, CleansOnce, KeepsScale, LosesScale, StaysWellFormed, is_kept_after}
-use Rattle.tcp_codec.proofs.CleanedWalk.{cleaned_from, cleaned_from-first, cleaned_from-other, cleaned-walk, end_from, end_from-sized, end_of-walk}
+use Rattle.tcp_codec.proofs.Walks.{cleaned_from, cleaned_from-first, cleaned_from-other, cleaned-walk, end_from, end_from-sized, end_of-walk}
 
 -- the number of octets that still belong to the option before in a walk over the cleaned area: 0 if that option was not kept
 abbrev pub again : Bool → ℕ → ℕ
@@ -52,7 +52,7 @@ once syn before keep zero (suc (suc k) ∷ octets) =
     (λ blank.
     let e = cleaned_from-other syn before kind octets other blank in
     ap (cleaned_from syn before true 0) e ∙ ap (λ xs. 1 ∷ xs) (once syn before false (size - 1) octets) ∙ sym e)
-    (which (is_kept_after syn before kind size)))
+    (cases_Bool (is_kept_after syn before kind size)))
 
 pub cleans_once : CleansOnce
 cleans_once syn area =
@@ -89,7 +89,7 @@ formed syn before keep zero (suc (suc k) ∷ octets) h =
     ∙ ap (λ n. formed_from (n - 1) behind) first
     ∙ formed syn (kind ∷ before) true (size - 1) octets left)
     (λ blank. ap (formed_from 0) (cleaned_from-other syn before kind octets other blank) ∙ formed syn before false (size - 1) octets left)
-    (which (is_kept_after syn before kind size)))
+    (cases_Bool (is_kept_after syn before kind size)))
 
 pub stays_well_formed : StaysWellFormed
 stays_well_formed syn area h =
@@ -125,7 +125,7 @@ octets_are syn before keep zero (suc (suc k) ∷ octets) place =
     (λ blank.
     let e = cleaned_from-other syn before kind octets other blank in
     rw (end, e) (one_more _ kind 1 octets _ (inr refl) (octets_are syn before false (size - 1) octets) place))
-    (which (is_kept_after syn before kind size))
+    (cases_Bool (is_kept_after syn before kind size))
 
 -- cleaning keeps the number of octets
 cleaned_from-length : (syn : Bool) (before : List ℕ) (keep : Bool) (left : ℕ) (octets : List ℕ) → length (cleaned_from syn before keep left octets) ≡ length octets
@@ -139,7 +139,7 @@ cleaned_from-length syn before keep zero (suc (suc k) ∷ octets) =
     let size = get_or octets 0 0 in
     ⊎_elim (λ kept. ap length (cleaned_from-first syn before kind octets other kept) ∙ ap suc (cleaned_from-length syn (kind ∷ before) true (size - 1) octets))
     (λ blank. ap length (cleaned_from-other syn before kind octets other blank) ∙ ap suc (cleaned_from-length syn before false (size - 1) octets))
-    (which (is_kept_after syn before kind size))
+    (cases_Bool (is_kept_after syn before kind size))
 
 pub cleans_octets : CleansOctets
 cleans_octets syn area = record {
@@ -186,7 +186,7 @@ kept-scale before kind octets none other kept behind =
     (λ another.
     let others : list_any (λ other. other == 3) (kind ∷ before) ≡ false = rw (other-kind before kind size kept another) none in
     scale_from-size kind left other (here ∙ another) ∙ ap (λ n. scale_from (n - 1) left) first ∙ behind others ∙ sym (scale_from-size kind octets other another))
-    (which ((kind == 3) && (size == 3)))
+    (cases_Bool ((kind == 3) && (size == 3)))
 
 -- the octets not yet read have the same window scale when they are cleaned
 same-scale : (before : List ℕ) (keep : Bool) (left : ℕ) (octets : List ℕ) → list_any (λ other. other == 3) before ≡ false → scale_from (again keep left) (cleaned_from true before keep left octets) ≡ scale_from left octets
@@ -201,9 +201,9 @@ same-scale before keep zero (suc (suc k) ∷ octets) none =
     let size = get_or octets 0 0 in
     rw (again-zero keep) (⊎_elim (λ kept. ap (scale_from 0) (cleaned_from-first true before kind octets other kept) ∙ kept-scale before kind octets none other kept (same-scale (kind ∷ before) true (size - 1) octets))
     (λ blank.
-    let another : ((kind == 3) && (size == 3)) ≡ false = ⊎_elim (λ scale. let keeps = first-scale before kind size none scale in cc) (λ another. another) (which ((kind == 3) && (size == 3))) in
+    let another : ((kind == 3) && (size == 3)) ≡ false = ⊎_elim (λ scale. let keeps = first-scale before kind size none scale in cc) (λ another. another) (cases_Bool ((kind == 3) && (size == 3))) in
     ap (scale_from 0) (cleaned_from-other true before kind octets other blank) ∙ same-scale before false (size - 1) octets none ∙ sym (scale_from-size kind octets other another))
-    (which (is_kept_after true before kind size)))
+    (cases_Bool (is_kept_after true before kind size)))
 
 pub keeps_scale : KeepsScale
 keeps_scale area =
@@ -232,7 +232,7 @@ no-scale before keep zero (suc (suc k) ∷ octets) =
     ∙ ap (λ n. scale_from (n - 1) behind) first
     ∙ no-scale (kind ∷ before) true (size - 1) octets)
     (λ blank. ap (scale_from 0) (cleaned_from-other false before kind octets other blank) ∙ no-scale before false (size - 1) octets)
-    (which (is_kept_after false before kind size)))
+    (cases_Bool (is_kept_after false before kind size)))
 
 pub loses_scale : LosesScale
 loses_scale area = scale_of-walk (cleaned false area) ∙ ap (scale_from 0) (cleaned-walk false area) ∙ no-scale [] true 0 area
