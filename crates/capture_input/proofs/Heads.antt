@@ -1,34 +1,30 @@
 -- Opening of an input: its kind by its first octets, and its head.
-use Rattle.std.proofs.Common.{◌≡◌, ℕ, ◌<◌, ◌≤◌, Bool, true, false, List, [], ◌∷◌, ◌++◌, length, take, Option, Some, None, IsSome, Result, Ok, Err, refl, sym, ap, ◌∙◌, subst, arith, inl, inr, append-nil}
+use Rattle.std.proofs.Common.{◌≡◌, ℕ, ◌<◌, ◌≤◌, Bool, true, false, List, [], ◌∷◌, ◌++◌, length, take, Option, Some, None, IsSome, Result, Ok, Err, refl, sym, ap, ◌∙◌, subst, arith, inl, inr, append-nil, take_all, take_at, bytes_eq}
 use Rattle.std.proofs.lemmas.Bool.{cases_lt}
-use Rattle.std.proofs.lemmas.List.{take_all, take_at}
-use Rattle.std.specs.Str.{bytes_eq}
 use Rattle.std.specs.Io.KnownBytes.{Consumes, IsAtEnd, prepend_known}
 use Rattle.edge_io.specs.Octets.{TakesFewer}
 use Rattle.wire_base.specs.declared.address.Link.{Link}
 use Rattle.pcap_file.specs.declared.head.Head.{Head}
 use Rattle.pcap_file.specs.declared.head.HeadFault.{HeadFault}
 use Rattle.pcap_file.specs.declared.head.HeadFault.TheVariants as heads
-use Rattle.pcap_file.specs.Flaws.{Flaw, cut_short, bad_magic, bad_version, bad_link}
+use Rattle.pcap_file.specs.Flaws.{cut_short}
 use Rattle.pcap_file.specs.Heads.{head_of}
 use Rattle.pcap_file.specs.ReadsHead.{ReadsHead, Begins, Judges}
 use Rattle.pcap_file.specs.Reading.{Reading}
-use Rattle.pcap_file.proofs.Fronts.{whole}
-use Rattle.pcap_file.proofs.Beginnings.{begins_short, judged}
+use Rattle.pcap_file.proofs.Records.{whole, begins_short, judged}
 use Rattle.pcapng_file.specs.declared.fault.NgFault.TheVariants as blocks_fault
-use Rattle.pcapng_file.specs.declared.fault.OpenFault as sections
 use Rattle.pcapng_file.specs.Standing.{Sections, no_section}
 use Rattle.pcapng_file.specs.Blocks.{Step}
 use Rattle.pcapng_file.specs.Sections.{Walks, behind, EndsAtInterface}
 use Rattle.pcapng_file.specs.Reading.{NgReading, written_head}
-use Rattle.pcapng_file.specs.Reads.{OpensAt, FailsAhead}
-use Rattle.pcapng_file.proofs.Ends.{blocks_counted}
+use Rattle.pcapng_file.specs.Reads.{OpensAt}
+use Rattle.pcapng_file.proofs.Sections.{blocks_counted}
 use Rattle.capture_input.specs.declared.fault.InputFault.{InputFault}
 use Rattle.capture_input.specs.declared.fault.InputFault.TheVariants as faults
 use Rattle.capture_input.specs.declared.fault.OpenFault.{OpenFault}
 use Rattle.capture_input.specs.declared.input.Input.{Input}
 use Rattle.capture_input.specs.declared.input.Input.TheVariants as kinds
-use Rattle.capture_input.specs.Faults.{of_flaw, of_head, at_first, at_block}
+use Rattle.capture_input.specs.Faults.{at_first}
 use Rattle.capture_input.specs.Inputs.{records, blocks, section_octets, is_sections, classic_head, IsHeadOf, BlocksEndAt, Took}
 use Rattle.capture_input.specs.Reads as reads
 
@@ -80,28 +76,6 @@ classic_opens inside a b head reader kind p none is = record {
   goes_on = ap (λ (r : Reading). r.is_open) is;
 }
 
-refused : (inside a b : Option (List ℕ)) (flaw : Flaw) → Begins a b (Err flaw) → reads.IsRefused inside a b (of_flaw flaw)
-refused inside None b flaw p = tt
-refused inside (Some x) None flaw p = absurd p
-refused inside (Some x) (Some y) flaw p = (ap (classic_head inside) p.0, p.1)
-
-pub classic_stops : (inside a b : Option (List ℕ)) (fault : HeadFault) → reads.IsKind false a → ReadsHead a b (Err fault) → reads.Opens inside a b (Err (at_first (of_head fault)))
-classic_stops inside a b heads.Cut kind p = inl (record { kind = kind; stops = refused inside a b cut_short p; place = refl })
-classic_stops inside a b heads.Magic kind p = inl (record { kind = kind; stops = refused inside a b bad_magic p; place = refl })
-classic_stops inside a b heads.Version kind p = inl (record { kind = kind; stops = refused inside a b bad_version p; place = refl })
-classic_stops inside a b heads.Link kind p = inl (record { kind = kind; stops = refused inside a b bad_link p; place = refl })
-classic_stops inside a b heads.ReadFault kind p = inl (record { kind = kind; stops = p; place = refl })
-
--- a head that has no interfaces
-no_interface : (name : List ℕ) (a b : Option (List ℕ)) (head : Head) → Begins a b (Ok head) → reads.IsRefused (Some name) a b faults.Block
-no_interface name None b head p = tt
-no_interface name (Some x) None head p = absurd p
-no_interface name (Some x) (Some y) head p = (ap (classic_head (Some name)) p.0, p.1)
-
-pub classic_refused : (inside a b : Option (List ℕ)) (head : Head) → reads.IsKind false a → ReadsHead a b (Ok head) → IsSome inside → reads.Opens inside a b (Err (at_first faults.Block))
-classic_refused None a b head kind p some = absurd cc
-classic_refused (Some name) a b head kind p some = inl (record { kind = kind; stops = no_interface name a b head p; place = refl })
-
 -- a pcapng file
 
 pub head_of_link : (link : Option Link) → IsSome link → IsHeadOf link (written_head link)
@@ -150,9 +124,6 @@ module _ (inside a b : Option (List ℕ)) (reader : NgReading) (kind : reads.IsK
         looked = p.moves.looked;
         goes_on = p.moves.goes_on;
       }
-
-pub sections_stop : (inside a b : Option (List ℕ)) (stop : sections.OpenFault) → reads.IsKind true a → FailsAhead inside a b stop.fault stop.offset → reads.Opens inside a b (Err (at_block stop))
-sections_stop inside a b stop kind p = inr (record { kind = kind; flaw = stop.fault; stops = p; is = refl })
 
 -- either
 

@@ -1,8 +1,5 @@
 pub mod Heads
-pub mod Walking
+pub mod Steps
 pub mod Sides
-pub mod Unique
-pub mod Newest
-pub mod Ends
+pub mod Inputs
 pub mod Stops
-pub mod Last

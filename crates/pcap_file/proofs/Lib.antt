@@ -1,5 +1,2 @@
-pub mod Fronts
-pub mod Beginnings
-pub mod Unique
-pub mod Ends
-pub mod Written
+pub mod Records
+pub mod Captures

@@ -1,9 +1,6 @@
-pub mod Placed
-pub mod OptionLists
-pub mod Values
-pub mod Takings
-pub mod Fields
-pub mod Wholes
-pub mod Walking
-pub mod Unique
-pub mod Ends
+pub mod Contents
+pub mod Options
+pub mod BlockReads
+pub mod Bodies
+pub mod Fronts
+pub mod Sections

@@ -1,4 +1,4 @@
-use Rattle.capture_input.proofs.Unique.{fault_one}
+use Rattle.capture_input.proofs.Inputs.{fault_one}
 use Rattle.capture_input.proofs.laws.fault_is_one.Goals as goal
 
 pub returns : goal.returns

@@ -1,4 +1,4 @@
-use Rattle.capture_input.proofs.Unique.{input_one}
+use Rattle.capture_input.proofs.Inputs.{input_one}
 use Rattle.capture_input.proofs.laws.input_is_one.Goals as goal
 
 pub returns : goal.returns

@@ -1,4 +1,4 @@
-use Rattle.capture_input.proofs.Last.{head_stops_leave_none, input_has_all, stops_leave_none}
+use Rattle.capture_input.proofs.Stops.{head_stops_leave_none, input_has_all, stops_leave_none}
 use Rattle.capture_input.proofs.laws.nothing_is_left.Goals as goal
 
 pub returns-clause-input : goal.returns-clause-input

@@ -1,6 +1,5 @@
 use Rattle.std.proofs.Common.{rules, arith, length, ◌≡◌}
-use Rattle.pcap_file.proofs.Fronts.{whole}
-use Rattle.pcap_file.proofs.Beginnings.{begins_short, judged}
+use Rattle.pcap_file.proofs.Records.{whole, begins_short, judged}
 use Rattle.pcap_file.proofs.head.read_head.Goals as goal
 
 pub returns-then-count-lt24-clause-octets : goal.returns-then-count-lt24-clause-octets

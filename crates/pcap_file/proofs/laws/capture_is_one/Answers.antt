@@ -1,4 +1,4 @@
-use Rattle.pcap_file.proofs.Unique.{capture_one}
+use Rattle.pcap_file.proofs.Captures.{capture_one}
 use Rattle.pcap_file.proofs.laws.capture_is_one.Goals as goal
 
 pub returns : goal.returns

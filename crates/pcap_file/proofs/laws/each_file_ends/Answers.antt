@@ -1,4 +1,4 @@
-use Rattle.pcap_file.proofs.Ends.{each_ends}
+use Rattle.pcap_file.proofs.Captures.{each_ends}
 use Rattle.pcap_file.proofs.laws.each_file_ends.Goals as goal
 
 pub returns : goal.returns

@@ -1,4 +1,4 @@
-use Rattle.pcap_file.proofs.Unique.{flaw_no_end}
+use Rattle.pcap_file.proofs.Captures.{flaw_no_end}
 use Rattle.pcap_file.proofs.laws.flaw_excludes_end.Goals as goal
 
 pub returns : goal.returns

@@ -1,4 +1,4 @@
-use Rattle.pcap_file.proofs.Unique.{flaw_one}
+use Rattle.pcap_file.proofs.Captures.{flaw_one}
 use Rattle.pcap_file.proofs.laws.flaw_is_one.Goals as goal
 
 pub returns : goal.returns

@@ -1,4 +1,4 @@
-use Rattle.pcap_file.proofs.Written.{head_read_back}
+use Rattle.pcap_file.proofs.Records.{head_read_back}
 use Rattle.pcap_file.proofs.laws.head_is_read_back.Goals as goal
 
 pub returns : goal.returns

@@ -1,7 +1,6 @@
-use Rattle.std.proofs.Common.{rules, arith, ◌≡◌, ◌-◌, length, drop, ◌++◌, refl, sym, ap}
+use Rattle.std.proofs.Common.{rules, arith, ◌≡◌, ◌-◌, length, drop, ◌++◌, refl, sym, ap, length-append}
 use Rattle.std.proofs.lemmas.Result.{err_from_is_err_and}
-use Rattle.std.proofs.lemmas.List.{length-append}
-use Rattle.pcapng_file.proofs.Takings.{head_filled, head_fewer, front_kept}
+use Rattle.pcapng_file.proofs.BlockReads.{head_filled, head_fewer, front_kept}
 use Rattle.pcapng_file.proofs.ahead.read_behind.Goals as goal
 
 pub returns-in_err-more-clause-octets : goal.returns-in_err-more-clause-octets

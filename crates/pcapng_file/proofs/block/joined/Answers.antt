@@ -1,5 +1,5 @@
 use Rattle.std.proofs.Common.{rules, refl, ap₂, ◌++◌, ◌∙◌}
-use Rattle.pcapng_file.proofs.Wholes.{joined_is}
+use Rattle.pcapng_file.proofs.Bodies.{joined_is}
 use Rattle.pcapng_file.proofs.block.joined.Goals as goal
 
 pub returns : goal.returns

@@ -1,7 +1,8 @@
 use Rattle.std.proofs.Common.{rules, arith, sym, ◌∙◌}
 use Rattle.std.proofs.lemmas.Result.{err_from_is_err_and}
-use Rattle.pcap_file.proofs.Fronts.{whole}
-use Rattle.pcapng_file.proofs.Wholes.{ends_here, head_short, stops_many, stops_front, block_short, block_taken}
+use Rattle.pcap_file.proofs.Records.{whole}
+use Rattle.pcapng_file.proofs.Fronts.{stops_many, stops_front}
+use Rattle.pcapng_file.proofs.Bodies.{ends_here, head_short, block_short, block_taken}
 use Rattle.pcapng_file.proofs.block.read_block.Goals as goal
 
 pub returns-in-Some-clause-octets : goal.returns-in-Some-clause-octets

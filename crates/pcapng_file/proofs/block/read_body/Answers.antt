@@ -1,6 +1,6 @@
 use Rattle.std.proofs.Common.{rules, arith, ◌≡◌, length}
 use Rattle.std.proofs.lemmas.Result.{err_from_is_err_and}
-use Rattle.pcapng_file.proofs.Takings.{short_behind, body_read}
+use Rattle.pcapng_file.proofs.BlockReads.{short_behind, body_read}
 use Rattle.pcapng_file.proofs.block.read_body.Goals as goal
 
 pub returns-in_err-pass-in-Packet-clause-octets : goal.returns-in_err-pass-in-Packet-clause-octets

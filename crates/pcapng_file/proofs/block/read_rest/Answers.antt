@@ -1,13 +1,12 @@
-use Rattle.std.proofs.Common.{rules, arith, ◌≡◌, ◌≤◌, ◌∙◌, length, sym, subst}
+use Rattle.std.proofs.Common.{rules, arith, ◌≡◌, ◌≤◌, ◌∙◌, length, sym, subst, length-append}
 use Rattle.std.proofs.lemmas.Result.{err_from_is_err_and}
 use Rattle.std.proofs.KnownBytes.{Consumes-trans}
-use Rattle.std.proofs.lemmas.List.{length-append}
 use Rattle.pcapng_file.specs.declared.content.Content.{Content}
 use Rattle.pcapng_file.specs.Standing.{known}
-use Rattle.pcapng_file.proofs.Placed.{IsPlaced}
-use Rattle.pcapng_file.proofs.Fields.{content_placed, more_fits}
-use Rattle.pcapng_file.proofs.Takings.{short_behind}
-use Rattle.pcapng_file.proofs.Wholes.{is_bigger, room_is, rest_bare, rest_closed, rest_unclosed, content_read}
+use Rattle.pcapng_file.proofs.Contents.{IsPlaced, content_placed, more_fits}
+use Rattle.pcapng_file.proofs.BlockReads.{short_behind}
+use Rattle.pcapng_file.proofs.Fronts.{is_bigger}
+use Rattle.pcapng_file.proofs.Bodies.{room_is, rest_bare, rest_closed, rest_unclosed, content_read}
 use Rattle.pcapng_file.proofs.block.read_rest.Goals as goal
 
 pub returns-then-front-eq12-clause-octets : goal.returns-then-front-eq12-clause-octets

@@ -1,6 +1,4 @@
-use Rattle.std.proofs.Common.{◌≡◌, min, take, ap, ◌∙◌, arith}
-use Rattle.std.proofs.lemmas.List.{take_all}
-use Rattle.std.specs.Str.{bytes_eq}
+use Rattle.std.proofs.Common.{◌≡◌, min, take, ap, ◌∙◌, arith, take_all, bytes_eq}
 use Rattle.pcapng_file.proofs.interface.is_name.Goals as goal
 
 pub returns-then-name-from : goal.returns-then-name-from

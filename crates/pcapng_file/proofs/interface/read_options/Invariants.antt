@@ -1,5 +1,5 @@
 use Rattle.std.proofs.Common.{◌≡◌, ◌≤◌, length, option_map}
-use Rattle.pcapng_file.proofs.Values.{SeesOptions}
+use Rattle.pcapng_file.proofs.Options.{SeesOptions}
 use Rattle.pcapng_file.proofs.interface.read_options.Given as goal
 
 -- the options so far were taken, and `seen` are their facts

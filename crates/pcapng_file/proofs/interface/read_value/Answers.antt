@@ -1,5 +1,5 @@
 use Rattle.std.proofs.Common.{rules, arith}
-use Rattle.pcapng_file.proofs.Values.{value_read}
+use Rattle.pcapng_file.proofs.Options.{value_read}
 use Rattle.pcapng_file.proofs.interface.read_value.Goals as goal
 
 pub returns-clause-octets : goal.returns-clause-octets

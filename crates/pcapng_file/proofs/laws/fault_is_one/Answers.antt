@@ -1,4 +1,4 @@
-use Rattle.pcapng_file.proofs.Unique.{fault_one}
+use Rattle.pcapng_file.proofs.Sections.{fault_one}
 use Rattle.pcapng_file.proofs.laws.fault_is_one.Goals as goal
 
 pub returns : goal.returns

@@ -1,4 +1,4 @@
-use Rattle.pcapng_file.proofs.Ends.{link_stays}
+use Rattle.pcapng_file.proofs.Sections.{link_stays}
 use Rattle.pcapng_file.proofs.laws.link_stays.Goals as goal
 
 pub returns : goal.returns

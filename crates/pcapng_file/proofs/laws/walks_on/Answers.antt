@@ -1,4 +1,4 @@
-use Rattle.pcapng_file.proofs.Ends.{walks_on}
+use Rattle.pcapng_file.proofs.Sections.{walks_on}
 use Rattle.pcapng_file.proofs.laws.walks_on.Goals as goal
 
 pub returns : goal.returns

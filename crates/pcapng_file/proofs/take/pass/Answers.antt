@@ -1,6 +1,6 @@
 use Rattle.std.proofs.Common.{rules, ◌≡◌, length, arith}
 use Rattle.std.proofs.lemmas.Result.{err_from_is_err_and}
-use Rattle.pcapng_file.proofs.Takings.{count_short, count_more}
+use Rattle.pcapng_file.proofs.BlockReads.{count_short, count_more}
 use Rattle.pcapng_file.proofs.take.pass.Goals as goal
 
 pub returns-in_err-read_exact-clause-octets : goal.returns-in_err-read_exact-clause-octets

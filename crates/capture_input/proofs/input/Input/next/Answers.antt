@@ -5,7 +5,7 @@ use Rattle.capture_input.specs.declared.input.Input.TheVariants as kinds
 use Rattle.capture_input.specs.Reading.{Behind}
 use Rattle.capture_input.specs.Reads.{Reads}
 use Rattle.capture_input.proofs.Sides.{classic_none, sections_none}
-use Rattle.capture_input.proofs.Walking.{classic_fails, classic_reads, sections_reads, sections_fail}
+use Rattle.capture_input.proofs.Steps.{classic_fails, classic_reads, sections_reads, sections_fail}
 use Rattle.capture_input.proofs.input.Input.next.Goals as goal
 
 pub returns-in_err-next-in-Classic-clause-octets : goal.returns-in_err-next-in-Classic-clause-octets

@@ -1,9 +1,7 @@
-use Rattle.std.proofs.Common.{rules, arith, ◌≡◌, length, take, true, false, sym, ap, subst, ◌∙◌}
+use Rattle.std.proofs.Common.{rules, arith, ◌≡◌, length, take, true, false, sym, ap, subst, ◌∙◌, length-take-le, take_all, bytes_eq}
 use Rattle.std.proofs.lemmas.Result.{err_from_is_err_and}
-use Rattle.std.proofs.lemmas.List.{length-take-le, take_all}
 use Rattle.std.proofs.lemmas.Slice.Eq.{bytes_eq-Decides}
 use Rattle.std.specs.Io.KnownBytes.{Consumes}
-use Rattle.std.specs.Str.{bytes_eq}
 use Rattle.capture_input.specs.Inputs.{section_octets}
 use Rattle.capture_input.proofs.Heads.{stops_first, opens_behind, kind_sections, kind_classic}
 use Rattle.capture_input.proofs.input.Input.open.Goals as goal

@@ -1,6 +1,6 @@
 use Rattle.std.proofs.Common.{rules, arith, length, ◌≡◌, refl}
 use Rattle.std.proofs.lemmas.Result.{err_from_is_err_and}
-use Rattle.pcap_file.proofs.Fronts.{whole, short_stop, long_stop, many_stop, cut_stop, leaves_record, part_behind_head}
+use Rattle.pcap_file.proofs.Records.{whole, short_stop, long_stop, many_stop, cut_stop, leaves_record, part_behind_head}
 use Rattle.pcap_file.proofs.reader.Reader.next.Goals as goal
 
 pub returns-then-count-lt16-clause-octets : goal.returns-then-count-lt16-clause-octets

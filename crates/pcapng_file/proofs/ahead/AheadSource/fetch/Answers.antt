@@ -1,6 +1,5 @@
-use Rattle.std.proofs.Common.{rules, arith, ◌≡◌, ◌<◌, ◌≤◌, length, take, drop}
-use Rattle.std.proofs.lemmas.List.{length-append, length-drop}
-use Rattle.pcapng_file.proofs.Takings.{kept_taken}
+use Rattle.std.proofs.Common.{rules, arith, ◌≡◌, ◌<◌, ◌≤◌, length, take, drop, length-append, length-drop}
+use Rattle.pcapng_file.proofs.BlockReads.{kept_taken}
 use Rattle.pcapng_file.proofs.ahead.AheadSource.fetch.Goals as goal
 
 pub returns-clause-octets : goal.returns-clause-octets

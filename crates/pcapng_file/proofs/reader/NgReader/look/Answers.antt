@@ -1,8 +1,7 @@
-use Rattle.std.proofs.Common.{rules, arith, refl}
-use Rattle.std.specs.declared.option.Option.{Option}
+use Rattle.std.proofs.Common.{rules, arith, refl, Option}
 use Rattle.pcapng_file.specs.declared.content.Found.{Found}
-use Rattle.pcapng_file.proofs.Wholes.{stops_told, told_not_read}
-use Rattle.pcapng_file.proofs.Walking.{looks_at, no_fault}
+use Rattle.pcapng_file.proofs.Bodies.{stops_told, told_not_read}
+use Rattle.pcapng_file.proofs.BlockReads.{looks_at, no_fault}
 use Rattle.pcapng_file.proofs.reader.NgReader.look.Goals as goal
 
 pub returns-in-Fails-clause-octets : goal.returns-in-Fails-clause-octets

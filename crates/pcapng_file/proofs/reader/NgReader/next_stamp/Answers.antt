@@ -1,6 +1,6 @@
 use Rattle.std.proofs.Common.{rules, refl}
 use Rattle.std.proofs.lemmas.Result.{err_from_is_err_and}
-use Rattle.pcapng_file.proofs.Walking.{between_none, none_before, stops_behind, ends_behind, packet_behind, passed_behind, no_packet}
+use Rattle.pcapng_file.proofs.BlockReads.{between_none, none_before, stops_behind, ends_behind, packet_behind, passed_behind, no_packet}
 use Rattle.pcapng_file.proofs.reader.NgReader.next_stamp.Goals as goal
 
 pub loop-found-init : goal.loop-found-init

@@ -1,5 +1,5 @@
 use Rattle.std.proofs.Common.{◌≡◌, ◌-◌, ◌≤◌, length}
-use Rattle.pcapng_file.proofs.Walking.{Between}
+use Rattle.pcapng_file.proofs.BlockReads.{Between}
 use Rattle.pcapng_file.proofs.reader.NgReader.next_stamp.Given as goal
 
 -- blocks without a record were skipped

@@ -1,6 +1,6 @@
 use Rattle.std.proofs.Common.{rules, arith, refl, ◌≡◌, None, IsSome}
 use Rattle.std.proofs.lemmas.Result.{err_from_is_err_and}
-use Rattle.pcapng_file.proofs.Walking.{opens_first, opens_on, opens_fails, opens_at, looks_on_here, stopped_here}
+use Rattle.pcapng_file.proofs.BlockReads.{opens_first, opens_on, opens_fails, opens_at, looks_on_here, stopped_here}
 use Rattle.pcapng_file.proofs.reader.NgReader.open_behind.Goals as goal
 
 pub returns-in_err-look_ahead-clause-octets : goal.returns-in_err-look_ahead-clause-octets

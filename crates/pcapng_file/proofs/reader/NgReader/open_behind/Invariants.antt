@@ -1,6 +1,6 @@
 use Rattle.std.proofs.Common.{◌≡◌, ◌-◌, option_map}
 use Rattle.std.specs.Io.KnownBytes.{prepend_known}
-use Rattle.pcapng_file.proofs.Walking.{OpensSoFar}
+use Rattle.pcapng_file.proofs.BlockReads.{OpensSoFar}
 use Rattle.pcapng_file.proofs.reader.NgReader.open_behind.Given as goal
 
 -- the blocks read so far have no record, and those before the newest one no interface

@@ -1,6 +1,5 @@
 -- The steps of a reader from record to record.
-use Rattle.std.proofs.Common.{◌≡◌, ℕ, ◌+◌, Bool, true, false, List, [], ◌∷◌, ◌++◌, length, Option, Some, None, IsSome, Ok, Err, refl, sym, ap, ap₂, ◌∙◌, subst, arith}
-use Rattle.std.proofs.lemmas.List.{length-append}
+use Rattle.std.proofs.Common.{◌≡◌, ℕ, ◌+◌, Bool, true, false, List, [], ◌∷◌, ◌++◌, length, Option, Some, None, IsSome, Ok, Err, refl, sym, ap, ap₂, ◌∙◌, subst, arith, length-append}
 use Rattle.std.specs.Io.KnownBytes.{Consumes, IsAtEnd}
 use Rattle.wire_base.specs.declared.address.Link.{Link}
 use Rattle.pcap_file.specs.declared.head.Head.{Head}
@@ -17,7 +16,7 @@ use Rattle.pcapng_file.specs.Sections as walked
 use Rattle.pcapng_file.specs.Sections.{Walks, behind, packets_of, with_given}
 use Rattle.pcapng_file.specs.Reading.{NgReading, written_head}
 use Rattle.pcapng_file.specs.Reads as sections
-use Rattle.pcapng_file.proofs.Ends.{walks_on, behind_on, packets_on, size_on, links_stay, blocks_counted, packets_few}
+use Rattle.pcapng_file.proofs.Sections.{walks_on, behind_on, packets_on, size_on, links_stay, blocks_counted, packets_few}
 use Rattle.capture_input.specs.declared.input.Input.TheVariants as kinds
 use Rattle.capture_input.specs.Faults.{of_record, of_block}
 use Rattle.capture_input.specs.Inputs.{Walk, records, blocks, IsHeadOf, BlocksEndAt, Took, TakenWhole}

@@ -1,13 +1,18 @@
--- Octets have at most one head, one list of records and one end, which is that of a capture or a first flaw.
-use Rattle.std.proofs.Common.{◌≡◌, ℕ, ◌<◌, List, [], ◌∷◌, length, drop, Some, None, Ok, Err, refl, sym, ap, ◌∙◌, subst, arith, inl, inr}
+-- All octets are a capture or have a first flaw, never both, and their records are the only ones.
+use Rattle.std.proofs.Common.{◌≡◌, ℕ, ◌<◌, List, [], ◌∷◌, length, drop, Some, None, Ok, Err, refl, sym, ap, ◌∙◌, subst, arith, inl, inr, zero, suc, ◌+◌, ◌≤◌, ◌⊎◌, Result}
 use Rattle.std.proofs.lemmas.Bool.{cases_lt}
+use Rattle.std.proofs.lemmas.Bool.Decides.{eqb_tells}
+use Rattle.std.proofs.lemmas.List.{length-take-le, length-drop, nil_from_length}
 use Rattle.pcap_file.specs.declared.order.Order.{Order}
 use Rattle.pcap_file.specs.declared.head.Head.{Head}
-use Rattle.pcap_file.specs.Flaws.{Flaw}
+use Rattle.pcap_file.specs.Flaws.{Flaw, cut_short, too_long, too_many}
 use Rattle.pcap_file.specs.Heads.{head_of}
-use Rattle.pcap_file.specs.Records.{Packet, front_of}
-use Rattle.pcap_file.specs.Capture.{ReadsTo, FailsBehindHead, offset_of}
-use Rattle.pcap_file.specs.Laws.{CaptureIsOne, FlawIsOne, FlawExcludesEnd}
+use Rattle.pcap_file.specs.Records.{Packet, front_of, sized_at, packet_of, captured}
+use Rattle.pcap_file.specs.Capture.{ReadsTo, FailsBehindHead, offset_of, EndsWell, EndsBadly}
+use Rattle.pcap_file.specs.Laws.{CaptureIsOne, FlawIsOne, FlawExcludesEnd, EachFileEnds}
+use Rattle.pcap_file.proofs.Records.{front_short, front_sized, sized_long, sized_many, sized_cut, sized_record}
+
+-- Octets have at most one head, one list of records and one end, which is that of a capture or a first flaw.
 
 -- two lists of equally many records are the same, and leave the same octets
 pub same_records : (order : Order) (all : List ℕ) (ps qs : List Packet) (r s : List ℕ) → ReadsTo order all ps r → ReadsTo order all qs s → length ps ≡ length qs → (ps ≡ qs) × (r ≡ s)
@@ -32,7 +37,7 @@ abbrev pub HasNoRecord : Order → ℕ → List ℕ → Type 0
 HasNoRecord order count rest = (packet : Packet) (left : List ℕ) → front_of order count rest ≡ Ok (Some (packet, left)) → ⊥
 
 -- another record follows the shorter list of records
-goes_on : (order : Order) (all : List ℕ) (ps qs : List Packet) (r s : List ℕ) → ReadsTo order all ps r → ReadsTo order all qs s → length ps < length qs → HasNoRecord order (length ps) r → ⊥
+pub goes_on : (order : Order) (all : List ℕ) (ps qs : List Packet) (r s : List ℕ) → ReadsTo order all ps r → ReadsTo order all qs s → length ps < length qs → HasNoRecord order (length ps) r → ⊥
 goes_on order all ps [] r s p q h last = absurd (omega arith)
 goes_on order all ps (y ∷ qs) r s p q h last =
     elim (cases_lt (length ps) (length qs)) [
@@ -118,3 +123,70 @@ flaw_no_end octets head ps flaw offset p (inr q) =
     let nothing = front_of_nothing q.head.order (length q.packets) in
     let flawed : front_of q.head.order (length q.packets) q.rest ≡ Err flaw = q.flawed in
     cc
+
+-- Each list of octets is a capture or has a first flaw.
+
+-- the octets begin with a flaw
+record HasFlawHere (order : Order) (count : ℕ) (x : List ℕ) : Type 0 where
+  flaw : Flaw
+  flawed : front_of order count x ≡ Err flaw
+
+-- the octets begin with a record, which takes its captured octets and 16 more
+record HasRecordHere (order : Order) (count : ℕ) (x : List ℕ) : Type 0 where
+  packet : Packet
+  rest : List ℕ
+  stands : front_of order count x ≡ Ok (Some (packet, rest))
+  size : length x ≡ 16 + length packet.octets + length rest
+
+sized_cases : (order : Order) (count : ℕ) (x : List ℕ) (size : ℕ) → front_of order count x ≡ sized_at order count x size → HasFlawHere order count x ⊎ HasRecordHere order count x
+sized_cases order count x size e =
+    elim (cases_lt 262144 size) [
+      | inl long ↦ inl (record { flaw = too_long; flawed = e ∙ sized_long order count x size long })
+      | inr small ↦ elim (eqb_tells count 4294967295) [
+        | inl all ↦ inl (record { flaw = too_many; flawed = e ∙ sized_many order count x size small all.1 })
+        | inr few ↦ elim (cases_lt (length x) (16 + size)) [
+          | inl cut ↦ inl (record { flaw = cut_short; flawed = e ∙ sized_cut order count x size small few.1 cut })
+          | inr enough ↦ inr (record {
+            packet = packet_of order x size;
+            rest = drop (16 + size) x;
+            stands = e ∙ sized_record order count x size small few.1 enough;
+            size = omega (arith, length-drop (16 + size) x, length-take-le size (drop 16 x) (omega (arith, length-drop 16 x)));
+          })
+        ]
+      ]
+    ]
+
+-- nothing is left, or the octets begin with a flaw or a record
+front_cases : (order : Order) (count : ℕ) (x : List ℕ) → (x ≡ []) ⊎ (HasFlawHere order count x ⊎ HasRecordHere order count x)
+front_cases order count x =
+    elim (cases_lt 0 (length x)) [
+      | inr nothing ↦ inl (nil_from_length x (omega arith))
+      | inl some ↦ elim (cases_lt (length x) 16) [
+        | inl short ↦ inr (inl (record { flaw = cut_short; flawed = front_short order count x some short }))
+        | inr whole ↦ inr (sized_cases order count x (captured order x) (front_sized order count x whole))
+      ]
+    ]
+
+-- behind these records the octets end well or badly; each further record takes some of them, so the fuel suffices
+ends_from : (fuel : ℕ) (octets : List ℕ) (head : Head) (packets : List Packet) (rest : List ℕ) → head_of octets ≡ Ok head
+    → ReadsTo head.order (drop 24 octets) packets rest → length rest ≤ fuel → EndsWell octets ⊎ EndsBadly octets
+ends_from zero octets head packets rest accepted reads enough =
+    let nothing : rest ≡ [] = nil_from_length rest (omega arith) in
+    inl (record { head = head; packets = packets; is = record { accepted = accepted; whole = subst (ReadsTo head.order (drop 24 octets) packets) nothing reads } })
+ends_from (suc fuel) octets head packets rest accepted reads enough =
+    elim (front_cases head.order (length packets) rest) [
+      | inl nothing ↦ inl (record { head = head; packets = packets; is = record { accepted = accepted; whole = subst (ReadsTo head.order (drop 24 octets) packets) nothing reads } })
+      | inr (inl here) ↦ inr (record {
+        flaw = here.flaw;
+        offset = offset_of packets;
+        is = inr (record { head = head; packets = packets; rest = rest; accepted = accepted; reads = reads; flawed = here.flawed; place = refl });
+      })
+      | inr (inr here) ↦ ends_from fuel octets head (here.packet ∷ packets) here.rest accepted (rest, reads, here.stands) (omega (arith, here.size))
+    ]
+
+ends_by : (octets : List ℕ) (verdict : Result Head Flaw) → head_of octets ≡ verdict → EndsWell octets ⊎ EndsBadly octets
+ends_by octets (Ok head) is = ends_from (length (drop 24 octets)) octets head [] (drop 24 octets) is refl (omega arith)
+ends_by octets (Err flaw) is = inr (record { flaw = flaw; offset = 0; is = inl (is, refl) })
+
+pub each_ends : EachFileEnds
+each_ends octets = ends_by octets (head_of octets) refl

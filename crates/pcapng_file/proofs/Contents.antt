@@ -1,24 +1,47 @@
--- The content of a block by its fixed fields does not depend on the octets after them.
-use Rattle.std.proofs.Common.{◌≡◌, ℕ, ◌+◌, ◌*◌, ◌/◌, ◌%◌, ◌<◌, ◌≤◌, ◌==◌, ◌^◌, not, nat_lt, Bool, true, false, List, ◌++◌, length, slice_get, Some, None, refl, sym, ap, ◌∙◌, arith, inl, inr, if◌then◌else◌}
+-- The content of a block: where it stands, and that the fixed fields alone give it.
+use Rattle.std.proofs.Common.{◌≡◌, ℕ, ◌<◌, ◌≤◌, ◌+◌, true, length, ◌*◌, ◌/◌, ◌%◌, ◌==◌, ◌^◌, not, nat_lt, Bool, false, List, ◌++◌, slice_get, Some, None, refl, sym, ap, ◌∙◌, arith, inl, inr, if◌then◌else◌, Option}
 use Rattle.std.proofs.lemmas.Bool.{cases_lt, cases_Bool, ltb-false, ltb-true, not-false, lt-ltb, le-ltb}
 use Rattle.std.proofs.lemmas.Bool.Decides.{nat_tests}
 use Rattle.std.proofs.lemmas.Option.{slice_get_within}
-use Rattle.std.specs.declared.option.Option.{Option}
 use Rattle.wire_base.specs.declared.address.Link.{Link}
 use Rattle.pcap_file.specs.declared.order.Order.{Order}
 use Rattle.pcap_file.specs.Numbers.{u16_at, u32_at}
 use Rattle.pcap_file.specs.Heads.{link_of}
-use Rattle.pcap_file.proofs.Fronts.{u16_at_front, u32_at_front}
-use Rattle.pcapng_file.specs.declared.fault.NgFault.TheVariants as faults
-use Rattle.pcapng_file.specs.declared.interface.Interface.{Interface}
+use Rattle.pcap_file.proofs.Records.{u16_at_front, u32_at_front}
 use Rattle.pcapng_file.specs.declared.content.Stamp.{Stamp}
 use Rattle.pcapng_file.specs.declared.content.Content.{Content}
 use Rattle.pcapng_file.specs.declared.content.Content.TheVariants as says
-use Rattle.pcapng_file.specs.Options.{padded}
+use Rattle.pcapng_file.specs.Contents.{IsTold, is_link, more_of, section_type, interface_type, enhanced_type, simple_type, old_packet_type, section_says, interface_says, linked_says, enhanced_says, enhanced_of, timed_says, simple_says, simple_of, simple_sized, clipped, side_by, per_second, nanos_each, content_of, found_of}
 use Rattle.pcapng_file.specs.Standing.{Sections}
-use Rattle.pcapng_file.specs.Contents.{section_type, interface_type, enhanced_type, simple_type, old_packet_type, section_says, interface_says, linked_says, enhanced_says, enhanced_of, timed_says, simple_says, simple_of, simple_sized, clipped, is_link, side_by, per_second, nanos_each, more_of, content_of, found_of}
+use Rattle.pcapng_file.specs.declared.fault.NgFault.TheVariants as faults
+use Rattle.pcapng_file.specs.declared.interface.Interface.{Interface}
+use Rattle.pcapng_file.specs.Options.{padded}
 use Rattle.pcapng_file.specs.Blocks.{bare}
-use Rattle.pcapng_file.proofs.Placed.{IsPlaced}
+
+-- Where the content of a block is.
+
+-- The captured octets of a packet block are after the fixed fields and within the block, at most 262,144, and the section has an interface.
+pub record PacketPlaced (stamp : Stamp) (sections : Sections) (kind size : ℕ) : Type 0 where
+  pub place : stamp.place ≡ 12 + more_of kind size
+  pub within : stamp.place + stamp.size + 4 ≤ size
+  pub small : stamp.size ≤ 262144
+  pub some : 0 < length sections.interfaces
+
+-- The options of an interface are after 16 octets, the section has room for one more interface, and its link may follow the first one.
+pub record InterfacePlaced (sections : Sections) (link : Link) (kind size : ℕ) : Type 0 where
+  pub same : is_link sections.link link ≡ true
+  pub more : more_of kind size ≡ 4
+  pub big : 20 ≤ size
+  pub room : length sections.interfaces < 64
+
+-- the position in the block of its content
+abbrev pub IsPlaced : Content → Sections → (kind size : ℕ) → Type 0
+IsPlaced (says.Packet stamp) sections kind size = PacketPlaced stamp sections kind size
+IsPlaced (says.Interface link snap) sections kind size = InterfacePlaced sections link kind size
+IsPlaced (says.Fails fault) sections kind size = IsTold fault
+IsPlaced content sections kind size = Unit {0}
+
+-- The content of a block by its fixed fields does not depend on the octets after them.
 
 section_small : (order : Order) (size : ℕ) (x : List ℕ) → size < 28 → section_says order size x ≡ says.Fails faults.Block
 section_small order size x s = grind (arith, nat_tests)

@@ -1,32 +1,108 @@
--- Each list of octets is sections or has a first fault; each block has at least one octet.
-use Rattle.std.proofs.Common.{◌≡◌, ◌≢◌, ℕ, zero, suc, ◌+◌, ◌-◌, ◌<◌, ◌≤◌, ◌==◌, ◌⊎◌, true, List, [], ◌∷◌, ◌++◌, length, take, drop, Some, None, Ok, Err, refl, sym, ap, ◌∙◌, subst, arith, inl, inr, length-drop}
+-- All octets are sections or have a first fault, never both, and their blocks are the only ones.
+use Rattle.std.proofs.Common.{◌≡◌, ℕ, ◌<◌, List, [], ◌∷◌, length, Some, None, Ok, Err, refl, sym, ap, ◌∙◌, arith, inl, inr, ◌≢◌, zero, suc, ◌+◌, ◌-◌, ◌≤◌, ◌==◌, ◌⊎◌, true, ◌++◌, take, drop, subst, length-drop, Option, Result}
 use Rattle.std.proofs.lemmas.Bool.{cases_lt, cases_Bool}
 use Rattle.std.proofs.lemmas.Bool.Decides.{eqb_tells}
 use Rattle.std.proofs.lemmas.List.{nil_from_length}
-use Rattle.std.specs.declared.option.Option.{Option}
-use Rattle.std.specs.declared.result.Result.{Result}
 use Rattle.wire_base.specs.declared.address.Link.{Link}
 use Rattle.wire_base.specs.declared.address.Link.TheVariants.{Ethernet, Raw}
 use Rattle.pcap_file.specs.declared.order.Order.{Order}
 use Rattle.pcap_file.specs.Numbers.{u32_at}
 use Rattle.pcap_file.specs.Records.{Packet}
 use Rattle.pcapng_file.specs.declared.fault.NgFault.{NgFault}
+use Rattle.pcapng_file.specs.Standing.{Sections, no_section, counted}
+use Rattle.pcapng_file.specs.Blocks.{Step, block_at, is_size, order_at, ordered_at, sized_at, end_by, told, before, after_found, step_of, whole_step}
+use Rattle.pcapng_file.specs.Sections.{Walks, behind, size_of, packets_of, with_given, EndsWell, EndsBadly}
+use Rattle.pcapng_file.specs.Laws.{SectionsAreOne, FaultIsOne, FaultExcludesEnd, EachFileEnds, LinkStays, WalksOn}
 use Rattle.pcapng_file.specs.declared.fault.NgFault.TheVariants as faults
 use Rattle.pcapng_file.specs.declared.interface.Interface.{Interface}
 use Rattle.pcapng_file.specs.declared.content.Content.{Content}
 use Rattle.pcapng_file.specs.declared.content.Content.TheVariants as says
 use Rattle.pcapng_file.specs.declared.content.Found.{Found}
 use Rattle.pcapng_file.specs.declared.content.Found.TheVariants as is
-use Rattle.pcapng_file.specs.Standing.{Sections, counted, no_section}
 use Rattle.pcapng_file.specs.Options.{options_of, described}
 use Rattle.pcapng_file.specs.Contents.{is_link, interface_found, found_of, content_of}
-use Rattle.pcapng_file.proofs.Fields.{content_placed}
-use Rattle.pcapng_file.proofs.Walking.{blocks_after}
-use Rattle.pcapng_file.specs.Blocks.{Step, is_size, order_at, ordered_at, sized_at, block_at, end_by, told, before, after_found, step_of, whole_step}
-use Rattle.pcapng_file.specs.Sections.{Walks, behind, size_of, packets_of, with_given, EndsWell, EndsBadly}
-use Rattle.pcapng_file.specs.Laws.{EachFileEnds, LinkStays, WalksOn}
-use Rattle.pcapng_file.proofs.Wholes.{at_nothing, at_short, at_many, at_ordered, sized_cut, sized_open, sized_closed, is_big}
-use Rattle.pcapng_file.proofs.Placed.{IsPlaced}
+use Rattle.pcapng_file.proofs.Contents.{content_placed, IsPlaced}
+use Rattle.pcapng_file.proofs.BlockReads.{blocks_after}
+use Rattle.pcapng_file.proofs.Fronts.{at_nothing, at_short, at_many, at_ordered, sized_cut, sized_open, sized_closed, is_big}
+
+-- A file has one list of blocks and one way to end.
+
+module _ (inside : Option (List ℕ)) (s : Sections) (all : List ℕ) where
+  -- lists of equally many blocks are equal, and so are the octets after them
+  pub same_steps : (ps qs : List Step) (r t : List ℕ) → Walks inside s all ps r → Walks inside s all qs t → length ps ≡ length qs → (ps ≡ qs) × (r ≡ t)
+  same_steps [] [] r t p q e = (refl, sym p ∙ q)
+  same_steps [] (y ∷ qs) r t p q e = absurd (omega arith)
+  same_steps (x ∷ ps) [] r t p q e = absurd (omega arith)
+  same_steps (x ∷ ps) (y ∷ qs) r t p q e =
+      let few : length ps ≡ length qs = omega arith in
+      let older_same = same_steps ps qs p.0 q.0 p.1 q.1 few in
+      let older : ps ≡ qs = older_same.0 in
+      let left : p.0 ≡ q.0 = older_same.1 in
+      let one : block_at inside (behind s ps) p.0 ≡ Ok (Some (x, r)) = p.2 in
+      let two : block_at inside (behind s qs) q.0 ≡ Ok (Some (y, t)) = q.2 in
+      let mine : Step × List ℕ = (x, r) in
+      let yours : Step × List ℕ = (y, t) in
+      let pairs : mine ≡ yours = cc in
+      let newest : x ≡ y = ap (λ (p : Step × List ℕ). p.0) pairs in
+      (cc, ap (λ (p : Step × List ℕ). p.1) pairs)
+
+  -- no block follows after these
+  abbrev pub HasNoStep : List Step → List ℕ → Type 0
+  HasNoStep ps rest = (step : Step) (left : List ℕ) → block_at inside (behind s ps) rest ≡ Ok (Some (step, left)) → ⊥
+
+  -- after fewer blocks another one follows
+  goes_on : (ps qs : List Step) (r t : List ℕ) → Walks inside s all ps r → Walks inside s all qs t → length ps < length qs → HasNoStep ps r → ⊥
+  goes_on ps [] r t p q h last = absurd (omega arith)
+  goes_on ps (y ∷ qs) r t p q h last =
+      elim (cases_lt (length ps) (length qs)) [
+        | inl less ↦ goes_on ps qs r q.0 p q.1 less last
+        | inr more ↦
+            let same = same_steps ps qs r q.0 p q.1 (omega arith) in
+            let older : ps ≡ qs = same.0 in
+            let left : r ≡ q.0 = same.1 in
+            let two : block_at inside (behind s qs) q.0 ≡ Ok (Some (y, t)) = q.2 in
+            last y t cc
+      ]
+
+  -- lists after which no block follows are equal, and so are the octets after them
+  pub one_end : (ps qs : List Step) (r t : List ℕ) → Walks inside s all ps r → Walks inside s all qs t → HasNoStep ps r → HasNoStep qs t → (ps ≡ qs) × (r ≡ t)
+  one_end ps qs r t p q last final =
+      elim (cases_lt (length ps) (length qs)) [
+        | inl less ↦ absurd (goes_on ps qs r t p q less last)
+        | inr more ↦ elim (cases_lt (length qs) (length ps)) [
+          | inl less ↦ absurd (goes_on qs ps t r q p less final)
+          | inr other ↦ same_steps ps qs r t p q (omega arith)
+        ]
+      ]
+
+none_at_end : (inside : Option (List ℕ)) (s : Sections) (rest : List ℕ) → block_at inside s rest ≡ Ok None → (step : Step) (left : List ℕ) → block_at inside s rest ≡ Ok (Some (step, left)) → ⊥
+none_at_end inside s rest ends step left e = cc
+
+none_at_fault : (inside : Option (List ℕ)) (s : Sections) (rest : List ℕ) (fault : NgFault) → block_at inside s rest ≡ Err fault → (step : Step) (left : List ℕ) → block_at inside s rest ≡ Ok (Some (step, left)) → ⊥
+none_at_fault inside s rest fault flawed step left e = cc
+
+pub sections_one : SectionsAreOne
+sections_one inside octets ps qs p q = (one_end inside no_section octets ps qs [] [] p.walks q.walks (none_at_end inside _ [] p.ends) (none_at_end inside _ [] q.ends)).0
+
+pub fault_one : FaultIsOne
+fault_one inside octets fault other offset place p q =
+    let end = one_end inside no_section octets p.steps q.steps p.rest q.rest p.walks q.walks (none_at_fault inside _ p.rest fault p.flawed) (none_at_fault inside _ q.rest other q.flawed) in
+    let steps : p.steps ≡ q.steps = end.0 in
+    let rest : p.rest ≡ q.rest = end.1 in
+    let one : block_at inside (behind no_section p.steps) p.rest ≡ Err fault = p.flawed in
+    let two : block_at inside (behind no_section q.steps) q.rest ≡ Err other = q.flawed in
+    (cc, p.place ∙ ap size_of steps ∙ sym q.place)
+
+pub fault_no_end : FaultExcludesEnd
+fault_no_end inside octets ps fault offset p q =
+    let end = one_end inside no_section octets ps q.steps [] q.rest p.walks q.walks (none_at_end inside _ [] p.ends) (none_at_fault inside _ q.rest fault q.flawed) in
+    let steps : ps ≡ q.steps = end.0 in
+    let rest : [] ≡ q.rest = end.1 in
+    let ends : block_at inside (behind no_section ps) [] ≡ Ok None = p.ends in
+    let flawed : block_at inside (behind no_section q.steps) q.rest ≡ Err fault = q.flawed in
+    cc
+
+-- Each list of octets is sections or has a first fault; each block has at least one octet.
 
 -- a link that may follow the first one is the same
 same_link : (first : Option Link) (link l : Link) → is_link first link ≡ true → first ≡ Some l → Some link ≡ Some l

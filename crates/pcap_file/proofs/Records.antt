@@ -1,17 +1,27 @@
--- What octets of two reads begin with: a record's head of 16 octets, and its captured octets.
-use Rattle.std.proofs.Common.{◌≡◌, ◌≢◌, ℕ, ◌+◌, ◌*◌, ◌<◌, ◌≤◌, List, [], ◌++◌, length, take, drop, slice_index, Some, None, Ok, Err, sym, ap, ◌∙◌, subst, arith, append_assoc, add-zero}
-use Rattle.std.proofs.lemmas.List.{take_all, take_at, drop_at, length-append, length-take-le, get_or_append_left}
+-- What octets begin with, a file's head or a record: they are found in what was read, and read back from what was written.
+use Rattle.std.proofs.Common.{◌≡◌, ◌≢◌, ℕ, ◌+◌, ◌*◌, ◌<◌, ◌≤◌, List, [], ◌++◌, length, take, drop, slice_index, Some, None, Ok, Err, sym, ap, ◌∙◌, subst, arith, append_assoc, add-zero, Bool, refl, ◌^◌, true, false, Option, Result}
+use Rattle.std.proofs.lemmas.List.{take_all, take_at, drop_at, length-append, length-take-le, get_or_append_left, drop_all}
 use Rattle.std.proofs.lemmas.Bool.Decides.{nat_tests}
 use Rattle.std.proofs.KnownBytes.{Consumes-trans}
 use Rattle.std.specs.Io.KnownBytes.{Consumes, IsAtEnd}
-use Rattle.std.specs.declared.option.Option.{Option}
+use Rattle.std.proofs.lemmas.Nat.{from_le_bytes-to_le_bytes_4, from_be_bytes-to_be_bytes_4}
 use Rattle.edge_io.specs.Octets.{TakesFewer}
+use Rattle.wire_base.specs.declared.address.Link.{Link}
+use Rattle.wire_base.specs.declared.address.Link.TheVariants.{Ethernet, Raw}
 use Rattle.pcap_file.specs.declared.order.Order.{Order}
 use Rattle.pcap_file.specs.declared.order.Order.TheVariants.{Little, Big}
 use Rattle.pcap_file.specs.Numbers.{u16_at, u32_at}
-use Rattle.pcap_file.specs.Flaws.{cut_short, too_long, too_many}
-use Rattle.pcap_file.specs.Records.{Packet, front_of, sized_at, packet_of, captured}
+use Rattle.pcap_file.specs.Flaws.{cut_short, too_long, too_many, Flaw}
+use Rattle.pcap_file.specs.Records.{Packet, front_of, sized_at, packet_of, captured, record_head}
 use Rattle.pcap_file.specs.Reads.{Leaves, HasFlaw, TakesAtMost, TakesPart, StopsAt}
+use Rattle.pcap_file.specs.declared.head.Head.{Head}
+use Rattle.pcap_file.specs.declared.head.HeadFault.{HeadFault}
+use Rattle.pcap_file.specs.declared.head.HeadFault.TheVariants as faults
+use Rattle.pcap_file.specs.Heads.{head_of, head_by, form_of, head_octets}
+use Rattle.pcap_file.specs.ReadsHead.{Begins, Judges, ReadsHead}
+use Rattle.pcap_file.specs.Laws.{HeadIsReadBack, RecordIsReadBack}
+
+-- What octets of two reads begin with: a record's head of 16 octets, and its captured octets.
 
 -- a number in the first octets
 pub u16_at_front : (order : Order) (h y : List ℕ) (k : ℕ) → k + 2 ≤ length h → u16_at order (h ++ y) k ≡ u16_at order h k
@@ -140,5 +150,106 @@ module _ (order : Order) (h : List ℕ) (size : ℕ) (sixteen : length h ≡ 16)
     fewer = omega (arith, u32_at_front order h q.0 8 (omega arith), length-append h q.0, q.2);
   }
 
-pub part_of_head : (order : Order) (a b : Option (List ℕ)) → TakesFewer a b 16 → TakesPart order a b
-part_of_head order a b q = record { octets = q.0; taken = q.1; fewer = omega (arith, q.2) }
+-- What the octets left begin with, if one read returns their first 24.
+
+head_short : (x : List ℕ) → length x < 24 → head_of x ≡ Err cut_short
+unfolding head_of
+head_short x a = grind (arith, nat_tests)
+
+pub head_whole : (x : List ℕ) → 24 ≤ length x → head_of x ≡ head_by (form_of x) x
+unfolding head_of
+head_whole x a = grind (arith, nat_tests)
+
+-- the head is in the first 24 octets
+head_by_front : (form : Option (Order × Bool)) (h y : List ℕ) → length h ≡ 24 → head_by form (h ++ y) ≡ head_by form h
+head_by_front None h y size = refl
+head_by_front (Some form) h y size =
+    rw (u16_at_front form.0 h y 4 (omega arith), u16_at_front form.0 h y 6 (omega arith), u32_at_front form.0 h y 20 (omega arith)) refl
+
+head_front : (h y : List ℕ) → length h ≡ 24 → head_of (h ++ y) ≡ head_of h
+head_front h y size =
+    let form : form_of (h ++ y) ≡ form_of h = rw (u32_at_front Little h y 0 (omega arith), u32_at_front Big h y 0 (omega arith)) refl in
+    head_whole (h ++ y) (omega (arith, length-append h y)) ∙ head_by_front (form_of (h ++ y)) h y size
+    ∙ ap (λ form. head_by form h) form ∙ sym (head_whole h (omega arith))
+
+pub begins_short : (a b : Option (List ℕ)) (h : List ℕ) (n : ℕ) → n < 24 → n ≤ length h → Consumes a b (take n h) → IsAtEnd b → Begins a b (Err cut_short)
+begins_short None b h n few fits p end = tt
+begins_short (Some x) None h n few fits p end = absurd p
+begins_short (Some x) (Some y) h n few fits p end =
+    let size = length_to_end x y h n fits p end in
+    (head_short x (omega arith), end ∙ sym (drop_all 24 x (omega arith)))
+
+begins : (a b : Option (List ℕ)) (h : List ℕ) (verdict : Result Head Flaw) → length h ≡ 24 → Consumes a b h → head_of h ≡ verdict → Begins a b verdict
+begins None b h verdict size p is = tt
+begins (Some x) None h verdict size p is = absurd p
+begins (Some x) (Some y) h verdict size p is =
+    (ap head_of p ∙ head_front h y size ∙ is, sym (ap (drop 24) p ∙ drop_at h y 24 size))
+
+-- the result of the first 24 octets is the result of all octets
+pub judged : (a b : Option (List ℕ)) (h : List ℕ) (result : Result Head HeadFault) → length h ≡ 24 → Consumes a b h → Judges h result → ReadsHead a b result
+judged a b h (Ok head) size p says = begins a b h _ size p says
+judged a b h (Err faults.Cut) size p says = begins a b h _ size p says
+judged a b h (Err faults.Magic) size p says = begins a b h _ size p says
+judged a b h (Err faults.Version) size p says = begins a b h _ size p says
+judged a b h (Err faults.Link) size p says = begins a b h _ size p says
+judged a b h (Err faults.ReadFault) size p says = absurd says
+
+-- What is written is read back.
+
+pub head_size : (order : Order) (nano : Bool) (link : Link) → length (head_octets (record { order = order; nano = nano; link = link })) ≡ 24
+unfolding head_octets
+head_size Little nano link = refl
+head_size Big nano link = refl
+
+-- a head of each order, unit and link
+head_says : (order : Order) (nano : Bool) (link : Link) (rest : List ℕ)
+    → (let x = head_octets (record { order = order; nano = nano; link = link }) ++ rest in head_by (form_of x) x) ≡ Ok (record { order = order; nano = nano; link = link })
+unfolding head_octets
+head_says Little false Raw rest = refl
+head_says Little false Ethernet rest = refl
+head_says Little true Raw rest = refl
+head_says Little true Ethernet rest = refl
+head_says Big false Raw rest = refl
+head_says Big false Ethernet rest = refl
+head_says Big true Raw rest = refl
+head_says Big true Ethernet rest = refl
+
+pub head_read_back : HeadIsReadBack
+head_read_back head rest =
+    head_whole (head_octets head ++ rest) (omega (arith, length-append (head_octets head) rest, head_size head.order head.nano head.link))
+    ∙ head_says head.order head.nano head.link rest
+
+-- the numbers of a record's head, each at its offset
+seconds_at : (order : Order) (seconds fraction size : ℕ) → seconds < 2 ^ 32 → seconds ≡ u32_at order (record_head order seconds fraction size) 0
+unfolding record_head
+seconds_at Little seconds fraction size fits = omega (arith, from_le_bytes-to_le_bytes_4 seconds fits)
+seconds_at Big seconds fraction size fits = omega (arith, from_be_bytes-to_be_bytes_4 seconds fits)
+
+fraction_at : (order : Order) (seconds fraction size : ℕ) → fraction < 2 ^ 32 → fraction ≡ u32_at order (record_head order seconds fraction size) 4
+unfolding record_head
+fraction_at Little seconds fraction size fits = omega (arith, from_le_bytes-to_le_bytes_4 fraction fits)
+fraction_at Big seconds fraction size fits = omega (arith, from_be_bytes-to_be_bytes_4 fraction fits)
+
+captured_at : (order : Order) (seconds fraction size : ℕ) → size < 2 ^ 32 → size ≡ u32_at order (record_head order seconds fraction size) 8
+unfolding record_head
+captured_at Little seconds fraction size fits = omega (arith, from_le_bytes-to_le_bytes_4 size fits)
+captured_at Big seconds fraction size fits = omega (arith, from_be_bytes-to_be_bytes_4 size fits)
+
+original_at : (order : Order) (seconds fraction size : ℕ) → size < 2 ^ 32 → size ≡ u32_at order (record_head order seconds fraction size) 12
+unfolding record_head
+original_at Little seconds fraction size fits = omega (arith, from_le_bytes-to_le_bytes_4 size fits)
+original_at Big seconds fraction size fits = omega (arith, from_be_bytes-to_be_bytes_4 size fits)
+
+pub record_head_size : (order : Order) (seconds fraction size : ℕ) → length (record_head order seconds fraction size) ≡ 16
+unfolding record_head
+record_head_size Little seconds fraction size = refl
+record_head_size Big seconds fraction size = refl
+
+pub record_read_back : RecordIsReadBack
+record_read_back order count seconds fraction octets rest few s f small =
+    let size = length octets in
+    let h = record_head order seconds fraction size in
+    ap (front_of order count) (append_assoc h octets rest)
+    ∙ leaves_record order h size (record_head_size order seconds fraction size) (captured_at order seconds fraction size (omega arith)) count
+    (Some (h ++ (octets ++ rest))) (Some (octets ++ rest)) (Some rest) octets _ refl small (omega arith) refl refl
+    (rw (← seconds_at order seconds fraction size s, ← fraction_at order seconds fraction size f, ← original_at order seconds fraction size (omega arith)) refl)
