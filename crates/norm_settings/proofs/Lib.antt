@@ -1,14 +1,5 @@
-pub mod Fronts
-pub mod Spelling
-pub mod Reading
 pub mod Grammar
-pub mod OptionNames
-pub mod Prefixes
-pub mod Runs
-pub mod OptionWords
 pub mod Steps
+pub mod Runs
 pub mod Rows
-pub mod Walking
-pub mod Telling
-pub mod Together
-pub mod Loads
+pub mod Walks

@@ -1,9 +1,5 @@
 -- The `Row` entries of clap: the values found under each option.
-use Rattle.std.proofs.Common.{◌≡◌, List, [], ◌∷◌, ◌++◌, Bool, true, false, Some, None, refl, sym, ap, ◌∙◌, codes, option_map}
-use Rattle.std.specs.Prelude.{find, if◌then◌else◌}
-use Rattle.std.specs.Str.{bytes_eq}
-use Rattle.std.specs.declared.option.Option.{Option}
-use Rattle.std.proofs.Common.{append-nil}
+use Rattle.std.proofs.Common.{◌≡◌, List, [], ◌∷◌, ◌++◌, Bool, true, false, Some, None, refl, sym, ap, ◌∙◌, codes, option_map, find, if◌then◌else◌, append-nil, bytes_eq, Option}
 use Rattle.std.proofs.lemmas.Slice.Eq.{bytes_eq-Decides}
 use Rattle.clap.specs.declared.builder.value_parser.Reading.{Reading}
 use Rattle.clap.specs.declared.parser.matches.ValueSource.TheVariants.{CommandLine}
@@ -17,8 +13,7 @@ use Rattle.norm_settings.specs.declared.options.Choice.TheVariants.{Hops}
 use Rattle.norm_settings.specs.Found.{rule_by}
 use Rattle.norm_settings.specs.declared.options.Kind.{Kind}
 use Rattle.norm_settings.specs.declared.options.Kind.TheVariants.{Alone}
-use Rattle.norm_settings.proofs.OptionWords.{same_bytes, bytes_self}
-use Rattle.norm_settings.proofs.Steps.{rules, rule, has}
+use Rattle.norm_settings.proofs.Steps.{same_bytes, bytes_self, run_rules, rule, has}
 
 abbrev values_of : Option Row → Option (List Text)
 values_of = option_map (λ r. r.values)
@@ -151,7 +146,7 @@ agrees_added c v uses rows new agrees d =
     ∙ ap (option_map (λ v. v ∷ [])) (sym (given_added d uses (record { choice = c; value = v }) new))
 
 -- the pending option is used
-pub settled_use : (c : Choice) (vs : List Text) (rows : List Row) → settled_rows rules (Some (name_of c, vs)) rows ≡ used (rule c) vs rows
+pub settled_use : (c : Choice) (vs : List Text) (rows : List Row) → settled_rows run_rules (Some (name_of c, vs)) rows ≡ used (rule c) vs rows
 settled_use c vs rows = ap (λ r. used_by_id r vs rows) (has c).by_id
 
 -- no option has the id of a name

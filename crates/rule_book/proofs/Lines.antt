@@ -1,10 +1,126 @@
--- The lines of octets.
-use Rattle.std.proofs.Common.{◌≡◌, ℕ, suc, ◌+◌, ◌<◌, Bool, true, false, cond, not, nat_eq, min, List, [], ◌∷◌, ◌++◌, length, take, drop, refl, sym, ap, ◌∙◌, arith}
+-- Texts cut at an octet: words have no space and no line feed, and lines end with their only one.
+use Rattle.std.proofs.Common.{◌≡◌, ℕ, ◌+◌, Bool, true, not, ◌&&◌, nat_eq, List, [], ◌∷◌, ◌++◌, length, take, drop, refl, ap, ◌∙◌, arith, ◌^◌, ◌<◌, false, nat_lt, decimal, rules, Option, Some, None, IfSome, suc, cond, min, sym}
+use Rattle.std.proofs.Math.Seq.{drop-append-add, take-append_seam, take-length}
 use Rattle.std.proofs.lemmas.Bool.Decides.{nat_tests}
-use Rattle.std.proofs.lemmas.List.{drop_min, take_min}
-use Rattle.std.specs.List.{AllByRecursion, concat, onto_first, position_or_len}
-use Rattle.rule_book.proofs.Cuts.{has_no}
+use Rattle.std.proofs.lemmas.List.{drop_all, drop_min, take_min}
+use Rattle.std.specs.List.{after_first, before_first, position_or_len, AllByRecursion, concat, onto_first}
+use Rattle.std.proofs.lemmas.Fmt.{digits_decimal}
+use Rattle.std.proofs.lemmas.Str.Parse.{numerals_by_value, tells_all_ascii_digits}
+use Rattle.std.specs.Str.{all_ascii_digits}
+use Rattle.wire_base.specs.declared.address.Side.{Side}
+use Rattle.rule_book.specs.Rules.{rule_name}
+use Rattle.rule_book.specs.Text.{octets_part, reason_word, side_word, stop_word, verdict_word}
+use Rattle.rule_book.specs.Words.{Mark, MarkFits, mark_word}
+use Rattle.rule_book.specs.Words.Mark.{named, belongs, began, over}
+use Rattle.rule_book.specs.declared.entry.Reason.{Reason}
+use Rattle.rule_book.specs.declared.entry.Verdict.{Verdict}
+use Rattle.rule_book.specs.declared.last.StopKind.{StopKind}
+use Rattle.rule_book.specs.declared.rule.Rule.{Rule}
 use Rattle.rule_book.specs.Reports.{lines}
+
+-- A text is cut at an octet.
+
+-- whether none of the octets is this one
+abbrev pub has_no : ℕ → List ℕ → Bool
+has_no octet [] = true
+has_no octet (x ∷ xs) = not (nat_eq x octet) && has_no octet xs
+
+pub has_no-append : (octet : ℕ) (xs ys : List ℕ) → has_no octet xs ≡ true → has_no octet ys ≡ true → has_no octet (xs ++ ys) ≡ true
+has_no-append octet [] ys front back = back
+has_no-append octet (x ∷ xs) ys front back = grind (arith, nat_tests, has_no-append octet xs ys)
+
+place_in : (octet : ℕ) (front behind : List ℕ) → has_no octet front ≡ true → position_or_len (λ x. nat_eq x octet) (front ++ octet ∷ behind) ≡ length front
+place_in octet [] behind none = grind (arith, nat_tests)
+place_in octet (x ∷ front) behind none = grind (arith, nat_tests, place_in octet front behind)
+
+place_past : (octet : ℕ) (text : List ℕ) → has_no octet text ≡ true → position_or_len (λ x. nat_eq x octet) text ≡ length text
+place_past octet [] none = refl
+place_past octet (x ∷ text) none = grind (arith, nat_tests, place_past octet text)
+
+drop_past : (text : List ℕ) → drop (length text + 1) text ≡ []
+drop_past text = drop_all (length text + 1) text (omega arith)
+
+-- the front, if the octet follows it and is not in it
+pub before_in : (octet : ℕ) (text front behind : List ℕ) → has_no octet front ≡ true → text ≡ front ++ octet ∷ behind → before_first (λ x. nat_eq x octet) text ≡ front
+before_in octet text front behind none is =
+    ap (before_first (λ x. nat_eq x octet)) is ∙ ap (λ k. take k (front ++ octet ∷ behind)) (place_in octet front behind none) ∙ take-append_seam front (octet ∷ behind)
+
+pub after_in : (octet : ℕ) (text front behind : List ℕ) → has_no octet front ≡ true → text ≡ front ++ octet ∷ behind → after_first (λ x. nat_eq x octet) text ≡ behind
+after_in octet text front behind none is =
+    ap (after_first (λ x. nat_eq x octet)) is ∙ ap (λ k. drop (k + 1) (front ++ octet ∷ behind)) (place_in octet front behind none) ∙ drop-append-add front (octet ∷ behind) 1
+
+-- all of the text, if the octet is not in it
+pub before_past : (octet : ℕ) (text : List ℕ) → has_no octet text ≡ true → before_first (λ x. nat_eq x octet) text ≡ text
+before_past octet text none = ap (λ k. take k text) (place_past octet text none) ∙ take-length text
+
+pub after_past : (octet : ℕ) (text : List ℕ) → has_no octet text ≡ true → after_first (λ x. nat_eq x octet) text ≡ []
+after_past octet text none = ap (λ k. drop (k + 1) text) (place_past octet text none) ∙ drop_past text
+
+-- Words have no space and no line feed.
+
+-- whether each octet is above the space (32)
+abbrev pub is_solid : List ℕ → Bool
+is_solid [] = true
+is_solid (x ∷ xs) = nat_lt 32 x && is_solid xs
+
+pub solid-has_no : (octet : ℕ) (xs : List ℕ) → nat_lt 32 octet ≡ false → is_solid xs ≡ true → has_no octet xs ≡ true
+solid-has_no octet [] low solid = refl
+solid-has_no octet (x ∷ xs) low solid = grind (arith, nat_tests, solid-has_no octet xs)
+
+pub solid-append : (xs ys : List ℕ) → is_solid xs ≡ true → is_solid ys ≡ true → is_solid (xs ++ ys) ≡ true
+solid-append [] ys front back = back
+solid-append (x ∷ xs) ys front back = grind (arith, nat_tests, solid-append xs ys)
+
+-- digits have no space and no line feed
+digits-solid : (xs : List ℕ) → all_ascii_digits xs ≡ true → is_solid xs ≡ true
+digits-solid [] digits = refl
+digits-solid (x ∷ xs) digits = grind (arith, nat_tests, digits-solid xs)
+
+digits-no_colon : (xs : List ℕ) → all_ascii_digits xs ≡ true → has_no 58 xs ≡ true
+digits-no_colon [] digits = refl
+digits-no_colon (x ∷ xs) digits = grind (arith, nat_tests, digits-no_colon xs)
+
+pub decimal_digits : (n : ℕ) → n < 2 ^ 64 → all_ascii_digits (decimal n) ≡ true
+decimal_digits n small = digits_decimal (numerals_by_value (λ ds. all_ascii_digits ds ≡ true) tells_all_ascii_digits) n small
+
+pub decimal-solid : (n : ℕ) → n < 2 ^ 64 → is_solid (decimal n) ≡ true
+decimal-solid n small = digits-solid (decimal n) (decimal_digits n small)
+
+pub decimal-no_colon : (n : ℕ) → n < 2 ^ 64 → has_no 58 (decimal n) ≡ true
+decimal-no_colon n small = digits-no_colon (decimal n) (decimal_digits n small)
+
+-- names and words have no space and no line feed
+pub side-solid : (side : Option Side) → is_solid (side_word side) ≡ true
+side-solid side = search rules
+
+pub verdict-solid : (verdict : Verdict) → is_solid (verdict_word verdict) ≡ true
+verdict-solid verdict = search rules
+
+pub reason-solid : (reason : Reason) → is_solid (reason_word reason) ≡ true
+reason-solid reason = search rules
+
+pub reason-no_colon : (reason : Reason) → has_no 58 (reason_word reason) ≡ true
+reason-no_colon reason = search rules
+
+pub stop-solid : (kind : StopKind) → is_solid (stop_word kind) ≡ true
+stop-solid kind = search rules
+
+pub name-solid : (rule : Rule) → is_solid (rule_name rule) ≡ true
+name-solid rule = search rules
+
+octets-solid : (octets : Option ℕ) → IfSome octets (λ n. n < 2 ^ 64) → is_solid (octets_part octets) ≡ true
+octets-solid None fits = refl
+octets-solid (Some n) fits = decimal-solid n fits
+
+pub mark-solid : (mark : Mark) → MarkFits mark → is_solid (mark_word mark) ≡ true
+mark-solid (named rule) fits = name-solid rule
+mark-solid (belongs era) fits = decimal-solid era (omega arith)
+mark-solid (began era) fits = decimal-solid era (omega arith)
+mark-solid (over ended) fits =
+    solid-append (decimal ended.era) (58 ∷ (reason_word ended.reason ++ octets_part ended.octets)) (decimal-solid ended.era (let h = fits.era in omega arith))
+    (solid-append (reason_word ended.reason) (octets_part ended.octets) (reason-solid ended.reason) (octets-solid ended.octets fits.octets))
+
+-- The lines of octets.
 
 -- the lines of an octet and what follows: the octet ends a line if it is a line feed, else it begins the first line
 abbrev pub after_octet : Bool → ℕ → List ℕ → List (List ℕ)

@@ -1,19 +1,15 @@
--- A text is that of at most one entry, one last line and one report.
-use Rattle.std.proofs.Common.{◌≡◌, ℕ, ◌^◌, ◌<◌, true, false, nat_eq, nat_lt, List, [], ◌∷◌, length, get_or, drop, map, codes, Option, Some, None, IfSome, decimal, refl, sym, ap, ◌∙◌, arith, rules, length-append}
-use Rattle.std.proofs.lemmas.Bool.{false≢true}
+-- A name is that of one rule, and a text that of at most one entry and one last line.
+use Rattle.std.proofs.Common.{◌≡◌, ◌≢◌, ℕ, Bool, true, false, cond, List, [], ◌∷◌, Option, Some, refl, rules, ◌^◌, ◌<◌, nat_eq, nat_lt, length, get_or, drop, map, codes, None, IfSome, decimal, sym, ap, ◌∙◌, arith, length-append}
+use Rattle.std.proofs.lemmas.Slice.Eq.{bytes_eq-Decides}
+use Rattle.std.specs.List.{find, AllByRecursion, after_first, before_first, flat_map}
+use Rattle.std.specs.Str.{bytes_eq, all_ascii_digits}
+use Rattle.std.proofs.lemmas.Bool.{false≢true, false_from_ne_true}
 use Rattle.std.proofs.lemmas.Fmt.{decimal_injective, decimal_nonempty}
-use Rattle.std.specs.List.{AllByRecursion, after_first, before_first, flat_map}
-use Rattle.std.specs.Str.{all_ascii_digits}
-use Rattle.rule_book.proofs.Ends.{parts_at}
-use Rattle.rule_book.proofs.Lasts.{last_words_at}
-use Rattle.rule_book.proofs.Marks.{joined_after, joined_before, mark_some}
-use Rattle.rule_book.proofs.Names.{found_by_name}
-use Rattle.rule_book.proofs.Options.{same_some}
-use Rattle.rule_book.proofs.Solids.{decimal_digits, mark-solid}
-use Rattle.rule_book.proofs.Texts.{words_at}
+use Rattle.wire_base.specs.declared.address.Side.{Side}
+use Rattle.rule_book.specs.Rules.{FoundByName, all_rules, rule_name, rule_named}
+use Rattle.rule_book.specs.declared.rule.Rule.{Rule}
 use Rattle.rule_book.specs.Entries.{PlainEntry}
 use Rattle.rule_book.specs.Reports.{EndedFits, EntryFits, LastFits}
-use Rattle.rule_book.specs.Rules.{rule_name, rule_named}
 use Rattle.rule_book.specs.Text.{ended_word, entry_text, last_text, part, reason_word, side_word, stop_word, verdict_word}
 use Rattle.rule_book.specs.Words.{HasLastWords, HasWords, Mark, MarkFits, bare, joined, mark_word, octets_word, with_marks}
 use Rattle.rule_book.specs.Words.Mark.{named, belongs, began, over}
@@ -23,8 +19,31 @@ use Rattle.rule_book.specs.declared.entry.Verdict.{Verdict}
 use Rattle.rule_book.specs.declared.last.Last.{Last}
 use Rattle.rule_book.specs.declared.last.Last.TheVariants.{End, Stop}
 use Rattle.rule_book.specs.declared.last.StopKind.{StopKind}
-use Rattle.rule_book.specs.declared.rule.Rule.{Rule}
-use Rattle.wire_base.specs.declared.address.Side.{Side}
+use Rattle.rule_book.proofs.Entries.{parts_at, last_words_at, joined_after, joined_before, mark_some, words_at}
+use Rattle.rule_book.proofs.Lists.{same_some}
+use Rattle.rule_book.proofs.Lines.{decimal_digits, mark-solid}
+
+-- A rule is found by its name.
+
+-- what is found passes the test
+first_passes : {X : Type 0} (test : X → Bool) (y x : X) (b : Bool) (later : Option X) → test y ≡ b → (later ≡ Some x → test x ≡ true) → cond b (Some y) later ≡ Some x → test x ≡ true
+first_passes test y x true later is goes_on found = cc
+first_passes test y x false later is goes_on found = goes_on found
+
+find_passes : {X : Type 0} (test : X → Bool) (xs : List X) (x : X) → find test xs ≡ Some x → test x ≡ true
+find_passes test [] x found = cc
+find_passes test (y ∷ ys) x found = first_passes test y x (test y) (find test ys) refl (find_passes test ys x) found
+
+pub found_by_name : FoundByName
+found_by_name rule = search rules
+
+pub named_is : (text : List ℕ) (rule : Rule) → rule_named text ≡ Some rule → rule_name rule ≡ text
+named_is text rule found = (bytes_eq-Decides (rule_name rule) text).0 (find_passes (λ r. bytes_eq (rule_name r) text) all_rules rule found)
+
+pub unequal : (xs ys : List ℕ) → xs ≢ ys → false ≡ bytes_eq xs ys
+unequal xs ys apart = sym (false_from_ne_true (bytes_eq xs ys) (λ equal. apart ((bytes_eq-Decides xs ys).0 equal)))
+
+-- A text is that of at most one entry, one last line and one report.
 
 -- different values have different words
 side_one : (a b : Option Side) → side_word a ≡ side_word b → a ≡ b

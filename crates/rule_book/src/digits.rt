@@ -15,7 +15,7 @@ pub fn put_decimal(buf: &mut [u8], at: usize, number: u64) -> usize
 }
 
 // Returns how many decimal digits a number has.
-#[tactic(auto, using(crate::proofs::DigitCounts::digit_counts))]
+#[tactic(auto, using(crate::proofs::Numbers::digit_counts))]
 fn digits_of(number: u64) -> usize
     ensures { result ≡ length (decimal number) }
 {

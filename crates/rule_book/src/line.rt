@@ -58,7 +58,7 @@ impl<'a> Line<'a> {
     }
 
     /// Appends an 8-bit number in decimal, at most 3 digits.
-    #[tactic(auto, using(crate::proofs::DigitCounts::digit_counts))]
+    #[tactic(auto, using(crate::proofs::Numbers::digit_counts))]
     pub fn small_number(&mut self, number: u8)
         requires { self.old.len + 4 ≤ length self.old.buf.now }
         ensures same_buffer { self.new.buf.ghost_name ≡ self.old.buf.ghost_name }
@@ -73,7 +73,7 @@ impl<'a> Line<'a> {
     }
 
     /// Appends a 32-bit number in decimal, at most 10 digits.
-    #[tactic(auto, using(crate::proofs::DigitCounts::digit_counts))]
+    #[tactic(auto, using(crate::proofs::Numbers::digit_counts))]
     pub fn number(&mut self, number: u32)
         requires { self.old.len + 10 ≤ length self.old.buf.now }
         ensures same_buffer { self.new.buf.ghost_name ≡ self.old.buf.ghost_name }
@@ -84,7 +84,7 @@ impl<'a> Line<'a> {
     }
 
     /// Appends a 64-bit number in decimal, at most 20 digits.
-    #[tactic(auto, using(crate::proofs::DigitCounts::digit_counts))]
+    #[tactic(auto, using(crate::proofs::Numbers::digit_counts))]
     pub fn long_number(&mut self, number: u64)
         requires { self.old.len + 20 ≤ length self.old.buf.now }
         ensures same_buffer { self.new.buf.ghost_name ≡ self.old.buf.ghost_name }

@@ -26,7 +26,7 @@ pub fn place_of(text: &[u8], octet: u8) -> usize
 }
 
 /// Parses a decimal number of 64 bits.
-#[tactic(auto, using(crate::proofs::Numerals::read_decimal))]
+#[tactic(auto, using(crate::proofs::Numbers::read_decimal))]
 pub fn long_number_of(word: &[u8]) -> Option<u64>
     ensures value { (number : ℕ) → number < 2 ^ 64 → word.now ≡ decimal number → result ≡ Some number }
     ensures bound { IfSome result (λ number. number < 2 ^ 64) }

@@ -1,5 +1,5 @@
 use Rattle.std.proofs.Common.{map, string_bytes, rules}
-use Rattle.norm_settings.proofs.Reading.{read_word_by_word}
+use Rattle.norm_settings.proofs.Grammar.{read_word_by_word}
 use Rattle.norm_settings.proofs.line.line_of.Goals as goal
 
 pub loop-place-init : goal.loop-place-init

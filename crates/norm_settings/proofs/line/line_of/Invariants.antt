@@ -1,6 +1,6 @@
 use Rattle.std.proofs.Common.{◌≡◌, map, drop, string_bytes}
 use Rattle.norm_settings.specs.Line.{plain_use, line_of}
-use Rattle.norm_settings.proofs.Reading.{line_from}
+use Rattle.norm_settings.proofs.Grammar.{line_from}
 use Rattle.norm_settings.proofs.line.line_of.Given as goal
 
 abbrev pub invariant-loop-place : goal.invariant-loop-place

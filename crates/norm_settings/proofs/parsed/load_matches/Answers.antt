@@ -2,7 +2,7 @@ use Rattle.std.proofs.Common.{ap, ◌∙◌, map, string_bytes}
 use Rattle.std.proofs.lemmas.Result.{IfErr-weaker, IfOk-weaker}
 use Rattle.clap.specs.Simple.{is_simple, matches_of}
 use Rattle.clap.specs.Takes.{takes}
-use Rattle.norm_settings.proofs.Loads.{pair_is_taken, pair_reads}
+use Rattle.norm_settings.proofs.Walks.{pair_is_taken, pair_reads}
 use Rattle.norm_settings.proofs.parsed.load_matches.Goals as goal
 
 pub returns-in-Ok-clause-ok : goal.returns-in-Ok-clause-ok

@@ -2,7 +2,7 @@ use Rattle.std.proofs.Common.{ap, ◌∙◌, map, string_bytes}
 use Rattle.std.proofs.lemmas.Result.{IfErr-weaker, IfOk-weaker}
 use Rattle.clap.specs.Simple.{is_simple, matches_of}
 use Rattle.clap.specs.Takes.{takes}
-use Rattle.norm_settings.proofs.Telling.{line_is_taken, line_reads}
+use Rattle.norm_settings.proofs.Runs.{line_is_taken, line_reads}
 use Rattle.norm_settings.proofs.parsed.run_matches.Goals as goal
 
 pub returns-in-Ok-clause-ok : goal.returns-in-Ok-clause-ok

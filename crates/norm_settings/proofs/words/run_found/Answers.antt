@@ -1,5 +1,4 @@
-use Rattle.std.proofs.Common.{◌≡◌, List, false, map, string_bytes, nat_lt, length, ap₂, sym, ◌∙◌, rules, Ok}
-use Rattle.std.specs.Str.{bytes_eq}
+use Rattle.std.proofs.Common.{◌≡◌, List, false, map, string_bytes, nat_lt, length, ap₂, sym, ◌∙◌, rules, Ok, bytes_eq}
 use Rattle.norm_settings.specs.Settings.{plain_settings, settings_of}
 use Rattle.norm_settings.specs.Options.{Text}
 use Rattle.norm_settings.specs.Line.{given}

@@ -1,5 +1,4 @@
-use Rattle.std.proofs.Common.{◌≡◌, ◌+◌, ◌*◌, ◌≤◌, take}
-use Rattle.std.specs.List.{flat_map}
+use Rattle.std.proofs.Common.{◌≡◌, ◌+◌, ◌*◌, ◌≤◌, take, flat_map}
 use Rattle.rule_book.specs.Lines.{Adds}
 use Rattle.rule_book.specs.Text.{ended_part}
 use Rattle.rule_book.proofs.entry.put_ended.Given as goal

@@ -1,4 +1,4 @@
-use Rattle.rule_book.proofs.Lasts.{last_words_at}
+use Rattle.rule_book.proofs.Entries.{last_words_at}
 use Rattle.rule_book.proofs.found.last_words_of.Goals as goal
 
 pub returns : goal.returns

@@ -1,6 +1,6 @@
 use Rattle.std.proofs.Common.{length, ap, arith}
 use Rattle.std.proofs.lemmas.Fmt.{decimal_nonempty}
-use Rattle.rule_book.proofs.Marks.{is_none}
+use Rattle.rule_book.proofs.Entries.{is_none}
 use Rattle.rule_book.proofs.found.octets_of.Goals as goal
 
 pub returns-then-is_empty-clause-value : goal.returns-then-is_empty-clause-value

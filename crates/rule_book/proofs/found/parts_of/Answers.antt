@@ -1,4 +1,4 @@
-use Rattle.rule_book.proofs.Ends.{parts_at}
+use Rattle.rule_book.proofs.Entries.{parts_at}
 use Rattle.rule_book.proofs.found.parts_of.Goals as goal
 
 pub returns : goal.returns

@@ -1,4 +1,4 @@
-use Rattle.rule_book.proofs.Texts.{front_is, words_at}
+use Rattle.rule_book.proofs.Entries.{front_is, words_at}
 use Rattle.rule_book.proofs.found.words_of.Goals as goal
 
 pub returns : goal.returns

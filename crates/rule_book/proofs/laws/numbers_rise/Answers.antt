@@ -1,5 +1,5 @@
 use Rattle.std.proofs.Common.{◌++◌, [], ◌∷◌, map, refl}
-use Rattle.rule_book.proofs.Rising.{rising}
+use Rattle.rule_book.proofs.Numbers.{rising}
 use Rattle.rule_book.proofs.laws.numbers_rise.Goals as goal
 use Rattle.rule_book.specs.declared.rule.Rule.TheVariants.{TCold, TState, TSyn, TRst, TFull, TRoom}
 use Rattle.rule_book.specs.Rules.{cut_rows, datagram_rows, fix_rows, fragment_rows, header_rows, link_rows, protocol_rows, rule_number, segment_rows, step_rows}

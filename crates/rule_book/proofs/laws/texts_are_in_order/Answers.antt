@@ -1,4 +1,4 @@
-use Rattle.rule_book.proofs.Whole.{text-in_order}
+use Rattle.rule_book.proofs.Reports.{text-in_order}
 use Rattle.rule_book.proofs.laws.texts_are_in_order.Goals as goal
 
 pub returns : goal.returns

@@ -1,4 +1,4 @@
-use Rattle.rule_book.proofs.Outcomes.{text_one}
+use Rattle.rule_book.proofs.Reports.{text_one}
 use Rattle.rule_book.proofs.Unique.{entry_one, last_one}
 use Rattle.rule_book.proofs.laws.texts_name_reports.Goals as goal
 

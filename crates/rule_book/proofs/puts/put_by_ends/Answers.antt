@@ -1,6 +1,5 @@
-use Rattle.std.proofs.Common.{refl, length, drop, ◌-◌, arith}
-use Rattle.std.proofs.lemmas.List.{length-drop, take_all}
-use Rattle.rule_book.proofs.Pieces.{puts_ends}
+use Rattle.std.proofs.Common.{refl, length, drop, ◌-◌, arith, length-drop, take_all}
+use Rattle.rule_book.proofs.Lists.{puts_ends}
 use Rattle.rule_book.proofs.puts.put_by_ends.Goals as goal
 
 pub returns : goal.returns

@@ -1,6 +1,6 @@
 use Rattle.std.proofs.Common.{◌+◌, min, length, take, drop, ap, ◌∙◌, arith}
 use Rattle.rule_book.proofs.Lines.{lines_front}
-use Rattle.rule_book.proofs.Marks.{is_full}
+use Rattle.rule_book.proofs.Entries.{is_full}
 use Rattle.rule_book.proofs.report.next_line.Goals as goal
 
 pub returns : goal.returns

@@ -1,8 +1,8 @@
 use Rattle.std.proofs.Common.{◌≡◌, ◌+◌, [], ◌∷◌, ◌++◌, length, map, inr, ap, ◌∙◌, arith, rules, length-append}
 use Rattle.std.proofs.lemmas.List.{length-map, map-append}
 use Rattle.rule_book.proofs.Lines.{has_line}
-use Rattle.rule_book.proofs.Marks.{is_full}
-use Rattle.rule_book.proofs.Reading.{read_at, read_next}
+use Rattle.rule_book.proofs.Entries.{is_full}
+use Rattle.rule_book.proofs.Reports.{read_at, read_next}
 use Rattle.rule_book.specs.Entries.{plain}
 use Rattle.rule_book.specs.Reports.{IsEntryOf, LastFits, lines}
 use Rattle.rule_book.specs.Text.{entry_text, first_line, last_text}

@@ -1,6 +1,6 @@
 use Rattle.std.proofs.Common.{◌≡◌, ◌-◌, ℕ, List, length, slice_index_or, ap, ◌∙◌}
 use Rattle.rule_book.specs.Rules.{rule_name}
-use Rattle.rule_book.proofs.Names.{unequal}
+use Rattle.rule_book.proofs.Unique.{unequal}
 use Rattle.rule_book.proofs.rule.Rule.has_name.Goals as goal
 
 pub returns-then-size-text : goal.returns-then-size-text

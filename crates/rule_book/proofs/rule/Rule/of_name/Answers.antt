@@ -1,11 +1,10 @@
-use Rattle.std.proofs.Common.{◌≡◌, rules, tests, Option, sym, ap, ◌∙◌, option_map}
+use Rattle.std.proofs.Common.{◌≡◌, rules, tests, Option, sym, ap, ◌∙◌, option_map, bytes_eq}
 use Rattle.std.proofs.lemmas.Iterator.{YieldsList-from_slice}
 use Rattle.std.proofs.lemmas.Iterator.Consumers.{YieldsList-from_copied}
 use Rattle.std.proofs.lemmas.Iterator.Search.{find_from_yields_List}
-use Rattle.std.specs.Str.{bytes_eq}
 use Rattle.rule_book.specs.Rules.{all_rules, rule_name, rule_named}
 use Rattle.rule_book.specs.declared.rule.Rule.{Rule}
-use Rattle.rule_book.proofs.Names.{found_by_name, named_is}
+use Rattle.rule_book.proofs.Unique.{found_by_name, named_is}
 use Rattle.rule_book.proofs.rule.Rule.of_name.Goals as goal
 
 same_option : (o : Option Rule) → option_map (λ x. x) o ≡ o

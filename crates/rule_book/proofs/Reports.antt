@@ -1,16 +1,119 @@
--- Lines are those of one report, or have exactly one first fault.
-use Rattle.std.proofs.Common.{◌≡◌, ◌≢◌, ℕ, suc, ◌+◌, ◌⊎◌, inl, inr, List, [], ◌∷◌, ◌++◌, length, get_or, drop, map, Result, Ok, Err, IfOk, MatchResult, refl, sym, ap, ◌∙◌, subst, arith}
-use Rattle.std.specs.List.{AllByRecursion, range_with_len}
-use Rattle.rule_book.proofs.Unique.{entry_no_last, entry_one, last_one}
-use Rattle.rule_book.proofs.Versions.{first_one}
-use Rattle.rule_book.proofs.Whole.{lines-text, text-lines}
+-- The lines of a report: they are its text, they are read one by one, and have one outcome, the report or the first fault.
+use Rattle.std.proofs.Common.{◌≡◌, ℕ, ◌+◌, true, inl, inr, List, [], ◌∷◌, ◌++◌, get_or, codes, refl, ap, arith, map, reverse, sym, ◌∙◌, append-nil, append_assoc, zero, suc, length, subst, add-one, add-zero, add_comm, ◌≢◌, ◌⊎◌, drop, Result, Ok, Err, IfOk, MatchResult}
+use Rattle.std.proofs.lemmas.List.{reverse-append, length_push, map-append}
+use Rattle.std.proofs.lemmas.List.Folds.{concat-append}
+use Rattle.std.specs.List.{AllByRecursion, concat, flat_map, range_with_len}
+use Rattle.rule_book.specs.Reports.{IsVersion, PlainReport, EntryFits, IsEntryOf, TextsAreInOrder, IsReport, lines, lines_of, text_of, IsReadTo, BeginsAmiss, TextsDiffer, HasFault, LastFits, plain_report}
+use Rattle.rule_book.specs.Text.{first_line, entry_text, last_text, lines_text}
 use Rattle.rule_book.specs.Entries.{PlainEntry}
-use Rattle.rule_book.specs.Reports.{PlainReport, BeginsAmiss, TextsDiffer, HasFault, IsEntryOf, IsReadTo, IsReport, IsVersion, LastFits, lines, lines_of, plain_report, text_of}
+use Rattle.rule_book.specs.Words.{joined}
 use Rattle.rule_book.specs.declared.report.Report.{Report}
-use Rattle.rule_book.specs.Text.{entry_text, first_line, last_text}
 use Rattle.rule_book.specs.declared.fault.LineFault.{LineFault}
 use Rattle.rule_book.specs.declared.fault.LineFault.TheVariants.{First, Shape, Number, NoMemory}
 use Rattle.rule_book.specs.declared.last.Last.{Last}
+use Rattle.rule_book.proofs.Lines.{has_no, IsLine, concat-lines, lines-concat}
+use Rattle.rule_book.proofs.Entries.{last-line, entry_text-joined, joined-no_feed, words-solid, words_of}
+use Rattle.rule_book.proofs.Lists.{all-append}
+use Rattle.rule_book.proofs.Unique.{entry_no_last, entry_one, last_one}
+
+-- The versions of the report, and the first line of each.
+
+version_no_feed : (version : ℕ) → IsVersion version → has_no 10 (codes "norm " ++ (48 + version) ∷ []) ≡ true
+version_no_feed version (inl one) = ap (λ v. has_no 10 (codes "norm " ++ (48 + v) ∷ [])) one
+version_no_feed version (inr two) = ap (λ v. has_no 10 (codes "norm " ++ (48 + v) ∷ [])) two
+
+-- the first line of a version is a line
+pub first-line : (version : ℕ) → IsVersion version → IsLine (first_line version)
+first-line version is = record { body = codes "norm " ++ (48 + version) ∷ []; no_feed = version_no_feed version is; whole = refl }
+
+-- the first lines of two versions differ
+pub first_one : (one other : ℕ) → first_line one ≡ first_line other → one ≡ other
+first_one one other same = let digit : 48 + one ≡ 48 + other = ap (λ (l : List ℕ). get_or l 5 0) same in omega arith
+
+-- The text of a report and its lines.
+
+-- the lines of two lists of entries, the newest entry first
+lines_text-append : (xs ys : List PlainEntry) → lines_text (xs ++ ys) ≡ lines_text ys ++ lines_text xs
+lines_text-append [] ys = sym (append-nil (lines_text ys))
+lines_text-append (x ∷ xs) ys = ap (λ l. l ++ entry_text x) (lines_text-append xs ys) ∙ append_assoc (lines_text ys) (lines_text xs) (entry_text x)
+
+lines_text-reverse : (entries : List PlainEntry) → lines_text (reverse entries) ≡ concat (map entry_text entries)
+lines_text-reverse [] = refl
+lines_text-reverse (e ∷ entries) =
+    ap lines_text (reverse-append (e ∷ []) entries) ∙ lines_text-append (reverse entries) (e ∷ []) ∙ ap (λ l. entry_text e ++ l) (lines_text-reverse entries)
+
+-- a report's text is the concatenation of its lines
+text-concat : (report : PlainReport) → text_of report ≡ concat (lines_of report)
+text-concat report =
+    let entries = map entry_text report.entries in
+    let last = last_text report.last in
+    let first = first_line report.version in
+    (λ i. (first ++ lines_text-reverse report.entries i) ++ sym (append-nil last) i)
+    ∙ append_assoc first (concat entries) (last ++ [])
+    ∙ ap (λ l. first ++ l) (sym (concat-append entries (last ∷ [])))
+
+pub entry-line : (entry : PlainEntry) → EntryFits entry → IsLine (entry_text entry)
+entry-line entry fits = record { body = joined (words_of entry); no_feed = joined-no_feed (words_of entry) (words-solid entry fits); whole = entry_text-joined entry }
+
+entries-lines : (version : ℕ) (entries : List PlainEntry) → AllByRecursion (IsEntryOf version) entries → AllByRecursion IsLine (map entry_text entries)
+entries-lines version [] fit = tt
+entries-lines version (entry ∷ entries) fit = (entry-line entry fit.0.fits, entries-lines version entries fit.1)
+
+report-lines : (report : PlainReport) → IsReport report → AllByRecursion IsLine (lines_of report)
+report-lines report is =
+    (first-line report.version is.version, all-append IsLine (map entry_text report.entries) (last_text report.last ∷ []) (entries-lines report.version report.entries is.fit) (last-line report.last is.last, tt))
+
+-- octets that are a report's text have its lines
+pub lines-text : (octets : List ℕ) (report : PlainReport) → IsReport report → octets ≡ text_of report → lines octets ≡ lines_of report
+lines-text octets report is text = ap lines (text ∙ text-concat report) ∙ lines-concat (lines_of report) (report-lines report is)
+
+-- octets that have a report's lines are its text
+pub text-lines : (octets : List ℕ) (report : PlainReport) → lines octets ≡ lines_of report → octets ≡ text_of report
+text-lines octets report is = sym (concat-lines octets) ∙ ap concat is ∙ sym (text-concat report)
+
+concat-map : (entries : List PlainEntry) → concat (map entry_text entries) ≡ flat_map entry_text entries
+concat-map [] = refl
+concat-map (entry ∷ entries) = ap (λ l. entry_text entry ++ l) (concat-map entries)
+
+-- the lines of entries are in their order
+pub text-in_order : TextsAreInOrder
+text-in_order report = λ i. (first_line report.version ++ (lines_text-reverse report.entries ∙ concat-map report.entries) i) ++ last_text report.last
+
+-- A report that is read line by line.
+
+-- a range with one more number at its end
+range-push : (from count : ℕ) → range_with_len from (suc count) ≡ range_with_len from count ++ (from + count) ∷ []
+range-push from zero = ap (λ n. n ∷ []) (sym (add-zero from))
+range-push from (suc count) =
+    let next : (from + 1) + count ≡ from + suc count = omega arith in
+    ap (λ l. from ∷ l) (range-push (from + 1) count ∙ ap (λ n. range_with_len (from + 1) count ++ n ∷ []) next)
+
+-- one more entry is read
+pub read_more : (version : ℕ) (all others : List (List ℕ)) (entries : List PlainEntry) (entry : PlainEntry) → IsEntryOf version entry → entry.number ≡ length entries + 1 → IsReadTo version all entries (entry_text entry ∷ others) → IsReadTo version all (entries ++ entry ∷ []) others
+read_more version all others entries entry fits number read = record {
+  known = read.known;
+  fit = all-append (IsEntryOf version) entries (entry ∷ []) read.fit (fits, tt);
+  numbered =
+      map-append (λ (e : PlainEntry). e.number) entries (entry ∷ [])
+      ∙ (λ i. read.numbered i ++ (number ∙ add_comm (length entries) 1) i ∷ [])
+      ∙ sym (ap (range_with_len 1) (length_push entries entry ∙ add-one (length entries)) ∙ range-push 1 (length entries));
+  before = read.before ∙ ap (λ l. first_line version ∷ l) (sym (append_assoc (map entry_text entries) (entry_text entry ∷ []) others) ∙ ap (λ l. l ++ others) (sym (map-append entry_text entries (entry ∷ []))));
+}
+
+-- the other lines may be replaced by equal ones
+pub read_at : {version : ℕ} {all : List (List ℕ)} {entries : List PlainEntry} {others same : List (List ℕ)} → others ≡ same → IsReadTo version all entries others → IsReadTo version all entries same
+read_at {version} {all} {entries} is read = record { known = read.known; fit = read.fit; numbered = read.numbered; before = read.before ∙ ap (λ l. (first_line version ∷ map entry_text entries) ++ l) is }
+
+-- one more entry is read if the next line is that of an entry with the next number
+pub read_next : (version : ℕ) (all : List (List ℕ)) (entries : List PlainEntry) (entry : PlainEntry) (items : List PlainEntry) (before : List (List ℕ)) (text : List ℕ) (others : List (List ℕ)) (line : ℕ)
+    → IsReadTo version all entries before → before ≡ text ∷ others → IsEntryOf version entry → text ≡ entry_text entry → line ≡ length entries + 2 → entry.number + 1 ≡ line
+    → items ≡ entries ++ entry ∷ [] → IsReadTo version all items others
+read_next version all entries entry items before text others line read front fits is place number more =
+    let first : before ≡ entry_text entry ∷ others = front ∙ ap (λ t. t ∷ others) is in
+    let next : IsReadTo version all (entries ++ entry ∷ []) others = read_more version all others entries entry fits (omega arith) (read_at first read) in
+    subst (λ es. IsReadTo version all es others) (sym more) next
+
+-- Lines are those of one report, or have exactly one first fault.
 
 -- equal lists have the same first line
 heads : {x y : List ℕ} {xs ys : List (List ℕ)} → x ∷ xs ≡ y ∷ ys → x ≡ y
