@@ -1,7 +1,3 @@
-pub mod Linking
-pub mod Judging
-pub mod Joining
-pub mod Octets
-pub mod Renewed
-pub mod Undropped
-pub mod Known
+pub mod Rules
+pub mod Lists
+pub mod Datagrams

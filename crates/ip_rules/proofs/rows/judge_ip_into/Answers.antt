@@ -4,7 +4,7 @@ use Rattle.pcap_file.specs.Reads.{shown}
 use Rattle.norm_settings.specs.Settings.{plain_settings}
 use Rattle.ip_rules.specs.Rows.{side_in}
 use Rattle.ip_rules.specs.Judged.{judged_with}
-use Rattle.ip_rules.proofs.Joining.{dropped_early, link_is_early, arp_passes, judged_here}
+use Rattle.ip_rules.proofs.Rules.{dropped_early, link_is_early, arp_passes, judged_here}
 use Rattle.ip_rules.proofs.rows.judge_ip_into.Goals as goal
 
 pub returns-in-Row : goal.returns-in-Row

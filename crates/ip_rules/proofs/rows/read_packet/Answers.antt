@@ -3,7 +3,7 @@ use Rattle.ipv4_codec.specs.declared.header.Ipv4.{Ipv4}
 use Rattle.ip_rules.specs.Rows.{is_inward}
 use Rattle.ip_rules.specs.Judged.{where_holds}
 use Rattle.rule_book.specs.declared.rule.Rule.TheVariants as rules
-use Rattle.ip_rules.proofs.Judging.{piece_fixes, whole_fixes}
+use Rattle.ip_rules.proofs.Rules.{piece_fixes, whole_fixes}
 use Rattle.ip_rules.proofs.rows.read_packet.Goals as goal
 
 pub returns-then-is_fragment : goal.returns-then-is_fragment

@@ -4,8 +4,7 @@ use Rattle.load_make.specs.Generated.{record_with}
 use Rattle.load_make.specs.Sequence.{action_of}
 use Rattle.load_make.specs.Flows.{flow_behind, turn_of}
 use Rattle.load_make.specs.declared.flow.Flow.TheVariants.{New}
-use Rattle.load_make.proofs.Behind.{flow-within, in-step}
-use Rattle.load_make.proofs.Places.{generated-at, generated-end, next-record}
+use Rattle.load_make.proofs.Flows.{flow-within, in-step, generated-at, generated-end, next-record}
 use Rattle.load_make.proofs.load.Load.next.Goals as goal
 
 pub returns-then-self-clause-record : goal.returns-then-self-clause-record

@@ -1,14 +1,12 @@
--- The facts of a datagram that no rule on its header drops.
-use Rattle.std.proofs.Common.{◌≡◌, ℕ, ◌<◌, ◌≤◌, ◌&&◌, ◌||◌, ◌==◌, Bool, true, false, List, [], ◌++◌, length, take, drop, Option, Some, None, refl, sym, ap, ap₂, subst, ◌∙◌, filter, arith}
-use Rattle.std.specs.Prelude.{nat_lt, nat_le}
+-- A record that no rule drops: its datagram, the facts of its header, and a new header before a payload.
+use Rattle.std.proofs.Common.{◌≡◌, ◌&&◌, Bool, true, false, cond, not, is_none, Option, Some, None, refl, ℕ, ◌<◌, ◌≤◌, ◌||◌, ◌==◌, List, [], ◌++◌, length, take, drop, sym, ap, ap₂, subst, ◌∙◌, filter, arith, ◌+◌, option_map, nat_lt, nat_le, take-append-drop, length-take-le}
 use Rattle.std.specs.List.{AllByRecursion}
 use Rattle.std.proofs.Math.Seq.{take-length}
-use Rattle.std.proofs.lemmas.Bool.{not-false, eqb-true}
+use Rattle.std.proofs.lemmas.Bool.{not-false, eqb-true, ltb-false, or_parts}
 use Rattle.std.proofs.lemmas.Bool.Decides.{nat_tests}
-use Rattle.std.proofs.lemmas.List.{take-append-drop, length-take-le}
+use Rattle.wire_base.specs.declared.address.Side.{Side}
 use Rattle.wire_base.specs.declared.address.Link.{Link}
 use Rattle.wire_base.specs.declared.address.Link.TheVariants.{Ethernet, Raw}
-use Rattle.wire_base.specs.declared.address.Side.{Side}
 use Rattle.wire_base.specs.declared.address.Side.TheVariants.{Inward, Outward}
 use Rattle.wire_base.specs.Ipv4 as ip
 use Rattle.wire_base.specs.Plain.{IsPlainHeader}
@@ -17,17 +15,33 @@ use Rattle.pcap_file.specs.Records.{Packet}
 use Rattle.ipv4_codec.specs.Header.{fields_of}
 use Rattle.rule_book.specs.declared.rule.Rule.{Rule}
 use Rattle.norm_settings.specs.Settings.{PlainSettings}
+use Rattle.ipv4_codec.proofs.PlainHeaders.{header-plain}
+use Rattle.ipv4_codec.specs.Write.{plain_header}
+use Rattle.wire_base.proofs.Octets.{four-octets}
+use Rattle.ip_rules.specs.Datagrams.{Datagram, DatagramsAreKnown, AreOctets, HasSizes, IsKnown, IsPacketOf, goes_in, datagram_of, as_read, AnewIsPacket, head_sent}
 use Rattle.ip_rules.specs.Rows.{carries_ip, side_in, is_inward, holds_in, holds_ip, packet_drop_rows, ip_drop_rows, whole_fix_rows, ip_dropped_by, ip_fixes}
-use Rattle.ip_rules.specs.Datagrams.{DatagramsAreKnown, AreOctets, HasSizes, IsKnown, IsPacketOf, goes_in, datagram_of, as_read}
-use Rattle.ip_rules.proofs.Octets.{two_below, four_below, taken, dropped, behind_long}
-use Rattle.ip_rules.proofs.Undropped.{none_found, none_named, Made, made_by}
+use Rattle.ip_rules.proofs.Lists.{two_below, four_below, taken, dropped, behind_long, none_found, none_named}
 
-or_false : (a b : Bool) → (a || b) ≡ false → (a ≡ false) × (b ≡ false)
-or_false false b e = (refl, e)
-or_false true b e = cc
+-- The datagram of a record that no rule drops.
 
-not_less : (a b : ℕ) → nat_lt a b ≡ false → b ≤ a
-not_less a b e = grind (arith, nat_tests, e)
+-- a datagram was returned: no rule drops the record, it carries a packet that is no fragment, and it has a side
+pub record Made {X : Type 0} (dropped : Option X) (carries piece : Bool) (told : Option Side) (make : Side → Datagram) (d : Datagram) : Type 0 where
+  pub undropped : dropped ≡ None
+  pub carried : carries ≡ true
+  pub whole : piece ≡ false
+  pub side : Side
+  pub told_is : told ≡ Some side
+  pub made : make side ≡ d
+
+pub made_by : {X : Type 0} (dropped : Option X) (carries piece : Bool) (told : Option Side) (make : Side → Datagram) (d : Datagram)
+    → cond (is_none dropped && (carries && not piece)) (option_map make told) None ≡ Some d → Made dropped carries piece told make d
+made_by (Some x) carries piece told make d e = cc
+made_by None false piece told make d e = cc
+made_by None true true told make d e = cc
+made_by None true false None make d e = cc
+made_by None true false (Some side) make d e = record { undropped = refl; carried = refl; whole = refl; side = side; told_is = refl; made = cc }
+
+-- The facts of a datagram that no rule on its header drops.
 
 -- the facts of the header of a packet that no rule drops
 pub record IsSound (p : List ℕ) : Type 0 where
@@ -42,15 +56,15 @@ pub record IsSound (p : List ℕ) : Type 0 where
 
 sound : (settings : PlainSettings) (given : Option Side) (p : List ℕ) → AllByRecursion (λ rule. holds_in settings given p rule ≡ false) packet_drop_rows → IsSound p
 sound settings given p rows =
-    let header = or_false (nat_lt (ip.header_length p) 20) (nat_lt (length p) (ip.header_length p)) rows.1.1.0 in
-    let total = or_false (nat_lt (ip.total_length p) (ip.header_length p)) (nat_lt (length p) (ip.total_length p)) rows.1.1.1.0 in
+    let header = or_parts (nat_lt (ip.header_length p) 20) (nat_lt (length p) (ip.header_length p)) rows.1.1.0 in
+    let total = or_parts (nat_lt (ip.total_length p) (ip.header_length p)) (nat_lt (length p) (ip.total_length p)) rows.1.1.1.0 in
     record {
-      long = not_less (length p) 20 rows.0;
+      long = ltb-false (length p) 20 rows.0;
       version = eqb-true (ip.version p) 4 (not-false (ip.version p == 4) rows.1.0);
-      least = not_less (ip.header_length p) 20 header.0;
-      inside = not_less (length p) (ip.header_length p) header.1;
-      order = not_less (ip.total_length p) (ip.header_length p) total.0;
-      whole = not_less (length p) (ip.total_length p) total.1;
+      least = ltb-false (ip.header_length p) 20 header.0;
+      inside = ltb-false (length p) (ip.header_length p) header.1;
+      order = ltb-false (ip.total_length p) (ip.header_length p) total.0;
+      whole = ltb-false (length p) (ip.total_length p) total.1;
       sum = rows.1.1.1.1.0;
       known = not-false _ rows.1.1.1.1.1.1.1.1.1.1.0;
     }
@@ -89,10 +103,10 @@ no_offset n e = grind (arith, nat_tests, e)
 
 plain : (settings : PlainSettings) (given : Option Side) (p : List ℕ) → IsSound p → IsUnmended settings given p → ip.is_fragment p ≡ false → IsPlainHeader p
 plain settings given p s u whole =
-    let parts = or_false (ip.has_more_fragments p) (nat_lt 0 (ip.fragment_offset p)) whole in
-    let most = not_less 20 (ip.header_length p) u.options in
+    let parts = or_parts (ip.has_more_fragments p) (nat_lt 0 (ip.fragment_offset p)) whole in
+    let most = ltb-false 20 (ip.header_length p) u.options in
     let least = s.least in
-    let end = not_less (ip.total_length p) (length p) u.trailer in
+    let end = ltb-false (ip.total_length p) (length p) u.trailer in
     let inside = s.whole in
     record {
       whole_header = s.long;
@@ -105,7 +119,7 @@ plain settings given p s u whole =
       sum = not-false _ s.sum;
     }
 
-inward_is : (side : Side) → is_inward (Some side) ≡ goes_in side
+pub inward_is : (side : Side) → is_inward (Some side) ≡ goes_in side
 inward_is Inward = refl
 inward_is Outward = refl
 
@@ -165,3 +179,31 @@ datagrams_are_known settings link r d each taken_up =
       each = dropped (ip.header_length p) (take (ip.total_length p) p) (taken (ip.total_length p) p octets);
       whole = λ none. let u = unmended settings r.side p (unmended_packet settings link r m.carried none) in whole_packet settings r.side p fixes m.side m.told_is s u (plain settings r.side p s u m.whole);
     })
+
+-- A new header before any payload.
+
+-- the payload of a packet with a plain header is the octets after its first 20
+pub carried : (p : List ℕ) → IsPlainHeader p → ip.payload p ≡ drop 20 p
+carried p h = (λ k. drop (h.header_length k) (take (h.total_length k) p)) ∙ ap (drop 20) (take-length p)
+
+-- the TTL of an inbound packet passes all routers
+passes_all : (inward : Bool) (hops ttl : ℕ) → inward ≡ true → hops < cond (inward && nat_le ttl hops) (hops + 1) ttl
+passes_all false hops ttl e = cc
+passes_all true hops ttl e = low (nat_le ttl hops) refl
+  where
+    low : (b : Bool) → nat_le ttl hops ≡ b → hops < cond b (hops + 1) ttl
+    low true is = omega arith
+    low false is = grind (arith, nat_tests)
+
+pub anew_is_packet : AnewIsPacket
+anew_is_packet settings d octets hops sizes short =
+    let plain = header-plain (head_sent settings d) octets short in
+    record {
+      long = refl;
+      header = plain;
+      carries = carried (plain_header (head_sent settings d) (length octets) ++ octets) plain;
+      protocol = refl;
+      source = four-octets d.head.src.0 sizes.source;
+      destination = four-octets d.head.dst.0 sizes.destination;
+      passes = λ inward. passes_all (goes_in d.side) settings.hops d.head.ttl inward;
+    }

@@ -1,18 +1,23 @@
--- The states of the connections after one more record.
-use Rattle.std.proofs.Common.{◌≡◌, ◌≢◌, ℕ, zero, suc, ◌+◌, ◌*◌, ◌^◌, ◌<◌, ◌≤◌, ◌==◌, ◌||◌, inl, inr, Bool, true, false, cond, List, [], ◌∷◌, length, get_or, refl, sym, ap, subst, ◌∙◌, add-one, arith}
-use Rattle.std.specs.List.{filter}
+-- The states of a load's connections after each record, and the record at each position.
+use Rattle.std.proofs.Common.{◌≡◌, ◌≢◌, ℕ, zero, suc, ◌+◌, ◌*◌, ◌^◌, ◌<◌, ◌≤◌, ◌==◌, ◌||◌, inl, inr, Bool, true, false, cond, List, [], ◌∷◌, length, get_or, refl, sym, ap, subst, ◌∙◌, add-one, arith, ◌%◌, ◌++◌, take, drop, Some, None, slice_get, filter}
 use Rattle.std.proofs.Math.ListN.{set, length-set}
 use Rattle.std.proofs.lemmas.Bool.Decides.{eqb_tells}
-use Rattle.std.proofs.lemmas.Grind.{get_or-set_at}
+use Rattle.std.proofs.lemmas.Grind.{get_or-set_at, common_steps}
 use Rattle.std.proofs.lemmas.List.{get_or-set_other, length-map}
 use Rattle.std.proofs.lemmas.List.FromFn.{fill_by_all, length-map-range_with_len, get_or-map-range_with_len}
 use Rattle.std.proofs.lemmas.List.Sums.{length-filter, count_by-le-length}
+use Rattle.std.proofs.lemmas.Option.{slice_get-get_or, slice_get_past}
 use Rattle.load_make.specs.declared.flow.Flow.{Flow}
 use Rattle.load_make.specs.declared.flow.Flow.TheVariants.{New}
 use Rattle.load_make.specs.declared.flow.Stream.{Stream}
 use Rattle.load_make.specs.Sequence.{following, number_at, numbers_before, actions_before, flow_of, action_of}
-use Rattle.load_make.specs.Flows.{IsWithin, is_new, is_again, is_changed, flow_after, flow_behind, stream_after}
+use Rattle.load_make.specs.Flows.{IsWithin, is_new, is_again, is_changed, flow_after, flow_behind, stream_after, turn_of}
 use Rattle.load_make.specs.Loads.{flows_before, IsInStep}
+use Rattle.load_make.specs.declared.flow.Turn.{Turn}
+use Rattle.load_make.specs.Packets.{segment_for, packet_octets}
+use Rattle.load_make.specs.Generated.{Generated, record_at, record_with, segment_numbered}
+
+-- The states of the connections after one more record.
 
 flow-more : (action : ℕ) (earlier : List ℕ) → flow_behind action (flow_after earlier) ≡ flow_after (action ∷ earlier)
 flow-more action [] = refl
@@ -93,3 +98,28 @@ pub flow-within : (seed count made number flow : ℕ) (flows : List Flow) → Is
 flow-within seed count made number flow flows step few =
     let P = λ (f : Flow). IsWithin (2 ^ 63) f in
     subst P (sym (flow-at seed made flow flows step.each_flow few)) (after-within (actions_before seed flow made) (omega (arith, length-actions seed flow made, step.within, step.few)))
+
+-- The record at a position of a load, and the octets of two parts of a buffer.
+
+pub generated-at : (seed count place : ℕ) → place < count → slice_get (Generated seed count) place ≡ Some (record_at seed place)
+unfolding Generated
+generated-at seed count place h =
+    slice_get-get_or (Generated seed count) place (record_at seed place) (rw length-map-range_with_len h)
+    ∙ ap Some (get_or-map-range_with_len (record_at seed) 0 count place place (record_at seed place) h (omega arith))
+
+pub generated-end : (seed count : ℕ) → slice_get (Generated seed count) count ≡ None
+unfolding Generated
+generated-end seed count = slice_get_past (Generated seed count) count (omega (arith, length-map-range_with_len (record_at seed) 0 count))
+
+-- the record at a position is the next one of its connection
+pub next-record : (seed count made number x flow : ℕ) (flows : List Flow) (turn : Turn) (octets : List ℕ) → IsInStep seed count made number flows → x ≡ following number → flow ≡ flow_of x → flow < 64
+    → turn ≡ turn_of (action_of x) (get_or flows flow New) → octets ≡ packet_octets (made % 65536) (segment_for flow turn) → record_with made octets ≡ record_at seed made
+unfolding record_at
+next-record seed count made number x flow flows turn octets step follows own few does written =
+    let is : x ≡ number_at seed made = follows ∙ ap following step.follows in
+    let stands : get_or flows flow New ≡ flow_after (actions_before seed (flow_of x) made) = flow-at seed made flow flows step.each_flow few ∙ ap (λ f. flow_after (actions_before seed f made)) own in
+    ap (record_with made) (written ∙ (λ i. packet_octets (made % 65536) (segment_for (own i) ((does ∙ ap (turn_of (action_of x)) stands) i)))) ∙ ap (λ n. record_with made (packet_octets (made % 65536) (segment_numbered seed made n))) is
+
+-- each part of the buffer is filled from its start, and the octets filled are the two parts one after the other
+pub filled : (a b : ℕ) (h m front back x y : List ℕ) → a ≡ 20 → length front ≡ 20 → length h ≡ 20 → length m ≡ b → x ≡ h ++ drop 20 front → y ≡ m ++ drop b back → take (a + b) (x ++ y) ≡ h ++ m
+filled a b h m front back x y size full of_h of_m first second = grind (arith, common_steps)
