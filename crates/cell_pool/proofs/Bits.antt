@@ -1,7 +1,6 @@
 -- The effect of reads and writes of the packed bits on the list of octets.
-use Rattle.std.proofs.Common.{◌≡◌, ℕ, zero, suc, ◌+◌, ◌-◌, ◌*◌, ◌/◌, ◌%◌, ◌^◌, ◌<◌, ◌≢◌, List, [], ◌∷◌, replicate, drop, min, length, get_or, set, Option, Some, None, IsNone, IsTrue, Bool, true, false, ◌↔◌, refl, sym, ap, ◌∙◌, arith, inl, inr, bit_and, bit_or, w64, length-set, length-append, length-drop, if◌then◌else◌, ◌==◌, ◌&&◌, nat_lt}
+use Rattle.std.proofs.Common.{◌≡◌, ℕ, zero, suc, ◌+◌, ◌-◌, ◌*◌, ◌/◌, ◌%◌, ◌^◌, ◌<◌, ◌≢◌, List, [], ◌∷◌, replicate, drop, min, length, get_or, set, Option, Some, None, IsNone, IsTrue, Bool, true, false, ◌↔◌, refl, sym, ap, ◌∙◌, arith, inl, inr, bit_and, bit_or, w64, length-set, length-append, length-drop, if◌then◌else◌, ◌==◌, ◌&&◌, nat_lt, All}
 use Rattle.std.specs.Int.{bit_at}
-use Rattle.std.specs.List.{All}
 use Rattle.std.proofs.lemmas.Bool.{cases_eq, cases_lt, lt-ltb, le-ltb}
 use Rattle.std.proofs.lemmas.Bool.Decides.{nat_tests}
 use Rattle.std.proofs.lemmas.List.{get_or-set_same, get_or-set_other, get_or_append_left, get_or-append_right, get_or-replicate, get_or-drop, length-replicate}
@@ -164,7 +163,7 @@ all_none : (n : ℕ) → All (λ (o : Option ℕ). IsNone o) (replicate n None)
 all_none n k d lt = let low : k < n = omega (arith, length-replicate {A = Option ℕ} n None)
     in rw (get_or-replicate n k None d low) refl
 
-is_none_of : (o : Option ℕ) → IsNone o → o ≡ None
+pub is_none_of : (o : Option ℕ) → IsNone o → o ≡ None
 is_none_of None n = refl
 is_none_of (Some x) n = absurd (let f : true ≡ false = n in cc)
 

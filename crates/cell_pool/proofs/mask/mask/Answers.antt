@@ -1,6 +1,6 @@
 use Rattle.std.proofs.Common.{◌-◌, ◌*◌, ◌^◌, ◌<◌, ◌∷◌, [], ℕ, List, get_or}
 use Rattle.cell_pool.specs.Packed.{HasOnesBetween}
-use Rattle.cell_pool.proofs.Masks.{four, mask_of}
+use Rattle.cell_pool.proofs.Runs.{four, mask_of}
 use Rattle.cell_pool.proofs.mask.mask.Goals as goal
 
 pub returns : goal.returns

@@ -1,6 +1,6 @@
 use Rattle.std.proofs.Common.{◌≡◌, ◌+◌, ◌-◌, ◌*◌, get_or, subst, sym, arith}
 use Rattle.cell_pool.specs.Packed.{HasOnesBetween}
-use Rattle.cell_pool.proofs.Masks.{edges, edge_ones}
+use Rattle.cell_pool.proofs.Runs.{edges, edge_ones}
 use Rattle.cell_pool.proofs.mask.ones_below.Goals as goal
 
 pub returns : goal.returns

@@ -1,5 +1,5 @@
 use Rattle.std.proofs.Common.{◌-◌, ◌*◌, arith}
-use Rattle.cell_pool.proofs.Masks.{ones_apart}
+use Rattle.cell_pool.proofs.Runs.{ones_apart}
 use Rattle.cell_pool.proofs.mask.ones_between.Goals as goal
 
 pub returns : goal.returns

@@ -1,5 +1,5 @@
-use Rattle.cell_pool.proofs.Laws.{total_is}
-use Rattle.cell_pool.proofs.Views.{shown}
+use Rattle.cell_pool.proofs.Owners.{total_is}
+use Rattle.cell_pool.proofs.Chains.{shown}
 use Rattle.cell_pool.proofs.pool.Pool.free.Goals as goal
 
 pub returns-clause-total : goal.returns-clause-total

@@ -1,8 +1,8 @@
 use Rattle.std.proofs.Common.{◌≡◌, ◌+◌, Some, length, length-set, ◌∙◌, ap, arith}
 use Rattle.cell_pool.specs.declared.cells.Cell.{Cell}
-use Rattle.cell_pool.proofs.GivesBack.{behind_inside, behind_given, given_inside, has_count, give_behind, give_rises}
-use Rattle.cell_pool.proofs.Updates.{update_sound, update_seen}
-use Rattle.cell_pool.proofs.Views.{shown, free_is}
+use Rattle.cell_pool.proofs.FreeCells.{behind_inside, behind_given, given_inside, has_count, give_behind, give_rises}
+use Rattle.cell_pool.proofs.Pools.{update_sound, update_seen}
+use Rattle.cell_pool.proofs.Chains.{shown, free_is}
 use Rattle.cell_pool.proofs.pool.Pool.give_behind.Goals as goal
 
 pub index-link-requires : goal.index-link-requires

@@ -1,8 +1,8 @@
 use Rattle.std.proofs.Common.{◌≡◌, ◌+◌, Some, ap, arith}
 use Rattle.cell_pool.specs.declared.cells.Cell.{Cell}
-use Rattle.cell_pool.proofs.GivesBack.{front_given, front_inside, give_front, give_rises}
-use Rattle.cell_pool.proofs.Updates.{update_sound, update_seen}
-use Rattle.cell_pool.proofs.Views.{shown, free_is}
+use Rattle.cell_pool.proofs.FreeCells.{front_given, front_inside, give_front, give_rises}
+use Rattle.cell_pool.proofs.Pools.{update_sound, update_seen}
+use Rattle.cell_pool.proofs.Chains.{shown, free_is}
 use Rattle.cell_pool.proofs.pool.Pool.give_front.Goals as goal
 
 pub unreachable-requires : goal.unreachable-requires

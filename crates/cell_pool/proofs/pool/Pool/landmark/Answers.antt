@@ -1,6 +1,6 @@
 use Rattle.cell_pool.specs.Links.{blank_cell}
-use Rattle.cell_pool.proofs.Owned.{read_stands}
-use Rattle.cell_pool.proofs.Views.{shown}
+use Rattle.cell_pool.proofs.Owners.{read_stands}
+use Rattle.cell_pool.proofs.Chains.{shown}
 use Rattle.cell_pool.proofs.pool.Pool.landmark.Goals as goal
 
 pub returns-then-cell-block : goal.returns-then-cell-block

@@ -1,8 +1,7 @@
 use Rattle.std.proofs.Common.{◌∙◌, ap, arith}
 use Rattle.cell_pool.specs.declared.cells.Cell.{Cell}
-use Rattle.cell_pool.proofs.Laws.{stands_once}
-use Rattle.cell_pool.proofs.Links.{first_is}
-use Rattle.cell_pool.proofs.Views.{shown, held_inside, cell_read, stands_at}
+use Rattle.cell_pool.proofs.Owners.{stands_once}
+use Rattle.cell_pool.proofs.Chains.{first_is, shown, held_inside, cell_read, stands_at}
 use Rattle.cell_pool.proofs.pool.Pool.next_of.Goals as goal
 
 pub index-requires : goal.index-requires

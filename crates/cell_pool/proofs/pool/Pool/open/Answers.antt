@@ -1,4 +1,4 @@
-use Rattle.cell_pool.proofs.Opening.{opened_sound, opened_view}
+use Rattle.cell_pool.proofs.Pools.{opened_sound, opened_view}
 use Rattle.cell_pool.proofs.pool.Pool.open.Goals as goal
 
 pub invariant_of-result : goal.invariant_of-result

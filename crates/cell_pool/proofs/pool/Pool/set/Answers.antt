@@ -1,6 +1,6 @@
 use Rattle.std.proofs.Common.{Some, set, arith}
-use Rattle.cell_pool.proofs.Overwrites.{overwrite}
-use Rattle.cell_pool.proofs.Views.{shown, held_inside}
+use Rattle.cell_pool.proofs.Pools.{overwrite}
+use Rattle.cell_pool.proofs.Chains.{shown, held_inside}
 use Rattle.cell_pool.proofs.pool.Pool.set.Goals as goal
 
 pub index_mut-cell-requires : goal.index_mut-cell-requires

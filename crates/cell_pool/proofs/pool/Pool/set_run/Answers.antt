@@ -1,7 +1,7 @@
 use Rattle.std.proofs.Common.{arith}
 use Rattle.cell_pool.specs.Lists.{with_run}
-use Rattle.cell_pool.proofs.Overwrites.{overwrite}
-use Rattle.cell_pool.proofs.Views.{shown, held_inside}
+use Rattle.cell_pool.proofs.Pools.{overwrite}
+use Rattle.cell_pool.proofs.Chains.{shown, held_inside}
 use Rattle.cell_pool.proofs.pool.Pool.set_run.Goals as goal
 
 pub index_mut-cell-requires : goal.index_mut-cell-requires

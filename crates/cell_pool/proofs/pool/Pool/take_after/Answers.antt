@@ -1,6 +1,6 @@
 use Rattle.std.proofs.Common.{subst}
 use Rattle.cell_pool.specs.Lists.{HasPlaceFor, chain_at}
-use Rattle.cell_pool.proofs.Takes.{front_order, takes_at_front}
+use Rattle.cell_pool.proofs.FreeCells.{front_order, takes_at_front}
 use Rattle.cell_pool.proofs.pool.Pool.take_after.Goals as goal
 
 pub take_behind-requires-clause-place : goal.take_behind-requires-clause-place

@@ -1,9 +1,8 @@
 use Rattle.std.proofs.Common.{◌-◌, refl, ap, arith}
 use Rattle.cell_pool.specs.Lists.{empty_cell}
-use Rattle.cell_pool.proofs.Making.{ready_shows}
-use Rattle.cell_pool.proofs.Takes.{take_behind, take_rises}
-use Rattle.cell_pool.proofs.Updates.{update_sound, update_seen}
-use Rattle.cell_pool.proofs.Views.{shown, free_is, place_last}
+use Rattle.cell_pool.proofs.Pools.{ready_shows, update_sound, update_seen}
+use Rattle.cell_pool.proofs.FreeCells.{take_behind, take_rises}
+use Rattle.cell_pool.proofs.Chains.{shown, free_is, place_last}
 use Rattle.cell_pool.proofs.pool.Pool.take_behind.Goals as goal
 
 pub index-link-requires : goal.index-link-requires

@@ -1,8 +1,7 @@
 use Rattle.std.proofs.Common.{◌-◌, refl, ap}
-use Rattle.cell_pool.proofs.Making.{ready_shows}
-use Rattle.cell_pool.proofs.Takes.{take_front}
-use Rattle.cell_pool.proofs.Updates.{update_sound, update_seen}
-use Rattle.cell_pool.proofs.Views.{shown, free_is, chain_rises}
+use Rattle.cell_pool.proofs.Pools.{ready_shows, update_sound, update_seen}
+use Rattle.cell_pool.proofs.FreeCells.{take_front}
+use Rattle.cell_pool.proofs.Chains.{shown, free_is, chain_rises}
 use Rattle.cell_pool.proofs.pool.Pool.take_front.Goals as goal
 
 pub invariant_of-self-2 : goal.invariant_of-self-2

@@ -1,10 +1,14 @@
--- Consequences of links that lead through a list of cells, and what a write preserves of them.
-use Rattle.std.proofs.Common.{◌≡◌, ℕ, ◌<◌, ◌≤◌, ◌≢◌, List, [], ◌∷◌, ◌++◌, length, Option, Some, None, refl, sym, ap, subst, ◌∙◌, arith, length-append}
+-- Chains of cells: what the links that lead through a chain imply, what a write preserves of them, and what contracts see of them.
+use Rattle.std.proofs.Common.{◌≡◌, ℕ, ◌<◌, ◌≤◌, ◌≢◌, List, [], ◌∷◌, ◌++◌, length, Option, Some, None, refl, sym, ap, subst, ◌∙◌, arith, length-append, suc, map, get_or}
+use Rattle.std.proofs.lemmas.List.{length-map, get_or-map, get_or_default}
 use Rattle.cell_pool.specs.declared.cells.Cell.{Cell}
 use Rattle.cell_pool.specs.declared.cells.CellId.{CellId}
 use Rattle.cell_pool.specs.declared.cells.ChainId.{ChainId}
-use Rattle.cell_pool.specs.Lists.{Held, first_id, last_id}
-use Rattle.cell_pool.specs.Links.{cell_at, next_at, held_at, walk, IsNext, Leads, IsList}
+use Rattle.cell_pool.specs.Lists.{Held, first_id, last_id, IsRising, BeginsAbove, EndsBelow, Lists, chain_at, Stands, IsHeld, IsHeldWith, IsPlace}
+use Rattle.cell_pool.specs.Links.{cell_at, next_at, held_at, walk, IsNext, Leads, IsList, head_at, blank_cell, blank_head, cells_of, lists_of, owner_of, IsSound}
+use Rattle.cell_pool.specs.declared.cells.Head.{Head}
+
+-- Consequences of links that lead through a list of cells, and what a write preserves of them.
 
 -- the chain of an owner
 abbrev pub owner_number : Option ChainId → ℕ
@@ -249,3 +253,110 @@ module _ (cells new : List Cell) (i : CellId) (changes : Changes cells new i.0 i
         rw (same, next_at)
             (overwrite_at y here (next_at cells b.id) bs x after p.1 named),
       )
+
+-- When block numbers still rise after one chain has changed.
+
+-- after the insertion of a cell whose block number fits
+pub IsRising-more : (before rest : List Held) (x : Held) → IsRising (before ++ rest) → EndsBelow x.block before →
+    BeginsAbove x.block rest → IsRising (before ++ x ∷ rest)
+IsRising-more [] rest x rises above below = (below, rises)
+IsRising-more (b ∷ []) rest x rises above below = (above, (below, rises.1))
+IsRising-more (b ∷ b2 ∷ bs) rest x rises above below = (rises.0, IsRising-more (b2 ∷ bs) rest x rises.1 above below)
+
+-- after the removal of one cell
+pub IsRising-less : (before : List Held) (x : Held) (rest : List Held) → IsRising (before ++ x ∷ rest) →
+    IsRising (before ++ rest)
+IsRising-less [] x rest rises = rises.1
+IsRising-less (b ∷ []) x [] rises = (tt, tt)
+IsRising-less (b ∷ []) x (y ∷ ys) rises = (omega (arith, rises.0, rises.1.0), rises.1.1)
+IsRising-less (b ∷ b2 ∷ bs) x rest rises = (rises.0, IsRising-less (b2 ∷ bs) x rest rises.1)
+
+-- after a write of the octets of one cell
+pub IsRising-octets : (before : List Held) (x : Held) (after : List Held) (octets : List (Option ℕ)) →
+    IsRising (before ++ x ∷ after) → IsRising (before ++ record x { octets = octets } ∷ after)
+IsRising-octets [] x after octets rises = rises
+IsRising-octets (b ∷ []) x after octets rises = rises
+IsRising-octets (b ∷ b2 ∷ bs) x after octets rises = (rises.0, IsRising-octets (b2 ∷ bs) x after octets rises.1)
+
+-- The fields of a pool, from what contracts see of it.
+
+-- the lists of all chains, where each of them is the same
+pub chains_same : (f g : Head → List Held) (heads : List Head) →
+    ((c : ℕ) → c < length heads → f (head_at heads c) ≡ g (head_at heads c)) → map f heads ≡ map g heads
+chains_same f g [] same = refl
+chains_same f g (x ∷ xs) same = let first = same 0 (omega arith) in let rest = chains_same f g xs
+    (λ c lt. same (suc c) (omega arith)) in cc
+
+-- the fields are sound, and this is what contracts see of them
+pub record Shows (heads : List Head) (cells : List Cell) (spare : Option CellId) (free all : ℕ)
+    (pool : Lists) : Type 0 where
+  pub sound : IsSound heads cells spare free all
+  pub is : lists_of heads cells free all ≡ pool
+
+pub shown : {heads : List Head} {cells : List Cell} {spare : Option CellId} {free all : ℕ} {pool : Lists} →
+    IsSound heads cells spare free all → lists_of heads cells free all ≡ pool → Shows heads cells spare free all pool
+shown sound is = record { sound = sound; is = is }
+
+module _ {heads : List Head} {cells : List Cell} {spare : Option CellId} {free all : ℕ} {pool : Lists}
+    (shows : Shows heads cells spare free all pool) where
+  pub free_is : pool.free ≡ free
+  free_is = ap (λ (p : Lists). p.free) (sym shows.is)
+
+  module _ {c : ℕ} (inside : c < length pool.chains) where
+    pub within : c < length heads
+    within = omega (arith, length-map heads (cells_of cells), ap (λ (p : Lists). length p.chains) shows.is)
+
+    -- a chain is the cells that its head leads to
+    pub chain_is : cells_of cells (head_at heads c) ≡ chain_at pool c
+    chain_is = sym (get_or-map (cells_of cells) heads c blank_head _ within)
+        ∙ ap (λ (p : Lists). chain_at p c) shows.is
+
+    pub chain_leads : Leads cells (owner_of c) (head_at heads c).first (chain_at pool c)
+    chain_leads = subst (Leads cells (owner_of c) (head_at heads c).first) chain_is
+        (shows.sound.chain_lists c within).leads
+
+    pub chain_count : (head_at heads c).count ≡ length (chain_at pool c)
+    chain_count = sym (shows.sound.chain_lists c within).counted ∙ ap length chain_is
+
+    pub chain_rises : IsRising (chain_at pool c)
+    chain_rises = subst IsRising chain_is (shows.sound.rising c within)
+
+    -- the value read is the head of the chain
+    pub head_read : {h : Head} → h ≡ get_or heads c h → h ≡ head_at heads c
+    head_read read = read ∙ get_or_default heads c _ blank_head within
+
+    pub place_leads : {after : Option CellId} {before rest : List Held} →
+        IsPlace (chain_at pool c) after before rest → Leads cells (owner_of c) (head_at heads c).first
+        (before ++ rest)
+    place_leads place = subst (Leads cells (owner_of c) (head_at heads c).first) place.splits chain_leads
+
+    -- the cell before a position
+    pub place_last : {a : CellId} {before rest : List Held} → IsPlace (chain_at pool c) (Some a) before rest →
+        FoundAt cells (owner_of c) a rest
+    place_last {a = a} {before = before} {rest = rest} place = last_found cells (owner_of c) _ a before rest
+        (place_leads place) place.ends
+
+  module _ {c : ℕ} {name : CellId} {before : List Held} {x : Held} {after : List Held}
+      (stands : Stands pool c name before x after) where
+    stands_found : FoundAt cells (owner_of c) name after × (held_at cells name ≡ x)
+    stands_found = found cells (owner_of c) (head_at heads c).first name before x after
+        (subst (Leads cells (owner_of c) (head_at heads c).first) stands.splits (chain_leads stands.inside))
+        stands.named
+
+    pub stands_at : FoundAt cells (owner_of c) name after
+    stands_at = stands_found.0
+
+    pub stands_is : held_at cells name ≡ x
+    stands_is = stands_found.1
+
+  module _ {name : CellId} where
+    pub held_inside : IsHeld pool name → name.0 < length cells
+    held_inside held = (stands_at held.stands).inside
+
+    -- the value read is the cell with this identifier
+    pub cell_read : IsHeld pool name → {x : Cell} → x ≡ get_or cells name.0 x → x ≡ cell_at cells name.0
+    cell_read held read = read ∙ get_or_default cells name.0 _ blank_cell (held_inside held)
+
+-- a cell of whose octets something holds is in a chain
+pub just_held : {pool : Lists} {name : CellId} {P : List (Option ℕ) → Type 0} → IsHeldWith pool name P → IsHeld pool name
+just_held held = record { chain = held.chain; before = held.before; cell = held.cell; after = held.after; stands = held.stands }

@@ -1,4 +1,4 @@
--- A cell whose owner is a chain is in that chain: the lengths of all lists add up to the number of cells, and no cell occurs twice.
+-- A cell is free or in the chain that owns it, and no cell occurs twice, so the lengths of all lists add up to the number of cells.
 use Rattle.std.proofs.Common.{◌≡◌, ℕ, zero, suc, ◌+◌, ◌<◌, ◌≤◌, ◌≢◌, ◌⊎◌, inl, inr, List, [], ◌∷◌, ◌++◌, map, length, get_or, Option, Some, None, true, false, refl, sym, ap, subst, ◌∙◌, arith, length-append}
 use Rattle.std.specs.List.{sum_by, list_any, AllByRecursion, IsDistinct}
 use Rattle.std.proofs.Math.Dec.{eqb}
@@ -11,10 +11,11 @@ use Rattle.cell_pool.specs.declared.cells.Cell.{Cell}
 use Rattle.cell_pool.specs.declared.cells.Head.{Head}
 use Rattle.cell_pool.specs.declared.cells.CellId.{CellId}
 use Rattle.cell_pool.specs.declared.cells.ChainId.{ChainId}
-use Rattle.cell_pool.specs.Lists.{Lists, Held, Stands, StandsUpTo}
+use Rattle.cell_pool.specs.Lists.{Lists, Held, Stands, StandsUpTo, chain_at, StandsOnce}
 use Rattle.cell_pool.specs.Links.{blank_cell, cell_at, next_at, held_at, head_at, walk, cells_of, owner_of, Leads, IsList}
-use Rattle.cell_pool.proofs.Links.{owner_number, Avoids, FoundAt, avoids_other, avoids_itself}
-use Rattle.cell_pool.proofs.Views.{Shows, within, chain_is, stands_is}
+use Rattle.cell_pool.proofs.Chains.{owner_number, Avoids, FoundAt, avoids_other, avoids_itself, Shows, within, chain_is, stands_is, Leads_unique, stands_at}
+
+-- A cell whose owner is a chain is in that chain: the lengths of all lists add up to the number of cells, and no cell occurs twice.
 
 -- the index of a cell
 abbrev index : Held → ℕ
@@ -238,3 +239,53 @@ module _ {heads : List Head} {cells : List Cell} {spare : Option CellId} {free a
       owned_stands i block (omega (arith, ap length same))
       (ap (λ (k : Cell). k.owner) (sym here) ∙ (owned ∙ ap owner_of number))
       (omega (arith, ap (λ (k : Cell). k.block) here))
+
+-- What holds of every pool.
+
+-- the counts of the heads are the lengths of the chains
+counts_are : (cells : List Cell) (heads : List Head) →
+    ((c : ℕ) → c < length heads → length (cells_of cells (head_at heads c)) ≡ (head_at heads c).count) →
+    sum_by length (map (cells_of cells) heads) ≡ sum_by (λ h. h.count) heads
+counts_are cells [] each = refl
+counts_are cells (h ∷ hs) each =
+    let first : length (cells_of cells h) ≡ h.count = each 0 (omega arith) in
+    let rest = counts_are cells hs (λ c lt. each (suc c) (omega arith)) in
+    omega (
+      arith,
+      sum_by-cons length (cells_of cells h) (map (cells_of cells) hs),
+      sum_by-cons (λ (k : Head). k.count)
+          h hs,
+    )
+
+same_front : (xs ys zs ws : List Held) → length xs ≡ length ys → xs ++ zs ≡ ys ++ ws → xs ≡ ys
+same_front [] [] zs ws len e = refl
+same_front [] (y ∷ ys) zs ws len e = absurd (omega arith)
+same_front (x ∷ xs) [] zs ws len e = absurd (omega arith)
+same_front (x ∷ xs) (y ∷ ys) zs ws len e =
+    let tails : xs ++ zs ≡ ys ++ ws = cc in
+    let rest = same_front xs ys zs ws (omega arith) tails in
+    cc
+
+module _ {heads : List Head} {cells : List Cell} {spare : Option CellId} {free all : ℕ} {pool : Lists}
+    (shows : Shows heads cells spare free all pool) where
+  pub total_is : pool.free + sum_by length pool.chains ≡ pool.cells
+  total_is =
+      let sum = counts_are cells heads (λ c lt. (shows.sound.chain_lists c lt).counted) in
+      let here : free + sum_by length (map (cells_of cells) heads) ≡ all = omega
+      (arith, shows.sound.total) in
+      subst (λ (p : Lists). p.free + sum_by length p.chains ≡ p.cells) shows.is here
+
+  pub stands_once : (name : CellId) → StandsOnce pool name
+  stands_once name c d before other_before x y after other_after stands other =
+      let at = stands_at shows stands in
+      let at2 = stands_at shows other in
+      let same : c ≡ d = ap owner_number (sym at.owned ∙ at2.owned) in
+      let leads : Leads cells (owner_of c) (next_at cells name) other_after = subst
+      (λ k. Leads cells (owner_of k) (next_at cells name) other_after) (sym same) at2.leads in
+      let tails = ap length (Leads_unique cells (owner_of c) _ after other_after at.leads leads) in
+      let lists : before ++ x ∷ after ≡ other_before ++ y ∷ other_after = sym stands.splits
+      ∙ (ap (chain_at pool) same ∙ other.splits) in
+      let long = ap length lists in
+      let len : length before ≡ length other_before = omega
+      (arith, length-append before (x ∷ after), length-append other_before (y ∷ other_after)) in
+      record { chain_is = same; before_is = same_front before other_before (x ∷ after) (y ∷ other_after) len lists }

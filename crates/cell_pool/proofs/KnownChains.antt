@@ -1,6 +1,5 @@
 -- The effect of one call on a pool whose chains are known.
-use Rattle.std.proofs.Common.{◌≡◌, ℕ, suc, ◌+◌, ◌-◌, ◌<◌, List, [], ◌∷◌, ◌++◌, length, get_or, set, Option, Some, None, IsNone, IfSome, refl, sym, ap, ◌∙◌, arith}
-use Rattle.std.proofs.lemmas.List.{append-nil}
+use Rattle.std.proofs.Common.{◌≡◌, ℕ, suc, ◌+◌, ◌-◌, ◌<◌, List, [], ◌∷◌, ◌++◌, length, get_or, set, Option, Some, None, IsNone, IfSome, refl, sym, ap, ◌∙◌, arith, append-nil}
 use Rattle.cell_pool.specs.declared.cells.CellId.{CellId}
 use Rattle.cell_pool.specs.Lists.{Lists, Held, chain_at, empty_cell, last_id, BeginsAbove, EndsBelow, IsPlace, HasPlaceFor, HasCellAfter, TakesAfter, GivesBackAfter}
 
