@@ -1,5 +1,4 @@
-use Rattle.std.proofs.Common.{◌≡◌, ◌+◌, ◌<◌, ℕ, get_or}
-use Rattle.std.specs.Option.{unwrap_or}
+use Rattle.std.proofs.Common.{◌≡◌, ◌+◌, ◌<◌, ℕ, get_or, unwrap_or}
 use Rattle.cell_pool.specs.Lists.{chain_at}
 use Rattle.retain_store.specs.Maps.{octet_at}
 use Rattle.retain_store.specs.Seats.{blocks_in, IsNear}

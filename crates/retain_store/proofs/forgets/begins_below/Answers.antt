@@ -1,5 +1,5 @@
 use Rattle.std.proofs.Common.{nat_lt, sym, ap, ◌∙◌}
-use Rattle.retain_store.proofs.Walks.{stands, is_held}
+use Rattle.retain_store.proofs.Cells.{stands, is_held}
 use Rattle.retain_store.proofs.Fronts.{first_at, begins_is}
 use Rattle.retain_store.proofs.forgets.begins_below.Goals as goal
 

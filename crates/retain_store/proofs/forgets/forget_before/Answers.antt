@@ -1,4 +1,4 @@
-use Rattle.retain_store.proofs.Pieces.{changed_then}
+use Rattle.retain_store.proofs.Segments.{changed_then}
 use Rattle.retain_store.proofs.forgets.forget_before.Goals as goal
 
 pub returns-clause-changed : goal.returns-clause-changed

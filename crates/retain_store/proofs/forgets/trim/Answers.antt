@@ -1,8 +1,7 @@
 use Rattle.std.proofs.Common.{sym, ◌∙◌}
-use Rattle.retain_store.proofs.Walks.{is_held}
-use Rattle.retain_store.proofs.Pieces.{inside_then}
-use Rattle.retain_store.proofs.Fronts.{first_at}
-use Rattle.retain_store.proofs.Trims.{clears, forgets_nothing, forgets_part, forgets_all, mid_changed, mid_first}
+use Rattle.retain_store.proofs.Cells.{is_held}
+use Rattle.retain_store.proofs.Segments.{inside_then}
+use Rattle.retain_store.proofs.Fronts.{first_at, clears, forgets_nothing, forgets_part, forgets_all, mid_changed, mid_first}
 use Rattle.retain_store.proofs.forgets.trim.Goals as goal
 
 pub block-requires : goal.block-requires

@@ -5,8 +5,7 @@ use borrow.Rule.Slice.PartMut.{put_mid}
 use Rattle.cell_pool.proofs.Runs.{length-put}
 use Rattle.retain_store.specs.Maps.{octet_at, Covers}
 use Rattle.retain_store.specs.Seats.{blocks_in}
-use Rattle.retain_store.proofs.Found.{covers_part}
-use Rattle.retain_store.proofs.Parts.{copied_then}
+use Rattle.retain_store.proofs.Parts.{covers_part, copied_then}
 use Rattle.retain_store.proofs.reads.copy.Goals as goal
 
 pub copy_piece-near-requires-clause-covered : goal.copy_piece-near-requires-clause-covered

@@ -1,8 +1,8 @@
 use Rattle.std.proofs.Common.{refl, length}
 use Rattle.retain_store.specs.Seats.{blocks_in}
-use Rattle.retain_store.proofs.Walks.{is_held}
+use Rattle.retain_store.proofs.Cells.{is_held}
 use Rattle.retain_store.proofs.Blocks.{cell_near}
-use Rattle.retain_store.proofs.Found.{none_agree, kept_agree, agree_kept, piece_blank, covered_told, held_covered, run_told}
+use Rattle.retain_store.proofs.Parts.{none_agree, kept_agree, agree_kept, piece_blank, covered_told, held_covered, run_told}
 use Rattle.retain_store.proofs.runs.agrees_in.Goals as goal
 
 pub is_blank-requires-clause-held : goal.is_blank-requires-clause-held

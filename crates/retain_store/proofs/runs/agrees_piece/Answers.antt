@@ -1,6 +1,6 @@
 use Rattle.std.proofs.Common.{refl, arith}
 use Rattle.retain_store.proofs.Blocks.{cell_near, place_near}
-use Rattle.retain_store.proofs.Found.{none_agree, piece_missing}
+use Rattle.retain_store.proofs.Parts.{none_agree, piece_missing}
 use Rattle.retain_store.proofs.runs.agrees_piece.Goals as goal
 
 pub returns-in-Cell-clause-near : goal.returns-in-Cell-clause-near

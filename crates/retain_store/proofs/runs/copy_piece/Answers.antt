@@ -1,6 +1,6 @@
 use Rattle.std.proofs.Common.{◌≡◌, true, false, is_some, sym, ap, ◌∙◌, arith}
 use Rattle.retain_store.proofs.Blocks.{cell_near}
-use Rattle.retain_store.proofs.Found.{held_covered, run_kept, piece_missing}
+use Rattle.retain_store.proofs.Parts.{held_covered, run_kept, piece_missing}
 use Rattle.retain_store.proofs.runs.copy_piece.Goals as goal
 
 pub unreachable-requires : goal.unreachable-requires

@@ -1,7 +1,7 @@
 use Rattle.std.proofs.Common.{is_some, true, false, sym, ap, ◌∙◌, ◌≡◌, arith}
-use Rattle.retain_store.proofs.Walks.{is_held}
+use Rattle.retain_store.proofs.Cells.{is_held}
 use Rattle.retain_store.proofs.Blocks.{cell_near, place_near}
-use Rattle.retain_store.proofs.Found.{covered_told, piece_missing}
+use Rattle.retain_store.proofs.Parts.{covered_told, piece_missing}
 use Rattle.retain_store.proofs.runs.covers_piece.Goals as goal
 
 pub is_covered-requires-clause-held : goal.is_covered-requires-clause-held

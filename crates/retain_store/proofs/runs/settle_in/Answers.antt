@@ -1,8 +1,8 @@
 use Rattle.std.proofs.Common.{◌≡◌, true, false, refl, sym, ◌∙◌, subst, arith}
 use Rattle.retain_store.specs.Seats.{blocks_in}
-use Rattle.retain_store.proofs.Walks.{is_held}
+use Rattle.retain_store.proofs.Cells.{is_held}
 use Rattle.retain_store.proofs.Blocks.{cell_near}
-use Rattle.retain_store.proofs.Found.{AreKept, none_settle, kept_settle, piece_blank, covered_told, held_covered, run_kept, run_told}
+use Rattle.retain_store.proofs.Parts.{AreKept, none_settle, kept_settle, piece_blank, covered_told, held_covered, run_kept, run_told}
 use Rattle.retain_store.proofs.runs.settle_in.Goals as goal
 
 pub is_blank-requires-clause-held : goal.is_blank-requires-clause-held

@@ -2,8 +2,7 @@ use Rattle.std.proofs.Common.{◌<◌, ◌-◌, ◌/◌, sym, subst, ◌∙◌, 
 use Rattle.std.proofs.lemmas.Bool.Decides.{nat_tests}
 use Rattle.cell_pool.specs.Lists.{chain_at, IsBlank}
 use Rattle.retain_store.specs.Seats.{IsAmong}
-use Rattle.retain_store.proofs.Walks.{stands}
-use Rattle.retain_store.proofs.Ends.{within_behind, within_last}
+use Rattle.retain_store.proofs.Cells.{stands, within_behind, within_last}
 use Rattle.retain_store.proofs.seat.ends_before.Goals as goal
 
 pub returns-then-reached-from : goal.returns-then-reached-from

@@ -1,5 +1,5 @@
 use Rattle.std.proofs.Common.{refl}
-use Rattle.retain_store.proofs.Walks.{stands}
+use Rattle.retain_store.proofs.Cells.{stands}
 use Rattle.retain_store.proofs.Blocks.{found_in, missing_at, place_near}
 use Rattle.retain_store.proofs.seat.look.Goals as goal
 

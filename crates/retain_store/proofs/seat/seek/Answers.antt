@@ -1,7 +1,7 @@
 use Rattle.std.proofs.Common.{◌<◌, ◌∙◌, sym, arith}
 use Rattle.cell_pool.specs.Lists.{chain_at}
 use Rattle.retain_store.specs.Seats.{IsAmong}
-use Rattle.retain_store.proofs.Walks.{stands, from_cell, walk_ends}
+use Rattle.retain_store.proofs.Cells.{stands, from_cell, walk_ends}
 use Rattle.retain_store.proofs.seat.seek.Goals as goal
 
 pub returns-in_default-next_of : goal.returns-in_default-next_of

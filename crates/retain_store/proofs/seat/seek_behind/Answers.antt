@@ -1,5 +1,5 @@
 use Rattle.std.proofs.Common.{refl, arith}
-use Rattle.retain_store.proofs.Walks.{is_held, stands, stops_before, walk_reaches}
+use Rattle.retain_store.proofs.Cells.{is_held, stands, stops_before, walk_reaches}
 use Rattle.retain_store.proofs.seat.seek_behind.Goals as goal
 
 pub block-requires : goal.block-requires

@@ -1,6 +1,6 @@
 use Rattle.std.proofs.Common.{◌∙◌, sym}
 use Rattle.retain_store.proofs.Fronts.{first_at}
-use Rattle.retain_store.proofs.Walks.{is_held, up_to_held, up_to_cell, up_to_walk}
+use Rattle.retain_store.proofs.Cells.{is_held, up_to_held, up_to_cell, up_to_walk}
 use Rattle.retain_store.proofs.seat.seek_far.Goals as goal
 
 pub block-requires : goal.block-requires

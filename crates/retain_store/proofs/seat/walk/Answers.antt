@@ -1,5 +1,5 @@
 use Rattle.std.proofs.Common.{◌<◌, ◌∙◌, sym, arith}
-use Rattle.retain_store.proofs.Walks.{stands, is_held, walk_ends, walk_all, walk_reaches, is_cell, stops_before, goes_on}
+use Rattle.retain_store.proofs.Cells.{stands, is_held, walk_ends, walk_all, walk_reaches, is_cell, stops_before, goes_on}
 use Rattle.retain_store.proofs.seat.walk.Goals as goal
 
 pub returns-in_default : goal.returns-in_default

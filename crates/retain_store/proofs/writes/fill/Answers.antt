@@ -1,10 +1,9 @@
 use Rattle.std.proofs.Common.{ℕ, List, Option, refl, sym, subst, arith}
 use Rattle.cell_pool.specs.Lists.{Writes, with_run}
 use Rattle.retain_store.specs.Changes.{with_octets}
-use Rattle.retain_store.proofs.Walks.{is_held}
+use Rattle.retain_store.proofs.Cells.{is_held, writes_nothing, writes_same}
 use Rattle.retain_store.proofs.Blocks.{cell_near}
-use Rattle.retain_store.proofs.Fills.{writes_nothing, writes_same}
-use Rattle.retain_store.proofs.Found.{covered_told, fresh_all, fresh_none, piece_blank}
+use Rattle.retain_store.proofs.Parts.{covered_told, fresh_all, fresh_none, piece_blank}
 use Rattle.retain_store.proofs.Segments.{with_blank, with_covered}
 use Rattle.retain_store.proofs.writes.fill.Goals as goal
 

@@ -1,7 +1,7 @@
 use Rattle.std.proofs.Common.{refl, arith}
-use Rattle.retain_store.proofs.Walks.{is_held}
-use Rattle.retain_store.proofs.Opens.{opens_taken}
-use Rattle.retain_store.proofs.Pieces.{inside_then, places_taken}
+use Rattle.retain_store.proofs.Cells.{is_held}
+use Rattle.retain_store.proofs.Blocks.{opens_taken}
+use Rattle.retain_store.proofs.Segments.{inside_then, places_taken}
 use Rattle.retain_store.proofs.writes.open_piece.Goals as goal
 
 pub unreachable-requires : goal.unreachable-requires

@@ -1,15 +1,13 @@
-use Rattle.std.proofs.Common.{◌≡◌, ℕ, ◌+◌, ◌-◌, ◌/◌, ◌%◌, ◌⊎◌, inl, inr, length, take, drop, cond, ap, ap₂, subst, ◌∙◌, sym, arith}
+use Rattle.std.proofs.Common.{◌≡◌, ℕ, ◌+◌, ◌-◌, ◌/◌, ◌%◌, ◌⊎◌, inl, inr, length, take, drop, cond, ap, ap₂, subst, ◌∙◌, sym, arith, length-take-le}
 use Rattle.std.proofs.lemmas.Bool.{cases_lt}
 use Rattle.std.specs.List.{between}
-use Rattle.std.proofs.lemmas.List.{length-take-le}
 use Rattle.std.proofs.lemmas.List.Edits.{length-between}
 use Rattle.cell_pool.specs.Lists.{chain_at}
 use Rattle.retain_store.specs.Maps.{Places, fresh, holds, missing}
 use Rattle.retain_store.specs.Seats.{blocks_in}
-use Rattle.retain_store.proofs.Found.{fresh_most, fresh_same, fresh_then}
-use Rattle.retain_store.proofs.Missing.{first_held, missing_step}
-use Rattle.retain_store.proofs.Segments.{placed_behind, places_then, pieces_join}
-use Rattle.retain_store.proofs.Pieces.{changed_then}
+use Rattle.retain_store.proofs.Parts.{fresh_most, fresh_same, fresh_then}
+use Rattle.retain_store.proofs.Room.{first_held, missing_step}
+use Rattle.retain_store.proofs.Segments.{placed_behind, places_then, pieces_join, changed_then}
 use Rattle.retain_store.proofs.writes.place_all.Goals as goal
 
 pub place_piece-fresh-requires-clause-room : goal.place_piece-fresh-requires-clause-room

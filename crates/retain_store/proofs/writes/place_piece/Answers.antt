@@ -1,8 +1,8 @@
 use Rattle.std.proofs.Common.{◌≡◌, true, false, inl, inr, refl, sym, ◌∙◌, arith}
 use Rattle.std.proofs.lemmas.Bool.{cases_lt}
 use Rattle.retain_store.proofs.Blocks.{holds_missing}
-use Rattle.retain_store.proofs.Found.{fresh_all, piece_missing}
-use Rattle.retain_store.proofs.Pieces.{places_found}
+use Rattle.retain_store.proofs.Parts.{fresh_all, piece_missing}
+use Rattle.retain_store.proofs.Segments.{places_found}
 use Rattle.retain_store.proofs.writes.place_piece.Goals as goal
 
 pub open_piece-cell-requires-clause-room : goal.open_piece-cell-requires-clause-room

@@ -1,6 +1,6 @@
 use Rattle.std.proofs.Common.{subst}
 use Rattle.retain_store.specs.Maps.{IsWithin}
-use Rattle.retain_store.proofs.Shown.{chain_shown}
+use Rattle.retain_store.proofs.Blocks.{chain_shown}
 use Rattle.retain_store.proofs.store.Retain.aim.Goals as goal
 
 pub returns-then-ends_before-clause-ends : goal.returns-then-ends_before-clause-ends

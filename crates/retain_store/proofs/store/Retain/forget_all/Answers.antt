@@ -1,4 +1,4 @@
-use Rattle.retain_store.proofs.Shown.{change_shown}
+use Rattle.retain_store.proofs.Blocks.{change_shown}
 use Rattle.retain_store.proofs.store.Retain.forget_all.Goals as goal
 
 pub returns-clause-changed : goal.returns-clause-changed

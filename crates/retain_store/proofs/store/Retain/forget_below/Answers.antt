@@ -3,8 +3,8 @@ use Rattle.std.proofs.lemmas.List.{length-map}
 use Rattle.cell_pool.specs.Lists.{chain_at}
 use Rattle.retain_store.specs.Maps.{IsMap}
 use Rattle.retain_store.specs.Seats.{block_of}
-use Rattle.retain_store.proofs.Holdings.{held_counted}
-use Rattle.retain_store.proofs.Shown.{change_shown, kept_map, shown_after}
+use Rattle.retain_store.proofs.Counts.{held_counted}
+use Rattle.retain_store.proofs.Blocks.{change_shown, kept_map, shown_after}
 use Rattle.retain_store.proofs.store.Retain.forget_below.Goals as goal
 
 pub returns-clause-changed : goal.returns-clause-changed

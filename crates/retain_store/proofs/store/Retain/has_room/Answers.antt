@@ -1,5 +1,4 @@
-use Rattle.std.proofs.Common.{◌≤◌, ◌/◌, not, refl, ap, arith}
-use Rattle.std.specs.List.{count_by}
+use Rattle.std.proofs.Common.{◌≤◌, ◌/◌, not, refl, ap, arith, count_by}
 use Rattle.retain_store.specs.Maps.{chain_of, holds, missing}
 use Rattle.retain_store.proofs.Counts.{count_most}
 use Rattle.retain_store.proofs.store.Retain.has_room.Goals as goal

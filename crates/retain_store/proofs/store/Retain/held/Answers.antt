@@ -1,8 +1,8 @@
 use Rattle.std.proofs.Common.{refl, subst}
 use Rattle.retain_store.specs.Maps.{IsMap, chain_of, octet_at}
-use Rattle.retain_store.proofs.Holdings.{held_counted}
-use Rattle.retain_store.proofs.Kept.{holds_are}
-use Rattle.retain_store.proofs.Shown.{kept_map, chain_shown, inside_pool}
+use Rattle.retain_store.proofs.Counts.{held_counted}
+use Rattle.retain_store.proofs.Room.{holds_are}
+use Rattle.retain_store.proofs.Blocks.{kept_map, chain_shown, inside_pool}
 use Rattle.retain_store.proofs.store.Retain.held.Goals as goal
 
 pub returns-clause-map : goal.returns-clause-map

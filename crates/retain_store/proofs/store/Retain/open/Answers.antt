@@ -1,6 +1,6 @@
 use Rattle.std.proofs.Common.{ap, ◌∙◌}
 use Rattle.retain_store.specs.Seats.{store_of}
-use Rattle.retain_store.proofs.Shown.{none_shown}
+use Rattle.retain_store.proofs.Blocks.{none_shown}
 use Rattle.retain_store.proofs.store.Retain.open.Goals as goal
 
 pub returns : goal.returns

@@ -3,9 +3,9 @@ use Rattle.std.proofs.lemmas.List.{length-map}
 use Rattle.cell_pool.specs.Lists.{chain_at}
 use Rattle.retain_store.specs.Maps.{Store, IsMap, fresh, missing}
 use Rattle.retain_store.specs.Seats.{block_of, blocks_in}
-use Rattle.retain_store.proofs.Found.{fresh_most}
-use Rattle.retain_store.proofs.Holdings.{held_counted}
-use Rattle.retain_store.proofs.Shown.{chain_shown, change_shown, kept_map, shown_after}
+use Rattle.retain_store.proofs.Parts.{fresh_most}
+use Rattle.retain_store.proofs.Counts.{held_counted}
+use Rattle.retain_store.proofs.Blocks.{chain_shown, change_shown, kept_map, shown_after}
 use Rattle.retain_store.proofs.store.Retain.place_counting.Goals as goal
 
 pub returns-clause-fresh : goal.returns-clause-fresh
