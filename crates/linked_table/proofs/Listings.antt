@@ -2,18 +2,15 @@
 use Rattle.std.proofs.Common.{◌≡◌, ◌≢◌, ℕ, zero, suc, ◌+◌, ◌<◌, ◌≤◌, eqb, true, false, inl, inr, ◌⊎◌, Some, None, List, [], ◌∷◌, ◌++◌, length, map, set, refl, sym, ap, subst, ◌∙◌, arith, length-set, get_or-set_same, get_or-set_other, append-nil}
 use Rattle.std.specs.List.{AllByRecursion, IsDistinct, list_any, range_with_len}
 use Rattle.std.proofs.lemmas.Bool.{cases_eq, eq-eqb, ne_eqb}
-use Rattle.std.proofs.lemmas.List.{set-get_or}
+use Rattle.std.proofs.lemmas.List.{set-get_or, map-append}
 use Rattle.std.proofs.lemmas.Map.Steps.{length-le_from_distinct_below}
 use Rattle.linked_table.specs.declared.ring.Links.{Links}
 use Rattle.linked_table.specs.declared.table.Slot.{Slot}
 use Rattle.linked_table.specs.Rings.{lone, link_at, In, Joins, IsRing, HasRing, with_after, with_before, unlinked, isolated, linked_last}
 use Rattle.linked_table.specs.Sound.{slot_of}
 use Rattle.linked_table.specs.Listing.{Listing, others, first_of, slots_to, listing_of, IsThreaded}
-use Rattle.linked_table.proofs.Splits.{map_join}
-use Rattle.linked_table.proofs.Members.{In-splits, In-append_left, In-append_right, In-append_cases, In-rest}
-use Rattle.linked_table.proofs.Rings.{ring_tail, not_after, after_in, last_in}
-use Rattle.linked_table.proofs.Hubs.{hub_apart, cut_slot, cut_before_inside, cut_after_inside, cut_not_before, cut_not_after, cut_gone, last_ends, HasRing-cut, Joins-cut, push_last_inside, HasRing-push, Joins-push}
-use Rattle.linked_table.proofs.Opens.{HasRing-lone}
+use Rattle.linked_table.proofs.Rings.{In-splits, In-append_left, In-append_right, In-append_cases, In-rest, ring_tail, not_after, after_in, last_in, hub_apart, cut_slot, cut_before_inside, cut_after_inside, cut_not_before, cut_not_after, cut_gone, last_ends, HasRing-cut, Joins-cut, push_last_inside, HasRing-push, Joins-push}
+use Rattle.linked_table.proofs.Nodes.{HasRing-lone}
 
 -- the nodes of a ring are at most as many as there are slots
 differs : (node : ℕ) (nodes : List ℕ) → (In node nodes → ⊥) → AllByRecursion (λ y. eqb node y ≡ false) nodes
@@ -181,7 +178,7 @@ module _ (links : List Links) (max s : ℕ) (slots : List Slot) (small : s < max
 
   pub put_slots : slots_to (linked_last links max s) max max max ≡ slots ++ slot_of s ∷ []
   put_slots =
-      let listed : map slot_of (o.listed ++ s ∷ []) ≡ map slot_of o.listed ++ slot_of s ∷ [] = map_join slot_of o.listed (s ∷ []) in
+      let listed : map slot_of (o.listed ++ s ∷ []) ≡ map slot_of o.listed ++ slot_of s ∷ [] = map-append slot_of o.listed (s ∷ []) in
       ring_slots (linked_last links max s) max (o.listed ++ s ∷ []) put_ring ∙ (listed ∙ ap (λ l. l ++ slot_of s ∷ []) o.slots_are)
 
   out_inside : s < length links
@@ -273,7 +270,7 @@ module _ (links : List Links) (max : ℕ) (t : IsThreaded links max) (list : Lis
       let ends : split.after ≡ [] = last_ends links max max split.before slot.0 split.after has last in
       let slots : list.slots ≡ map slot_of (split.before ++ slot.0 ∷ split.after) = sym list_slots ∙ (slots_are links max t ∙ ap (map slot_of) split.splits) in
       let rest : others list.slots slot ≡ map slot_of (split.before ++ split.after) = ap (λ l. others l slot) slots ∙ others_split slot.0 split.before split.after (cut_not_before links max max split.before slot.0 split.after has) (cut_not_after links max max split.before slot.0 split.after has) in
-      let same : list.slots ≡ others list.slots slot ++ slot ∷ [] = rw rest (slots ∙ rw (ends, append-nil) (map_join slot_of split.before (slot.0 ∷ []))) in
+      let same : list.slots ≡ others list.slots slot ++ slot ∷ [] = rw rest (slots ∙ rw (ends, append-nil) (map-append slot_of split.before (slot.0 ∷ []))) in
       ap (λ l. record list { slots = l }) same
 
   module _ (cut : List Links) (cut_is : cut ≡ unlinked links slot.0) where

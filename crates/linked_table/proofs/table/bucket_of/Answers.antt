@@ -1,6 +1,6 @@
 use Rattle.std.proofs.Common.{refl, arith}
 use Rattle.linked_table.specs.Sound.{bucket_number}
-use Rattle.linked_table.proofs.Slots.{bucket_below}
+use Rattle.linked_table.proofs.Nodes.{bucket_below}
 use Rattle.linked_table.proofs.table.bucket_of.Goals as goal
 
 pub returns-clause-number : goal.returns-clause-number

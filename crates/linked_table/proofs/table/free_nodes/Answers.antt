@@ -1,5 +1,5 @@
 use Rattle.std.proofs.Common.{arith}
-use Rattle.linked_table.proofs.Opens.{all_lone, nodes_number, last_inside, freed_on, freed_all}
+use Rattle.linked_table.proofs.Nodes.{all_lone, nodes_number, last_inside, freed_on, freed_all}
 use Rattle.linked_table.proofs.table.free_nodes.Goals as goal
 
 pub loop-node-init : goal.loop-node-init

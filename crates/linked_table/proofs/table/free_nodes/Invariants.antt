@@ -1,5 +1,5 @@
 use Rattle.linked_table.specs.Nodes.{columns}
-use Rattle.linked_table.proofs.Opens.{AreFreed}
+use Rattle.linked_table.proofs.Nodes.{AreFreed}
 use Rattle.linked_table.proofs.table.free_nodes.Given as goal
 
 abbrev pub invariant-loop-node : goal.invariant-loop-node

@@ -1,5 +1,4 @@
-use Rattle.std.proofs.Common.{◌≡◌, ◌≤◌, map}
-use Rattle.std.specs.Prelude.{vec_capacity}
+use Rattle.std.proofs.Common.{◌≡◌, ◌≤◌, map, vec_capacity}
 use Rattle.std.specs.List.{range_with_len}
 use Rattle.linked_table.specs.Nodes.{lone_node}
 use Rattle.linked_table.proofs.table.lone_nodes.Given as goal

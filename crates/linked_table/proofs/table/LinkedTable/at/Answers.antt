@@ -1,6 +1,6 @@
 use Rattle.std.proofs.Common.{◌≡◌, refl, arith}
 use Rattle.linked_table.proofs.Nodes.{below, pair_read}
-use Rattle.linked_table.proofs.Readings.{slot_in_links, read_some, read_wherever}
+use Rattle.linked_table.proofs.Entries.{slot_in_links, read_some, read_wherever}
 use Rattle.linked_table.proofs.table.LinkedTable.at.Goals as goal
 
 pub index-requires : goal.index-requires

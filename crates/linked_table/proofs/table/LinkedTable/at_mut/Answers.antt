@@ -1,7 +1,7 @@
 use Rattle.std.proofs.Common.{◌≡◌, sym, refl, arith}
 use Rattle.linked_table.proofs.Nodes.{below, pair_read, set_pair}
-use Rattle.linked_table.proofs.Readings.{slot_in_pairs, slot_in_links, read_pair, read_some, read_wherever}
-use Rattle.linked_table.proofs.Puts.{put_sound_read, put_seen_read}
+use Rattle.linked_table.proofs.Entries.{slot_in_pairs, slot_in_links, read_pair, read_some, read_wherever}
+use Rattle.linked_table.proofs.Slots.{put_sound_read, put_seen_read}
 use Rattle.linked_table.proofs.table.LinkedTable.at_mut.Goals as goal
 
 pub index_mut-requires : goal.index_mut-requires

@@ -1,6 +1,6 @@
 use Rattle.std.proofs.Common.{◌-◌, ◌++◌}
 use Rattle.linked_table.specs.Nodes.{columns}
-use Rattle.linked_table.proofs.Searches.{IsSearch}
+use Rattle.linked_table.proofs.Walks.{IsSearch}
 use Rattle.linked_table.proofs.table.LinkedTable.find_hashed.Given as goal
 
 abbrev pub invariant-loop : goal.invariant-loop

@@ -1,4 +1,4 @@
-use Rattle.linked_table.proofs.Tables.{len_is, len_bounded, slots_below, slots_apart, keys_apart}
+use Rattle.linked_table.proofs.Entries.{len_is, len_bounded, slots_below, slots_apart, keys_apart}
 use Rattle.linked_table.proofs.table.LinkedTable.len.Goals as goal
 
 pub returns-clause-number : goal.returns-clause-number

@@ -1,6 +1,6 @@
 use Rattle.std.proofs.Common.{ap, arith}
 use Rattle.linked_table.proofs.Nodes.{below, recent_read}
-use Rattle.linked_table.proofs.Readings.{reads_first}
+use Rattle.linked_table.proofs.Entries.{reads_first}
 use Rattle.linked_table.proofs.table.LinkedTable.oldest.Goals as goal
 
 pub index-requires : goal.index-requires

@@ -1,6 +1,6 @@
 use Rattle.std.proofs.Common.{◌≡◌, ◌+◌, ◌-◌, refl, sym, ap, ◌∙◌, arith}
 use Rattle.linked_table.proofs.Nodes.{below, pair_read, recent_read}
-use Rattle.linked_table.proofs.Scans.{scan_begins, met, all_refused, passed_in}
+use Rattle.linked_table.proofs.Walks.{scan_begins, met, all_refused, passed_in}
 use Rattle.linked_table.proofs.table.LinkedTable.oldest_where.Goals as goal
 use Rattle.linked_table.proofs.table.LinkedTable.oldest_where.Goals.{in-Some+else-test, in_default}
 

@@ -1,6 +1,6 @@
 use Rattle.std.proofs.Common.{◌-◌}
 use Rattle.linked_table.specs.Nodes.{columns}
-use Rattle.linked_table.proofs.Scans.{IsScan}
+use Rattle.linked_table.proofs.Walks.{IsScan}
 use Rattle.linked_table.proofs.table.LinkedTable.oldest_where.Given as goal
 
 abbrev pub invariant-loop : goal.invariant-loop

@@ -1,5 +1,5 @@
 use Rattle.std.proofs.Common.{arith}
-use Rattle.linked_table.proofs.Opens.{open_sound}
+use Rattle.linked_table.proofs.Nodes.{open_sound}
 use Rattle.linked_table.proofs.table.LinkedTable.open.Goals as goal
 
 pub invariant_of-result : goal.invariant_of-result

@@ -1,6 +1,6 @@
 use Rattle.std.proofs.Common.{sym, ap, ◌∙◌}
 use Rattle.linked_table.proofs.Nodes.{below, recent_read}
-use Rattle.linked_table.proofs.Touches.{placed, placed_inside, placed_before_inside, placed_after_inside, touched_last_inside, last_seen, touch_sound_read, touch_seen_read}
+use Rattle.linked_table.proofs.Recency.{placed, placed_inside, placed_before_inside, placed_after_inside, touched_last_inside, last_seen, touch_sound_read, touch_seen_read}
 use Rattle.linked_table.proofs.table.LinkedTable.touch.Goals as goal
 
 pub returns-then-index-node : goal.returns-then-index-node
