@@ -1,7 +1,7 @@
 -- The table of datagrams and the store of octets: what they represent, and how a change of one entry changes it.
 use Rattle.std.proofs.lemmas.List.Sums.{sum_by-cons}
 use Rattle.std.proofs.lemmas.List.Elements.{recursion_from_All}
-use Rattle.retain_store.specs.Maps.{Store, ChangesOnly, chain_of, octet_at}
+use Rattle.retain_store.specs.Maps.{Store, chain_of, octet_at}
 use Rattle.linked_table.specs.declared.table.Slot.{Slot}
 use Rattle.norm_settings.specs.Settings.{PlainSettings}
 use Rattle.reassembly.specs.declared.id.DatagramId.{DatagramId}
@@ -10,14 +10,14 @@ use Rattle.reassembly.specs.Pieces.{Fragment, cells_of}
 use Rattle.reassembly.specs.Calls.{Gathered, is_id, of_others, pieces_in, with_piece, cells_in, Call, gathered}
 use Rattle.reassembly.specs.declared.assembly.Assembly.{Assembly}
 use Rattle.reassembly.specs.Assemblies.{KeepsFor}
-use Rattle.std.proofs.Common.{get_or-set_other, inl, inr, ◌≡◌, ◌≢◌, ℕ, not, true, false, cond, List, [], ◌∷◌, ◌++◌, length, refl, ap, ◌∙◌, arith, sym, subst, ◌<◌, ◌+◌, ◌-◌}
+use Rattle.std.proofs.Common.{inl, inr, ◌≡◌, ◌≢◌, ℕ, not, true, false, cond, List, [], ◌∷◌, ◌++◌, length, refl, ap, ◌∙◌, arith, sym, subst, ◌<◌, ◌+◌, ◌-◌}
 use Rattle.std.specs.List.{sum_by, All, AllByRecursion, AllPairs}
 use Rattle.std.proofs.lemmas.Bool.{cases_eq}
 use Rattle.linked_table.specs.Table.{SplitAt, Entry, IsIn, Wherever, with_value, Pairwise}
-use Rattle.linked_table.proofs.Splits.{filter_rest, all_join, all_weaker, all_before, all_after, pairwise}
+use Rattle.linked_table.proofs.Lists.{filter_rest, all_join, all_weaker, all_before, all_after, pairwise}
 use Rattle.linked_table.specs.Table as table
-use Rattle.linked_table.proofs.Parts.{wherever, left_out, valued, split_at}
-use Rattle.retain_store.proofs.Sums.{AreApart, sum_chains}
+use Rattle.linked_table.proofs.Entries.{wherever, left_out, valued, split_at}
+use Rattle.retain_store.proofs.Counts.{AreApart, sum_chains}
 use Rattle.reassembly.specs.Standing.{EachStands, EntryStands, IsFree, HoldsFor, Keeps, ProgressOf}
 
 -- Entries and the datagrams that they represent, at a slot and elsewhere.
@@ -33,11 +33,6 @@ id_other a b ne = elim (is_id a b) as (λ t. is_id a b ≡ t → t ≡ false) [
   | true ↦ λ e. absurd (ne (id_is a b e))
   | false ↦ λ e. refl
 ] refl
-
--- no other chain has changed
-pub others_same : (store new : Store) (hole : ℕ) → ChangesOnly store new hole → (chain : ℕ) → chain ≢ hole → chain_of new chain ≡ chain_of store chain
-others_same store new hole changed chain ne =
-    ap (λ (s : Store). chain_of s chain) changed.others ∙ get_or-set_other store.chains hole chain (chain_of new hole) [] ne
 
 -- the datagrams split where the entries are
 pub record Parted (store : Store) (before : List (Entry DatagramId Progress)) (here : Entry DatagramId Progress) (after : List (Entry DatagramId Progress)) (gs : List Gathered) : Type 0 where

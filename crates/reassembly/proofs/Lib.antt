@@ -4,6 +4,6 @@ pub mod Pieces
 pub mod Order
 pub mod Offers
 pub mod Rules
-pub mod Apart
-pub mod Wholes
+pub mod Identifications
+pub mod Datagrams
 pub mod Limits

@@ -1,6 +1,5 @@
 -- What is held stays within the settings.
-use Rattle.std.proofs.Common.{◌≡◌, ℕ, zero, suc, ◌+◌, ◌-◌, ◌*◌, ◌/◌, ◌<◌, ◌≤◌, ◌==◌, ◌||◌, ◌&&◌, not, Bool, true, false, cond, List, [], ◌∷◌, length, is_some, refl, sym, ap, subst, ◌∙◌, arith}
-use Rattle.std.specs.Prelude.{nat_lt, nat_le}
+use Rattle.std.proofs.Common.{◌≡◌, ℕ, zero, suc, ◌+◌, ◌-◌, ◌*◌, ◌/◌, ◌<◌, ◌≤◌, ◌==◌, ◌||◌, ◌&&◌, not, Bool, true, false, cond, List, [], ◌∷◌, length, is_some, refl, sym, ap, subst, ◌∙◌, arith, nat_lt, nat_le}
 use Rattle.std.specs.List.{filter, count_by, list_any, range_with_len}
 use Rattle.std.proofs.lemmas.Bool.{false_from_ne_true}
 use Rattle.std.proofs.lemmas.Bool.Decides.{nat_tests}
@@ -13,7 +12,7 @@ use Rattle.reassembly.specs.Rows.{is_none_held, answer_at, view_of, AreAnswered}
 use Rattle.retain_store.proofs.Counts.{none_counted, parts}
 use Rattle.reassembly.specs.Laws.{AnsweredIsWithin}
 use Rattle.reassembly.proofs.Offers.{any_none}
-use Rattle.reassembly.proofs.Wholes.{FitsIn, fits_in, held_not_dropped}
+use Rattle.reassembly.proofs.Datagrams.{FitsIn, fits_in, held_not_dropped}
 use Rattle.reassembly.proofs.Pieces.{in_piece, below_reach, some_or}
 
 -- fewer numbers pass the narrower test

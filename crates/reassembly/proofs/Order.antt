@@ -1,20 +1,18 @@
 -- Datagrams stay in order of their first fragments, so those that began too long ago are the first ones.
-use Rattle.std.proofs.Common.{◌≡◌, ℕ, ◌≤◌, not, Bool, true, false, cond, List, [], ◌∷◌, refl, ap, subst, ◌∙◌, arith, ◌≢◌, zero, suc, ◌+◌, length, take, drop, Some, None, sym}
+use Rattle.std.proofs.Common.{◌≡◌, ℕ, ◌≤◌, not, Bool, true, false, cond, List, [], ◌∷◌, refl, ap, subst, ◌∙◌, arith, ◌≢◌, zero, suc, ◌+◌, length, take, drop, Some, None, sym, max, nat_lt}
 use Rattle.std.specs.List.{AllByRecursion, filter, AllPairs, count_by}
 use Rattle.std.proofs.lemmas.Bool.Decides.{nat_tests}
 use Rattle.std.proofs.lemmas.List.Elements.{recursion_from_All}
 use Rattle.std.proofs.lemmas.List.Sums.{sum_by-cons}
 use Rattle.linked_table.specs.declared.table.Slot.{Slot}
 use Rattle.retain_store.specs.Maps.{Store}
-use Rattle.linked_table.proofs.Splits.{all_weaker, all_after, pairwise}
-use Rattle.linked_table.proofs.Filters.{filter_all}
+use Rattle.linked_table.proofs.Lists.{all_weaker, all_after, pairwise, filter_all}
 use Rattle.reassembly.specs.declared.id.DatagramId.{DatagramId}
 use Rattle.reassembly.specs.declared.progress.Progress.{Progress}
 use Rattle.reassembly.specs.Pieces.{Fragment}
 use Rattle.reassembly.specs.Calls.{Answer, held, done, dropped, Call, expiry, offer, Gathered, is_id, is_old, of_others, pieces_in, with_piece, forgets, after, gathered}
 use Rattle.reassembly.specs.Rows.{is_none_held}
 use Rattle.reassembly.specs.Standing.{HoldsFor}
-use Rattle.std.specs.Prelude.{max, nat_lt}
 use Rattle.linked_table.specs.Table.{first_slot, Entry, Pairwise, Wherever}
 use Rattle.reassembly.specs.Assemblies.{AreInOrder, without_first, begins_old}
 use Rattle.reassembly.proofs.Entries.{Found, ids_other, id_same}

@@ -1,5 +1,5 @@
 use Rattle.std.proofs.Common.{◌≡◌, ◌+◌, ◌-◌, suc, [], None, refl, arith}
-use Rattle.cell_pool.proofs.Steps.{opened, in_range, takes, cell_after, gives, has_first, fill_begins, fill_place, fill_step}
+use Rattle.cell_pool.proofs.KnownChains.{opened, in_range, takes, cell_after, gives, has_first, fill_begins, fill_place, fill_step}
 use Rattle.memory_tests.proofs.cells.four_million_cells_of_a_full_pool_are_taken_within_a_minute.Goals as goal
 
 pub loop-block-init : goal.loop-block-init

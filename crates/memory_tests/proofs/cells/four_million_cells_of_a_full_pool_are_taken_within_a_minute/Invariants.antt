@@ -1,5 +1,5 @@
 use Rattle.std.proofs.Common.{◌-◌}
-use Rattle.cell_pool.proofs.Steps.{HasFirst, IsFilled}
+use Rattle.cell_pool.proofs.KnownChains.{HasFirst, IsFilled}
 use Rattle.memory_tests.proofs.cells.four_million_cells_of_a_full_pool_are_taken_within_a_minute.Given as goal
 
 abbrev pub invariant-loop-block : goal.invariant-loop-block

@@ -1,5 +1,5 @@
 use Rattle.std.proofs.Common.{[], None, refl, arith}
-use Rattle.cell_pool.proofs.Steps.{opened, in_range, place_for, takes}
+use Rattle.cell_pool.proofs.KnownChains.{opened, in_range, place_for, takes}
 use Rattle.memory_tests.proofs.cells.two_cells_are_taken_and_no_third.Goals as goal
 
 pub take_after-second-requires-clause-chain_in_range : goal.take_after-second-requires-clause-chain_in_range

@@ -1,4 +1,4 @@
-use Rattle.reassembly.proofs.Apart.{apart}
+use Rattle.reassembly.proofs.Identifications.{apart}
 use Rattle.reassembly.proofs.laws.datagrams_are_apart.Goals as goal
 
 pub returns : goal.returns

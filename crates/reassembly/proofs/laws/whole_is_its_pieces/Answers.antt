@@ -1,4 +1,4 @@
-use Rattle.reassembly.proofs.Wholes.{whole_is_its_pieces}
+use Rattle.reassembly.proofs.Datagrams.{whole_is_its_pieces}
 use Rattle.reassembly.proofs.laws.whole_is_its_pieces.Goals as goal
 
 pub returns : goal.returns

@@ -1,5 +1,4 @@
-use Rattle.std.proofs.Common.{◌+◌, ◌∙◌, ap₂, sym}
-use Rattle.std.specs.Prelude.{nat_lt}
+use Rattle.std.proofs.Common.{◌+◌, ◌∙◌, ap₂, sym, nat_lt}
 use Rattle.reassembly.proofs.Order.{first_old}
 use Rattle.reassembly.proofs.assembly.Assembly.begins_old.Goals as goal
 

@@ -1,5 +1,4 @@
-use Rattle.std.proofs.Common.{◌≡◌, cond, length, sym, ap₂, ap, subst, ◌∙◌}
-use Rattle.std.specs.Prelude.{nat_le}
+use Rattle.std.proofs.Common.{◌≡◌, cond, length, sym, ap₂, ap, subst, ◌∙◌, nat_le}
 use Rattle.linked_table.specs.Table.{Wherever}
 use Rattle.reassembly.specs.Pieces.{fragment_of}
 use Rattle.reassembly.specs.Calls.{gathered, of_others}

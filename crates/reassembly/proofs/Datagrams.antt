@@ -1,20 +1,18 @@
 -- A complete datagram is made of its fragments, and is sized if they are.
+use Rattle.std.proofs.Common.{◌^◌, ◌≡◌, ℕ, ◌<◌, ◌≤◌, ◌==◌, not, Bool, true, false, cond, List, [], ◌∷◌, length, Option, Some, None, refl, sym, ◌∙◌, arith, ◌+◌, ◌-◌, ◌||◌, ◌&&◌, map, take, drop, is_some, ap, ap₂, subst, zero, suc, is_none, nat_lt, nat_le, slice_get, slice_index, ext_get_or, get_or-drop, get_or-take, length-drop, length-take-le}
 use Rattle.std.specs.List.{AllByRecursion, filter, list_any, range_with_len}
 use Rattle.std.specs.Option.{option_or, unwrap_or}
 use Rattle.std.proofs.lemmas.Bool.Decides.{nat_tests}
+use Rattle.std.proofs.lemmas.Bool.{or_right}
+use Rattle.std.proofs.lemmas.Option.{slice_get-get_or, unwrap_or-slice_get}
+use Rattle.std.proofs.lemmas.List.FromFn.{get_or-map-range_with_len, length-map-range_with_len}
 use Rattle.rule_book.specs.declared.rule.Rule.{Rule}
-use Rattle.linked_table.proofs.Splits.{all_weaker}
+use Rattle.linked_table.proofs.Lists.{all_weaker}
 use Rattle.retain_store.specs.Maps.{octet_in}
 use Rattle.norm_settings.specs.Settings.{PlainSettings}
 use Rattle.retain_store.proofs.Counts.{each}
 use Rattle.reassembly.specs.declared.id.DatagramId.{DatagramId}
 use Rattle.reassembly.specs.Calls.{Answer, held, done, dropped, Gathered, after, with_piece, of_others, pieces_in, is_id, forgets, Call, expiry, offer, gathered, is_old}
-use Rattle.std.proofs.Common.{◌^◌, ◌≡◌, ℕ, ◌<◌, ◌≤◌, ◌==◌, not, Bool, true, false, cond, List, [], ◌∷◌, length, Option, Some, None, refl, sym, ◌∙◌, arith, ◌+◌, ◌-◌, ◌||◌, ◌&&◌, map, take, drop, is_some, ap, ap₂, subst, zero, suc}
-use Rattle.std.specs.Prelude.{is_none, nat_lt, nat_le, slice_get, slice_index}
-use Rattle.std.proofs.lemmas.Bool.{or_right}
-use Rattle.std.proofs.lemmas.Option.{slice_get-get_or, unwrap_or-slice_get}
-use Rattle.std.proofs.lemmas.List.{ext_get_or, get_or-drop, get_or-take, length-drop, length-take-le}
-use Rattle.std.proofs.lemmas.List.FromFn.{get_or-map-range_with_len, length-map-range_with_len}
 use Rattle.reassembly.specs.Pieces.{StandsIn, reaches, Fragment, end_of, is_whole, front_of, octet_of, total_of, reach, is_filled, datagram_octets, IsMadeOf, whole_with}
 use Rattle.reassembly.specs.Rows.{dropped_by, View, f_df, f_empty, f_end, f_clash, f_many, f_room, first_row, own_rows, answer_by, answer_at, view_of, AreAnswered}
 use Rattle.reassembly.specs.declared.piece.Front.{Front}

@@ -2,7 +2,7 @@
 use Rattle.std.proofs.Common.{◌≡◌, ℕ, not, Bool, true, false, cond, List, [], ◌∷◌, refl, sym, ap, subst, ◌∙◌, ◌&&◌, ◌||◌, ap₂, arith}
 use Rattle.std.specs.List.{AllByRecursion, filter, list_any}
 use Rattle.linked_table.specs.Table.{Pairwise}
-use Rattle.linked_table.proofs.Splits.{all_weaker}
+use Rattle.linked_table.proofs.Lists.{all_weaker}
 use Rattle.reassembly.specs.declared.id.DatagramId.{DatagramId}
 use Rattle.reassembly.specs.Pieces.{Fragment}
 use Rattle.reassembly.specs.Calls.{Answer, held, done, dropped, Call, offer, Gathered, gathered, after, with_piece, of_others, pieces_in, is_id, forgets, expiry, is_old}
