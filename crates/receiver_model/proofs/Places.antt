@@ -1,85 +1,87 @@
--- The positions of the fields of a plain TCP packet in its octets.
-use Rattle.std.proofs.Common.{◌≡◌, ℕ, ◌+◌, ◌*◌, ◌/◌, ◌-◌, ◌≤◌, List, length, take, drop, sym, ap, ◌∙◌, arith, length-drop, add_assoc}
-use Rattle.std.specs.Prelude.{slice_index}
-use Rattle.std.proofs.Math.Seq.{take-length}
-use Rattle.std.proofs.lemmas.List.{get_or-drop, drop-take}
-use Rattle.std.proofs.lemmas.Grind.{common_steps}
-use Rattle.wire_base.specs.Numbers.{u16_at, u32_at}
-use Rattle.wire_base.specs.Ipv4 as ip
+-- Packets with their offsets, and with the acks before them: a fact of each packet, and that the octets of each stay near its ack.
+use Rattle.std.proofs.Common.{◌≡◌, ℕ, zero, suc, ◌+◌, ◌^◌, ◌<◌, Some, List, [], ◌∷◌, ◌++◌, length, refl, ap, subst, ℤ, pos, ◌+ℤ◌, ◌≤ℤ◌, IsTrue, slice_get}
 use Rattle.wire_base.specs.Tcp as tcp
-use Rattle.wire_base.specs.Plain.{IsPlainHeader, IsPlainTcp}
-use Rattle.wire_base.specs.Segments.{fields_of}
-use Rattle.receiver_model.specs.declared.segment.Segment.{Segment as Fields}
-use Rattle.receiver_model.specs.Fields.{segment_in}
+use Rattle.wire_base.specs.Segments.{Segment, segment_of}
 
-drop-drop : (a b : ℕ) (p : List ℕ) → drop a (drop b p) ≡ drop (b + a) p
-drop-drop a b p = grind (arith, common_steps)
+-- each packet with its offset, in order
+abbrev pub Each : (ℤ → List ℕ → Type 0) → List ℤ → List (List ℕ) → Type 0
+Each P [] [] = Unit {0}
+Each P [] (q ∷ ps) = ⊥
+Each P (y ∷ zs) [] = ⊥
+Each P (y ∷ zs) (q ∷ ps) = P y q × Each P zs ps
 
--- the payload of a plain packet is what follows the 20 octets of its header
-pub payload_is : (p : List ℕ) → IsPlainHeader p → ip.payload p ≡ drop 20 p
-payload_is p h = (λ i. drop (h.header_length i) (take (h.total_length i) p)) ∙ ap (drop 20) (take-length p)
+pub each_at :
+    (P : ℤ → List ℕ → Type 0) (zs : List ℤ) (ps : List (List ℕ)) (k : ℕ) (z : ℤ) (p : List ℕ) →
+    Each P zs ps → slice_get zs k ≡ Some z → slice_get ps k ≡ Some p → P z p
+each_at P [] [] k z p h e f = absurd (cc)
+each_at P [] (q ∷ ps) k z p h e f = absurd h
+each_at P (y ∷ zs) [] k z p h e f = absurd h
+each_at P (y ∷ zs) (q ∷ ps) zero z p h e f =
+    let a : y ≡ z = cc e in
+    let b : q ≡ p = cc f in
+    subst (λ (r : ℤ × List ℕ). P r.0 r.1) (λ i. (a i, b i)) h.0
+each_at P (y ∷ zs) (q ∷ ps) (suc k) z p h e f = each_at P zs ps k z p h.1 e f
 
-octet : (p : List ℕ) (k : ℕ) → IsPlainHeader p → slice_index (ip.payload p) k ≡ slice_index p (20 + k)
-octet p k h = ap (λ m. slice_index m k) (payload_is p h) ∙ get_or-drop 20 p k 0
+pub each_long : (P : ℤ → List ℕ → Type 0) (zs : List ℤ) (ps : List (List ℕ)) → Each P zs ps → length zs ≡ length ps
+each_long P [] [] h = refl
+each_long P [] (q ∷ ps) h = absurd h
+each_long P (y ∷ zs) [] h = absurd h
+each_long P (y ∷ zs) (q ∷ ps) h = ap suc (each_long P zs ps h.1)
 
--- the index of the first octet of the segment's payload
-abbrev pub start_of : List ℕ → ℕ
-start_of p = 20 + 4 * (slice_index p 32 / 16)
+pub each_append :
+    (P : ℤ → List ℕ → Type 0) (zs : List ℤ) (ps : List (List ℕ)) (ys : List ℤ) (qs : List (List ℕ)) →
+    Each P zs ps → Each P ys qs → Each P (zs ++ ys) (ps ++ qs)
+each_append P [] [] ys qs h g = g
+each_append P [] (p ∷ ps) ys qs h g = absurd h
+each_append P (z ∷ zs) [] ys qs h g = absurd h
+each_append P (z ∷ zs) (p ∷ ps) ys qs h g = (h.0, each_append P zs ps ys qs h.1 g)
 
-header_length : (p : List ℕ) → IsPlainHeader p → tcp.header_length (ip.payload p) ≡ 4 * (slice_index p 32 / 16)
-header_length p h = ap (λ o. 4 * (o / 16)) (octet p 12 h)
+pub each_map :
+    (P Q : ℤ → List ℕ → Type 0) (zs : List ℤ) (ps : List (List ℕ)) → ((z : ℤ) (p : List ℕ) → P z p → Q z p) → Each P zs ps → Each Q zs ps
+each_map P Q [] [] f h = tt
+each_map P Q [] (p ∷ ps) f h = absurd h
+each_map P Q (z ∷ zs) [] f h = absurd h
+each_map P Q (z ∷ zs) (p ∷ ps) f h = (f z p h.0, each_map P Q zs ps f h.1)
 
-options : (p : List ℕ) → IsPlainHeader p → drop 40 (take (start_of p) p) ≡ tcp.options (ip.payload p)
-options p h =
-    sym (drop-drop 20 20 (take (start_of p) p))
-    ∙ ap (drop 20) (drop-take 20 (4 * (slice_index p 32 / 16)) p)
-    ∙ (λ i. drop 20 (take (sym (header_length p h) i) (sym (payload_is p h) i)))
+-- each packet with its ack and its offset, in order
+abbrev pub EachAck : (ℕ → ℤ → List ℕ → Type 0) → List ℕ → List ℤ → List (List ℕ) → Type 0
+EachAck P [] [] [] = Unit {0}
+EachAck P (w ∷ ws) (z ∷ zs) (p ∷ ps) = P w z p × EachAck P ws zs ps
+EachAck P ws zs ps = ⊥
 
-octets : (p : List ℕ) → IsPlainHeader p → drop (start_of p) p ≡ tcp.payload (ip.payload p)
-octets p h = sym (drop-drop (4 * (slice_index p 32 / 16)) 20 p) ∙ (λ i. drop (sym (header_length p h) i) (sym (payload_is p h) i))
+pub each_ack_at :
+    (P : ℕ → ℤ → List ℕ → Type 0) (ws : List ℕ) (zs : List ℤ) (ps : List (List ℕ)) (k w : ℕ) (z : ℤ) (p : List ℕ) →
+    EachAck P ws zs ps → slice_get ws k ≡ Some w → slice_get zs k ≡ Some z → slice_get ps k ≡ Some p → P w z p
+each_ack_at P [] [] [] k w z p h d e f = absurd (cc)
+each_ack_at P (v ∷ ws) (y ∷ zs) (q ∷ ps) zero w z p h d e f =
+    let a : v ≡ w = cc d in
+    let b : y ≡ z = cc e in
+    let c : q ≡ p = cc f in
+    subst (λ (r : ℕ × ℤ × List ℕ). P r.0 r.1 r.2) (λ i. (a i, b i, c i)) h.0
+each_ack_at P (v ∷ ws) (y ∷ zs) (q ∷ ps) (suc k) w z p h d e f = each_ack_at P ws zs ps k w z p h.1 d e f
+each_ack_at P ws zs ps k w z p h d e f = absurd h
 
--- the fields as read at their positions
-abbrev pub fields_in : List ℕ → Fields
-fields_in p =
-    record {
-      src = record { 0 = u32_at p 12 };
-      dst = record { 0 = u32_at p 16 };
-      sport = u16_at p 20;
-      dport = u16_at p 22;
-      seq = u32_at p 24;
-      ack = u32_at p 28;
-      flags = record { 0 = slice_index p 33 };
-      window = u16_at p 34;
-      start = start_of p;
-    }
+pub each_ack_long : (P : ℕ → ℤ → List ℕ → Type 0) (ws : List ℕ) (zs : List ℤ) (ps : List (List ℕ)) → EachAck P ws zs ps → length ws ≡ length ps
+each_ack_long P [] [] [] h = refl
+each_ack_long P (w ∷ ws) (z ∷ zs) (p ∷ ps) h = ap suc (each_ack_long P ws zs ps h.1)
+each_ack_long P ws zs ps h = absurd h
 
-u16_in : (p : List ℕ) (k : ℕ) → IsPlainHeader p → u16_at p (20 + k) ≡ u16_at (ip.payload p) k
-u16_in p k h =
-    let next : slice_index p (20 + k + 1) ≡ slice_index (ip.payload p) (k + 1) = rw (add_assoc 20 k 1) (sym (octet p (k + 1) h)) in
-    λ i. 256 * sym (octet p k h) i + next i
+pub each_ack_append :
+    (P : ℕ → ℤ → List ℕ → Type 0) (ws : List ℕ) (zs : List ℤ) (ps : List (List ℕ)) (vs : List ℕ) (ys : List ℤ) (qs : List (List ℕ)) →
+    EachAck P ws zs ps → EachAck P vs ys qs → EachAck P (ws ++ vs) (zs ++ ys) (ps ++ qs)
+each_ack_append P [] [] [] vs ys qs h k = k
+each_ack_append P (w ∷ ws) (z ∷ zs) (p ∷ ps) vs ys qs h k = (h.0, each_ack_append P ws zs ps vs ys qs h.1 k)
+each_ack_append P ws zs ps vs ys qs h k = absurd h
 
-u32_in : (p : List ℕ) (k : ℕ) → IsPlainHeader p → u32_at p (20 + k) ≡ u32_at (ip.payload p) k
-u32_in p k h =
-    let next : u16_at p (20 + k + 2) ≡ u16_at (ip.payload p) (k + 2) = rw (add_assoc 20 k 2) (u16_in p (k + 2) h) in
-    λ i. 65536 * u16_in p k h i + next i
+-- the octets and the FIN of a segment at this offset are near this ack
+pub record IsNearAck (ack : ℕ) (place : ℤ) (s : Segment) : Type 0 where
+  pub octets :
+      (index : ℕ) → index < length s.octets →
+      (pos ack ≤ℤ (place +ℤ pos index)) × ((place +ℤ pos index) ≤ℤ pos (ack + 2 ^ 30))
+  pub fin :
+      IsTrue (tcp.has_fin s.flags) →
+      (pos 0 ≤ℤ (place +ℤ pos (length s.octets))) × ((place +ℤ pos (length s.octets)) ≤ℤ pos (ack + 2 ^ 30))
 
-pub fields_in_place : (p : List ℕ) → IsPlainHeader p → segment_in p (fields_in p) ≡ fields_of p
-fields_in_place p h =
-    λ i.
-    record {
-      source = u32_at p 12;
-      destination = u32_at p 16;
-      source_port = u16_in p 0 h i;
-      destination_port = u16_in p 2 h i;
-      sequence = u32_in p 4 h i;
-      acknowledgment = u32_in p 8 h i;
-      flags = sym (octet p 13 h) i;
-      window = u16_in p 14 h i;
-      options = options p h i;
-      octets = octets p h i;
-    }
-
-pub start_inside : (p : List ℕ) → IsPlainHeader p → IsPlainTcp p → start_of p ≤ length p
-start_inside p h t =
-    let size : length (ip.payload p) ≡ length p - 20 = ap length (payload_is p h) ∙ length-drop 20 p in
-    omega (arith, size, header_length p h, t.inside, t.whole_header)
+-- those of the packet's segment are, if it has one
+abbrev pub StaysNear : ℕ → ℤ → List ℕ → Type 0
+StaysNear ack place p = (s : Segment) → segment_of p ≡ Some s → IsNearAck ack place s

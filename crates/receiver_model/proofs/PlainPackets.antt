@@ -1,15 +1,19 @@
--- What the codecs read of a plain packet, and when what they read is plain.
-use Rattle.std.proofs.Common.{◌≡◌, ◌↔◌, ◌⊎◌, inl, inr, ℕ, ◌-◌, ◌≤◌, ◌==◌, ◌&&◌, ◌||◌, not, nat_lt, Bool, true, false, List, [], length, take, drop, Option, Some, None, Ok, is_ok, if◌then◌else◌, refl, sym, ap, ◌∙◌, eq-eqb, length-drop, arith}
-use Rattle.std.proofs.lemmas.Bool.{eqb-true, not-true}
+-- Plain packets: the positions of their fields, what the codecs read of them, and that a written packet is read as it was written.
+use Rattle.std.proofs.Common.{◌≡◌, ℕ, ◌+◌, ◌*◌, ◌/◌, ◌-◌, ◌≤◌, List, length, take, drop, sym, ap, ◌∙◌, arith, length-drop, add_assoc, ◌↔◌, ◌⊎◌, inl, inr, ◌==◌, ◌&&◌, ◌||◌, not, nat_lt, Bool, true, false, [], Option, Some, None, Ok, is_ok, if◌then◌else◌, refl, eq-eqb, ◌%◌, slice_index}
+use Rattle.std.proofs.Math.Seq.{take-length}
+use Rattle.std.proofs.lemmas.List.{get_or-drop, drop-take, drop_all}
+use Rattle.std.proofs.lemmas.Grind.{common_steps}
+use Rattle.std.proofs.lemmas.Bool.{eqb-true, not-true, and_parts, not-false}
 use Rattle.std.proofs.lemmas.Bool.Decides.{nat_tests}
-use Rattle.std.proofs.lemmas.List.{drop_all}
-use Rattle.wire_base.specs.Reading.{value_or_fault}
+use Rattle.wire_base.specs.Numbers.{u16_at, u32_at}
 use Rattle.wire_base.specs.Ipv4 as ip
-use Rattle.wire_base.specs.Udp as udp
 use Rattle.wire_base.specs.Tcp as tcp
+use Rattle.wire_base.specs.Plain.{IsPlainHeader, IsPlainTcp, IsPlainIcmp, IsPlainMessage, IsPlainUdp, pseudo_of}
+use Rattle.wire_base.specs.Segments.{fields_of, Segment}
+use Rattle.wire_base.specs.Reading.{value_or_fault}
+use Rattle.wire_base.specs.Udp as udp
 use Rattle.wire_base.specs.Sums.{pseudo_sum, sum_is_right}
 use Rattle.wire_base.specs.Options.{cleaned}
-use Rattle.wire_base.specs.Plain.{IsPlainIcmp, IsPlainMessage, IsPlainTcp, IsPlainUdp, pseudo_of}
 use Rattle.ipv4_codec.specs.Header as ip_header
 use Rattle.udp_codec.specs.Header as udp_header
 use Rattle.icmp_codec.specs.Header as icmp_header
@@ -18,8 +22,90 @@ use Rattle.ipv4_codec.specs.declared.header.Ipv4.{Ipv4}
 use Rattle.tcp_codec.specs.declared.header.Tcp.{Tcp}
 use Rattle.tcp_codec.specs.declared.header.TcpFault.{TcpFault}
 use Rattle.tcp_codec.specs.declared.header.SumRule.TheVariants.{Must}
-use Rattle.tcp_codec.proofs.Faults.{area_is, fault_of-options}
+use Rattle.tcp_codec.proofs.Segments.{area_is, length-octets_with, read_back}
+use Rattle.ipv4_codec.proofs.PlainHeaders.{header-plain}
+use Rattle.tcp_codec.specs.Write as write
+use Rattle.wire_base.proofs.Octets.{four-octets}
+use Rattle.receiver_model.specs.declared.segment.Segment.{Segment as Fields}
+use Rattle.receiver_model.specs.Fields.{segment_in}
 use Rattle.receiver_model.specs.Tests.{is_bare}
+use Rattle.receiver_model.specs.Written.{AreRead, IsPlainSegment, packet_of}
+
+-- The positions of the fields of a plain TCP packet in its octets.
+
+drop-drop : (a b : ℕ) (p : List ℕ) → drop a (drop b p) ≡ drop (b + a) p
+drop-drop a b p = grind (arith, common_steps)
+
+-- the payload of a plain packet is what follows the 20 octets of its header
+pub payload_is : (p : List ℕ) → IsPlainHeader p → ip.payload p ≡ drop 20 p
+payload_is p h = (λ i. drop (h.header_length i) (take (h.total_length i) p)) ∙ ap (drop 20) (take-length p)
+
+octet : (p : List ℕ) (k : ℕ) → IsPlainHeader p → slice_index (ip.payload p) k ≡ slice_index p (20 + k)
+octet p k h = ap (λ m. slice_index m k) (payload_is p h) ∙ get_or-drop 20 p k 0
+
+-- the index of the first octet of the segment's payload
+abbrev pub start_of : List ℕ → ℕ
+start_of p = 20 + 4 * (slice_index p 32 / 16)
+
+header_length : (p : List ℕ) → IsPlainHeader p → tcp.header_length (ip.payload p) ≡ 4 * (slice_index p 32 / 16)
+header_length p h = ap (λ o. 4 * (o / 16)) (octet p 12 h)
+
+options : (p : List ℕ) → IsPlainHeader p → drop 40 (take (start_of p) p) ≡ tcp.options (ip.payload p)
+options p h =
+    sym (drop-drop 20 20 (take (start_of p) p))
+    ∙ ap (drop 20) (drop-take 20 (4 * (slice_index p 32 / 16)) p)
+    ∙ (λ i. drop 20 (take (sym (header_length p h) i) (sym (payload_is p h) i)))
+
+octets : (p : List ℕ) → IsPlainHeader p → drop (start_of p) p ≡ tcp.payload (ip.payload p)
+octets p h = sym (drop-drop (4 * (slice_index p 32 / 16)) 20 p) ∙ (λ i. drop (sym (header_length p h) i) (sym (payload_is p h) i))
+
+-- the fields as read at their positions
+abbrev pub fields_in : List ℕ → Fields
+fields_in p =
+    record {
+      src = record { 0 = u32_at p 12 };
+      dst = record { 0 = u32_at p 16 };
+      sport = u16_at p 20;
+      dport = u16_at p 22;
+      seq = u32_at p 24;
+      ack = u32_at p 28;
+      flags = record { 0 = slice_index p 33 };
+      window = u16_at p 34;
+      start = start_of p;
+    }
+
+u16_in : (p : List ℕ) (k : ℕ) → IsPlainHeader p → u16_at p (20 + k) ≡ u16_at (ip.payload p) k
+u16_in p k h =
+    let next : slice_index p (20 + k + 1) ≡ slice_index (ip.payload p) (k + 1) = rw (add_assoc 20 k 1) (sym (octet p (k + 1) h)) in
+    λ i. 256 * sym (octet p k h) i + next i
+
+u32_in : (p : List ℕ) (k : ℕ) → IsPlainHeader p → u32_at p (20 + k) ≡ u32_at (ip.payload p) k
+u32_in p k h =
+    let next : u16_at p (20 + k + 2) ≡ u16_at (ip.payload p) (k + 2) = rw (add_assoc 20 k 2) (u16_in p (k + 2) h) in
+    λ i. 65536 * u16_in p k h i + next i
+
+pub fields_in_place : (p : List ℕ) → IsPlainHeader p → segment_in p (fields_in p) ≡ fields_of p
+fields_in_place p h =
+    λ i.
+    record {
+      source = u32_at p 12;
+      destination = u32_at p 16;
+      source_port = u16_in p 0 h i;
+      destination_port = u16_in p 2 h i;
+      sequence = u32_in p 4 h i;
+      acknowledgment = u32_in p 8 h i;
+      flags = sym (octet p 13 h) i;
+      window = u16_in p 14 h i;
+      options = options p h i;
+      octets = octets p h i;
+    }
+
+pub start_inside : (p : List ℕ) → IsPlainHeader p → IsPlainTcp p → start_of p ≤ length p
+start_inside p h t =
+    let size : length (ip.payload p) ≡ length p - 20 = ap length (payload_is p h) ∙ length-drop 20 p in
+    omega (arith, size, header_length p h, t.inside, t.whole_header)
+
+-- What the codecs read of a plain packet, and when what they read is plain.
 
 -- none of five faults holds
 pub record AllFalse (a b c d e : Bool) : Type 0 where
@@ -29,21 +115,13 @@ pub record AllFalse (a b c d e : Bool) : Type 0 where
   pub fourth : d ≡ false
   pub fifth : e ≡ false
 
-no_fault : {T : Type 0} (x y z w v : T) (a b c d e : Bool) → (if a then Some x else if b then Some y else if c then Some z else if d then Some w else if e then Some v else None) ≡ None → AllFalse a b c d e
+pub no_fault : {T : Type 0} (x y z w v : T) (a b c d e : Bool) → (if a then Some x else if b then Some y else if c then Some z else if d then Some w else if e then Some v else None) ≡ None → AllFalse a b c d e
 no_fault x y z w v true b c d e h = cc
 no_fault x y z w v false true c d e h = cc
 no_fault x y z w v false false true d e h = cc
 no_fault x y z w v false false false true e h = cc
 no_fault x y z w v false false false false true h = cc
 no_fault x y z w v false false false false false h = record { first = refl; second = refl; third = refl; fourth = refl; fifth = refl }
-
-not-false : (b : Bool) → not b ≡ false → b ≡ true
-not-false true e = refl
-not-false false e = cc
-
-both : (a b : Bool) → (a && b) ≡ true → (a ≡ true) × (b ≡ true)
-both true b e = (refl, e)
-both false b e = cc
 
 -- a header that was read: its fields, and no fault
 tcp-read : (fields head : Tcp) (fault : Option TcpFault) → Ok head ≡ value_or_fault fields fault → (head ≡ fields) × (fault ≡ None)
@@ -67,9 +145,9 @@ ends false same m o = cc
 
 bare-facts : (head : Tcp) (size : ℕ) → is_bare head size ≡ true → (head.reserved ≡ 0) × (tcp.has_urg head.flags.0 ≡ false) × (head.urgent ≡ 0) × ((tcp.has_syn head.flags.0 || tcp.has_rst head.flags.0) ≡ true → head.header ≡ size)
 bare-facts head size e =
-    let a = both _ _ e in
-    let b = both _ _ a.0 in
-    let d = both _ _ b.0 in
+    let a = and_parts _ _ e in
+    let b = and_parts _ _ a.0 in
+    let d = and_parts _ _ b.0 in
     (eqb-true head.reserved 0 d.0, not-true _ d.1, eqb-true head.urgent 0 b.1, λ marked. eqb-true head.header size (ends _ (head.header == size) marked a.1))
 
 pub tcp-sound : (p : List ℕ) (head : Tcp) → Ok head ≡ tcp_header.parsed Must (pseudo_of p) (ip.payload p) → is_bare head (length (ip.payload p)) ≡ true → cleaned (tcp.has_syn head.flags.0) (tcp.options (ip.payload p)) ≡ tcp.options (ip.payload p) → IsPlainTcp p
@@ -103,12 +181,6 @@ tcp-sound p head e bare kept =
     either-false true b h = cc
     either-false false b h = (refl, h)
 
--- a plain segment is read, and passes the tests
-pub tcp-reads : (p : List ℕ) → IsPlainTcp p → tcp_header.parsed Must (pseudo_of p) (ip.payload p) ≡ Ok (tcp_header.fields_of (pseudo_of p) (ip.payload p))
-tcp-reads p t =
-    let m = ip.payload p in
-    ap (value_or_fault (tcp_header.fields_of (pseudo_of p) m)) (fault_of-options Must (pseudo_of p) m true t.whole_header t.data_offset t.inside (ap not t.sum) t.flags t.options)
-
 pub tcp-bare : (p : List ℕ) → IsPlainTcp p → is_bare (tcp_header.fields_of (pseudo_of p) (ip.payload p)) (length (ip.payload p)) ≡ true
 tcp-bare p t =
     let m = ip.payload p in
@@ -129,7 +201,7 @@ tcp-decides p m pseudo head clean bare syn result e f read some s kept b r =
     let area : take (head.header - 20) (drop 20 m) ≡ tcp.options (ip.payload p) = area_is m head.header header some ∙ ap tcp.options (sym e) in
     let size : is_bare head (length m) ≡ is_bare head (length (ip.payload p)) = ap (λ xs. is_bare head (length xs)) (sym e) in (
       λ h.
-          let parts = both clean bare (sym r ∙ h) in
+          let parts = and_parts clean bare (sym r ∙ h) in
           tcp-sound p head here (sym size ∙ sym b ∙ parts.1) ((λ i. cleaned (sym s i) (sym area i)) ∙ kept.0 parts.0 ∙ area),
       λ t.
           let flags : tcp.has_syn head.flags.0 ≡ tcp.has_syn (tcp.flags (ip.payload p)) = ap (λ (h : Tcp). tcp.has_syn h.flags.0) fields in
@@ -185,3 +257,47 @@ pub pseudo_is : (p m : List ℕ) (head : Ipv4) → ip.payload p ≡ m → head �
 pseudo_is p m head e fields =
     let back : ip_header.fields_of p ≡ head = sym fields in
     λ i. pseudo_sum (back i).src.0 (back i).dst.0 (back i).protocol (length (e i))
+
+-- A packet that was written, read again.
+
+-- a segment without URG, and without octets on SYN or RST
+unmarked : (s : Segment) (size : ℕ) → IsPlainSegment s → size ≡ 20 + length s.options + length s.octets → is_bare (write.header_of s) size ≡ true
+unmarked s size h e =
+    rw h.urgent (empty (tcp.has_syn s.flags || tcp.has_rst s.flags) _ (λ marked. let none = ap length (h.bare marked) in eq-eqb _ _ (omega arith)))
+  where
+    empty : (marked same : Bool) → (marked ≡ true → same ≡ true) → (not marked || same) ≡ true
+    empty true same f = f refl
+    empty false same f = refl
+
+pub are_read : AreRead
+are_read head s h carries =
+    let p = packet_of head s in
+    let m = write.segment_octets s in
+    let back = read_back s h.fits in
+    let count : length m ≡ 20 + length s.options + length s.octets = length-octets_with s (write.checksum_of s) in
+    let small : length m ≤ 65515 = let fits = h.fits.size in omega arith in
+    let header = header-plain head m small in
+    let e : ip.payload p ≡ m = payload_is p header in
+    let source : ip.source p ≡ s.source = ap (λ a. 65536 * (256 * (a / 16777216 % 256) + a / 65536 % 256) + (256 * (a / 256 % 256) + a % 256)) carries.source ∙ four-octets s.source h.fits.source in
+    let destination : ip.destination p ≡ s.destination = ap (λ a. 65536 * (256 * (a / 16777216 % 256) + a / 65536 % 256) + (256 * (a / 256 % 256) + a % 256)) carries.destination ∙ four-octets s.destination h.fits.destination in
+    let before : pseudo_of p ≡ write.pseudo_of s = λ i. pseudo_sum (source i) (destination i) (carries.protocol i) ((ap length e ∙ count) i) in
+    let read : Ok (write.header_of s) ≡ tcp_header.parsed Must (pseudo_of p) (ip.payload p) = sym (back.parsed h.legal h.formed Must) ∙ (λ i. tcp_header.parsed Must (sym before i) (sym e i)) in
+    let options : tcp.options (ip.payload p) ≡ s.options = ap tcp.options e ∙ back.options in
+    let plain : IsPlainTcp p = tcp-sound p (write.header_of s) read (unmarked s _ h (ap length e ∙ count)) (ap (cleaned (tcp.has_syn s.flags)) options ∙ h.kept ∙ sym options) in
+    let fields : fields_of p ≡ s = λ i.
+    record {
+      source = source i;
+      destination = destination i;
+      source_port = (ap tcp.source_port e ∙ ap (λ (t : Tcp). t.sport) back.header) i;
+      destination_port = (ap tcp.destination_port e ∙ ap (λ (t : Tcp). t.dport) back.header) i;
+      sequence = (ap tcp.sequence e ∙ ap (λ (t : Tcp). t.seq) back.header) i;
+      acknowledgment = (ap tcp.acknowledgment e ∙ ap (λ (t : Tcp). t.ack) back.header) i;
+      flags = (ap tcp.flags e) i;
+      window = (ap tcp.window e ∙ ap (λ (t : Tcp). t.window) back.header) i;
+      options = options i;
+      octets = (ap tcp.payload e ∙ back.octets) i;
+    } in
+    record {
+      plain = λ hops reaches. record { header = header; passes = reaches; message = record { protocol = inr (inl carries.protocol); icmp = λ f. absurd (omega (arith, carries.protocol, f)); tcp = λ f. plain; udp = λ f. absurd (omega (arith, carries.protocol, f)) } };
+      segment = ap (λ n. if n == 6 then Some (fields_of p) else None) carries.protocol ∙ ap Some fields;
+    }

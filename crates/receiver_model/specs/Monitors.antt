@@ -119,8 +119,8 @@ pub record StayNearAcks (acks : List ℕ) (places : List ℤ) (frames : List (Li
       slice_get acks c.number ≡ Some ack →
       (pos 0 ≤ℤ offset) × (offset ≤ℤ pos (ack + 2 ^ 30))
 
--- Frames that describe one stream leave nothing for a monitor to miss that hears them in time; and neither for one that takes them in order, if they stay in
--- acks.
+-- Frames that describe one stream leave nothing for a monitor to miss that hears them in time; and neither for one that takes them in order, if they stay near
+-- what was acknowledged.
 pub record MonitorsMissNothing : Type 0 where
   pub in_time : (hops base : ℕ) (places : List ℤ) (frames : List (List ℕ)) → TellOneStream hops base places frames → MissesNothingInTime hops base places frames
   pub in_order :

@@ -1,5 +1,4 @@
-use Rattle.receiver_model.proofs.Monitors.{miss_nothing_in_time}
-use Rattle.receiver_model.proofs.InOrder.{miss_nothing_in_order}
+use Rattle.receiver_model.proofs.Monitors.{miss_nothing_in_time, miss_nothing_in_order}
 use Rattle.receiver_model.proofs.laws.monitors_miss_nothing.Goals as goal
 
 pub returns : goal.returns

@@ -1,4 +1,4 @@
-use Rattle.receiver_model.proofs.Messages.{read_alike}
+use Rattle.receiver_model.proofs.Members.{read_alike}
 use Rattle.receiver_model.proofs.laws.plain_packets_are_read_alike.Goals as goal
 
 pub returns : goal.returns

@@ -2,8 +2,7 @@ use Rattle.std.proofs.Common.{◌≡◌, ◌-◌, length, take, drop, is_ok, ap,
 use Rattle.std.proofs.lemmas.List.{take_rest}
 use Rattle.wire_base.specs.Ipv4 as ip
 use Rattle.ipv4_codec.specs.declared.header.Ipv4.{Ipv4}
-use Rattle.receiver_model.proofs.Places.{payload_is}
-use Rattle.receiver_model.proofs.PlainPackets.{icmp-decides, icmp-message, tcp-message, udp-decides, udp-message, pseudo_is}
+use Rattle.receiver_model.proofs.PlainPackets.{payload_is, icmp-decides, icmp-message, tcp-message, udp-decides, udp-message, pseudo_is}
 use Rattle.receiver_model.proofs.plain_packet.is_plain_message.Goals as goal
 
 pub returns-in-1 : goal.returns-in-1

@@ -1,6 +1,6 @@
 use Rattle.std.proofs.Common.{◌&&◌, ap, sym, ◌∙◌}
 use Rattle.wire_base.specs.Options.{are_well_formed}
-use Rattle.tcp_codec.proofs.Faults.{area_is}
+use Rattle.tcp_codec.proofs.Segments.{area_is}
 use Rattle.receiver_model.proofs.PlainPackets.{tcp-decides, tcp-header}
 use Rattle.receiver_model.proofs.plain_packet.is_plain_tcp.Goals as goal
 

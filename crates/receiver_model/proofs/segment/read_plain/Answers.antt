@@ -1,5 +1,5 @@
 use Rattle.std.proofs.Common.{arith}
-use Rattle.receiver_model.proofs.Places.{fields_in_place, start_inside}
+use Rattle.receiver_model.proofs.PlainPackets.{fields_in_place, start_inside}
 use Rattle.receiver_model.proofs.segment.read_plain.Goals as goal
 
 pub returns-clause-fields : goal.returns-clause-fields

@@ -1,9 +1,8 @@
-use Rattle.std.proofs.Common.{◌≡◌, ◌∷◌, ◌++◌, [], pos, Some, arith, sym, ap}
+use Rattle.std.proofs.Common.{◌≡◌, ◌∷◌, ◌++◌, [], pos, Some, arith, sym, ap, option_map}
 use Rattle.std.proofs.lemmas.Grind.{common_steps}
-use Rattle.std.specs.Prelude.{option_map}
 use Rattle.receiver_model.specs.Policies.{octet_after}
 use Rattle.receiver_model.specs.declared.policy.Waiting.{Waiting}
-use Rattle.receiver_model.proofs.Waits.{extends_push}
+use Rattle.receiver_model.proofs.Streams.{extends_push}
 use Rattle.receiver_model.proofs.stream.extend.Goals as goal
 
 pub loop-waiting-preserved : goal.loop-waiting-preserved

@@ -1,5 +1,5 @@
 use Rattle.std.proofs.Common.{pos}
-use Rattle.receiver_model.proofs.Waits.{waiting_after-push}
+use Rattle.receiver_model.proofs.Streams.{waiting_after-push}
 use Rattle.receiver_model.proofs.stream.waiting_with.Goals as goal
 
 pub returns : goal.returns

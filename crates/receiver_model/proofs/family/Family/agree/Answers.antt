@@ -1,4 +1,4 @@
-use Rattle.receiver_model.proofs.FourStreams.{two_agree}
+use Rattle.receiver_model.proofs.Streams.{two_agree}
 use Rattle.receiver_model.proofs.family.Family.agree.Goals as goal
 
 pub returns-clause-one_stream : goal.returns-clause-one_stream

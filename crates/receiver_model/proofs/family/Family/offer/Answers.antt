@@ -1,4 +1,4 @@
-use Rattle.receiver_model.proofs.FourStreams.{goes_back}
+use Rattle.receiver_model.proofs.Streams.{goes_back}
 use Rattle.receiver_model.proofs.family.Family.offer.Goals as goal
 
 pub returns-clause-back : goal.returns-clause-back

@@ -1,4 +1,4 @@
-use Rattle.receiver_model.proofs.FourStreams.{fresh-stands_as}
+use Rattle.receiver_model.proofs.Streams.{fresh-stands_as}
 use Rattle.receiver_model.proofs.family.Family.open.Goals as goal
 
 pub returns-clause-stands : goal.returns-clause-stands

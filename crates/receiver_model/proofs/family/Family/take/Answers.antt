@@ -1,4 +1,4 @@
-use Rattle.receiver_model.proofs.FourStreams.{all_stand-push}
+use Rattle.receiver_model.proofs.Streams.{all_stand-push}
 use Rattle.receiver_model.proofs.family.Family.take.Goals as goal
 
 pub returns-in-Ok-clause-stands : goal.returns-in-Ok-clause-stands

@@ -1,4 +1,4 @@
-use Rattle.receiver_model.proofs.Deliveries.{fresh_stands}
+use Rattle.receiver_model.proofs.Streams.{fresh_stands}
 use Rattle.receiver_model.proofs.stream.Stream.open.Goals as goal
 
 pub returns-clause-stands : goal.returns-clause-stands

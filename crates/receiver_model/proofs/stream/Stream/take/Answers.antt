@@ -1,6 +1,6 @@
 use Rattle.std.proofs.Common.{◌<◌, ◌^◌, length, rules, arith}
 use Rattle.std.proofs.lemmas.Grind.{common_steps}
-use Rattle.receiver_model.proofs.Steps.{read_last, read_step, read_chosen, read_stands, on_ok}
+use Rattle.receiver_model.proofs.Streams.{read_last, read_step, read_chosen, read_stands, on_ok}
 use Rattle.receiver_model.proofs.stream.Stream.take.Goals as goal
 
 pub returns-clause-step : goal.returns-clause-step
