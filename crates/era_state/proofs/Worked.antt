@@ -1,14 +1,13 @@
 -- The worked connections are emitted if a clash is settled, and not if it is forwarded.
-use Rattle.std.proofs.Common.{◌≡◌, inl, inr, ℕ, zero, suc, ◌+◌, List, [], ◌∷◌, ◌++◌, Some, true, false, refl, ap, arith}
-use Rattle.std.specs.Prelude.{pos, slice_get}
+use Rattle.std.proofs.Common.{◌≡◌, inl, inr, ℕ, zero, suc, ◌+◌, List, [], ◌∷◌, ◌++◌, Some, true, false, refl, ap, arith, pos, slice_get}
 use Rattle.wire_base.specs.Segments.{Written}
 use Rattle.era_state.specs.declared.interval.Interval.{Interval}
 use Rattle.era_state.specs.Offsets.{number_in}
 use Rattle.era_state.specs.Quantities.{first}
-use Rattle.era_state.proofs.Counts.{first_past}
 use Rattle.era_state.specs.Emission.{IsKeptFrame, AreEmitted}
-use Rattle.era_state.proofs.Emitting.{emitted_joins, emitted_is_told}
 use Rattle.era_state.specs.Worked.{segment, opening, abcd, abXd, fin, wxyz, turning, SettledIsEmitted, ClashIsNotEmitted, TurnedIsEmitted}
+use Rattle.era_state.proofs.Quantities.{first_past}
+use Rattle.era_state.proofs.EmittedSegments.{emitted_joins, emitted_is_told}
 
 whole : Interval
 whole = record { lo = 0; hi = 4; fin = false; below = false; window = false; end = false }

@@ -61,7 +61,7 @@ UnbasedHasNoOctet = (base : ℕ) (ws : List Written) → base_of ws ≡ None →
 
 -- An octet of the segment is at Acked or up to 2^30 past it. Its FIN is at an offset of the stream, at most 2^30 past Acked; a FIN that is written again may be
 -- below Acked.
-pub record IsNear (base : ℕ) (ws : List Written) (w : Written) : Type 0 where
+pub record IsNearAcked (base : ℕ) (ws : List Written) (w : Written) : Type 0 where
   pub octets :
       (index : ℕ) → index < length w.octets →
       (pos (acked base ws) ≤ℤ (off base (acked base ws) w.seq +ℤ pos index)) × ((off base (acked base ws) w.seq +ℤ pos index) ≤ℤ pos (acked base ws + 2 ^ 30))
@@ -71,4 +71,4 @@ pub record IsNear (base : ℕ) (ws : List Written) (w : Written) : Type 0 where
 
 -- this holds of each inward segment that is emitted after emitted ones
 abbrev pub EmittedIsNear : Type 0
-EmittedIsNear = (base : ℕ) (ws : List Written) (w : Written) → HasNoOtherBase base (ws ++ w ∷ []) → AreEmitted [] ws → IsEmitted ws w → IsNear base ws w
+EmittedIsNear = (base : ℕ) (ws : List Written) (w : Written) → HasNoOtherBase base (ws ++ w ∷ []) → AreEmitted [] ws → IsEmitted ws w → IsNearAcked base ws w

@@ -1,2 +1,1 @@
 pub mod Packets
-pub mod Joined

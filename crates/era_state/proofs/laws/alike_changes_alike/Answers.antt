@@ -1,4 +1,4 @@
-use Rattle.era_state.proofs.Alike.{alike_changes_alike}
+use Rattle.era_state.proofs.SameNumbers.{alike_changes_alike}
 use Rattle.era_state.proofs.laws.alike_changes_alike.Goals as goal
 
 pub returns : goal.returns

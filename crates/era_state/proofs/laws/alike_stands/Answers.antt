@@ -1,4 +1,4 @@
-use Rattle.era_state.proofs.Alike.{alike_stands}
+use Rattle.era_state.proofs.SameNumbers.{alike_stands}
 use Rattle.era_state.proofs.laws.alike_stands.Goals as goal
 
 pub returns : goal.returns

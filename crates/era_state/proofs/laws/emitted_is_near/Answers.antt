@@ -1,4 +1,4 @@
-use Rattle.era_state.proofs.Near.{emitted_is_near}
+use Rattle.era_state.proofs.EmittedSegments.{emitted_is_near}
 use Rattle.era_state.proofs.laws.emitted_is_near.Goals as goal
 
 pub returns : goal.returns

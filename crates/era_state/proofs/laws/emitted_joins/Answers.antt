@@ -1,4 +1,4 @@
-use Rattle.era_state.proofs.Emitting.{emitted_joins}
+use Rattle.era_state.proofs.EmittedSegments.{emitted_joins}
 use Rattle.era_state.proofs.laws.emitted_joins.Goals as goal
 
 pub returns : goal.returns

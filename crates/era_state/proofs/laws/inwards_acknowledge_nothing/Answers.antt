@@ -1,4 +1,4 @@
-use Rattle.era_state.proofs.Remaining.{acked_same}
+use Rattle.era_state.proofs.SameNumbers.{acked_same}
 use Rattle.era_state.proofs.laws.inwards_acknowledge_nothing.Goals as goal
 
 pub returns : goal.returns

@@ -1,4 +1,4 @@
-use Rattle.era_state.proofs.Lists.{unacknowledged_has_no_octet}
+use Rattle.era_state.proofs.SameNumbers.{unacknowledged_has_no_octet}
 use Rattle.era_state.proofs.laws.unacknowledged_has_no_octet.Goals as goal
 
 pub returns : goal.returns

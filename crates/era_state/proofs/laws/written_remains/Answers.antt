@@ -1,4 +1,4 @@
-use Rattle.era_state.proofs.Remaining.{written_remains}
+use Rattle.era_state.proofs.SameNumbers.{written_remains}
 use Rattle.era_state.proofs.laws.written_remains.Goals as goal
 
 pub returns : goal.returns

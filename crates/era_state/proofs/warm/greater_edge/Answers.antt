@@ -1,5 +1,4 @@
-use Rattle.std.proofs.Common.{◌∙◌, ap, sym}
-use Rattle.std.specs.Prelude.{max}
+use Rattle.std.proofs.Common.{◌∙◌, ap, sym, max}
 use Rattle.era_state.specs.Marks.{edge_place}
 use Rattle.era_state.specs.Read.{sent}
 use Rattle.era_state.proofs.warm.greater_edge.Goals as goal

@@ -2,8 +2,7 @@ use Rattle.std.proofs.Common.{rules, ◌≡◌, ◌++◌, length, ap, ◌∙◌,
 use Rattle.ipv4_codec.specs.Write.{plain_header}
 use Rattle.tcp_codec.specs.Write.{segment_octets}
 use Rattle.reset_probe.specs.Write.{probe_segment}
-use Rattle.reset_probe.proofs.Joined.{joined}
-use Rattle.reset_probe.proofs.Packets.{probes_are_plain}
+use Rattle.reset_probe.proofs.Packets.{joined, probes_are_plain}
 use Rattle.reset_probe.proofs.write.write_probe.Goals as goal
 
 pub returns-clause-exact : goal.returns-clause-exact

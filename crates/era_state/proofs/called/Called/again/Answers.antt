@@ -1,10 +1,8 @@
 use Rattle.std.proofs.Common.{◌∙◌}
 use Rattle.era_state.specs.Quantities.{iss}
 use Rattle.era_state.specs.Read.{sent}
-use Rattle.era_state.proofs.Pushes.{or_kept}
-use Rattle.era_state.proofs.Steps.{iss_push}
-use Rattle.era_state.proofs.Legal.{legal_syn}
-use Rattle.era_state.proofs.Untouched.{called_push}
+use Rattle.era_state.proofs.Quantities.{or_kept, iss_push}
+use Rattle.era_state.proofs.Eras.{legal_syn, called_push}
 use Rattle.era_state.proofs.called.Called.again.Goals as goal
 
 pub returns : goal.returns

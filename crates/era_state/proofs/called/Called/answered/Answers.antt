@@ -1,6 +1,5 @@
 use Rattle.std.proofs.Common.{sym}
-use Rattle.era_state.proofs.Legal.{legal_syn}
-use Rattle.era_state.proofs.Untouched.{offered_first}
+use Rattle.era_state.proofs.Eras.{legal_syn, offered_first}
 use Rattle.era_state.proofs.called.Called.answered.Goals as goal
 
 pub returns : goal.returns

@@ -1,6 +1,5 @@
 use Rattle.std.proofs.Common.{refl, []}
-use Rattle.era_state.proofs.Legal.{legal_syn}
-use Rattle.era_state.proofs.Untouched.{called_push, untouched_none}
+use Rattle.era_state.proofs.Eras.{legal_syn, called_push, untouched_none}
 use Rattle.era_state.proofs.called.Called.call.Goals as goal
 
 pub returns : goal.returns

@@ -1,6 +1,6 @@
 use Rattle.std.proofs.Common.{sym, ◌∙◌, ◌<◌, ◌^◌, rules, ◌≡◌, true}
 use Rattle.wire_base.specs.Tcp as tcp
-use Rattle.era_state.proofs.Warms.{called_opens}
+use Rattle.era_state.proofs.Eras.{called_opens}
 use Rattle.era_state.proofs.era.Era.called_goes_on.Goals as goal
 
 pub returns-then-ack-clause-stands : goal.returns-then-ack-clause-stands

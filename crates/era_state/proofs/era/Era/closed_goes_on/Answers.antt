@@ -1,4 +1,4 @@
-use Rattle.era_state.proofs.Warms.{warm_sent}
+use Rattle.era_state.proofs.Eras.{warm_sent}
 use Rattle.era_state.proofs.era.Era.closed_goes_on.Goals as goal
 
 pub returns-clause-stands : goal.returns-clause-stands

@@ -1,5 +1,5 @@
 use Rattle.std.proofs.Common.{sym, ◌∙◌}
-use Rattle.era_state.proofs.Warms.{warm_sent}
+use Rattle.era_state.proofs.Eras.{warm_sent}
 use Rattle.era_state.proofs.era.Era.go_on.Goals as goal
 
 pub returns-then-is_over-clause-stands : goal.returns-then-is_over-clause-stands

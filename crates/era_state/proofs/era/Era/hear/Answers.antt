@@ -1,6 +1,5 @@
 use Rattle.std.proofs.Common.{sym, ◌∙◌}
-use Rattle.era_state.proofs.Legal.{legal_syn}
-use Rattle.era_state.proofs.Warms.{warm_came}
+use Rattle.era_state.proofs.Eras.{legal_syn, warm_came}
 use Rattle.era_state.proofs.era.Era.hear.Goals as goal
 
 pub returns-then-is_over-clause-stands : goal.returns-then-is_over-clause-stands

@@ -1,5 +1,5 @@
 use Rattle.std.proofs.Common.{◌∙◌, sym, ap}
-use Rattle.era_state.proofs.Lists.{octets_are_the_lists}
+use Rattle.era_state.proofs.SameNumbers.{octets_are_the_lists}
 use Rattle.era_state.specs.Eras.{octets_in}
 use Rattle.era_state.proofs.era.Era.octets.Goals as goal
 

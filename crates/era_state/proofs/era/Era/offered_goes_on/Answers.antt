@@ -1,5 +1,5 @@
 use Rattle.std.proofs.Common.{sym}
-use Rattle.era_state.proofs.Warms.{offered_opens}
+use Rattle.era_state.proofs.Eras.{offered_opens}
 use Rattle.era_state.proofs.era.Era.offered_goes_on.Goals as goal
 
 pub returns-in-Some-clause-stands : goal.returns-in-Some-clause-stands

@@ -1,6 +1,5 @@
 use Rattle.std.proofs.Common.{refl}
-use Rattle.era_state.proofs.Legal.{legal_syn}
-use Rattle.era_state.proofs.Untouched.{offered_came}
+use Rattle.era_state.proofs.Eras.{legal_syn, offered_came}
 use Rattle.era_state.proofs.offered.Offered.hear.Goals as goal
 
 pub returns : goal.returns

@@ -1,5 +1,5 @@
 use Rattle.std.proofs.Common.{refl, ap, ◌||◌, Some}
-use Rattle.era_state.proofs.Untouched.{offered_sent}
+use Rattle.era_state.proofs.Eras.{offered_sent}
 use Rattle.era_state.proofs.offered.Offered.sent.Goals as goal
 
 pub returns : goal.returns

@@ -1,5 +1,5 @@
 use Rattle.std.proofs.Common.{arith, ◌^◌, ◌<◌}
-use Rattle.era_state.proofs.Windows.{scaled_small}
+use Rattle.era_state.proofs.Offsets.{scaled_small}
 use Rattle.era_state.proofs.segment.Seg.allowed.Goals as goal
 
 pub returns-else-syn-clause-near : goal.returns-else-syn-clause-near

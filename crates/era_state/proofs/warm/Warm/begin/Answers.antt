@@ -1,5 +1,5 @@
 use Rattle.std.proofs.Common.{◌<◌, ◌^◌, rules}
-use Rattle.era_state.proofs.Warms.{begins_warm}
+use Rattle.era_state.proofs.Eras.{begins_warm}
 use Rattle.era_state.proofs.warm.Warm.begin.Goals as goal
 
 pub returns : goal.returns

@@ -1,9 +1,8 @@
-use Rattle.std.proofs.Common.{refl, ◌∙◌, ap, ◌||◌, ◌^◌, arith, [], ◌+◌}
-use Rattle.std.specs.Prelude.{max}
+use Rattle.std.proofs.Common.{refl, ◌∙◌, ap, ◌||◌, ◌^◌, arith, [], ◌+◌, max}
 use Rattle.era_state.specs.Offsets.{number_in}
 use Rattle.era_state.specs.Marks.{edge_place}
 use Rattle.era_state.specs.Read.{sent}
-use Rattle.era_state.proofs.Windows.{number_small}
+use Rattle.era_state.proofs.Offsets.{number_small}
 use Rattle.era_state.proofs.warm.Warm.send.Goals as goal
 
 pub returns-clause-stands : goal.returns-clause-stands

@@ -1,29 +1,116 @@
--- Emitted segments, one after another.
-use Rattle.std.proofs.Common.{◌≡◌, ◌⊎◌, inl, inr, ⊎_elim, ℕ, ◌+◌, ◌%◌, ◌^◌, ◌<◌, ◌≤◌, List, [], ◌∷◌, ◌++◌, length, Option, Some, None, Bool, true, false, refl, sym, ◌∙◌, ap, subst, arith, append-nil}
-use Rattle.std.specs.Prelude.{max, ℤ, pos, negsuc, ◌+ℤ◌, ◌-ℤ◌, ◌<ℤ◌, slice_get, nat_lt, if◌then◌else◌}
+-- Emitted segments: how far they are from Acked and from the windows, and that each octet is the first at its offset.
+use Rattle.std.proofs.Common.{◌≡◌, ℕ, ◌+◌, ◌*◌, ◌^◌, ◌<◌, ◌≤◌, List, [], ◌∷◌, ◌++◌, length, Option, Some, None, Bool, true, false, ◌&&◌, refl, sym, ◌∙◌, ap, arith, subst, ◌⊎◌, inl, inr, ⊎_elim, ◌%◌, append-nil, max, ℤ, pos, negsuc, ◌+ℤ◌, ◌-ℤ◌, if◌then◌else◌, ◌<ℤ◌, slice_get, nat_lt, ◌≤ℤ◌}
 use Rattle.std.specs.Option.{option_or}
+use Rattle.std.proofs.Math.Nat.{max-zero}
 use Rattle.std.proofs.lemmas.Int.{ints}
 use Rattle.std.proofs.lemmas.Bool.{cases_lt}
 use Rattle.std.proofs.lemmas.Bool.Decides.{nat_tests}
 use Rattle.std.proofs.lemmas.Option.{slice_get_within, slice_get_past}
 use Rattle.wire_base.specs.Tcp as tcp
 use Rattle.wire_base.specs.Segments.{Written}
-use Rattle.era_state.specs.declared.interval.Interval.{Interval}
-use Rattle.era_state.specs.Offsets.{off, natural, number_in}
-use Rattle.era_state.specs.Marks.{get_at, octet_at}
-use Rattle.era_state.specs.Quantities.{base_of, acked, edge, top, first, end_of}
+use Rattle.era_state.specs.Offsets.{off, natural, nat_of, number_in}
+use Rattle.era_state.specs.Marks.{has_octets, get_at, ack_of, edge_place, octet_at}
+use Rattle.era_state.specs.Quantities.{acked, edge, top, first, end_of, shift, shift_with, out_seen, in_seen, in_scaled, out_scaled, out_scale, base_of}
 use Rattle.era_state.specs.Keeping.{bounds}
 use Rattle.era_state.specs.Emission.{IsOutward, IsBare, IsKeptFrame, IsEmitted, AreEmitted}
-use Rattle.era_state.specs.Emitted.{EmittedJoins, HasNoOtherBase, IsTold, EmittedIsTold, EmittedOctetsArePlaces, UnbasedHasNoOctet}
-use Rattle.era_state.proofs.Pushes.{or_none}
-use Rattle.era_state.proofs.Counts.{first_past}
-use Rattle.era_state.proofs.Steps.{top_push, octet_push, end_push}
-use Rattle.era_state.proofs.Inwards.{no_octet, no_end}
-use Rattle.era_state.proofs.Fits.{Lies}
-use Rattle.era_state.proofs.Framed.{EndLies, FrameIn, Stands, frame_in, lies_in, octets_begin, stands, fin_stands, fin_place_is, top_place_is}
-use Rattle.era_state.proofs.Octets.{octets_in}
-use Rattle.era_state.proofs.Remaining.{pushed, written_remains, acked_same, edge_same}
-use Rattle.era_state.proofs.Bounded.{Bounded, lie, bounded_none, bounded_outward, bounded_bare}
+use Rattle.era_state.specs.declared.interval.Interval.{Interval}
+use Rattle.era_state.specs.Emitted.{EmittedJoins, HasNoOtherBase, IsTold, EmittedIsTold, EmittedOctetsArePlaces, UnbasedHasNoOctet, IsNearAcked, EmittedIsNear}
+use Rattle.era_state.proofs.Quantities.{or_none, acked_push, edge_push, top_push, octet_push, end_push, first_past}
+use Rattle.era_state.proofs.SameNumbers.{no_octet, no_top, no_end, acked_same, edge_same, pushed, written_remains}
+use Rattle.era_state.proofs.Offsets.{scaled_small, Lies}
+use Rattle.era_state.proofs.Frames.{EndLies, BoundsLie, FrameIn, Stands, frame_in, lies_in, octets_begin, stands, fin_stands, fin_place_is, top_place_is, octets_in}
+
+-- The relation of what was written of an era to its windows.
+
+pub record Bounded (base : ℕ) (ws : List Written) : Type 0 where
+  pub reached : acked base ws ≤ edge base ws
+  pub small : edge base ws ≤ acked base ws + 65535 * 2 ^ 14
+  pub top_in_window : top base ws ≤ edge base ws + 1
+  pub end_lies : EndLies (end_of base ws) (top base ws) (edge base ws)
+  pub none_below : (n : ℕ) → first base ws (negsuc n) ≡ None
+
+pub lie : (base : ℕ) (ws : List Written) → Bounded base ws → BoundsLie (bounds base ws)
+lie base ws h = record { small = h.small; end_lies = h.end_lies }
+
+pub bounded_none : (base : ℕ) → Bounded base []
+bounded_none base = record { reached = omega arith; small = omega arith; top_in_window = omega arith; end_lies = tt; none_below = λ n. refl }
+
+pub end_further : (o : Option ℤ) (top edge further : ℕ) → edge ≤ further → EndLies o top edge → EndLies o top further
+end_further None top edge further more h = tt
+end_further (Some (pos place)) top edge further more h = let below = h.1 in (h.0, omega (arith, below, more))
+end_further (Some (negsuc n)) top edge further more h = h
+
+shift_with_small : (a b c d : Bool) (n : ℕ) → n ≤ 14 → shift_with a b c d n ≤ 14
+shift_with_small true true true true n h = h
+shift_with_small true true true false n h = omega arith
+shift_with_small true true false d n h = omega arith
+shift_with_small true false c d n h = omega arith
+shift_with_small false b c d n h = omega arith
+
+shift_small : (ws : List Written) → shift ws ≤ 14
+shift_small ws = shift_with_small (out_seen ws) (in_seen ws) (out_scaled ws) (in_scaled ws) (out_scale ws) (omega arith)
+
+record Reaches (place edge : ℕ) : Type 0 where
+  at_least : place ≤ edge
+  at_most : edge ≤ place + 65535 * 2 ^ 14
+
+-- the reach of a window of 16 bits
+edge_near : (o : Option ℕ) (bits : ℕ) (w : Written) → w.window < 2 ^ 16 → bits ≤ 14 → Reaches (number_in o) (edge_place o bits w)
+edge_near None bits w small few = record { at_least = omega arith; at_most = omega arith }
+edge_near (Some place) bits w small few = by (tcp.has_syn w.flags)
+  where
+    by : (b : Bool) → Reaches place (place + w.window * (if b then 1 else 2 ^ bits))
+    by true = record { at_least = omega arith; at_most = omega (arith, small) }
+    by false = let most = scaled_small w.window bits small few in record { at_least = omega arith; at_most = omega (arith, most) }
+
+-- an outbound segment
+pub bounded_outward : (base : ℕ) (ws : List Written) (w : Written) → IsOutward w → Bounded base ws → Bounded base (ws ++ w ∷ [])
+bounded_outward base ws w o h = record {
+  reached = omega (arith, a, e, near.at_least, h.reached);
+  small = omega (arith, a, e, near.at_most, h.small);
+  top_in_window = omega (arith, t, e, h.top_in_window);
+  end_lies = subst (λ (p : Option ℤ × ℕ). EndLies p.0 p.1 (edge base (ws ++ w ∷ []))) (λ i. (sym ends i, sym t i)) (end_further (end_of base ws) (top base ws) (edge base ws) (edge base (ws ++ w ∷ [])) (omega (arith, e)) h.end_lies);
+  none_below = λ n. octet_push base ws w (negsuc n) ∙ (λ i. option_or (h.none_below n i) (if o.outward i then get_at w.octets (natural (negsuc n -ℤ off base (acked base ws) w.seq)) else None));
+}
+  where
+    near : Reaches (number_in (ack_of base (acked base ws) w)) (edge_place (ack_of base (acked base ws) w) (shift ws) w)
+    near = edge_near (ack_of base (acked base ws) w) (shift ws) w o.window (shift_small ws)
+
+    a : acked base (ws ++ w ∷ []) ≡ max (acked base ws) (number_in (ack_of base (acked base ws) w))
+    a = acked_push base ws w
+
+    e : edge base (ws ++ w ∷ []) ≡ max (edge base ws) (edge_place (ack_of base (acked base ws) w) (shift ws) w)
+    e = edge_push base ws w
+
+    t : top base (ws ++ w ∷ []) ≡ top base ws
+    t = top_push base ws w ∙ (λ i. max (top base ws) (if o.outward i && has_octets w then nat_of (off base (acked base ws) w.seq +ℤ pos (length w.octets)) else 0)) ∙ max-zero (top base ws)
+
+    ends : end_of base (ws ++ w ∷ []) ≡ end_of base ws
+    ends = end_push base ws w ∙ (λ i. option_or (end_of base ws) (if o.outward i && tcp.has_fin w.flags then Some (off base (acked base ws) w.seq +ℤ pos (length w.octets)) else None)) ∙ or_none (end_of base ws)
+
+-- an inward segment that adds nothing to the stream
+pub bounded_bare : (base : ℕ) (ws : List Written) (w : Written) → IsBare ws w → Bounded base ws → Bounded base (ws ++ w ∷ [])
+bounded_bare base ws w b h = record {
+  reached = omega (arith, a, e, h.reached);
+  small = omega (arith, a, e, h.small);
+  top_in_window = omega (arith, t, e, h.top_in_window);
+  end_lies = subst (λ (p : Option ℤ × ℕ × ℕ). EndLies p.0 p.1 p.2) (λ i. (sym ends i, sym t i, sym e i)) h.end_lies;
+  none_below = λ n. octet_push base ws w (negsuc n) ∙ (λ i. option_or (h.none_below n i) (no_octet base (acked base ws) w (negsuc n) b.no_octets i));
+}
+  where
+    a : acked base (ws ++ w ∷ []) ≡ acked base ws
+    a = acked_same base ws w b.inward
+
+    e : edge base (ws ++ w ∷ []) ≡ edge base ws
+    e = edge_same base ws w b.inward
+
+    t : top base (ws ++ w ∷ []) ≡ top base ws
+    t = top_push base ws w ∙ ap (max (top base ws)) (no_top base (acked base ws) w b.no_octets) ∙ max-zero (top base ws)
+
+    ends : end_of base (ws ++ w ∷ []) ≡ end_of base ws
+    ends = end_push base ws w ∙ ap (option_or (end_of base ws)) (no_end base (acked base ws) w b.no_fin) ∙ or_none (end_of base ws)
+
+-- Emitted segments, one after another.
 
 -- a kept frame, read with this base
 pub record Kept (base : ℕ) (ws : List Written) (w : Written) : Type 0 where
@@ -222,3 +309,62 @@ unbased_has_no_octet base ws none emitted offset = by [] ws refl (λ number e. c
         let on : Unbased ((us ++ v ∷ []) ++ vs) = subst Unbased (pushed us v vs) unbased in
         ap (λ xs. first base xs offset) (pushed us v vs)
         ∙ by (us ++ v ∷ []) vs (one us v e (λ number f. on number ((written_remains base (us ++ v ∷ []) vs).base_is number f)) emitted.0) on emitted.1
+
+-- How far an emitted segment is from Acked.
+
+-- the offset is at or past the first, and at or below the second
+abbrev IsBetween : (low high : ℕ) → ℤ → Type 0
+IsBetween low high z = (pos low ≤ℤ z) × (z ≤ℤ pos high)
+
+between : (low high n : ℕ) (z : ℤ) → z ≡ pos n → low ≤ n → n ≤ high → IsBetween low high z
+between low high n z is above below =
+    subst (IsBetween low high) (sym is) (omega (arith, ints, above), omega (arith, ints, below))
+
+-- an octet of an interval from `lo` to below `hi`
+octet_is_near :
+    (lo long hi edge acked index : ℕ) (z : ℤ) →
+    lo + long ≡ hi → acked ≤ lo → hi ≤ edge + 1 → edge ≤ acked + 65535 * 2 ^ 14 → index < long → z ≡ pos (lo + index) →
+    IsBetween acked (acked + 2 ^ 30) z
+octet_is_near lo long hi edge acked index z ends above window small within is =
+    between acked (acked + 2 ^ 30) (lo + index) z is (omega arith) (omega arith)
+
+-- a place in the window
+place_is_near : (place edge acked : ℕ) (z : ℤ) → place ≤ edge → edge ≤ acked + 65535 * 2 ^ 14 → z ≡ pos place → IsBetween 0 (acked + 2 ^ 30) z
+place_is_near place edge acked z inside small is = between 0 (acked + 2 ^ 30) place z is (omega arith) (omega arith)
+
+kept_is_near : (base : ℕ) (ws : List Written) (w : Written) → Kept base ws w → Bounded base ws → IsNearAcked base ws w
+kept_is_near base ws w k h = record { octets = octets; fin = fin }
+  where
+    at : ℕ
+    at = acked base ws
+
+    octets : (index : ℕ) → index < length w.octets → IsBetween at (at + 2 ^ 30) (off base at w.seq +ℤ pos index)
+    octets index within =
+        let long = k.frame.long in
+        let less : k.i.lo < k.i.hi = omega (arith, long, within) in
+        let some : nat_lt k.i.lo k.i.hi ≡ true = grind (arith, nat_tests, less) in
+        let fit = lies_in base (bounds base ws) k.i w k.frame in
+        let begins = octets_begin base (bounds base ws) k.i w k.frame (lie base ws h) some in
+        octet_is_near k.i.lo (length w.octets) k.i.hi (edge base ws) at index (off base at w.seq +ℤ pos index)
+        long fit.above (fit.window less) h.small within (ap (λ z. z +ℤ pos index) begins)
+
+    fin : tcp.has_fin w.flags ≡ true → IsBetween 0 (at + 2 ^ 30) (off base at w.seq +ℤ pos (length w.octets))
+    fin has =
+        let kept = sym k.frame.fin_is ∙ has in
+        let lies = lie base ws h in
+        place_is_near (stands base (bounds base ws) k.i w k.frame lies kept).place (edge base ws) at (off base at w.seq +ℤ pos (length w.octets))
+        (stands base (bounds base ws) k.i w k.frame lies kept).inside h.small (fin_stands base (bounds base ws) k.i w k.frame lies kept)
+
+pub emitted_is_near : EmittedIsNear
+emitted_is_near base ws w only emitted is = ⊎_elim bare kept is
+  where
+    bare : IsBare ws w → IsNearAcked base ws w
+    bare b = record {
+      octets = λ index within. absurd (let none = ap length b.no_octets in omega (arith, none, within));
+      fin = λ has. absurd (cc (has, b.no_fin));
+    }
+
+    kept : IsKeptFrame ws w → IsNearAcked base ws w
+    kept k =
+        let same : k.base ≡ base = only k.base ((written_remains base ws (w ∷ [])).base_is k.base k.based) in
+        kept_is_near base ws w (kept_here base ws w k same) (bounded base ws (other_before base ws (w ∷ []) only) emitted)
