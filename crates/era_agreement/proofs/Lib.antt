@@ -1,5 +1,3 @@
-pub mod Facts
-pub mod Told
-pub mod Agreeing
-pub mod NearAcks
-pub mod Behind
+pub mod Streams
+pub mod Acks
+pub mod Monitors

@@ -1,4 +1,4 @@
-use Rattle.era_agreement.proofs.Agreeing.{emitted_agrees}
+use Rattle.era_agreement.proofs.Streams.{emitted_agrees}
 use Rattle.era_agreement.proofs.laws.emitted_agrees.Goals as goal
 
 pub returns : goal.returns

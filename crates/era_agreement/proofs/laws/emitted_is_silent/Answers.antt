@@ -1,4 +1,4 @@
-use Rattle.era_agreement.proofs.Agreeing.{is_silent}
+use Rattle.era_agreement.proofs.Streams.{is_silent}
 use Rattle.era_agreement.proofs.laws.emitted_is_silent.Goals as goal
 
 pub returns : goal.returns

@@ -1,4 +1,4 @@
-use Rattle.era_agreement.proofs.Agreeing.{emitted_misses_nothing}
+use Rattle.era_agreement.proofs.Streams.{emitted_misses_nothing}
 use Rattle.era_agreement.proofs.laws.emitted_misses_nothing.Goals as goal
 
 pub returns : goal.returns

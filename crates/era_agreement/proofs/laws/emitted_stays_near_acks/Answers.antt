@@ -1,4 +1,4 @@
-use Rattle.era_agreement.proofs.NearAcks.{stays_near_acks}
+use Rattle.era_agreement.proofs.Acks.{stays_near_acks}
 use Rattle.era_agreement.proofs.laws.emitted_stays_near_acks.Goals as goal
 
 pub returns : goal.returns

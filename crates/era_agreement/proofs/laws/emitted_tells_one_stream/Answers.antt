@@ -1,4 +1,4 @@
-use Rattle.era_agreement.proofs.Agreeing.{tells_one_stream}
+use Rattle.era_agreement.proofs.Streams.{tells_one_stream}
 use Rattle.era_agreement.proofs.laws.emitted_tells_one_stream.Goals as goal
 
 pub returns : goal.returns

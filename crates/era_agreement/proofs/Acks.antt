@@ -1,7 +1,5 @@
--- The inward packets of an era stay near Acked before the record of each.
-use Rattle.std.proofs.Common.{◌≡◌, ◌⊎◌, inl, inr, ⊎_elim, ℕ, zero, suc, ◌+◌, ◌^◌, ◌<◌, ◌≤◌, Bool, true, false, ◌&&◌, not, Option, Some, None}
-use Rattle.std.proofs.Common.{List, [], ◌∷◌, ◌++◌, length, map, refl, ap, sym, ◌∙◌, subst, arith, append-nil}
-use Rattle.std.specs.Prelude.{All, ℤ, pos, ◌+ℤ◌, ◌≤ℤ◌, IsTrue, slice_get, if◌then◌else◌}
+-- The inward packets of an era stay near Acked before the record of each, and Acked never goes back.
+use Rattle.std.proofs.Common.{◌≡◌, ◌⊎◌, inl, inr, ⊎_elim, ℕ, zero, suc, ◌+◌, ◌^◌, ◌≤◌, Bool, true, false, ◌&&◌, not, Option, Some, None, List, [], ◌∷◌, ◌++◌, length, map, refl, ap, sym, ◌∙◌, subst, arith, append-nil, All, ℤ, pos, ◌≤ℤ◌, slice_get, if◌then◌else◌}
 use Rattle.std.proofs.lemmas.List.Elements.{All-head, All-tail}
 use Rattle.std.proofs.lemmas.Option.{slice_get_within}
 use Rattle.wire_base.specs.Tcp as tcp
@@ -11,12 +9,12 @@ use Rattle.era_state.specs.Quantities.{acked}
 use Rattle.era_state.specs.Laws.{AckedNeverFalls}
 use Rattle.era_state.specs.Emission.{AreEmitted}
 use Rattle.era_state.specs.Emitted.{WrittenRemains, InwardsAcknowledgeNothing, EmittedJoins, EmittedIsNear, HasNoOtherBase}
-use Rattle.era_agreement.specs.Sent.{Sent, is_era, inward_packets, aside_packets, inward_places, inward_acks}
-use Rattle.era_agreement.specs.Sent.{written_as, segments_in, written_in, placed_at, place_of}
+use Rattle.receiver_model.proofs.Places.{EachAck, each_ack_append, each_ack_long, each_ack_at, IsNearAck, StaysNear}
+use Rattle.era_state.proofs.SameNumbers.{pushed}
+use Rattle.era_agreement.specs.Sent.{Sent, is_era, inward_packets, aside_packets, inward_places, inward_acks, written_as, segments_in, written_in, placed_at, place_of}
 use Rattle.era_agreement.specs.Agreement.{IsSilentPacket}
 use Rattle.era_agreement.specs.Laws.{EmittedStaysNearAcks}
-use Rattle.era_agreement.proofs.Facts.{pushed, other_before, inward_emitted}
-use Rattle.era_agreement.proofs.Told.{all_before, all_behind}
+use Rattle.era_agreement.proofs.Streams.{other_before, inward_emitted, all_before, all_behind}
 
 -- the laws of eras that are used
 pub record AckLaws : Type 0 where
@@ -26,78 +24,35 @@ pub record AckLaws : Type 0 where
   pub remains : WrittenRemains
   pub grows : AckedNeverFalls
 
--- each of the packets with its ack and its place, in order
-abbrev Each : (ℕ → ℤ → List ℕ → Type 0) → List ℕ → List ℤ → List (List ℕ) → Type 0
-Each P [] [] [] = Unit {0}
-Each P (w ∷ ws) (z ∷ zs) (p ∷ ps) = P w z p × Each P ws zs ps
-Each P ws zs ps = ⊥
-
-each_append :
-    (P : ℕ → ℤ → List ℕ → Type 0) (ws : List ℕ) (zs : List ℤ) (ps : List (List ℕ)) (vs : List ℕ) (ys : List ℤ) (qs : List (List ℕ)) →
-    Each P ws zs ps → Each P vs ys qs → Each P (ws ++ vs) (zs ++ ys) (ps ++ qs)
-each_append P [] [] [] vs ys qs h k = k
-each_append P (w ∷ ws) (z ∷ zs) (p ∷ ps) vs ys qs h k = (h.0, each_append P ws zs ps vs ys qs h.1 k)
-each_append P ws zs ps vs ys qs h k = absurd h
-
-each_long : (P : ℕ → ℤ → List ℕ → Type 0) (ws : List ℕ) (zs : List ℤ) (ps : List (List ℕ)) → Each P ws zs ps → length ws ≡ length ps
-each_long P [] [] [] h = refl
-each_long P (w ∷ ws) (z ∷ zs) (p ∷ ps) h = ap suc (each_long P ws zs ps h.1)
-each_long P ws zs ps h = absurd h
-
-each_at :
-    (P : ℕ → ℤ → List ℕ → Type 0) (ws : List ℕ) (zs : List ℤ) (ps : List (List ℕ)) (k w : ℕ) (z : ℤ) (p : List ℕ) →
-    Each P ws zs ps → slice_get ws k ≡ Some w → slice_get zs k ≡ Some z → slice_get ps k ≡ Some p → P w z p
-each_at P [] [] [] k w z p h d e f = absurd (cc)
-each_at P (v ∷ ws) (y ∷ zs) (q ∷ ps) zero w z p h d e f =
-    let a : v ≡ w = cc d in
-    let b : y ≡ z = cc e in
-    let c : q ≡ p = cc f in
-    subst (λ (r : ℕ × ℤ × List ℕ). P r.0 r.1 r.2) (λ i. (a i, b i, c i)) h.0
-each_at P (v ∷ ws) (y ∷ zs) (q ∷ ps) (suc k) w z p h d e f = each_at P ws zs ps k w z p h.1 d e f
-each_at P ws zs ps k w z p h d e f = absurd h
-
--- the octets and the FIN of a segment at this place are in this ack
-record IsIn (ack : ℕ) (place : ℤ) (s : Segment) : Type 0 where
-  octets :
-      (index : ℕ) → index < length s.octets →
-      (pos ack ≤ℤ (place +ℤ pos index)) × ((place +ℤ pos index) ≤ℤ pos (ack + 2 ^ 30))
-  fin :
-      IsTrue (tcp.has_fin s.flags) →
-      (pos 0 ≤ℤ (place +ℤ pos (length s.octets))) × ((place +ℤ pos (length s.octets)) ≤ℤ pos (ack + 2 ^ 30))
-
--- those of the packet's segment are, if it has one
-abbrev Stays : ℕ → ℤ → List ℕ → Type 0
-Stays ack place p = (s : Segment) → segment_of p ≡ Some s → IsIn ack place s
-
-silent_is_in : (ack : ℕ) (place : ℤ) (s : Segment) → s.octets ≡ [] → tcp.has_fin s.flags ≡ false → IsIn ack place s
-silent_is_in ack place s bare no_fin = record {
+silent_is_near : (ack : ℕ) (place : ℤ) (s : Segment) → s.octets ≡ [] → tcp.has_fin s.flags ≡ false → IsNearAck ack place s
+silent_is_near ack place s bare no_fin = record {
   octets = λ index within. absurd (let none = ap length bare in omega (arith, none, within));
   fin = λ has. absurd (cc (has, no_fin));
 }
 
 -- packets without octets and FIN
 silent_stay :
-    (base a : ℕ) (ps : List (List ℕ)) → All IsSilentPacket ps → Each Stays (map (λ _. a) ps) (map (place_of base a) ps) ps
+    (base a : ℕ) (ps : List (List ℕ)) → All IsSilentPacket ps → EachAck StaysNear (map (λ _. a) ps) (map (place_of base a) ps) ps
 silent_stay base a [] h = tt
 silent_stay base a (p ∷ ps) h = (
-  (λ s says. let quiet = All-head IsSilentPacket p ps h s says in silent_is_in a (place_of base a p) s quiet.0 quiet.2),
+  (λ s says. let quiet = All-head IsSilentPacket p ps h s says in silent_is_near a (place_of base a p) s quiet.0 quiet.2),
   silent_stay base a ps (All-tail IsSilentPacket p ps h),
 )
 
 -- the last of emitted segments
 near_step :
     AckLaws → (base a : ℕ) (ws : List Written) (s : Segment) → a ≡ acked base ws →
-    HasNoOtherBase base (ws ++ written_of true s ∷ []) → AreEmitted [] (ws ++ written_of true s ∷ []) → IsIn a (off base a s.sequence) s
+    HasNoOtherBase base (ws ++ written_of true s ∷ []) → AreEmitted [] (ws ++ written_of true s ∷ []) → IsNearAck a (off base a s.sequence) s
 near_step laws base a ws s same only emitted =
     let parts = (laws.joins [] ws (written_of true s ∷ [])).0 emitted in
     let near = laws.near base ws (written_of true s) only parts.0 (inward_emitted ws s parts.1.0) in
-    subst (λ n. IsIn n (off base n s.sequence) s) (sym same) (record { octets = near.octets; fin = λ has. near.fin has })
+    subst (λ n. IsNearAck n (off base n s.sequence) s) (sym same) (record { octets = near.octets; fin = λ has. near.fin has })
 
 -- the packets of one record that went inwards; `a` is Acked before it
 inward_stay :
     AckLaws → (base a : ℕ) (ws : List Written) (ps : List (List ℕ)) → a ≡ acked base ws →
     HasNoOtherBase base (ws ++ segments_in true ps) → AreEmitted [] (ws ++ segments_in true ps) →
-    Each Stays (map (λ _. a) ps) (map (place_of base a) ps) ps
+    EachAck StaysNear (map (λ _. a) ps) (map (place_of base a) ps) ps
 inward_stay laws base a ws [] same only emitted = tt
 inward_stay laws base a ws (p ∷ ps) same only emitted = by (λ vs. inward_stay laws base a vs ps) (segment_of p) refl only emitted
   where
@@ -105,12 +60,12 @@ inward_stay laws base a ws (p ∷ ps) same only emitted = by (λ vs. inward_stay
     Holds vs T = HasNoOtherBase base vs → AreEmitted [] vs → T
 
     Rest : Type 0
-    Rest = (vs : List Written) → a ≡ acked base vs → Holds (vs ++ segments_in true ps) (Each Stays (map (λ _. a) ps) (map (place_of base a) ps) ps)
+    Rest = (vs : List Written) → a ≡ acked base vs → Holds (vs ++ segments_in true ps) (EachAck StaysNear (map (λ _. a) ps) (map (place_of base a) ps) ps)
 
     by :
         Rest → (o : Option Segment) → segment_of p ≡ o →
         Holds (ws ++ (written_as true o ++ segments_in true ps))
-        (Each Stays (a ∷ map (λ _. a) ps) (placed_at base a o ∷ map (place_of base a) ps) (p ∷ ps))
+        (EachAck StaysNear (a ∷ map (λ _. a) ps) (placed_at base a o ∷ map (place_of base a) ps) (p ∷ ps))
     by go None is only emitted = ((λ s says. absurd (cc (is, says))), go ws same only emitted)
     by go (Some s) is only emitted =
         let w : Written = written_of true s in
@@ -118,8 +73,8 @@ inward_stay laws base a ws (p ∷ ps) same only emitted = by (λ vs. inward_stay
         let on : HasNoOtherBase base ((ws ++ w ∷ []) ++ vs) = subst (HasNoOtherBase base) (pushed ws w vs) only in
         let all : AreEmitted [] ((ws ++ w ∷ []) ++ vs) = subst (AreEmitted []) (pushed ws w vs) emitted in
         let first : AreEmitted [] (ws ++ w ∷ []) = ((laws.joins [] (ws ++ w ∷ []) vs).0 all).0 in
-        let here : IsIn a (off base a s.sequence) s = near_step laws base a ws s same (other_before laws.remains base (ws ++ w ∷ []) vs on) first in (
-          (λ r says. let e : s ≡ r = cc (is, says) in subst (IsIn a (off base a s.sequence)) e here),
+        let here : IsNearAck a (off base a s.sequence) s = near_step laws base a ws s same (other_before laws.remains base (ws ++ w ∷ []) vs on) first in (
+          (λ r says. let e : s ≡ r = cc (is, says) in subst (IsNearAck a (off base a s.sequence)) e here),
           go (ws ++ w ∷ []) (same ∙ sym (laws.same base ws w refl)) on all,
         )
 
@@ -127,7 +82,7 @@ inward_stay laws base a ws (p ∷ ps) same only emitted = by (λ vs. inward_stay
 all_stay :
     AckLaws → (era base : ℕ) (sent : List Sent) →
     HasNoOtherBase base (written_in era sent) → AreEmitted [] (written_in era sent) → All IsSilentPacket (aside_packets era sent) →
-    Each Stays (inward_acks era base sent) (inward_places era base sent) (inward_packets era sent)
+    EachAck StaysNear (inward_acks era base sent) (inward_places era base sent) (inward_packets era sent)
 all_stay laws era base [] only emitted silent = tt
 all_stay laws era base (s ∷ older) only emitted silent =
     by (all_stay laws era base older) (is_era era s.era) s.inward s.written only emitted silent
@@ -147,7 +102,7 @@ all_stay laws era base (s ∷ older) only emitted silent =
 
     -- of the packets so far, and these
     Stay : List ℕ → List ℤ → List (List ℕ) → Type 0
-    Stay bs ys qs = Each Stays (inward_acks era base older ++ bs) (inward_places era base older ++ ys) (inward_packets era older ++ qs)
+    Stay bs ys qs = EachAck StaysNear (inward_acks era base older ++ bs) (inward_places era base older ++ ys) (inward_packets era older ++ qs)
 
     Holds : (vs : List Written) (aside : List (List ℕ)) → Type 0 → Type 0
     Holds vs aside T = HasNoOtherBase base (ws ++ vs) → AreEmitted [] (ws ++ vs) → All IsSilentPacket (beside ++ aside) → T
@@ -155,13 +110,13 @@ all_stay laws era base (s ∷ older) only emitted silent =
     Rest : Type 0
     Rest =
         HasNoOtherBase base ws → AreEmitted [] ws → All IsSilentPacket beside →
-        Each Stays (inward_acks era base older) (inward_places era base older) (inward_packets era older)
+        EachAck StaysNear (inward_acks era base older) (inward_places era base older) (inward_packets era older)
 
-    joined : Rest → (vs : List Written) (bs : List ℕ) (ys : List ℤ) (qs aside : List (List ℕ)) → Each Stays bs ys qs → Holds vs aside (Stay bs ys qs)
+    joined : Rest → (vs : List Written) (bs : List ℕ) (ys : List ℤ) (qs aside : List (List ℕ)) → EachAck StaysNear bs ys qs → Holds vs aside (Stay bs ys qs)
     joined go vs bs ys qs aside now only emitted silent =
         let quiet = all_before IsSilentPacket beside aside silent in
         let before = go (other_before laws.remains base ws vs only) ((laws.joins [] ws vs).0 emitted).0 quiet in
-        each_append Stays (inward_acks era base older) (inward_places era base older) (inward_packets era older) bs ys qs before now
+        each_ack_append StaysNear (inward_acks era base older) (inward_places era base older) (inward_packets era older) bs ys qs before now
 
     by :
         Rest → (named inward written : Bool) →
@@ -250,14 +205,14 @@ acks_go_on laws era base (s ∷ older) =
 
 pub stays_near_acks : AckLaws → EmittedStaysNearAcks
 stays_near_acks laws hops era base sent h based = record {
-  one_each = each_long Stays ws zs ps each;
+  one_each = each_ack_long StaysNear ws zs ps each;
   go_on = (acks_go_on laws era base sent).on;
   octets = λ offset octet ack c has.
-      let stays = each_at Stays ws zs ps c.number ack c.place c.frame each has c.placed c.stands c.segment c.says in
+      let stays = each_ack_at StaysNear ws zs ps c.number ack c.place c.frame each has c.placed c.stands c.segment c.says in
       let within = slice_get_within c.segment.octets c.index octet c.has in
       subst (λ z. (pos ack ≤ℤ z) × (z ≤ℤ pos (ack + 2 ^ 30))) (sym c.there) (stays.octets c.index within);
   fins = λ offset ack c has.
-      let stays = each_at Stays ws zs ps c.number ack c.place c.frame each has c.placed c.stands c.segment c.says in
+      let stays = each_ack_at StaysNear ws zs ps c.number ack c.place c.frame each has c.placed c.stands c.segment c.says in
       subst (λ z. (pos 0 ≤ℤ z) × (z ≤ℤ pos (ack + 2 ^ 30))) (sym c.there) (stays.fin c.has);
 }
   where
@@ -270,5 +225,5 @@ stays_near_acks laws hops era base sent h based = record {
     ps : List (List ℕ)
     ps = inward_packets era sent
 
-    each : Each Stays ws zs ps
+    each : EachAck StaysNear ws zs ps
     each = all_stay laws era base sent (λ number e. cc (based, e)) h.emitted h.silent

@@ -1,42 +1,19 @@
 -- Monitors are never behind acknowledgments: what was read of earlier packets is read of more.
-use Rattle.std.proofs.Common.{◌≡◌, ⊎_elim, ℕ, zero, suc, ◌+◌, ◌<◌, ◌≤◌, Bool, true, false, ◌&&◌, Some, List, [], ◌∷◌, ◌++◌, length, map}
-use Rattle.std.proofs.Common.{refl, ap, sym, subst, arith, length-append}
-use Rattle.std.specs.Prelude.{ℤ, slice_get, if◌then◌else◌}
+use Rattle.std.proofs.Common.{◌≡◌, ⊎_elim, ℕ, zero, suc, ◌+◌, ◌<◌, ◌≤◌, Bool, true, false, ◌&&◌, Some, List, [], ◌∷◌, ◌++◌, length, map, refl, ap, sym, subst, arith, length-append, ℤ, slice_get, if◌then◌else◌}
 use Rattle.std.proofs.lemmas.List.{length-map}
 use Rattle.std.proofs.lemmas.Option.{slice_get_within}
 use Rattle.era_state.specs.Quantities.{acked}
-use Rattle.receiver_model.specs.Delivery.{Receiver, beginning, Hears, Run, IsTimely, DeliversInTime}
+use Rattle.receiver_model.specs.Delivery.{Receiver, beginning, Run, IsTimely, DeliversInTime}
 use Rattle.receiver_model.specs.Monitors.{Covers, CoversEach}
+use Rattle.receiver_model.proofs.Streams.{run_more}
 use Rattle.era_agreement.specs.Sent.{Sent, is_era, inward_packets, written_in, place_of, inward_places}
 use Rattle.era_agreement.specs.Agreement.{SomeHasRead, read_to}
 use Rattle.era_agreement.specs.Laws.{AcknowledgmentsAreBehind}
-
-still_there : {A : Type 0} → (xs ys : List A) (k : ℕ) (x : A) → slice_get xs k ≡ Some x → slice_get (xs ++ ys) k ≡ Some x
-still_there [] ys k x e = absurd (cc)
-still_there (y ∷ xs) ys zero x e = e
-still_there (y ∷ xs) ys (suc k) x e = still_there xs ys k x e
 
 there_before : {A : Type 0} → (xs ys : List A) (k : ℕ) (x : A) → k < length xs → slice_get (xs ++ ys) k ≡ Some x → slice_get xs k ≡ Some x
 there_before [] ys k x within e = absurd (omega arith)
 there_before (y ∷ xs) ys zero x within e = e
 there_before (y ∷ xs) ys (suc k) x within e = there_before xs ys k x (omega arith) e
-
-heard_more :
-    (distance base start : ℕ) (frames more : List (List ℕ)) (number : ℕ) (before after : Receiver) →
-    Hears distance base start frames number before after → Hears distance base start (frames ++ more) number before after
-heard_more distance base start frames more number before after h =
-    record { frame = h.frame; stands = still_there frames more number h.frame h.stands; segment = h.segment; reads = h.reads; step = h.step }
-
--- a run over earlier frames is one over more
-abbrev run_more :
-    (distance base start : ℕ) (frames more : List (List ℕ)) (before : Receiver) (schedule : List ℕ) (after : Receiver) →
-    Run distance base start frames before schedule after → Run distance base start (frames ++ more) before schedule after
-run_more distance base start frames more before [] after run = run
-run_more distance base start frames more before (number ∷ schedule) after run = (
-  run.0,
-  heard_more distance base start frames more number before run.0 run.1,
-  run_more distance base start frames more run.0 schedule after run.2,
-)
 
 timely_more :
     (places later : List ℤ) (distance base start : ℕ) (frames more : List (List ℕ)) (before : Receiver) (schedule : List ℕ) (after : Receiver)
