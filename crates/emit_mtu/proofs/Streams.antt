@@ -1,47 +1,114 @@
--- Streams of packets that are cut.
-use Rattle.std.proofs.Common.{◌≡◌, ◌⊎◌, inl, inr, ℕ, zero, suc, ◌+◌, ◌-◌, ◌*◌, ◌%◌, ◌^◌, ◌≤◌, List, [], ◌∷◌, ◌++◌, length, map, Some, refl, sym, ap, subst, ⊎_elim, ◌∙◌, arith}
-use Rattle.std.specs.Prelude.{ℤ, pos, ◌+ℤ◌, All, IfSome, IsTrue, slice_get}
-use Rattle.std.specs.List.{range_with_len}
+-- Packets that are cut, and the segments written instead of them, describe the same stream.
+use Rattle.std.proofs.Common.{◌≡◌, ℕ, zero, suc, ◌+◌, ◌*◌, ◌/◌, ◌%◌, ◌^◌, ◌<◌, ◌≤◌, false, List, [], ◌∷◌, ◌++◌, length, take, drop, Some, refl, sym, ap, subst, ⊎_elim, ◌∙◌, arith, ◌⊎◌, inl, inr, ◌-◌, map, ℤ, pos, ◌+ℤ◌, IsTrue, slice_get, All, IfSome}
 use Rattle.std.proofs.lemmas.Int.{ints}
-use Rattle.std.proofs.lemmas.Option.{get_or_from_slice_get, slice_get-get_or, slice_get_within}
+use Rattle.std.proofs.lemmas.Bool.{cases_lt, and_parts, leb-true}
+use Rattle.std.specs.List.{range_with_len}
+use Rattle.std.proofs.lemmas.Option.{slice_get-get_or}
 use Rattle.wire_base.specs.declared.address.Link.TheVariants.{Raw}
+use Rattle.wire_base.specs.Ipv4 as ip
 use Rattle.wire_base.specs.Tcp as tcp
 use Rattle.wire_base.specs.Plain.{Plain}
-use Rattle.wire_base.specs.Segments.{Segment, fields_of, segment_of}
+use Rattle.wire_base.specs.Segments.{fields_of, segment_of, Segment}
 use Rattle.receiver_model.specs.Offsets.{IsPlace}
 use Rattle.receiver_model.specs.Agreement.{ArePlaces, FinAt, HasSynBefore, OctetAt}
-use Rattle.emit_mtu.specs.declared.long.LongKind.{LongKind}
-use Rattle.emit_mtu.specs.declared.long.LongKind.TheVariants.{Fits, Cut, Drop}
-use Rattle.emit_mtu.specs.Frames.{AreOctets, parts_of}
-use Rattle.emit_mtu.specs.Long.{long_kind}
+use Rattle.receiver_model.proofs.Places.{Each, each_at, each_long, each_append}
+use Rattle.receiver_model.proofs.Members.{all_at}
+use Rattle.receiver_model.proofs.Streams.{segment_is}
+use Rattle.emit_mtu.specs.Frames.{parts_of, AreOctets}
 use Rattle.emit_mtu.specs.Segments as spec
 use Rattle.emit_mtu.specs.Laws.{IsToBeCut, piece_of}
+use Rattle.emit_mtu.specs.declared.long.LongKind.{LongKind}
+use Rattle.emit_mtu.specs.declared.long.LongKind.TheVariants.{Fits, Cut, Drop}
+use Rattle.emit_mtu.specs.Long.{long_kind}
 use Rattle.emit_mtu.specs.Streams.{CutTellsOneStream, frames_for, frames_of, packets_for, places_for, places_of}
-use Rattle.emit_mtu.proofs.PartsOfStreams.{IsPart, ends_with, is_read, no_syn, octet_of_part, part_placed, plain_part, room_in}
-use Rattle.emit_mtu.proofs.PlainSent.{whole-plain}
+use Rattle.emit_mtu.proofs.Segments.{past, cutting}
+use Rattle.emit_mtu.proofs.Headers.{fields_of-packet_of, header-front, length-piece_of, is_own, packet_of}
+use Rattle.emit_mtu.proofs.Flags.{flags_are_kept, is_unmarked}
+use Rattle.emit_mtu.proofs.PlainPackets.{plain_packet, whole-plain}
 
--- each packet with its offset
-abbrev Each : (ℤ → List ℕ → Type 0) → List ℤ → List (List ℕ) → Type 0
-Each P [] [] = Unit {0}
-Each P [] (q ∷ ps) = ⊥
-Each P (y ∷ zs) [] = ⊥
-Each P (y ∷ zs) (q ∷ ps) = P y q × Each P zs ps
+-- The content of the packets that are written instead of others.
 
-each_at : (P : ℤ → List ℕ → Type 0) (zs : List ℤ) (ps : List (List ℕ)) (k : ℕ) (z : ℤ) (p : List ℕ) → Each P zs ps → slice_get zs k ≡ Some z → slice_get ps k ≡ Some p → P z p
-each_at P [] [] k z p h e f = absurd (cc)
-each_at P [] (q ∷ ps) k z p h e f = absurd h
-each_at P (y ∷ zs) [] k z p h e f = absurd h
-each_at P (y ∷ zs) (q ∷ ps) zero z p h e f =
-    let a : y ≡ z = cc e in
-    let b : q ≡ p = cc f in
-    subst (λ (r : ℤ × List ℕ). P r.0 r.1) (λ i. (a i, b i)) h.0
-each_at P (y ∷ zs) (q ∷ ps) (suc k) z p h e f = each_at P zs ps k z p h.1 e f
+-- the number of payload octets of each segment of a packet except the last
+abbrev pub room_in : (mtu : ℕ) → (packet : List ℕ) → ℕ
+room_in mtu packet = spec.room_of mtu (parts_of Raw packet)
 
-each_long : (P : ℤ → List ℕ → Type 0) (zs : List ℤ) (ps : List (List ℕ)) → Each P zs ps → length zs ≡ length ps
-each_long P [] [] h = refl
-each_long P [] (q ∷ ps) h = absurd h
-each_long P (y ∷ zs) [] h = absurd h
-each_long P (y ∷ zs) (q ∷ ps) h = ap suc (each_long P zs ps h.1)
+-- a packet is a segment of another, at its offset in the stream
+pub record IsPart (mtu : ℕ) (packet : List ℕ) (place : ℤ) (own_packet : List ℕ) (own_place : ℤ) : Type 0 where
+  pub cut : IsToBeCut Raw mtu packet
+  pub index : ℕ
+  pub within : index < spec.count_of (room_in mtu packet) (parts_of Raw packet)
+  pub is : own_packet ≡ packet_of (room_in mtu packet) (parts_of Raw packet) index
+  pub there : own_place ≡ place +ℤ pos (room_in mtu packet * index)
+
+-- an octet of a part
+slice_get-take : (n : ℕ) (xs : List ℕ) (i x : ℕ) → slice_get (take n xs) i ≡ Some x → slice_get xs i ≡ Some x
+slice_get-take zero xs i x e = absurd (cc)
+slice_get-take (suc n) [] i x e = e
+slice_get-take (suc n) (y ∷ xs) zero x e = e
+slice_get-take (suc n) (y ∷ xs) (suc i) x e = slice_get-take n xs i x e
+
+slice_get-drop : (n : ℕ) (xs : List ℕ) (i x : ℕ) → slice_get (drop n xs) i ≡ Some x → slice_get xs (n + i) ≡ Some x
+slice_get-drop zero xs i x e = let z : zero + i ≡ i = omega arith in ap (slice_get xs) z ∙ e
+slice_get-drop (suc n) [] i x e = absurd (cc)
+slice_get-drop (suc n) (y ∷ xs) i x e = let z : suc n + i ≡ suc (n + i) = omega arith in ap (slice_get (y ∷ xs)) z ∙ slice_get-drop n xs i x e
+
+-- the fields of a part
+pub record IsRead (mtu : ℕ) (packet own_packet : List ℕ) (index : ℕ) : Type 0 where
+  pub original : segment_of packet ≡ Some (fields_of packet)
+  pub part : segment_of own_packet ≡ Some (piece_of (room_in mtu packet) index (fields_of packet))
+
+pub is_read : (mtu : ℕ) (packet : List ℕ) (place : ℤ) (own_packet : List ℕ) (own_place : ℤ) → (part : IsPart mtu packet place own_packet own_place) → IsRead mtu packet own_packet part.index
+is_read mtu packet place own_packet own_place part =
+    let c = cutting Raw mtu packet part.cut in
+    let parts = parts_of Raw packet in
+    let room = room_in mtu packet in
+    let own = is_own room part.index parts c.joined.sized c.joined.words in
+    let whole = header-front parts.ip (parts.tcp ++ parts.payload) c.joined.sized.ip in
+    let six : ip.protocol own_packet ≡ 6 = ap ip.protocol part.is ∙ own.header.protocol ∙ sym whole.protocol ∙ ap ip.protocol (sym c.joined.joined) ∙ c.cut.protocol in
+    record {
+      original = segment_is packet c.cut.protocol;
+      part = segment_is own_packet six ∙ ap (λ p. Some (fields_of p)) part.is ∙ ap Some (fields_of-packet_of packet room part.index parts c.joined refl);
+    }
+
+-- the part is plain if the packet is
+pub plain_part : (hops mtu : ℕ) (packet : List ℕ) (place : ℤ) (own_packet : List ℕ) (own_place : ℤ) → IsPart mtu packet place own_packet own_place → Plain hops packet → Plain hops own_packet
+plain_part hops mtu packet place own_packet own_place part plain =
+    let c = cutting Raw mtu packet part.cut in
+    subst (Plain hops) (sym part.is) (plain_packet hops packet (room_in mtu packet) part.index (parts_of Raw packet) c.joined c.cut.protocol c.cut.unmarked plain)
+
+-- the part has no SYN
+pub no_syn : (mtu : ℕ) (packet : List ℕ) (place : ℤ) (own_packet : List ℕ) (own_place : ℤ) → (part : IsPart mtu packet place own_packet own_place) → tcp.has_syn (piece_of (room_in mtu packet) part.index (fields_of packet)).flags ≡ false
+no_syn mtu packet place own_packet own_place part =
+    let c = cutting Raw mtu packet part.cut in
+    let kept = flags_are_kept (spec.is_first part.index) (spec.is_last (room_in mtu packet) part.index (parts_of Raw packet)) (tcp.flags (ip.payload packet)) in
+    kept.syn ∙ (is_unmarked _ c.cut.unmarked).syn
+
+-- an octet of the part is the octet of the packet at its offset
+pub octet_of_part : (room index : ℕ) (octets : List ℕ) (i x : ℕ) → slice_get (take room (drop (room * index) octets)) i ≡ Some x → slice_get octets (room * index + i) ≡ Some x
+octet_of_part room index octets i x e = slice_get-drop (room * index) octets i x (slice_get-take room (drop (room * index) octets) i x e)
+
+-- the sequence number of the part represents its offset
+pub part_placed : (base sequence behind : ℕ) (place own : ℤ) → own ≡ place +ℤ pos behind → IsPlace base sequence place → IsPlace base ((sequence + behind) % 2 ^ 32) own
+part_placed base sequence behind place own e h = record { turns = h.turns +ℤ pos ((sequence + behind) / 2 ^ 32); is = let f = h.is in omega (arith, ints, e, f) }
+
+-- if the part has a FIN, so has the packet, and its octets end with the packet's
+pub record EndsWith (mtu : ℕ) (packet : List ℕ) (index : ℕ) : Type 0 where
+  pub has : IsTrue (tcp.has_fin (fields_of packet).flags)
+  pub size : room_in mtu packet * index + length (piece_of (room_in mtu packet) index (fields_of packet)).octets ≡ length (fields_of packet).octets
+
+pub ends_with : (mtu : ℕ) (packet : List ℕ) (place : ℤ) (own_packet : List ℕ) (own_place : ℤ) → (part : IsPart mtu packet place own_packet own_place) → IsTrue (tcp.has_fin (piece_of (room_in mtu packet) part.index (fields_of packet)).flags) → EndsWith mtu packet part.index
+ends_with mtu packet place own_packet own_place part fin =
+    let c = cutting Raw mtu packet part.cut in
+    let parts = parts_of Raw packet in
+    let room = room_in mtu packet in
+    let index = part.index in
+    let kept = flags_are_kept (spec.is_first index) (spec.is_last room index parts) (tcp.flags (ip.payload packet)) in
+    let last = and_parts (spec.is_last room index parts) (tcp.has_fin (tcp.flags (ip.payload packet))) (sym kept.fin ∙ fin) in
+    let reaches : length parts.payload ≤ room * (index + 1) = leb-true _ _ last.0 in
+    let begins : room * index < length parts.payload =
+    ⊎_elim (λ lt. lt) (λ ge. absurd (let none = past room index parts c.some ge in let some = part.within in omega arith)) (cases_lt (room * index) (length parts.payload)) in
+    let size = length-piece_of room index parts in
+    record { has = last.1; size = omega (arith, size, reaches, begins) }
 
 each_by : (P : ℤ → List ℕ → Type 0) (zs : List ℤ) (ps : List (List ℕ)) → length zs ≡ length ps → ((k : ℕ) (z : ℤ) (p : List ℕ) → slice_get zs k ≡ Some z → slice_get ps k ≡ Some p → P z p) → Each P zs ps
 each_by P [] [] e h = tt
@@ -49,19 +116,10 @@ each_by P [] (q ∷ ps) e h = absurd (omega arith)
 each_by P (y ∷ zs) [] e h = absurd (omega arith)
 each_by P (y ∷ zs) (q ∷ ps) e h = (h 0 y q refl refl, each_by P zs ps (omega arith) (λ k z p f g. h (suc k) z p f g))
 
-each_append : (P : ℤ → List ℕ → Type 0) (ys zs : List ℤ) (qs ps : List (List ℕ)) → Each P ys qs → Each P zs ps → Each P (ys ++ zs) (qs ++ ps)
-each_append P [] zs [] ps h g = g
-each_append P [] zs (q ∷ qs) ps h g = absurd h
-each_append P (y ∷ ys) zs [] ps h g = absurd h
-each_append P (y ∷ ys) zs (q ∷ qs) ps h g = (h.0, each_append P ys zs qs ps h.1 g)
-
 each_all : (P : ℤ → List ℕ → Type 0) (Q : List ℕ → Type 0) (zs : List ℤ) (ps : List (List ℕ)) → Each P zs ps → ((z : ℤ) (p : List ℕ) → P z p → Q p) → All Q ps
 each_all P Q zs ps h f k d inside =
     let long = each_long P zs ps h in
     f _ _ (each_at P zs ps k _ _ h (slice_get-get_or zs k (pos 0) (omega arith)) (slice_get-get_or ps k d inside))
-
-pub all_at : (Q : List ℕ → Type 0) (ps : List (List ℕ)) (k : ℕ) (p : List ℕ) → All Q ps → slice_get ps k ≡ Some p → Q p
-all_at Q ps k p all e = subst Q (get_or_from_slice_get ps k p p e) (all k p (slice_get_within ps k p e))
 
 -- a packet is in the list, with its offset
 record Stands (places : List ℤ) (packets : List (List ℕ)) (place : ℤ) (packet : List ℕ) : Type 0 where
@@ -95,7 +153,7 @@ each_cut mtu Q [] [] cut h = tt
 each_cut mtu Q [] (q ∷ ps) cut h = absurd h
 each_cut mtu Q (y ∷ zs) [] cut h = absurd h
 each_cut mtu Q (y ∷ zs) (q ∷ ps) cut h =
-    each_append (Came mtu Q) (places_of (long_kind Raw mtu q) mtu q y) (places_for mtu zs ps) (frames_for Raw mtu q) (packets_for mtu ps)
+    each_append (Came mtu Q) (places_of (long_kind Raw mtu q) mtu q y) (frames_for Raw mtu q) (places_for mtu zs ps) (packets_for mtu ps)
     (each_kind (long_kind Raw mtu q) mtu Q y q h.0 (cut y q h.0)) (each_cut mtu Q zs ps cut h.1)
 
 -- the octets and FINs that are written are those of the list, at the same offsets

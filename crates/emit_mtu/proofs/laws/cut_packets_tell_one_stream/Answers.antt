@@ -1,5 +1,5 @@
 use Rattle.emit_mtu.proofs.Streams.{cut_tells_one_stream}
-use Rattle.emit_mtu.proofs.NearAcks.{cut_stays_near_acks}
+use Rattle.emit_mtu.proofs.Acks.{cut_stays_near_acks}
 use Rattle.emit_mtu.proofs.laws.cut_packets_tell_one_stream.Goals as goal
 
 pub returns-clause-stream : goal.returns-clause-stream

@@ -1,4 +1,4 @@
-use Rattle.emit_mtu.proofs.PlainSent.{packets_go_out_alike, plain_headers_are_whole, plain_is_sent}
+use Rattle.emit_mtu.proofs.PlainPackets.{packets_go_out_alike, plain_headers_are_whole, plain_is_sent}
 use Rattle.emit_mtu.proofs.laws.plain_packets_go_out.Goals as goal
 
 pub returns-clause-whole : goal.returns-clause-whole

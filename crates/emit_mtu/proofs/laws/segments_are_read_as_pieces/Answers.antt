@@ -1,4 +1,4 @@
-use Rattle.emit_mtu.proofs.Each.{are_read_as_pieces}
+use Rattle.emit_mtu.proofs.Segments.{are_read_as_pieces}
 use Rattle.emit_mtu.proofs.laws.segments_are_read_as_pieces.Goals as goal
 
 pub returns : goal.returns

@@ -1,4 +1,4 @@
-use Rattle.emit_mtu.proofs.Outgoing.{are_sent}
+use Rattle.emit_mtu.proofs.Segments.{are_sent}
 use Rattle.emit_mtu.proofs.laws.segments_are_sent.Goals as goal
 
 pub returns : goal.returns

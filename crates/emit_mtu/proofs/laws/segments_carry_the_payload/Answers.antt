@@ -1,4 +1,4 @@
-use Rattle.emit_mtu.proofs.Each.{carry_the_payload}
+use Rattle.emit_mtu.proofs.Segments.{carry_the_payload}
 use Rattle.emit_mtu.proofs.laws.segments_carry_the_payload.Goals as goal
 
 pub returns : goal.returns

@@ -1,5 +1,4 @@
-use Rattle.emit_mtu.proofs.Each.{are_few, none_is_long}
-use Rattle.emit_mtu.proofs.Outgoing.{nothing_long_goes_out}
+use Rattle.emit_mtu.proofs.Segments.{are_few, none_is_long, nothing_long_goes_out}
 use Rattle.emit_mtu.proofs.laws.segments_fit.Goals as goal
 
 pub returns-clause-fit : goal.returns-clause-fit

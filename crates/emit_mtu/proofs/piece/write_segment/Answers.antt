@@ -1,6 +1,6 @@
 use Rattle.std.proofs.Common.{length, ap, arith}
 use Rattle.emit_mtu.specs.Frames.{Parts}
-use Rattle.emit_mtu.proofs.Lengths.{length-segment_of}
+use Rattle.emit_mtu.proofs.Headers.{length-segment_of}
 use Rattle.emit_mtu.proofs.piece.write_segment.Goals as goal
 
 pub returns-clause-size : goal.returns-clause-size

@@ -1,5 +1,5 @@
 use Rattle.std.proofs.Common.{◌≡◌, ℕ, ◌==◌, ◌&&◌, not, true, List, length, drop, Option, Some, None, Ok, refl, sym, ap, ◌∙◌}
-use Rattle.std.proofs.lemmas.Bool.{eqb-true, not-true}
+use Rattle.std.proofs.lemmas.Bool.{eqb-true, not-true, and_parts}
 use Rattle.wire_base.specs.Reading.{value_or_fault}
 use Rattle.wire_base.specs.Ipv4 as ip
 use Rattle.ipv4_codec.specs.declared.header.Ipv4.{Ipv4}
@@ -8,8 +8,7 @@ use Rattle.ipv4_codec.specs.Header as ip_header
 use Rattle.tcp_codec.specs.declared.header.SumRule.TheVariants.{Skip}
 use Rattle.tcp_codec.specs.Header as tcp_header
 use Rattle.emit_mtu.specs.Frames.{IsWhole}
-use Rattle.emit_mtu.proofs.Sent.{payload_is}
-use Rattle.emit_mtu.proofs.Facts.{both, not_one}
+use Rattle.emit_mtu.proofs.Frames.{payload_is, not_one}
 use Rattle.emit_mtu.proofs.tests.is_whole.Goals as goal
 
 accepted : (fields head : Ipv4) (fault : Option IpFault) → Ok head ≡ value_or_fault fields fault → (head ≡ fields) × (fault ≡ None)
@@ -19,9 +18,9 @@ accepted fields head (Some f) e = cc
 whole_by : (p : List ℕ) (head : Ipv4) → Ok head ≡ ip_header.parsed p → ((head.header == 20) && not head.more && (head.offset == 0) && (head.total == length p)) ≡ true → (head.protocol ≡ 6 → tcp_header.fault_of Skip 0 (drop 20 p) ≡ None) → IsWhole p
 whole_by p head read single segment =
     let fields = accepted (ip_header.fields_of p) head (ip_header.fault_of p) read in
-    let a = both _ _ single in
-    let b = both _ _ a.0 in
-    let d = both _ _ b.0 in
+    let a = and_parts _ _ single in
+    let b = and_parts _ _ a.0 in
+    let d = and_parts _ _ b.0 in
     let header : ip.header_length p ≡ 20 = ap (λ (h : Ipv4). h.header) (sym fields.0) ∙ eqb-true _ _ d.0 in
     let ends : ip.total_length p ≡ length p = ap (λ (h : Ipv4). h.total) (sym fields.0) ∙ eqb-true _ _ a.1 in
     record {

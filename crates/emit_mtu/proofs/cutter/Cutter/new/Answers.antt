@@ -1,4 +1,4 @@
-use Rattle.emit_mtu.proofs.Cuts.{is_cut}
+use Rattle.emit_mtu.proofs.Frames.{is_cut}
 use Rattle.emit_mtu.proofs.cutter.Cutter.new.Goals as goal
 
 pub parts_of-parts-requires-clause-tcp : goal.parts_of-parts-requires-clause-tcp

@@ -1,7 +1,6 @@
-use Rattle.std.proofs.Common.{◌≡◌, ◌+◌, ◌*◌, ◌∷◌, take, drop, sym, ap, ◌∙◌, arith}
-use Rattle.std.proofs.lemmas.List.{take_at}
+use Rattle.std.proofs.Common.{◌≡◌, ◌+◌, ◌*◌, ◌∷◌, take, drop, sym, ap, ◌∙◌, arith, take_at}
 use Rattle.emit_mtu.specs.Segments.{segment_of, segments_from}
-use Rattle.emit_mtu.proofs.Counts.{next-left, none-left, within}
+use Rattle.emit_mtu.proofs.Segments.{next-left, none-left, within}
 use Rattle.emit_mtu.proofs.cutter.Cutter.next.Goals as goal
 
 pub returns-then-payload_size-self-clause-last : goal.returns-then-payload_size-self-clause-last

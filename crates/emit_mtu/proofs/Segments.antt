@@ -1,34 +1,41 @@
--- The facts of each segment of a frame.
-use Rattle.std.proofs.Common.{◌≡◌, ℕ, ◌+◌, ◌-◌, ◌*◌, ◌%◌, ◌^◌, ◌<◌, ◌≤◌, zero, suc, false, List, [], ◌++◌, length, map, drop, All, Some, refl, sym, ap, subst, ◌∙◌, arith, length-drop, ⊎_elim}
+-- The segments of a frame: their number, their lengths, and that each may be written.
+use Rattle.std.proofs.Common.{◌≡◌, ℕ, ◌+◌, ◌-◌, ◌*◌, ◌%◌, ◌^◌, ◌<◌, ◌≤◌, zero, suc, false, List, [], ◌++◌, length, map, drop, All, Some, refl, sym, ap, subst, ◌∙◌, arith, length-drop, ⊎_elim, ◌∷◌, inr, ◌&&◌, not, nat_lt, Bool, true, None, if◌then◌else◌, slice_get}
 use Rattle.std.specs.List.{flat_map, range_with_len}
-use Rattle.std.specs.Prelude.{slice_get}
 use Rattle.std.proofs.Math.Nat.{mul-le-mul_left}
-use Rattle.std.proofs.lemmas.Bool.{cases_lt}
+use Rattle.std.proofs.lemmas.Bool.{cases_lt, and_right, le-ltb, ltb-false, or_parts}
 use Rattle.std.proofs.lemmas.Grind.{div_ceil_times}
 use Rattle.std.proofs.lemmas.List.{drop-drop, drop_all, take-append-drop}
 use Rattle.std.proofs.lemmas.List.FromFn.{get_or-map-range_with_len, length-map-range_with_len}
 use Rattle.std.proofs.lemmas.Option.{get_or_from_slice_get, slice_get_within}
+use Rattle.std.proofs.lemmas.List.Elements.{All-nil, All-cons}
 use Rattle.wire_base.specs.declared.address.Link.{Link}
-use Rattle.wire_base.specs.declared.address.Link.TheVariants.{Ethernet, Raw}
 use Rattle.wire_base.specs.Frames.{kind_of, link_octets, packet_in}
 use Rattle.wire_base.specs.Ipv4 as ip
 use Rattle.wire_base.specs.Tcp as tcp
 use Rattle.wire_base.specs.Sums.{sum_is_right}
 use Rattle.wire_base.specs.Plain.{Plain, pseudo_of}
 use Rattle.wire_base.specs.Segments.{fields_of}
-use Rattle.emit_mtu.specs.Frames.{Parts, link_size, parts_of}
-use Rattle.emit_mtu.specs.Long.{is_ip, is_long}
+use Rattle.wire_base.specs.declared.frame.FrameKind.TheVariants.{Ip}
+use Rattle.wire_base.specs.Options.{are_well_formed}
+use Rattle.tcp_codec.specs.declared.header.SumRule.TheVariants.{Skip}
+use Rattle.tcp_codec.specs.Header.{fault_of}
+use Rattle.tcp_codec.proofs.Segments.{fault_of-options}
+use Rattle.emit_mtu.specs.Frames.{Parts, link_size, parts_of, IsSent, IsWhole}
+use Rattle.emit_mtu.specs.Long.{is_ip, is_long, is_marked, long_kind, may_be_cut}
 use Rattle.emit_mtu.specs.Segments.{count_of, piece_of, room_of, segment_of, segments, segments_from}
-use Rattle.emit_mtu.specs.Laws.{AreFew, ArePlain, AreReadAsPieces, CarryThePayload, IsToBeCut, NoneIsLong, payload_in}
+use Rattle.emit_mtu.specs.Laws.{AreFew, ArePlain, AreReadAsPieces, CarryThePayload, IsToBeCut, NoneIsLong, payload_in, AreSent}
 use Rattle.emit_mtu.specs.Laws as laws
-use Rattle.emit_mtu.proofs.Cuts.{IsCut, carried, is_cut}
-use Rattle.emit_mtu.proofs.Fields.{fields_of-packet_of, room_is}
-use Rattle.emit_mtu.proofs.Headers.{behind-own, header-front, identification-front, identification-own}
-use Rattle.emit_mtu.proofs.Lengths.{length-piece_of}
-use Rattle.emit_mtu.proofs.Own.{AreJoined, are_joined, is_own, link_octets-segment_of, packet_in-segment_of, packet_of}
-use Rattle.emit_mtu.proofs.PlainPieces.{header_sum, plain_packet, segment_sum}
-use Rattle.emit_mtu.proofs.Sent.{is_faultless, payload_is}
-use Rattle.emit_mtu.proofs.Facts.{and_false, at_most}
+use Rattle.emit_mtu.specs.declared.long.LongKind.{LongKind}
+use Rattle.emit_mtu.specs.declared.long.LongKind.TheVariants.{Fits, Cut, Drop}
+use Rattle.emit_mtu.specs.Segments as spec
+use Rattle.emit_mtu.specs.Streams.{NothingLongGoesOut, frames_of}
+use Rattle.emit_mtu.proofs.Links.{kind_behind, packet_size}
+use Rattle.emit_mtu.proofs.Frames.{IsCut, carried, is_cut, is_faultless, payload_is, version_is}
+use Rattle.emit_mtu.proofs.Headers.{fields_of-packet_of, room_is, behind-own, header-front, identification-front, identification-own, length-piece_of, AreJoined, are_joined, is_own, link_octets-segment_of, packet_in-segment_of, packet_of, behind-front, flags-own, numbers-front, segment-own, length-message_of}
+use Rattle.emit_mtu.proofs.PlainPackets.{header_sum, plain_packet, segment_sum, whole_by}
+use Rattle.emit_mtu.proofs.Flags.{is_unmarked, legal_pieces}
+
+-- The facts of each segment of a frame.
 
 -- a frame that is cut, with its parts, and the octets of a segment
 pub record Cutting (link : Link) (mtu : ℕ) (frame : List ℕ) : Type 0 where
@@ -39,12 +46,11 @@ pub record Cutting (link : Link) (mtu : ℕ) (frame : List ℕ) : Type 0 where
   pub some : 0 < room_of mtu (parts_of link frame)
 
 long_enough : (link : Link) (frame : List ℕ) → 20 ≤ length (ip.payload (packet_in link frame)) → ip.payload (packet_in link frame) ≡ drop 20 (packet_in link frame) → link_size link ≤ length frame
-long_enough Ethernet frame long e =
+long_enough link frame long e =
     let a = ap length e in
-    let b = length-drop 20 (drop 14 frame) in
-    let c = length-drop 14 frame in
+    let b = length-drop 20 (packet_in link frame) in
+    let c = packet_size link frame in
     omega arith
-long_enough Raw frame long e = omega arith
 
 pub cutting : (link : Link) (mtu : ℕ) (frame : List ℕ) → IsToBeCut link mtu frame → Cutting link mtu frame
 cutting link mtu frame h =
@@ -99,7 +105,7 @@ none_too_long link mtu frame h =
     all_segments (λ segment. is_long link mtu segment ≡ false) room parts (λ index.
     let fits = small link mtu frame c index in
     let few : ip.total_length (packet_in link (segment_of room parts index)) ≤ mtu = omega (arith, fits.0, fits.1) in
-    and_false (is_ip (kind_of link (segment_of room parts index))) _ (at_most mtu _ few))
+    and_right (is_ip (kind_of link (segment_of room parts index))) _ (le-ltb mtu _ few))
 
 pub are_few : AreFew
 are_few link mtu frame h =
@@ -180,3 +186,95 @@ are_read_as_pieces link mtu frame index segment h stands =
       sum = ap (λ q. sum_is_right (ip.payload q) (pseudo_of q)) packet ∙ segment_sum room index parts c.joined.sized c.joined.words six;
       fields = ap fields_of packet ∙ fields_of-packet_of p room index parts c.joined refl ∙ ap (λ r. laws.piece_of r index (fields_of p)) (room_is p mtu parts c.joined);
     }
+
+-- The number of parts.
+
+below : (size room index n : ℕ) → size ≤ n * room → room * index < size → index < n
+below size room index n bound begins =
+    ⊎_elim (λ lt. lt) (λ ge. let more : room * n ≤ room * index = mul-le-mul_left room ge in absurd (omega arith)) (cases_lt index n)
+
+above : (size room index n : ℕ) → n * room < size + room → size ≤ room * index → n ≤ index
+above size room index n bound ended =
+    ⊎_elim (λ lt. let more : room * (index + 1) ≤ room * n = mul-le-mul_left room (omega arith) in absurd (omega arith)) (λ ge. ge) (cases_lt index n)
+
+-- a part that begins inside the payload is counted
+pub within : (room index : ℕ) (parts : Parts) → 0 < room → room * index < length parts.payload → index < count_of room parts
+within room index parts some begins = below (length parts.payload) room index (count_of room parts) (div_ceil_times (length parts.payload) room some).0 begins
+
+-- a part that would begin at the payload's end or after it is not
+pub past : (room index : ℕ) (parts : Parts) → 0 < room → length parts.payload ≤ room * index → count_of room parts ≤ index
+past room index parts some ended = above (length parts.payload) room index (count_of room parts) (div_ceil_times (length parts.payload) room some).1 ended
+
+-- in this case no segment is left
+pub none-left : (room index : ℕ) (parts : Parts) → 0 < room → length parts.payload ≤ room * index → segments_from index room parts ≡ []
+none-left room index parts some ended =
+    let bound = past room index parts some ended in
+    let none : count_of room parts - index ≡ 0 = omega arith in
+    ap (λ n. map (segment_of room parts) (range_with_len index n)) none
+
+-- otherwise the segment of the part is the next one
+pub next-left : (room index : ℕ) (parts : Parts) → 0 < room → room * index < length parts.payload → segments_from index room parts ≡ segment_of room parts index ∷ segments_from (index + 1) room parts
+next-left room index parts some begins =
+    let bound = within room index parts some begins in
+    let more : count_of room parts - index ≡ suc (count_of room parts - (index + 1)) = omega arith in
+    ap (λ n. map (segment_of room parts) (range_with_len index n)) more
+
+-- The frames that are written instead of a frame are not long, and segments are frames that may be written.
+
+-- a frame that fits is not long
+fits : (long may : Bool) → (if long && may then Cut else if long && not may then Drop else Fits) ≡ Fits → long ≡ false
+fits true true e = cc
+fits true false e = cc
+fits false may e = refl
+
+out : (kind : LongKind) (link : Link) (mtu : ℕ) (frame : List ℕ) → long_kind link mtu frame ≡ kind → (kind ≡ Cut → All (λ o. is_long link mtu o ≡ false) (frames_of Cut link mtu frame)) → All (λ o. is_long link mtu o ≡ false) (frames_of kind link mtu frame)
+out Fits link mtu frame e cut = All-cons (λ o. is_long link mtu o ≡ false) frame [] (fits (is_long link mtu frame) (may_be_cut (packet_in link frame)) e) (All-nil (λ o. is_long link mtu o ≡ false))
+out Drop link mtu frame e cut = All-nil (λ o. is_long link mtu o ≡ false)
+out Cut link mtu frame e cut = cut refl
+
+pub nothing_long_goes_out : NothingLongGoesOut
+nothing_long_goes_out link mtu frame sent octets least most =
+    out (long_kind link mtu frame) link mtu frame refl (λ cut. none_too_long link mtu frame (record { sent = sent; octets = octets; cut = cut; least = least; most = most }))
+
+-- a segment carries IPv4 too
+kind-segment_of : (link : Link) (frame : List ℕ) (room index : ℕ) → kind_of link frame ≡ Ip (link_size link) → kind_of link (segment_of room (parts_of link frame) index) ≡ Ip (link_size link)
+kind-segment_of link frame room index kind = kind_behind link frame (packet_of room (parts_of link frame) index) kind
+
+-- the packet of a segment is whole
+not_below : (n : ℕ) → nat_lt 0 n ≡ false → n ≡ 0
+not_below n e = let h = ltb-false 0 n e in omega arith
+
+whole_packet : (p : List ℕ) (room index : ℕ) (parts : Parts) → AreJoined p parts → IsWhole p → ip.protocol p ≡ 6 → is_marked (tcp.flags (ip.payload p)) ≡ false → IsWhole (packet_of room parts index)
+whole_packet p room index parts joined whole six unmarked =
+    let own = is_own room index parts joined.sized joined.words in
+    let its = header-front parts.ip (parts.tcp ++ parts.payload) joined.sized.ip in
+    let e = sym joined.joined in
+    let piece = or_parts _ _ whole.whole in
+    let m = spec.message_of room index parts in
+    let faultless = is_faultless p whole six in
+    let count = length-message_of room index parts joined.sized.tcp in
+    let words : tcp.header_length m ≡ length parts.tcp = (segment-own room index parts joined.sized.tcp).header_length ∙ joined.data_offset in
+    let flags : tcp.flags m ≡ spec.flags_of (spec.is_first index) (spec.is_last room index parts) (tcp.flags (ip.payload p)) = flags-own room index parts joined.sized.tcp ∙ ap (spec.flags_of (spec.is_first index) (spec.is_last room index parts)) (sym (numbers-front parts.tcp parts.payload joined.sized.tcp).flags ∙ ap tcp.flags (sym joined.message)) in
+    let options : tcp.options m ≡ tcp.options (ip.payload p) = (behind-own room index parts joined.sized.tcp joined.data_offset).options ∙ sym (behind-front parts.tcp parts.payload joined.sized.tcp joined.data_offset).options ∙ ap tcp.options (sym joined.message) in
+    let legal = ap tcp.are_legal flags ∙ legal_pieces (spec.is_first index) (spec.is_last room index parts) (tcp.flags (ip.payload p)) (is_unmarked _ unmarked) faultless.legal in
+    let none : fault_of Skip 0 m ≡ None = fault_of-options Skip 0 m true (omega (arith, count, joined.sized.tcp)) (omega (arith, words, joined.sized.tcp)) (omega (arith, words, count)) refl legal (ap are_well_formed options ∙ faultless.formed) in
+    whole_by (packet_of room parts index)
+    (omega (arith, own.size))
+    (own.header.version ∙ sym its.version ∙ ap ip.version e ∙ version_is p whole)
+    (own.header.header_length ∙ joined.words)
+    (own.header.more ∙ sym its.more ∙ ap ip.has_more_fragments e ∙ piece.0)
+    (own.header.offset ∙ sym its.offset ∙ ap ip.fragment_offset e ∙ not_below _ piece.1)
+    own.total
+    (header_sum room index parts joined.sized joined.words)
+    (λ _. ap (fault_of Skip 0) own.carried.payload ∙ none)
+
+-- each segment of a frame that is cut may be written
+pub are_sent : AreSent
+are_sent link mtu frame h =
+    let p = packet_in link frame in
+    let parts = parts_of link frame in
+    let room = room_of mtu parts in
+    let c = cutting link mtu frame h in
+    let found = carried link mtu frame h.sent h.cut in
+    all_segments (IsSent link) room parts (λ index.
+    inr (kind-segment_of link frame room index found.0, subst IsWhole (sym (packet_in-segment_of link frame room index c.long)) (whole_packet p room index parts c.joined found.1 c.cut.protocol c.cut.unmarked)))

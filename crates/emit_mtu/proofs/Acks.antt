@@ -1,7 +1,5 @@
--- The acks of packets that are cut: a part is in the ack of its packet.
-use Rattle.std.proofs.Common.{◌≡◌, ◌⊎◌, inl, inr, ⊎_elim, ℕ, zero, suc, ◌+◌, ◌-◌, ◌*◌, ◌^◌, ◌<◌, ◌≤◌, Some}
-use Rattle.std.proofs.Common.{List, [], ◌∷◌, ◌++◌, length, map, get_or, refl, sym, ap, subst, arith}
-use Rattle.std.specs.Prelude.{ℤ, pos, ◌+ℤ◌, ◌≤ℤ◌, IsTrue, slice_get}
+-- Packets that are cut stay near acks: the octets of a part are near the ack of its packet, and acks never go back.
+use Rattle.std.proofs.Common.{◌≡◌, ◌⊎◌, inl, inr, ⊎_elim, ℕ, zero, suc, ◌+◌, ◌-◌, ◌*◌, ◌^◌, ◌<◌, ◌≤◌, Some, List, [], ◌∷◌, ◌++◌, length, map, get_or, refl, sym, ap, subst, arith, ℤ, pos, ◌+ℤ◌, ◌≤ℤ◌, IsTrue, slice_get}
 use Rattle.std.specs.List.{range_with_len}
 use Rattle.std.proofs.lemmas.Int.{ints}
 use Rattle.std.proofs.lemmas.Option.{slice_get-get_or, slice_get_within}
@@ -10,6 +8,8 @@ use Rattle.wire_base.specs.Tcp as tcp
 use Rattle.wire_base.specs.Plain.{Plain}
 use Rattle.wire_base.specs.Segments.{Segment, fields_of, segment_of}
 use Rattle.receiver_model.specs.Agreement.{OctetAt, FinAt}
+use Rattle.receiver_model.proofs.Places.{EachAck, each_ack_append, each_ack_long, each_ack_at, IsNearAck, StaysNear}
+use Rattle.receiver_model.proofs.Members.{all_at}
 use Rattle.emit_mtu.specs.declared.long.LongKind.{LongKind}
 use Rattle.emit_mtu.specs.declared.long.LongKind.TheVariants.{Fits, Cut, Drop}
 use Rattle.emit_mtu.specs.Frames.{AreOctets, parts_of}
@@ -17,39 +17,8 @@ use Rattle.emit_mtu.specs.Long.{long_kind}
 use Rattle.emit_mtu.specs.Segments as spec
 use Rattle.emit_mtu.specs.Laws.{IsToBeCut, piece_of}
 use Rattle.emit_mtu.specs.Streams.{CutStaysNearAcks, frames_for, frames_of, packets_for, places_for, places_of, acks_for}
-use Rattle.emit_mtu.proofs.PartsOfStreams.{IsPart, ends_with, is_read, octet_of_part, room_in}
-use Rattle.emit_mtu.proofs.PlainSent.{whole-plain}
-use Rattle.emit_mtu.proofs.Streams.{all_at}
-
--- each packet with its ack and its offset
-abbrev Each : (ℕ → ℤ → List ℕ → Type 0) → List ℕ → List ℤ → List (List ℕ) → Type 0
-Each P [] [] [] = Unit {0}
-Each P (w ∷ ws) (z ∷ zs) (p ∷ ps) = P w z p × Each P ws zs ps
-Each P ws zs ps = ⊥
-
-each_at :
-    (P : ℕ → ℤ → List ℕ → Type 0) (ws : List ℕ) (zs : List ℤ) (ps : List (List ℕ)) (k w : ℕ) (z : ℤ) (p : List ℕ) →
-    Each P ws zs ps → slice_get ws k ≡ Some w → slice_get zs k ≡ Some z → slice_get ps k ≡ Some p → P w z p
-each_at P [] [] [] k w z p h d e f = absurd (cc)
-each_at P (v ∷ ws) (y ∷ zs) (q ∷ ps) zero w z p h d e f =
-    let a : v ≡ w = cc d in
-    let b : y ≡ z = cc e in
-    let c : q ≡ p = cc f in
-    subst (λ (r : ℕ × ℤ × List ℕ). P r.0 r.1 r.2) (λ i. (a i, b i, c i)) h.0
-each_at P (v ∷ ws) (y ∷ zs) (q ∷ ps) (suc k) w z p h d e f = each_at P ws zs ps k w z p h.1 d e f
-each_at P ws zs ps k w z p h d e f = absurd h
-
-each_long : (P : ℕ → ℤ → List ℕ → Type 0) (ws : List ℕ) (zs : List ℤ) (ps : List (List ℕ)) → Each P ws zs ps → length ws ≡ length ps
-each_long P [] [] [] h = refl
-each_long P (w ∷ ws) (z ∷ zs) (p ∷ ps) h = ap suc (each_long P ws zs ps h.1)
-each_long P ws zs ps h = absurd h
-
-each_append :
-    (P : ℕ → ℤ → List ℕ → Type 0) (ws : List ℕ) (zs : List ℤ) (ps : List (List ℕ)) (vs : List ℕ) (ys : List ℤ) (qs : List (List ℕ)) →
-    Each P ws zs ps → Each P vs ys qs → Each P (ws ++ vs) (zs ++ ys) (ps ++ qs)
-each_append P [] [] [] vs ys qs h k = k
-each_append P (w ∷ ws) (z ∷ zs) (p ∷ ps) vs ys qs h k = (h.0, each_append P ws zs ps vs ys qs h.1 k)
-each_append P ws zs ps vs ys qs h k = absurd h
+use Rattle.emit_mtu.proofs.Streams.{IsPart, ends_with, is_read, octet_of_part, room_in}
+use Rattle.emit_mtu.proofs.PlainPackets.{whole-plain}
 
 -- by the index of each
 abbrev ByIndex : (ℕ → ℤ → List ℕ → Type 0) → List ℕ → List ℤ → List (List ℕ) → Type 0
@@ -57,31 +26,18 @@ ByIndex P ws zs ps = (k w : ℕ) (z : ℤ) (p : List ℕ) → slice_get ws k ≡
 
 each_by :
     (P : ℕ → ℤ → List ℕ → Type 0) (ws : List ℕ) (zs : List ℤ) (ps : List (List ℕ)) →
-    length ws ≡ length ps → length zs ≡ length ps → ByIndex P ws zs ps → Each P ws zs ps
+    length ws ≡ length ps → length zs ≡ length ps → ByIndex P ws zs ps → EachAck P ws zs ps
 each_by P [] [] [] d e h = tt
 each_by P (w ∷ ws) (z ∷ zs) (p ∷ ps) d e h =
     (h 0 w z p refl refl refl, each_by P ws zs ps (omega arith) (omega arith) (λ k v y q a b c. h (suc k) v y q a b c))
 each_by P ws zs ps d e h = absurd (omega arith)
 
--- the octets and the FIN of a segment at this offset are in this ack
-record IsIn (ack : ℕ) (place : ℤ) (s : Segment) : Type 0 where
-  octets :
-      (index : ℕ) → index < length s.octets →
-      (pos ack ≤ℤ (place +ℤ pos index)) × ((place +ℤ pos index) ≤ℤ pos (ack + 2 ^ 30))
-  fin :
-      IsTrue (tcp.has_fin s.flags) →
-      (pos 0 ≤ℤ (place +ℤ pos (length s.octets))) × ((place +ℤ pos (length s.octets)) ≤ℤ pos (ack + 2 ^ 30))
-
--- those of the packet's segment are, if it has one
-abbrev Stays : ℕ → ℤ → List ℕ → Type 0
-Stays ack place p = (s : Segment) → segment_of p ≡ Some s → IsIn ack place s
-
 -- a part is in the ack of its packet
 part_stays :
     (mtu ack : ℕ) (place own_place : ℤ) (packet own_packet : List ℕ) →
-    Stays ack place packet → IsPart mtu packet place own_packet own_place → Stays ack own_place own_packet
+    StaysNear ack place packet → IsPart mtu packet place own_packet own_place → StaysNear ack own_place own_packet
 part_stays mtu ack place own_place packet own_packet stays part own says =
-    subst (IsIn ack own_place) (sym is) (record { octets = octets; fin = fin })
+    subst (IsNearAck ack own_place) (sym is) (record { octets = octets; fin = fin })
   where
     room : ℕ
     room = room_in mtu packet
@@ -95,7 +51,7 @@ part_stays mtu ack place own_place packet own_packet stays part own says =
     is : own ≡ piece
     is = let read = (is_read mtu packet place own_packet own_place part).part in cc (says, read)
 
-    whole : IsIn ack place s
+    whole : IsNearAck ack place s
     whole = stays s (is_read mtu packet place own_packet own_place part).original
 
     octets : (i : ℕ) → i < length piece.octets → (pos ack ≤ℤ (own_place +ℤ pos i)) × ((own_place +ℤ pos i) ≤ℤ pos (ack + 2 ^ 30))
@@ -121,9 +77,9 @@ abbrev parts : (mtu : ℕ) (packet : List ℕ) (first n : ℕ) → List (List �
 parts mtu packet first n = map (spec.segment_of (room_in mtu packet) (parts_of Raw packet)) (range_with_len first n)
 
 each_part :
-    (mtu ack : ℕ) (place : ℤ) (packet : List ℕ) (n first : ℕ) → Stays ack place packet → IsToBeCut Raw mtu packet →
+    (mtu ack : ℕ) (place : ℤ) (packet : List ℕ) (n first : ℕ) → StaysNear ack place packet → IsToBeCut Raw mtu packet →
     first + n ≤ spec.count_of (room_in mtu packet) (parts_of Raw packet) →
-    Each Stays (map (λ _. ack) (parts mtu packet first n)) (map (λ index. place +ℤ pos (room_in mtu packet * index)) (range_with_len first n))
+    EachAck StaysNear (map (λ _. ack) (parts mtu packet first n)) (map (λ index. place +ℤ pos (room_in mtu packet * index)) (range_with_len first n))
     (parts mtu packet first n)
 each_part mtu ack place packet zero first stays cut few = tt
 each_part mtu ack place packet (suc n) first stays cut few = (
@@ -132,27 +88,27 @@ each_part mtu ack place packet (suc n) first stays cut few = (
 )
 
 each_kind :
-    (kind : LongKind) (mtu ack : ℕ) (place : ℤ) (packet : List ℕ) → Stays ack place packet → (kind ≡ Cut → IsToBeCut Raw mtu packet) →
-    Each Stays (map (λ _. ack) (frames_of kind Raw mtu packet)) (places_of kind mtu packet place) (frames_of kind Raw mtu packet)
+    (kind : LongKind) (mtu ack : ℕ) (place : ℤ) (packet : List ℕ) → StaysNear ack place packet → (kind ≡ Cut → IsToBeCut Raw mtu packet) →
+    EachAck StaysNear (map (λ _. ack) (frames_of kind Raw mtu packet)) (places_of kind mtu packet place) (frames_of kind Raw mtu packet)
 each_kind Fits mtu ack place packet stays cut = (stays, tt)
 each_kind Drop mtu ack place packet stays cut = tt
 each_kind Cut mtu ack place packet stays cut =
     let n = spec.count_of (room_in mtu packet) (parts_of Raw packet) in
     let all : n - 0 ≡ n = omega arith in
-    subst (λ m. Each Stays (map (λ _. ack) (parts mtu packet 0 m)) (places_of Cut mtu packet place) (parts mtu packet 0 m)) (sym all)
+    subst (λ m. EachAck StaysNear (map (λ _. ack) (parts mtu packet 0 m)) (places_of Cut mtu packet place) (parts mtu packet 0 m)) (sym all)
     (each_part mtu ack place packet n 0 stays (cut refl) (omega arith))
 
 -- the packet stays in its ack, and may be cut if it is to be
 record Fit (mtu ack : ℕ) (place : ℤ) (packet : List ℕ) : Type 0 where
-  stays : Stays ack place packet
+  stays : StaysNear ack place packet
   cut : long_kind Raw mtu packet ≡ Cut → IsToBeCut Raw mtu packet
 
 each_cut :
-    (mtu : ℕ) (ws : List ℕ) (zs : List ℤ) (ps : List (List ℕ)) → Each (Fit mtu) ws zs ps →
-    Each Stays (acks_for mtu ws ps) (places_for mtu zs ps) (packets_for mtu ps)
+    (mtu : ℕ) (ws : List ℕ) (zs : List ℤ) (ps : List (List ℕ)) → EachAck (Fit mtu) ws zs ps →
+    EachAck StaysNear (acks_for mtu ws ps) (places_for mtu zs ps) (packets_for mtu ps)
 each_cut mtu [] [] [] h = tt
 each_cut mtu (w ∷ ws) (z ∷ zs) (p ∷ ps) h =
-    each_append Stays (map (λ _. w) (frames_for Raw mtu p)) (places_of (long_kind Raw mtu p) mtu p z) (frames_for Raw mtu p)
+    each_ack_append StaysNear (map (λ _. w) (frames_for Raw mtu p)) (places_of (long_kind Raw mtu p) mtu p z) (frames_for Raw mtu p)
     (acks_for mtu ws ps) (places_for mtu zs ps) (packets_for mtu ps)
     (each_kind (long_kind Raw mtu p) mtu w z p h.0.stays h.0.cut) (each_cut mtu ws zs ps h.1)
 each_cut mtu ws zs ps h = absurd h
@@ -215,14 +171,14 @@ go_on mtu (w ∷ ws) (p ∷ ps) h number later one other order e f =
 
 pub cut_stays_near_acks : CutStaysNearAcks
 cut_stays_near_acks hops base mtu acks places packets least most octets tells h = record {
-  one_each = each_long Stays own_acks own_places own_packets each;
+  one_each = each_ack_long StaysNear own_acks own_places own_packets each;
   go_on = go_on mtu acks packets h.go_on;
   octets = λ offset octet ack c has.
-      let stays = each_at Stays own_acks own_places own_packets c.number ack c.place c.frame each has c.placed c.stands c.segment c.says in
+      let stays = each_ack_at StaysNear own_acks own_places own_packets c.number ack c.place c.frame each has c.placed c.stands c.segment c.says in
       let within = slice_get_within c.segment.octets c.index octet c.has in
       subst (λ z. (pos ack ≤ℤ z) × (z ≤ℤ pos (ack + 2 ^ 30))) (sym c.there) (stays.octets c.index within);
   fins = λ offset ack c has.
-      let stays = each_at Stays own_acks own_places own_packets c.number ack c.place c.frame each has c.placed c.stands c.segment c.says in
+      let stays = each_ack_at StaysNear own_acks own_places own_packets c.number ack c.place c.frame each has c.placed c.stands c.segment c.says in
       subst (λ z. (pos 0 ≤ℤ z) × (z ≤ℤ pos (ack + 2 ^ 30))) (sym c.there) (stays.fin c.has);
 }
   where
@@ -235,7 +191,7 @@ cut_stays_near_acks hops base mtu acks places packets least most octets tells h 
     own_packets : List (List ℕ)
     own_packets = packets_for mtu packets
 
-    stay : ByIndex Stays acks places packets
+    stay : ByIndex StaysNear acks places packets
     stay k ack place packet of placed stands s says = record {
       octets = λ index within.
           let octet : OctetAt places packets (place +ℤ pos index) (get_or s.octets index 0) = record {
@@ -278,5 +234,5 @@ cut_stays_near_acks hops base mtu acks places packets least most octets tells h 
       };
     }
 
-    each : Each Stays own_acks own_places own_packets
+    each : EachAck StaysNear own_acks own_places own_packets
     each = each_cut mtu acks places packets (each_by (Fit mtu) acks places packets h.one_each tells.placed.one_each fit)

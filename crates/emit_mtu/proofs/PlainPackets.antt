@@ -1,19 +1,33 @@
--- The segments of a plain frame are plain.
-use Rattle.std.proofs.Common.{◌≡◌, inl, inr, ℕ, ◌||◌, Bool, true, false, List, ◌++◌, length, sym, ap, ◌∙◌, arith}
-use Rattle.std.proofs.lemmas.List.{length-append}
+-- Plain packets: the segments of one are plain, it may be written, and what is written instead of it is the same on each link.
+use Rattle.std.proofs.Common.{◌≡◌, inl, inr, ℕ, ◌||◌, Bool, true, false, List, ◌++◌, length, sym, ap, ◌∙◌, arith, ◌-◌, ◌≤◌, ◌==◌, ◌&&◌, not, nat_lt, [], ◌∷◌, map, None, if◌then◌else◌, refl, eq-eqb, length-append}
+use Rattle.std.specs.List.{range_with_len}
+use Rattle.std.proofs.lemmas.Bool.Decides.{nat_tests}
+use Rattle.std.proofs.lemmas.Simd.{map-map}
 use Rattle.wire_base.specs.Ipv4 as ip
 use Rattle.wire_base.specs.Tcp as tcp
 use Rattle.wire_base.specs.Sums.{pseudo_sum, sum_is_right}
 use Rattle.wire_base.specs.Options.{are_well_formed, cleaned}
 use Rattle.wire_base.specs.Plain.{IsPlainHeader, IsPlainTcp, Plain, pseudo_of}
-use Rattle.tcp_codec.proofs.Mended.{sum_is_right-mended}
-use Rattle.emit_mtu.specs.Frames.{AreSized, Parts}
-use Rattle.emit_mtu.specs.Long.{is_marked}
+use Rattle.tcp_codec.proofs.Segments.{sum_is_right-mended, fault_of-options}
+use Rattle.wire_base.specs.declared.address.Link.{Link}
+use Rattle.wire_base.specs.declared.address.Link.TheVariants.{Raw}
+use Rattle.wire_base.specs.declared.frame.FrameKind.TheVariants.{Ip}
+use Rattle.wire_base.specs.Frames.{kind_of, packet_in}
+use Rattle.tcp_codec.specs.declared.header.SumRule.TheVariants.{Skip}
+use Rattle.tcp_codec.specs.Header.{fault_of}
+use Rattle.emit_mtu.specs.Frames.{AreSized, Parts, IsWhole, link_size, parts_of}
+use Rattle.emit_mtu.specs.Long.{is_marked, is_ip, long_kind, may_be_cut}
 use Rattle.emit_mtu.specs.Segments as spec
+use Rattle.emit_mtu.specs.declared.long.LongKind.{LongKind}
+use Rattle.emit_mtu.specs.declared.long.LongKind.TheVariants.{Fits, Cut, Drop}
+use Rattle.emit_mtu.specs.Segments.{count_of, room_of, segment_of}
+use Rattle.emit_mtu.specs.Streams.{PacketsGoOutAlike, PlainHeadersAreWhole, PlainIsSent, frames_of}
+use Rattle.emit_mtu.proofs.Links.{long_enough}
 use Rattle.emit_mtu.proofs.Flags.{is_unmarked, legal_pieces, flags_are_kept}
-use Rattle.emit_mtu.proofs.Headers.{behind-front, behind-own, flags-own, header-front, numbers-front, segment-front, segment-own, sum-own}
-use Rattle.emit_mtu.proofs.Lengths.{length-message_of, length-tcp_header}
-use Rattle.emit_mtu.proofs.Own.{AreJoined, is_own, packet_of}
+use Rattle.emit_mtu.proofs.Headers.{behind-front, behind-own, flags-own, header-front, numbers-front, segment-front, segment-own, sum-own, length-message_of, length-tcp_header, AreJoined, is_own, packet_of, packet_in-segment_of}
+use Rattle.emit_mtu.proofs.Frames.{not_one}
+
+-- The segments of a plain frame are plain.
 
 -- the sums of a segment are right
 pub header_sum : (room index : ℕ) (parts : Parts) → AreSized parts → ip.header_length parts.ip ≡ 20 → sum_is_right (ip.header (packet_of room parts index)) 0 ≡ true
@@ -102,3 +116,50 @@ plain_packet hops p room index parts joined protocol unmarked plain =
         udp = λ e. absurd (omega (arith, six, e));
       };
     }
+
+-- Plain packets may be written, and the packets written instead of one are the same on each link.
+
+-- a packet of these fields is whole
+pub whole_by : (p : List ℕ) → 20 ≤ length p → ip.version p ≡ 4 → ip.header_length p ≡ 20 → ip.has_more_fragments p ≡ false → ip.fragment_offset p ≡ 0 → ip.total_length p ≡ length p → sum_is_right (ip.header p) 0 ≡ true → (ip.protocol p ≡ 6 → fault_of Skip 0 (ip.payload p) ≡ None) → IsWhole p
+whole_by p long version header more offset ends sum segment =
+    let short : nat_lt (length p) 20 ≡ false = grind (arith, nat_tests) in
+    let four : not (ip.version p == 4) ≡ false = ap not (eq-eqb _ _ version) in
+    let words : (nat_lt (ip.header_length p) 20 || nat_lt (length p) (ip.header_length p)) ≡ false = grind (arith, nat_tests) in
+    let total : (nat_lt (ip.total_length p) (ip.header_length p) || nat_lt (length p) (ip.total_length p)) ≡ false = grind (arith, nat_tests) in
+    let right : not (sum_is_right (ip.header p) 0) ≡ false = ap not sum in
+    record { header = header; whole = not_one _ _ more offset; ends = ends; datagram = rw (short, four, words, total, right) refl; segment = segment }
+
+pub plain_headers_are_whole : PlainHeadersAreWhole
+plain_headers_are_whole p h segment = whole_by p h.whole_header h.version h.header_length h.more_fragments h.fragment_offset h.total_length h.sum segment
+
+pub whole-plain : (hops : ℕ) (p : List ℕ) → Plain hops p → IsWhole p
+whole-plain hops p plain = plain_headers_are_whole p plain.header (λ six. let t = plain.message.tcp six in fault_of-options Skip 0 (ip.payload p) true t.whole_header t.data_offset t.inside refl t.flags t.options)
+
+pub plain_is_sent : PlainIsSent
+plain_is_sent link hops frame kind plain = inr (kind, whole-plain hops (packet_in link frame) plain)
+
+long_kind-packet : (link : Link) (mtu : ℕ) (frame : List ℕ) → kind_of link frame ≡ Ip (link_size link) → long_kind link mtu frame ≡ long_kind Raw mtu (packet_in link frame)
+long_kind-packet link mtu frame kind =
+    let carries : is_ip (kind_of link frame) ≡ true = ap is_ip kind in
+    let long = nat_lt mtu (ip.total_length (packet_in link frame)) in
+    let may = may_be_cut (packet_in link frame) in
+    ap (λ b. if (b && long) && may then Cut else if (b && long) && not may then Drop else Fits) carries
+
+map_alike : (f g : ℕ → List ℕ) (xs : List ℕ) → ((x : ℕ) → f x ≡ g x) → map f xs ≡ map g xs
+map_alike f g [] each = refl
+map_alike f g (x ∷ xs) each = λ i. each x i ∷ map_alike f g xs each i
+
+by_kind : (kind : LongKind) (link : Link) (mtu : ℕ) (frame : List ℕ) → link_size link ≤ length frame → map (packet_in link) (frames_of kind link mtu frame) ≡ frames_of kind Raw mtu (packet_in link frame)
+by_kind Fits link mtu frame long = refl
+by_kind Drop link mtu frame long = refl
+by_kind Cut link mtu frame long =
+    let parts = parts_of link frame in
+    let room = room_of mtu parts in
+    let n = count_of room parts - 0 in
+    map-map (packet_in link) (segment_of room parts) (range_with_len 0 n)
+    ∙ map_alike (λ index. packet_in link (segment_of room parts index)) (segment_of room (parts_of Raw (packet_in link frame))) (range_with_len 0 n) (λ index. packet_in-segment_of link frame room index long)
+
+pub packets_go_out_alike : PacketsGoOutAlike
+packets_go_out_alike link mtu frame kind =
+    by_kind (long_kind link mtu frame) link mtu frame (long_enough link frame kind)
+    ∙ ap (λ k. frames_of k Raw mtu (packet_in link frame)) (long_kind-packet link mtu frame kind)
