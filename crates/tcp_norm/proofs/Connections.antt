@@ -1,7 +1,5 @@
--- The rules of a datagram by what is live of its connection: no era, one that waits for its SYN, one that a RST ends.
-use Rattle.std.proofs.Common.{◌≡◌, ℕ, ◌+◌, ◌&&◌, not, Bool, true, false, cond, List, Option, Some, None, is_some, refl, sym, ap, ap₂, ◌∙◌, ◌≢◌, ◌||◌, [], subst, ◌∷◌, pos, ◌-ℤ◌}
-use Rattle.std.specs.Prelude.{nat_lt, is_none}
-use Rattle.std.specs.List.{AllPairs}
+-- Rules and steps of RSTs, SYNs and datagrams without an era: which era they begin, reopen or end.
+use Rattle.std.proofs.Common.{◌≡◌, ℕ, ◌+◌, ◌&&◌, not, Bool, true, false, cond, List, Option, Some, None, is_some, refl, sym, ap, ap₂, ◌∙◌, ◌≢◌, ◌||◌, [], subst, ◌∷◌, pos, ◌-ℤ◌, AllPairs, nat_lt, is_none}
 use Rattle.std.specs.Option.{option_or}
 use Rattle.wire_base.specs.Tcp as tcp
 use Rattle.wire_base.specs.Segments.{Written}
@@ -23,7 +21,7 @@ use Rattle.rule_book.specs.declared.entry.Reason.TheVariants as reasons
 use Rattle.linked_table.specs.declared.table.Slot.{Slot}
 use Rattle.linked_table.specs.Table.{Entry, IsIn, HasNone, Wherever}
 use Rattle.retain_store.specs.Maps.{Store}
-use Rattle.linked_table.proofs.Parts.{split_at, wherever}
+use Rattle.linked_table.proofs.Entries.{split_at, wherever}
 use Rattle.era_state.specs.Marks.{get_at}
 use Rattle.cold_start.specs.Rules.{is_asked, is_call, t_cold, cold_probe_of}
 use Rattle.tcp_norm.specs.Calls.{segment_in, Call, segments, eras, key_of}
@@ -38,7 +36,7 @@ use Rattle.tcp_norm.specs.Standing.{HoldsFor}
 use Rattle.tcp_norm.specs.Writes.{BringsNone}
 use Rattle.tcp_norm.proofs.BareSegments.{Comes}
 use Rattle.tcp_norm.proofs.StreamRules.{dropped_is}
-use Rattle.tcp_norm.proofs.Finding.{live_here, live_nowhere}
+use Rattle.tcp_norm.proofs.LiveEras.{live_here, live_nowhere}
 
 -- The rules of an inbound RST of a connection that has a live era, and the calls with it.
 

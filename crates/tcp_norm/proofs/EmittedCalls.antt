@@ -1,4 +1,4 @@
--- In calls that the rules make of segments, those that are written of each era are emitted.
+-- In calls that the rules make of segments, all that is written of each era is emitted.
 use Rattle.std.proofs.Common.{◌≡◌, ℕ, ◌+◌, ◌%◌, ◌^◌, ◌<◌, ◌≤◌, ◌&&◌, ◌||◌, not, Bool, true, false, cond, List, [], ◌∷◌, ◌++◌, map, find, Option, Some, None, is_some, inl, inr, refl, sym, ap, ap₂, subst, ◌∙◌, arith}
 use Rattle.std.specs.List.{AllByRecursion}
 use Rattle.std.specs.Option.{option_or}
@@ -21,7 +21,8 @@ use Rattle.era_state.specs.Emitted.{WrittenRemains, EmittedJoins}
 use Rattle.reset_probe.specs.Rules.{era_probe}
 use Rattle.cold_start.specs.Rules.{is_asked}
 use Rattle.ip_rules.specs.Datagrams.{Datagram, Packet, goes_in}
-use Rattle.linked_table.proofs.Splits.{all_weaker}
+use Rattle.linked_table.proofs.Lists.{all_weaker}
+use Rattle.ip_rules.proofs.Lists.{none_found}
 use Rattle.tcp_norm.specs.Calls.{Call, expiry, datagram, Alive, read, segment_in, key_of, is_era, written_by, segments, live, begun_in, touched_by, numbers_of}
 use Rattle.tcp_norm.specs.Views.{View, view_of, number_of, segments_of}
 use Rattle.tcp_norm.specs.Rows.{is_live, t_full, reopens, begins, holds_era, dropped_by, mended_by}
@@ -30,15 +31,14 @@ use Rattle.tcp_norm.specs.Inwards.{bare_read}
 use Rattle.tcp_norm.specs.Outcomes.{begun_with, outcome_by, call_of}
 use Rattle.tcp_norm.specs.Lives.{AreMade, last_begun, writes_in, made_of}
 use Rattle.tcp_norm.specs.Segments.{IsSegment, AsksSegment, CallsAreEmitted}
-use Rattle.tcp_norm.proofs.Lists.{all_map, some_same}
+use Rattle.tcp_norm.proofs.Lists.{all_map, some_same, among_is}
 use Rattle.tcp_norm.proofs.StreamRules.{of_stream, stream_begins_none}
-use Rattle.tcp_norm.proofs.InboundSegments.{asks, step_asked, packets_begun, packets_live, packets_reset, early_now}
-use Rattle.tcp_norm.proofs.SynsAndResets.{called_marked, cold_stream, call_stream, reset_stream, syn_marked, rst_marked, stream_is, probes_silent}
-use Rattle.tcp_norm.proofs.Numbers.{among_is, found_none}
-use Rattle.tcp_norm.proofs.Lives.{Lasts, Effect}
-use Rattle.tcp_norm.proofs.LiveCalls.{effect_made}
-use Rattle.tcp_norm.proofs.LiveCounts.{lasts_made}
-use Rattle.tcp_norm.proofs.Emitted.{outward_emitted, bare_read_is, is_bare, fixes_base, keeps_base, silent_emitted, stream_emitted}
+use Rattle.tcp_norm.proofs.InboundSegments.{asks, step_asked, packets_begun, packets_live, packets_reset, early_now, stream_is}
+use Rattle.tcp_norm.proofs.SynsAndResets.{called_marked, cold_stream, call_stream, reset_stream, syn_marked, rst_marked, probes_silent}
+use Rattle.tcp_norm.proofs.LiveEras.{Lasts, Effect}
+use Rattle.tcp_norm.proofs.CallKinds.{effect_made}
+use Rattle.tcp_norm.proofs.EraCounts.{lasts_made}
+use Rattle.tcp_norm.proofs.EmittedSegments.{outward_emitted, bare_read_is, is_bare, fixes_base, keeps_base, silent_emitted, stream_emitted}
 
 -- the laws of the crates below
 pub record Below : Type 0 where
@@ -92,7 +92,7 @@ passes_cold b settings v d ws h side none (begun n begins empty) =
 
 -- the rules on its era hold of none that passes
 passed_rows : (settings : PlainSettings) (v : View) (d : Datagram) → goes_in d.side ≡ true → dropped_by settings v d ≡ None → AllByRecursion (λ r. holds_era settings v d r ≡ false) era_rows
-passed_rows settings v d side none = found_none (holds_era settings v d) era_rows (ap (λ b. cond b (find (holds_era settings v d) era_rows) None) (sym side) ∙ none)
+passed_rows settings v d side none = none_found (holds_era settings v d) era_rows (ap (λ b. cond b (find (holds_era settings v d) era_rows) None) (sym side) ∙ none)
 
 live_row : (v : View) (row : Bool) (n : ℕ) → v.era ≡ Some n → (is_live v && row) ≡ false → row ≡ false
 live_row v row n live e = sym (ap (λ o. is_some o && row) live) ∙ e

@@ -1,45 +1,48 @@
--- What becomes of an inbound datagram, and its probes.
-use Rattle.std.proofs.Common.{◌≡◌, ◌==◌, length, ℕ, ◌&&◌, not, Bool, true, false, cond, List, [], ◌∷◌, ◌++◌, map, Option, Some, None, is_some, refl, sym, ap, ap₂, subst, ◌∙◌, ◌≢◌, ◌+◌, append_assoc, arith, ◌<◌}
-use Rattle.std.specs.Prelude.{nat_le}
-use Rattle.std.specs.List.{All, AllPairs}
+-- What becomes of an inbound datagram: dropped, passed or rewritten, with its frames and its probes.
+use Rattle.std.proofs.Common.{◌≡◌, ℕ, ◌+◌, Bool, true, false, cond, List, ◌||◌, ◌++◌, map, Some, None, is_some, refl, sym, ap, ap₂, ◌∙◌, ◌==◌, length, ◌&&◌, not, ◌∷◌, Option, subst, ◌≢◌, append_assoc, arith, ◌<◌, nat_le, All, AllPairs, []}
+use Rattle.std.specs.Option.{option_or}
+use Rattle.std.proofs.lemmas.Bool.{and_parts}
 use Rattle.wire_base.specs.Tcp as tcp
 use Rattle.wire_base.specs.Segments.{Written, Segment}
-use Rattle.wire_base.specs.declared.address.Side.TheVariants.{Inward}
-use Rattle.wire_base.specs.declared.address.FlowKey.{FlowKey}
+use Rattle.era_state.specs.Keeping.{frame_sequence_of}
+use Rattle.ip_rules.specs.Datagrams.{Datagram, Packet, goes_in, IsDatagram, raised, head_at, head_sent, anew, frames_of}
+use Rattle.wire_base.specs.Options.{cleaned}
 use Rattle.ip_rules.specs.declared.judged.IpPacket.{IpPacket}
 use Rattle.rule_book.specs.declared.rule.Rule.{Rule}
-use Rattle.rule_book.specs.declared.entry.Verdict.TheVariants as verdicts
-use Rattle.norm_settings.specs.Settings.{PlainSettings}
 use Rattle.rule_book.specs.declared.rule.Rule.TheVariants as rules
+use Rattle.norm_settings.specs.Settings.{PlainSettings}
+use Rattle.era_state.specs.States.{state_of, is_acknowledged, State, called, offered, warm, closed}
+use Rattle.era_state.specs.Rules as era
+use Rattle.wire_base.specs.declared.address.Side.TheVariants.{Inward}
+use Rattle.wire_base.specs.declared.address.FlowKey.{FlowKey}
+use Rattle.rule_book.specs.declared.entry.Verdict.TheVariants as verdicts
 use Rattle.era_state.specs.Quantities.{iss}
-use Rattle.era_state.specs.States.{State, called, offered, warm, closed, state_of, is_acknowledged}
 use Rattle.era_state.specs.Rules.{t_state, is_early_at}
 use Rattle.cold_start.specs.Rules.{is_asked, cold_probe_of}
 use Rattle.reset_probe.specs.Rules.{era_probe}
-use Rattle.ip_rules.specs.Datagrams.{Datagram, Packet, goes_in, IsDatagram, raised, head_at, head_sent, anew, frames_of}
 use Rattle.ip_rules.specs.Judged.{where_holds}
 use Rattle.ipv4_codec.specs.declared.header.Ipv4.{Ipv4}
 use Rattle.ipv4_codec.specs.Write.{plain_header}
 use Rattle.edge_io.specs.Outboxes.{extended, last_frame}
-use Rattle.tcp_codec.specs.declared.header.Tcp.{Tcp}
 use Rattle.tcp_codec.specs.Write.{segment_octets}
 use Rattle.era_state.specs.declared.probe.Probe.{Probe}
 use Rattle.reset_probe.specs.Write.{probe_octets, probe_segment}
 use Rattle.linked_table.specs.declared.table.Slot.{Slot}
 use Rattle.linked_table.specs.Table as table
 use Rattle.era_state.specs.declared.segment.Seg.{Seg}
-use Rattle.era_state.specs.Eras as era
+use Rattle.era_state.specs.Eras as eras
 use Rattle.era_state.specs.Read.{came}
-use Rattle.tcp_norm.specs.declared.step.Step.{Step}
-use Rattle.tcp_norm.specs.Calls.{read, segment_in, key_of, key_at, Call, segments, eras}
+use Rattle.tcp_norm.specs.Heads.{IsRead, seen}
+use Rattle.tcp_norm.specs.Calls.{segment_in, read, key_of, key_at, Call, segments, eras}
+use Rattle.tcp_norm.specs.Rows.{is_live, t_quota, t_room, dropped_by, holds_era, mended_by}
+use Rattle.tcp_norm.specs.Emits.{without_flag, bare_segment, stream_segment, is_fin_kept, octets_sent, probe_packets, probe_dropped, segment_anew, packet_by, packets_passed, probe_packet, segment_sent, sum_mended, flags_cleared}
 use Rattle.tcp_norm.specs.Views.{View, view_of}
-use Rattle.tcp_norm.specs.Rows.{is_live, holds_era, dropped_by, mended_by}
-use Rattle.tcp_norm.specs.Emits.{packet_by, packets_passed, probe_packet, probe_packets, probe_dropped, segment_sent, segment_anew, sum_mended}
-use Rattle.tcp_norm.specs.Outcomes.{outcome_at, outcome_by, outcome_dropped, verdict_of}
 use Rattle.tcp_norm.specs.Inwards.{passed, bare_read}
-use Rattle.tcp_norm.specs.Colds.{IsUnheard}
-use Rattle.tcp_norm.specs.Steps.{IsStep, Does}
-use Rattle.tcp_norm.specs.Heads.{seen}
+use Rattle.tcp_norm.specs.Anews.{anew_segment}
+use Rattle.tcp_norm.specs.Steps.{IsStep, listed, Does}
+use Rattle.tcp_norm.specs.Resets.{WritesAll}
+use Rattle.tcp_norm.specs.declared.step.Step.{Step}
+use Rattle.tcp_norm.specs.Outcomes.{outcome_at, outcome_by, outcome_dropped, verdict_of}
 use Rattle.tcp_norm.specs.declared.flow.Flow.{Flow}
 use Rattle.tcp_norm.specs.declared.arrival.Arrival.{Arrival}
 use Rattle.tcp_norm.specs.Live.{Live}
@@ -48,12 +51,81 @@ use Rattle.tcp_norm.specs.declared.ruling.Ruling.{Ruling}
 use Rattle.tcp_norm.specs.declared.ruling.Taking.{Taking}
 use Rattle.tcp_norm.specs.Rulings.{Decides, DecidesIn, IsCounted, IsFound, IsHeld, IsJudged, IsLiveIn, IsRuling}
 use Rattle.tcp_norm.specs.Standing.{StandsFor}
-use Rattle.tcp_norm.proofs.StreamRules.{both_true, not_true, dropped_is}
-use Rattle.tcp_norm.proofs.Calls.{fixed_or_passed, no_note}
+use Rattle.tcp_norm.proofs.StreamRules.{OfStream, stream_dropped, stream_begins_none, stream_ends_none, not_true, dropped_is}
+use Rattle.tcp_norm.proofs.EraWrites.{fixed_or_passed, no_note}
 use Rattle.tcp_norm.proofs.BareSegments.{Comes, comes_bare}
 use Rattle.tcp_norm.proofs.Connections.{IsLive, view_live}
-use Rattle.tcp_norm.proofs.Represented.{AtSlot, at_slot}
-use Rattle.tcp_norm.proofs.SynsAndResets.{flags_are}
+use Rattle.tcp_norm.proofs.EraTable.{AtSlot, at_slot}
+use Rattle.tcp_codec.specs.declared.header.Tcp.{Tcp}
+use Rattle.tcp_norm.specs.Colds.{IsUnheard}
+
+-- A segment of the stream of a live era.
+
+-- the flags of the segment are those of its header
+pub flags_are : (packet : IpPacket) (link : List ℕ) (d : Datagram) (head : Tcp) → IsDatagram packet link d → IsRead packet.payload.now head → head.flags.0 ≡ (segment_in d).flags
+flags_are packet link d head is h = ap (λ (x : Tcp). x.flags.0) h.fields ∙ ap tcp.flags (sym is.octets)
+
+-- a segment of the stream of an era of which an offset is acknowledged
+pub stream_is : (ws : List Written) (w : Written) → is_acknowledged (state_of ws) ≡ true → w.inward ≡ true → tcp.has_syn w.flags ≡ false → tcp.has_rst w.flags ≡ false
+    → era.is_of_stream ws w ≡ true
+stream_is ws w settled inward syn rst = rw (inward, syn, rst) settled
+
+pub step_stream : (v : View) (w : Written) (n : ℕ) → v.era ≡ Some n → OfStream v.segments w → IsStep v w (record { era = Some n; begun = None; ended = None; full = false })
+step_stream v w n live f =
+    let none = stream_begins_none v w (ap is_some live) f in
+    record {
+      era_is = sym (ap₂ option_or none live);
+      begun_is = sym none;
+      ended_is = sym (stream_ends_none v w (ap is_some live) f);
+      full_is = rw live refl;
+    }
+
+-- it is rewritten from the fields of its header
+pub stream_anew : (ws : List Written) (d : Datagram) (packet : IpPacket) (link : List ℕ) (head : Tcp) (seq : ℕ) (fin : Bool) (octets : List ℕ)
+    → IsDatagram packet link d → IsRead packet.payload.now head → tcp.has_syn (segment_in d).flags ≡ false → tcp.has_rst (segment_in d).flags ≡ false
+    → seq ≡ frame_sequence_of ws (segment_in d) → fin ≡ is_fin_kept ws (segment_in d) → octets ≡ octets_sent ws (segment_in d)
+    → segment_anew ws d ≡ anew_segment packet.head head seq fin (cleaned (tcp.has_syn head.flags.0) (tcp.options packet.payload.now)) octets
+stream_anew ws d packet link head seq fin octets is h syn rst seq_is fin_is sent =
+    let m = sym is.octets in
+    let whole : segment_anew ws d ≡ stream_segment ws d = ap₂ (λ a b. cond (a || b) (bare_segment d) (stream_segment ws d)) syn rst in
+    whole ∙ sym (λ k. record {
+      source = ((sym is.head) k).src.0;
+      destination = ((sym is.head) k).dst.0;
+      source_port = (ap (λ (x : Tcp). x.sport) h.fields ∙ ap tcp.source_port m) k;
+      destination_port = (ap (λ (x : Tcp). x.dport) h.fields ∙ ap tcp.destination_port m) k;
+      sequence = seq_is k;
+      acknowledgment = (ap (λ (x : Tcp). x.ack) h.fields ∙ ap tcp.acknowledgment m) k;
+      flags = flags_cleared (cond (fin_is k) (flags_are packet link d head is h k) (without_flag 1 (flags_are packet link d head is h k)));
+      window = (ap (λ (x : Tcp). x.window) h.fields ∙ ap tcp.window m) k;
+      options = (ap (λ (x : Tcp). cleaned (tcp.has_syn x.flags.0) (tcp.options packet.payload.now)) h.fields ∙ ap (λ o. cleaned (tcp.has_syn (tcp.flags o)) (tcp.options o)) m) k;
+      octets = sent k;
+    })
+
+-- an outcome that writes in a live era alone
+pub writes_all : (d : Datagram) (n : ℕ) (s : Step) (fixes named : List Rule) (packets : List Packet) → s ≡ record { era = Some n; begun = None; ended = None; full = false }
+    → WritesAll d n (map (λ p. read (goes_in d.side) p.octets) packets) (passed s fixes named packets)
+writes_all d n s fixes named packets is = record {
+  written = fixed_or_passed (fixes ++ named);
+  era_is = ap (λ (x : Step). x.era) is;
+  begun_is = ap (λ (x : Step). x.begun) is;
+  ended_are = ap (λ (x : Step). listed x.ended) is;
+  packets_are = refl;
+}
+
+-- no probe is sent beside one that a rule drops
+pub no_probe_behind : (settings : PlainSettings) (v : View) (d : Datagram) (rule : Rule) → dropped_by settings v d ≡ Some rule → is_live v ≡ true → OfStream v.segments (segment_in d)
+    → probe_packets settings d (probe_dropped v d rule) ≡ []
+no_probe_behind settings v d rule drops live f = cases (t_quota settings v (segment_in d)) (t_room v (segment_in d)) (sym drops ∙ stream_dropped settings v d live f)
+  where
+    got : {x y : Rule} → Some x ≡ Some y → x ≡ y
+    got e = cc
+
+    cases : (a b : Bool) → Some rule ≡ cond a (Some rules.TQuota) (cond b (Some rules.TRoom) None) → probe_packets settings d (probe_dropped v d rule) ≡ []
+    cases true b e = ap (λ r. probe_packets settings d (probe_dropped v d r)) (got e)
+    cases false true e = ap (λ r. probe_packets settings d (probe_dropped v d r)) (got e)
+    cases false false e = cc
+
+-- What becomes of an inbound datagram, and its probes.
 
 -- What becomes of an inbound datagram, by the rule that drops it, or by what it does to the eras.
 
@@ -104,8 +176,8 @@ pub record Asks (w : Written) : Type 0 where
 
 pub asks : (w : Written) → is_asked w ≡ true → Asks w
 asks w is =
-    let last = both_true (w.inward && not (tcp.has_syn w.flags)) (not (tcp.has_rst w.flags)) is in
-    let second = both_true w.inward (not (tcp.has_syn w.flags)) last.0 in
+    let last = and_parts (w.inward && not (tcp.has_syn w.flags)) (not (tcp.has_rst w.flags)) is in
+    let second = and_parts w.inward (not (tcp.has_syn w.flags)) last.0 in
     record { inward = second.0; no_syn = not_true (tcp.has_syn w.flags) second.1; no_rst = not_true (tcp.has_rst w.flags) last.1 }
 
 pub step_asked : (v : View) (w : Written) → v.era ≡ None → Asks w → IsStep v w (record { era = None; begun = None; ended = None; full = false })
@@ -273,7 +345,7 @@ pub record OfLive (settings : PlainSettings) (calls : List Call) (d : Datagram) 
   pub key_is : key_of d ≡ here.key
   pub live : IsLive settings calls d here.flow.number
   pub at : AtSlot (λ m. segments m calls) norm.begun norm.store here.slot here.flow
-  pub stood : era.StandsFor here.flow.era (segments here.flow.number calls)
+  pub stood : eras.StandsFor here.flow.era (segments here.flow.number calls)
   pub flags : a.head.now.flags.0 ≡ (segment_in d).flags
   pub comes : (s : Seg) → came s ≡ bare_read a.packet.now.payload.now → Comes d here.key s
 

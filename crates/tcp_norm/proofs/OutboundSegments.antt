@@ -1,12 +1,10 @@
--- What becomes of an outbound datagram: it goes out, with its sum corrected where that is left to the sender's card.
-use Rattle.std.proofs.Common.{◌≡◌, ℕ, ◌&&◌, ◌||◌, ◌≤◌, not, Bool, true, false, cond, List, [], ◌∷◌, ◌++◌, length, None, is_some, refl, sym, ap, ap₂, subst, ◌∙◌, ◌==◌}
-use Rattle.std.specs.Prelude.{find}
-use Rattle.std.proofs.lemmas.List.{append-nil}
+-- An outbound datagram goes out, with its checksum corrected if that is left to the sender's card.
+use Rattle.std.proofs.Common.{◌≡◌, ℕ, ◌&&◌, ◌≤◌, not, Bool, true, false, cond, List, [], ◌∷◌, ◌++◌, length, None, refl, sym, ap, ap₂, subst, ◌∙◌, ◌==◌, find, append-nil, Option, Some}
 use Rattle.wire_base.specs.Tcp as tcp
 use Rattle.wire_base.specs.Segments.{Written}
 use Rattle.wire_base.specs.Options.{scale_of}
 use Rattle.wire_base.specs.Sums.{pseudo_sum, sum_is_right}
-use Rattle.wire_base.specs.declared.address.Side.TheVariants.{Outward}
+use Rattle.wire_base.specs.declared.address.Side.TheVariants.{Outward, Inward}
 use Rattle.wire_base.specs.declared.address.FlowKey.{FlowKey}
 use Rattle.ip_rules.specs.declared.judged.IpPacket.{IpPacket}
 use Rattle.tcp_codec.specs.declared.header.Tcp.{Tcp}
@@ -20,60 +18,44 @@ use Rattle.rule_book.specs.Rules.{era_rows}
 use Rattle.norm_settings.specs.Settings.{PlainSettings}
 use Rattle.tcp_codec.specs.Mending.{SaysTheSame, MendedSayTheSame, mended}
 use Rattle.era_state.specs.Quantities.{out}
-use Rattle.era_state.specs.Rules as era
 use Rattle.cold_start.specs.Rules.{is_asked, cold_probe_of}
 use Rattle.reset_probe.specs.Rules.{era_probe}
 use Rattle.ip_rules.specs.Judged.{where_holds}
-use Rattle.linked_table.proofs.Filters.{filter_none}
 use Rattle.ipv4_codec.specs.declared.header.Ipv4.{Ipv4}
 use Rattle.ipv4_codec.specs.Write.{plain_header}
 use Rattle.tcp_codec.specs.Write.{segment_octets}
 use Rattle.tcp_norm.specs.declared.step.Step.{Step}
 use Rattle.tcp_norm.specs.Calls.{read, segment_in, key_at}
 use Rattle.tcp_norm.specs.Views.{View}
-use Rattle.tcp_norm.specs.Rows.{is_live, holds_era, dropped_by, mended_by, noted, t_sum_out, clashes, pseudo_of}
+use Rattle.tcp_norm.specs.Rows.{is_live, holds_era, dropped_by, mended_by, noted, t_sum_out, pseudo_of, bare_mends, header_mends, stream_mends}
 use Rattle.tcp_norm.specs.Emits.{packet_by, packets_passed, probe_packet, probe_packets, segment_sent, sum_mended, segment_anew}
 use Rattle.tcp_norm.specs.Outcomes.{outcome_at, outcome_by, verdict_of}
 use Rattle.tcp_norm.specs.Steps.{IsStep, Does, Sends}
 use Rattle.tcp_norm.specs.Inwards.{passed}
 use Rattle.tcp_norm.specs.Heads.{IsHead, IsRead}
-use Rattle.tcp_norm.proofs.StreamRules.{row_is}
-use Rattle.tcp_norm.proofs.Calls.{fixed_or_passed}
+use Rattle.tcp_norm.proofs.EraWrites.{fixed_or_passed}
 use Rattle.tcp_norm.proofs.InboundSegments.{not_empty}
+use Rattle.wire_base.specs.declared.address.Side.{Side}
+use Rattle.std.specs.Prelude.{filter}
+use Rattle.tcp_norm.proofs.HeaderRules.{one_more}
 
 -- What becomes of an outbound datagram: it goes out, with its sum corrected where that is wrong and left to the sender's interface.
 
-and_false : (a b : Bool) → b ≡ false → (a && b) ≡ false
-and_false true b e = e
-and_false false b e = refl
-
-and_between : (a b c : Bool) → b ≡ false → (a && b && c) ≡ false
-and_between true b c e = rw e refl
-and_between false b c e = refl
-
-no_probe : (l x i r o : Bool) → x ≡ false → i ≡ false → ((not l && x) || (l && i && r && o)) ≡ false
-no_probe true x i r o e f = rw f refl
-no_probe false x i r o e f = rw e refl
-
 -- of the rules that rewrite only T_SUM_OUT may hold
+others : (settings : PlainSettings) (v : View) (d : Datagram) → goes_in d.side ≡ false → filter (holds_era settings v d) (header_mends ++ (bare_mends ++ stream_mends)) ≡ []
+others settings v d out = by d.side v.era out
+  where
+    by : (side : Side) (live : Option ℕ) → goes_in side ≡ false
+        → filter (holds_era settings (record v { era = live }) (record d { side = side })) (header_mends ++ (bare_mends ++ stream_mends)) ≡ []
+    by Inward live out = cc
+    by Outward None out = refl
+    by Outward (Some era) out = refl
+
 pub out_mended : (settings : PlainSettings) (v : View) (d : Datagram) (wrong : Bool) → goes_in d.side ≡ false → t_sum_out settings d ≡ wrong
     → mended_by settings v d ≡ where_holds wrong rules.TSumOut
 out_mended settings v d wrong side sum =
-    let p = holds_era settings v d in
-    let w = segment_in d in
-    let res : p rules.TRes ≡ false = rw side refl in
-    let urg : p rules.TUrg ≡ false = rw side refl in
-    let opt : p rules.TOpt ≡ false = rw side refl in
-    let strip : p rules.TStrip ≡ false = rw side refl in
-    let asked : is_asked w ≡ false = rw side refl in
-    let probe : p rules.CProbe ≡ false = no_probe (is_live v) (is_asked w) w.inward (tcp.has_rst w.flags) (is_some (out v.segments)) asked side in
-    let old : p rules.TOld ≡ false = and_false (is_live v) (era.t_old v.segments w) (rw side refl) in
-    let window : p rules.TWindow ≡ false = and_false (is_live v) (era.t_window v.segments w) (rw side refl) in
-    let end : p rules.TEnd ≡ false = and_false (is_live v) (era.t_end v.segments w) (rw side refl) in
-    let stream : era.is_of_stream v.segments w ≡ false = rw side refl in
-    let clash : p rules.TClash ≡ false = and_between (is_live v) (era.is_of_stream v.segments w) (clashes v.segments w) stream in
-    let rest : List Rule = rules.TRes ∷ rules.TUrg ∷ rules.TOpt ∷ rules.TStrip ∷ rules.CProbe ∷ rules.TOld ∷ rules.TWindow ∷ rules.TEnd ∷ rules.TClash ∷ [] in
-    row_is p rules.TSumOut rest wrong [] sum (filter_none p rest (res, (urg, (opt, (strip, (probe, (old, (window, (end, (clash, tt)))))))))) ∙ append-nil (where_holds wrong rules.TSumOut)
+    one_more (holds_era settings v d) rules.TSumOut (header_mends ++ (bare_mends ++ stream_mends))
+    ∙ (ap₂ (λ b l. where_holds b rules.TSumOut ++ l) sum (others settings v d side) ∙ append-nil (where_holds wrong rules.TSumOut))
 
 -- its packets: its own alone
 own_alone : (settings : PlainSettings) (v : View) (d : Datagram) (named : List Rule) → goes_in d.side ≡ false

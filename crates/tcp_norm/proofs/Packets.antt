@@ -1,40 +1,93 @@
--- The packets sent for a datagram: probes and its own; those that go inwards are plain.
-use Rattle.std.proofs.Common.{◌≡◌, ◌&&◌, not, Bool, true, false, cond, List, [], ◌∷◌, ◌++◌, Option, Some, None, refl, ℕ, ◌+◌, ◌-◌, ◌%◌, ◌≤◌, ◌||◌, length, take, max, min, ℤ, pos, negsuc, ◌+ℤ◌, arith, ◌/◌, ◌==◌, inl, inr, sym, ap, ap₂, subst, ◌∙◌}
+-- The packets sent for a datagram, probes and its own: fields fit their widths, those inwards are plain.
+use Rattle.std.proofs.Common.{◌≡◌, ℕ, ◌+◌, ◌-◌, ◌%◌, ◌^◌, ◌<◌, ◌≤◌, Bool, cond, List, length, pos, ◌+ℤ◌, arith, ◌&&◌, not, true, false, [], ◌∷◌, ◌++◌, Option, Some, None, refl, ◌||◌, take, max, min, ℤ, negsuc, inl, inr, sym, ap, ap₂, subst, ◌∙◌, slice_index, nat_lt, length-take-le, length-drop}
 use Rattle.std.specs.List.{AllByRecursion}
 use Rattle.std.proofs.lemmas.Int.{ints}
-use Rattle.std.proofs.lemmas.List.{length-take-le, length-drop}
-use Rattle.std.proofs.lemmas.Bool.{not-false, eqb-true}
+use Rattle.std.proofs.lemmas.Bool.{or_parts}
 use Rattle.wire_base.specs.Tcp as tcp
+use Rattle.wire_base.specs.Numbers.{u16_at, u32_at}
+use Rattle.wire_base.specs.Segments.{Written}
+use Rattle.tcp_codec.specs.Write.{Fits, segment_octets, AreReadBack}
+use Rattle.era_state.specs.Offsets.{nat_of}
+use Rattle.era_state.specs.Quantities.{base_at}
+use Rattle.era_state.specs.Keeping.{bounds_of, offset_of, low, high, keeps_fin, frame_sequence_of, Bounds, reach}
+use Rattle.ip_rules.specs.Datagrams.{Datagram, Packet, AnewIsPacket, IsPacketOf, goes_in}
 use Rattle.rule_book.specs.declared.rule.Rule.{Rule}
 use Rattle.norm_settings.specs.Settings.{PlainSettings}
 use Rattle.era_state.specs.declared.probe.Probe.{Probe}
 use Rattle.cold_start.specs.Rules.{cold_probe_of, is_asked}
 use Rattle.reset_probe.specs.Rules.{era_probe}
-use Rattle.ip_rules.specs.Datagrams.{Datagram, Packet, AnewIsPacket, IsPacketOf, goes_in}
-use Rattle.wire_base.specs.Segments.{Written}
 use Rattle.tcp_codec.specs.Cleaning.{CleansOctets, CleansOnce, StaysWellFormed}
 use Rattle.tcp_codec.specs.Mending.{MendedSayTheSame}
-use Rattle.tcp_codec.specs.Write.{Fits, segment_octets, AreReadBack}
-use Rattle.era_state.specs.Offsets.{nat_of}
-use Rattle.era_state.specs.Keeping.{Bounds, bounds_of, offset_of, low, high, reach}
 use Rattle.wire_base.specs.Sums.{sum_is_right, pseudo_sum}
 use Rattle.wire_base.specs.Options.{are_well_formed, cleaned}
 use Rattle.wire_base.specs.Plain.{Plain, IsPlainTcp}
 use Rattle.tcp_codec.specs.declared.header.Tcp.{Tcp}
-use Rattle.ip_rules.proofs.Undropped.{none_named}
+use Rattle.ip_rules.proofs.Lists.{none_named}
+use Rattle.tcp_norm.specs.Heads.{AreBits}
 use Rattle.tcp_norm.specs.Calls.{segment_in, is_written}
+use Rattle.tcp_norm.specs.Rows.{options_sent, is_live, dropped_by, mended_by, pseudo_of, mends, holds_era, bare_mends, header_mends, stream_mends}
+use Rattle.tcp_norm.specs.Emits.{without_flag, segment_with, bare_segment, stream_segment, is_fin_kept, octets_sent, packet_by, probe_packet, probe_packets, probe_dropped, segment_sent, segment_anew, sum_mended, flags_cleared}
 use Rattle.tcp_norm.specs.Views.{View}
-use Rattle.tcp_norm.specs.Rows.{is_live, dropped_by, mended_by, pseudo_of, options_sent, mends, holds_era}
-use Rattle.tcp_norm.specs.Emits.{packet_by, probe_packet, probe_packets, probe_dropped, segment_sent, segment_anew, bare_segment, stream_segment, sum_mended, octets_sent, without_flag, segment_with, is_fin_kept}
 use Rattle.tcp_norm.specs.Outcomes.{outcome_at, outcome_by}
 use Rattle.tcp_norm.specs.Segments.{ProbesAreSilent, IsSilentPacket, IsSegment}
-use Rattle.tcp_norm.specs.Heads.{AreBits}
-use Rattle.tcp_norm.proofs.Calls.{fixed_or_passed}
-use Rattle.tcp_norm.proofs.BareSegments.{written_long, behind, empty, rst_without_32, legal_without_32}
-use Rattle.tcp_norm.proofs.SynsAndResets.{bare_fits, stream_fits}
-use Rattle.tcp_norm.proofs.StreamRules.{sent_long, syn_without_32, is_one}
-use Rattle.tcp_norm.proofs.Lists.{differ_not}
-use Rattle.tcp_norm.proofs.StreamFrames.{or_false}
+use Rattle.tcp_norm.proofs.EraWrites.{fixed_or_passed}
+use Rattle.tcp_norm.proofs.BareSegments.{written_long, behind, empty}
+use Rattle.tcp_norm.proofs.StreamRules.{sent_long}
+use Rattle.tcp_norm.proofs.HeaderRules.{flags_stay, header_stays, legal_stays, less, other_flag}
+use Rattle.linked_table.proofs.Lists.{all_after, all_before}
+
+-- The fields of a rewritten segment fit their widths.
+
+-- The fields of a rewritten segment fit their widths.
+
+two : (m : List ℕ) (at : ℕ) → ((i : ℕ) → slice_index m i < 256) → u16_at m at < 2 ^ 16
+two m at fits = let a = fits at in let b = fits (at + 1) in omega (arith, a, b)
+
+four : (m : List ℕ) (at : ℕ) → ((i : ℕ) → slice_index m i < 256) → u32_at m at < 2 ^ 32
+four m at fits = let a = two m at fits in let b = two m (at + 2) fits in omega (arith, a, b)
+
+pub number_fits : (d : Datagram) → AreBits d.head d.octets → (segment_in d).seq < 2 ^ 32
+number_fits d real = four d.octets 4 real.each
+
+fits_with : (d : Datagram) (sequence flags : ℕ) (octets : List ℕ) → AreBits d.head d.octets → sequence < 2 ^ 32 → flags < 256 → length (options_sent d) % 4 ≡ 0 → length (options_sent d) ≤ 40
+    → 20 + length (options_sent d) + length octets ≤ 65515 → Fits (segment_with d sequence flags octets)
+fits_with d sequence flags octets real number marks words few size = record {
+  source = real.source;
+  destination = real.destination;
+  source_port = two d.octets 0 real.each;
+  destination_port = two d.octets 2 real.each;
+  sequence = number;
+  acknowledgment = four d.octets 8 real.each;
+  flags = (flags_stay flags).fits marks;
+  window = two d.octets 14 real.each;
+  words = words;
+  room = few;
+  size = size;
+}
+
+pub bare_fits : (d : Datagram) → AreBits d.head d.octets → length (options_sent d) % 4 ≡ 0 → length (options_sent d) ≤ 40 → Fits (bare_segment d)
+bare_fits d real words few = fits_with d (segment_in d).seq (segment_in d).flags [] real (number_fits d real) (real.each 13) words few (omega (arith, few))
+
+sequence_fits : (ws : List Written) (w : Written) → w.seq < 2 ^ 32 → frame_sequence_of ws w < 2 ^ 32
+sequence_fits ws w fits =
+    cases (nat_lt (low (bounds_of ws) (offset_of ws w.seq)) (high (bounds_of ws) (offset_of ws w.seq) (length w.octets)))
+    (keeps_fin (bounds_of ws) (offset_of ws w.seq) (length w.octets) (tcp.has_fin w.flags))
+  where
+    cases : (a b : Bool) → cond a ((base_at ws + low (bounds_of ws) (offset_of ws w.seq)) % 2 ^ 32) (cond b ((base_at ws + nat_of (offset_of ws w.seq +ℤ pos (length w.octets))) % 2 ^ 32) w.seq) < 2 ^ 32
+    cases true b = omega arith
+    cases false true = omega arith
+    cases false false = fits
+
+pub stream_fits : (ws : List Written) (d : Datagram) → AreBits d.head d.octets → length (options_sent d) % 4 ≡ 0 → length (options_sent d) ≤ 40
+    → 20 + length (options_sent d) + length (octets_sent ws (segment_in d)) ≤ 65515 → Fits (stream_segment ws d)
+stream_fits ws d real words few size =
+    fits_with d (frame_sequence_of ws (segment_in d)) _ (octets_sent ws (segment_in d)) real (sequence_fits ws (segment_in d) (number_fits d real)) (flags (is_fin_kept ws (segment_in d))) words few size
+  where
+    flags : (b : Bool) → cond b (segment_in d).flags (without_flag 1 (segment_in d).flags) < 256
+    flags true = real.each 13
+    flags false = less 1 (segment_in d).flags (real.each 13)
+
+-- The packets sent for a datagram: probes and its own; those that go inwards are plain.
 
 -- What holds of each packet that goes out for a datagram: probes, and its own.
 
@@ -199,8 +252,9 @@ read_plain : (settings : PlainSettings) (v : View) (d : Datagram) → IsSegment 
 read_plain settings v d s side none =
     let m = d.octets in
     let rows = none_named (holds_era settings v d) mends none in
-    let res : not (tcp.reserved m == 0) ≡ false = behind (goes_in d.side) (not (tcp.reserved m == 0)) side rows.1.0 in
-    let urg = or_false (tcp.has_urg (tcp.flags m)) (not (tcp.urgent_pointer m == 0)) (behind (goes_in d.side) _ side rows.1.1.0) in
+    let holds_not : Rule → Type 0 = λ rule. holds_era settings v d rule ≡ false in
+    let stays = header_stays settings v d side (all_before holds_not header_mends (bare_mends ++ stream_mends) rows.1) in
+    let strip = (all_after holds_not header_mends (bare_mends ++ stream_mends) rows.1).0 in
     let marked = tcp.has_syn (tcp.flags m) || tcp.has_rst (tcp.flags m) in
     let least = s.least in
     let inside = s.inside in
@@ -210,31 +264,13 @@ read_plain settings v d s side none =
       inside = s.inside;
       sum = s.sum side;
       flags = s.legal;
-      reserved = eqb-true (tcp.reserved m) 0 (not-false (tcp.reserved m == 0) res);
-      urgent = urg.0;
-      pointer = eqb-true (tcp.urgent_pointer m) 0 (not-false (tcp.urgent_pointer m == 0) urg.1);
+      reserved = stays.reserved;
+      urgent = stays.urgent;
+      pointer = stays.pointer;
       options = s.formed;
-      kept = differ_not (options_sent d) (tcp.options m) (behind (goes_in d.side) _ side rows.1.1.1.0);
-      bare = λ is. empty (tcp.payload m) (behind (goes_in d.side && marked) _ (ap₂ (λ a b. a && b) side is) rows.1.1.1.1.0);
+      kept = stays.options;
+      bare = λ is. empty (tcp.payload m) (behind (goes_in d.side && marked) _ (ap₂ (λ a b. a && b) side is) strip);
     }
-
--- a flag is as it was without another
-other_flag : (weight other x : ℕ) → (x / weight % 2 ≡ 1 → (x - weight) / other % 2 ≡ x / other % 2) → tcp.has_flag other (without_flag weight x) ≡ tcp.has_flag other x
-other_flag weight other x stays = cases (tcp.has_flag weight x) refl
-  where
-    cases : (b : Bool) → tcp.has_flag weight x ≡ b → tcp.has_flag other (cond b (x - weight) x) ≡ tcp.has_flag other x
-    cases false e = refl
-    cases true e = ap (λ n. n == 1) (stays (is_one (x / weight % 2) e))
-
-no_urgent : (x : ℕ) → tcp.has_urg (without_flag 32 x) ≡ false
-no_urgent x = cases (tcp.has_flag 32 x) refl
-  where
-    gone : (n : ℕ) → n / 32 % 2 ≡ 1 → (n - 32) / 32 % 2 ≡ 0
-    gone n h = omega arith
-
-    cases : (b : Bool) → tcp.has_flag 32 x ≡ b → tcp.has_urg (cond b (x - 32) x) ≡ false
-    cases false e = e
-    cases true e = ap (λ n. n == 1) (gone x (is_one (x / 32 % 2) e))
 
 -- what is kept of flags with neither SYN nor RST
 pub record GoOn (x y : ℕ) : Type 0 where
@@ -267,17 +303,17 @@ written_plain back once stays settings d sequence flags octets s fits legal syn 
     let it = back g fits in
     let long = written_long g in
     let header : tcp.header_length m ≡ 20 + length (options_sent d) = ap (λ (h : Tcp). h.header) it.header in
-    let sent : tcp.flags m ≡ without_flag 32 flags = ap (λ (h : Tcp). h.flags.0) it.header in
-    let syn_sent : tcp.has_syn (tcp.flags m) ≡ tcp.has_syn flags = ap tcp.has_syn sent ∙ syn_without_32 flags in
-    let rst_sent : tcp.has_rst (tcp.flags m) ≡ tcp.has_rst flags = ap tcp.has_rst sent ∙ rst_without_32 flags in
+    let sent : tcp.flags m ≡ flags_cleared flags = ap (λ (h : Tcp). h.flags.0) it.header in
+    let syn_sent : tcp.has_syn (tcp.flags m) ≡ tcp.has_syn flags = ap tcp.has_syn sent ∙ (flags_stay flags).syn in
+    let rst_sent : tcp.has_rst (tcp.flags m) ≡ tcp.has_rst flags = ap tcp.has_rst sent ∙ (flags_stay flags).rst in
     record {
       whole_header = omega (arith, long);
       data_offset = omega (arith, header);
       inside = omega (arith, header, long);
       sum = ap (λ n. sum_is_right m (pseudo_sum d.head.src.0 d.head.dst.0 6 n)) long ∙ ap (λ (h : Tcp). h.sum_right) it.header;
-      flags = ap tcp.are_legal sent ∙ (legal_without_32 flags ∙ legal);
+      flags = ap tcp.are_legal sent ∙ (legal_stays flags ∙ legal);
       reserved = ap (λ (h : Tcp). h.reserved) it.header;
-      urgent = ap tcp.has_urg sent ∙ no_urgent flags;
+      urgent = ap tcp.has_urg sent ∙ (flags_stay flags).urgent;
       pointer = ap (λ (h : Tcp). h.urgent) it.header;
       options = ap are_well_formed it.options ∙ stays (tcp.has_syn (tcp.flags d.octets)) (tcp.options d.octets) s.formed;
       kept = (λ k. cleaned ((syn_sent ∙ syn) k) (it.options k)) ∙ (once (tcp.has_syn (tcp.flags d.octets)) (tcp.options d.octets) ∙ sym it.options);
@@ -293,7 +329,7 @@ anew_plain back cleans once stays settings ws d s = cases (tcp.has_syn (tcp.flag
     cases true is =
         written_plain back once stays settings d (tcp.sequence d.octets) (tcp.flags d.octets) [] s (bare_fits_here cleans settings d s) s.legal refl (λ marked. refl)
     cases false is =
-        let none = or_false (tcp.has_syn (tcp.flags d.octets)) (tcp.has_rst (tcp.flags d.octets)) is in
+        let none = or_parts (tcp.has_syn (tcp.flags d.octets)) (tcp.has_rst (tcp.flags d.octets)) is in
         let go = flags_kept (is_fin_kept ws (segment_in d)) (tcp.flags d.octets) none.0 none.1 in
         written_plain back once stays settings d _ _ (octets_sent ws (segment_in d)) s (stream_fits_here cleans settings ws d s) (go.legal ∙ s.legal) (go.syn ∙ sym none.0)
         (λ marked. let unmarked = ap₂ (λ a b. a || b) go.syn go.rst in cc)
@@ -305,7 +341,7 @@ sent_plain back cleans once stays settings v d s side [] none = read_plain setti
 sent_plain back cleans once stays settings v d s side (rule ∷ more) some =
     subst (λ b. IsPlainSegment d (cond b (segment_octets (segment_anew v.segments d)) (sum_mended d))) (sym side) (anew_plain back cleans once stays settings v.segments d s)
 
-sent_is : (settings : PlainSettings) (ws : List Written) (d : Datagram) (fixes mended : List Rule) → segment_sent ws d mended ≡ (packet_by settings ws d fixes mended).octets
+pub sent_is : (settings : PlainSettings) (ws : List Written) (d : Datagram) (fixes mended : List Rule) → segment_sent ws d mended ≡ (packet_by settings ws d fixes mended).octets
 sent_is settings ws d [] [] = refl
 sent_is settings ws d [] (rule ∷ more) = refl
 sent_is settings ws d (fix ∷ others) mended = refl

@@ -1,8 +1,7 @@
--- What the rules say of an inbound segment of the stream, and what is rewritten under them.
-use Rattle.std.proofs.Common.{◌≡◌, ◌&&◌, ◌||◌, not, Bool, true, false, cond, List, [], ◌∷◌, ◌++◌, Some, None, refl, sym, ap, ap₂, ◌∙◌, append_assoc, ℕ, zero, suc, ◌+◌, ◌-◌, ◌/◌, ◌%◌, ◌==◌, length, map, arith, ◌<◌, ◌^◌, subst}
-use Rattle.std.specs.Prelude.{filter}
-use Rattle.std.proofs.lemmas.List.{append-nil}
+-- Which rules hold of an inbound segment of the stream, which drops it, and what is rewritten under them.
+use Rattle.std.proofs.Common.{◌≡◌, ◌&&◌, ◌||◌, not, Bool, true, false, cond, List, [], ◌∷◌, ◌++◌, Some, None, refl, sym, ap, ap₂, ◌∙◌, ℕ, zero, suc, ◌+◌, ◌-◌, ◌/◌, ◌%◌, ◌==◌, length, map, arith, ◌<◌, ◌^◌, subst, filter}
 use Rattle.std.specs.List.{range_with_len}
+use Rattle.std.proofs.lemmas.Bool.{and_parts}
 use Rattle.wire_base.specs.Tcp as tcp
 use Rattle.wire_base.specs.Segments.{Written}
 use Rattle.rule_book.specs.declared.rule.Rule.{Rule}
@@ -25,13 +24,16 @@ use Rattle.era_state.specs.Standing.{WarmFor}
 use Rattle.wire_base.specs.Options.{cleaned}
 use Rattle.tcp_norm.specs.Calls.{segment_in, read, datagram, key_of}
 use Rattle.tcp_norm.specs.Views.{View}
-use Rattle.tcp_norm.specs.Rows.{is_live, holds_era, dropped_by, mended_by, t_quota, t_room, t_res, t_urg, t_opt, clashes, begins, reopens, t_full, low_of, high_of, octet_sent, kept_offsets, differ}
+use Rattle.tcp_norm.specs.Rows.{is_live, holds_era, dropped_by, mended_by, t_quota, t_room, clashes, begins, reopens, t_full, low_of, high_of, octet_sent, kept_offsets, differ, bare_mends, header_mends, stream_mends}
 use Rattle.tcp_norm.specs.Outcomes.{begun_with, ended_with, ends, outcome_at}
-use Rattle.tcp_norm.specs.Streams.{stream_rows}
-use Rattle.tcp_norm.specs.Emits.{without_flag, stream_segment, is_fin_kept, octets_sent}
+use Rattle.tcp_norm.specs.Streams.{stream_rows, and_those, header_rows}
+use Rattle.tcp_norm.specs.Emits.{without_flag, stream_segment, is_fin_kept, octets_sent, flags_cleared}
 use Rattle.tcp_norm.specs.Heads.{seen}
 use Rattle.tcp_norm.specs.Writes.{WritesIn}
 use Rattle.tcp_norm.specs.Laws.{StreamsAreWritten}
+use Rattle.std.proofs.lemmas.List.Elements.{filter-append}
+use Rattle.tcp_norm.proofs.HeaderRules.{flags_stay, header_are, header_mended, one_more, other_flag, those_are}
+use Rattle.linked_table.proofs.Lists.{filter_none}
 
 -- What the rules say of an inbound segment of the stream: T_QUOTA or T_ROOM alone may drop it, and those that may rewrite it are seven.
 
@@ -43,11 +45,6 @@ pub record OfStream (ws : List Written) (w : Written) : Type 0 where
   pub not_called : is_called (state_of ws) ≡ false
   pub not_offered : is_offered (state_of ws) ≡ false
   pub whole : era.is_of_stream ws w ≡ true
-
-pub both_true : (a b : Bool) → (a && b) ≡ true → (a ≡ true) × (b ≡ true)
-both_true true true e = (refl, refl)
-both_true true false e = cc
-both_true false b e = cc
 
 pub not_true : (a : Bool) → not a ≡ true → a ≡ false
 not_true false e = refl
@@ -61,9 +58,9 @@ known closed e = (refl, refl)
 
 pub of_stream : (ws : List Written) (w : Written) → era.is_of_stream ws w ≡ true → OfStream ws w
 of_stream ws w whole =
-    let last = both_true (w.inward && not (tcp.has_syn w.flags) && not (tcp.has_rst w.flags)) (is_acknowledged (state_of ws)) whole in
-    let third = both_true (w.inward && not (tcp.has_syn w.flags)) (not (tcp.has_rst w.flags)) last.0 in
-    let second = both_true w.inward (not (tcp.has_syn w.flags)) third.0 in
+    let last = and_parts (w.inward && not (tcp.has_syn w.flags) && not (tcp.has_rst w.flags)) (is_acknowledged (state_of ws)) whole in
+    let third = and_parts (w.inward && not (tcp.has_syn w.flags)) (not (tcp.has_rst w.flags)) last.0 in
+    let second = and_parts w.inward (not (tcp.has_syn w.flags)) third.0 in
     let state = known (state_of ws) last.1 in
     record {
       inward = second.0;
@@ -104,19 +101,19 @@ stream_dropped settings v d live f =
     let full : holds_era settings v d rules.TFull ≡ false = rw live refl in
     dropped_is settings v d false false false false false (t_quota settings v (segment_in d)) (t_room v (segment_in d)) f.inward cold early again ended full refl refl
 
--- a filter, element by element
-each_row : (p : Rule → Bool) (x : Rule) (xs : List Rule) → filter p (x ∷ xs) ≡ where_holds (p x) x ++ filter p xs
-each_row p x xs = elim (p x) as (λ b. cond b (x ∷ filter p xs) (filter p xs) ≡ where_holds b x ++ filter p xs) [ true ↦ refl | false ↦ refl ]
-
-pub row_is : (p : Rule → Bool) (x : Rule) (xs : List Rule) (b : Bool) (rest : List Rule) → p x ≡ b → filter p xs ≡ rest → filter p (x ∷ xs) ≡ where_holds b x ++ rest
-row_is p x xs b rest here later = each_row p x xs ∙ ap₂ (λ c l. where_holds c x ++ l) here later
-
-right : (a b c d e f g : List Rule) → a ++ (b ++ (c ++ (d ++ (e ++ (f ++ (g ++ [])))))) ≡ a ++ b ++ c ++ d ++ e ++ f ++ g
-right a b c d e f g = simp (append_assoc, append-nil)
+-- the rules that rewrite it, by where they stand
+pub mended_parts : (settings : PlainSettings) (v : View) (d : Datagram) (b : Bool) (bare stream : List Rule) → holds_era settings v d rules.TSumOut ≡ b
+    → filter (holds_era settings v d) bare_mends ≡ bare → filter (holds_era settings v d) stream_mends ≡ stream
+    → mended_by settings v d ≡ where_holds b rules.TSumOut ++ (header_mended settings v d ++ (bare ++ stream))
+mended_parts settings v d b bare stream sum is_bare is_stream =
+    let p = holds_era settings v d in
+    one_more p rules.TSumOut (header_mends ++ (bare_mends ++ stream_mends))
+    ∙ ap₂ (λ c l. where_holds c rules.TSumOut ++ l) sum (filter-append p header_mends (bare_mends ++ stream_mends)
+    ∙ ap (λ l. header_mended settings v d ++ l) (filter-append p bare_mends stream_mends ∙ ap₂ (λ x y. x ++ y) is_bare is_stream))
 
 pub stream_mended : (settings : PlainSettings) (v : View) (d : Datagram) (i : Interval) (clash : Bool) → is_live v ≡ true → OfStream v.segments (segment_in d)
     → KeptOf v.segments (segment_in d) i → clash ≡ clashes v.segments (segment_in d)
-    → mended_by settings v d ≡ stream_rows (t_res d) (t_urg d) (t_opt d) i.below i.window i.end clash
+    → mended_by settings v d ≡ stream_rows (header_mended settings v d) i clash
 stream_mended settings v d i clash live f is clash_is =
     let p = holds_era settings v d in
     let side : goes_in d.side ≡ true = f.inward in
@@ -127,18 +124,9 @@ stream_mended settings v d i clash live f is clash_is =
     let window : p rules.TWindow ≡ i.window = ap₂ (λ a b. a && b) live (sym is.window_is) in
     let end : p rules.TEnd ≡ i.end = ap₂ (λ a b. a && b) live (sym is.end_is) in
     let clashed : p rules.TClash ≡ clash = ap₂ (λ a b. a && b && clashes v.segments (segment_in d)) live f.whole ∙ sym clash_is in
-    let l8 : List Rule = rules.TClash ∷ [] in
-    let l7 : List Rule = rules.TEnd ∷ l8 in
-    let l6 : List Rule = rules.TWindow ∷ l7 in
-    let l5 : List Rule = rules.TOld ∷ l6 in
-    let l4 : List Rule = rules.CProbe ∷ l5 in
-    let l3 : List Rule = rules.TStrip ∷ l4 in
-    let l2 : List Rule = rules.TOpt ∷ l3 in
-    let l1 : List Rule = rules.TUrg ∷ l2 in
-    let l0 : List Rule = rules.TRes ∷ l1 in
-    row_is p rules.TSumOut l0 false _ sum (row_is p rules.TRes l1 (t_res d) _ refl (row_is p rules.TUrg l2 (t_urg d) _ refl (row_is p rules.TOpt l3 (t_opt d) _ refl (row_is p rules.TStrip l4 false _ strip (row_is p rules.CProbe l5 false _ probe (row_is p rules.TOld l6 i.below _ old (row_is p rules.TWindow l7 i.window _ window (row_is p rules.TEnd l8 i.end _ end (row_is p rules.TClash [] clash _ clashed refl)))))))))
-    ∙ right (where_holds (t_res d) rules.TRes) (where_holds (t_urg d) rules.TUrg) (where_holds (t_opt d) rules.TOpt) (where_holds i.below rules.TOld)
-    (where_holds i.window rules.TWindow) (where_holds i.end rules.TEnd) (where_holds clash rules.TClash)
+    mended_parts settings v d false [] (filter p stream_mends) sum (filter_none p bare_mends (strip, (probe, tt))) refl
+    ∙ (sym (those_are p (header_mended settings v d) stream_mends)
+    ∙ (λ k. and_those (header_mended settings v d) ((rules.TOld, old k) ∷ (rules.TWindow, window k) ∷ (rules.TEnd, end k) ∷ (rules.TClash, clashed k) ∷ [])))
 
 -- no era begins or ends with it
 no_call : (ws : List Written) (w : Written) → OfStream ws w → era.reopens_inward ws w ≡ false
@@ -175,42 +163,15 @@ stream_ends_none v w live f =
 
 -- The segment of the stream that is rewritten is the frame of its interval.
 
--- without one flag the others are set
-bits_syn_32 : (x : ℕ) → x / 32 % 2 ≡ 1 → (x - 32) / 2 % 2 ≡ x / 2 % 2
-bits_syn_32 x h = omega arith
-
-bits_fin_32 : (x : ℕ) → x / 32 % 2 ≡ 1 → (x - 32) / 1 % 2 ≡ x / 1 % 2
-bits_fin_32 x h = omega arith
-
-bits_syn_1 : (x : ℕ) → x / 1 % 2 ≡ 1 → (x - 1) / 2 % 2 ≡ x / 2 % 2
-bits_syn_1 x h = omega arith
-
+-- without FIN SYN is set as it was
 bits_fin_1 : (x : ℕ) → x / 1 % 2 ≡ 1 → (x - 1) / 1 % 2 ≡ 0
 bits_fin_1 x h = omega arith
 
 pub is_one : (n : ℕ) → (n == 1) ≡ true → n ≡ 1
 is_one n e = grind arith
 
-pub syn_without_32 : (x : ℕ) → tcp.has_syn (without_flag 32 x) ≡ tcp.has_syn x
-syn_without_32 x = cases (tcp.has_flag 32 x) refl
-  where
-    cases : (b : Bool) → tcp.has_flag 32 x ≡ b → tcp.has_syn (cond b (x - 32) x) ≡ tcp.has_syn x
-    cases false e = refl
-    cases true e = ap (λ n. n == 1) (bits_syn_32 x (is_one (x / 32 % 2) e))
-
-pub fin_without_32 : (x : ℕ) → tcp.has_fin (without_flag 32 x) ≡ tcp.has_fin x
-fin_without_32 x = cases (tcp.has_flag 32 x) refl
-  where
-    cases : (b : Bool) → tcp.has_flag 32 x ≡ b → tcp.has_fin (cond b (x - 32) x) ≡ tcp.has_fin x
-    cases false e = refl
-    cases true e = ap (λ n. n == 1) (bits_fin_32 x (is_one (x / 32 % 2) e))
-
 syn_without_1 : (x : ℕ) → tcp.has_syn (without_flag 1 x) ≡ tcp.has_syn x
-syn_without_1 x = cases (tcp.has_flag 1 x) refl
-  where
-    cases : (b : Bool) → tcp.has_flag 1 x ≡ b → tcp.has_syn (cond b (x - 1) x) ≡ tcp.has_syn x
-    cases false e = refl
-    cases true e = ap (λ n. n == 1) (bits_syn_1 x (is_one (x / 1 % 2) e))
+syn_without_1 x = other_flag 1 2 x (λ h. omega arith)
 
 fin_without_1 : (x : ℕ) → tcp.has_fin (without_flag 1 x) ≡ false
 fin_without_1 x = cases (tcp.has_flag 1 x) refl
@@ -219,13 +180,13 @@ fin_without_1 x = cases (tcp.has_flag 1 x) refl
     cases false e = e
     cases true e = ap (λ n. n == 1) (bits_fin_1 x (is_one (x / 1 % 2) e))
 
-syn_sent : (kept : Bool) (x : ℕ) → tcp.has_syn (without_flag 32 (cond kept x (without_flag 1 x))) ≡ tcp.has_syn x
-syn_sent true x = syn_without_32 x
-syn_sent false x = syn_without_32 (without_flag 1 x) ∙ syn_without_1 x
+syn_sent : (kept : Bool) (x : ℕ) → tcp.has_syn (flags_cleared (cond kept x (without_flag 1 x))) ≡ tcp.has_syn x
+syn_sent true x = (flags_stay x).syn
+syn_sent false x = (flags_stay (without_flag 1 x)).syn ∙ syn_without_1 x
 
-fin_sent : (kept : Bool) (x : ℕ) → (kept ≡ true → tcp.has_fin x ≡ true) → tcp.has_fin (without_flag 32 (cond kept x (without_flag 1 x))) ≡ kept
-fin_sent true x goes = fin_without_32 x ∙ goes refl
-fin_sent false x goes = fin_without_32 (without_flag 1 x) ∙ fin_without_1 x
+fin_sent : (kept : Bool) (x : ℕ) → (kept ≡ true → tcp.has_fin x ≡ true) → tcp.has_fin (flags_cleared (cond kept x (without_flag 1 x))) ≡ kept
+fin_sent true x goes = (flags_stay x).fin ∙ goes refl
+fin_sent false x goes = (flags_stay (without_flag 1 x)).fin ∙ fin_without_1 x
 
 first_true : (a b : Bool) → (a && b) ≡ true → a ≡ true
 first_true true b e = refl
@@ -278,15 +239,7 @@ passes law settings v d e i n now ws sent live segs was stream kept quota room n
 pub rows_are : (settings : PlainSettings) (v : View) (d : Datagram) (m : List ℕ) (head : Tcp) (i : Interval) (clash changed : Bool) (rows : List Rule)
     → head ≡ seen m head → d.octets ≡ m → goes_in d.side ≡ true → is_live v ≡ true → OfStream v.segments (segment_in d) → KeptOf v.segments (segment_in d) i
     → clash ≡ clashes v.segments (segment_in d) → changed ≡ differ (cleaned (tcp.has_syn head.flags.0) (tcp.options m)) (tcp.options m)
-    → rows ≡ stream_rows (not (head.reserved == 0)) (tcp.has_urg head.flags.0 || not (head.urgent == 0)) changed i.below i.window i.end clash
+    → rows ≡ stream_rows (header_rows head changed) i clash
     → rows ≡ mended_by settings v d
 rows_are settings v d m head i clash changed rows fields octets side live f kept clashed cleans listed =
-    let here = sym octets in
-    let res : not (head.reserved == 0) ≡ t_res d =
-    ap (λ (h : Tcp). not (h.reserved == 0)) fields ∙ ap₂ (λ b l. b && not (tcp.reserved l == 0)) (sym side) here in
-    let urg : (tcp.has_urg head.flags.0 || not (head.urgent == 0)) ≡ t_urg d =
-    ap (λ (h : Tcp). tcp.has_urg h.flags.0 || not (h.urgent == 0)) fields ∙ ap₂ (λ b l. b && (tcp.has_urg (tcp.flags l) || not (tcp.urgent_pointer l == 0))) (sym side) here in
-    let opt : changed ≡ t_opt d =
-    cleans ∙ (ap (λ (h : Tcp). differ (cleaned (tcp.has_syn h.flags.0) (tcp.options m)) (tcp.options m)) fields
-    ∙ ap₂ (λ b l. b && differ (cleaned (tcp.has_syn (tcp.flags l)) (tcp.options l)) (tcp.options l)) (sym side) here) in
-    listed ∙ ((λ k. stream_rows (res k) (urg k) (opt k) i.below i.window i.end clash) ∙ sym (stream_mended settings v d i clash live f kept clashed))
+    listed ∙ (ap (λ l. stream_rows l i clash) (header_are settings v d m head changed fields octets side cleans) ∙ sym (stream_mended settings v d i clash live f kept clashed))

@@ -1,100 +1,59 @@
--- An inbound SYN or RST as it is written.
-use Rattle.std.proofs.Common.{◌≡◌, ℕ, ◌+◌, ◌-◌, ◌%◌, ◌^◌, ◌<◌, ◌≤◌, Bool, true, false, cond, List, [], length, pos, ◌+ℤ◌, arith, ◌&&◌, ◌||◌, not, ◌∷◌, ◌++◌, map, Option, Some, None, is_some, refl, sym, ap, ap₂, subst, ◌∙◌}
-use Rattle.std.specs.Prelude.{slice_index, nat_lt}
-use Rattle.std.specs.Option.{option_or}
+-- An inbound SYN or RST: what is ruled of it, reported and written, by what is live of its connection.
+use Rattle.std.proofs.Common.{◌≡◌, ℕ, ◌+◌, ◌%◌, Bool, true, false, List, length, arith, ◌&&◌, ◌||◌, not, ◌∷◌, map, Option, Some, None, is_some, refl, sym, ap, ap₂, subst, ◌∙◌, ◌==◌, cond, [], take, ◌-◌, nat_lt}
 use Rattle.std.specs.List.{AllByRecursion}
 use Rattle.wire_base.specs.Tcp as tcp
-use Rattle.wire_base.specs.Numbers.{u16_at, u32_at}
 use Rattle.wire_base.specs.Segments.{Written}
-use Rattle.tcp_codec.specs.Write.{Fits, AreReadBack}
-use Rattle.era_state.specs.Offsets.{nat_of}
-use Rattle.era_state.specs.Quantities.{base_at, out, base_of}
-use Rattle.era_state.specs.Keeping.{bounds_of, offset_of, low, high, keeps_fin, frame_sequence_of}
-use Rattle.ip_rules.specs.Datagrams.{Datagram, Packet, goes_in, IsDatagram}
+use Rattle.tcp_codec.specs.Write.{AreReadBack}
+use Rattle.era_state.specs.Quantities.{out, base_of, octets_of}
+use Rattle.ip_rules.specs.Datagrams.{Datagram, goes_in, IsDatagram, Packet, raised, frames_of}
 use Rattle.wire_base.specs.Options.{cleaned}
-use Rattle.ipv4_codec.specs.declared.header.Ipv4.{Ipv4}
 use Rattle.ip_rules.specs.declared.judged.IpPacket.{IpPacket}
 use Rattle.rule_book.specs.declared.rule.Rule.{Rule}
-use Rattle.rule_book.specs.declared.rule.Rule.TheVariants as rules
 use Rattle.norm_settings.specs.Settings.{PlainSettings}
-use Rattle.tcp_codec.specs.declared.header.Tcp.{Tcp}
 use Rattle.era_state.specs.declared.segment.Seg.{Seg}
 use Rattle.era_state.specs.Read.{came}
 use Rattle.era_state.specs.declared.probe.Probe.{Probe}
 use Rattle.era_state.specs.Silence.{IsSilent}
-use Rattle.era_state.specs.States.{state_of, is_acknowledged, is_closed}
+use Rattle.era_state.specs.States.{state_of, is_closed}
 use Rattle.era_state.specs.Rules as era
 use Rattle.reset_probe.specs.Rules.{era_probe, probe_with, awaited_number}
-use Rattle.cold_start.specs.Rules.{is_asked}
-use Rattle.tcp_norm.specs.Heads.{AreBits, IsRead}
-use Rattle.tcp_norm.specs.Calls.{segment_in, read}
-use Rattle.tcp_norm.specs.Rows.{options_sent, is_live, c_probe, t_quota, t_room, dropped_by, mended_by}
-use Rattle.tcp_norm.specs.Emits.{without_flag, segment_with, bare_segment, stream_segment, is_fin_kept, octets_sent, packet_by, probe_packets, probe_dropped, segment_anew}
-use Rattle.tcp_norm.specs.Views.{View}
-use Rattle.tcp_norm.specs.declared.step.Step.{Step}
+use Rattle.cold_start.specs.Rules.{is_asked, cold_probe_of}
+use Rattle.wire_base.specs.declared.address.Side.{Side}
+use Rattle.wire_base.specs.declared.address.Side.TheVariants.{Inward, Outward}
+use Rattle.ipv4_codec.specs.declared.header.Ipv4.{Ipv4}
+use Rattle.tcp_codec.specs.declared.header.Tcp.{Tcp}
+use Rattle.wire_base.specs.declared.address.FlowKey.{FlowKey}
+use Rattle.rule_book.specs.declared.rule.Rule.TheVariants as rules
+use Rattle.rule_book.specs.declared.entry.Verdict.TheVariants as verdicts
+use Rattle.era_state.specs.Rules.{t_state, t_syn, reopens_inward}
+use Rattle.era_state.specs.Eras as eras
+use Rattle.tcp_norm.specs.Heads.{AreBits, IsRead, seen}
+use Rattle.tcp_norm.specs.Calls.{segment_in, read, Call, segments, key_of}
+use Rattle.tcp_norm.specs.Rows.{options_sent, is_live, c_probe, mended_by, dropped_by, differ}
+use Rattle.tcp_norm.specs.Emits.{packet_by, probe_packets, segment_anew, bare_segment, flags_cleared}
+use Rattle.tcp_norm.specs.Views.{View, view_of}
 use Rattle.tcp_norm.specs.Inwards.{bare_read, passed}
 use Rattle.tcp_norm.specs.Anews.{anew_segment}
-use Rattle.tcp_norm.specs.Steps.{IsStep, listed}
-use Rattle.tcp_norm.specs.Resets.{WritesAll}
-use Rattle.tcp_norm.proofs.StreamRules.{OfStream, not_true, stream_dropped, stream_begins_none, stream_ends_none}
-use Rattle.tcp_norm.proofs.Calls.{fixed_or_passed}
-use Rattle.tcp_norm.proofs.BareSegments.{bare_is_read, bare_anew, bare_mended}
+use Rattle.tcp_norm.specs.Rulings.{probe_frames, IsRewritten, refused_by, IsFound}
+use Rattle.tcp_norm.specs.Passing.{given}
+use Rattle.tcp_norm.specs.declared.arrival.Arrival.{Arrival}
+use Rattle.tcp_norm.specs.declared.ruling.Passage.{Passage}
+use Rattle.tcp_norm.specs.Live.{Live}
+use Rattle.tcp_norm.specs.declared.ruling.Refusal.{Refusal}
+use Rattle.tcp_norm.specs.declared.state.TcpNorm.{TcpNorm}
+use Rattle.tcp_norm.specs.declared.step.Step.{Step}
+use Rattle.tcp_norm.specs.Outcomes.{outcome_at}
+use Rattle.tcp_norm.specs.Standing.{StandsFor}
+use Rattle.tcp_norm.specs.Steps.{IsStep, Does, continued_in, reopened_by}
+use Rattle.tcp_norm.specs.Streams.{bare_rows, header_rows}
+use Rattle.tcp_norm.proofs.StreamRules.{not_true}
+use Rattle.tcp_norm.proofs.BareSegments.{bare_is_read, bare_anew, bare_mended, Comes, beside_are}
+use Rattle.tcp_norm.proofs.Packets.{bare_fits}
+use Rattle.tcp_norm.proofs.InboundSegments.{probe_is, in_dropped, in_outcome, in_does, packets_live, of_live, flags_are}
+use Rattle.tcp_norm.proofs.Connections.{state_same, syn_same, again_same, called_dropped, step_seen, step_recalled, no_reset, probe_same}
+use Rattle.tcp_norm.proofs.Connections as connections
 
--- The fields of a rewritten segment fit their widths.
-
-two : (m : List ℕ) (at : ℕ) → ((i : ℕ) → slice_index m i < 256) → u16_at m at < 2 ^ 16
-two m at fits = let a = fits at in let b = fits (at + 1) in omega (arith, a, b)
-
-four : (m : List ℕ) (at : ℕ) → ((i : ℕ) → slice_index m i < 256) → u32_at m at < 2 ^ 32
-four m at fits = let a = two m at fits in let b = two m (at + 2) fits in omega (arith, a, b)
-
-pub number_fits : (d : Datagram) → AreBits d.head d.octets → (segment_in d).seq < 2 ^ 32
-number_fits d real = four d.octets 4 real.each
-
-less : (weight x : ℕ) → x < 256 → without_flag weight x < 256
-less weight x lt = cases (tcp.has_flag weight x)
-  where
-    cases : (b : Bool) → cond b (x - weight) x < 256
-    cases true = omega arith
-    cases false = lt
-
-fits_with : (d : Datagram) (sequence flags : ℕ) (octets : List ℕ) → AreBits d.head d.octets → sequence < 2 ^ 32 → flags < 256 → length (options_sent d) % 4 ≡ 0 → length (options_sent d) ≤ 40
-    → 20 + length (options_sent d) + length octets ≤ 65515 → Fits (segment_with d sequence flags octets)
-fits_with d sequence flags octets real number marks words few size = record {
-  source = real.source;
-  destination = real.destination;
-  source_port = two d.octets 0 real.each;
-  destination_port = two d.octets 2 real.each;
-  sequence = number;
-  acknowledgment = four d.octets 8 real.each;
-  flags = less 32 flags marks;
-  window = two d.octets 14 real.each;
-  words = words;
-  room = few;
-  size = size;
-}
-
-pub bare_fits : (d : Datagram) → AreBits d.head d.octets → length (options_sent d) % 4 ≡ 0 → length (options_sent d) ≤ 40 → Fits (bare_segment d)
-bare_fits d real words few = fits_with d (segment_in d).seq (segment_in d).flags [] real (number_fits d real) (real.each 13) words few (omega (arith, few))
-
-sequence_fits : (ws : List Written) (w : Written) → w.seq < 2 ^ 32 → frame_sequence_of ws w < 2 ^ 32
-sequence_fits ws w fits =
-    cases (nat_lt (low (bounds_of ws) (offset_of ws w.seq)) (high (bounds_of ws) (offset_of ws w.seq) (length w.octets)))
-    (keeps_fin (bounds_of ws) (offset_of ws w.seq) (length w.octets) (tcp.has_fin w.flags))
-  where
-    cases : (a b : Bool) → cond a ((base_at ws + low (bounds_of ws) (offset_of ws w.seq)) % 2 ^ 32) (cond b ((base_at ws + nat_of (offset_of ws w.seq +ℤ pos (length w.octets))) % 2 ^ 32) w.seq) < 2 ^ 32
-    cases true b = omega arith
-    cases false true = omega arith
-    cases false false = fits
-
-pub stream_fits : (ws : List Written) (d : Datagram) → AreBits d.head d.octets → length (options_sent d) % 4 ≡ 0 → length (options_sent d) ≤ 40
-    → 20 + length (options_sent d) + length (octets_sent ws (segment_in d)) ≤ 65515 → Fits (stream_segment ws d)
-stream_fits ws d real words few size =
-    fits_with d (frame_sequence_of ws (segment_in d)) _ (octets_sent ws (segment_in d)) real (sequence_fits ws (segment_in d) (number_fits d real)) (flags (is_fin_kept ws (segment_in d))) words few size
-  where
-    flags : (b : Bool) → cond b (segment_in d).flags (without_flag 1 (segment_in d).flags) < 256
-    flags true = real.each 13
-    flags false = less 1 (segment_in d).flags (real.each 13)
+-- An inbound SYN or RST as it is written.
 
 -- An inbound SYN or RST as it is written, and what holds of it by what was asked of the calls before.
 
@@ -132,7 +91,7 @@ bare_writes back settings v d packet link head probe rows s side is bits h optio
     let long = ap length cleans in
     let fits = bare_fits d here (ap (λ n. n % 4) (sym long) ∙ words) (omega (arith, long, size, h.most)) in
     ap (λ w. w ∷ []) (ap (λ b. read b (packet_by settings v.segments d d.fixes rows).octets) side
-    ∙ (bare_is_read back settings v.segments d probe rows side fits (bare_anew v.segments d marked) marked (sym (bare_mended settings v d probe side stream probes) ∙ mends)
+    ∙ (bare_is_read back settings v d probe rows side fits (bare_anew v.segments d marked) marked (sym (bare_mended settings v d probe side stream probes) ∙ mends)
     ∙ (ap bare_read is.octets ∙ sym reads)))
 
 -- of a live era
@@ -160,70 +119,6 @@ syn_marked w syn = rw syn refl
 pub rst_marked : (w : Written) → tcp.has_syn w.flags ≡ false → tcp.has_rst w.flags ≡ true → (tcp.has_syn w.flags || tcp.has_rst w.flags) ≡ true
 rst_marked w syn rst = rw (syn, rst) refl
 
--- the flags of the segment are those of its header
-pub flags_are : (packet : IpPacket) (link : List ℕ) (d : Datagram) (head : Tcp) → IsDatagram packet link d → IsRead packet.payload.now head → head.flags.0 ≡ (segment_in d).flags
-flags_are packet link d head is h = ap (λ (x : Tcp). x.flags.0) h.fields ∙ ap tcp.flags (sym is.octets)
-
--- a segment of the stream of an era of which an offset is acknowledged
-pub stream_is : (ws : List Written) (w : Written) → is_acknowledged (state_of ws) ≡ true → w.inward ≡ true → tcp.has_syn w.flags ≡ false → tcp.has_rst w.flags ≡ false
-    → era.is_of_stream ws w ≡ true
-stream_is ws w settled inward syn rst = rw (inward, syn, rst) settled
-
-pub step_stream : (v : View) (w : Written) (n : ℕ) → v.era ≡ Some n → OfStream v.segments w → IsStep v w (record { era = Some n; begun = None; ended = None; full = false })
-step_stream v w n live f =
-    let none = stream_begins_none v w (ap is_some live) f in
-    record {
-      era_is = sym (ap₂ option_or none live);
-      begun_is = sym none;
-      ended_is = sym (stream_ends_none v w (ap is_some live) f);
-      full_is = rw live refl;
-    }
-
--- it is rewritten from the fields of its header
-pub stream_anew : (ws : List Written) (d : Datagram) (packet : IpPacket) (link : List ℕ) (head : Tcp) (seq : ℕ) (fin : Bool) (octets : List ℕ)
-    → IsDatagram packet link d → IsRead packet.payload.now head → tcp.has_syn (segment_in d).flags ≡ false → tcp.has_rst (segment_in d).flags ≡ false
-    → seq ≡ frame_sequence_of ws (segment_in d) → fin ≡ is_fin_kept ws (segment_in d) → octets ≡ octets_sent ws (segment_in d)
-    → segment_anew ws d ≡ anew_segment packet.head head seq fin (cleaned (tcp.has_syn head.flags.0) (tcp.options packet.payload.now)) octets
-stream_anew ws d packet link head seq fin octets is h syn rst seq_is fin_is sent =
-    let m = sym is.octets in
-    let whole : segment_anew ws d ≡ stream_segment ws d = ap₂ (λ a b. cond (a || b) (bare_segment d) (stream_segment ws d)) syn rst in
-    whole ∙ sym (λ k. record {
-      source = ((sym is.head) k).src.0;
-      destination = ((sym is.head) k).dst.0;
-      source_port = (ap (λ (x : Tcp). x.sport) h.fields ∙ ap tcp.source_port m) k;
-      destination_port = (ap (λ (x : Tcp). x.dport) h.fields ∙ ap tcp.destination_port m) k;
-      sequence = seq_is k;
-      acknowledgment = (ap (λ (x : Tcp). x.ack) h.fields ∙ ap tcp.acknowledgment m) k;
-      flags = without_flag 32 (cond (fin_is k) (flags_are packet link d head is h k) (without_flag 1 (flags_are packet link d head is h k)));
-      window = (ap (λ (x : Tcp). x.window) h.fields ∙ ap tcp.window m) k;
-      options = (ap (λ (x : Tcp). cleaned (tcp.has_syn x.flags.0) (tcp.options packet.payload.now)) h.fields ∙ ap (λ o. cleaned (tcp.has_syn (tcp.flags o)) (tcp.options o)) m) k;
-      octets = sent k;
-    })
-
--- an outcome that writes in a live era alone
-pub writes_all : (d : Datagram) (n : ℕ) (s : Step) (fixes named : List Rule) (packets : List Packet) → s ≡ record { era = Some n; begun = None; ended = None; full = false }
-    → WritesAll d n (map (λ p. read (goes_in d.side) p.octets) packets) (passed s fixes named packets)
-writes_all d n s fixes named packets is = record {
-  written = fixed_or_passed (fixes ++ named);
-  era_is = ap (λ (x : Step). x.era) is;
-  begun_is = ap (λ (x : Step). x.begun) is;
-  ended_are = ap (λ (x : Step). listed x.ended) is;
-  packets_are = refl;
-}
-
--- no probe is sent beside one that a rule drops
-pub no_probe_behind : (settings : PlainSettings) (v : View) (d : Datagram) (rule : Rule) → dropped_by settings v d ≡ Some rule → is_live v ≡ true → OfStream v.segments (segment_in d)
-    → probe_packets settings d (probe_dropped v d rule) ≡ []
-no_probe_behind settings v d rule drops live f = cases (t_quota settings v (segment_in d)) (t_room v (segment_in d)) (sym drops ∙ stream_dropped settings v d live f)
-  where
-    got : {x y : Rule} → Some x ≡ Some y → x ≡ y
-    got e = cc
-
-    cases : (a b : Bool) → Some rule ≡ cond a (Some rules.TQuota) (cond b (Some rules.TRoom) None) → probe_packets settings d (probe_dropped v d rule) ≡ []
-    cases true b e = ap (λ r. probe_packets settings d (probe_dropped v d r)) (got e)
-    cases false true e = ap (λ r. probe_packets settings d (probe_dropped v d r)) (got e)
-    cases false false e = cc
-
 -- what goes inwards with a RST brings its era nothing
 pub reset_silent : (s : Seg) → tcp.are_legal s.flags.0 ≡ true → tcp.has_syn s.flags.0 ≡ false → tcp.has_rst s.flags.0 ≡ true → IsSilent (came s)
 reset_silent s legal syn rst = record { inward = refl; no_syn = syn; no_fin = not_true (tcp.has_fin s.flags.0) (ap₂ (λ x y. tcp.go_together x (tcp.has_fin s.flags.0) y (tcp.has_ack s.flags.0)) (sym syn) (sym rst) ∙ legal); no_octets = refl }
@@ -243,3 +138,165 @@ no_recall ws w inward syn = stays (is_closed (state_of ws)) ((w.inward && tcp.ha
     stays : (a b c : Bool) → b ≡ false → (a && b && c) ≡ false
     stays true b c e = rw e refl
     stays false b c e = refl
+
+-- A SYN of a connection that has a live era: what is ruled of it, reported and sent.
+
+-- What is ruled of an inbound datagram, as it is reported and sent.
+
+pub probes_long : (settings : PlainSettings) (d : Datagram) (probe : Option Probe) → length (probe_packets settings d probe) ≡ cond {A = ℕ} (is_some probe) 1 0
+probes_long settings d None = refl
+probes_long settings d (Some probe) = refl
+
+pub packets_long : (settings : PlainSettings) (d : Datagram) (own : Packet) (probe : Option Probe) → length (own ∷ probe_packets settings d probe) ≡ cond {A = ℕ} (is_some probe) 2 1
+packets_long settings d own None = refl
+packets_long settings d own (Some probe) = refl
+
+-- the frames of a probe, if there is one
+pub probes_are : (settings : PlainSettings) (d : Datagram) (packet : IpPacket) (link : List ℕ) (head : Tcp) (hops : ℕ) (ip : Ipv4) (probe : Option Probe)
+    → hops ≡ settings.hops → packet.side ≡ Inward → IsDatagram packet link d → head ≡ seen packet.payload.now head → ip ≡ raised hops packet.head
+    → probe_frames link ip head.sport head.dport probe ≡ frames_of link (probe_packets settings d probe)
+probes_are settings d packet link head hops ip None same side is fields raises = refl
+probes_are settings d packet link head hops ip (Some probe) same side is fields raises = probe_is settings d packet link head hops ip probe same side is fields raises
+
+-- a SYN or a RST is rewritten from the fields of its header
+pub bare_carried : (ws : List Written) (d : Datagram) (packet : IpPacket) (link : List ℕ) (head : Tcp) → IsDatagram packet link d → IsRead packet.payload.now head
+    → segment_anew ws d ≡ bare_segment d
+    → segment_anew ws d ≡ anew_segment packet.head head head.seq true (cleaned (tcp.has_syn head.flags.0) (tcp.options packet.payload.now)) []
+bare_carried ws d packet link head is h bare =
+    let m = sym is.octets in
+    bare ∙ sym (λ k. record {
+      source = ((sym is.head) k).src.0;
+      destination = ((sym is.head) k).dst.0;
+      source_port = (ap (λ (x : Tcp). x.sport) h.fields ∙ ap tcp.source_port m) k;
+      destination_port = (ap (λ (x : Tcp). x.dport) h.fields ∙ ap tcp.destination_port m) k;
+      sequence = (ap (λ (x : Tcp). x.seq) h.fields ∙ ap tcp.sequence m) k;
+      acknowledgment = (ap (λ (x : Tcp). x.ack) h.fields ∙ ap tcp.acknowledgment m) k;
+      flags = flags_cleared (flags_are packet link d head is h k);
+      window = (ap (λ (x : Tcp). x.window) h.fields ∙ ap tcp.window m) k;
+      options = (ap (λ (x : Tcp). cleaned (tcp.has_syn x.flags.0) (tcp.options packet.payload.now)) h.fields ∙ ap (λ o. cleaned (tcp.has_syn (tcp.flags o)) (tcp.options o)) m) k;
+      octets = [];
+    })
+
+-- of an inbound datagram
+pub rewritten_if : (ws : List Written) (d : Datagram) (a : Arrival) (scratch : List ℕ) (p : Passage) → goes_in d.side ≡ true
+    → ((length p.rows.items == 0) ≡ false → segment_anew ws d ≡ anew_segment a.packet.now.head a.head.now p.seq p.fin (cleaned (tcp.has_syn a.head.now.flags.0) (tcp.options a.packet.now.payload.now)) (take p.size scratch))
+    → IsRewritten ws d a scratch p
+rewritten_if ws d a scratch p side is = record { anew = λ inward. is; alone = λ out. cc (sym side ∙ out) }
+
+pub rewritten_in : (ws : List Written) (d : Datagram) (a : Arrival) (scratch : List ℕ) (p : Passage) → goes_in d.side ≡ true
+    → segment_anew ws d ≡ anew_segment a.packet.now.head a.head.now p.seq p.fin (cleaned (tcp.has_syn a.head.now.flags.0) (tcp.options a.packet.now.payload.now)) (take p.size scratch)
+    → IsRewritten ws d a scratch p
+rewritten_in ws d a scratch p side is = rewritten_if ws d a scratch p side (λ some. is)
+
+-- the packet is the only one
+pub given_one : (as_read : Bool) (frame : List ℕ) (out : List (List ℕ)) → (as_read ≡ false → length out ≡ 1) → length (given as_read frame out) ≡ 1
+given_one true frame out one = refl
+given_one false frame out one = one refl
+
+-- a probe follows an inbound datagram alone
+pub inward_of : (side : Side) (probe : Option Probe) (some : Probe) → probe ≡ Some some → (goes_in side ≡ false → probe ≡ None) → side ≡ Inward
+inward_of Inward probe some is alone = refl
+inward_of Outward probe some is alone = cc (sym is ∙ alone refl)
+
+-- A SYN of a connection that has a live era: T_STATE or T_SYN drops it, or it is written.
+
+-- the rule table says the same of it as this refusal
+pub record Drops (settings : PlainSettings) (v : View) (d : Datagram) (r : Refusal) : Type 0 where
+  pub drops : dropped_by settings v d ≡ Some r.rule
+  pub outcome_is : outcome_at settings v d ≡ record { verdict = verdicts.Drop; rules = r.rule ∷ []; era = r.era; begun = None; ended = []; packets = probe_packets settings d r.probe }
+
+abbrev pub Refuses : PlainSettings → View → Datagram → Option Refusal → Type 0
+Refuses settings v d None = dropped_by settings v d ≡ None
+Refuses settings v d (Some r) = Drops settings v d r
+
+pub syn_refused : (settings : PlainSettings) (v : View) (d : Datagram) (n : ℕ) (ws : List Written) (key : FlowKey) (s : Seg) (r : Option Refusal)
+    → v.era ≡ Some n → v.segments ≡ ws → Comes d key s → tcp.has_syn (segment_in d).flags ≡ true → tcp.has_rst (segment_in d).flags ≡ false
+    → r ≡ refused_by ws (came s) n → Refuses settings v d r
+syn_refused settings v d n ws key s r live segments is syn rst found = subst (Refuses settings v d) (sym found) (cases (t_state ws (came s)) (t_syn ws (came s)) refl refl)
+  where
+    state : t_state v.segments (segment_in d) ≡ t_state ws (came s)
+    state = sym (state_same v.segments d key s is) ∙ ap (λ l. t_state l (came s)) segments
+
+    stray : t_syn v.segments (segment_in d) ≡ t_syn ws (came s)
+    stray = sym (syn_same v.segments d key s is) ∙ ap (λ l. t_syn l (came s)) segments
+
+    rule : (a b : Bool) → t_state ws (came s) ≡ a → t_syn ws (came s) ≡ b → dropped_by settings v d ≡ cond a (Some rules.TState) (cond b (Some rules.TSyn) None)
+    rule a b e t = called_dropped settings v d n is.side live syn rst ∙ ap₂ (λ x y. cond x (Some rules.TState) (cond y (Some rules.TSyn) None)) (state ∙ e) (stray ∙ t)
+
+    probe : era_probe v.segments (segment_in d) ≡ era_probe ws (came s)
+    probe = ap (λ l. era_probe l (segment_in d)) segments ∙ sym (probe_same ws d key s is)
+
+    cases : (a b : Bool) → t_state ws (came s) ≡ a → t_syn ws (came s) ≡ b
+        → Refuses settings v d (cond a (Some (record { rule = rules.TState; era = Some n; probe = Some (cold_probe_of (came s)) })) (cond b (Some (record { rule = rules.TSyn; era = Some n; probe = era_probe ws (came s) })) None))
+    cases true b e t = record {
+      drops = rule true b e t;
+      outcome_is = in_dropped settings v d rules.TState (Some n) _ (rule true b e t) live (ap (λ p. probe_packets settings d (Some p)) (sym (connections.cold_probe_same d key s is)));
+    }
+    cases false true e t = record {
+      drops = rule false true e t;
+      outcome_is = in_dropped settings v d rules.TSyn (Some n) _ (rule false true e t) live (ap (probe_packets settings d) probe);
+    }
+    cases false false e t = rule false false e t
+
+-- one that passes continues the era, or ends it and begins the next
+step_by : (v : View) (w : Written) (n : ℕ) (again : Bool) → v.era ≡ Some n → w.inward ≡ true → reopens_inward v.segments w ≡ again
+    → IsStep v w (cond again (reopened_by n v.next (octets_of v.segments)) (continued_in n))
+step_by v w n true live inward is = step_recalled v w n live inward is
+step_by v w n false live inward is = step_seen v w n live inward is
+
+by_full : (again : Bool) (n next octets : ℕ) → (λ (x : Step). x.full) (cond again (reopened_by n next octets) (continued_in n)) ≡ false
+by_full true n next octets = refl
+by_full false n next octets = refl
+
+-- it is written, with these rules, as a segment without octets
+pub record OfSyn (settings : PlainSettings) (calls : List Call) (d : Datagram) (a : Arrival) (here : Live) (s : Seg) (named : List Rule) (step : Step) : Type 0 where
+  pub outcome_is : outcome_at settings (view_of settings calls d) d ≡ passed step d.fixes named (packet_by settings (view_of settings calls d).segments d d.fixes named ∷ [])
+  pub does : Does d (came s) step (outcome_at settings (view_of settings calls d) d)
+  pub carried : segment_anew (view_of settings calls d).segments d
+      ≡ anew_segment a.packet.now.head a.head.now a.head.now.seq true (cleaned (tcp.has_syn a.head.now.flags.0) (tcp.options a.packet.now.payload.now)) []
+  pub side : goes_in d.side ≡ true
+  pub key_is : here.key ≡ key_of d
+  pub stood : eras.StandsFor here.flow.era (segments here.flow.number calls)
+
+pub of_syn : AreReadBack → (settings : PlainSettings) (calls : List Call) (d : Datagram) (a : Arrival) (norm : TcpNorm) (here : Live) (s : Seg) (changed again : Bool) (named : List Rule) (step : Step)
+    → StandsFor settings norm calls → IsDatagram a.packet.now a.link.now d → IsFound norm a here → AreBits a.packet.now.head a.packet.now.payload.now
+    → tcp.has_syn a.head.now.flags.0 ≡ true → came s ≡ bare_read a.packet.now.payload.now
+    → changed ≡ differ (cleaned (tcp.has_syn a.head.now.flags.0) (tcp.options a.packet.now.payload.now)) (tcp.options a.packet.now.payload.now)
+    → length (cleaned (tcp.has_syn a.head.now.flags.0) (tcp.options a.packet.now.payload.now)) % 4 ≡ 0
+    → 20 + length (cleaned (tcp.has_syn a.head.now.flags.0) (tcp.options a.packet.now.payload.now)) ≡ a.head.now.header
+    → named ≡ bare_rows (header_rows a.head.now changed)
+    ((tcp.has_syn a.head.now.flags.0 || tcp.has_rst a.head.now.flags.0) && nat_lt 0 (length a.packet.now.payload.now - a.head.now.header)) false
+    → ((ws : List Written) → eras.StandsFor here.flow.era ws → None ≡ refused_by ws (came s) here.flow.number)
+    → ((ws : List Written) → eras.StandsFor here.flow.era ws → again ≡ reopens_inward ws (came s))
+    → ((ws : List Written) → eras.StandsFor here.flow.era ws → step ≡ cond again (reopened_by here.flow.number (norm.begun + 1) (octets_of ws)) (continued_in here.flow.number))
+    → OfSyn settings calls d a here s named step
+of_syn back settings calls d a norm here s changed again named step st is found bits has reads cleans words size rows refuses reopens steps =
+    let n = here.flow.number in
+    let v = view_of settings calls d in
+    let w = segment_in d in
+    let l = of_live settings calls d a norm here st is found in
+    let ws = segments n calls in
+    let live = l.live.era_is in
+    let comes = l.comes s reads in
+    let syn : tcp.has_syn w.flags ≡ true = sym (ap tcp.has_syn l.flags) ∙ has in
+    let rst = no_reset w.flags (sym (ap tcp.are_legal l.flags) ∙ a.read.legal) syn in
+    let none = syn_refused settings v d n ws here.key s None live l.live.segments_are comes syn rst (refuses ws l.stood) in
+    let recalls = sym (again_same v.segments d here.key s comes) ∙ (ap (λ x. reopens_inward x (came s)) l.live.segments_are ∙ sym (reopens ws l.stood)) in
+    let next : norm.begun + 1 ≡ v.next = omega (arith, st.begun_is) in
+    let made : step ≡ cond again (reopened_by n v.next (octets_of v.segments)) (continued_in n) =
+    steps ws l.stood ∙ ap₂ (λ k o. cond again (reopened_by n k o) (continued_in n)) next (sym (ap octets_of l.live.segments_are)) in
+    let stream = call_stream v w n live l.side syn in
+    let probes = call_probes v w n live l.side rst in
+    let marked = syn_marked w syn in
+    let mends = beside_are settings v d a.packet.now.payload.now a.head.now changed false named a.read.fields is.octets l.side stream probes cleans rows in
+    let writes = bare_writes back settings v d a.packet.now a.link.now a.head.now false named s l.side is bits a.read _ refl words size marked stream probes mends reads in
+    let outcome = in_outcome settings v d step d.fixes named _ l.side refl none mends (subst (IsStep v w) (sym made) (step_by v w n again live l.side recalls))
+    (ap (λ (x : Step). x.full) made ∙ by_full again n v.next (octets_of v.segments)) (packets_live settings v d named n live rst) in
+    record {
+      outcome_is = outcome;
+      does = subst (Does d (came s) step) (sym outcome) (in_does d (came s) step d.fixes named _ writes);
+      carried = bare_carried v.segments d a.packet.now a.link.now a.head.now is a.read (bare_anew v.segments d marked);
+      side = l.side;
+      key_is = sym l.key_is;
+      stood = l.stood;
+    }

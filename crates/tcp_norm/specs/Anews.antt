@@ -5,7 +5,7 @@ use Rattle.wire_base.specs.Tcp as tcp
 use Rattle.wire_base.specs.Segments.{Segment}
 use Rattle.ipv4_codec.specs.declared.header.Ipv4.{Ipv4}
 use Rattle.tcp_codec.specs.declared.header.Tcp.{Tcp}
-use Rattle.tcp_norm.specs.Emits.{without_flag}
+use Rattle.tcp_norm.specs.Emits.{without_flag, flags_cleared}
 use Rattle.tcp_norm.specs.declared.arrival.Arrival.{Arrival}
 use Rattle.tcp_norm.specs.declared.ruling.Passage.{Passage}
 
@@ -19,7 +19,7 @@ anew_segment ip head sequence fin options octets =
       destination_port = head.dport;
       sequence = sequence;
       acknowledgment = head.ack;
-      flags = without_flag 32 (if fin then head.flags.0 else without_flag 1 head.flags.0);
+      flags = flags_cleared (if fin then head.flags.0 else without_flag 1 head.flags.0);
       window = head.window;
       options = options;
       octets = octets;

@@ -21,6 +21,10 @@ use Rattle.tcp_norm.specs.Rows.{is_live, pseudo_of, octet_sent, kept_offsets, op
 abbrev pub without_flag : ℕ → ℕ → ℕ
 without_flag weight flags = if tcp.has_flag weight flags then flags - weight else flags
 
+-- the flags that go inwards of these: without URG
+abbrev pub flags_cleared : ℕ → ℕ
+flags_cleared flags = without_flag 32 flags
+
 -- the segment rewritten, with these flags, this sequence number and these octets: reserved bits and urgent marks are 0, the options are cleaned
 abbrev pub segment_with : Datagram → (sequence flags : ℕ) → List ℕ → Segment
 segment_with d sequence flags octets =
@@ -31,7 +35,7 @@ segment_with d sequence flags octets =
       destination_port = tcp.destination_port d.octets;
       sequence = sequence;
       acknowledgment = tcp.acknowledgment d.octets;
-      flags = without_flag 32 flags;
+      flags = flags_cleared flags;
       window = tcp.window d.octets;
       options = options_sent d;
       octets = octets;

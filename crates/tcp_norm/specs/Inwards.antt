@@ -9,7 +9,7 @@ use Rattle.ip_rules.specs.Judged.{where_holds}
 use Rattle.tcp_norm.specs.declared.step.Step.{Step}
 use Rattle.ip_rules.specs.Datagrams.{Packet}
 use Rattle.tcp_norm.specs.Calls.{Outcome}
-use Rattle.tcp_norm.specs.Emits.{without_flag}
+use Rattle.tcp_norm.specs.Emits.{flags_cleared}
 use Rattle.tcp_norm.specs.Outcomes.{verdict_of}
 use Rattle.tcp_norm.specs.Steps.{listed}
 
@@ -20,7 +20,7 @@ bare_read m =
       inward = true;
       seq = tcp.sequence m;
       ack = tcp.acknowledgment m;
-      flags = without_flag 32 (tcp.flags m);
+      flags = flags_cleared (tcp.flags m);
       window = tcp.window m;
       scale = scale_of (cleaned (tcp.has_syn (tcp.flags m)) (tcp.options m));
       octets = [];

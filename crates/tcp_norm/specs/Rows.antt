@@ -1,6 +1,6 @@
 -- The rules of the rule table on connections, one definition each, in the order of testing, then of naming (this project's profile). A rule is read of a datagram
 -- under settings, with what it asks of the calls before.
-use Rattle.std.specs.Prelude.{ℕ, ◌+◌, ◌-◌, ◌==◌, ◌&&◌, ◌||◌, nat_lt, not, Bool, true, false, List, [], ◌∷◌, length, find, filter, pos, ◌-ℤ◌, Option, Some, None, is_some, is_none, slice_index, if◌then◌else◌}
+use Rattle.std.specs.Prelude.{ℕ, ◌+◌, ◌-◌, ◌==◌, ◌&&◌, ◌||◌, nat_lt, not, Bool, true, false, List, [], ◌∷◌, ◌++◌, length, find, filter, pos, ◌-ℤ◌, Option, Some, None, is_some, is_none, slice_index, if◌then◌else◌}
 use Rattle.std.specs.List.{list_any, range_with_len}
 use Rattle.std.specs.Option.{unwrap_or}
 use Rattle.wire_base.specs.Tcp as tcp
@@ -174,11 +174,20 @@ holds_era settings v d rules.TEnd = t_end v (segment_in d)
 holds_era settings v d rules.TClash = t_clash v (segment_in d)
 holds_era settings v d _ = false
 
+-- the rules on the header of an inbound datagram that is not dropped, in the order of their numbers
+abbrev pub header_mends : List Rule
+header_mends = rules.TRes ∷ rules.TUrg ∷ rules.TOpt ∷ []
+
+-- those on one that brings no octet of the stream, and those on one of the stream
+abbrev pub bare_mends : List Rule
+bare_mends = rules.TStrip ∷ rules.CProbe ∷ []
+
+abbrev pub stream_mends : List Rule
+stream_mends = rules.TOld ∷ rules.TWindow ∷ rules.TEnd ∷ rules.TClash ∷ []
+
 -- the rules that are named of one that is not dropped, in the order of their numbers
 abbrev pub mends : List Rule
-mends =
-    rules.TSumOut ∷ rules.TRes ∷ rules.TUrg ∷ rules.TOpt ∷ rules.TStrip ∷ rules.CProbe ∷ rules.TOld ∷ rules.TWindow ∷ rules.TEnd ∷
-    rules.TClash ∷ []
+mends = rules.TSumOut ∷ (header_mends ++ (bare_mends ++ stream_mends))
 
 -- the rule that drops the datagram, if one does: the first that holds; outbound none does
 abbrev pub dropped_by : PlainSettings → View → Datagram → Option Rule

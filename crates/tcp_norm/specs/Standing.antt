@@ -10,6 +10,7 @@ use Rattle.era_state.specs.Eras as era
 use Rattle.tcp_norm.specs.declared.flow.Flow.{Flow}
 use Rattle.tcp_norm.specs.declared.key.EraKey.{EraKey}
 use Rattle.era_state.specs.declared.era.Era.{Era}
+use Rattle.tcp_norm.specs.declared.state.Limits.{Limits}
 use Rattle.tcp_norm.specs.declared.state.TcpNorm.{TcpNorm}
 use Rattle.tcp_norm.specs.Calls.{Call, Alive, segments, eras, begun_in, asked_in, latest}
 use Rattle.tcp_norm.specs.Held.{kept_at, held_of}
@@ -48,16 +49,17 @@ pub record IsTimely (now : ℕ) (eras : List Alive) : Type 0 where
   pub most : AllByRecursion (λ a. a.touched ≤ now) eras
   pub rises : Pairwise (λ a b. a.touched ≤ b.touched) eras
 
+-- what is kept of these settings
+abbrev pub limits_of : PlainSettings → Limits
+limits_of settings =
+    record { cells = settings.cells; hops = settings.hops; idle = settings.idle; offload = settings.offload; quota = settings.quota }
+
 -- what was opened for these settings
 pub record IsFor (settings : PlainSettings) (norm : TcpNorm) : Type 0 where
   pub flows : norm.table.max ≡ settings.flows
   pub chains : length norm.store.chains ≡ settings.flows
-  pub cells : norm.cells ≡ settings.cells
   pub store : norm.store.cells ≡ settings.cells
-  pub hops : norm.hops ≡ settings.hops
-  pub idle : norm.idle ≡ settings.idle
-  pub offload : norm.offload ≡ settings.offload
-  pub quota : norm.quota ≡ settings.quota
+  pub limits : norm.limits ≡ limits_of settings
 
 -- The connections represent the calls so far, the newest first.
 pub record StandsFor (settings : PlainSettings) (norm : TcpNorm) (calls : List Call) : Type 0 where
@@ -96,7 +98,7 @@ pub record IsNew (norm : TcpNorm) (key : FlowKey) (e : Era) : Type 0 where
 -- only the tables have changed, and this is the number of eras that began
 pub record ChangesTables (old new : TcpNorm) (begun : ℕ) : Type 0 where
   pub opened : (settings : PlainSettings) → IsFor settings old → IsFor settings new
-  pub idle : new.idle ≡ old.idle
+  pub idle : new.limits.idle ≡ old.limits.idle
   pub begun_is : new.begun ≡ begun
   pub calls_are : new.calls ≡ old.calls
   pub latest_is : new.latest ≡ old.latest

@@ -117,7 +117,7 @@ pub record Evicts (old new : TcpNorm) (lives : List Alive) (segments : ℕ → L
 
 -- the least recently touched era has ended, if it is idle
 pub record EndsIdle (old new : TcpNorm) (now : ℕ) (lives : List Alive) (segments : ℕ → List Written) (r : Option Ended) : Type 0 where
-  pub answer : number_ended r ≡ first_old old.idle now lives
+  pub answer : number_ended r ≡ first_old old.limits.idle now lives
   pub told : IfSome r (λ e. e ≡ idle_end segments e.era)
   pub left : Holds new (without (one (number_ended r)) lives) segments
 

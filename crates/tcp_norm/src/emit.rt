@@ -6,7 +6,7 @@ ghost use Rattle.ipv4_codec.specs.Write.{plain_header};
 ghost use Rattle.tcp_codec.specs.Mending.{mended};
 ghost use Rattle.tcp_codec.specs.Write.{segment_octets};
 ghost use Rattle.tcp_norm.specs.Anews.{rewritten};
-ghost use Rattle.tcp_norm.specs.Emits.{without_flag};
+ghost use Rattle.tcp_norm.specs.Emits.{without_flag, flags_cleared};
 ghost use Rattle.ip_rules.specs.Datagrams as spec;
 ghost use Rattle.wire_base.specs.Sums as sums;
 ghost use Rattle.wire_base.specs.Tcp as tcp;
@@ -47,7 +47,7 @@ impl TcpNorm {
             IsCarried ws d arrival.now self.old.scratch.items ruling.now →
             given result arrival.now.packet.now.frame.now out.new ≡ frames_of arrival.now.link.now (outcome_of settings ws d ruling.now).packets }
     {
-        let hops = self.hops;
+        let hops = self.limits.hops;
         match ruling {
             Ruling::Drop(refusal) => {
                 put_probe(arrival, hops, refusal.probe, out);
@@ -89,7 +89,7 @@ impl TcpNorm {
         if packet.fixes.is_empty() {
             return true;
         }
-        let head = head_sent(packet, self.hops);
+        let head = head_sent(packet, self.limits.hops);
         put_anew(arrival.link, &head, packet.payload, out);
         false
     }
@@ -106,7 +106,7 @@ impl TcpNorm {
             out.new ≡ frames_of arrival.now.link.now (packet_by settings ws d d.fixes passage.now.rows.items ∷ []) }
     {
         let packet = arrival.packet;
-        let head = head_sent(packet, self.hops);
+        let head = head_sent(packet, self.limits.hops);
         match packet.side {
             Side::Inward => {
                 let sent = &self.scratch[..passage.size];
@@ -189,7 +189,7 @@ fn put_probe(arrival: &Arrival<'_>, hops: u8, probe: Option<Probe>, out: &mut Ou
 
 /// Returns the flags without URG, and without FIN if it is not kept.
 pub(crate) fn flags_sent(flags: Flags, fin: bool) -> Flags
-    ensures exact { result.0 ≡ without_flag 32 (if fin then flags.0 else without_flag 1 flags.0) }
+    ensures exact { result.0 ≡ flags_cleared (if fin then flags.0 else without_flag 1 flags.0) }
     ensures urgent { tcp.has_urg result.0 ≡ false }
 {
     let flags = if fin { flags.0 } else { without_fin(flags) };

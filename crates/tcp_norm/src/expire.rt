@@ -62,9 +62,9 @@ impl TcpNorm {
 
     // Nothing was written in the era for more than `idle` seconds.
     fn is_idle(&self, flow: &Flow, now: u32) -> bool
-        ensures { result ≡ nat_lt (flow.now.touched + self.now.idle) now }
+        ensures { result ≡ nat_lt (flow.now.touched + self.now.limits.idle) now }
     {
-        u64::from(flow.touched) + u64::from(self.idle) < u64::from(now)
+        u64::from(flow.touched) + u64::from(self.limits.idle) < u64::from(now)
     }
 }
 

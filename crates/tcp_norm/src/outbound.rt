@@ -84,7 +84,7 @@ impl TcpNorm {
         ensures short { IsShort arrival.now ruling.new }
     {
         mended_say_the_same();
-        let wrong = self.offload & !arrival.head.sum_right;
+        let wrong = self.limits.offload & !arrival.head.sum_right;
         let step = self.depart(arrival);
         let rows = summed(wrong);
         *ruling = Ruling::Pass(Passage {

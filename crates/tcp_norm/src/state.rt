@@ -13,6 +13,18 @@ use retain_store::Retain;
 use std::alloc::Global;
 use wire_base::{FlowKey, MAX_PAYLOAD};
 
+/// The settings that segments are judged by.
+#[derive(Clone, Copy)]
+pub(crate) struct Limits {
+    pub(crate) cells: u32,
+    /// Routers behind the bridge.
+    pub(crate) hops: u8,
+    pub(crate) idle: u32,
+    pub(crate) offload: bool,
+    /// How many cells the octets of one era may take, if that is bounded.
+    pub(crate) quota: Option<u32>,
+}
+
 /// Judges the segments of TCP connections, one after another. It takes all its memory when it is opened.
 #[derive(Drop)]
 pub struct TcpNorm {
@@ -21,13 +33,7 @@ pub struct TcpNorm {
     pub(crate) store: Retain,
     /// The slots of the eras that hold no octet, least recently touched first.
     pub(crate) spare: SlotList,
-    pub(crate) cells: u32,
-    /// Routers behind the bridge.
-    pub(crate) hops: u8,
-    pub(crate) idle: u32,
-    pub(crate) offload: bool,
-    /// How many cells the octets of one era may take, if that is bounded.
-    pub(crate) quota: Option<u32>,
+    pub(crate) limits: Limits,
     /// How many eras began.
     pub(crate) begun: u32,
     /// Number of datagrams that arrived.
@@ -43,10 +49,10 @@ pub struct TcpNorm {
     ghost spare_listed: { spare.slots ≡ spares store table.entries },
     ghost room: { vec_len scratch ≡ MAX_PAYLOAD },
     ghost page_room: { vec_len page ≡ MAX_PAYLOAD },
-    ghost passes: { hops ≤ 254 },
+    ghost passes: { limits.hops ≤ 254 },
     ghost few: { begun ≤ calls },
     ghost near: { AreNear calls table.entries },
-    ghost bounded: { AreBounded quota store },
+    ghost bounded: { AreBounded limits.quota store },
 }
 
 impl TcpNorm {
@@ -80,11 +86,13 @@ impl TcpNorm {
             table,
             store,
             spare,
-            cells: settings.cells,
-            hops: settings.hops,
-            idle: settings.idle,
-            offload: settings.offload,
-            quota: settings.quota,
+            limits: Limits {
+                cells: settings.cells,
+                hops: settings.hops,
+                idle: settings.idle,
+                offload: settings.offload,
+                quota: settings.quota,
+            },
             begun: 0,
             calls: 0,
             latest: 0,
@@ -119,7 +127,7 @@ impl TcpNorm {
             settings.flows * most ≤ settings.cells → dropped_by settings (view_of settings calls d) d ≢ Some rules.TRoom }
     {
         self.entries_are_apart();
-        self.cells.saturating_sub(self.store.free())
+        self.limits.cells.saturating_sub(self.store.free())
     }
 
     // Counts a datagram of which no era hears, at this time.

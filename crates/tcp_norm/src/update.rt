@@ -108,7 +108,7 @@ impl TcpNorm {
     /// this time.
     pub(crate) fn take_octets(&mut self, slot: Slot, taking: &Taking<'_>, now: u32)
         requires inside { IsIn self.old.table.entries slot }
-        requires can { CanTake self.old.table.entries self.old.store self.old.quota slot taking.now }
+        requires can { CanTake self.old.table.entries self.old.store self.old.limits.quota slot taking.now }
         requires ready { IsReady self.old now }
         ensures { (settings : PlainSettings) (calls : List Call) (d : Datagram) (key : FlowKey) (flow : Flow) (o : Outcome) → StandsFor settings self.old calls →
             IsHeld self.old.table (record { key = key; slot = slot; flow = flow }) → Brings calls self.old.scratch.items d (record { key = key; slot = slot; flow = flow }) taking.now o →

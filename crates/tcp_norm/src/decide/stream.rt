@@ -45,7 +45,7 @@ impl TcpNorm {
     ) -> Option<Taking<'a>>
         requires live { IsLiveIn self.old arrival.now slot }
         requires plain { IsPlain arrival.now }
-        ensures takes { IfSome result (λ taking. CanTake self.new.table.entries self.new.store self.new.quota slot taking) }
+        ensures takes { IfSome result (λ taking. CanTake self.new.table.entries self.new.store self.new.limits.quota slot taking) }
         ensures short { IsShort arrival.now ruling.new }
         ensures same { IsSame self.old self.new }
         ensures decides { DecidesIn arrival.now self.old self.new slot ruling.new result }
@@ -67,7 +67,7 @@ impl TcpNorm {
             chain: ChainId(slot.0),
             kept: &kept,
         };
-        if let Some(rule) = refusal(&piece, self.quota) {
+        if let Some(rule) = refusal(&piece, self.limits.quota) {
             *ruling = Ruling::Drop(Refusal::silent(rule, flow.number));
             return None;
         }

@@ -1,5 +1,4 @@
-use Rattle.std.proofs.Common.{◌≡◌, ◌<◌, ◌∙◌, ◌++◌, ℕ, List, [], ◌∷◌, length, sym, ap, subst, arith}
-use Rattle.std.proofs.lemmas.List.{append-nil}
+use Rattle.std.proofs.Common.{◌≡◌, ◌<◌, ◌∙◌, ◌++◌, ℕ, List, [], ◌∷◌, length, sym, ap, subst, arith, append-nil}
 use Rattle.std.proofs.lemmas.Grind.{common_steps}
 use Rattle.reset_probe.specs.Write.{probe_octets}
 use Rattle.edge_io.specs.Outboxes.{last_frame, extended}

@@ -1,4 +1,4 @@
-use Rattle.tcp_norm.proofs.Clean.{keeps_payload}
+use Rattle.tcp_norm.proofs.Payloads.{keeps_payload}
 use Rattle.tcp_norm.proofs.laws.clean_keeps_payload.Goals as goal
 
 pub returns : goal.returns

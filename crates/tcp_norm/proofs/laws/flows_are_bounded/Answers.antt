@@ -1,4 +1,4 @@
-use Rattle.tcp_norm.proofs.LiveCounts.{flows_are_bounded}
+use Rattle.tcp_norm.proofs.EraCounts.{flows_are_bounded}
 use Rattle.tcp_norm.proofs.laws.flows_are_bounded.Goals as goal
 
 pub returns : goal.returns

@@ -1,4 +1,4 @@
-use Rattle.tcp_norm.proofs.HeldLaws.{held_bounded}
+use Rattle.tcp_norm.proofs.Quotas.{held_bounded}
 use Rattle.tcp_norm.proofs.laws.held_is_bounded.Goals as goal
 
 pub returns : goal.returns

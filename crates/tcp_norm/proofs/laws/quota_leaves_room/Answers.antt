@@ -1,4 +1,4 @@
-use Rattle.tcp_norm.proofs.HeldLaws.{leaves_room}
+use Rattle.tcp_norm.proofs.Quotas.{leaves_room}
 use Rattle.tcp_norm.proofs.laws.quota_leaves_room.Goals as goal
 
 pub returns : goal.returns

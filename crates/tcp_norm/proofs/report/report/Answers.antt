@@ -3,7 +3,7 @@ use Rattle.tcp_norm.specs.Inwards.{passed}
 use Rattle.tcp_norm.specs.Passing.{Reports}
 use Rattle.tcp_norm.specs.Emits.{probe_packet, probe_packets, packet_by}
 use Rattle.tcp_norm.specs.Rulings.{packets_of, outcome_of}
-use Rattle.tcp_norm.proofs.Syns.{probes_long, packets_long}
+use Rattle.tcp_norm.proofs.SynsAndResets.{probes_long, packets_long}
 use Rattle.tcp_norm.proofs.report.report.Goals as goal
 
 pub returns-in-Drop : goal.returns-in-Drop

@@ -1,4 +1,4 @@
-use Rattle.tcp_norm.proofs.Represented.{in_valued}
+use Rattle.tcp_norm.proofs.EraTable.{in_valued}
 use Rattle.tcp_norm.proofs.update.hear_in.Goals as goal
 
 pub touch-requires : goal.touch-requires

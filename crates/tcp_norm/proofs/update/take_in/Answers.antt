@@ -1,7 +1,7 @@
 use Rattle.std.proofs.Common.{◌+◌, ◌<◌, ◌^◌}
 use Rattle.era_state.specs.Eras.{GivesTo, octets_in}
 use Rattle.tcp_norm.specs.declared.flow.Flow.{Flow}
-use Rattle.tcp_norm.proofs.Represented.{value_in, in_valued}
+use Rattle.tcp_norm.proofs.EraTable.{value_in, in_valued}
 use Rattle.tcp_norm.proofs.update.take_in.Goals as goal
 
 pub forward-requires-clause-given : goal.forward-requires-clause-given

@@ -1,5 +1,5 @@
 use Rattle.std.proofs.Common.{refl}
-use Rattle.tcp_norm.proofs.Represented.{in_valued}
+use Rattle.tcp_norm.proofs.EraTable.{in_valued}
 use Rattle.tcp_norm.proofs.update.touch_in.Goals as goal
 
 pub touch-requires : goal.touch-requires

@@ -1,6 +1,4 @@
-use Rattle.std.proofs.Common.{◌≡◌, ℕ, ◌+◌, ◌<◌, Option, Some, None, refl, arith}
-use Rattle.std.specs.Option.{unwrap_or}
-use Rattle.std.specs.Prelude.{IsSome}
+use Rattle.std.proofs.Common.{◌≡◌, ℕ, ◌+◌, ◌<◌, Option, Some, None, refl, arith, unwrap_or, IsSome}
 use Rattle.retain_store.specs.Maps.{chain_of, octet_at}
 use Rattle.tcp_norm.proofs.decide.stream.clashes.Goals as goal
 

@@ -1,5 +1,5 @@
 use Rattle.std.proofs.Common.{arith}
-use Rattle.tcp_norm.proofs.ChainOctets.{own_at}
+use Rattle.tcp_norm.proofs.StreamFrames.{own_at}
 use Rattle.tcp_norm.proofs.decide.stream.own_octets.Goals as goal
 
 pub returns-then-piece-clause-own : goal.returns-then-piece-clause-own

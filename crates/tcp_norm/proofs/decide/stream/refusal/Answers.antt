@@ -1,12 +1,11 @@
-use Rattle.std.proofs.Common.{◌≡◌, ◌+◌, ◌∙◌, cond, true, false, Some, None, sym, ap, ap₂}
-use Rattle.std.specs.Prelude.{nat_lt}
+use Rattle.std.proofs.Common.{◌≡◌, ◌+◌, ◌∙◌, cond, true, false, Some, None, sym, ap, ap₂, nat_lt}
 use Rattle.rule_book.specs.declared.rule.Rule.TheVariants as rules
 use Rattle.tcp_norm.specs.Held.{held_of}
 use Rattle.tcp_norm.specs.Rows.{exceeds, wanted_of}
 use Rattle.retain_store.specs.Maps.{chain_of, missing}
-use Rattle.retain_store.proofs.Kept.{no_room, some_room}
+use Rattle.retain_store.proofs.Room.{no_room, some_room}
 use Rattle.tcp_norm.proofs.Quotas.{at_most}
-use Rattle.tcp_norm.proofs.ChainOctets.{wanted_is}
+use Rattle.tcp_norm.proofs.KeptOctets.{wanted_is}
 use Rattle.tcp_norm.proofs.decide.stream.refusal.Goals as goal
 
 pub returns-then-over-clause-value : goal.returns-then-over-clause-value

@@ -4,9 +4,9 @@ use Rattle.tcp_norm.specs.declared.flow.Flow.{Flow}
 use Rattle.tcp_norm.specs.declared.key.EraKey.{EraKey}
 use Rattle.tcp_norm.specs.Standing.{HoldsFor}
 use Rattle.tcp_norm.specs.Near.{AreNear}
-use Rattle.tcp_norm.proofs.Represented.{begin_holds, opened_kept}
-use Rattle.tcp_norm.proofs.Numbers.{near_added}
-use Rattle.tcp_norm.proofs.Finding.{added_listed}
+use Rattle.tcp_norm.proofs.EraTable.{begin_holds, opened_kept}
+use Rattle.tcp_norm.proofs.EraWrites.{near_added}
+use Rattle.tcp_norm.proofs.SpareEras.{added_listed}
 use Rattle.tcp_norm.proofs.state.TcpNorm.begin.Goals as goal
 
 pub returns-clause-holds : goal.returns-clause-holds
@@ -18,7 +18,7 @@ returns-clause-holds c lives segments later h begins =
 pub returns-clause-tables : goal.returns-clause-tables
 returns-clause-tables c =
     record {
-      opened = λ settings is. opened_kept settings c.args.self.now _ is (ap (λ (t : table.Table EraKey Flow). t.max) c.in-Ok.ensures.added) refl refl refl refl refl refl refl;
+      opened = λ settings is. opened_kept settings c.args.self.now _ is (ap (λ (t : table.Table EraKey Flow). t.max) c.in-Ok.ensures.added) refl refl refl;
       idle = refl;
       begun_is = refl;
       calls_are = refl;

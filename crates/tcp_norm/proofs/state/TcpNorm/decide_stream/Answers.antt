@@ -1,8 +1,6 @@
-use Rattle.std.proofs.Common.{rules, ◌≡◌, ℕ, ◌+◌, ◌-◌, ◌<◌, ◌≤◌, ◌^◌, ◌%◌, ◌&&◌, ◌∙◌, Bool, true, false, cond, Some, None, List, [], ◌∷◌, ◌++◌, length, map, take, drop, is_some, sym, ap, ap₂, subst, arith, refl}
-use Rattle.std.specs.Prelude.{nat_lt, IsTrue}
+use Rattle.std.proofs.Common.{rules, ◌≡◌, ℕ, ◌+◌, ◌-◌, ◌<◌, ◌≤◌, ◌^◌, ◌%◌, ◌&&◌, ◌∙◌, Bool, true, false, cond, Some, None, List, [], ◌∷◌, ◌++◌, length, map, take, drop, is_some, sym, ap, ap₂, subst, arith, refl, nat_lt, IsTrue, length-drop, length-take-le}
 use Rattle.std.specs.List.{refill}
 use Rattle.std.proofs.Math.Seq.{take-append_seam}
-use Rattle.std.proofs.lemmas.List.{length-drop, length-take-le}
 use Rattle.wire_base.specs.Tcp as tcp
 use Rattle.wire_base.specs.Options.{cleaned}
 use Rattle.wire_base.specs.Segments.{Written}
@@ -30,7 +28,7 @@ use Rattle.tcp_norm.specs.declared.ruling.Refusal.{Refusal}
 use Rattle.tcp_norm.specs.declared.ruling.Ruling.TheVariants.{Drop}
 use Rattle.tcp_norm.specs.Rulings.{IsSame, outcome_of}
 use Rattle.tcp_norm.specs.Standing.{HoldsFor, IsTimely}
-use Rattle.tcp_norm.proofs.Represented.{opened_kept}
+use Rattle.tcp_norm.proofs.EraTable.{opened_kept}
 use Rattle.tcp_norm.specs.Views.{view_of}
 use Rattle.tcp_norm.specs.Heads.{AreBits, seen}
 use Rattle.tcp_norm.specs.Held.{held_of}
@@ -40,12 +38,12 @@ use Rattle.tcp_norm.specs.Emits.{packet_by, octets_sent}
 use Rattle.tcp_norm.specs.Resets.{WritesAll}
 use Rattle.tcp_norm.specs.Steps.{IsStep}
 use Rattle.tcp_norm.specs.declared.step.Step.{Step}
-use Rattle.tcp_norm.proofs.InboundSegments.{decides_in, of_live, in_dropped, in_unheard, in_outcome, packets_live}
-use Rattle.tcp_norm.proofs.Finding.{held_is}
+use Rattle.tcp_norm.proofs.InboundSegments.{decides_in, of_live, in_dropped, in_unheard, in_outcome, packets_live, no_probe_behind, stream_is, step_stream, stream_anew, writes_all}
+use Rattle.tcp_norm.proofs.SpareEras.{held_is}
 use Rattle.tcp_norm.proofs.StreamRules.{of_stream, stream_dropped, sent_long, passes, rows_are}
-use Rattle.tcp_norm.proofs.SynsAndResets.{stream_fits, no_probe_behind, stream_is, step_stream, stream_anew, writes_all}
-use Rattle.tcp_norm.proofs.ChainOctets.{settled_is, clash_is, either_are, none_clash}
-use Rattle.tcp_norm.proofs.Syns.{rewritten_if}
+use Rattle.tcp_norm.proofs.Packets.{stream_fits}
+use Rattle.tcp_norm.proofs.StreamFrames.{settled_is, clash_is, either_are, none_clash}
+use Rattle.tcp_norm.proofs.SynsAndResets.{rewritten_if}
 use Rattle.tcp_norm.proofs.state.TcpNorm.decide_stream.Goals as goal
 
 last_false : (a b t : Bool) → t ≡ false → (a && b && t) ≡ false
@@ -85,7 +83,7 @@ invariant_of-self-in-Some-refusal c =
       passes = self.passes;
       few = self.few;
       near = self.near;
-      bounded = subst (AreBounded self.quota) (sym c.aim-ends.ensures.same) self.bounded;
+      bounded = subst (AreBounded self.limits.quota) (sym c.aim-ends.ensures.same) self.bounded;
     }
 
 pub invariant_of-self-2-clause-sized : goal.invariant_of-self-2-clause-sized
@@ -98,19 +96,19 @@ pub invariant_of-self-2-clause-spare_listed : goal.invariant_of-self-2-clause-sp
 invariant_of-self-2-clause-spare_listed c = c.args.self.now.spare_listed ∙ ap (λ s. spares s c.args.self.now.table.entries) (sym c.aim-ends.ensures.same)
 
 pub invariant_of-self-2-clause-bounded : goal.invariant_of-self-2-clause-bounded
-invariant_of-self-2-clause-bounded c = subst (AreBounded c.args.self.now.quota) (sym c.aim-ends.ensures.same) c.args.self.now.bounded
+invariant_of-self-2-clause-bounded c = subst (AreBounded c.args.self.now.limits.quota) (sym c.aim-ends.ensures.same) c.args.self.now.bounded
 
 pub clashes-clash-requires-clause-ends : goal.clashes-clash-requires-clause-ends
 clashes-clash-requires-clause-ends c =
     subst (λ s. IsTrue c.aim-ends.result → IsWithin (chain_of s c.args.slot.0) c.interval-kept.result.lo) (sym c.aim-ends.ensures.same) c.aim-ends.ensures.ends
 
 -- the store is as it was
-same_store : (old new : TcpNorm) → new.store ≡ old.store → new.table ≡ old.table → new.cells ≡ old.cells → new.hops ≡ old.hops → new.idle ≡ old.idle → new.offload ≡ old.offload → new.quota ≡ old.quota
+same_store : (old new : TcpNorm) → new.store ≡ old.store → new.table ≡ old.table → new.limits ≡ old.limits
     → new.begun ≡ old.begun → new.calls ≡ old.calls → new.latest ≡ old.latest → IsSame old new
-same_store old new store tables cells hops idle offload quota begun calls latest = record {
+same_store old new store tables limits begun calls latest = record {
   table_is = tables;
   stays = λ settings cs st. record {
-    opened = opened_kept settings old new st.opened (ap (λ (t : table.Table EraKey Flow). t.max) tables) (ap (λ (s : Store). length s.chains) store) (ap (λ (s : Store). s.cells) store) cells hops idle offload quota;
+    opened = opened_kept settings old new st.opened (ap (λ (t : table.Table EraKey Flow). t.max) tables) (ap (λ (s : Store). length s.chains) store) (ap (λ (s : Store). s.cells) store) limits;
     holds = subst (λ s. HoldsFor (eras cs) (λ n. segments n cs) new.begun new.table.entries s) (sym store)
         (subst (λ (t : table.Table EraKey Flow). HoldsFor (eras cs) (λ n. segments n cs) new.begun t.entries old.store) (sym tables) (subst (λ b. HoldsFor (eras cs) (λ n. segments n cs) b old.table.entries old.store) (sym begun) st.holds));
     begun_is = begun ∙ st.begun_is;
@@ -123,10 +121,10 @@ same_store old new store tables cells hops idle offload quota begun calls latest
 }
 
 pub returns-in-Some-refusal-clause-same : goal.returns-in-Some-refusal-clause-same
-returns-in-Some-refusal-clause-same c = same_store c.args.self.now _ c.aim-ends.ensures.same refl refl refl refl refl refl refl refl refl
+returns-in-Some-refusal-clause-same c = same_store c.args.self.now _ c.aim-ends.ensures.same refl refl refl refl refl
 
 pub returns-clause-same : goal.returns-clause-same
-returns-clause-same c = same_store c.args.self.now _ c.aim-ends.ensures.same refl refl refl refl refl refl refl refl refl
+returns-clause-same c = same_store c.args.self.now _ c.aim-ends.ensures.same refl refl refl refl refl
 
 pub returns-clause-takes : goal.returns-clause-takes
 returns-clause-takes c =
@@ -142,7 +140,7 @@ returns-clause-takes c =
       long = omega (arith, long, c.interval-kept.ensures.order);
       fits = omega (arith, a.short, a.read.inside, c.interval-kept.ensures.short, long, c.seg_of-seg.ensures.len, payload_long a.packet.now.payload.now a.head.now a.read.fields);
       room = subst (λ n. missing (chain_of store slot.0) kept.lo n ≤ store.free) (sym long) c.in_default-refusal.ensures.free;
-      quota = subst (λ n. IsAtMost c.args.self.now.quota (length (chain_of store slot.0) + missing (chain_of store slot.0) kept.lo n)) (sym long) c.in_default-refusal.ensures.within;
+      quota = subst (λ n. IsAtMost c.args.self.now.limits.quota (length (chain_of store slot.0) + missing (chain_of store slot.0) kept.lo n)) (sym long) c.in_default-refusal.ensures.within;
     }
 
 pub returns-in_default-clause-decides : goal.returns-in_default-clause-decides
@@ -182,7 +180,7 @@ returns-in-Some-refusal-clause-decides c =
     subst (λ s. Keeps (chain_of s here.slot.0) v.segments) (sym c.aim-ends.ensures.same) (subst (Keeps (chain_of c.args.self.now.store here.slot.0)) (sym live.segments_are) l.at.octets) in
     let count : length (chain_of store here.slot.0) ≡ held_of v.segments =
     ap (λ s. length (chain_of s here.slot.0)) c.aim-ends.ensures.same ∙ (l.at.count ∙ ap held_of (sym live.segments_are)) in
-    let bound = st.opened.quota in
+    let bound : c.args.self.now.limits.quota ≡ settings.quota = λ k. (st.opened.limits k).quota in
     let is_live' = ap is_some live.era_is in
     let octets = is.octets in
     let payload = tcp.payload a.packet.now.payload.now in
@@ -232,7 +230,7 @@ returns-clause-decides c =
     subst (λ s. Keeps (chain_of s here.slot.0) v.segments) (sym c.aim-ends.ensures.same) (subst (Keeps (chain_of c.args.self.now.store here.slot.0)) (sym live.segments_are) l.at.octets) in
     let count : length (chain_of store here.slot.0) ≡ held_of v.segments =
     ap (λ s. length (chain_of s here.slot.0)) c.aim-ends.ensures.same ∙ (l.at.count ∙ ap held_of (sym live.segments_are)) in
-    let bound = st.opened.quota in
+    let bound : c.args.self.now.limits.quota ≡ settings.quota = λ k. (st.opened.limits k).quota in
     let is_live' = ap is_some live.era_is in
     let octets = is.octets in
     let kept = c.interval-kept.result in
@@ -261,7 +259,7 @@ returns-clause-decides c =
     ap (take (length own)) front ∙ (settled_is c.in-Some.warm.now v.segments seen_w kept _ own filled warm kept_here keeps owned.long filled_long owned.own (c.fill_kept-as_read.ensures.settled some) ∙ ap (octets_sent v.segments) w_is) in
     let own_are : as_read ≡ true → own ≡ octets_sent v.segments w = λ none.
     settled_is c.in-Some.warm.now v.segments seen_w kept _ own own warm kept_here keeps owned.long refl owned.own
-    (c.clashes-clash.ensures.0 (none_clash _ _ _ _ _ _ _ _ c.rows_of-rows.ensures.rows (sym c.fill_kept-as_read.ensures.as_read ∙ none))) ∙ ap (octets_sent v.segments) w_is in
+    (c.clashes-clash.ensures.0 (none_clash _ kept _ _ c.rows_of-rows.ensures.rows (sym c.fill_kept-as_read.ensures.as_read ∙ none))) ∙ ap (octets_sent v.segments) w_is in
     let sent = cond as_read own settled in
     let sent_are : sent ≡ octets_sent v.segments w = either_are as_read own settled (octets_sent v.segments w) own_are settled_are in
     let passed = stream_dropped settings v d is_live' f ∙ ap₂ (λ a b. cond a (Some variants.TQuota) (cond b (Some variants.TRoom) None)) quota room in

@@ -5,7 +5,7 @@ use Rattle.tcp_norm.specs.Calls.{segment_in}
 use Rattle.tcp_norm.specs.Views.{view_of}
 use Rattle.tcp_norm.specs.Steps.{IsStep, Does, began}
 use Rattle.tcp_norm.proofs.Connections.{view_cold, step_stray, step_full, step_begun}
-use Rattle.tcp_norm.proofs.Effects.{none_kept, outside_unheard}
+use Rattle.tcp_norm.proofs.CallEffects.{none_kept, outside_unheard}
 use Rattle.tcp_norm.proofs.state.TcpNorm.depart_cold.Goals as goal
 
 pub returns-then-rst : goal.returns-then-rst

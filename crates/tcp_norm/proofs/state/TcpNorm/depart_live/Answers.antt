@@ -9,10 +9,10 @@ use Rattle.tcp_norm.specs.Live.{Live}
 use Rattle.tcp_norm.specs.Calls.{segments, eras, segment_in}
 use Rattle.tcp_norm.specs.Views.{view_of}
 use Rattle.tcp_norm.specs.Steps.{IsStep, Does, continued_in, reopened_by}
-use Rattle.tcp_norm.proofs.Effects.{ends_within, none_kept, tables_go_on}
+use Rattle.tcp_norm.proofs.CallEffects.{ends_within, none_kept, tables_go_on}
 use Rattle.tcp_norm.proofs.InboundSegments.{held_live}
 use Rattle.tcp_norm.proofs.Connections.{step_next, step_reset, step_reopened}
-use Rattle.tcp_norm.proofs.Represented.{opened_kept}
+use Rattle.tcp_norm.proofs.EraTable.{opened_kept}
 use Rattle.tcp_norm.proofs.state.TcpNorm.depart_live.Goals as goal
 
 pub returns : goal.returns
@@ -46,7 +46,7 @@ returns-then-rst c settings calls d octets long st sends =
           (subst (λ (w : Written). IsStep v w (record { era = Some n; begun = None; ended = Some (record { era = n; reason = reasons.Reset; octets = Some (octets_of v.segments) }); full = false })) (sym sends.segment_is)
           (step_reset v c.args.seg.now octets n l.live.era_is c.requires.legal rst));
       stands = λ o does. ends_within settings self c.end.new.self calls c.args.now n d w o reasons.Reset (Some c.octets-octets.result) st
-          (tables_go_on settings self _ c.end.new.self c.args.now 0 _ c.end.ensures.tables (omega arith) (opened_kept settings self _ st.opened refl refl refl refl refl refl refl refl) refl refl c.requires.ready.later)
+          (tables_go_on settings self _ c.end.new.self c.args.now 0 _ c.end.ensures.tables (omega arith) (opened_kept settings self _ st.opened refl refl refl refl) refl refl c.requires.ready.later)
           l.at.given (subst (λ x. Does d w x o) c.reset.ensures does) (c.end.ensures.holds (eras calls) (λ m. segments m calls) here.flow st.holds held.entry);
     }
 

@@ -2,7 +2,7 @@ use Rattle.std.proofs.Common.{◌≡◌, ◌∙◌, ◌∷◌, ◌++◌, length,
 use Rattle.ip_rules.specs.Datagrams.{goes_in, frames_of, raised}
 use Rattle.tcp_norm.specs.Emits.{packet_by, probe_packets}
 use Rattle.tcp_norm.specs.Rulings.{probe_frames, outcome_of, IsCarried, IsShort}
-use Rattle.tcp_norm.proofs.Syns.{given_one, inward_of, probes_are}
+use Rattle.tcp_norm.proofs.SynsAndResets.{given_one, inward_of, probes_are}
 use Rattle.tcp_norm.proofs.state.TcpNorm.emit.Goals as goal
 
 pub emit_own-requires-clause-short : goal.emit_own-requires-clause-short
@@ -19,23 +19,23 @@ put_probe-requires-in-Some-clause-room c =
 pub returns-in-Drop-clause-frames : goal.returns-in-Drop-clause-frames
 returns-in-Drop-clause-frames c settings ws d opened is carried =
     let a = c.args.arrival.now in
-    let hops = c.args.self.now.hops in
+    let hops = c.args.self.now.limits.hops in
     let ip = raised hops a.packet.now.head in
     let r = c.in-Drop.refusal in
     c.put_probe.ensures
     ∙ (ap (λ l. l ++ probe_frames a.link.now ip a.head.now.sport a.head.now.dport r.probe) c.requires.empty
-    ∙ (probes_are settings d a.packet.now a.link.now a.head.now hops ip r.probe opened.hops (subst (IsCarried ws d a c.args.self.now.scratch.items) c.in-Drop.is carried) is a.read.fields refl
+    ∙ (probes_are settings d a.packet.now a.link.now a.head.now hops ip r.probe (λ k. (opened.limits k).hops) (subst (IsCarried ws d a c.args.self.now.scratch.items) c.in-Drop.is carried) is a.read.fields refl
     ∙ ap (λ x. frames_of a.link.now (outcome_of settings ws d x).packets) (sym c.in-Drop.is)))
 
 pub returns-in-Ask-clause-frames : goal.returns-in-Ask-clause-frames
 returns-in-Ask-clause-frames c settings ws d opened is carried =
     let a = c.args.arrival.now in
-    let hops = c.args.self.now.hops in
+    let hops = c.args.self.now.limits.hops in
     let ip = raised hops a.packet.now.head in
     let probe = Some c.in-Ask.question.probe in
     c.put_probe-in-Ask.ensures
     ∙ (ap (λ l. l ++ probe_frames a.link.now ip a.head.now.sport a.head.now.dport probe) c.requires.empty
-    ∙ (probes_are settings d a.packet.now a.link.now a.head.now hops ip probe opened.hops (subst (IsCarried ws d a c.args.self.now.scratch.items) c.in-Ask.is carried) is a.read.fields refl
+    ∙ (probes_are settings d a.packet.now a.link.now a.head.now hops ip probe (λ k. (opened.limits k).hops) (subst (IsCarried ws d a c.args.self.now.scratch.items) c.in-Ask.is carried) is a.read.fields refl
     ∙ ap (λ x. frames_of a.link.now (outcome_of settings ws d x).packets) (sym c.in-Ask.is)))
 
 pub returns-in-None-clause-frames : goal.returns-in-None-clause-frames
@@ -49,12 +49,12 @@ returns-in-None-clause-frames c settings ws d opened is carried =
 pub returns-in-Some-clause-frames : goal.returns-in-Some-clause-frames
 returns-in-Some-clause-frames c settings ws d opened is carried =
     let a = c.args.arrival.now in
-    let hops = c.args.self.now.hops in
+    let hops = c.args.self.now.limits.hops in
     let rewrites = subst (IsCarried ws d a c.args.self.now.scratch.items) c.in-Pass.is carried in
     let own = packet_by settings ws d d.fixes c.in-Pass.passage.rows.items in
     let front = c.put_given.ensures ∙ c.emit_own-as_read.ensures.frames settings d ws opened is rewrites in
     let side = inward_of a.packet.now.side c.in-Pass.passage.probe c.in-Some.probe c.in-Some.is (λ out. rewrites.alone (ap goes_in is.side ∙ out)) in
-    let behind = probes_are settings d a.packet.now a.link.now a.head.now hops (raised hops a.packet.now.head) (Some c.in-Some.probe) opened.hops side is a.read.fields refl in
+    let behind = probes_are settings d a.packet.now a.link.now a.head.now hops (raised hops a.packet.now.head) (Some c.in-Some.probe) (λ k. (opened.limits k).hops) side is a.read.fields refl in
     c.put_probe-in-Some.ensures ∙ ((λ k. front k ++ behind k)
     ∙ (ap (λ p. frames_of a.link.now (own ∷ probe_packets settings d p)) (sym c.in-Some.is)
     ∙ ap (λ x. frames_of a.link.now (outcome_of settings ws d x).packets) (sym c.in-Pass.is)))

@@ -16,4 +16,4 @@ returns-clause-frames c settings d ws opened is anews =
     let a = c.args.arrival.now in
     c.put_anew.ensures
     ∙ frame_headed settings d ws a.packet.now a.link.now c.args.passage.now.rows.items c.head_sent-head.result is
-    (c.head_sent-head.ensures ∙ head_given settings c.args.self.now.hops a.packet.now a.link.now d opened.hops is) (sym c.if-not-is_empty.ensures) (sym c.if-is_empty.ensures)
+    (c.head_sent-head.ensures ∙ head_given settings c.args.self.now.limits.hops a.packet.now a.link.now d (λ k. (opened.limits k).hops) is) (sym c.if-not-is_empty.ensures) (sym c.if-is_empty.ensures)

@@ -19,7 +19,7 @@ returns-in-Inward-clause-frames c settings d ws opened is anews =
     let side = ap goes_in (is.side ∙ c.in-Inward.is) in
     c.put_rewritten.ensures
     ∙ frame_rewritten settings d ws a.packet.now a.link.now p.rows.items (rewritten a c.head_sent-head.result p (take p.size c.deref.result.now)) c.head_sent-head.result
-    side (c.head_sent-head.ensures ∙ head_given settings c.args.self.now.hops a.packet.now a.link.now d opened.hops is) c.requires.some
+    side (c.head_sent-head.ensures ∙ head_given settings c.args.self.now.limits.hops a.packet.now a.link.now d (λ k. (opened.limits k).hops) is) c.requires.some
     (anews.anew side c.requires.some ∙ (λ k. rewritten a ((sym c.head_sent-head.ensures) k) p (take p.size ((sym c.deref.ensures.value) k))))
 
 pub returns-in-Outward-clause-frames : goal.returns-in-Outward-clause-frames
@@ -27,4 +27,4 @@ returns-in-Outward-clause-frames c settings d ws opened is anews =
     let a = c.args.arrival.now in
     c.put_mended.ensures
     ∙ frame_mended settings d ws a.packet.now a.link.now c.args.passage.now.rows.items c.head_sent-head.result (ap goes_in (is.side ∙ c.in-Outward.is)) is
-    (c.head_sent-head.ensures ∙ head_given settings c.args.self.now.hops a.packet.now a.link.now d opened.hops is) c.requires.some
+    (c.head_sent-head.ensures ∙ head_given settings c.args.self.now.limits.hops a.packet.now a.link.now d (λ k. (opened.limits k).hops) is) c.requires.some

@@ -1,15 +1,17 @@
 use Rattle.std.proofs.Common.{[], ◌∷◌, length, refl, sym, ap, subst, arith}
 use Rattle.linked_table.specs.Table as table
 use Rattle.retain_store.specs.Maps.{Store}
+use Rattle.retain_store.proofs.Blocks.{others_same}
 use Rattle.tcp_norm.specs.declared.flow.Flow.{Flow}
 use Rattle.tcp_norm.specs.declared.key.EraKey.{EraKey}
 use Rattle.tcp_norm.specs.Calls.{without}
 use Rattle.tcp_norm.specs.Standing.{HoldsFor}
 use Rattle.tcp_norm.specs.Near.{AreNear}
-use Rattle.tcp_norm.proofs.Represented.{end_holds, others_same, opened_kept}
-use Rattle.tcp_norm.proofs.Numbers.{near_left, numbered}
+use Rattle.tcp_norm.proofs.EraTable.{end_holds, opened_kept}
+use Rattle.tcp_norm.proofs.EraWrites.{near_left}
+use Rattle.tcp_norm.proofs.Lists.{numbered}
 use Rattle.tcp_norm.proofs.Quotas.{stays_bounded}
-use Rattle.tcp_norm.proofs.Finding.{left_listed}
+use Rattle.tcp_norm.proofs.SpareEras.{left_listed}
 use Rattle.tcp_norm.proofs.state.TcpNorm.end.Goals as goal
 
 pub returns-clause-holds : goal.returns-clause-holds
@@ -22,7 +24,7 @@ pub returns-clause-tables : goal.returns-clause-tables
 returns-clause-tables c =
     record {
       opened = λ settings is. opened_kept settings c.args.self.now _ is (ap (λ (t : table.Table EraKey Flow). t.max) c.remove-pair.ensures.left) c.forget_all.ensures.changed.number
-          (ap (λ (s : Store). s.cells) c.forget_all.ensures.changed.others) refl refl refl refl refl;
+          (ap (λ (s : Store). s.cells) c.forget_all.ensures.changed.others) refl;
       idle = refl;
       begun_is = refl;
       calls_are = refl;
@@ -36,7 +38,7 @@ invariant_of-self-clause-near c =
 
 pub invariant_of-self-clause-bounded : goal.invariant_of-self-clause-bounded
 invariant_of-self-clause-bounded c =
-    stays_bounded c.args.self.now.quota c.args.self.now.store c.forget_all.new.self c.args.slot.0 c.args.self.now.bounded c.forget_all.ensures.changed
+    stays_bounded c.args.self.now.limits.quota c.args.self.now.store c.forget_all.new.self c.args.slot.0 c.args.self.now.bounded c.forget_all.ensures.changed
     (λ most is. let none = ap length c.forget_all.ensures.empty in omega (arith, none))
 
 pub invariant_of-self-clause-spare_listed : goal.invariant_of-self-clause-spare_listed

@@ -7,11 +7,11 @@ use Rattle.tcp_norm.specs.declared.key.EraKey.{EraKey}
 use Rattle.rule_book.specs.declared.entry.Reason.TheVariants as reasons
 use Rattle.tcp_norm.specs.Standing.{Holds}
 use Rattle.tcp_norm.specs.Steps.{Evicts}
-use Rattle.linked_table.proofs.Splits.{all_after}
-use Rattle.tcp_norm.proofs.Effects.{without_none, given_some}
-use Rattle.tcp_norm.proofs.Finding.{ended_at, found, first_is, first_none}
-use Rattle.tcp_norm.proofs.Represented.{at_slot}
-use Rattle.tcp_norm.proofs.Numbers.{none_left, shorter}
+use Rattle.linked_table.proofs.Lists.{all_after}
+use Rattle.tcp_norm.proofs.CallEffects.{without_none, given_some}
+use Rattle.tcp_norm.proofs.SpareEras.{ended_at, found, first_is, first_none}
+use Rattle.tcp_norm.proofs.EraTable.{at_slot}
+use Rattle.tcp_norm.proofs.Lists.{none_left, shorter}
 use Rattle.tcp_norm.proofs.state.TcpNorm.evict.Goals as goal
 
 never : {P : Type 0} {number : ℕ} → None ≡ Some number → P

@@ -7,9 +7,9 @@ use Rattle.tcp_norm.specs.Live.{Live}
 use Rattle.tcp_norm.specs.declared.key.EraKey.{EraKey}
 use Rattle.tcp_norm.specs.Calls.{segments}
 use Rattle.tcp_norm.proofs.Connections.{came_brings_none}
-use Rattle.tcp_norm.proofs.Represented.{none_changed, opened_kept}
-use Rattle.tcp_norm.proofs.Finding.{touched_listed}
-use Rattle.tcp_norm.proofs.Calls.{near_marked, stands_touched, touched_is, writes_one}
+use Rattle.tcp_norm.proofs.EraTable.{none_changed, opened_kept}
+use Rattle.tcp_norm.proofs.SpareEras.{touched_listed}
+use Rattle.tcp_norm.proofs.EraWrites.{near_marked, stands_touched, touched_is, writes_one}
 use Rattle.tcp_norm.proofs.state.TcpNorm.hear.Goals as goal
 
 pub returns : goal.returns
@@ -23,7 +23,7 @@ returns c settings calls d key flow o st held h =
     let stands = found.stands before (subst (λ (f : Flow). era.StandsFor f.era before) (sym same) h.stood) in
     record {
       stands = stands_touched c.first_stays.ensures c.acked_never_falls.ensures settings self _ calls c.args.now d live found.flow found.era (came seg ∷ []) o st
-          (opened_kept settings self _ st.opened (ap (λ (t : table.Table EraKey Flow). t.max) found.touches.entries) refl refl refl refl refl refl refl) refl refl refl c.requires.ready.later refl
+          (opened_kept settings self _ st.opened (ap (λ (t : table.Table EraKey Flow). t.max) found.touches.entries) refl refl refl) refl refl refl c.requires.ready.later refl
           (record { map = c.chain_is_counted.ensures.map; held = c.chain_is_counted.ensures.held }) held found.touches
           (record { key_is = h.key_is; none = (came_brings_none seg, tt); stands = stands; writes = writes_one d flow.number (came seg) o h.does });
       scratch_is = refl;

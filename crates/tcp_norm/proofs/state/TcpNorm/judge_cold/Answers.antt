@@ -12,8 +12,7 @@ use Rattle.tcp_norm.specs.declared.step.Step.{Step}
 use Rattle.tcp_norm.proofs.Connections.{view_cold, cold_same, asked_same, call_same, cold_probe_same, cold_refused, cold_full, cold_passes, no_call_no_begin, full_is, full_not, step_called, none_came}
 use Rattle.tcp_norm.proofs.BareSegments.{comes_bare, bare_anew, beside_are}
 use Rattle.tcp_norm.proofs.InboundSegments.{in_dropped, in_unheard, in_outcome, in_does, keyed, asks, step_asked, packets_asked, packets_begun, side_is}
-use Rattle.tcp_norm.proofs.SynsAndResets.{bare_writes, called_marked, cold_probes, begun_probes, cold_stream}
-use Rattle.tcp_norm.proofs.Syns.{bare_carried, rewritten_in}
+use Rattle.tcp_norm.proofs.SynsAndResets.{bare_writes, called_marked, cold_probes, begun_probes, cold_stream, bare_carried, rewritten_in}
 use Rattle.tcp_norm.proofs.state.TcpNorm.judge_cold.Goals as goal
 
 pub returns-in-Refuse-clause-judges : goal.returns-in-Refuse-clause-judges

@@ -16,7 +16,7 @@ returns-clause-judges c settings calls d st is =
     let step = c.depart-step.result in
     let made = c.depart-step.ensures settings calls d st is in
     let side = ap goes_in (is.side ∙ c.requires.outward.side) in
-    let wrong = sum_wrong settings c.args.self.now.offload a.packet.now a.link.now d a.head.now st.opened.offload c.requires.outward.side is c.requires.outward.fields in
+    let wrong = sum_wrong settings c.args.self.now.limits.offload a.packet.now a.link.now d a.head.now (λ k. (st.opened.limits k).offload) c.requires.outward.side is c.requires.outward.fields in
     let inside : 20 ≤ length d.octets = subst (λ (m : List ℕ). 20 ≤ length m) (sym is.octets) (omega (arith, a.read.least, a.read.inside)) in
     let words : 20 ≤ tcp.header_length d.octets = subst (λ (m : List ℕ). 20 ≤ tcp.header_length m) (sym is.octets) (subst (λ (h : Tcp). 20 ≤ h.header) a.read.fields a.read.least) in
     record {

@@ -17,13 +17,12 @@ use Rattle.tcp_norm.specs.Live.{Live}
 use Rattle.tcp_norm.specs.Rulings.{IsFound, outcome_of}
 use Rattle.tcp_norm.specs.declared.ruling.Refusal.{Refusal}
 use Rattle.tcp_norm.specs.declared.ruling.Ruling.TheVariants.{Drop}
-use Rattle.linked_table.proofs.Splits.{all_weaker}
+use Rattle.linked_table.proofs.Lists.{all_weaker}
 use Rattle.tcp_norm.proofs.KeptOctets.{silent_brings_none, silent_stands}
 use Rattle.tcp_norm.proofs.Connections.{step_seen, rst_same, probe_same, reset_dropped, no_call, refused_alone, passed_alone}
 use Rattle.tcp_norm.proofs.BareSegments.{bare_anew, beside_are}
-use Rattle.tcp_norm.proofs.InboundSegments.{in_dropped, in_unheard, in_outcome, packets_reset, judged, of_live}
-use Rattle.tcp_norm.proofs.SynsAndResets.{bare_writes, reset_stream, reset_probes, rst_marked, no_recall, reset_silent, probes_silent, first_is, writes_all}
-use Rattle.tcp_norm.proofs.Syns.{bare_carried, rewritten_in}
+use Rattle.tcp_norm.proofs.InboundSegments.{in_dropped, in_unheard, in_outcome, packets_reset, judged, of_live, writes_all}
+use Rattle.tcp_norm.proofs.SynsAndResets.{bare_writes, reset_stream, reset_probes, rst_marked, no_recall, reset_silent, probes_silent, first_is, bare_carried, rewritten_in}
 use Rattle.tcp_norm.proofs.state.TcpNorm.judge_reset.Goals as goal
 
 pub returns-in-Refuse-clause-judges : goal.returns-in-Refuse-clause-judges

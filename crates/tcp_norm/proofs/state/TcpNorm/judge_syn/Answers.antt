@@ -11,7 +11,7 @@ use Rattle.tcp_norm.specs.Outcomes.{outcome_at}
 use Rattle.tcp_norm.specs.Steps.{Does, continued_in, reopened_by}
 use Rattle.tcp_norm.proofs.Connections.{no_reset}
 use Rattle.tcp_norm.proofs.InboundSegments.{in_unheard, judged, of_live}
-use Rattle.tcp_norm.proofs.Syns.{rewritten_in, syn_refused, of_syn}
+use Rattle.tcp_norm.proofs.SynsAndResets.{rewritten_in, syn_refused, of_syn}
 use Rattle.tcp_norm.proofs.state.TcpNorm.judge_syn.Goals as goal
 
 pub overflow_add-self : goal.overflow_add-self

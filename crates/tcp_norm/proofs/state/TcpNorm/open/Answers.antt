@@ -1,5 +1,4 @@
-use Rattle.std.proofs.Common.{rules, ◌≡◌, ℕ, zero, suc, List, [], refl, length, ap, ◌∙◌, arith}
-use Rattle.std.specs.Prelude.{slice_index_or, replicate}
+use Rattle.std.proofs.Common.{rules, ◌≡◌, ℕ, zero, suc, List, [], refl, length, ap, ◌∙◌, arith, slice_index_or, replicate}
 use Rattle.retain_store.specs.Maps.{Store, Block, chain_of}
 use Rattle.tcp_norm.proofs.state.TcpNorm.open.Goals as goal
 
@@ -12,7 +11,7 @@ empty_chain (suc n) (suc chain) none e = empty_chain n chain none e
 pub returns : goal.returns
 returns c =
     record {
-      opened = record { flows = search rules; chains = search rules; cells = refl; store = search rules; hops = refl; idle = refl; offload = refl; quota = refl };
+      opened = record { flows = search rules; chains = search rules; store = search rules; limits = refl };
       holds = record { eras_are = search rules; each = search rules; free = λ chain none. ap (λ (s : Store). chain_of s chain) c.in_ok-store.ensures ∙ empty_chain c.args.settings.now.flows chain [] refl; given = record { below = tt; apart = tt; fresh = λ number above. refl } };
       begun_is = refl;
       latest_is = refl;

@@ -1,13 +1,12 @@
-use Rattle.std.proofs.Common.{◌≡◌, ◌+◌, ◌∙◌, true, false, List, [], ◌∷◌, ◌++◌, length, Option, Some, None, is_some, cond, sym, ap, subst, arith}
-use Rattle.std.specs.Prelude.{nat_le}
+use Rattle.std.proofs.Common.{◌≡◌, ◌+◌, ◌∙◌, true, false, List, [], ◌∷◌, ◌++◌, length, Option, Some, None, is_some, cond, sym, ap, subst, arith, nat_le}
 use Rattle.std.proofs.lemmas.Bool.Decides.{nat_tests}
 use Rattle.std.proofs.lemmas.List.{length-map}
 use Rattle.tcp_norm.specs.Calls.{Alive, without}
 use Rattle.tcp_norm.specs.Standing.{Holds, Begins, ChangesTables, alive_in}
 use Rattle.tcp_norm.specs.declared.step.Place.{Place}
 use Rattle.tcp_norm.specs.Steps.{Places, first_empty, place_of}
-use Rattle.tcp_norm.proofs.Effects.{without_none}
-use Rattle.tcp_norm.proofs.Represented.{then_changes}
+use Rattle.tcp_norm.proofs.CallEffects.{without_none}
+use Rattle.tcp_norm.proofs.EraTable.{then_changes}
 use Rattle.tcp_norm.proofs.state.TcpNorm.place.Goals as goal
 
 pub returns-then-len-max-clause-places : goal.returns-then-len-max-clause-places

@@ -5,9 +5,9 @@ use Rattle.tcp_norm.specs.Near.{IsNear}
 use Rattle.tcp_norm.specs.Steps.{reopened_by}
 use Rattle.tcp_norm.specs.declared.key.EraKey.{EraKey}
 use Rattle.tcp_norm.specs.Standing.{Holds, Begins, IsAbsent}
-use Rattle.tcp_norm.proofs.Effects.{begins_then, begins_with, given_some, tables_go_on}
-use Rattle.tcp_norm.proofs.Represented.{at_slot, opened_kept, then_changes}
-use Rattle.tcp_norm.proofs.Numbers.{key_left, shorter}
+use Rattle.tcp_norm.proofs.CallEffects.{begins_then, begins_with, given_some, tables_go_on}
+use Rattle.tcp_norm.proofs.EraTable.{at_slot, opened_kept, then_changes}
+use Rattle.tcp_norm.proofs.Lists.{key_left, shorter}
 use Rattle.tcp_norm.proofs.state.TcpNorm.reopen.Goals as goal
 
 pub begin-requires-clause-fresh : goal.begin-requires-clause-fresh
@@ -41,7 +41,7 @@ returns c settings calls d w flow octets o st valued key stood none does =
     record {
       stands = begins_then settings c.args.self.now c.begin.new.self calls c.args.now d w o (reopened_by n next octets) (Some n) st
           (tables_go_on settings c.args.self.now _ c.begin.new.self c.args.now 1 _ (then_changes _ _ _ _ _ c.end.ensures.tables c.begin.ensures.tables) (ap (λ b. b + 1) was)
-          (opened_kept settings c.args.self.now _ st.opened refl refl refl refl refl refl refl refl) refl refl c.requires.ready.later)
+          (opened_kept settings c.args.self.now _ st.opened refl refl refl refl) refl refl c.requires.ready.later)
           (λ k is. given_some n k at.given is) refl refl refl does
           (subst (λ k. Holds c.begin.new.self (without (n ∷ []) (eras calls) ++ record { number = next; key = k; touched = c.args.now } ∷ []) later) (ap (λ (k : EraKey). k.0) c.hashed-hashed.ensures ∙ key)
           (subst (λ b. Holds c.begin.new.self (without (n ∷ []) (eras calls) ++ record { number = b + 1; key = c.hashed-hashed.result.key.0; touched = c.args.now } ∷ []) later) was then'));

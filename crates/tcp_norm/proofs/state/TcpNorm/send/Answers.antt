@@ -1,5 +1,4 @@
-use Rattle.std.proofs.Common.{◌+◌, ◌∙◌, [], ◌∷◌, ◌++◌, sym, ap, subst, refl, cond, None, arith}
-use Rattle.std.specs.Prelude.{nat_lt}
+use Rattle.std.proofs.Common.{◌+◌, ◌∙◌, [], ◌∷◌, ◌++◌, sym, ap, subst, refl, cond, None, arith, nat_lt}
 use Rattle.linked_table.specs.Table as table
 use Rattle.retain_store.specs.Maps.{Store, chain_of, octet_at}
 use Rattle.era_state.specs.Eras as era
@@ -10,11 +9,10 @@ use Rattle.tcp_norm.specs.Calls.{segments, segment_in, eras}
 use Rattle.tcp_norm.specs.Near.{AreNear}
 use Rattle.tcp_norm.specs.Rulings.{Continues}
 use Rattle.tcp_norm.proofs.KeptOctets.{keeps_behind, outbound_brings_none}
-use Rattle.tcp_norm.proofs.Numbers.{acked_small, near_at, nears_weaker, near_touched}
+use Rattle.tcp_norm.proofs.EraWrites.{acked_small, near_at, nears_weaker, near_touched, stands_written, writes_one}
 use Rattle.tcp_norm.proofs.Quotas.{shorter_below, stays_bounded}
-use Rattle.tcp_norm.proofs.Represented.{at_slot, opened_kept, same_value}
-use Rattle.tcp_norm.proofs.Finding.{touched_listed}
-use Rattle.tcp_norm.proofs.Calls.{stands_written, writes_one}
+use Rattle.tcp_norm.proofs.EraTable.{at_slot, opened_kept, same_value}
+use Rattle.tcp_norm.proofs.SpareEras.{touched_listed}
 use Rattle.tcp_norm.proofs.state.TcpNorm.send.Goals as goal
 
 pub send_in-acked-requires-clause-small : goal.send_in-acked-requires-clause-small
@@ -37,7 +35,7 @@ returns c settings calls d key flow octets o st held long sends does =
     let keeps = keeps_behind c.first_stays.ensures c.acked_never_falls.ensures flow.era next.era before (w ∷ []) (chain_of store slot.0) (chain_of c.forget_below.new.self slot.0)
     at.era stands (outbound_brings_none w sends.side, tt) at.octets (λ n. forgets.octets n ∙ ap (λ a. cond (nat_lt n a) None (octet_at (chain_of store slot.0) n)) next.acked_is) in
     stands_written settings c.args.self.now _ calls c.args.now d live _ (w ∷ []) o st
-    (opened_kept settings c.args.self.now _ st.opened (ap (λ (t : table.Table EraKey Flow). t.max) next.entries) forgets.changed.number (ap (λ (s : Store). s.cells) forgets.changed.others) refl refl refl refl refl)
+    (opened_kept settings c.args.self.now _ st.opened (ap (λ (t : table.Table EraKey Flow). t.max) next.entries) forgets.changed.number (ap (λ (s : Store). s.cells) forgets.changed.others) refl)
     refl refl refl c.requires.ready.later held (sym sends.key_is) refl refl next.entries forgets.changed stands keeps forgets.map forgets.held (writes_one d flow.number w o does)
 
 pub invariant_of-self-clause-near : goal.invariant_of-self-clause-near
@@ -55,7 +53,7 @@ invariant_of-self-clause-bounded c =
     let slot = c.args.slot.0 in
     let shorter = shorter_below (chain_of self.store slot) (chain_of c.forget_below.new.self slot) _ c.chain_is_counted.ensures.map c.forget_below.ensures.map c.forget_below.ensures.octets
     c.chain_is_counted.ensures.held c.forget_below.ensures.held in
-    stays_bounded self.quota self.store c.forget_below.new.self slot self.bounded c.forget_below.ensures.changed
+    stays_bounded self.limits.quota self.store c.forget_below.new.self slot self.bounded c.forget_below.ensures.changed
     (λ most is. let le = self.bounded slot most is in omega (arith, shorter, le))
 
 pub invariant_of-self-clause-spare_listed : goal.invariant_of-self-clause-spare_listed

@@ -6,14 +6,13 @@ use Rattle.tcp_norm.specs.declared.flow.Flow.{Flow}
 use Rattle.tcp_norm.specs.declared.key.EraKey.{EraKey}
 use Rattle.tcp_norm.specs.Calls.{segments, segment_in, eras}
 use Rattle.tcp_norm.specs.Near.{AreNear}
-use Rattle.tcp_norm.proofs.Numbers.{near_at, nears_weaker, near_touched}
+use Rattle.tcp_norm.proofs.EraWrites.{near_at, nears_weaker, near_touched, stands_written, wrote_these, taken_long}
 use Rattle.tcp_norm.proofs.Quotas.{stays_bounded}
-use Rattle.tcp_norm.proofs.Represented.{at_slot, opened_kept, same_value}
-use Rattle.tcp_norm.proofs.Finding.{touched_listed}
-use Rattle.tcp_norm.proofs.ChainOctets.{fresh_is, keeps_with, last_stands}
+use Rattle.tcp_norm.proofs.EraTable.{at_slot, opened_kept, same_value}
+use Rattle.tcp_norm.proofs.SpareEras.{touched_listed}
+use Rattle.tcp_norm.proofs.KeptOctets.{fresh_is, keeps_with, last_stands}
 use Rattle.tcp_norm.specs.Live.{Live}
 use Rattle.tcp_norm.specs.Rulings.{Brings, IsHeld, taken}
-use Rattle.tcp_norm.proofs.Calls.{stands_written, wrote_these, taken_long}
 use Rattle.tcp_norm.proofs.state.TcpNorm.take_octets.Goals as goal
 
 pub returns : goal.returns
@@ -37,7 +36,7 @@ returns c settings calls d key flow o st held' b' =
     (chain_of store live.slot.0) (chain_of c.place_taken-fresh.new.store live.slot.0) _ (last_stands live.flow.era took.value.was ws took.value.was_last at.era) (last_stands took.era took.value.is (ws ++ b.frame ∷ []) took.value.is_last next) took.value.with b.kept_is b.framed (b.octets_are ∙ ap (taken t) (sym c.deref.ensures.value)) at.octets placed.places in
     record {
       stands = stands_written settings c.args.self.now _ calls c.args.now d live _ (b.frame ∷ []) o st
-          (opened_kept settings c.args.self.now _ st.opened (ap (λ (x : table.Table EraKey Flow). x.max) c.take_in.ensures.entries) placed.changed.number (ap (λ (s : Store). s.cells) placed.changed.others) refl refl refl refl refl)
+          (opened_kept settings c.args.self.now _ st.opened (ap (λ (x : table.Table EraKey Flow). x.max) c.take_in.ensures.entries) placed.changed.number (ap (λ (s : Store). s.cells) placed.changed.others) refl)
           refl refl refl c.requires.ready.later held b.key_is refl refl took.entries placed.changed next keeps
           c.chain_is_counted.ensures.map c.chain_is_counted.ensures.held (wrote_these 0 live.flow.number d b.more (b.frame ∷ []) o b.writes b.own);
       scratch_is = refl;
@@ -68,7 +67,7 @@ pub invariant_of-self-clause-bounded : goal.invariant_of-self-clause-bounded
 invariant_of-self-clause-bounded c =
     let self = c.args.self.now in
     let slot = c.args.slot.0 in
-    stays_bounded self.quota self.store c.place_taken-fresh.new.store slot self.bounded c.place_taken-fresh.ensures.changed
+    stays_bounded self.limits.quota self.store c.place_taken-fresh.new.store slot self.bounded c.place_taken-fresh.ensures.changed
     (λ most is.
     let le = c.requires.can.quota most is in
     let long = taken_long c.args.taking.now c.deref.result.now (omega (arith, c.deref.ensures.len, self.room, c.requires.can.fits)) in

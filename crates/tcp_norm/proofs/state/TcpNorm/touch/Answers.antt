@@ -4,9 +4,9 @@ use Rattle.tcp_norm.specs.declared.flow.Flow.{Flow}
 use Rattle.tcp_norm.specs.Live.{Live}
 use Rattle.tcp_norm.specs.declared.key.EraKey.{EraKey}
 use Rattle.tcp_norm.specs.Rulings.{Extends}
-use Rattle.tcp_norm.proofs.Represented.{none_changed, opened_kept}
-use Rattle.tcp_norm.proofs.Finding.{touched_listed}
-use Rattle.tcp_norm.proofs.Calls.{near_marked, stands_touched, touched_is}
+use Rattle.tcp_norm.proofs.EraTable.{none_changed, opened_kept}
+use Rattle.tcp_norm.proofs.SpareEras.{touched_listed}
+use Rattle.tcp_norm.proofs.EraWrites.{near_marked, stands_touched, touched_is}
 use Rattle.tcp_norm.proofs.state.TcpNorm.touch.Goals as goal
 
 pub returns : goal.returns
@@ -17,7 +17,7 @@ returns c settings calls d key flow ws o st held e =
     let same = touched_is self.table _ live c.args.now found.flow found.flow.era held found.touches in
     record {
       stands = stands_touched c.first_stays.ensures c.acked_never_falls.ensures settings self _ calls c.args.now d live found.flow found.flow.era ws o st
-          (opened_kept settings self _ st.opened (ap (λ (t : table.Table EraKey Flow). t.max) found.touches.entries) refl refl refl refl refl refl refl) refl refl refl c.requires.ready.later refl
+          (opened_kept settings self _ st.opened (ap (λ (t : table.Table EraKey Flow). t.max) found.touches.entries) refl refl refl) refl refl refl c.requires.ready.later refl
           (record { map = c.chain_is_counted.ensures.map; held = c.chain_is_counted.ensures.held }) held found.touches
           (subst (λ (f : Flow). Extends calls d live f.era ws o) (sym same) e);
       scratch_is = refl;

@@ -1,6 +1,5 @@
--- What each kind of call does to the live eras.
-use Rattle.std.proofs.Common.{◌≡◌, ℕ, ◌+◌, ◌==◌, ◌&&◌, ◌||◌, not, Bool, true, false, cond, List, [], ◌∷◌, ◌++◌, map, filter, take, Option, Some, None, is_some, is_none, refl, sym, ap, ap₂, subst, ◌∙◌, zero, suc, ◌≤◌, arith}
-use Rattle.std.specs.Prelude.{nat_lt}
+-- The kinds of calls: which era each writes in, begins, ends or evicts.
+use Rattle.std.proofs.Common.{◌≡◌, ℕ, ◌+◌, ◌==◌, ◌&&◌, ◌||◌, not, Bool, true, false, cond, List, [], ◌∷◌, ◌++◌, map, filter, take, Option, Some, None, is_some, is_none, refl, sym, ap, ap₂, subst, ◌∙◌, zero, suc, ◌≤◌, arith, nat_lt}
 use Rattle.std.proofs.lemmas.Bool.{not-true, and_parts, and_right, or_left, or_right, false_from_ne_true, true_from_ne_false}
 use Rattle.std.specs.Option.{option_or}
 use Rattle.std.specs.List.{AllByRecursion}
@@ -18,14 +17,12 @@ use Rattle.tcp_norm.specs.Calls.{Call, datagram, Outcome, Alive, eras, live, is_
 use Rattle.tcp_norm.specs.Held.{evictable, held_in}
 use Rattle.tcp_norm.specs.Views.{View, view_of, number_of, head_of}
 use Rattle.tcp_norm.specs.Rows.{begins, begins_cold, reopens, dropped_by, mended_by}
-use Rattle.tcp_norm.specs.Outcomes.{verdict_of, ends, begun_with, ended_with, outcome_by, outcome_at, call_of, expiry_of}
+use Rattle.tcp_norm.specs.Outcomes.{ends, begun_with, ended_with, outcome_by, outcome_at, call_of, expiry_of}
 use Rattle.tcp_norm.specs.Steps.{one}
 use Rattle.tcp_norm.specs.Lives.{begun_for, writes_in, last_begun, has_ended, made_of}
-use Rattle.tcp_norm.proofs.Finding.{key_is, key_same}
-use Rattle.tcp_norm.proofs.Lists.{all_map, some_same}
-use Rattle.tcp_norm.proofs.Numbers.{all_filter, among_is}
-use Rattle.tcp_norm.proofs.Represented.{number_same}
-use Rattle.tcp_norm.proofs.Lives.{Effect, Lasts, live_last, last_live, all_given}
+use Rattle.tcp_norm.proofs.LiveEras.{key_is, key_same, Effect, Lasts, live_last, last_live, all_given}
+use Rattle.tcp_norm.proofs.Lists.{all_map, some_same, all_filter, among_is, number_same}
+use Rattle.tcp_norm.proofs.EraWrites.{fixed_or_passed}
 
 -- What the calls that the rules make do to the eras: kind by kind, read off the outcome.
 
@@ -49,11 +46,6 @@ pub data Kind (v : View) (c : Call) (key : FlowKey) (now : ℕ) : Type 0 where
 pub never : (b : Bool) → cond {A = Option ℕ} b None None ≡ None
 never true = refl
 never false = refl
-
--- what passes is written
-passes : (rules : List Rule) → is_written (verdict_of rules) ≡ true
-passes [] = refl
-passes (rule ∷ more) = refl
 
 -- What a segment that no rule drops does to the eras, by what was asked of the calls before.
 data Turn (era evictable : Option ℕ) (next : ℕ) (full : Bool) (begun : Option ℕ) (ended : List ℕ) : Type 0 where
@@ -114,7 +106,7 @@ data Says (v : View) (w : Written) (o : Outcome) : Type 0 where
 
 says : (settings : PlainSettings) (v : View) (d : Datagram) (rule : Option Rule) (mended : List Rule) → Says v (segment_in d) (outcome_by settings v d rule mended)
 says settings v d (Some rule) mended = dropped refl refl refl
-says settings v d None mended = passed (passes (d.fixes ++ mended)) refl refl refl
+says settings v d None mended = passed (fixed_or_passed (d.fixes ++ mended)) refl refl refl
 
 -- nothing is written, or in no era
 moves_nothing : (now : ℕ) (d : Datagram) (o : Outcome) → is_written o.verdict ≡ false → o.begun ≡ None → map (λ e. e.era) o.ended ≡ [] → Moves (datagram now d o) (key_of d) [] None []

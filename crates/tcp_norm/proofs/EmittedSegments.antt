@@ -1,9 +1,8 @@
--- What is written of a datagram is emitted in its era.
-use Rattle.std.proofs.Common.{◌≡◌, inl, inr, ℕ, ◌+◌, ◌%◌, ◌^◌, ◌<◌, ◌&&◌, ◌||◌, not, Bool, true, false, cond, List, [], ◌∷◌, ◌++◌, Option, Some, None, refl, sym, ap, subst, ◌∙◌, arith, zero, suc, ◌-◌, length, map, ℤ, pos, negsuc}
-use Rattle.std.specs.Prelude.{nat_eq, slice_get}
+-- What is written of one datagram is emitted in its era: outbound, a SYN or RST, or of the stream.
+use Rattle.std.proofs.Common.{◌≤◌, ◌≡◌, inl, inr, ℕ, ◌+◌, ◌%◌, ◌^◌, ◌<◌, ◌&&◌, ◌||◌, not, Bool, true, false, cond, List, [], ◌∷◌, ◌++◌, Option, Some, None, refl, sym, ap, subst, ◌∙◌, arith, zero, suc, ◌-◌, length, map, ℤ, pos, negsuc, nat_eq, slice_get}
 use Rattle.std.specs.List.{AllByRecursion, range_with_len}
 use Rattle.std.specs.Option.{option_or, unwrap_or}
-use Rattle.std.proofs.lemmas.Bool.{false≢true}
+use Rattle.std.proofs.lemmas.Bool.{false≢true, and_parts}
 use Rattle.std.proofs.lemmas.Bool.Decides.{nat_tests}
 use Rattle.wire_base.specs.Tcp as tcp
 use Rattle.wire_base.specs.Segments.{Written}
@@ -19,26 +18,28 @@ use Rattle.era_state.specs.Rules as era
 use Rattle.era_state.specs.Silence.{IsSilent}
 use Rattle.era_state.specs.Emission.{IsOutward, IsBare, AreEmitted, IsKeptFrame}
 use Rattle.era_state.specs.Emitted.{WrittenRemains}
-use Rattle.era_state.proofs.Steps.{base_push}
+use Rattle.era_state.proofs.Quantities.{base_push}
 use Rattle.ip_rules.specs.Datagrams.{Datagram, goes_in}
 use Rattle.era_state.specs.Offsets.{OffsetsAreRead, number_in, whole}
 use Rattle.era_state.specs.declared.interval.Interval.{Interval}
 use Rattle.era_state.specs.Keeping.{bounds_of, offset_of, keeps_fin}
 use Rattle.era_state.specs.Intervals.{KeptOf}
-use Rattle.era_state.proofs.Framed.{EndLies}
-use Rattle.era_state.proofs.Emitting.{bounded}
+use Rattle.era_state.proofs.Frames.{EndLies}
+use Rattle.era_state.proofs.EmittedSegments.{bounded}
 use Rattle.tcp_norm.specs.Calls.{read, segment_in}
 use Rattle.tcp_norm.specs.Views.{View}
-use Rattle.tcp_norm.specs.Rows.{is_live, c_probe, mended_by, pseudo_of, clashes, low_of, high_of, own_octet, octet_sent}
+use Rattle.tcp_norm.specs.Rows.{is_live, c_probe, mended_by, pseudo_of, clashes, low_of, high_of, own_octet, octet_sent, header_mends, holds_era, t_strip}
 use Rattle.tcp_norm.specs.Emits.{packet_by, segment_sent, segment_anew, sum_mended}
 use Rattle.tcp_norm.specs.Inwards.{bare_read}
 use Rattle.tcp_norm.specs.Segments.{IsSegment}
 use Rattle.tcp_norm.specs.Laws.{WritesFrame}
-use Rattle.tcp_norm.proofs.StreamRules.{syn_without_32, fin_without_32, both_true, of_stream, stream_mended}
+use Rattle.tcp_norm.proofs.StreamRules.{of_stream, stream_mended}
 use Rattle.tcp_norm.proofs.BareSegments.{bare_mended, bare_is_read, bare_anew}
-use Rattle.tcp_norm.proofs.Packets.{bare_fits_here, bits, stream_fits_here}
-use Rattle.tcp_norm.proofs.SynsAndResets.{number_fits}
+use Rattle.tcp_norm.proofs.Packets.{bare_fits_here, bits, stream_fits_here, number_fits}
 use Rattle.tcp_norm.proofs.StreamFrames.{writes_frame}
+use Rattle.tcp_norm.specs.Streams.{bare_tests, stream_tests}
+use Rattle.std.proofs.lemmas.List.Sums.{count_by-le-length, length-filter}
+use Rattle.tcp_norm.proofs.HeaderRules.{flags_stay, header_mended, those_few}
 
 -- What is emitted of an outbound datagram, and of an inbound one that brings no octet of the stream.
 
@@ -78,7 +79,7 @@ pub bare_read_is : CleansOctets → AreReadBack → (settings : PlainSettings) (
     → read (goes_in d.side) (packet_by settings v.segments d d.fixes (mended_by settings v d)).octets ≡ bare_read d.octets
 bare_read_is cleans back settings v d h side marked stream =
     ap (λ b. read b (packet_by settings v.segments d d.fixes (mended_by settings v d)).octets) side
-    ∙ bare_is_read back settings v.segments d (c_probe v (segment_in d)) (mended_by settings v d) side (bare_fits_here cleans settings d h) (bare_anew v.segments d marked) marked
+    ∙ bare_is_read back settings v d (c_probe v (segment_in d)) (mended_by settings v d) side (bare_fits_here cleans settings d h) (bare_anew v.segments d marked) marked
     (sym (bare_mended settings v d (c_probe v (segment_in d)) side stream refl))
 
 -- it is bare, where its SYN has the number before the base, or sets it
@@ -88,14 +89,14 @@ is_bare settings ws d h marked based =
     let f = tcp.flags d.octets in
     record {
       inward = refl;
-      no_fin = fin_without_32 f ∙ no_fin (tcp.has_syn f) (tcp.has_fin f) (tcp.has_rst f) (tcp.has_ack f) h.legal marked;
+      no_fin = (flags_stay f).fin ∙ no_fin (tcp.has_syn f) (tcp.has_fin f) (tcp.has_rst f) (tcp.has_ack f) h.legal marked;
       no_octets = refl;
-      syn = λ e. based (sym (syn_without_32 f) ∙ e);
+      syn = λ e. based (sym (flags_stay f).syn ∙ e);
     }
 
 -- the base that it fixes
 bare_fixes : (m : List ℕ) → tcp.has_syn (tcp.flags m) ≡ true → fixes (bare_read m) ≡ Some ((tcp.sequence m + 1) % 2 ^ 32)
-bare_fixes m syn = ap (λ b. cond b (Some ((tcp.sequence m + 1) % 2 ^ 32)) None) (syn_without_32 (tcp.flags m) ∙ syn)
+bare_fixes m syn = ap (λ b. cond b (Some ((tcp.sequence m + 1) % 2 ^ 32)) None) ((flags_stay (tcp.flags m)).syn ∙ syn)
 
 pub fixes_base : (ws : List Written) (m : List ℕ) → base_of ws ≡ None → tcp.has_syn (tcp.flags m) ≡ true → base_of (ws ++ bare_read m ∷ []) ≡ Some ((tcp.sequence m + 1) % 2 ^ 32)
 fixes_base ws m none syn = base_push ws (bare_read m) ∙ (ap (λ o. option_or o (fixes (bare_read m))) none ∙ bare_fixes m syn)
@@ -198,6 +199,25 @@ kept_frame ws w frame based f = record {
       ∙ ap (λ o. unwrap_or o (own_octet ws w (low_of ws w + index))) e;
 }
 
+-- at most nine rules rewrite an inbound segment: those on its header, and those on one of the stream or on another
+pub inward_few : (settings : PlainSettings) (v : View) (d : Datagram) → goes_in d.side ≡ true → length (mended_by settings v d) ≤ 9
+inward_few settings v d side = cases (is_live v && era.is_of_stream v.segments (segment_in d)) refl
+  where
+    few : length (header_mended settings v d) ≤ 5
+    few = let long = length-filter (holds_era settings v d) header_mends in let most = count_by-le-length (holds_era settings v d) header_mends in omega (arith, long, most)
+
+    cases : (stream : Bool) → (is_live v && era.is_of_stream v.segments (segment_in d)) ≡ stream → length (mended_by settings v d) ≤ 9
+    cases false none =
+        let probe = c_probe v (segment_in d) in
+        let long = those_few (header_mended settings v d) (bare_tests (t_strip (segment_in d)) probe) in
+        subst (λ l. length l ≤ 9) (sym (bare_mended settings v d probe side none refl)) (omega (arith, long, few))
+    cases true is =
+        let both = and_parts (is_live v) (era.is_of_stream v.segments (segment_in d)) is in
+        let i = interval_of v.segments (segment_in d) in
+        let clash = clashes v.segments (segment_in d) in
+        let long = those_few (header_mended settings v d) (stream_tests i clash) in
+        subst (λ l. length l ≤ 9) (sym (stream_mended settings v d i clash both.0 (of_stream v.segments (segment_in d) both.1) (kept_of v.segments (segment_in d)) refl)) (omega (arith, long, few))
+
 pub stream_emitted : CleansOctets → OffsetsAreRead → AreReadBack → (settings : PlainSettings) (v : View) (d : Datagram) → IsSegment settings d → AreEmitted [] v.segments
     → is_live v ≡ true → era.is_of_stream v.segments (segment_in d) ≡ true
     → IsKeptFrame v.segments (read (goes_in d.side) (packet_by settings v.segments d d.fixes (mended_by settings v d)).octets)
@@ -205,9 +225,9 @@ stream_emitted cleans reads back settings v d h emitted live stream =
     let ws = v.segments in
     let w = segment_in d in
     let f = of_stream ws w stream in
-    let based = acknowledged_based ws (both_true _ (is_acknowledged (state_of ws)) stream).1 in
+    let based = acknowledged_based ws (and_parts _ (is_acknowledged (state_of ws)) stream).1 in
     let end = end_is_place ws based emitted in
     let i = interval_of ws w in
     let named = stream_mended settings v d i (clashes ws w) live f (kept_of ws w) refl in
-    let frame = writes_frame reads back settings end.0 ws d i (clashes ws w) end.1 f (kept_of ws w) refl (number_fits d (bits settings d h)) (stream_fits_here cleans settings ws d h) _ (sym named) in
+    let frame = writes_frame reads back settings end.0 ws d i (clashes ws w) end.1 f (kept_of ws w) refl (number_fits d (bits settings d h)) (stream_fits_here cleans settings ws d h) _ _ (sym named) in
     subst (λ b. IsKeptFrame ws (read b (packet_by settings ws d d.fixes (mended_by settings v d)).octets)) (sym f.inward) (kept_frame ws w _ based frame)

@@ -1,17 +1,14 @@
--- What the call of a datagram does to the live eras.
-use Rattle.std.proofs.Common.{◌≡◌, ◌≢◌, ℕ, ◌+◌, ◌<◌, ◌≤◌, ◌&&◌, not, Bool, true, false, cond, List, [], ◌∷◌, ◌++◌, map, filter, Option, Some, None, is_some, refl, sym, ap, ap₂, subst, ◌∙◌, arith, pos, ◌==◌}
-use Rattle.std.proofs.lemmas.List.{append-nil}
+-- What a call changes: the era that it names gets segments, one may begin or end, all others stay.
+use Rattle.std.proofs.Common.{◌≡◌, ◌≢◌, ℕ, ◌+◌, ◌<◌, ◌≤◌, ◌&&◌, not, Bool, true, false, cond, List, [], ◌∷◌, ◌++◌, map, filter, Option, Some, None, is_some, refl, sym, ap, ap₂, subst, ◌∙◌, arith, pos, ◌==◌, append-nil, nat_lt}
 use Rattle.std.proofs.lemmas.List.Elements.{filter-append}
 use Rattle.std.specs.List.{AllByRecursion}
-use Rattle.std.specs.Prelude.{nat_lt}
 use Rattle.wire_base.specs.Segments.{Written}
 use Rattle.wire_base.specs.declared.address.FlowKey.{FlowKey}
 use Rattle.norm_settings.specs.Settings.{PlainSettings}
 use Rattle.linked_table.specs.Table.{Entry}
 use Rattle.retain_store.specs.Maps.{Store}
 use Rattle.ip_rules.specs.Datagrams.{Datagram, Packet, goes_in}
-use Rattle.linked_table.proofs.Splits.{all_weaker, all_join}
-use Rattle.linked_table.proofs.Filters.{filter_all, filter_under}
+use Rattle.linked_table.proofs.Lists.{all_weaker, all_join, filter_all, filter_under}
 use Rattle.era_state.specs.Quantities.{base_at, acked, first}
 use Rattle.rule_book.specs.declared.entry.Ended.{Ended}
 use Rattle.rule_book.specs.declared.entry.Reason.{Reason}
@@ -28,9 +25,8 @@ use Rattle.tcp_norm.specs.Held.{kept_at}
 use Rattle.tcp_norm.specs.declared.step.Place.{Place}
 use Rattle.tcp_norm.specs.Colds.{IsUnheard}
 use Rattle.tcp_norm.specs.Laws.{Leaves, of_era}
-use Rattle.tcp_norm.proofs.Lists.{all_unmap, pairs_push, everywhere}
-use Rattle.tcp_norm.proofs.Numbers.{all_filter, pairs_passed}
-use Rattle.tcp_norm.proofs.Represented.{number_other, number_same, still, others_before, none_left}
+use Rattle.tcp_norm.proofs.Lists.{all_unmap, pairs_push, everywhere, all_filter, pairs_passed, number_other, number_same}
+use Rattle.tcp_norm.proofs.EraTable.{still, others_before, none_left}
 
 -- What the call of a datagram leaves of the live eras, by what it does.
 

@@ -1,9 +1,7 @@
--- How many eras are live after a call, and which of them are idle.
-use Rattle.std.proofs.Common.{◌≢◌, List, [], ◌∷◌, Some, ap, ◌∙◌, ◌≡◌, ℕ, ◌+◌, ◌==◌, ◌<◌, ◌≤◌, not, Bool, true, false, cond, ◌++◌, length, filter, Option, None, refl, sym, subst, arith, ◌||◌, ◌&&◌, take, ap₂}
-use Rattle.std.proofs.lemmas.List.{append-nil, length-append}
+-- No more eras are live than the settings allow, and the idle ones are the first of them.
+use Rattle.std.proofs.Common.{◌≢◌, List, [], ◌∷◌, Some, ap, ◌∙◌, ◌≡◌, ℕ, ◌+◌, ◌==◌, ◌<◌, ◌≤◌, not, Bool, true, false, cond, ◌++◌, length, filter, Option, None, refl, sym, subst, arith, ◌||◌, ◌&&◌, take, ap₂, nat_lt, append-nil, length-append}
 use Rattle.std.proofs.lemmas.Bool.Decides.{nat_tests}
 use Rattle.std.specs.List.{find, AllByRecursion}
-use Rattle.std.specs.Prelude.{nat_lt}
 use Rattle.std.proofs.lemmas.List.Elements.{recursion_from_All}
 use Rattle.norm_settings.specs.Settings.{PlainSettings}
 use Rattle.wire_base.specs.declared.address.FlowKey.{FlowKey}
@@ -12,8 +10,7 @@ use Rattle.wire_base.specs.Segments.{Written}
 use Rattle.linked_table.specs.declared.table.Slot.{Slot}
 use Rattle.linked_table.specs.Table.{Entry, Wherever, first_slot, Pairwise}
 use Rattle.retain_store.specs.Maps.{Store}
-use Rattle.linked_table.proofs.Splits.{all_weaker}
-use Rattle.linked_table.proofs.Filters.{filter_all, filter_none}
+use Rattle.linked_table.proofs.Lists.{all_weaker, filter_all, filter_none}
 use Rattle.tcp_norm.specs.Calls.{Call, Alive, eras, expiry, datagram, live, is_key, is_among, ended_by, begun_in, without, key_of, segments, numbers_of}
 use Rattle.tcp_norm.specs.Lives.{AreMade, IsLast, LivesAre, made_of}
 use Rattle.tcp_norm.specs.Held.{held_in}
@@ -24,12 +21,10 @@ use Rattle.tcp_norm.specs.declared.flow.Flow.{Flow}
 use Rattle.tcp_norm.specs.declared.key.EraKey.{EraKey}
 use Rattle.tcp_norm.specs.declared.state.TcpNorm.{TcpNorm}
 use Rattle.tcp_norm.specs.Standing.{HoldsFor, IsFor, IsTimely, StandsFor, Holds, ChangesTables}
-use Rattle.tcp_norm.proofs.Numbers.{pairs_weaker, found_is}
-use Rattle.tcp_norm.proofs.Lives.{Lasts, lasts_none, lasts_next, live_last, last_live, all_given}
-use Rattle.tcp_norm.proofs.LiveCalls.{effect_made, Moves, Kind, stays, goes_on, ends_own, begins_beside, evicts, reopens_one, kind}
-use Rattle.tcp_norm.proofs.Represented.{number_same, number_other}
-use Rattle.tcp_norm.proofs.Effects.{without_none, lives_stay, lives_touch, lives_end, lives_begin, stands_next, relabel}
-use Rattle.tcp_norm.proofs.Lists.{everywhere, some_same}
+use Rattle.tcp_norm.proofs.Lists.{fewer, pairs_weaker, found_is, number_same, number_other, everywhere, some_same}
+use Rattle.tcp_norm.proofs.LiveEras.{Lasts, lasts_none, lasts_next, live_last, last_live, all_given}
+use Rattle.tcp_norm.proofs.CallKinds.{effect_made, Moves, Kind, stays, goes_on, ends_own, begins_beside, evicts, reopens_one, kind}
+use Rattle.tcp_norm.proofs.CallEffects.{without_none, lives_stay, lives_touch, lives_end, lives_begin, stands_next, relabel}
 
 -- The live eras of calls that the rules make.
 
@@ -54,15 +49,6 @@ pub lives_are_last : (settings : PlainSettings) (cs : List Call) → AreMade set
 lives_are_last settings cs made = lives_are cs (lasts_made settings cs made)
 
 -- How many eras are live after a call.
-
--- no more pass than are there
-fewer : {X : Type 0} (p : X → Bool) (xs : List X) → length (filter p xs) ≤ length xs
-fewer p [] = omega arith
-fewer p (x ∷ xs) = cases (p x) (fewer p xs)
-  where
-    cases : (b : Bool) → length (filter p xs) ≤ length xs → length (cond b (x ∷ filter p xs) (filter p xs)) ≤ length (x ∷ xs)
-    cases true le = omega (arith, le)
-    cases false le = omega (arith, le)
 
 -- one that is found goes
 goes : (q : Alive → Bool) (n : ℕ) (xs : List Alive) → number_of (find q xs) ≡ Some n → length (without (n ∷ []) xs) < length xs

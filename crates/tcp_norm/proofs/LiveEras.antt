@@ -1,19 +1,75 @@
--- Each live era is the one last begun for its four-tuple and not ended.
-use Rattle.std.proofs.Common.{◌≡◌, ◌≢◌, ℕ, ◌+◌, ◌==◌, ◌≤◌, ◌||◌, not, Bool, true, false, cond, length, ◌<◌, List, [], ◌∷◌, ◌++◌, filter, Option, Some, None, refl, sym, ap, subst, ◌∙◌, arith}
+-- A four-tuple's live era is the one last begun for it and not ended, and the one that the table finds.
+use Rattle.std.proofs.Common.{◌≡◌, ◌≢◌, true, false, is_some, List, ◌∷◌, map, Option, Some, None, refl, sym, ap, ◌∙◌, arith, ℕ, ◌+◌, ◌==◌, ◌≤◌, ◌||◌, not, Bool, cond, length, ◌<◌, [], ◌++◌, filter, subst, IfSome, IsNone, ◌↔◌}
+use Rattle.std.specs.List.{AllPairs, find, AllByRecursion}
+use Rattle.std.proofs.lemmas.List.Elements.{recursion_from_All, filter-append}
+use Rattle.std.proofs.lemmas.List.{map-append}
 use Rattle.std.proofs.lemmas.Bool.{false≢true, not-true, not_from_false, or_from, or_parts, true_from_ne_false}
-use Rattle.std.proofs.lemmas.List.Elements.{filter-append}
-use Rattle.std.specs.List.{AllByRecursion}
 use Rattle.std.specs.Option.{option_or}
 use Rattle.wire_base.specs.declared.address.FlowKey.{FlowKey}
-use Rattle.linked_table.specs.Table.{Pairwise}
-use Rattle.linked_table.proofs.Splits.{all_join, all_weaker, all_before, all_after}
-use Rattle.tcp_norm.specs.Calls.{Call, Alive, eras, is_among, ended_by, begun_in, begins_by, touched_by, time_of, numbers_of, live, is_key}
+use Rattle.linked_table.specs.declared.table.Slot.{Slot}
+use Rattle.linked_table.specs.Table.{Entry, IsIn, HasNone, SplitAt, Wherever, Pairwise}
+use Rattle.linked_table.proofs.Entries.{split_at, wherever}
+use Rattle.linked_table.proofs.Lists.{all_weaker, all_join, all_before, all_after}
+use Rattle.ip_rules.proofs.Lists.{none_found}
+use Rattle.tcp_norm.specs.declared.flow.Flow.{Flow}
+use Rattle.tcp_norm.specs.declared.key.EraKey.{EraKey}
+use Rattle.tcp_norm.specs.Calls.{is_key, Call, Alive, eras, is_among, ended_by, begun_in, begins_by, touched_by, time_of, numbers_of, live}
+use Rattle.tcp_norm.specs.Standing.{alive_in}
 use Rattle.tcp_norm.specs.Lives.{begun_for, last_begun, has_ended, writes_in, last_touch, touch_place, IsLast}
 use Rattle.tcp_norm.specs.Views.{number_of}
-use Rattle.tcp_norm.proofs.Lists.{some_same}
-use Rattle.tcp_norm.proofs.Numbers.{all_filter, all_passed, all_unfiltered, all_two, pairs_passed, pairs_join, pairs_weaker, pairs_alone, found_is, found_none}
-use Rattle.tcp_norm.proofs.Represented.{number_other}
-use Rattle.tcp_norm.proofs.Finding.{key_is, key_same}
+use Rattle.tcp_norm.proofs.Lists.{all_map, find_split, find_none, some_same, all_filter, all_passed, all_unfiltered, all_two, pairs_passed, pairs_join, pairs_weaker, pairs_alone, found_is, number_other}
+
+-- What the table finds of a four-tuple is its live era.
+
+-- What the table finds is what the calls say.
+
+pub key_same : (a : FlowKey) → is_key a a ≡ true
+key_same a = grind arith
+
+pub key_is : (a b : FlowKey) → is_key a b ≡ true → a ≡ b
+key_is a b e = grind arith
+
+pub key_other : (a b : FlowKey) → a ≢ b → is_key a b ≡ false
+key_other a b ne = elim (is_key a b) as (λ t. is_key a b ≡ t → t ≡ false) [
+  | true ↦ λ e. absurd (ne (key_is a b e))
+  | false ↦ λ e. refl
+] refl
+
+-- the live era of its key is that of the entry
+pub live_here : (entries : List (Entry EraKey Flow)) (eras : List Alive) (slot : Slot) (key : FlowKey) (a : SplitAt entries slot) → map alive_in entries ≡ eras
+    → a.here.key.0 ≡ key → find (λ (v : Alive). is_key v.key key) eras ≡ Some (alive_in a.here)
+live_here entries eras slot key a shown same =
+    let mk : FlowKey → EraKey = λ k. record { 0 = k } in
+    ap (find (λ (v : Alive). is_key v.key key)) (sym shown ∙ (ap (map alive_in) a.splits ∙ map-append alive_in a.before (a.here ∷ a.after)))
+    ∙ find_split (λ (v : Alive). is_key v.key key) (map alive_in a.before) (alive_in a.here) (map alive_in a.after)
+    (all_map (λ (v : Alive). is_key v.key key ≡ false) alive_in a.before
+    (all_weaker _ _ (λ e ne. key_other e.key.0 key (λ h. ne (ap mk (h ∙ sym same)))) a.before a.keys_before))
+    (ap (λ k. is_key k key) same ∙ key_same key)
+
+-- and none is live where no entry has the key
+pub live_nowhere : (entries : List (Entry EraKey Flow)) (eras : List Alive) (key : FlowKey) → map alive_in entries ≡ eras
+    → HasNone entries (record { 0 = key }) → find (λ (v : Alive). is_key v.key key) eras ≡ None
+live_nowhere entries eras key shown none =
+    let mk : FlowKey → EraKey = λ k. record { 0 = k } in
+    ap (find (λ (v : Alive). is_key v.key key)) (sym shown)
+    ∙ find_none (λ (v : Alive). is_key v.key key) (map alive_in entries)
+    (all_map (λ (v : Alive). is_key v.key key ≡ false) alive_in entries
+    (all_weaker _ _ (λ e ne. key_other e.key.0 key (λ h. ne (ap mk h))) entries
+    (recursion_from_All (λ (e : Entry EraKey Flow). e.key ≢ record { 0 = key }) entries none)))
+
+-- whether the table finds an entry is whether an era is live
+pub live_is : (entries : List (Entry EraKey Flow)) (eras : List Alive) (key : FlowKey) (r : Option Slot)
+    → AllPairs (λ e f. e.slot ≢ f.slot) entries → AllPairs (λ e f. e.key ≢ f.key) entries → map alive_in entries ≡ eras
+    → IfSome r (IsIn entries) → IfSome r (λ slot. Wherever entries slot (λ e. e.key ≡ record { 0 = key })) → (IsNone r ↔ HasNone entries (record { 0 = key }))
+    → is_some r ≡ is_some (find (λ (v : Alive). is_key v.key key) eras)
+live_is entries eras key None slots keys shown inside same none = ap is_some (sym (live_nowhere entries eras key shown (none.0 refl)))
+live_is entries eras key (Some slot) slots keys shown inside same none =
+    let a = split_at entries slot inside slots keys in
+    let unwrapped : EraKey → FlowKey = λ k. k.0 in
+    let here = wherever (λ (e : Entry EraKey Flow). e.key ≡ record { 0 = key }) entries slot a same in
+    ap is_some (sym (live_here entries eras slot key a shown (ap unwrapped here)))
+
+-- Each live era is the one last begun for its four-tuple and not ended.
 
 -- Each live era is the one last begun for its four-tuple and not ended: a call keeps this true, by what it does to the eras.
 
@@ -284,7 +340,7 @@ last_live cs s key era is on = cases (live cs key) refl
     cases : (l : Option Alive) → live cs key ≡ l → number_of (live cs key) ≡ Some era
     cases None e =
         absurd (false≢true (sym on ∙ s.whole key era (all_weaker (λ (a : Alive). is_key a.key key ≡ false) (λ (a : Alive). a.key ≢ key)
-        (λ a no same. false≢true (sym no ∙ (ap (λ k. is_key k key) same ∙ key_same key))) (eras cs) (found_none (λ (a : Alive). is_key a.key key) (eras cs) e)) is))
+        (λ a no same. false≢true (sym no ∙ (ap (λ k. is_key k key) same ∙ key_same key))) (eras cs) (none_found (λ (a : Alive). is_key a.key key) (eras cs) e)) is))
     cases (Some a) e =
         let f = found_is (IsLast cs) (λ (a : Alive). is_key a.key key) (eras cs) a s.each e in
         ap number_of e ∙ (sym f.0.last ∙ (ap (λ k. last_begun k cs) (key_is a.key key f.1) ∙ is))

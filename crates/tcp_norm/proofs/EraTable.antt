@@ -1,38 +1,31 @@
--- What the table and the store represent, and how it changes: an era begins, goes on, or ends.
-use Rattle.std.proofs.Common.{◌≡◌, ◌≢◌, ℕ, ◌==◌, ◌<◌, ◌≤◌, not, Bool, true, false, List, [], ◌∷◌, ◌++◌, length, map, refl, sym, ap, subst, ◌∙◌, arith, inl, inr, ap₂, cond, ◌+◌, ◌*◌, ◌/◌, None, is_some, get_or-set_other}
+-- What the table and the store represent, and how it changes as an era begins, goes on, or ends.
+use Rattle.std.proofs.Common.{◌≡◌, ◌≢◌, ℕ, ◌==◌, ◌<◌, ◌≤◌, not, Bool, true, false, List, ◌∷◌, ◌++◌, length, map, refl, sym, ap, subst, ◌∙◌, arith, inl, inr, ap₂, cond, ◌+◌, ◌*◌, ◌/◌, None, is_some, []}
 use Rattle.std.proofs.lemmas.Bool.{cases_eq}
-use Rattle.std.proofs.lemmas.List.{get_or-map, length-map, set-get_or}
+use Rattle.std.proofs.lemmas.List.{get_or-map, length-map, set-get_or, map-append}
 use Rattle.std.proofs.lemmas.List.Elements.{recursion_from_All, filter_passes}
 use Rattle.std.specs.List.{AllByRecursion, filter, list_any, count_by, range_with_len, AllPairs}
 use Rattle.std.proofs.lemmas.List.Sums.{sum_by-cons}
 use Rattle.wire_base.specs.Segments.{Written}
 use Rattle.linked_table.specs.declared.table.Slot.{Slot}
 use Rattle.linked_table.specs.Table.{Entry, SplitAt, with_value, revalued, Pairwise, IsNotIn, IsIn, Wherever}
-use Rattle.linked_table.proofs.Parts.{left_out, valued, split_at, wherever}
+use Rattle.linked_table.proofs.Entries.{left_out, valued, split_at, wherever}
 use Rattle.linked_table.specs.Table as table
 use Rattle.retain_store.specs.Maps.{Store, chain_of, octet_at, ChangesOnly}
 use Rattle.era_state.specs.Eras as era
-use Rattle.linked_table.proofs.Splits.{all_before, all_after, all_join, all_weaker, map_join, pairs_before, pairs_after, filter_rest}
+use Rattle.linked_table.proofs.Lists.{all_before, all_after, all_join, all_weaker, pairs_before, pairs_after, filter_rest}
 use Rattle.wire_base.specs.declared.address.FlowKey.{FlowKey}
 use Rattle.era_state.specs.Quantities.{base_at, top}
 use Rattle.norm_settings.specs.Settings.{PlainSettings}
+use Rattle.retain_store.proofs.Blocks.{others_same}
 use Rattle.tcp_norm.specs.declared.flow.Flow.{Flow}
 use Rattle.tcp_norm.specs.declared.key.EraKey.{EraKey}
-use Rattle.tcp_norm.specs.Calls.{Alive, without, is_among, segments}
+use Rattle.tcp_norm.specs.Calls.{Alive, without, is_among}
 use Rattle.tcp_norm.specs.Held.{held_of, kept_at, has_block}
 use Rattle.tcp_norm.specs.Standing.{IsFree, HoldsFor, EntryStands, AreGiven, alive_in, IsFor, ChangesTables}
 use Rattle.tcp_norm.specs.Chains.{Keeps}
 use Rattle.tcp_norm.specs.Spare.{written_back}
 use Rattle.tcp_norm.specs.declared.state.TcpNorm.{TcpNorm}
-use Rattle.tcp_norm.proofs.Lists.{all_unmap, pairs_rest, pairs_push, filter_only, everywhere}
-
--- How what the table and the store represent changes: an entry is taken out, the rest goes on, and an entry is added. Every call is made of these.
-
-pub number_other : (m n : ℕ) → m ≢ n → (m == n) ≡ false
-number_other m n ne = grind arith
-
-pub number_same : (n : ℕ) → (n == n) ≡ true
-number_same n = grind arith
+use Rattle.tcp_norm.proofs.Lists.{all_unmap, pairs_rest, pairs_push, filter_only, everywhere, number_other, number_same}
 
 -- the entries of other slots, and the live eras of them, where the chain of one slot may hold anything
 pub record RestFor (hole : ℕ) (eras : List Alive) (segments : ℕ → List Written) (begun : ℕ) (entries : List (Entry EraKey Flow)) (store : Store) : Type 0 where
@@ -62,7 +55,7 @@ take_out {eras} {segments} {begun} {entries} {store} slot a h =
     let mk : ℕ → Slot = λ n. record { 0 = n } in
     let n = a.here.value.number in
     let shown : eras ≡ map alive_in a.before ++ alive_in a.here ∷ map alive_in a.after =
-    sym h.eras_are ∙ (ap (map alive_in) a.splits ∙ map_join alive_in a.before (a.here ∷ a.after)) in
+    sym h.eras_are ∙ (ap (map alive_in) a.splits ∙ map-append alive_in a.before (a.here ∷ a.after)) in
     let pairs = subst (Pairwise (λ (x y : Alive). x.number ≢ y.number)) shown h.given.apart in
     let left : Other n (map alive_in a.before) = pairs_before (λ (x y : Alive). x.number ≢ y.number) (map alive_in a.before) (alive_in a.here) (map alive_in a.after) pairs in
     let right : Other n (map alive_in a.after) = all_weaker (λ (y : Alive). n ≢ y.number) (λ (y : Alive). y.number ≢ n) (λ y ne e. ne (sym e)) (map alive_in a.after)
@@ -73,7 +66,7 @@ take_out {eras} {segments} {begun} {entries} {store} slot a h =
     let below = subst (AllByRecursion (λ (x : Alive). x.number ≤ begun)) shown h.given.below in
     let named : a.here.slot.0 ≡ slot.0 = ap (λ (s : Slot). s.0) a.named in
     record {
-      eras_are = map_join alive_in a.before a.after ∙ sym rest;
+      eras_are = map-append alive_in a.before a.after ∙ sym rest;
       each = all_join (EntryStands segments store) a.before a.after (all_before (EntryStands segments store) a.before (a.here ∷ a.after) each)
           (all_after (EntryStands segments store) a.before (a.here ∷ a.after) each).1;
       apart = all_join (λ (e : Entry EraKey Flow). e.slot.0 ≢ slot.0) a.before a.after
@@ -149,7 +142,7 @@ pub add : {hole : ℕ} {eras : List Alive} {segments : ℕ → List Written} {be
     → e.slot.0 ≡ hole → Other e.value.number eras → e.value.number ≤ begun → EntryStands segments store e
     → RestFor hole eras segments begun entries store → HoldsFor (eras ++ alive_in e ∷ []) segments begun (entries ++ e ∷ []) store
 add {hole} {eras} {segments} {begun} {entries} {store} e slot other below stands r = record {
-  eras_are = map_join alive_in entries (e ∷ []) ∙ ap (λ l. l ++ alive_in e ∷ []) r.eras_are;
+  eras_are = map-append alive_in entries (e ∷ []) ∙ ap (λ l. l ++ alive_in e ∷ []) r.eras_are;
   each = all_join (EntryStands segments store) entries (e ∷ []) r.each (stands, tt);
   free = λ chain is.
       let last = all_after (λ (f : Entry EraKey Flow). f.slot.0 ≢ chain) entries (e ∷ []) is in
@@ -261,11 +254,6 @@ begin_holds lives segments later begun entries store slot key value now h absent
 
 -- What is known of the entry in a slot of the table, and of the chain of that slot.
 
--- of another chain nothing has changed
-pub others_same : (store new : Store) (hole : ℕ) → ChangesOnly store new hole → (chain : ℕ) → chain ≢ hole → chain_of new chain ≡ chain_of store chain
-others_same store new hole changed chain ne =
-    ap (λ (s : Store). chain_of s chain) changed.others ∙ get_or-set_other store.chains hole chain (chain_of new hole) [] ne
-
 -- nothing has changed
 pub none_changed : (store : Store) (hole : ℕ) → ChangesOnly store store hole
 none_changed store hole = record { number = refl; others = ap (λ l. record store { chains = l }) (sym (set-get_or store.chains hole [])); cells = refl }
@@ -283,7 +271,7 @@ pub at_slot : (lives : List Alive) (segments : ℕ → List Written) (begun : �
 at_slot lives segments begun entries store slot flow h inside slots keys valued =
     let a = split_at entries slot inside slots keys in
     let stood = (all_after (EntryStands segments store) a.before (a.here ∷ a.after) (subst (AllByRecursion (EntryStands segments store)) a.splits h.each)).0 in
-    let below = subst (AllByRecursion (λ (b : Alive). b.number ≤ begun)) (sym h.eras_are ∙ (ap (map alive_in) a.splits ∙ map_join alive_in a.before (a.here ∷ a.after))) h.given.below in
+    let below = subst (AllByRecursion (λ (b : Alive). b.number ≤ begun)) (sym h.eras_are ∙ (ap (map alive_in) a.splits ∙ map-append alive_in a.before (a.here ∷ a.after))) h.given.below in
     let here : AtSlot segments begun store a.here.slot a.here.value = record {
       era = stood.era;
       octets = stood.octets;
@@ -304,18 +292,10 @@ pub same_value : (entries : List (Entry EraKey Flow)) (slot : Slot) (a b : Flow)
 same_value entries slot a b inside first second = value_in (λ f. f ≡ b) entries slot a inside first second
 
 -- what was opened is as it was
-pub opened_kept : (settings : PlainSettings) (old new : TcpNorm) → IsFor settings old → new.table.max ≡ old.table.max → length new.store.chains ≡ length old.store.chains → new.store.cells ≡ old.store.cells
-    → new.cells ≡ old.cells → new.hops ≡ old.hops → new.idle ≡ old.idle → new.offload ≡ old.offload → new.quota ≡ old.quota → IsFor settings new
-opened_kept settings old new is flows chains store cells hops idle offload quota = record {
-  flows = flows ∙ is.flows;
-  chains = chains ∙ is.chains;
-  cells = cells ∙ is.cells;
-  store = store ∙ is.store;
-  hops = hops ∙ is.hops;
-  idle = idle ∙ is.idle;
-  offload = offload ∙ is.offload;
-  quota = quota ∙ is.quota;
-}
+pub opened_kept : (settings : PlainSettings) (old new : TcpNorm) → IsFor settings old → new.table.max ≡ old.table.max
+    → length new.store.chains ≡ length old.store.chains → new.store.cells ≡ old.store.cells → new.limits ≡ old.limits → IsFor settings new
+opened_kept settings old new is flows chains store limits =
+    record { flows = flows ∙ is.flows; chains = chains ∙ is.chains; store = store ∙ is.store; limits = limits ∙ is.limits }
 
 -- one change after another
 pub then_changes : (a b c : TcpNorm) (m n : ℕ) → ChangesTables a b m → ChangesTables b c n → ChangesTables a c n

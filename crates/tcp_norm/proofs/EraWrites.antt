@@ -1,37 +1,40 @@
--- Calls that write in one live era, and begin and end none.
-use Rattle.std.proofs.Common.{◌≡◌, ◌≢◌, ℕ, ◌≤◌, List, [], ◌∷◌, ◌++◌, length, sym, ap, subst, ◌∙◌, arith, map, ap₂, ◌&&◌, not, Bool, true, false, cond, Some, None, is_some, refl, ◌+◌, ◌*◌, take}
-use Rattle.std.specs.List.{AllByRecursion, count_by, range_with_len}
+-- Calls that write in one live era and begin and end none: its new value and chain, numbers in bounds.
+use Rattle.std.proofs.Common.{not, ℕ, ◌≡◌, ◌==◌, ◌≤◌, ◌<◌, ◌^◌, ◌∙◌, sym, ap, subst, Bool, true, false, cond, List, ◌∷◌, ◌++◌, filter, arith, ◌+◌, ◌≢◌, [], length, map, ap₂, ◌&&◌, Some, None, is_some, refl, ◌*◌, take}
+use Rattle.std.specs.List.{All, AllByRecursion, count_by, range_with_len}
+use Rattle.std.proofs.lemmas.List.Elements.{recursion_from_All, All-from_recursion}
 use Rattle.std.specs.Option.{option_or}
-use Rattle.std.proofs.lemmas.List.{append-nil, length-take-le}
-use Rattle.wire_base.specs.Segments.{Written}
+use Rattle.std.proofs.lemmas.List.{append-nil, length-take-le, map-append}
 use Rattle.linked_table.specs.declared.table.Slot.{Slot}
-use Rattle.linked_table.specs.Table.{Entry, SplitAt}
+use Rattle.linked_table.specs.Table.{Entry, IsIn, Wherever, with_value, revalued, SplitAt}
 use Rattle.linked_table.specs.Table as table
+use Rattle.era_state.specs.declared.era.Era.{Era}
+use Rattle.era_state.specs.Eras.{acked_in}
+use Rattle.linked_table.proofs.Lists.{all_weaker, all_join, all_after}
+use Rattle.wire_base.specs.Segments.{Written}
 use Rattle.retain_store.specs.Maps.{Store, chain_of, ChangesOnly, IsMap, IsWithin, holds}
 use Rattle.era_state.specs.Eras as era
-use Rattle.linked_table.proofs.Parts.{split_at, wherever}
-use Rattle.linked_table.proofs.Splits.{all_weaker, all_after, map_join}
+use Rattle.linked_table.proofs.Entries.{split_at, wherever}
 use Rattle.rule_book.specs.declared.rule.Rule.{Rule}
 use Rattle.rule_book.specs.declared.rule.Rule.TheVariants as rules
 use Rattle.norm_settings.specs.Settings.{PlainSettings}
 use Rattle.era_state.specs.declared.interval.Interval.{Interval}
 use Rattle.era_state.specs.Intervals.{KeptOf}
 use Rattle.ip_rules.specs.Datagrams.{Datagram, Packet, goes_in}
-use Rattle.era_state.specs.declared.era.Era.{Era}
-use Rattle.era_state.specs.Eras.{acked_in}
 use Rattle.era_state.specs.Laws.{FirstStays, AckedNeverFalls}
+use Rattle.retain_store.proofs.Blocks.{others_same}
 use Rattle.tcp_norm.specs.declared.flow.Flow.{Flow}
 use Rattle.tcp_norm.specs.declared.key.EraKey.{EraKey}
+use Rattle.tcp_norm.specs.Near.{IsNear, AreNear}
+use Rattle.tcp_norm.specs.Spare.{written_back}
 use Rattle.tcp_norm.specs.Calls.{Alive, segments, without, datagram, Outcome, read, segment_in, key_of, is_written, alive_at, Call, eras, begins_by, written_by}
 use Rattle.tcp_norm.specs.Held.{held_of}
-use Rattle.tcp_norm.specs.Spare.{written_back}
 use Rattle.tcp_norm.specs.Rulings.{IsHeld, taken, Extends, Touches}
 use Rattle.tcp_norm.specs.Live.{Live}
 use Rattle.tcp_norm.specs.Standing.{HoldsFor, alive_in, IsFor, StandsFor}
 use Rattle.tcp_norm.specs.Chains.{Keeps}
 use Rattle.tcp_norm.specs.Views.{View}
 use Rattle.tcp_norm.specs.Writes.{WritesIn}
-use Rattle.tcp_norm.specs.Rows.{is_live, t_quota, t_room, t_full, t_res, t_urg, t_opt, clashes, dropped_by, noted}
+use Rattle.tcp_norm.specs.Rows.{is_live, t_quota, t_room, t_full, clashes, dropped_by, noted}
 use Rattle.tcp_norm.specs.Emits.{packet_by, packets_passed}
 use Rattle.tcp_norm.specs.Outcomes.{outcome_at, outcome_by, verdict_of}
 use Rattle.tcp_norm.specs.Streams.{stream_rows}
@@ -39,13 +42,63 @@ use Rattle.tcp_norm.specs.declared.state.TcpNorm.{TcpNorm}
 use Rattle.tcp_norm.specs.Resets.{WritesAll}
 use Rattle.tcp_norm.specs.declared.ruling.Taking.{Taking}
 use Rattle.tcp_norm.specs.Steps.{Does, continued_in}
-use Rattle.tcp_norm.specs.Near.{AreNear}
-use Rattle.tcp_norm.proofs.Represented.{take_out, change, add, put_touch, none_left, Other, number_other, number_same, others_same, at_slot, none_changed, same_value}
+use Rattle.tcp_norm.proofs.Lists.{all_filter, number_other, number_same}
+use Rattle.tcp_norm.proofs.EraTable.{take_out, change, add, put_touch, none_left, Other, at_slot, none_changed, same_value}
 use Rattle.tcp_norm.proofs.StreamRules.{OfStream, stream_dropped, stream_mended, stream_begins_none, stream_ends_none}
-use Rattle.tcp_norm.proofs.ChainOctets.{count_is}
-use Rattle.tcp_norm.proofs.Effects.{lives_touch, stands_next, own_by, others_by}
-use Rattle.tcp_norm.proofs.KeptOctets.{keeps_same}
-use Rattle.tcp_norm.proofs.Numbers.{near_at, nears_weaker, near_touched}
+use Rattle.tcp_norm.proofs.KeptOctets.{count_is, keeps_same}
+use Rattle.tcp_norm.proofs.CallEffects.{lives_touch, stands_next, own_by, others_by}
+use Rattle.tcp_norm.proofs.HeaderRules.{header_mended}
+
+-- The numbers kept of each era stay in their bounds, also where a filter leaves some eras out.
+
+-- The numbers kept of each era stay in their bounds.
+
+pub near_weaker : (a b : ℕ) (e : Era) → a ≤ b → IsNear a e → IsNear b e
+near_weaker a b e le n = (omega (arith, n.0, le), omega (arith, n.1, le))
+
+-- of an entry
+abbrev Near : ℕ → Entry EraKey Flow → Type 0
+Near calls e = IsNear calls e.value.era
+
+pub nears_weaker : (a b : ℕ) (entries : List (Entry EraKey Flow)) → a ≤ b → AreNear a entries → AreNear b entries
+nears_weaker a b entries le near =
+    All-from_recursion (Near b) entries (all_weaker (Near a) (Near b) (λ e n. near_weaker a b e.value.era le n) entries (recursion_from_All (Near a) entries near))
+
+valued_one : (calls : ℕ) (slot : Slot) (value : Flow) (e : Entry EraKey Flow) → IsNear calls value.era → Near calls e → Near calls (revalued slot value e)
+valued_one calls slot value e is near = elim (e.slot.0 == slot.0) as (λ b. Near calls (cond b (record e { value = value }) e)) [ true ↦ is | false ↦ near ]
+
+near_valued : (calls : ℕ) (slot : Slot) (value : Flow) (entries : List (Entry EraKey Flow)) → IsNear calls value.era → AllByRecursion (Near calls) entries → AllByRecursion (Near calls) (with_value entries slot value)
+near_valued calls slot value [] is near = tt
+near_valued calls slot value (e ∷ es) is near = (valued_one calls slot value e is near.0, near_valued calls slot value es is near.1)
+
+-- a filter keeps them near
+pub near_left : (calls : ℕ) (p : Entry EraKey Flow → Bool) (entries : List (Entry EraKey Flow)) → AreNear calls entries → AreNear calls (filter p entries)
+near_left calls p entries near = All-from_recursion (Near calls) (filter p entries) (all_filter (Near calls) p entries (recursion_from_All (Near calls) entries near))
+
+pub near_touched : (calls : ℕ) (slot : Slot) (value : Flow) (entries : List (Entry EraKey Flow)) → IsNear calls value.era → AreNear calls entries
+    → AreNear calls (written_back entries slot value)
+near_touched calls slot value entries is near =
+    let valued = near_valued calls slot value entries is (recursion_from_All (Near calls) entries near) in
+    All-from_recursion (Near calls) (written_back entries slot value)
+    (all_join (Near calls) (table.without (with_value entries slot value) slot) (table.only (with_value entries slot value) slot)
+    (all_filter (Near calls) (λ (e : Entry EraKey Flow). not (e.slot.0 == slot.0)) (with_value entries slot value) valued)
+    (all_filter (Near calls) (λ (e : Entry EraKey Flow). e.slot.0 == slot.0) (with_value entries slot value) valued))
+
+pub near_added : (calls : ℕ) (e : Entry EraKey Flow) (entries : List (Entry EraKey Flow)) → IsNear calls e.value.era → AreNear calls entries → AreNear calls (entries ++ e ∷ [])
+near_added calls e entries is near =
+    All-from_recursion (Near calls) (entries ++ e ∷ []) (all_join (Near calls) entries (e ∷ []) (recursion_from_All (Near calls) entries near) (is, tt))
+
+-- of the entry in a slot
+pub near_at : (calls : ℕ) (entries : List (Entry EraKey Flow)) (slot : Slot) (flow : Flow) → IsIn entries slot → Wherever entries slot (λ e. flow ≡ e.value) → AreNear calls entries → IsNear calls flow.era
+near_at calls entries slot flow (k, x, below, reads, named) was near =
+    let here = ap (λ (e : Entry EraKey Flow). e.slot) reads ∙ named in
+    subst (λ (f : Flow). IsNear calls f.era) (sym (was k x below here)) (near k x below)
+
+-- what is acknowledged is far below 2^64
+pub acked_small : (calls : ℕ) (entries : List (Entry EraKey Flow)) → calls < 2 ^ 32 → AreNear calls entries → All (λ e. acked_in e.value.era < 2 ^ 63) entries
+acked_small calls entries few near k x below = let n = near k x below in omega (arith, n.0, few)
+
+-- Calls that write in one live era, and begin and end none.
 
 -- Segments are written in one era, and none begins and none ends.
 
@@ -82,7 +135,7 @@ writes_in lives segments later begun entries store new slot a value more now h i
   where
     number_given : a.here.value.number ≤ begun
     number_given =
-        let below = subst (AllByRecursion (λ (b : Alive). b.number ≤ begun)) (sym h.eras_are ∙ (ap (map alive_in) a.splits ∙ map_join alive_in a.before (a.here ∷ a.after))) h.given.below in
+        let below = subst (AllByRecursion (λ (b : Alive). b.number ≤ begun)) (sym h.eras_are ∙ (ap (map alive_in) a.splits ∙ map-append alive_in a.before (a.here ∷ a.after))) h.given.below in
         (all_after (λ (b : Alive). b.number ≤ begun) (map alive_in a.before) (alive_in a.here ∷ map alive_in a.after) below).0
 
 -- the same by the names that are known of the era
@@ -139,7 +192,7 @@ own_packet settings v d mended live f = rw (live, f.inward, f.no_rst) refl
 -- what becomes of a segment of the stream that the cells can hold
 pub stream_outcome : (settings : PlainSettings) (v : View) (d : Datagram) (i : Interval) (clash : Bool) (n : ℕ) → v.era ≡ Some n → OfStream v.segments (segment_in d)
     → KeptOf v.segments (segment_in d) i → clash ≡ clashes v.segments (segment_in d) → t_quota settings v (segment_in d) ≡ false → t_room v (segment_in d) ≡ false
-    → let named = stream_rows (t_res d) (t_urg d) (t_opt d) i.below i.window i.end clash in
+    → let named = stream_rows (header_mended settings v d) i clash in
     outcome_at settings v d ≡ record {
       verdict = verdict_of (d.fixes ++ named);
       rules = d.fixes ++ named;
@@ -149,7 +202,7 @@ pub stream_outcome : (settings : PlainSettings) (v : View) (d : Datagram) (i : I
       packets = packet_by settings v.segments d d.fixes named ∷ [];
     }
 stream_outcome settings v d i clash n era f is clashed quota room =
-    let named = stream_rows (t_res d) (t_urg d) (t_opt d) i.below i.window i.end clash in
+    let named = stream_rows (header_mended settings v d) i clash in
     let live : is_live v ≡ true = ap is_some era in
     let dropped : dropped_by settings v d ≡ None = stream_dropped settings v d live f ∙ ap₂ (λ a b. cond a (Some rules.TQuota) (cond b (Some rules.TRoom) None)) quota room in
     let mended = stream_mended settings v d i clash live f is clashed in
@@ -169,9 +222,9 @@ stream_outcome settings v d i clash n era f is clashed quota room =
 pub stream_writes : (settings : PlainSettings) (v : View) (d : Datagram) (i : Interval) (clash : Bool) (n now : ℕ) → v.era ≡ Some n → OfStream v.segments (segment_in d)
     → KeptOf v.segments (segment_in d) i → clash ≡ clashes v.segments (segment_in d) → t_quota settings v (segment_in d) ≡ false → t_room v (segment_in d) ≡ false
     → WritesIn (datagram now d (outcome_at settings v d)) n (key_of d) now
-    (read true (packet_by settings v.segments d d.fixes (stream_rows (t_res d) (t_urg d) (t_opt d) i.below i.window i.end clash)).octets ∷ [])
+    (read true (packet_by settings v.segments d d.fixes (stream_rows (header_mended settings v d) i clash)).octets ∷ [])
 stream_writes settings v d i clash n now era f is clashed quota room =
-    let named = stream_rows (t_res d) (t_urg d) (t_opt d) i.below i.window i.end clash in
+    let named = stream_rows (header_mended settings v d) i clash in
     let outcome = stream_outcome settings v d i clash n era f is clashed quota room in
     let plain : Outcome = record { verdict = verdict_of (d.fixes ++ named); rules = d.fixes ++ named; era = Some n; begun = None; ended = []; packets = packet_by settings v.segments d d.fixes named ∷ [] } in
     let writes = passed_writes d plain n now (fixed_or_passed (d.fixes ++ named)) refl refl refl in
