@@ -29,8 +29,9 @@ abbrev pub Agree : (hops : ℕ) → Link → List Item → Type 0
 Agree hops link trace = eras.Agree hops (sent_in link trace)
 
 -- In each era of the trace whose base is fixed, a monitor behind at most `hops` routers, which takes every packet written inwards, keeps each octet not yet read
--- and delivers all that it can, has a stream of which every other receiver's is a prefix, if both start at the same offset. It has ended if the other's has. It
--- takes the packets in the order in which they were written, whenever each arrives; or in any order, each in time.
+-- and the FIN, and delivers after each packet all that it can, has a stream of which every other receiver's is a prefix, if both start at the same offset and the
+-- other hears its packets in time. It has ended if the other's has. It takes the packets in the order in which they were written, whenever each arrives, from an
+-- offset of at most 2^31 on; or in any order, each in time.
 abbrev pub MissesNothing : (hops : ℕ) → Link → List Item → Type 0
 MissesNothing hops link trace = eras.MissesNothing hops (sent_in link trace)
 

@@ -6,7 +6,7 @@ use Rattle.dgram_rules.specs.Judged.{udp_judged, icmp_judged}
 use Rattle.norm_engine.specs.Trace.{is_quoted_live}
 use Rattle.norm_engine.specs.Judged.{judged_with}
 use Rattle.norm_engine.specs.Engine as spec
-use Rattle.norm_engine.proofs.Segments.{by_tells, by_header, tells_of, six_is_left, no_head, read_head}
+use Rattle.norm_engine.proofs.Layers.{by_tells, by_header, tells_of, six_is_left, no_head, read_head}
 use Rattle.norm_engine.proofs.judge.judge_datagram.Goals as goal
 
 pub returns-in-17-clause-rows : goal.returns-in-17-clause-rows

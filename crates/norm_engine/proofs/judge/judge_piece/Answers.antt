@@ -6,7 +6,7 @@ use Rattle.reassembly.specs.Assemblies as fragments
 use Rattle.reassembly.specs.Rows.{call_of}
 use Rattle.norm_engine.specs.Fragments.{fragment_with}
 use Rattle.norm_engine.specs.Judgment.{judgment_with}
-use Rattle.norm_engine.proofs.Judging.{held_judged, dropped_judged, done_judged}
+use Rattle.norm_engine.proofs.Fragments.{held_judged, dropped_judged, done_judged}
 use Rattle.norm_engine.proofs.judge.judge_piece.Goals as goal
 
 pub returns-in-Held-clause-rows : goal.returns-in-Held-clause-rows

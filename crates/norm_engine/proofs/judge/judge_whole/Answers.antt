@@ -1,7 +1,7 @@
 use Rattle.std.proofs.Common.{[], sym, subst}
 use Rattle.norm_engine.specs.Engine as spec
 use Rattle.norm_engine.specs.Judged.{judged_with}
-use Rattle.norm_engine.proofs.Judging.{head_read}
+use Rattle.norm_engine.proofs.Judgments.{head_read}
 use Rattle.norm_engine.proofs.judge.judge_whole.Goals as goal
 
 pub returns-clause-read : goal.returns-clause-read

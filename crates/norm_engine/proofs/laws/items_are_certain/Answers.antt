@@ -1,5 +1,5 @@
-use Rattle.norm_engine.proofs.Certain.{items_certain}
-use Rattle.norm_engine.proofs.Joined.{rows_are_of_eras}
+use Rattle.norm_engine.proofs.OneReading.{items_certain}
+use Rattle.norm_engine.proofs.Traces.{rows_are_of_eras}
 use Rattle.norm_engine.proofs.laws.items_are_certain.Goals as goal
 
 pub returns : goal.returns

@@ -1,4 +1,4 @@
-use Rattle.norm_engine.proofs.Counting.{items_counted}
+use Rattle.norm_engine.proofs.ItemEntries.{items_counted}
 use Rattle.norm_engine.proofs.laws.items_are_counted.Goals as goal
 
 pub returns : goal.returns

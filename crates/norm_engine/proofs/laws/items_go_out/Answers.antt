@@ -1,6 +1,6 @@
-use Rattle.norm_engine.proofs.Joined.{rows_are_of_eras}
-use Rattle.norm_engine.proofs.Naming.{rules_are_few}
-use Rattle.norm_engine.proofs.Outgoing.{frames_go_out}
+use Rattle.norm_engine.proofs.Traces.{rows_are_of_eras}
+use Rattle.norm_engine.proofs.ItemEntries.{rules_are_few}
+use Rattle.norm_engine.proofs.ItemFrames.{frames_go_out}
 use Rattle.norm_engine.proofs.laws.items_go_out.Goals as goal
 
 pub returns : goal.returns

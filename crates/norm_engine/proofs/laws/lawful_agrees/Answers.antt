@@ -1,5 +1,5 @@
-use Rattle.norm_engine.proofs.Agreeing.{agrees}
-use Rattle.norm_engine.proofs.Joined.{rows_are_of_eras}
+use Rattle.norm_engine.proofs.Receivers.{agrees}
+use Rattle.norm_engine.proofs.Traces.{rows_are_of_eras}
 use Rattle.norm_engine.proofs.laws.lawful_agrees.Goals as goal
 
 pub returns : goal.returns

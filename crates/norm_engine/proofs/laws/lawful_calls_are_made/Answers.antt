@@ -1,5 +1,4 @@
-use Rattle.norm_engine.proofs.Joined.{rows_are_of_eras}
-use Rattle.norm_engine.proofs.Lawfuls.{calls_are_made}
+use Rattle.norm_engine.proofs.Traces.{rows_are_of_eras, calls_are_made}
 use Rattle.norm_engine.proofs.laws.lawful_calls_are_made.Goals as goal
 
 pub returns : goal.returns

@@ -1,5 +1,5 @@
-use Rattle.norm_engine.proofs.Agreeing.{emitted_era}
-use Rattle.norm_engine.proofs.Joined.{rows_are_of_eras}
+use Rattle.norm_engine.proofs.Receivers.{emitted_era}
+use Rattle.norm_engine.proofs.Traces.{rows_are_of_eras}
 use Rattle.norm_engine.proofs.laws.lawful_is_emitted.Goals as goal
 
 pub returns : goal.returns

@@ -1,4 +1,4 @@
-use Rattle.norm_engine.proofs.Unique.{trace_is_one}
+use Rattle.norm_engine.proofs.Traces.{trace_is_one}
 use Rattle.norm_engine.proofs.laws.lawful_is_one.Goals as goal
 
 pub returns : goal.returns

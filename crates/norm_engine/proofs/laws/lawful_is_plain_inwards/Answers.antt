@@ -1,4 +1,4 @@
-use Rattle.norm_engine.proofs.Sending.{lawful_plain_inwards}
+use Rattle.norm_engine.proofs.ItemFrames.{lawful_plain_inwards}
 use Rattle.norm_engine.proofs.laws.lawful_is_plain_inwards.Goals as goal
 
 pub returns : goal.returns

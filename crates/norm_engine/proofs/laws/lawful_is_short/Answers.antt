@@ -1,4 +1,4 @@
-use Rattle.norm_engine.proofs.Sending.{lawful_short}
+use Rattle.norm_engine.proofs.ItemFrames.{lawful_short}
 use Rattle.norm_engine.proofs.laws.lawful_is_short.Goals as goal
 
 pub returns : goal.returns

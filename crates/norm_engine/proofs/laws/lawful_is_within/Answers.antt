@@ -3,7 +3,7 @@ use Rattle.norm_engine.specs.Fragments.{piece_calls}
 use Rattle.norm_engine.specs.Items.{Item}
 use Rattle.norm_engine.specs.Calls.{flow_calls}
 use Rattle.norm_engine.specs.Laws.{IsSound, IsWithin}
-use Rattle.norm_engine.proofs.Lawfuls.{always_within, pieces_answered}
+use Rattle.norm_engine.proofs.Traces.{always_within, pieces_answered}
 use Rattle.norm_engine.proofs.laws.lawful_is_within.Goals as goal
 
 pub returns : goal.returns

@@ -1,5 +1,5 @@
-use Rattle.norm_engine.proofs.Joined.{rows_are_of_eras}
-use Rattle.norm_engine.proofs.Keeping.{clean_is_kept}
+use Rattle.norm_engine.proofs.Traces.{rows_are_of_eras}
+use Rattle.norm_engine.proofs.Payloads.{clean_is_kept}
 use Rattle.norm_engine.proofs.laws.lawful_keeps_clean.Goals as goal
 
 pub returns : goal.returns

@@ -1,4 +1,4 @@
-use Rattle.norm_engine.proofs.Rooms.{leaves_room}
+use Rattle.norm_engine.proofs.ItemEntries.{leaves_room}
 use Rattle.norm_engine.proofs.laws.lawful_leaves_room.Goals as goal
 
 pub returns : goal.returns

@@ -1,4 +1,4 @@
-use Rattle.norm_engine.proofs.Agreeing.{misses}
+use Rattle.norm_engine.proofs.Receivers.{misses}
 use Rattle.norm_engine.proofs.laws.lawful_misses_nothing.Goals as goal
 
 pub returns : goal.returns

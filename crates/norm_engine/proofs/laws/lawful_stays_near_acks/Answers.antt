@@ -1,4 +1,4 @@
-use Rattle.norm_engine.proofs.Agreeing.{near_acks}
+use Rattle.norm_engine.proofs.Receivers.{near_acks}
 use Rattle.norm_engine.proofs.laws.lawful_stays_near_acks.Goals as goal
 
 pub returns : goal.returns

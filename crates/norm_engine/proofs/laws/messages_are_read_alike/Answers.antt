@@ -1,4 +1,4 @@
-use Rattle.norm_engine.proofs.Sending.{read_alike}
+use Rattle.norm_engine.proofs.ItemFrames.{read_alike}
 use Rattle.norm_engine.proofs.laws.messages_are_read_alike.Goals as goal
 
 pub returns : goal.returns

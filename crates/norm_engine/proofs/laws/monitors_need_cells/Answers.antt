@@ -1,6 +1,5 @@
-use Rattle.norm_engine.proofs.Agreeing.{PacketLaws}
-use Rattle.norm_engine.proofs.Joined.{rows_are_of_eras}
-use Rattle.norm_engine.proofs.Waiting.{waiting_is_few, waiting_is_kept}
+use Rattle.norm_engine.proofs.Receivers.{waiting_is_few, waiting_is_kept}
+use Rattle.norm_engine.proofs.Traces.{rows_are_of_eras}
 use Rattle.norm_engine.proofs.laws.monitors_need_cells.Goals as goal
 
 pub returns-clause-kept : goal.returns-clause-kept

@@ -1,16 +1,11 @@
 -- Clean records keep their payload, even if a rule rewrites their packet.
-use Rattle.std.proofs.Common.{◌≡◌, ℕ, ◌+◌, ◌*◌, ◌≤◌, ◌<◌, Bool, true, false, cond, ◌&&◌, ◌||◌, ◌==◌, not, nat_lt, List, [], ◌∷◌, ◌++◌, length, take, drop, get_or, Option, Some, None, is_none, refl, sym, ap, ap₂, ◌∙◌, subst, arith}
+use Rattle.std.proofs.Common.{◌≡◌, ℕ, ◌+◌, ◌≤◌, Bool, true, false, cond, ◌&&◌, ◌||◌, ◌==◌, not, nat_lt, List, [], ◌∷◌, ◌++◌, length, take, drop, Option, Some, None, is_none, refl, sym, ap, ap₂, ◌∙◌, subst, arith, option_map, eqb-true, append_assoc, length-append, length-take-le}
 use Rattle.std.specs.List.{AllByRecursion, list_any}
-use Rattle.std.specs.Option.{option_or}
-use Rattle.std.specs.Prelude.{option_map}
 use Rattle.std.proofs.lemmas.Grind.{common_steps}
-use Rattle.std.proofs.lemmas.Bool.{eqb-true}
 use Rattle.std.proofs.lemmas.Bool.Decides.{nat_tests}
-use Rattle.std.proofs.lemmas.List.{append_assoc, length-append, length-take-le, get_or-take}
 use Rattle.std.proofs.Math.Seq.{drop-append_seam}
-use Rattle.std.proofs.Math.ListN.{get_or-append}
+use Rattle.std.proofs.lemmas.Bool.{or_parts}
 use Rattle.wire_base.specs.declared.address.Link.{Link}
-use Rattle.wire_base.specs.declared.address.Link.TheVariants.{Ethernet, Raw}
 use Rattle.wire_base.specs.Numbers.{u16_octets, with_u16}
 use Rattle.wire_base.specs.Ipv4 as ip
 use Rattle.wire_base.specs.Tcp as tcp
@@ -23,13 +18,14 @@ use Rattle.rule_book.specs.declared.rule.Rule.TheVariants as rules
 use Rattle.rule_book.specs.declared.entry.Verdict.TheVariants as verdicts
 use Rattle.rule_book.specs.Rules.{touches_payload}
 use Rattle.norm_settings.specs.Settings.{PlainSettings}
-use Rattle.ip_rules.specs.Rows.{carries_ip, piece_fix_rows, ip_fixes}
+use Rattle.ip_rules.specs.Rows.{l_short, piece_fix_rows, ip_fixes}
 use Rattle.ip_rules.specs.Datagrams.{Datagram, Packet, IsPacketOf, DatagramsAreKnown, AnewIsPacket, datagram_in, frame_of, frames_of, anew}
 use Rattle.dgram_rules.specs.Rows.{pseudo_of, holds_dgram, dgram_dropped_by, u_short, u_sum_out}
 use Rattle.tcp_norm.specs.Rows as era
 use Rattle.tcp_norm.specs.Views.{view_of}
 use Rattle.tcp_norm.specs.Outcomes.{verdict_of}
 use Rattle.tcp_norm.specs.Segments.{PacketsAreItsOwn, CleanKeepsPayload}
+use Rattle.tcp_norm.proofs.StreamFrames.{empty_left}
 use Rattle.reassembly.specs.Pieces.{is_whole}
 use Rattle.reassembly.specs.Rows as fragments
 use Rattle.reassembly.specs.Rows.{answer_by, is_done}
@@ -40,42 +36,31 @@ use Rattle.norm_engine.specs.Frames.{octets_sent, mended_frame, frame_by}
 use Rattle.norm_engine.specs.Calls.{segment_after}
 use Rattle.norm_engine.specs.Trace.{Read, read_after, is_held, is_quoted_live, dropped_by, named_rows, outcome_of, frames_by, verdict_by, item_of}
 use Rattle.norm_engine.specs.Clean.{is_clean, payload_of, payload_in, KeepsPayload, CleanIsKept, HasOctets, HaveOctets}
-use Rattle.norm_engine.proofs.Reading.{behind}
-use Rattle.norm_engine.proofs.Stepping.{segment_frames, plain_frames}
-use Rattle.norm_engine.proofs.Joining.{IsCarried, carried_in, row_of_piece, row_of_datagram, mends_of_life, named_of_piece, dropped_by_layers, named_by_layers}
-use Rattle.norm_engine.proofs.Judging.{unjoined, whole_frame}
-use Rattle.norm_engine.proofs.Lawfuls.{RowsAreOfEras, both_of, segment_is, not_short, link_kept}
+use Rattle.norm_engine.proofs.Links.{packet_behind, carries_behind}
+use Rattle.norm_engine.proofs.Items.{segment_frames, plain_frames}
+use Rattle.norm_engine.proofs.Datagrams.{IsCarried, carried_in, row_of_piece, row_of_datagram, mends_of_life, named_of_piece, first_none}
+use Rattle.norm_engine.proofs.Layers.{dropped_by_layers, named_by_layers}
+use Rattle.norm_engine.proofs.Judgments.{unjoined}
+use Rattle.norm_engine.proofs.Frames.{whole_frame}
+use Rattle.norm_engine.proofs.Traces.{RowsAreOfEras, both_of, segment_is, link_kept}
 
 -- the payload by the protocol
 abbrev payload_by : (protocol : ℕ) → List ℕ → List ℕ
 payload_by protocol octets = cond (protocol == 6) (tcp.payload octets) (cond (protocol == 17) (drop 8 octets) octets)
 
--- a frame after the link octets of another one carries IPv4 if that one does
-
-header_octet : (frame rest : List ℕ) (at : ℕ) → at < 14 → 14 ≤ length frame → get_or (take 14 frame ++ rest) at 0 ≡ get_or frame at 0
-header_octet frame rest at lt long =
-    let size : length (take 14 frame) ≡ 14 = length-take-le 14 frame long in
-    get_or-append (take 14 frame) rest 0 at (omega (arith, size)) ∙ get_or-take 14 frame at 0 lt
-
-carries_same : (link : Link) (frame rest : List ℕ) → (link ≡ Ethernet → 14 ≤ length frame) → carries_ip link (link_octets link frame ++ rest) ≡ carries_ip link frame
-carries_same Raw frame rest h = refl
-carries_same Ethernet frame rest h =
-    let long = h refl in
-    ap₂ (λ high low. (256 * high + low) == 2048) (header_octet frame rest 12 (omega arith) long) (header_octet frame rest 13 (omega arith) long)
-
 module _ (settings : PlainSettings) (link : Link) (r : records.Packet) (d : Datagram) (c : IsCarried settings link r d) where
-  long : link ≡ Ethernet → 14 ≤ length r.octets
-  long = not_short link r.octets (link_kept settings link r c.undropped)
+  long : l_short link r.octets ≡ false
+  long = link_kept settings link r c.undropped
 
   -- the payload of a packet of the datagram in its frame, and of the record
   sent_payload : (p : Packet) → IsPacketOf settings d p → payload_in link (frame_of (link_octets link r.octets) p) ≡ payload_by d.head.protocol p.octets
   sent_payload p is =
       let rest = p.header ++ p.octets in
       let whole : frame_of (link_octets link r.octets) p ≡ link_octets link r.octets ++ rest = append_assoc (link_octets link r.octets) p.header p.octets in
-      let carried = carries_same link r.octets rest long ∙ c.carried in
+      let carried = carries_behind link r.octets rest long ∙ c.carried in
       ap (payload_in link) whole
       ∙ (ap (λ b. cond b (payload_of (packet_in link (link_octets link r.octets ++ rest))) (link_octets link r.octets ++ rest)) carried
-      ∙ (ap payload_of (behind link r.octets rest long) ∙ ap₂ payload_by is.protocol is.carries))
+      ∙ (ap payload_of (packet_behind link r.octets rest long) ∙ ap₂ payload_by is.protocol is.carries))
 
   read_payload : payload_in link r.octets ≡ payload_by d.head.protocol d.octets
   read_payload =
@@ -115,11 +100,6 @@ sent_by true settings d is whole =
       size = ap length same ∙ same_length d.octets _ long;
     }
 
--- a UDP message of a datagram that no rule drops has its header
-first_none : (one other : Option Rule) → option_or one other ≡ None → (one ≡ None) × (other ≡ None)
-first_none None other h = (refl, h)
-first_none (Some rule) other h = absurd (cc)
-
 short_by : (udp short : Bool) (rest : Option Rule) → cond (udp && short) (Some rules.UShort) rest ≡ None → udp ≡ true → short ≡ false
 short_by true true rest h u = absurd (cc)
 short_by true false rest h u = refl
@@ -141,14 +121,6 @@ bare_of_pass : (named : List Rule) → verdict_of named ≡ verdicts.Pass → na
 bare_of_pass [] h = refl
 bare_of_pass (rule ∷ more) h = absurd (pass_is_bare rule more h)
 
-pub both_empty : (xs ys : List Rule) → xs ++ ys ≡ [] → (xs ≡ []) × (ys ≡ [])
-both_empty [] ys e = (refl, e)
-both_empty (x ∷ xs) ys e = absurd (cc)
-
-none_left : (a b : Bool) → (a || b) ≡ false → (a ≡ false) × (b ≡ false)
-none_left false b h = (refl, h)
-none_left true b h = absurd (cc)
-
 clean_parts : (dropped : Option Rule) (touched : Bool) → (is_none dropped && not touched) ≡ true → (dropped ≡ None) × (touched ≡ false)
 clean_parts None false h = (refl, refl)
 clean_parts None true h = absurd (cc)
@@ -159,7 +131,7 @@ clean_parts (Some rule) touched h = absurd (cc)
 any_parts : (xs ys : List Rule) → list_any touches_payload (xs ++ ys) ≡ false → (list_any touches_payload xs ≡ false) × (list_any touches_payload ys ≡ false)
 any_parts [] ys h = (refl, h)
 any_parts (x ∷ xs) ys h =
-    let here = none_left (touches_payload x) (list_any touches_payload (xs ++ ys)) h in
+    let here = or_parts (touches_payload x) (list_any touches_payload (xs ++ ys)) h in
     let rest = any_parts xs ys here.1 in
     (ap₂ (λ a b. a || b) here.0 rest.0, rest.1)
 
@@ -214,7 +186,7 @@ module _ (known : DatagramsAreKnown) (fresh : AnewIsPacket) (own : PacketsAreIts
             ∙ (ap (λ n. payload_by n kept.packet.octets) six ∙ (kept.same ∙ sym (ap (λ n. payload_by n d.octets) six)) ∙ sym (read_payload settings link r d c));
         whole = λ pass.
             let unmended = bare_of_pass (named_rows settings link read r) (sym (ap₂ (λ x y. verdict_by x y (named_rows settings link read r)) undropped t.held) ∙ pass) in
-            let none = both_empty d.fixes (era.mended_by settings v d) (sym t.named ∙ unmended) in
+            let none = empty_left d.fixes (era.mended_by settings v d) (sym t.named ∙ unmended) in
             let header : d.header ≡ ip.header (packet_in link r.octets) = sym (ap (λ (e : Datagram). e.header) c.is) in
             let body : d.octets ≡ ip.payload (packet_in link r.octets) = sym (ap (λ (e : Datagram). e.octets) c.is) in
             ap (frame_of (link_octets link r.octets)) (kept.whole none.0 none.1)

@@ -1,8 +1,7 @@
--- What the engine represents after a record.
-use Rattle.std.proofs.Common.{◌≡◌, ℕ, ◌+◌, ◌≤◌, ◌==◌, Bool, true, false, List, [], ◌∷◌, ◌++◌, length, take, Some, None, refl, sym, ap, ap₂, subst, ◌∙◌, arith, if◌then◌else◌}
+-- What the engine represents after a record, and that its outbox and header have room for it.
+use Rattle.std.proofs.Common.{◌≡◌, ℕ, ◌+◌, ◌≤◌, ◌==◌, Bool, true, false, List, [], ◌∷◌, ◌++◌, length, take, Some, None, refl, sym, ap, ap₂, subst, ◌∙◌, arith, if◌then◌else◌, eqb-true}
 use Rattle.std.proofs.Math.Logic.{∥∥₁_elim}
 use Rattle.std.specs.Coded.{le_prop}
-use Rattle.std.proofs.lemmas.Bool.{eqb-true}
 use Rattle.std.proofs.lemmas.List.{length-map}
 use Rattle.wire_base.specs.declared.address.Link.{Link}
 use Rattle.wire_base.specs.Segments.{Written}
@@ -22,13 +21,13 @@ use Rattle.tcp_norm.specs.Steps.{idled, idle_end}
 use Rattle.tcp_norm.specs.Standing as flows
 use Rattle.tcp_norm.specs.Outcomes.{call_of, expiry_of}
 use Rattle.tcp_norm.specs.Segments.{PacketsAreItsOwn}
-use Rattle.norm_engine.specs.declared.judge.Decision.{Decision}
-use Rattle.norm_engine.specs.declared.judge.Decision.TheVariants as decisions
-use Rattle.norm_engine.specs.Judgment.{Judgment, judgment_of}
-use Rattle.norm_engine.specs.Judgment.{Arp, Drop, Hold, Send, Segment}
 use Rattle.reassembly.specs.declared.assembly.Assembly.{Assembly}
 use Rattle.reassembly.specs.Assemblies as fragments
 use Rattle.reassembly.specs.Calls as reassembly
+use Rattle.tcp_norm.specs.Passing.{given, IsUnsent}
+use Rattle.norm_engine.specs.declared.judge.Decision.{Decision}
+use Rattle.norm_engine.specs.declared.judge.Decision.TheVariants as decisions
+use Rattle.norm_engine.specs.Judgment.{Judgment, judgment_of, Arp, Drop, Hold, Send, Segment}
 use Rattle.norm_engine.specs.Items.{Item, now_with}
 use Rattle.norm_engine.specs.Rows.{is_segment}
 use Rattle.norm_engine.specs.Fragments.{fragment_in, piece_calls, with_offered}
@@ -36,9 +35,8 @@ use Rattle.norm_engine.specs.Calls.{Past, past_of, flow_calls}
 use Rattle.norm_engine.specs.Frames.{octets_sent, mended_frame, frame_by}
 use Rattle.norm_engine.specs.Trace.{Read, read_after, is_held, item_of, named_rows, frames_by, emits}
 use Rattle.norm_engine.specs.Engine.{Engaged, StandsFor, IsTaken, IsSent, Judges, Fits, is_as_read, frames_for, frame_for, frame_with, frames_given, payload_for}
-use Rattle.tcp_norm.specs.Passing.{given, IsUnsent}
-use Rattle.norm_engine.proofs.Stepping.{taken_rows, segment_calls, plain_calls, plain_frames}
-use Rattle.norm_engine.proofs.Lawfuls.{both_of, segment_known, long_enough}
+use Rattle.norm_engine.proofs.Items.{taken_rows, segment_calls, plain_calls, plain_frames}
+use Rattle.norm_engine.proofs.Traces.{both_of, segment_known, long_enough}
 
 -- what rules read of these calls, after idle eras and old datagrams are removed by this time
 abbrev pub past_with : PlainSettings → (now : ℕ) → List Call → List reassembly.Call → Past

@@ -1,41 +1,119 @@
--- The item of a record, as it was judged.
-use Rattle.std.proofs.Common.{◌≡◌, ℕ, ◌≤◌, Bool, true, false, cond, ◌&&◌, not, List, [], ◌∷◌, ◌++◌, length, map, find, filter, Option, Some, None, refl, sym, ap, ap₂, subst, ◌∙◌}
-use Rattle.std.specs.Prelude.{option_map}
+-- The item of a record as it was judged: its frames, verdict, rules and calls, and what is read back of it.
+use Rattle.std.proofs.Common.{◌≡◌, ℕ, Bool, true, false, cond, ◌&&◌, not, List, [], ◌∷◌, ◌++◌, length, take, map, filter, Option, Some, None, refl, sym, ap, ap₂, ◌∙◌, find, subst, option_map}
 use Rattle.std.specs.List.{AllByRecursion, list_all}
-use Rattle.std.proofs.lemmas.List.{append-nil, length-map}
+use Rattle.std.proofs.lemmas.List.{append_assoc, append-nil, length-map}
+use Rattle.std.proofs.Math.Seq.{take-append_seam}
 use Rattle.std.proofs.lemmas.List.Elements.{filter-append}
 use Rattle.wire_base.specs.declared.address.Link.{Link}
-use Rattle.wire_base.specs.declared.address.Link.TheVariants.{Ethernet}
-use Rattle.wire_base.specs.declared.address.Side.{Side}
+use Rattle.wire_base.specs.Ipv4 as ip
+use Rattle.wire_base.specs.Tcp as tcp
 use Rattle.wire_base.specs.Segments.{Written}
-use Rattle.wire_base.specs.Frames.{link_octets}
+use Rattle.wire_base.specs.Frames.{link_octets, packet_in}
+use Rattle.rule_book.specs.declared.rule.Rule.{Rule}
+use Rattle.rule_book.specs.declared.entry.Ended.{Ended}
+use Rattle.rule_book.specs.declared.entry.Reason.{Reason}
+use Rattle.rule_book.specs.declared.entry.Reason.TheVariants as reasons
+use Rattle.norm_settings.specs.Settings.{PlainSettings}
+use Rattle.ip_rules.specs.Datagrams.{Datagram, Packet, IsPacketOf, frame_of, frames_of, goes_in}
+use Rattle.era_state.specs.Quantities.{octets_of}
+use Rattle.tcp_norm.specs.Calls.{segment_in, Call, expiry, segments}
+use Rattle.tcp_norm.specs.Views.{View, view_of, idle_at}
+use Rattle.tcp_norm.specs.Steps.{idled, idle_end}
+use Rattle.tcp_norm.specs.Rows as era
+use Rattle.tcp_norm.specs.Outcomes.{outcome_by, outcome_at, ended_with, ends, call_of}
+use Rattle.wire_base.specs.declared.address.Side.{Side}
 use Rattle.pcap_file.specs.Records as records
 use Rattle.tcp_codec.specs.declared.header.Tcp.{Tcp}
-use Rattle.rule_book.specs.declared.rule.Rule.{Rule}
 use Rattle.rule_book.specs.declared.rule.Rule.TheVariants as rules
 use Rattle.rule_book.specs.declared.entry.Entry.{Entry}
-use Rattle.rule_book.specs.declared.entry.Ended.{Ended}
 use Rattle.rule_book.specs.Entries.{plain}
 use Rattle.rule_book.specs.Rules.{era_rows}
-use Rattle.norm_settings.specs.Settings.{PlainSettings}
 use Rattle.ip_rules.specs.declared.judged.IpPacket.{IpPacket}
-use Rattle.ip_rules.specs.Rows.{tells_side}
-use Rattle.ip_rules.specs.Datagrams.{Datagram, IsPacketOf, frame_of, frames_of, goes_in}
-use Rattle.tcp_norm.specs.Calls.{Call, expiry, segments}
-use Rattle.tcp_norm.specs.Views.{view_of, idle_at}
-use Rattle.tcp_norm.specs.Steps.{idled}
-use Rattle.tcp_norm.specs.Rows as era
-use Rattle.tcp_norm.specs.Outcomes.{call_of}
+use Rattle.ip_rules.specs.Rows.{tells_side, l_short}
 use Rattle.tcp_norm.specs.Passing.{Reports}
-use Rattle.norm_engine.specs.Judgment.{Judgment}
-use Rattle.norm_engine.specs.Judgment.{Arp, Drop, Hold, Send, Segment}
+use Rattle.norm_engine.specs.Calls.{is_idle, packet_of, past_of, outcome_in, with_asked, flow_calls}
+use Rattle.norm_engine.specs.Trace.{verdict_by, rules_by, Read, read_after, is_held, holds, holds_of, dropped_by, noted_rows, named_rows, outcome_of, frames_with, frames_by, emits, side_by, era_by, begun_by, ended_by, item_by, item_of}
+use Rattle.norm_engine.specs.Judgment.{Judgment, Arp, Drop, Hold, Send, Segment}
 use Rattle.norm_engine.specs.Items.{Item, now_with}
 use Rattle.norm_engine.specs.Rows.{side_of_record}
-use Rattle.norm_engine.specs.Calls.{past_of, outcome_in, with_asked, flow_calls, is_idle, packet_of}
-use Rattle.norm_engine.specs.Trace.{Read, read_after, is_held, holds, holds_of, dropped_by, noted_rows, named_rows, outcome_of, frames_with, frames_by, emits, verdict_by, rules_by, side_by, era_by, begun_by, ended_by, item_by, item_of}
 use Rattle.norm_engine.specs.Frames.{frame_by}
 use Rattle.norm_engine.specs.Engine.{IsTaken, Judges, entry_for}
-use Rattle.norm_engine.proofs.Reading.{packets_back, idle_kept, idle_left, idle_numbers, outcome_other, verdict_back, rules_back}
+use Rattle.norm_engine.proofs.Links.{packet_behind}
+
+-- What is read back of the item of a segment: its call is the one that the rules make.
+
+-- the packet follows the link octets
+
+-- the packet of a frame is the one that was written
+pub packet_back : (settings : PlainSettings) (link : Link) (frame : List ℕ) (d : Datagram) (p : Packet) → l_short link frame ≡ false → IsPacketOf settings d p
+    → packet_of link (frame_of (link_octets link frame) p) ≡ p
+packet_back settings link frame d p long is =
+    let whole : packet_in link (frame_of (link_octets link frame) p) ≡ p.header ++ p.octets =
+    ap (packet_in link) (append_assoc (link_octets link frame) p.header p.octets) ∙ packet_behind link frame (p.header ++ p.octets) long in
+    let header : ip.header (p.header ++ p.octets) ≡ p.header =
+    ap (λ n. take n (p.header ++ p.octets)) (is.header.header_length ∙ sym is.long) ∙ take-append_seam p.header p.octets in
+    λ i. record { header = (ap ip.header whole ∙ header) i; octets = (ap ip.payload whole ∙ is.carries) i }
+
+pub packets_back : (settings : PlainSettings) (link : Link) (frame : List ℕ) (d : Datagram) (packets : List Packet) → l_short link frame ≡ false → AllByRecursion (IsPacketOf settings d) packets
+    → map (packet_of link) (frames_of (link_octets link frame) packets) ≡ packets
+packets_back settings link frame d [] long all = refl
+packets_back settings link frame d (p ∷ ps) long all = ap₂ (λ x xs. x ∷ xs) (packet_back settings link frame d p long all.0) (packets_back settings link frame d ps long all.1)
+
+-- idle eras differ from others by their reason
+
+pub idle_kept : (segments : ℕ → List Written) (numbers : List ℕ) → filter is_idle (idled segments numbers) ≡ idled segments numbers
+idle_kept segments [] = refl
+idle_kept segments (n ∷ ns) = ap (λ xs. idle_end segments n ∷ xs) (idle_kept segments ns)
+
+pub idle_left : (segments : ℕ → List Written) (numbers : List ℕ) → filter (λ e. not (is_idle e)) (idled segments numbers) ≡ []
+idle_left segments [] = refl
+idle_left segments (n ∷ ns) = idle_left segments ns
+
+pub idle_numbers : (segments : ℕ → List Written) (numbers : List ℕ) → map (λ (e : Ended). e.era) (idled segments numbers) ≡ numbers
+idle_numbers segments [] = refl
+idle_numbers segments (n ∷ ns) = ap (λ xs. n ∷ xs) (idle_numbers segments ns)
+
+-- none of these ended because it was idle
+pub record AreOther (ended : List Ended) : Type 0 where
+  pub kept : filter (λ e. not (is_idle e)) ended ≡ ended
+  pub left : filter is_idle ended ≡ []
+
+ends_other : (number : Option ℕ) (octets : ℕ) (reason : Reason) → is_idle (record { era = 0; reason = reason; octets = None }) ≡ false → AreOther (ends number octets reason)
+ends_other None octets reason other = record { kept = refl; left = refl }
+ends_other (Some era) octets reason other =
+    let e : Ended = record { era = era; reason = reason; octets = Some octets } in
+    record { kept = ap (λ b. cond (not b) (e ∷ []) []) other; left = ap (λ b. cond b (e ∷ []) []) other }
+
+ended_other : (v : View) (w : Written) → AreOther (ended_with v w)
+ended_other v w = by (era.reopens v w) (era.begins v w && v.is_full) (not w.inward && tcp.has_rst w.flags)
+  where
+    by : (again taken reset : Bool)
+        → AreOther (cond again (ends v.era (octets_of v.segments) reasons.Reopened)
+        (cond taken (ends v.evictable v.evictable_octets reasons.Evicted) (cond reset (ends v.era (octets_of v.segments) reasons.Reset) [])))
+    by true taken reset = ends_other v.era (octets_of v.segments) reasons.Reopened refl
+    by false true reset = ends_other v.evictable v.evictable_octets reasons.Evicted refl
+    by false false true = ends_other v.era (octets_of v.segments) reasons.Reset refl
+    by false false false = record { kept = refl; left = refl }
+
+pub outcome_other : (settings : PlainSettings) (v : View) (d : Datagram) → AreOther (outcome_at settings v d).ended
+outcome_other settings v d = by (era.dropped_by settings v d)
+  where
+    by : (dropped : Option Rule) → AreOther (outcome_by settings v d dropped (era.mended_by settings v d)).ended
+    by (Some rule) = record { kept = refl; left = refl }
+    by None = ended_other v (segment_in d)
+
+-- the verdict and the rules of an entry are those of the outcome
+pub verdict_back : (settings : PlainSettings) (v : View) (d : Datagram) (dropped : Option Rule) (mended : List Rule)
+    → verdict_by dropped false (d.fixes ++ mended) ≡ (outcome_by settings v d dropped mended).verdict
+verdict_back settings v d None mended = refl
+verdict_back settings v d (Some rule) mended = refl
+
+pub rules_back : (settings : PlainSettings) (v : View) (d : Datagram) (dropped : Option Rule) (mended : List Rule)
+    → rules_by dropped false (era.noted v d) (d.fixes ++ mended) ≡ (outcome_by settings v d dropped mended).rules
+rules_back settings v d None mended = sym (append_assoc (era.noted v d) d.fixes mended)
+rules_back settings v d (Some rule) mended = refl
+
+-- The item of a record, as it was judged.
 
 -- an element that is found passes the test of all
 pub found_of : {A : Type 0} (P : A → Type 0) (f : A → Bool) (xs : List A) (x : A) → AllByRecursion P xs → find f xs ≡ Some x → P x
@@ -174,7 +252,7 @@ other_entry settings link read r number (Segment packet head) j none = let no = 
 -- the calls of a history with an item
 
 pub segment_calls : (settings : PlainSettings) (link : Link) (history : List Item) (r : records.Packet) (d : Datagram)
-    → (link ≡ Ethernet → 14 ≤ length r.octets) → AreOfEra settings link (read_after settings link history r) r d
+    → l_short link r.octets ≡ false → AreOfEra settings link (read_after settings link history r) r d
     → AllByRecursion (IsPacketOf settings d) (outcome_of settings (read_after settings link history r) d).packets
     → flow_calls settings link (item_of settings link history r ∷ history)
     ≡ call_of settings (past_of settings link history r).calls (now_with history r) d ∷ (past_of settings link history r).calls

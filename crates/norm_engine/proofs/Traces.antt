@@ -1,11 +1,10 @@
--- The calls of a lawful trace are those that the rules make of its segments.
-use Rattle.std.proofs.Common.{◌≡◌, ℕ, ◌≤◌, Bool, true, false, cond, ◌&&◌, ◌||◌, not, nat_lt, List, [], ◌∷◌, length, take, Option, Some, None, refl, sym, ap, subst, ◌∙◌, arith}
-use Rattle.std.proofs.lemmas.Bool.{eqb-true}
+-- A lawful trace: its calls are those that the rules make, its datagrams are known, and records have one.
+use Rattle.std.proofs.Common.{◌≡◌, ℕ, ◌≤◌, Bool, true, false, cond, ◌&&◌, ◌||◌, not, nat_lt, List, [], ◌∷◌, length, take, Option, Some, None, refl, sym, ap, subst, ◌∙◌, arith, ◌+◌, ap₂, eqb-true, option_map}
 use Rattle.std.proofs.lemmas.Bool.Decides.{nat_tests}
 use Rattle.std.specs.List.{AllByRecursion}
 use Rattle.std.specs.Option.{option_or}
+use Rattle.std.proofs.lemmas.Bool.{not-false}
 use Rattle.wire_base.specs.declared.address.Link.{Link}
-use Rattle.wire_base.specs.declared.address.Link.TheVariants.{Ethernet, Raw}
 use Rattle.wire_base.specs.Sums.{sum_is_right, pseudo_sum}
 use Rattle.wire_base.specs.Tcp as tcp
 use Rattle.wire_base.specs.Options.{are_well_formed}
@@ -15,33 +14,37 @@ use Rattle.rule_book.specs.Rules.{segment_rows}
 use Rattle.norm_settings.specs.Settings.{PlainSettings}
 use Rattle.wire_base.specs.Ipv4 as ip
 use Rattle.wire_base.specs.Frames.{packet_in}
-use Rattle.ip_rules.specs.Rows.{l_snap, l_short, ip_dropped_by}
+use Rattle.ip_rules.specs.Rows.{l_snap, l_short, ip_dropped_by, ip_fixes}
 use Rattle.ip_rules.specs.Datagrams.{Datagram, DatagramsAreKnown, IsKnown, datagram_in, goes_in}
-use Rattle.ip_rules.proofs.Known.{packet_octets, sizes}
-use Rattle.ip_rules.proofs.Undropped.{none_found}
-use Rattle.ip_rules.proofs.Octets.{taken, dropped}
+use Rattle.ip_rules.proofs.Datagrams.{packet_octets, sizes}
+use Rattle.ip_rules.proofs.Lists.{none_found, taken, dropped}
 use Rattle.reassembly.specs.Pieces.{Fragment}
 use Rattle.reassembly.specs.Calls as reassembly
 use Rattle.reassembly.specs.Rows.{AreAnswered, is_done}
 use Rattle.reassembly.specs.Laws.{IsSized, AreSized}
-use Rattle.reassembly.proofs.Wholes.{wholes_are_sized}
+use Rattle.reassembly.proofs.Datagrams.{wholes_are_sized}
 use Rattle.dgram_rules.specs.Rows as dgram
-use Rattle.tcp_norm.specs.Calls.{Call}
-use Rattle.tcp_norm.specs.Views.{view_of}
-use Rattle.tcp_norm.specs.Outcomes.{call_of}
+use Rattle.tcp_norm.specs.Calls.{Call, segments}
+use Rattle.tcp_norm.specs.Views.{view_of, idle_at}
+use Rattle.tcp_norm.specs.Outcomes.{call_of, expiry_of}
 use Rattle.tcp_norm.specs.Segments.{IsSegment, AsksSegment, AreOfSegments, PacketsAreItsOwn}
 use Rattle.tcp_norm.specs.Lives.{AreMade}
-use Rattle.norm_engine.specs.Items.{Item, now_with}
+use Rattle.tcp_norm.specs.Steps.{idled}
+use Rattle.reassembly.specs.Calls.{Call as FragmentCall, expiry}
+use Rattle.norm_engine.specs.Items.{Item, now_with, packets}
 use Rattle.norm_engine.specs.Laws.{IsSound, IsWithin, IsAlwaysWithin}
-use Rattle.norm_engine.specs.Fragments.{fragment_in, with_offered, piece_calls, pieces_before, offering_in, joined_in}
+use Rattle.norm_engine.specs.Fragments.{fragment_in, with_offered, piece_calls, pieces_before, offering_in, joined_in, Offering, offering_of}
 use Rattle.norm_engine.specs.Rows.{holds_header, is_segment}
-use Rattle.norm_engine.specs.Calls.{where_passes, segment_after, datagram_after, past_of, flow_calls}
-use Rattle.norm_engine.specs.Trace.{item_of, read_after}
+use Rattle.norm_engine.specs.Calls.{where_passes, segment_after, datagram_after, past_of, flow_calls, outcome_in, expiry_in, with_asked}
+use Rattle.norm_engine.specs.Trace.{item_of, read_after, Read, Lawful, item_by, dropped_by, noted_rows, named_rows}
 use Rattle.norm_engine.specs.Clean.{HasOctets, HaveOctets}
-use Rattle.norm_engine.proofs.Stepping.{AreOfEra, segment_calls, plain_calls}
-use Rattle.norm_engine.proofs.Joining.{IsJoined, fragment_is, joined_of, made_of, segment_tests}
-use Rattle.norm_engine.proofs.Judging.{kept_packet, not_nil}
-use Rattle.norm_engine.proofs.Segments.{header_row}
+use Rattle.norm_engine.proofs.Items.{AreOfEra, segment_calls, plain_calls}
+use Rattle.norm_engine.proofs.Datagrams.{IsJoined, fragment_is, joined_of, made_of, segment_tests}
+use Rattle.norm_engine.proofs.Frames.{kept_packet, rest_none}
+use Rattle.norm_engine.proofs.Judgments.{not_nil}
+use Rattle.norm_engine.proofs.Layers.{header_row, segment_rows_are}
+
+-- The calls of a lawful trace are those that the rules make of its segments.
 
 -- the calls with that of a segment, if there is one
 abbrev pub called : PlainSettings → List Call → (now : ℕ) → Option Datagram → List Call
@@ -60,11 +63,7 @@ both_of test (Some y) x h = by (test y) refl h
 header_fits : (header octets : ℕ) → (nat_lt header 20 || nat_lt octets header) ≡ false → (20 ≤ header) × (header ≤ octets)
 header_fits header octets h = (grind (arith, nat_tests), grind (arith, nat_tests))
 
-stands : (b : Bool) → not b ≡ false → b ≡ true
-stands true h = refl
-stands false h = absurd (cc)
-
-right_inward : (wrong inward offload : Bool) → inward ≡ true → (wrong && not (not inward && offload)) ≡ false → wrong ≡ false
+pub right_inward : (wrong inward offload : Bool) → inward ≡ true → (wrong && not (not inward && offload)) ≡ false → wrong ≡ false
 right_inward true true offload e h = absurd (cc)
 right_inward false inward offload e h = refl
 right_inward true false offload e h = absurd (cc)
@@ -81,11 +80,11 @@ segment_known settings d known is =
       protocol = six;
       least = sizes.0;
       inside = sizes.1;
-      legal = stands (tcp.are_legal (tcp.flags d.octets)) none.1.1.1.0;
-      formed = stands (are_well_formed (tcp.options d.octets)) none.1.1.1.1.0;
+      legal = not-false (tcp.are_legal (tcp.flags d.octets)) none.1.1.1.0;
+      formed = not-false (are_well_formed (tcp.options d.octets)) none.1.1.1.1.0;
       sum = λ inward.
           let right = right_inward (tcp.has_wrong_sum (dgram.pseudo_of d) d.octets) (goes_in d.side) settings.offload inward none.1.1.0 in
-          subst (λ n. sum_is_right d.octets (pseudo_sum d.head.src.0 d.head.dst.0 n (length d.octets)) ≡ true) six (stands (sum_is_right d.octets (dgram.pseudo_of d)) right);
+          subst (λ n. sum_is_right d.octets (pseudo_sum d.head.src.0 d.head.dst.0 n (length d.octets)) ≡ true) six (not-false (sum_is_right d.octets (dgram.pseudo_of d)) right);
     }
 
 -- the fragments of a history of octets
@@ -159,23 +158,15 @@ segment_is known settings link history r d older octets h =
     let here = both_of (is_segment settings) (datagram_after settings link history r) d h in
     segment_known settings d (datagram_known known settings link history r d older octets here.0) here.1
 
--- a frame of Ethernet that no rule on the link drops has its complete header
-rest_none : {A : Type 0} (b : Bool) (x : A) (rest : Option A) → cond b (Some x) rest ≡ None → (b ≡ false) × (rest ≡ None)
-rest_none true x rest h = absurd (cc)
-rest_none false x rest h = (refl, h)
-
-pub not_short : (link : Link) (frame : List ℕ) → l_short link frame ≡ false → link ≡ Ethernet → 14 ≤ length frame
-not_short Raw frame h is = absurd (cc)
-not_short Ethernet frame h is = grind (arith, nat_tests)
-
+-- a frame that no rule on the link drops has its complete header
 pub link_kept : (settings : PlainSettings) (link : Link) (r : records.Packet) → ip_dropped_by settings link r ≡ None → l_short link r.octets ≡ false
 unfolding ip_dropped_by
 link_kept settings link r none = (rest_none (l_short link r.octets) rules.LShort _ (rest_none (l_snap r) rules.LSnap _ none).1).0
 
 pub long_enough : (settings : PlainSettings) (link : Link) (history : List Item) (r : records.Packet) (d : Datagram) → segment_after settings link history r ≡ Some d
-    → link ≡ Ethernet → 14 ≤ length r.octets
+    → l_short link r.octets ≡ false
 long_enough settings link history r d h =
-    not_short link r.octets (link_kept settings link r (made_of settings link (past_of settings link history r) r d (both_of (is_segment settings) (datagram_after settings link history r) d h).0).undropped)
+    link_kept settings link r (made_of settings link (past_of settings link history r) r d (both_of (is_segment settings) (datagram_after settings link history r) d h).0).undropped
 
 -- the rules of each segment are those of its connection
 abbrev pub RowsAreOfEras : Type 0
@@ -222,3 +213,88 @@ pub always_within : (settings : PlainSettings) (link : Link) → ((history : Lis
 always_within settings link within [] sound = within [] sound
 always_within settings link within (item ∷ older) sound =
     (always_within settings link within older (record { hops = sound.hops; octets = sound.octets.0; lawful = sound.lawful.0 }), within (item ∷ older) sound)
+
+-- The rules of each segment are those of its connection.
+
+pub rows_are_of_eras : RowsAreOfEras
+rows_are_of_eras settings link history r d h = segment_rows_are settings link (past_of settings link history r) r d h
+
+-- Records have one lawful trace, whatever the seed.
+
+abbrev reseeded : PlainSettings → ℕ → PlainSettings
+reseeded settings seed = record settings { seed = seed }
+
+same_datagram : (settings : PlainSettings) (seed : ℕ) (link : Link) (r : records.Packet) → datagram_in (reseeded settings seed) link r ≡ datagram_in settings link r
+unfolding ip_dropped_by ip_fixes
+same_datagram settings seed link r = refl
+
+same_piece : (settings : PlainSettings) (seed : ℕ) (link : Link) (r : records.Packet) → fragment_in (reseeded settings seed) link r ≡ fragment_in settings link r
+unfolding ip_dropped_by
+same_piece settings seed link r = refl
+
+same_pieces : (settings : PlainSettings) (seed : ℕ) (link : Link) (history : List Item) → piece_calls (reseeded settings seed) link history ≡ piece_calls settings link history
+same_pieces settings seed link [] = refl
+same_pieces settings seed link (item ∷ older) =
+    let now = now_with older item.packet in
+    same_offered settings seed (fragment_in (reseeded settings seed) link item.packet) now (expiry now ∷ piece_calls (reseeded settings seed) link older)
+    ∙ (λ i. with_offered settings (same_piece settings seed link item.packet i) now (expiry now ∷ same_pieces settings seed link older i))
+  where
+    same_offered : (settings : PlainSettings) (seed : ℕ) (piece : Option Fragment) (now : ℕ) (calls : List FragmentCall) → with_offered (reseeded settings seed) piece now calls ≡ with_offered settings piece now calls
+    same_offered settings seed None now calls = refl
+    same_offered settings seed (Some piece) now calls = refl
+
+same_before : (settings : PlainSettings) (seed : ℕ) (link : Link) (history : List Item) (r : records.Packet) → pieces_before (reseeded settings seed) link history r ≡ pieces_before settings link history r
+same_before settings seed link history r = ap (λ cs. expiry (now_with history r) ∷ cs) (same_pieces settings seed link history)
+
+same_joined : (settings : PlainSettings) (seed : ℕ) (link : Link) (r : records.Packet) (o : Option Offering) → joined_in (reseeded settings seed) link r o ≡ joined_in settings link r o
+unfolding ip_fixes
+same_joined settings seed link r None = refl
+same_joined settings seed link r (Some o) = refl
+
+same_made : (settings : PlainSettings) (seed : ℕ) (link : Link) (history : List Item) (r : records.Packet) → datagram_after (reseeded settings seed) link history r ≡ datagram_after settings link history r
+same_made settings seed link history r =
+    (λ i. option_or (same_datagram settings seed link r i)
+    (joined_in (reseeded settings seed) link r (option_map (offering_of settings (same_before settings seed link history r i)) (same_piece settings seed link r i))))
+    ∙ ap (option_or (datagram_in settings link r)) (same_joined settings seed link r (offering_in settings link (pieces_before settings link history r) r))
+
+same_segment : (settings : PlainSettings) (seed : ℕ) (link : Link) (history : List Item) (r : records.Packet) → segment_after (reseeded settings seed) link history r ≡ segment_after settings link history r
+same_segment settings seed link history r = ap (where_passes (is_segment settings)) (same_made settings seed link history r)
+
+same_calls : (settings : PlainSettings) (seed : ℕ) (link : Link) (history : List Item) → flow_calls (reseeded settings seed) link history ≡ flow_calls settings link history
+same_calls settings seed link [] = refl
+same_calls settings seed link (item ∷ older) = λ i.
+    with_asked (same_segment settings seed link older item.packet i) (now_with older item.packet) (outcome_in link item) (expiry_in older item ∷ same_calls settings seed link older i)
+
+same_past : (settings : PlainSettings) (seed : ℕ) (link : Link) (history : List Item) (r : records.Packet) → past_of (reseeded settings seed) link history r ≡ past_of settings link history r
+same_past settings seed link history r =
+    let calls = same_calls settings seed link history in
+    let now = now_with history r in
+    λ i. record { idle = idled (λ era. segments era (calls i)) (idle_at settings now (calls i)); calls = expiry_of settings (calls i) now ∷ calls i; pieces = same_before settings seed link history r i }
+
+same_read : (settings : PlainSettings) (seed : ℕ) (link : Link) (history : List Item) (r : records.Packet) → read_after (reseeded settings seed) link history r ≡ read_after settings link history r
+same_read settings seed link history r = λ i. record {
+  piece = option_map (offering_of settings (same_before settings seed link history r i)) (same_piece settings seed link r i);
+  datagram = same_made settings seed link history r i;
+  segment = same_segment settings seed link history r i;
+  past = same_past settings seed link history r i;
+}
+
+same_by : (settings : PlainSettings) (seed : ℕ) (link : Link) (read : Read) (r : records.Packet) (number : ℕ) → item_by (reseeded settings seed) link read r number ≡ item_by settings link read r number
+unfolding dropped_by noted_rows named_rows
+same_by settings seed link read r number = refl
+
+same_item : (settings : PlainSettings) (seed : ℕ) (link : Link) (history : List Item) (r : records.Packet) → item_of (reseeded settings seed) link history r ≡ item_of settings link history r
+same_item settings seed link history r =
+    same_by settings seed link (read_after (reseeded settings seed) link history r) r (length history + 1)
+    ∙ ap (λ read. item_by settings link read r (length history + 1)) (same_read settings seed link history r)
+
+pub trace_is_one : (settings : PlainSettings) (seed : ℕ) (link : Link) (trace other : List Item)
+    → Lawful settings link trace → Lawful (reseeded settings seed) link other → packets trace ≡ packets other → trace ≡ other
+trace_is_one settings seed link [] [] a b e = refl
+trace_is_one settings seed link [] (item ∷ older) a b e = absurd (cc)
+trace_is_one settings seed link (item ∷ older) [] a b e = absurd (cc)
+trace_is_one settings seed link (item ∷ older) (thing ∷ past) a b e =
+    let same : item.packet ≡ thing.packet = cc in
+    let rest : packets older ≡ packets past = cc in
+    let before : older ≡ past = trace_is_one settings seed link older past a.0 b.0 rest in
+    ap₂ (λ i l. i ∷ l) (a.1 ∙ ap₂ (λ h p. item_of settings link h p) before same ∙ sym (same_item settings seed link past thing.packet) ∙ sym b.1) before

@@ -1,43 +1,36 @@
--- The rules of all layers, joined: which drops a record, which are noted, and which rewrite it.
-use Rattle.std.proofs.Common.{◌≡◌, ℕ, Bool, true, false, cond, ◌&&◌, List, [], ◌∷◌, ◌++◌, Option, Some, None, find, filter, refl, sym, ap, ap₂, ◌∙◌, subst, arith}
-use Rattle.std.specs.Prelude.{is_none, option_map, nat_le}
+-- What is read of a record: an unfragmented datagram, a fragment, or a fragment that completes a datagram.
+use Rattle.std.proofs.Common.{◌≡◌, Bool, true, false, cond, ◌&&◌, List, ◌∷◌, ◌++◌, Option, Some, None, find, filter, refl, sym, ap, ap₂, ◌∙◌, subst, arith, append-nil, append_assoc, is_none, option_map, nat_le, []}
 use Rattle.std.specs.Option.{option_or}
-use Rattle.std.proofs.lemmas.Bool.{eqb-true}
-use Rattle.std.proofs.lemmas.List.{append-nil, append_assoc}
-use Rattle.std.proofs.lemmas.List.Folds.{find-append}
 use Rattle.std.proofs.lemmas.List.Elements.{filter-append}
 use Rattle.wire_base.specs.declared.address.Link.{Link}
 use Rattle.wire_base.specs.declared.address.Side.{Side}
-use Rattle.wire_base.specs.declared.address.Side.TheVariants.{Inward, Outward}
 use Rattle.wire_base.specs.Ipv4 as ip
 use Rattle.wire_base.specs.Frames.{packet_in}
 use Rattle.icmp_codec.specs.Quote.{quoted_in}
-use Rattle.ipv4_codec.specs.declared.header.Ipv4.{Ipv4}
 use Rattle.ipv4_codec.specs.Header.{fields_of}
 use Rattle.pcap_file.specs.Records.{Packet}
 use Rattle.rule_book.specs.declared.rule.Rule.{Rule}
 use Rattle.rule_book.specs.declared.rule.Rule.TheVariants as rules
-use Rattle.rule_book.specs.Rules.{datagram_rows, drop_rows, era_rows, fragment_rows, segment_rows, step_rows}
+use Rattle.rule_book.specs.Rules.{segment_rows}
 use Rattle.norm_settings.specs.Settings.{PlainSettings}
-use Rattle.ip_rules.specs.Datagrams.{Datagram, datagram_of, datagram_in, goes_in}
-use Rattle.ip_rules.specs.Rows.{carries_ip, side_in, is_inward, holds_in, holds_ip, ip_drop_rows, whole_fix_rows, piece_fix_rows, ip_dropped_by, ip_fixes}
+use Rattle.ip_rules.specs.Datagrams.{Datagram, datagram_of, datagram_in}
+use Rattle.ip_rules.specs.Rows.{carries_ip, side_in, is_inward, holds_in, holds_ip, whole_fix_rows, piece_fix_rows, ip_dropped_by, ip_fixes}
 use Rattle.ip_rules.specs.Judged.{where_holds}
-use Rattle.ip_rules.proofs.Undropped.{made_by}
+use Rattle.ip_rules.proofs.Datagrams.{made_by, inward_is}
 use Rattle.dgram_rules.specs.Rows.{holds_dgram, dgram_dropped_by}
 use Rattle.dgram_rules.proofs.Telling.{others_have_none}
 use Rattle.tcp_norm.specs.Calls.{Call}
-use Rattle.tcp_norm.specs.Views.{View, view_of}
+use Rattle.tcp_norm.specs.Views.{view_of}
 use Rattle.tcp_norm.specs.Rows as era
 use Rattle.reassembly.specs.Pieces.{Fragment, is_whole, whole_of, datagram_octets}
 use Rattle.reassembly.specs.Rows as fragments
 use Rattle.reassembly.specs.Calls as reassembly
-use Rattle.reassembly.proofs.Rules.{first_row_drops}
 use Rattle.norm_engine.specs.Rows.{side_of_record, is_tcp, holds_tcp, is_segment}
 use Rattle.norm_engine.specs.Fragments.{Offering, fragment_with, fragment_in, offering_of, offering_in, holds_offered, pieces_with, completes, i_ttl, head_of_whole, datagram_made, joined_in}
 use Rattle.norm_engine.specs.Calls.{Past, where_passes, datagram_by}
-use Rattle.norm_engine.specs.Trace.{Read, is_quoted_live, is_held, holds, drops, dropped_by, noted_rows, named_rows}
-use Rattle.norm_engine.specs.Engine.{datagram_row, read_with}
-use Rattle.norm_engine.proofs.Stepping.{AreOfEra}
+use Rattle.norm_engine.specs.Trace.{Read, is_quoted_live, is_held}
+use Rattle.norm_engine.specs.Engine.{read_with}
+use Rattle.ipv4_codec.specs.declared.header.Ipv4.{Ipv4}
 
 -- the rules of each layer, of what was read
 
@@ -86,129 +79,6 @@ abbrev pub notes_of_era : PlainSettings → List Call → Option Datagram → Li
 notes_of_era settings calls None = []
 notes_of_era settings calls (Some d) = era.noted (view_of settings calls d) d
 
--- the drop rules, layer by layer
-drop_layers : drop_rows ≡ ip_drop_rows ++ fragment_rows ++ datagram_rows ++ segment_rows ++ era_rows
-drop_layers = refl
-
--- no rule on connections that drops holds of an outbound segment
-outward_by : (settings : PlainSettings) (v : View) (live : Option ℕ) (head : Ipv4) (header octets : List ℕ) (fixes : List Rule)
-    → let d : Datagram = record { side = Outward; head = head; header = header; octets = octets; fixes = fixes } in
-    find (λ rule. era.holds_era settings (record v { era = live }) d rule) (rules.TCold ∷ rules.TState ∷ rules.TSyn ∷ rules.TRst ∷ rules.TQuota ∷ rules.TRoom ∷ []) ≡ None
-outward_by settings v None head header octets fixes = refl
-outward_by settings v (Some era) head header octets fixes = refl
-
-module _ (settings : PlainSettings) (link : Link) (r : Packet) where
-  ip_layer : (read : Read) → find (drops settings link read r) ip_drop_rows ≡ ip_dropped_by settings link r
-  unfolding ip_dropped_by
-  ip_layer read = refl
-
-  fragment_layer : (read : Read) → find (drops settings link read r) fragment_rows ≡ row_of_piece read.piece
-  fragment_layer read = by read.piece
-    where
-      by : (piece : Option Offering) → find (drops settings link (record read { piece = piece }) r) fragment_rows ≡ row_of_piece piece
-      by None = refl
-      by (Some o) = sym (first_row_drops o.view o.piece)
-
-  datagram_layer : (read : Read) → find (drops settings link read r) datagram_rows ≡ row_of_datagram settings read.past.calls read.datagram
-  unfolding dgram_dropped_by
-  datagram_layer read = by read.datagram
-    where
-      by : (datagram : Option Datagram) → find (drops settings link (record read { datagram = datagram }) r) datagram_rows ≡ row_of_datagram settings read.past.calls datagram
-      by None = refl
-      by (Some d) = refl
-
-  header_layer : (read : Read) → find (drops settings link read r) segment_rows ≡ row_of_header settings read.datagram
-  header_layer read = by read.datagram
-    where
-      by : (datagram : Option Datagram) → find (drops settings link (record read { datagram = datagram }) r) segment_rows ≡ row_of_header settings datagram
-      by None = refl
-      by (Some d) = refl
-
-  era_layer : (read : Read) → find (drops settings link read r) era_rows ≡ row_of_era settings read.past.calls read.segment
-  era_layer read = by read.segment
-    where
-      of : (d : Datagram) (side : Side) → let e : Datagram = record d { side = side } in
-          find (drops settings link (record read { segment = Some e }) r) era_rows ≡ era.dropped_by settings (view_of settings read.past.calls e) e
-      of d Inward = refl
-      of d Outward =
-          let v = view_of settings read.past.calls (record d { side = Outward }) in
-          outward_by settings v v.era d.head d.header d.octets d.fixes
-
-      by : (segment : Option Datagram) → find (drops settings link (record read { segment = segment }) r) era_rows ≡ row_of_era settings read.past.calls segment
-      by None = refl
-      by (Some d) = of d d.side
-
-  -- the rule that drops a record is the first of these
-  pub dropped_by_layers : (read : Read) → dropped_by settings link read r
-      ≡ option_or (ip_dropped_by settings link r) (option_or (row_of_piece read.piece) (option_or (row_of_datagram settings read.past.calls read.datagram)
-      (option_or (row_of_header settings read.datagram) (row_of_era settings read.past.calls read.segment))))
-  unfolding dropped_by
-  dropped_by_layers read =
-      let F = drops settings link read r in
-      ap (find F) drop_layers
-      ∙ (find-append F ip_drop_rows (fragment_rows ++ datagram_rows ++ segment_rows ++ era_rows)
-      ∙ ap₂ option_or (ip_layer read) (find-append F fragment_rows (datagram_rows ++ segment_rows ++ era_rows)
-      ∙ ap₂ option_or (fragment_layer read) (find-append F datagram_rows (segment_rows ++ era_rows)
-      ∙ ap₂ option_or (datagram_layer read) (find-append F segment_rows era_rows
-      ∙ ap₂ option_or (header_layer read) (era_layer read)))))
-
-  -- the note on it
-  pub noted_by_layers : (read : Read) → noted_rows settings link read r ≡ notes_of_era settings read.past.calls read.segment
-  unfolding noted_rows
-  noted_by_layers read = by read.segment
-    where
-      by : (segment : Option Datagram) → noted_rows settings link (record read { segment = segment }) r ≡ notes_of_era settings read.past.calls segment
-      by None = refl
-      by (Some d) = refl
-
-  ip_named : (read : Read) → filter (holds settings link read r) piece_fix_rows ≡ ip_fixes settings link r piece_fix_rows
-  unfolding ip_fixes
-  ip_named read = refl
-
-  life_named : (read : Read) → filter (holds settings link read r) (rules.ITtl ∷ []) ≡ mends_of_life settings read.datagram
-  life_named read = by read.datagram
-    where
-      by : (datagram : Option Datagram) → filter (holds settings link (record read { datagram = datagram }) r) (rules.ITtl ∷ []) ≡ mends_of_life settings datagram
-      by None = refl
-      by (Some d) = refl
-
-  piece_named : (read : Read) → filter (holds settings link read r) (rules.FHeld ∷ rules.FDone ∷ []) ≡ named_of_piece read.piece
-  piece_named read = by read.piece
-    where
-      by : (piece : Option Offering) → filter (holds settings link (record read { piece = piece }) r) (rules.FHeld ∷ rules.FDone ∷ []) ≡ named_of_piece piece
-      by None = refl
-      by (Some o) = refl
-
-  datagram_named : (read : Read) → filter (holds settings link read r) (rules.USumOut ∷ []) ≡ mends_of_datagram settings read.datagram
-  datagram_named read = by read.datagram
-    where
-      by : (datagram : Option Datagram) → filter (holds settings link (record read { datagram = datagram }) r) (rules.USumOut ∷ []) ≡ mends_of_datagram settings datagram
-      by None = refl
-      by (Some d) = refl
-
-  era_named : (read : Read) → filter (holds settings link read r) step_rows ≡ mends_of_era settings read.past.calls read.segment
-  era_named read = by read.segment
-    where
-      by : (segment : Option Datagram) → filter (holds settings link (record read { segment = segment }) r) step_rows ≡ mends_of_era settings read.past.calls segment
-      by None = refl
-      by (Some d) = refl
-
-  -- the rules that hold or rewrite it
-  pub named_by_layers : (read : Read)
-      → named_rows settings link read r
-      ≡ ip_fixes settings link r piece_fix_rows ++ (mends_of_life settings read.datagram ++ (named_of_piece read.piece ++ (mends_of_datagram settings read.datagram ++ mends_of_era settings read.past.calls read.segment)))
-  unfolding named_rows
-  named_by_layers read =
-      let F = holds settings link read r in
-      let life = rules.ITtl ∷ [] in
-      let piece = rules.FHeld ∷ rules.FDone ∷ [] in
-      let sum = rules.USumOut ∷ [] in
-      filter-append F piece_fix_rows (life ++ piece ++ sum ++ step_rows)
-      ∙ ap₂ (λ xs ys. xs ++ ys) (ip_named read) (filter-append F life (piece ++ sum ++ step_rows)
-      ∙ ap₂ (λ xs ys. xs ++ ys) (life_named read) (filter-append F piece (sum ++ step_rows)
-      ∙ ap₂ (λ xs ys. xs ++ ys) (piece_named read) (filter-append F sum step_rows
-      ∙ ap₂ (λ xs ys. xs ++ ys) (datagram_named read) (era_named read))))
-
 -- what is read of a record that carries an unfragmented datagram, which no rule on the link, the header and the protocol drops
 pub record IsCarried (settings : PlainSettings) (link : Link) (r : Packet) (d : Datagram) : Type 0 where
   pub undropped : ip_dropped_by settings link r ≡ None
@@ -225,10 +95,6 @@ carried_in settings link r d made =
     record { undropped = m.undropped; carried = m.carried; whole = m.whole; told = m.told_is ∙ ap Some side; is = sym (ap make side) ∙ m.made }
 
 -- the rules on the header and the lifetime are those of the packet
-pub inward_is : (side : Side) → is_inward (Some side) ≡ goes_in side
-inward_is Inward = refl
-inward_is Outward = refl
-
 life_is : (settings : PlainSettings) (link : Link) (r : Packet) (d : Datagram) → IsCarried settings link r d → holds_ip settings link r rules.ITtl ≡ i_ttl settings d
 life_is settings link r d c =
     let p = packet_in link r.octets in
@@ -379,9 +245,13 @@ made_of settings link past r d h = by (either_of settings link past.pieces r d h
     by (carried c) = carried_is_made settings link past r d h c
     by (joined j) = joined_is_made settings link past r d h j
 
-pub or_none : {A : Type 0} (x : Option A) → option_or x None ≡ x
-or_none None = refl
-or_none (Some x) = refl
+pub first_none : {A : Type 0} (one other : Option A) → option_or one other ≡ None → (one ≡ None) × (other ≡ None)
+first_none None other h = (refl, h)
+first_none (Some x) other h = absurd (cc)
+
+pub no_pass : (b : Bool) (d : Datagram) → cond b (Some d) None ≡ None → b ≡ false
+no_pass true d h = absurd (cc)
+no_pass false d h = refl
 
 -- what passes a test is a datagram of which it holds
 pub passes : (test : Datagram → Bool) (o : Option Datagram) (d : Datagram) → where_passes test o ≡ Some d → (o ≡ Some d) × (test d ≡ true)
@@ -406,80 +276,3 @@ pub no_row_on_tcp : (settings : PlainSettings) (live : Bool) (d : Datagram) → 
 no_row_on_tcp settings live d six =
     let none = others_have_none settings live d (λ e. let both = sym six ∙ e in omega (arith, both)) (λ e. let both = sym six ∙ e in omega (arith, both)) in
     (none.0, none.1 rules.USumOut)
-
-module _ (settings : PlainSettings) (link : Link) (past : Past) (r : Packet) where
-  abbrev read : Read
-  read = read_with settings link past r
-
-  -- a record without datagram
-  pub bare_row : datagram_by settings link past.pieces r ≡ None → dropped_by settings link read r ≡ option_or (ip_dropped_by settings link r) (row_of_piece read.piece)
-  bare_row none =
-      dropped_by_layers settings link r read
-      ∙ ((λ i. option_or (ip_dropped_by settings link r) (option_or (row_of_piece read.piece) (option_or (row_of_datagram settings past.calls (none i))
-      (option_or (row_of_header settings (none i)) (row_of_era settings past.calls (where_passes (is_segment settings) (none i)))))))
-      ∙ ap (option_or (ip_dropped_by settings link r)) (or_none (row_of_piece read.piece)))
-
-  pub bare_named : datagram_by settings link past.pieces r ≡ None → named_rows settings link read r ≡ ip_fixes settings link r piece_fix_rows ++ named_of_piece read.piece
-  bare_named none =
-      named_by_layers settings link r read
-      ∙ ((λ i. ip_fixes settings link r piece_fix_rows ++ (mends_of_life settings (none i) ++ (named_of_piece read.piece
-      ++ (mends_of_datagram settings (none i) ++ mends_of_era settings past.calls (where_passes (is_segment settings) (none i))))))
-      ∙ ap (λ xs. ip_fixes settings link r piece_fix_rows ++ xs) (append-nil (named_of_piece read.piece)))
-
-  -- the rules that rewrite a datagram before those after them
-  fixes_first : (d : Datagram) (rest : List Rule) → IsMade settings link read r d
-      → ip_fixes settings link r piece_fix_rows ++ (mends_of_life settings (Some d) ++ (named_of_piece read.piece ++ rest)) ≡ d.fixes ++ rest
-  fixes_first d rest m =
-      let fixes = ip_fixes settings link r piece_fix_rows in
-      let life = where_holds (i_ttl settings d) rules.ITtl in
-      sym (ap (λ xs. fixes ++ xs) (append_assoc life (named_of_piece read.piece) rest)) ∙ (sym (append_assoc fixes (life ++ named_of_piece read.piece) rest) ∙ ap (λ xs. xs ++ rest) m.fixes)
-
-  -- a datagram that is not a segment: its rule is the first on the datagram and its header
-  no_segment : (d : Datagram) → IsMade settings link read r d → is_segment settings d ≡ false → read.segment ≡ None
-  no_segment d m other = ap (where_passes (is_segment settings)) m.datagram ∙ ap (λ b. cond b (Some d) None) other
-
-  pub datagram_row_is : (d : Datagram) → IsMade settings link read r d → is_segment settings d ≡ false
-      → dropped_by settings link read r ≡ datagram_row settings (is_quoted_live past.calls (quoted_in d.octets)) d
-  datagram_row_is d m other =
-      let none = no_segment d m other in
-      let header = find (holds_tcp settings d) segment_rows in
-      dropped_by_layers settings link r read
-      ∙ ((λ i. option_or (m.undropped i) (option_or (m.stays i) (option_or (row_of_datagram settings past.calls (m.datagram i))
-      (option_or (row_of_header settings (m.datagram i)) (row_of_era settings past.calls (none i))))))
-      ∙ ap (option_or (row_of_datagram settings past.calls (Some d))) (or_none header))
-
-  pub datagram_named_is : (d : Datagram) → IsMade settings link read r d → is_segment settings d ≡ false
-      → named_rows settings link read r ≡ d.fixes ++ where_holds (holds_dgram settings false d rules.USumOut) rules.USumOut
-  datagram_named_is d m other =
-      let none = no_segment d m other in
-      let sum = mends_of_datagram settings (Some d) in
-      named_by_layers settings link r read
-      ∙ ((λ i. ip_fixes settings link r piece_fix_rows ++ (mends_of_life settings (m.datagram i) ++ (named_of_piece read.piece
-      ++ (mends_of_datagram settings (m.datagram i) ++ mends_of_era settings past.calls (none i)))))
-      ∙ (fixes_first d (sum ++ []) m ∙ ap (λ xs. d.fixes ++ xs) (append-nil sum)))
-
-  -- a segment: its rules are those of its connection
-  pub segment_rows_are : (d : Datagram) → read.segment ≡ Some d → AreOfEra settings link read r d
-  segment_rows_are d segment =
-      let p = passes (is_segment settings) (datagram_by settings link past.pieces r) d segment in
-      let m = made_of settings link past r d p.0 in
-      let tests = segment_tests settings d p.1 in
-      let six = eqb-true d.head.protocol 6 tests.0 in
-      let row = (no_row_on_tcp settings (is_quoted_live past.calls (quoted_in d.octets)) d six).0 in
-      let sum = (no_row_on_tcp settings false d six).1 in
-      let era_row = row_of_era settings past.calls (Some d) in
-      let mends = mends_of_era settings past.calls (Some d) in
-      record {
-        segment = segment;
-        held = m.held;
-        dropped = dropped_by_layers settings link r read
-            ∙ ((λ i. option_or (m.undropped i) (option_or (m.stays i) (option_or (row_of_datagram settings past.calls (m.datagram i))
-            (option_or (row_of_header settings (m.datagram i)) (row_of_era settings past.calls (segment i))))))
-            ∙ (λ i. option_or (row i) (option_or (tests.1 i) era_row)));
-        noted = noted_by_layers settings link r read ∙ ap (notes_of_era settings past.calls) segment;
-        named = named_by_layers settings link r read
-            ∙ ((λ i. ip_fixes settings link r piece_fix_rows ++ (mends_of_life settings (m.datagram i) ++ (named_of_piece read.piece
-            ++ (mends_of_datagram settings (m.datagram i) ++ mends_of_era settings past.calls (segment i)))))
-            ∙ (fixes_first d (mends_of_datagram settings (Some d) ++ mends) m
-            ∙ ap (λ b. d.fixes ++ (where_holds b rules.USumOut ++ mends)) sum));
-      }
