@@ -1,5 +1,5 @@
 use Rattle.emit_mtu.specs.Frames.{AreOctets}
-use Rattle.both_sides.proofs.Cutting.{all_more}
+use Rattle.both_sides.proofs.Outputs.{all_more}
 use Rattle.both_sides.proofs.cut.frames_have_octets.Goals as goal
 
 pub loop-index-preserved : goal.loop-index-preserved

@@ -1,6 +1,6 @@
 use Rattle.std.proofs.Common.{rules}
 use Rattle.pcap_file.specs.Reads.{shown}
-use Rattle.both_sides.proofs.Cutting.{octets_more, octets_part, some_written, sum_few, tells_more}
+use Rattle.both_sides.proofs.Outputs.{octets_more, octets_part, some_written, sum_few, tells_more}
 use Rattle.both_sides.proofs.cut.write_cut.Goals as goal
 
 pub returns-in_default-clause-octets : goal.returns-in_default-clause-octets

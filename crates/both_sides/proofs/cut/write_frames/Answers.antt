@@ -1,6 +1,5 @@
 use Rattle.pcap_file.specs.Reads.{shown}
-use Rattle.both_sides.proofs.Outputs.{part_of}
-use Rattle.both_sides.proofs.Writing.{part_of_frames}
+use Rattle.both_sides.proofs.Outputs.{part_of, part_of_frames}
 use Rattle.both_sides.proofs.cut.write_frames.Goals as goal
 
 pub returns-then-is_err-clause-octets : goal.returns-then-is_err-clause-octets

@@ -1,7 +1,6 @@
 use Rattle.std.proofs.Common.{rules, [], None, refl, sym, arith}
 use Rattle.std.proofs.KnownBytes.{Appends-nil}
-use Rattle.both_sides.proofs.Outputs.{part_of, whole_of}
-use Rattle.both_sides.proofs.Cutting.{segment_counted, segment_more, segment_part}
+use Rattle.both_sides.proofs.Outputs.{part_of, whole_of, segment_counted, segment_more, segment_part}
 use Rattle.both_sides.proofs.cut.write_segments.Goals as goal
 
 pub loop-size-init : goal.loop-size-init

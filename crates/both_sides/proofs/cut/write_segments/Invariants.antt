@@ -1,7 +1,7 @@
 use Rattle.std.proofs.Common.{◌≡◌, length}
 use Rattle.pcap_file.specs.Reads.{shown}
 use Rattle.emit_mtu.specs.Segments.{segments}
-use Rattle.both_sides.proofs.Cutting.{CutSoFar}
+use Rattle.both_sides.proofs.Outputs.{CutSoFar}
 use Rattle.both_sides.proofs.cut.write_segments.Given as goal
 
 abbrev pub invariant-loop-size : goal.invariant-loop-size

@@ -1,6 +1,5 @@
 use Rattle.both_sides.specs.Traces.{mirrored}
-use Rattle.both_sides.proofs.Inwards.{FrameLaws, frames_relay}
-use Rattle.both_sides.proofs.Relaying.{goes_through}
+use Rattle.both_sides.proofs.FirstEngine.{FrameLaws, frames_relay, goes_through}
 use Rattle.both_sides.proofs.laws.frames_go_through.Goals as goal
 
 pub returns : goal.returns

@@ -1,5 +1,5 @@
-use Rattle.both_sides.proofs.Sending.{plain_written, short_written}
-use Rattle.both_sides.proofs.Writtens.{StreamLaws, agree_as_written, always_misses, clean_written, each_goes, none_long}
+use Rattle.both_sides.proofs.Frames.{plain_written, short_written, clean_written, each_goes, none_long}
+use Rattle.both_sides.proofs.Receivers.{StreamLaws, agree_as_written, always_misses}
 use Rattle.both_sides.proofs.laws.lawful_is_written_soundly.Goals as goal
 
 pub returns : goal.returns

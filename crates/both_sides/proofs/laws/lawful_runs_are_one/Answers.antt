@@ -1,4 +1,4 @@
-use Rattle.both_sides.proofs.Mirrors.{runs_one}
+use Rattle.both_sides.proofs.Runs.{runs_one}
 use Rattle.both_sides.proofs.laws.lawful_runs_are_one.Goals as goal
 
 pub returns : goal.returns

@@ -1,4 +1,4 @@
-use Rattle.both_sides.proofs.RelayStanding.{soundly}
+use Rattle.both_sides.proofs.Runs.{soundly}
 use Rattle.both_sides.proofs.laws.runs_are_written_soundly.Goals as goal
 
 pub returns : goal.returns

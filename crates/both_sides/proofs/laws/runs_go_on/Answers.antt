@@ -1,5 +1,5 @@
 use Rattle.std.proofs.Common.{refl}
-use Rattle.both_sides.proofs.Going.{begun, goes_on}
+use Rattle.both_sides.proofs.Runs.{begun, goes_on}
 use Rattle.both_sides.proofs.laws.runs_go_on.Goals as goal
 
 pub returns-clause-begin : goal.returns-clause-begin

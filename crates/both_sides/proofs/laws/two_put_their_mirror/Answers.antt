@@ -1,4 +1,4 @@
-use Rattle.both_sides.proofs.Mirrors.{puts_mirror}
+use Rattle.both_sides.proofs.Runs.{puts_mirror}
 use Rattle.both_sides.proofs.laws.two_put_their_mirror.Goals as goal
 
 pub returns : goal.returns

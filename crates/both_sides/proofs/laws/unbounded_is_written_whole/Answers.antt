@@ -1,4 +1,4 @@
-use Rattle.both_sides.proofs.Writtens.{agrees_whole, misses_whole, written_whole}
+use Rattle.both_sides.proofs.Frames.{agrees_whole, misses_whole, written_whole}
 use Rattle.both_sides.proofs.laws.unbounded_is_written_whole.Goals as goal
 
 pub returns-clause-whole : goal.returns-clause-whole

@@ -1,6 +1,6 @@
 use Rattle.std.proofs.Common.{◌<◌, length, refl, arith}
 use Rattle.rule_book.specs.Entries.{plain}
-use Rattle.both_sides.proofs.Answering.{next_had, one_left}
+use Rattle.both_sides.proofs.TwoEngines.{next_had, one_left}
 use Rattle.both_sides.proofs.two.answer_next.Goals as goal
 
 pub returns-clause-answered : goal.returns-clause-answered

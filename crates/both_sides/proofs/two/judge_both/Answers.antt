@@ -1,8 +1,7 @@
-use Rattle.std.proofs.Common.{◌∙◌}
-use Rattle.std.specs.Prelude.{option_map}
+use Rattle.std.proofs.Common.{◌∙◌, option_map}
 use Rattle.pcap_file.specs.Reads.{shown}
 use Rattle.rule_book.specs.Entries.{plain}
-use Rattle.both_sides.proofs.Answering.{judged}
+use Rattle.both_sides.proofs.TwoEngines.{judged}
 use Rattle.both_sides.proofs.two.judge_both.Goals as goal
 
 pub returns-clause-judged : goal.returns-clause-judged

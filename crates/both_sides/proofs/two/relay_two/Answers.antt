@@ -1,12 +1,10 @@
-use Rattle.std.proofs.Common.{◌<◌, ℕ, List, ◌++◌, length, rules, refl, ap, ap₂, subst, arith}
-use Rattle.std.proofs.lemmas.List.{length-append}
+use Rattle.std.proofs.Common.{◌<◌, ℕ, List, ◌++◌, length, rules, refl, ap, ap₂, subst, arith, length-append}
 use Rattle.std.specs.Io.KnownBytes.{Appends}
 use Rattle.edge_io.specs.Octets.{AppendsPart}
 use Rattle.pcap_file.specs.Reads.{shown}
 use Rattle.rule_book.specs.Text.{entry_text}
 use Rattle.both_sides.specs.Frames.{frame_octets}
-use Rattle.both_sides.proofs.Outputs.{part_of, whole_of, capture_broke, given_both, report_broke}
-use Rattle.both_sides.proofs.Writing.{frames_some, if_failed}
+use Rattle.both_sides.proofs.Outputs.{part_of, whole_of, capture_broke, given_both, report_broke, frames_some, if_failed}
 use Rattle.both_sides.proofs.two.relay_two.Goals as goal
 
 pub write_told-requires-clause-own : goal.write_told-requires-clause-own

@@ -2,8 +2,7 @@ use Rattle.std.proofs.Common.{sym, subst}
 use Rattle.edge_io.specs.Octets.{AppendsPart, Puts}
 use Rattle.edge_io.proofs.Parts.{part_of_first}
 use Rattle.pcap_file.specs.Reads.{shown}
-use Rattle.both_sides.proofs.Outputs.{on_err_weaker, part_of, puts_behind, whole_of}
-use Rattle.both_sides.proofs.Writing.{frames_append, if_failed, some_behind, some_first}
+use Rattle.both_sides.proofs.Outputs.{on_err_weaker, part_of, puts_behind, whole_of, frames_append, if_failed, some_behind, some_first}
 use Rattle.both_sides.proofs.two.write_both.Goals as goal
 
 pub returns-then-is_err-clause-octets : goal.returns-then-is_err-clause-octets

@@ -5,7 +5,7 @@ use Rattle.norm_engine.specs.Items.{Item}
 use Rattle.norm_engine.specs.Trace.{item_of}
 use Rattle.both_sides.specs.Traces.{records_for}
 use Rattle.both_sides.specs.Both.{Joined, StandsFor, joined}
-use Rattle.both_sides.proofs.Standing.{Steps, front_pending, front_given, front_bounds}
+use Rattle.both_sides.proofs.TwoEngines.{Steps, front_pending, front_given, front_bounds}
 use Rattle.both_sides.proofs.both.Both.front.Goals as goal
 
 pub invariant_of-self : goal.invariant_of-self

@@ -2,7 +2,7 @@ use Rattle.std.proofs.Common.{◌≡◌, sym, subst, ap₂}
 use Rattle.std.proofs.Math.Logic.{∥∥₁_map}
 use Rattle.norm_engine.specs.Engine.{Engaged}
 use Rattle.both_sides.specs.Both.{Joined, StandsForSome, IsWithin, joined}
-use Rattle.both_sides.proofs.Standing.{on_link, some_on_link}
+use Rattle.both_sides.proofs.TwoEngines.{on_link, some_on_link}
 use Rattle.both_sides.proofs.both.Both.set_link.Goals as goal
 
 pub invariant_of-self : goal.invariant_of-self

@@ -4,7 +4,7 @@ use Rattle.both_sides.specs.declared.engines.Engines.{Engines}
 use Rattle.both_sides.specs.declared.engines.Engines.TheVariants.{One, Two}
 use Rattle.both_sides.specs.Relays.{IsKept, StandsForRun, link_of, settings_of}
 use Rattle.both_sides.specs.Runs.{RunHasOctets, RunTrace, next_run}
-use Rattle.both_sides.proofs.RelayStanding.{can_read, kept_one, kept_two, octets_one, octets_two, stands_one, stands_two, written_along, written_one, written_two}
+use Rattle.both_sides.proofs.Runs.{can_read, kept_one, kept_two, octets_one, octets_two, stands_one, stands_two, written_along, written_one, written_two}
 use Rattle.both_sides.proofs.relay.Relay.relay.Goals as goal
 
 pub relay_one-requires-clause-ready : goal.relay_one-requires-clause-ready

@@ -1,13 +1,11 @@
 -- No rule of the second engine drops or changes a plain packet that the first passed inwards, or a frame of ARP.
-use Rattle.std.proofs.Common.{◌≡◌, ℕ, ◌<◌, ◌≤◌, ◌⊎◌, inl, inr, ◌&&◌, ◌||◌, ◌==◌, not, nat_lt, nat_le, Bool, true, false, cond, List, [], ◌∷◌, ◌++◌, length, take, drop, Option, Some, None, is_none, is_some, find, filter, refl, sym, ap, ap₂, ◌∙◌, subst, arith, eq-eqb, le-ltb}
-use Rattle.std.specs.Prelude.{option_map}
+use Rattle.std.proofs.Common.{◌≡◌, ℕ, ◌&&◌, ◌||◌, ◌==◌, not, Bool, true, false, cond, List, [], ◌∷◌, Option, Some, None, find, filter, refl, sym, ap, ◌∙◌, ◌⊎◌, inl, inr, nat_lt, nat_le, ◌++◌, length, take, drop, is_none, ap₂, subst, eq-eqb, le-ltb, eqb-true, option_map}
+use Rattle.std.specs.List.{AllByRecursion}
 use Rattle.std.specs.Option.{option_or}
-use Rattle.std.specs.List.{AllByRecursion, list_any}
 use Rattle.std.proofs.Math.Nat.{le_refl}
-use Rattle.std.proofs.lemmas.Bool.{eqb-true}
 use Rattle.std.proofs.lemmas.List.{drop-take}
+use Rattle.std.proofs.lemmas.Bool.{and_right, or_from}
 use Rattle.wire_base.specs.declared.address.Link.{Link}
-use Rattle.wire_base.specs.declared.address.Side.{Side}
 use Rattle.wire_base.specs.declared.address.Side.TheVariants.{Inward, Outward}
 use Rattle.wire_base.specs.Ipv4 as ip
 use Rattle.wire_base.specs.Udp as udp
@@ -15,7 +13,7 @@ use Rattle.wire_base.specs.Icmp as icmp
 use Rattle.wire_base.specs.Tcp as tcp
 use Rattle.wire_base.specs.Options.{are_well_formed, has_route}
 use Rattle.wire_base.specs.Sums.{sum_is_right, pseudo_sum}
-use Rattle.wire_base.specs.Plain.{Plain, IsPlainHeader, IsPlainMessage, IsPlainIcmp, IsPlainUdp, IsPlainTcp}
+use Rattle.wire_base.specs.Plain.{Plain}
 use Rattle.wire_base.specs.Frames.{packet_in}
 use Rattle.ipv4_codec.specs.declared.header.Ipv4.{Ipv4}
 use Rattle.icmp_codec.specs.Quote.{quoted_in}
@@ -27,20 +25,40 @@ use Rattle.norm_settings.specs.Settings.{PlainSettings}
 use Rattle.norm_settings.specs.Side.{is_listed, side_by}
 use Rattle.ip_rules.specs.Rows.{carries_ip, carries_arp, i_dst, i_src, side_in, is_inward, holds_ip, holds_in, packet_drop_rows, ip_drop_rows, whole_fix_rows, piece_fix_rows, ip_dropped_by, ip_fixes, l_short, l_type}
 use Rattle.ip_rules.specs.Datagrams.{Datagram, datagram_of, datagram_in}
-use Rattle.dgram_rules.specs.Rows.{pseudo_of, has_wrong_sum, is_offloaded, is_error, is_query, holds_dgram, dgram_dropped_by, u_short, u_len, u_sum, u_sum_out, m_short, m_sum, m_type}
+use Rattle.dgram_rules.specs.Rows.{pseudo_of, has_wrong_sum, is_offloaded, is_error, is_query, holds_dgram, dgram_dropped_by, u_sum_out}
 use Rattle.tcp_norm.specs.Calls.{Call}
 use Rattle.tcp_norm.specs.Views.{View, view_of}
 use Rattle.tcp_norm.specs.Rows as era
 use Rattle.norm_engine.specs.Items.{Item}
-use Rattle.norm_engine.specs.Rows.{is_tcp, is_segment, holds_tcp, t_short, t_hlen, t_sum, t_flags, t_opt_bad}
-use Rattle.norm_engine.specs.Fragments.{fragment_in, offering_of, offering_in, pieces_before, joined_in, holds_offered}
+use Rattle.norm_engine.specs.Rows.{is_tcp, is_segment, holds_tcp}
+use Rattle.norm_engine.specs.Fragments.{offering_of, pieces_before, joined_in, holds_offered}
 use Rattle.norm_engine.specs.Calls.{past_of, where_passes}
 use Rattle.norm_engine.specs.Trace.{Read, read_after, is_held, dropped_by, named_rows, is_quoted_live}
-use Rattle.norm_engine.specs.Clean.{is_clean}
-use Rattle.norm_engine.proofs.Joining.{row_of_piece, row_of_datagram, row_of_header, row_of_era, mends_of_life, named_of_piece, mends_of_datagram, mends_of_era, dropped_by_layers, named_by_layers, carried_in, no_fragment}
-use Rattle.norm_engine.proofs.Judging.{arp_passes}
+use Rattle.norm_engine.proofs.Datagrams.{row_of_piece, row_of_datagram, row_of_header, row_of_era, mends_of_life, named_of_piece, mends_of_datagram, mends_of_era, carried_in, no_fragment}
+use Rattle.norm_engine.proofs.Layers.{dropped_by_layers, named_by_layers}
+use Rattle.norm_engine.proofs.Judgments.{arp_passes}
 use Rattle.both_sides.specs.Traces.{mirrored, record_of}
-use Rattle.both_sides.proofs.Facts.{second_fails, neither, row_of, not_found, not_named}
+
+-- Consequences of tests, and lists whose elements all fail one.
+
+-- a rule for one number, which fails if the number is this one
+pub row_of : (n k : ℕ) (row : Bool) → (n ≡ k → row ≡ false) → ((n == k) && row) ≡ false
+row_of n k row fails = by (n == k) refl
+  where
+    by : (same : Bool) → (n == k) ≡ same → (same && row) ≡ false
+    by true is = fails (eqb-true n k is)
+    by false is = refl
+
+-- none is found, and none is named, if all fail
+pub not_found : {X : Type 0} (test : X → Bool) (xs : List X) → AllByRecursion (λ x. test x ≡ false) xs → find test xs ≡ None
+not_found test [] all = refl
+not_found test (x ∷ xs) all = ap (λ b. cond b (Some x) (find test xs)) all.0 ∙ not_found test xs all.1
+
+pub not_named : {X : Type 0} (test : X → Bool) (xs : List X) → AllByRecursion (λ x. test x ≡ false) xs → filter test xs ≡ []
+not_named test [] all = refl
+not_named test (x ∷ xs) all = ap (λ b. cond b (x ∷ filter test xs) (filter test xs)) all.0 ∙ not_named test xs all.1
+
+-- No rule of the second engine drops or changes a plain packet that the first passed inwards, or a frame of ARP.
 
 -- a frame that the first engine writes inwards: a plain packet, whose addresses and kind of message no rule drops
 pub record IsRelayed (settings : PlainSettings) (link : Link) (frame : List ℕ) : Type 0 where
@@ -112,15 +130,15 @@ module _ (settings : PlainSettings) (link : Link) (seconds fraction : ℕ) (fram
   options = ap (λ n. drop 20 (take n p)) is.plain.header.header_length ∙ drop-take 20 0 p
 
   part : ip.is_fragment p ≡ false
-  part = neither (ip.has_more_fragments p) (nat_lt 0 (ip.fragment_offset p)) is.plain.header.more_fragments (ap (nat_lt 0) is.plain.header.fragment_offset)
+  part = or_from (ip.has_more_fragments p) (nat_lt 0 (ip.fragment_offset p)) is.plain.header.more_fragments (ap (nat_lt 0) is.plain.header.fragment_offset)
 
   -- no rule on the link, the header and the protocol holds
   ip_rows : AllByRecursion (λ rule. holds_ip s link r rule ≡ false) ip_drop_rows
   ip_rows =
       let h = is.plain.header in
-      let on : (row : Bool) → row ≡ false → (carries_ip link frame && row) ≡ false = second_fails (carries_ip link frame) in
-      let header = neither (nat_lt (ip.header_length p) 20) (nat_lt (length p) (ip.header_length p)) (ap (λ n. nat_lt n 20) h.header_length) (ap (nat_lt (length p)) h.header_length ∙ short) in
-      let length_row = neither (nat_lt (ip.total_length p) (ip.header_length p)) (nat_lt (length p) (ip.total_length p))
+      let on : (row : Bool) → row ≡ false → (carries_ip link frame && row) ≡ false = and_right (carries_ip link frame) in
+      let header = or_from (nat_lt (ip.header_length p) 20) (nat_lt (length p) (ip.header_length p)) (ap (λ n. nat_lt n 20) h.header_length) (ap (nat_lt (length p)) h.header_length ∙ short) in
+      let length_row = or_from (nat_lt (ip.total_length p) (ip.header_length p)) (nat_lt (length p) (ip.total_length p))
       (ap₂ nat_lt h.total_length h.header_length ∙ short) (ap (nat_lt (length p)) h.total_length ∙ le-ltb (length p) (length p) (le_refl (length p))) in (
         le-ltb (length frame) (length frame) (le_refl (length frame)),
         (
@@ -173,7 +191,7 @@ module _ (settings : PlainSettings) (link : Link) (seconds fraction : ℕ) (fram
   fix_rows : AllByRecursion (λ rule. holds_ip s link r rule ≡ false) whole_fix_rows
   fix_rows =
       let h = is.plain.header in
-      let on : (row : Bool) → row ≡ false → (carries_ip link frame && row) ≡ false = second_fails (carries_ip link frame) in (
+      let on : (row : Bool) → row ≡ false → (carries_ip link frame && row) ≡ false = and_right (carries_ip link frame) in (
         on _ total,
         (
           on _ (ap (nat_lt 20) h.header_length),
@@ -205,7 +223,7 @@ module _ (settings : PlainSettings) (link : Link) (seconds fraction : ℕ) (fram
     where
       by : (udp.checksum (ip.payload p) ≡ 0) ⊎ (sum_is_right (ip.payload p) (pseudo_of d) ≡ true) → has_wrong_sum d ≡ false
       by (inl e) = ap (λ n. not (n == 0) && not (sum_is_right (ip.payload p) (pseudo_of d))) e
-      by (inr e) = second_fails (not (udp.checksum (ip.payload p) == 0)) (not (sum_is_right (ip.payload p) (pseudo_of d))) (ap not e)
+      by (inr e) = and_right (not (udp.checksum (ip.payload p) == 0)) (not (sum_is_right (ip.payload p) (pseudo_of d))) (ap not e)
 
   dgram_rows : (live : Bool) → AllByRecursion (λ rule. holds_dgram s live d rule ≡ false) datagram_rows
   dgram_rows live =
@@ -239,7 +257,7 @@ module _ (settings : PlainSettings) (link : Link) (seconds fraction : ℕ) (fram
   passed live = not_found (holds_dgram s live d) datagram_rows (dgram_rows live)
 
   summed : holds_dgram s false d rules.USumOut ≡ false
-  summed = row_of (ip.protocol p) 17 (u_sum_out s d) (λ e. second_fails (is_offloaded s d) (has_wrong_sum d) (udp_sum e))
+  summed = row_of (ip.protocol p) 17 (u_sum_out s d) (λ e. and_right (is_offloaded s d) (has_wrong_sum d) (udp_sum e))
 
   header_rows : AllByRecursion (λ rule. holds_tcp s d rule ≡ false) segment_rows
   header_rows =
@@ -248,7 +266,7 @@ module _ (settings : PlainSettings) (link : Link) (seconds fraction : ℕ) (fram
       let size = length m in (
         on _ (λ e. le-ltb size 20 (is.plain.message.tcp e).whole_header),
         (
-          on _ (λ e. neither _ _ (le-ltb (tcp.header_length m) 20 (is.plain.message.tcp e).data_offset) (le-ltb size (tcp.header_length m) (is.plain.message.tcp e).inside)),
+          on _ (λ e. or_from _ _ (le-ltb (tcp.header_length m) 20 (is.plain.message.tcp e).data_offset) (le-ltb size (tcp.header_length m) (is.plain.message.tcp e).inside)),
           (
             on _ (λ e. ap (λ b. not b && not (is_offloaded s d)) (is.plain.message.tcp e).sum),
             (
@@ -279,7 +297,7 @@ module _ (settings : PlainSettings) (link : Link) (seconds fraction : ℕ) (fram
       let six : ip.protocol p ≡ 6 = eqb-true (ip.protocol p) 6 (is_six (is_tcp d) (is_none (find (holds_tcp s d) segment_rows)) h) in
       let right : sum_is_right (ip.payload p) (era.pseudo_of d) ≡ true =
       ap (λ n. sum_is_right (ip.payload p) (pseudo_sum (ip.source p) (ip.destination p) n (length (ip.payload p)))) (sym six) ∙ (is.plain.message.tcp six).sum in
-      second_fails settings.offload _ (ap not right)
+      and_right settings.offload _ (ap not right)
 
   era_mends : (calls : List Call) (segment : Bool) → is_segment s d ≡ segment → mends_of_era s calls (cond segment (Some d) None) ≡ []
   era_mends calls true h =
