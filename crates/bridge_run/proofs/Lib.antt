@@ -1,12 +1,6 @@
 pub mod Outputs
-pub mod Asking
-pub mod Going
-pub mod Running
-pub mod Reading
+pub mod Runs
 pub mod Statuses
-pub mod Telling
-pub mod Broken
-pub mod Rows
-pub mod Tallying
-pub mod Loading
-pub mod Messages
+pub mod Stops
+pub mod Tallies
+pub mod Loads

@@ -1,4 +1,4 @@
--- The status of a stop, and its consequences.
+-- The status of a stop: which fault, failed sink or record too many it means, and what the source had left.
 use Rattle.std.proofs.Common.{◌≡◌, ◌==◌, ℕ, ◌≤◌, true, false, List, length, Option, Some, None, refl, sym, ap, subst, ◌∙◌, arith, ◌⊎◌, inl, inr}
 use Rattle.edge_io.specs.Faults.{Rose}
 use Rattle.capture_input.specs.declared.fault.InputFault.{InputFault}
@@ -10,12 +10,18 @@ use Rattle.capture_input.specs.Reads.{StopsInHead}
 use Rattle.rule_book.specs.declared.last.StopKind.TheVariants as kinds
 use Rattle.norm_settings.specs.Settings.{PlainSettings}
 use Rattle.both_sides.specs.Runs.{packets_of}
+use Rattle.both_sides.specs.declared.fault.RelayFault.{RelayFault}
+use Rattle.both_sides.specs.declared.fault.RelayFault.TheVariants as sinks
+use Rattle.both_sides.specs.Sinks.{OnlyRose}
 use Rattle.bridge_run.specs.declared.stop.Stop.{Stop}
 use Rattle.bridge_run.specs.declared.stop.Stop.TheVariants as stops
-use Rattle.bridge_run.specs.Moments.{Moment}
+use Rattle.bridge_run.specs.Moments.{Moment, NoneRose}
 use Rattle.bridge_run.specs.Stops.{AreFew, BeginsTooMany, Faulted, FirstFault, fault_kind, kind_status, status_of, stop_at_fault, is_faulty, IsFaulty, IsCutShort, IsWhole, WasFaulty, WasCut, WasTooMany, WereFew}
 use Rattle.bridge_run.specs.Theorem.{Normalized}
-use Rattle.bridge_run.specs.Stopped.{Faulty, Stands, StopsAtTooMany}
+use Rattle.bridge_run.specs.Stopped.{Faulty, Stands, StopsAtTooMany, Unwritten}
+use Rattle.bridge_run.specs.Outputs.{stop_by}
+
+-- The status of a stop, and its consequences.
 
 -- the status of a fault of the input
 abbrev fault_status : InputFault → ℕ
@@ -58,16 +64,6 @@ is_3 faults.Link status e f = refl
 is_3 faults.Block status e f = refl
 is_3 faults.Long status e f = refl
 is_3 faults.Many status e f = refl
-
-is_4 : (fault : InputFault) (status : ℕ) → status ≡ fault_status fault → status ≡ 4 → fault ≡ faults.Cut
-is_4 faults.Cut status e f = refl
-is_4 faults.ReadFault status e f = absurd (omega (arith, e, f))
-is_4 faults.Magic status e f = absurd (omega (arith, e, f))
-is_4 faults.Version status e f = absurd (omega (arith, e, f))
-is_4 faults.Link status e f = absurd (omega (arith, e, f))
-is_4 faults.Block status e f = absurd (omega (arith, e, f))
-is_4 faults.Long status e f = absurd (omega (arith, e, f))
-is_4 faults.Many status e f = absurd (omega (arith, e, f))
 
 faulty_status : (fault : InputFault) → is_faulty fault ≡ true → fault_status fault ≡ 3
 faulty_status faults.Cut other = absurd cc
@@ -262,3 +258,34 @@ finished_or_faulty none all settings source source' c c' r r' n f =
 pub finished_or_cut : FaultExcludesEnd → (settings : PlainSettings) (source source' c c' r r' : Option (List ℕ)) → Normalized settings source source' c c' r r' → IsCutShort settings source → ⊥
 finished_or_cut none settings source source' c c' r r' n f =
     none settings.inside f.octets n.head _ faults.Cut f.offset (finished_input settings source source' c c' r r' f.octets n f.told) f.fails
+
+-- The stop at a fault of the input or a sink, and the state at it.
+
+-- the sinks
+
+pub stands_unwritten : (settings : PlainSettings) (stop : Stop) (fault : RelayFault) (offset : ℕ) (a c : Moment) → stop ≡ stop_by fault offset → Unwritten settings stop a c → Stands settings stop a c
+stands_unwritten settings stop sinks.Capture offset a c is p = subst (λ (s : Stop). Stands settings s a c) (sym is) (subst (λ (s : Stop). Unwritten settings s a c) is p)
+stands_unwritten settings stop sinks.Report offset a c is p = subst (λ (s : Stop). Stands settings s a c) (sym is) (subst (λ (s : Stop). Unwritten settings s a c) is p)
+
+-- the first fault is that of the sink that failed
+pub first_at_sink : (fault : RelayFault) (offset : ℕ) (a b c : Moment) → NoneRose a b → c.source.faults ≡ b.source.faults → OnlyRose fault b.sinks c.sinks → FirstFault (stop_by fault offset) a c
+first_at_sink sinks.Capture offset a b c none kept rose = record {
+  source = kept ∙ none.source;
+  sinks = record { capture = subst (λ n. Rose n c.sinks.capture.faults) none.sinks.capture rose.0; report = rose.1 ∙ none.sinks.report };
+}
+first_at_sink sinks.Report offset a b c none kept rose = record {
+  source = kept ∙ none.source;
+  sinks = record { capture = rose.0 ∙ none.sinks.capture; report = subst (λ n. Rose n c.sinks.report.faults) none.sinks.report rose.1 };
+}
+
+-- the input
+
+pub stands_faulty : (settings : PlainSettings) (fault : InputFault) (offset : ℕ) (a c : Moment) → Faulty settings fault offset a c → Stands settings (stop_at_fault fault offset) a c
+stands_faulty settings faults.Cut offset a c p = p
+stands_faulty settings faults.Magic offset a c p = p
+stands_faulty settings faults.Version offset a c p = p
+stands_faulty settings faults.Link offset a c p = p
+stands_faulty settings faults.Block offset a c p = p
+stands_faulty settings faults.Long offset a c p = p
+stands_faulty settings faults.Many offset a c p = inl p
+stands_faulty settings faults.ReadFault offset a c p = p

@@ -21,8 +21,9 @@ ReceiversAgree settings link (one trace) = AgreeAsWritten settings link trace
 ReceiversAgree settings link (two trace mirror) = Agree settings.hops link trace × Agree settings.hops link mirror × InwardGoesThrough trace mirror
 
 -- Before the first record and after each, and in each era with a base, a monitor that took every frame written inwards so far, kept each octet not yet read and
--- delivered all that it could misses nothing: the stream of each receiver of the family that starts at the same offset is a prefix of the monitor's. It took the
--- frames in the order in which they were written, whenever each arrived; or in any order, each in time. If both sides are protected, that holds of either side.
+-- the FIN, and delivered after each frame all that it could misses nothing: the stream of each receiver of the family that starts at the same offset and hears its
+-- frames in time is a prefix of the monitor's. It took the frames in the order in which they were written, whenever each arrived, from an offset of at most 2^31
+-- on; or in any order, each in time. If both sides are protected, that holds of either side.
 abbrev pub MonitorMissesNothing : PlainSettings → Link → RunTrace → Type 0
 MonitorMissesNothing settings link (one trace) = AtEachHistory (MissesNothingAsWritten settings link) trace
 MonitorMissesNothing settings link (two trace mirror) =

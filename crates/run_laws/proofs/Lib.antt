@@ -1,2 +1,2 @@
-pub mod Reading
-pub mod Auditing
+pub mod ReadBack
+pub mod Audits

@@ -1,5 +1,5 @@
 use Rattle.std.proofs.Common.{arith}
-use Rattle.bridge_run.proofs.Rows.{stopped_row}
+use Rattle.bridge_run.proofs.Stops.{stopped_row}
 use Rattle.bridge_run.proofs.laws.cut_inputs_leave_what_is_before.Goals as goal
 
 pub returns : goal.returns

@@ -1,5 +1,5 @@
 use Rattle.std.proofs.Common.{arith}
-use Rattle.bridge_run.proofs.Rows.{stopped_row}
+use Rattle.bridge_run.proofs.Stops.{stopped_row}
 use Rattle.bridge_run.proofs.laws.failed_outputs_leave_a_prefix.Goals as goal
 
 pub returns : goal.returns

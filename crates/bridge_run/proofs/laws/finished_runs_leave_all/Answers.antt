@@ -1,4 +1,4 @@
-use Rattle.bridge_run.proofs.Rows.{finished_row}
+use Rattle.bridge_run.proofs.Stops.{finished_row}
 use Rattle.bridge_run.proofs.laws.finished_runs_leave_all.Goals as goal
 
 pub returns : goal.returns

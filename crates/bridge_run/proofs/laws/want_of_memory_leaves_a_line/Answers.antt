@@ -1,4 +1,4 @@
-use Rattle.bridge_run.proofs.Rows.{wanting_row}
+use Rattle.bridge_run.proofs.Stops.{wanting_row}
 use Rattle.bridge_run.proofs.laws.want_of_memory_leaves_a_line.Goals as goal
 
 pub returns : goal.returns

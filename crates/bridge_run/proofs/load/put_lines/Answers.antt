@@ -2,8 +2,7 @@ use Rattle.std.proofs.Common.{subst}
 use Rattle.std.proofs.lemmas.Option.{slice_get-get_or}
 use Rattle.edge_io.specs.Octets.{AppendsPart}
 use Rattle.rule_book.specs.Loads.{load_text}
-use Rattle.both_sides.proofs.Outputs.{part_of}
-use Rattle.both_sides.proofs.Writing.{part_of_pieces}
+use Rattle.both_sides.proofs.Outputs.{part_of, part_of_pieces}
 use Rattle.bridge_run.proofs.load.put_lines.Goals as goal
 
 pub returns-then-is_err-clause-octets : goal.returns-then-is_err-clause-octets

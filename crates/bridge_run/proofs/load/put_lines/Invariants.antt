@@ -1,5 +1,4 @@
-use Rattle.std.proofs.Common.{◌≡◌, take}
-use Rattle.std.specs.List.{flat_map}
+use Rattle.std.proofs.Common.{◌≡◌, take, flat_map}
 use Rattle.std.specs.Io.KnownBytes.{Appends}
 use Rattle.rule_book.specs.Loads.{load_text}
 use Rattle.bridge_run.proofs.load.put_lines.Given as goal

@@ -1,7 +1,7 @@
 use Rattle.std.proofs.Common.{rules, arith}
 use Rattle.pcap_file.specs.Reads.{shown}
 use Rattle.rule_book.specs.Entries.{plain}
-use Rattle.bridge_run.proofs.Loading.{goes_on, counted_few, falls, tallied}
+use Rattle.bridge_run.proofs.Loads.{goes_on, counted_few, falls, tallied}
 use Rattle.bridge_run.proofs.load.tally_of.Goals as goal
 
 pub step-entry-requires : goal.step-entry-requires

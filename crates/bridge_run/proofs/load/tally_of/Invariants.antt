@@ -1,5 +1,5 @@
 use Rattle.std.proofs.Common.{◌≤◌, ◌-◌, length}
-use Rattle.bridge_run.proofs.Loading.{Going}
+use Rattle.bridge_run.proofs.Loads.{Going}
 use Rattle.bridge_run.proofs.load.tally_of.Given as goal
 
 abbrev pub invariant-loop-record : goal.invariant-loop-record

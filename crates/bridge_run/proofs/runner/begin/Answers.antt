@@ -12,7 +12,7 @@ use Rattle.bridge_run.specs.Moments.{Moment, moment_of}
 use Rattle.bridge_run.specs.Outputs.{first_outputs}
 use Rattle.bridge_run.specs.Stopped.{StopsAtHead}
 use Rattle.bridge_run.proofs.Outputs.{first_broke, given_first, capture_broke, broke_behind, head_some}
-use Rattle.bridge_run.proofs.Reading.{stands_faulty}
+use Rattle.bridge_run.proofs.Statuses.{stands_faulty}
 use Rattle.bridge_run.proofs.runner.begin.Goals as goal
 
 pub returns-then-is_err-clause-begins : goal.returns-then-is_err-clause-begins

@@ -1,7 +1,6 @@
 use Rattle.std.proofs.Common.{refl, rules}
 use Rattle.both_sides.proofs.Outputs.{part_of, whole_of}
-use Rattle.bridge_run.proofs.Outputs.{untold, handing_broke, last_broke, flush_broke}
-use Rattle.bridge_run.proofs.Telling.{flush_keeps}
+use Rattle.bridge_run.proofs.Outputs.{untold, handing_broke, last_broke, flush_broke, flush_keeps}
 use Rattle.bridge_run.proofs.runner.finish.Goals as goal
 
 pub returns-then-is_err-clause-closes : goal.returns-then-is_err-clause-closes

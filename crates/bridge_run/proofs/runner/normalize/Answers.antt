@@ -1,6 +1,5 @@
-use Rattle.std.proofs.Common.{◌≡◌, ℕ, ◌<◌, ◌^◌, rules, true, List, inl, inr, refl, sym, subst, ap, ◌∙◌}
+use Rattle.std.proofs.Common.{◌≡◌, ℕ, ◌<◌, ◌^◌, rules, true, List, inl, inr, refl, sym, subst, ap, ◌∙◌, Option}
 use Rattle.std.proofs.lemmas.Result.{on_ok_weaker}
-use Rattle.std.specs.declared.option.Option.{Option}
 use Rattle.capture_input.specs.Reading.{Behind}
 use Rattle.norm_settings.specs.Settings.{PlainSettings, plain_settings}
 use Rattle.both_sides.specs.Relays.{StandsForRun, is_full_of}
@@ -8,9 +7,8 @@ use Rattle.both_sides.specs.Runs.{empty_run}
 use Rattle.bridge_run.specs.Moments.{Moment, moment_of}
 use Rattle.bridge_run.specs.Run.{Ended}
 use Rattle.bridge_run.specs.Stops.{status_of}
-use Rattle.bridge_run.proofs.Running.{begins, none_counted, fewer_left, goes_on, normalized, stops_at_packet, stops_at_end, stops_at_record, stops_at_too_many, took_end, took_more, if_err_weaker}
-use Rattle.bridge_run.proofs.Reading.{first_at_sink, stands_faulty, stands_unwritten}
-use Rattle.bridge_run.proofs.Statuses.{input_is_not_7}
+use Rattle.bridge_run.proofs.Runs.{begins, none_counted, fewer_left, goes_on, normalized, stops_at_packet, stops_at_end, stops_at_record, stops_at_too_many, took_end, took_more, if_err_weaker}
+use Rattle.bridge_run.proofs.Statuses.{first_at_sink, stands_faulty, stands_unwritten, input_is_not_7}
 use Rattle.bridge_run.proofs.runner.normalize.Goals as goal
 
 pub set_link-requires : goal.set_link-requires

@@ -3,7 +3,7 @@ use Rattle.capture_input.specs.Reading.{is_open_in}
 use Rattle.norm_settings.specs.Settings.{plain_settings}
 use Rattle.both_sides.specs.Relays.{records_of}
 use Rattle.bridge_run.specs.Moments.{moment_of}
-use Rattle.bridge_run.proofs.Going.{Going}
+use Rattle.bridge_run.proofs.Runs.{Going}
 use Rattle.bridge_run.proofs.runner.normalize.Given as goal
 
 abbrev pub invariant-records : goal.invariant-records

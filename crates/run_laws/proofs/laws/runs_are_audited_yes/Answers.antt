@@ -1,4 +1,4 @@
-use Rattle.run_laws.proofs.Auditing.{runs_audited_yes}
+use Rattle.run_laws.proofs.Audits.{runs_audited_yes}
 use Rattle.run_laws.proofs.laws.runs_are_audited_yes.Goals as goal
 
 pub returns : goal.returns

@@ -1,4 +1,4 @@
-use Rattle.run_laws.proofs.Reading.{runs_read_back}
+use Rattle.run_laws.proofs.ReadBack.{runs_read_back}
 use Rattle.run_laws.proofs.laws.runs_are_read_back.Goals as goal
 
 pub returns : goal.returns

@@ -1,8 +1,6 @@
--- The audit of what a finished run wrote says yes.
-use Rattle.std.proofs.Common.{◌≡◌, ◌⊎◌, inl, inr, ℕ, ◌+◌, ◌*◌, ◌^◌, ◌<◌, ◌≤◌, ◌&&◌, Bool, true, false, cond, List, [], ◌∷◌, ◌++◌, length, map, reverse, flat_map, Option, Some, None, refl, sym, ap, ap₂, ◌∙◌, subst, arith}
-use Rattle.std.specs.Prelude.{decimal, nat_le, nat_lt}
+-- The audit of the capture and the report that a finished run wrote says yes: the words, the lines, the frames and the status.
+use Rattle.std.proofs.Common.{◌≡◌, ◌⊎◌, inl, inr, ℕ, ◌+◌, ◌*◌, ◌^◌, ◌<◌, ◌≤◌, ◌&&◌, Bool, true, false, cond, List, [], ◌∷◌, ◌++◌, length, map, reverse, flat_map, Option, Some, None, refl, sym, ap, ap₂, ◌∙◌, subst, arith, leb-true, decimal, nat_le, nat_lt}
 use Rattle.std.specs.List.{AllByRecursion}
-use Rattle.std.proofs.lemmas.Bool.{leb-true}
 use Rattle.std.proofs.lemmas.List.{append_cancel_left, length-append, length-map, reverse-append}
 use Rattle.wire_base.specs.declared.address.Link.{Link}
 use Rattle.pcap_file.specs.declared.head.Head.{Head}
@@ -12,7 +10,7 @@ use Rattle.pcap_file.specs.Records.{Packet}
 use Rattle.rule_book.specs.declared.last.Last.TheVariants.{End}
 use Rattle.rule_book.specs.Entries.{PlainEntry}
 use Rattle.rule_book.specs.Text.{ended_part, entry_text, era_part, first_line, last_text, lines_text, part, report_text, rule_parts, side_word, verdict_word}
-use Rattle.rule_book.proofs.Texts.{all-append}
+use Rattle.rule_book.proofs.Lists.{all-append}
 use Rattle.norm_settings.specs.Options.{number_within}
 use Rattle.wire_base.specs.Prefixes.{is_number, number_of}
 use Rattle.norm_settings.specs.Settings.{PlainSettings}

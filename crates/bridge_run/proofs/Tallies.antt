@@ -1,4 +1,4 @@
--- One more use of a rule: how it changes the counts, and how many rules there are to count.
+-- The tally of rules: how one use more changes the counts, and that at most 63 rules are counted.
 use Rattle.std.proofs.Common.{◌≡◌, ◌==◌, ◌||◌, not, ℕ, zero, suc, ◌+◌, ◌<◌, ◌≤◌, nat_lt, Bool, true, false, cond, All, List, [], ◌∷◌, ◌++◌, length, get_or, map, take, drop, set, refl, sym, ap, ap₂, ◌∙◌, arith, add-one, if◌then◌else◌}
 use Rattle.std.specs.List.{AllByRecursion, IsDistinct, count_by, filter, list_any, refill}
 use Rattle.std.proofs.lemmas.Bool.Decides.{nat_tests}

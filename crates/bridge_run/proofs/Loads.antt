@@ -1,14 +1,11 @@
--- How a load continues from record to record, and its result.
-use Rattle.std.proofs.Common.{◌≡◌, ℕ, ◌+◌, ◌-◌, ◌<◌, ◌≤◌, ◌^◌, List, [], ◌∷◌, ◌++◌, length, map, take, reverse, Option, Some, None, refl, sym, ap, ap₂, subst, ◌∙◌, arith, add-one, length-append, inl, inr}
+-- A load from record to record: what was made, judged and tallied, and the lines of its result.
+use Rattle.std.proofs.Common.{◌≡◌, ℕ, ◌+◌, ◌-◌, ◌<◌, ◌≤◌, ◌^◌, List, [], ◌∷◌, ◌++◌, length, take, reverse, Option, Some, None, refl, sym, ap, ap₂, subst, ◌∙◌, arith, add-one, length-append, inl, inr, slice_get}
 use Rattle.std.proofs.lemmas.List.{reverse-append, take_all, take_more}
 use Rattle.std.proofs.lemmas.List.FromFn.{length-map-range_with_len}
 use Rattle.std.proofs.lemmas.Option.{slice_get_cases, slice_get_within, get_or_from_slice_get}
-use Rattle.std.specs.List.{slice_get}
 use Rattle.wire_base.specs.declared.address.Link.TheVariants.{Raw}
 use Rattle.pcap_file.specs.Records.{Packet}
 use Rattle.rule_book.specs.declared.rule.Rule.{Rule}
-use Rattle.rule_book.specs.declared.load.LoadLine.{LoadLine}
-use Rattle.rule_book.specs.declared.load.LoadLine.TheVariants as lines
 use Rattle.rule_book.specs.Entries.{PlainEntry}
 use Rattle.norm_engine.specs.Items.{Item, packets}
 use Rattle.norm_engine.specs.Trace.{Lawful, item_of}
@@ -17,9 +14,8 @@ use Rattle.norm_engine.specs.Engine.{Engaged, StandsFor}
 use Rattle.load_make.specs.Generated.{Generated, record_at}
 use Rattle.load_make.specs.Loads.{Making}
 use Rattle.bridge_run.specs.declared.tally.Tally.{Tally}
-use Rattle.both_sides.specs.Frames.{frame_count}
-use Rattle.bridge_run.specs.Summary.{load_settings, eras_of, eras_begun, rules_named, rule_counts, rule_line}
-use Rattle.bridge_run.specs.Loads.{Counts, IsTallied, SumsUp, lines_of}
+use Rattle.bridge_run.specs.Summary.{load_settings, eras_of, rules_named, rule_counts}
+use Rattle.bridge_run.specs.Loads.{Counts, IsTallied}
 
 -- So far: a lawful trace of the records that were made, which the engine represents, and which the tally counts.
 pub record Going (seed count : ℕ) (load : Making) (engine : Engaged) (tally : Tally) : Type 0 where
@@ -146,14 +142,4 @@ begins seed count load engine tally made settings link stands packets eras rules
   link = link;
   stands = stands;
   counts = record { packets = packets; eras = eras; rules = rules; few_packets = omega arith; few_eras = omega arith; few_rules = omega arith };
-}
-
--- the lines of the tally are the summary
-pub sums_up : (seed count records : ℕ) (tally : Tally) (found : List LoadLine) → IsTallied seed count records tally → found ≡ lines_of seed count records tally → SumsUp seed count found
-sums_up seed count records tally found p is = record {
-  trace = p.trace;
-  of_load = p.of_load;
-  are = is ∙ ap₂ (λ r q. lines.Load seed count ∷ lines.Records r ∷ q) p.records_are
-      (ap₂ (λ m n. lines.Packets m ∷ lines.Eras n ∷ (map rule_line tally.rules.items ++ lines.End ∷ [])) p.counts.packets p.counts.eras
-      ∙ ap (λ l. lines.Packets (frame_count p.trace) ∷ lines.Eras (eras_begun p.trace) ∷ (map rule_line l ++ lines.End ∷ [])) p.counts.rules);
 }

@@ -1,42 +1,71 @@
--- How a run continues from record to record, and how it ends.
-use Rattle.std.proofs.Common.{◌≡◌, ℕ, ◌+◌, ◌<◌, ◌≤◌, ◌-◌, ◌^◌, Bool, true, false, List, [], ◌∷◌, ◌++◌, length, Option, None, Ok, Err, Result, IfErr, refl, sym, ap, ap₂, subst, ◌∙◌, arith, suc, append_assoc, append-nil}
-use Rattle.std.specs.Prelude.{nat_le}
+-- A run from record to record, from the head to the last line: what was read, given and counted, and how it stops.
+use Rattle.std.proofs.Common.{◌+◌, ◌<◌, ◌-◌, ◌^◌, Bool, true, false, List, [], ◌∷◌, ◌++◌, Option, None, Ok, Err, Result, IfErr, refl, sym, ap, ap₂, subst, ◌∙◌, arith, suc, append-nil, ◌≡◌, ℕ, ◌*◌, ◌≤◌, length}
 use Rattle.std.proofs.lemmas.Bool.Decides.{nat_tests}
 use Rattle.std.specs.Io.KnownBytes.{Appends}
-use Rattle.wire_base.specs.declared.address.Link.{Link}
 use Rattle.pcap_file.specs.declared.head.Head.{Head}
+use Rattle.capture_input.specs.declared.input.Input.{Input}
+use Rattle.capture_input.specs.Inputs.{Walk, packets_in, Took, TookAll, TakenWhole}
+use Rattle.capture_input.specs.Reading.{Behind, head_in, asked_in}
+use Rattle.norm_settings.specs.Settings.{PlainSettings, AreInRange, GoTogether}
+use Rattle.both_sides.specs.declared.engines.Engines.{Engines}
+use Rattle.both_sides.specs.Outputs.{Given}
+use Rattle.both_sides.specs.Puts.{count_put, puts, Put, next_put, put_outputs}
+use Rattle.both_sides.specs.Relays.{StandsForRun, link_of, settings_of, is_full_of, records_of}
+use Rattle.both_sides.specs.Runs.{LawfulRun, RunHasNoSide, RunHasOctets, RunTrace, packets_of, empty_run, next_run, one, two}
+use Rattle.wire_base.specs.declared.address.Link.{Link}
 use Rattle.pcap_file.specs.declared.record.Record.{Record}
 use Rattle.pcap_file.specs.Records.{Packet}
 use Rattle.pcap_file.specs.Reads.{shown}
 use Rattle.capture_input.specs.declared.fault.InputFault.{InputFault}
-use Rattle.capture_input.specs.declared.input.Input.{Input}
-use Rattle.capture_input.specs.Inputs.{Walk, packets_in, Took, TookAll, TakenWhole}
-use Rattle.capture_input.specs.Reading.{Behind, asked_in, head_in}
 use Rattle.capture_input.specs.Reads.{Continues, GivesPacket, ReachesEnd, StopsAt, StopsBehind}
 use Rattle.capture_input.specs.Laws.{WholeIsInput}
 use Rattle.rule_book.specs.declared.last.Last.TheVariants.{End}
 use Rattle.rule_book.specs.Text.{last_text}
-use Rattle.norm_settings.specs.Settings.{AreInRange, GoTogether, PlainSettings}
 use Rattle.norm_engine.specs.Items.{Item, packets}
-use Rattle.both_sides.specs.declared.engines.Engines.{Engines}
 use Rattle.both_sides.specs.declared.engines.Engines.TheVariants.{One, Two}
 use Rattle.both_sides.specs.declared.fault.RelayFault.{RelayFault}
-use Rattle.both_sides.specs.RunLaws.{Begins, GoesOn, RunIsWrittenSoundly, RunsAreWrittenSoundly, RunsBegin, RunsGoOn}
-use Rattle.both_sides.specs.Outputs.{Given, heading}
+use Rattle.both_sides.specs.RunLaws.{GoesOn, RunIsWrittenSoundly, RunsAreWrittenSoundly, RunsBegin, RunsGoOn}
 use Rattle.both_sides.specs.Outputs as relayed
-use Rattle.both_sides.specs.Puts.{Put, count_put, next_put, puts, put_outputs, text_put}
-use Rattle.both_sides.specs.Relays.{StandsForRun, is_full_of, link_of, most_records, records_of, settings_of}
-use Rattle.both_sides.specs.Runs.{LawfulRun, RunHasNoSide, RunHasOctets, RunTrace, empty_run, next_run, one, packets_of, trace_in, two}
 use Rattle.both_sides.specs.Steps.{IsWritten}
-use Rattle.bridge_run.specs.declared.stop.Stop.{Stop}
 use Rattle.bridge_run.specs.Moments.{Moment, NoneRose}
-use Rattle.bridge_run.specs.Outputs.{BreaksOff, end_outputs, outputs_of, stop_by}
-use Rattle.bridge_run.specs.Run.{Begun, Ended, IsFew}
-use Rattle.bridge_run.specs.Promises.{CleanKeepPayload, FramesFit, HaveTimes, InwardArePlain, MonitorMissesNothing, ReceiversAgree, StateIsBounded}
+use Rattle.bridge_run.specs.Outputs.{outputs_of, BreaksOff, end_outputs, stop_by}
+use Rattle.bridge_run.specs.Run.{IsFew, Begun, Ended}
+use Rattle.bridge_run.specs.Promises.{HaveTimes, CleanKeepPayload, FramesFit, InwardArePlain, MonitorMissesNothing, ReceiversAgree, StateIsBounded}
+use Rattle.bridge_run.specs.declared.stop.Stop.{Stop}
 use Rattle.bridge_run.specs.Theorem.{Normalized}
-use Rattle.bridge_run.proofs.Going.{Going}
 use Rattle.bridge_run.specs.Stopped.{StopsAtEnd, StopsAtPacket, StopsAtRecord, StopsAtTooMany}
 use Rattle.bridge_run.proofs.Outputs.{capture_part-append, report_part-append, given_after, broke_behind, capture_is, report_is}
+
+-- The state of a run between records. Nothing is claimed of octets that are not known.
+
+-- So far: a lawful run over the packets that were taken, whose octets are below 256, and whose times are of 32 bits. If both sides are protected, none of them
+-- has a side of its own, and there are fewer than 2^31. The first line, the head, and the frames and lines of the run were written, and nothing failed.
+pub record SoFar (settings : PlainSettings) (head : Head) (before now : Moment) (walk : Walk) (run : RunTrace) : Type 0 where
+  pub lawful : LawfulRun settings head.link run
+  pub octets : RunHasOctets settings run
+  pub times : HaveTimes (packets_of run)
+  pub sideless : RunHasNoSide run
+  pub few : IsFew settings run
+  pub took : Took settings.inside before.source.octets now.source.octets head walk
+  pub packets_are : packets_in walk ≡ packets_of run
+  pub given : Given (outputs_of settings.both head (puts settings head.link run)) before.sinks now.sinks
+  pub none_rose : NoneRose before now
+
+-- The same of some run, which the engines represent under these settings and on the link of the head, with the input after its packets, and `frames` frames
+-- written, at most 255 for each record.
+pub record Going (settings : PlainSettings) (head : Head) (before now : Moment) (engines : Engines) (input : Input) (frames : ℕ) : Type 0 where
+  pub walk : Walk
+  pub run : RunTrace
+  pub so_far : SoFar settings head before now walk run
+  pub stands : StandsForRun engines run
+  pub engine_settings : settings_of engines ≡ settings
+  pub engine_link : link_of engines ≡ head.link
+  pub input_head : head_in input ≡ head
+  pub behind : Behind input settings.inside walk
+  pub frames_are : frames ≡ count_put (puts settings head.link run)
+  pub few : frames ≤ 255 * length (packets_of run)
+
+-- How a run continues from record to record, and how it ends.
 
 -- what is written soundly, promise by promise
 module _ (settings : PlainSettings) (link : Link) where

@@ -1,16 +1,16 @@
--- The written capture of a finished run is read back.
-use Rattle.std.proofs.Common.{◌≡◌, ℕ, ◌+◌, ◌^◌, ◌<◌, ◌≤◌, Bool, List, [], ◌∷◌, ◌++◌, length, map, drop, take, reverse, flat_map, suc, zero, Some, None, Ok, refl, sym, ap, ◌∙◌, subst, arith, append-nil, append_assoc}
+-- The capture that a finished run wrote is read back: its head, and one record for each frame.
+use Rattle.std.proofs.Common.{◌≡◌, ℕ, ◌+◌, ◌^◌, ◌<◌, ◌≤◌, List, [], ◌∷◌, ◌++◌, length, map, drop, take, reverse, flat_map, suc, zero, Some, None, Ok, refl, sym, ap, ◌∙◌, subst, arith, append-nil, append_assoc}
 use Rattle.std.specs.List.{AllByRecursion}
 use Rattle.std.proofs.lemmas.List.{append_cancel_left, reverse-append}
+use Rattle.run_audit.proofs.Captures.{behind_head}
 use Rattle.wire_base.specs.declared.address.Link.{Link}
 use Rattle.pcap_file.specs.declared.head.Head.{Head}
 use Rattle.pcap_file.specs.declared.order.Order.{Order}
-use Rattle.pcap_file.specs.declared.order.Order.TheVariants.{Little, Big}
 use Rattle.pcap_file.specs.Heads.{head_octets}
 use Rattle.pcap_file.specs.Records.{Packet, front_of, record_octets}
 use Rattle.pcap_file.specs.Capture.{ReadsTo}
 use Rattle.pcap_file.specs.Laws.{HeadIsReadBack, RecordIsReadBack}
-use Rattle.rule_book.proofs.Texts.{all-append}
+use Rattle.rule_book.proofs.Lists.{all-append}
 use Rattle.norm_settings.specs.Settings.{PlainSettings}
 use Rattle.norm_engine.specs.Items.{Item, packets}
 use Rattle.norm_engine.specs.Sending.{HasShortFrames}
@@ -133,12 +133,6 @@ puts_fit settings link (one trace) times fit = one_fits settings link trace time
 puts_fit settings link (two trace mirror) times fit = two_fit trace mirror times fit
 
 -- ---- the capture
-
--- what was written after the head
-behind_head : (order : Order) (nano : Bool) (link : Link) (xs : List ℕ) → drop 24 (head_octets (record { order = order; nano = nano; link = link }) ++ xs) ≡ xs
-unfolding head_octets
-behind_head Little nano link xs = refl
-behind_head Big nano link xs = refl
 
 read_back : HeadIsReadBack → RecordIsReadBack → (head : Head) (outs : List Put) → AllByRecursion PutFits outs → IsReadBack head (head_octets head ++ octets_put head.order outs) (records_put outs)
 read_back head_back back head outs fits =

@@ -1,9 +1,8 @@
--- The state when a run has stopped, status by status.
-use Rattle.std.proofs.Common.{◌≡◌, ℕ, ◌<◌, ◌==◌, List, [], ◌∷◌, ◌++◌, length, take, Option, None, Some, refl, sym, ap, ◌∙◌, subst, append-nil, append_assoc, arith, inl, inr, ◌⊎◌, ◌≤◌, false, true}
+-- What holds of the input and the outputs when a run has stopped, status by status.
+use Rattle.std.proofs.Common.{◌≡◌, ℕ, ◌<◌, ◌==◌, List, [], ◌∷◌, ◌++◌, length, take, Option, None, Some, refl, sym, ap, ◌∙◌, subst, append-nil, append_assoc, arith, inl, inr, ◌⊎◌, ◌≤◌, false, true, flat_map}
 use Rattle.std.proofs.Math.Seq.{take-nil}
 use Rattle.std.proofs.KnownBytes.{Appends-trans}
 use Rattle.std.specs.Io.KnownBytes.{Appends}
-use Rattle.std.specs.List.{flat_map}
 use Rattle.edge_io.specs.Faults.{Rose}
 use Rattle.pcap_file.specs.declared.head.Head.{Head}
 use Rattle.pcap_file.specs.declared.order.Order.{Order}
@@ -27,9 +26,8 @@ use Rattle.bridge_run.specs.Moments.{Moment}
 use Rattle.bridge_run.specs.Outputs.{first_outputs, outputs_of}
 use Rattle.bridge_run.specs.Stops.{FirstFault, Told, fault_kind, status_of, stop_line, memory_line}
 use Rattle.bridge_run.specs.Stopped.{Stands, Faulty, Unwritten, StopsAtHead, StopsAtRecord, StopsAtTooMany, Stopped, StoppedUnder, LoadStopped, Finishes, SaysOnly}
-use Rattle.bridge_run.specs.Rows.{Says, GivenUpTo, stop_of, capture_octets, report_octets, EndsAtHead, EndsAtRecord, EndsAtFault, EndsByFault, EndsByTooMany, EndsFaulty, EndsCut, EndsUnread, EndsUnwritten, EndsUntold, EndsRefused, EndsSummed, EndsSummedInPart, UnderWords, UnderLoad}
-use Rattle.bridge_run.proofs.Outputs.{capture_is, report_is}
-use Rattle.bridge_run.proofs.Broken.{no_capture, capture_fails, first_fails, handing_fails, no_report, line_fails, nothing, handing}
+use Rattle.bridge_run.specs.Rows.{Says, GivenUpTo, stop_of, capture_octets, report_octets, EndsAtHead, EndsAtRecord, EndsAtFault, EndsByTooMany, EndsFaulty, EndsCut, EndsUnread, EndsUnwritten, EndsUntold, EndsRefused, EndsSummed, EndsSummedInPart, UnderWords, UnderLoad}
+use Rattle.bridge_run.proofs.Outputs.{capture_is, report_is, no_capture, capture_fails, first_fails, handing_fails, no_report, line_fails, nothing, handing}
 use Rattle.bridge_run.proofs.Statuses.{known_of}
 
 -- a line that was given after octets
