@@ -1,11 +1,10 @@
--- In an era of a lawful trace nothing is written after an outbound RST, so none acknowledges there before the base is fixed.
-use Rattle.std.proofs.Common.{◌≡◌, ◌⊎◌, inl, inr, ℕ, ◌+◌, ◌%◌, ◌^◌, ◌≤◌, ◌==◌, ◌&&◌, ◌||◌, not, cond, Bool, true, false, List, [], ◌∷◌, ◌++◌, length, map, Option, Some, None, refl, sym, ap, ap₂, ◌∙◌, subst, arith, append-nil, eq-eqb}
+-- Nothing is written in an era after an outbound RST, and none acknowledges before the base is fixed.
+use Rattle.std.proofs.Common.{◌≡◌, ◌⊎◌, inl, inr, ℕ, ◌+◌, ◌%◌, ◌^◌, ◌==◌, ◌&&◌, ◌||◌, not, cond, Bool, true, false, List, [], ◌∷◌, ◌++◌, map, Option, Some, None, refl, sym, ap, ap₂, ◌∙◌, subst, arith, append-nil, eq-eqb}
 use Rattle.std.specs.List.{AllByRecursion, list_any}
 use Rattle.std.specs.Option.{option_or}
 use Rattle.std.proofs.Math.Bool.{or-false}
 use Rattle.std.proofs.lemmas.Bool.{false≢true, or_left, or_right, or_parts, or_from}
 use Rattle.std.proofs.lemmas.List.Folds.{list_any-append}
-use Rattle.wire_base.specs.declared.address.Link.{Link}
 use Rattle.wire_base.specs.Tcp as tcp
 use Rattle.wire_base.specs.Segments.{Written}
 use Rattle.tcp_codec.specs.Mending.{MendedSayTheSame}
@@ -17,7 +16,6 @@ use Rattle.era_state.specs.Marks.{acknowledges, fixes}
 use Rattle.era_state.specs.Quantities.{base_of, iss, octets_of}
 use Rattle.era_state.specs.States.{is_closed, state_of}
 use Rattle.era_state.specs.Rules as rules
-use Rattle.era_agreement.specs.Sent.{written_in}
 use Rattle.ip_rules.specs.Datagrams.{Datagram, Packet, goes_in}
 use Rattle.tcp_norm.specs.declared.step.Step.{Step}
 use Rattle.tcp_norm.specs.Calls.{Call, expiry, datagram, Alive, Outcome, read, segment_in, is_era, is_among, is_written, ended_by, numbers_of, segments, touched_by, written_by}
@@ -25,19 +23,16 @@ use Rattle.tcp_norm.specs.Views.{View, view_of}
 use Rattle.tcp_norm.specs.Rows.{begins, is_live, reopens, t_full, t_sum_out}
 use Rattle.tcp_norm.specs.Outcomes.{begun_with, call_of, ended_with, ends, outcome_at}
 use Rattle.tcp_norm.specs.Lives.{AreMade, has_ended, made_of, writes_in}
-use Rattle.tcp_norm.specs.Segments.{AreOfSegments, AsksSegment, IsSegment}
+use Rattle.tcp_norm.specs.Segments.{AsksSegment, IsSegment}
 use Rattle.tcp_norm.specs.Steps.{Does, IsStep, listed}
 use Rattle.tcp_norm.proofs.EmittedCalls.{unwritten}
-use Rattle.tcp_norm.proofs.LiveCalls.{effect_made}
-use Rattle.tcp_norm.proofs.LiveCounts.{lasts_made}
-use Rattle.tcp_norm.proofs.Numbers.{among_is}
+use Rattle.tcp_norm.proofs.CallKinds.{effect_made}
+use Rattle.tcp_norm.proofs.EraCounts.{lasts_made}
+use Rattle.tcp_norm.proofs.Lists.{among_is, all_map}
 use Rattle.tcp_norm.proofs.OutboundSegments.{out_does}
-use Rattle.tcp_norm.proofs.Lists.{all_map}
-use Rattle.norm_engine.specs.Agreement.{sent_in}
 use Rattle.norm_engine.specs.Calls.{flow_calls}
-use Rattle.norm_engine.specs.Items.{Item}
-use Rattle.norm_engine.specs.Laws.{IsSound, LawfulCallsAreMade}
-use Rattle.norm_engine.proofs.Agreeing.{PacketLaws, written_is}
+use Rattle.norm_engine.specs.Laws.{LawfulCallsAreMade}
+use Rattle.norm_engine.proofs.Receivers.{PacketLaws, written_is}
 use Rattle.run_audit.specs.Emitted.{NoneAcksUnbased}
 use Rattle.run_audit.specs.Lawful.{is_outbound_reset, NoneBehindReset, ResetsAreLast}
 

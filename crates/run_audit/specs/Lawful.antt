@@ -15,19 +15,15 @@ use Rattle.rule_book.specs.Entries.{PlainEntry}
 use Rattle.rule_book.specs.Reports.{EntryFits}
 use Rattle.rule_book.specs.Text.{report_text}
 use Rattle.norm_settings.specs.Settings.{PlainSettings}
-use Rattle.ip_rules.specs.Datagrams.{AreOctets}
 use Rattle.era_agreement.specs.Sent.{written_in}
 use Rattle.norm_engine.specs.Agreement.{sent_in}
 use Rattle.norm_engine.specs.Items.{Item, entries, packets}
 use Rattle.norm_engine.specs.Laws.{IsSound}
-use Rattle.norm_engine.specs.Trace.{Lawful}
-use Rattle.run_audit.specs.declared.answer.Answer.TheVariants.{Yes}
-use Rattle.run_audit.specs.Audited.{IsYes, Says, seen}
+use Rattle.run_audit.specs.Audited.{IsYes}
 use Rattle.run_audit.specs.Audits.{frames_of}
 use Rattle.run_audit.specs.FirstFault.{NoFault}
 use Rattle.run_audit.specs.Named.{eras_named}
 use Rattle.run_audit.specs.Reported.{IsFinished, is_most}
-use Rattle.run_audit.specs.Words.{asked}
 use Rattle.wire_base.specs.declared.limits.TheConstants.{MAX_CAPTURED}
 
 -- the frames of a trace, newest first
@@ -127,22 +123,3 @@ abbrev pub WrittenIsYes : Type 0
 WrittenIsYes =
     (settings : PlainSettings) (head : Head) (trace : List Item) → IsSound settings head.link trace → FitsFiles trace
     → IsYes settings.hops (Some (report_written trace)) (Some (capture_written head trace)) (length (eras_named (entries_written trace))) (length (records_written trace))
-
--- These octets are a capture with this head, whose records have this lawful trace; it has at most 2^32 - 1 frames, each of at most 262,144 octets, and its
--- report has at most 67,108,864 octets. A finished run of one engine without `--mtu` reads such octets and writes that trace.
-pub record WasRun (settings : PlainSettings) (head : Head) (source : List ℕ) (trace : List Item) : Type 0 where
-  pub hops : settings.hops ≤ 254
-  pub octets : AreOctets source
-  pub whole : IsCapture source head (packets trace)
-  pub lawful : Lawful settings head.link trace
-  pub short : AllByRecursion (λ frame. length frame ≤ MAX_CAPTURED) (frames_written trace)
-  pub few : length (frames_written trace) ≤ 4294967295
-  pub small : length (report_written trace) ≤ is_most
-
--- The answer `yes` holds of the two files written for such a trace, if the words ask for the number of its routers.
-abbrev pub RunIsYes : Type 0
-RunIsYes =
-    (settings : PlainSettings) (head : Head) (source : List ℕ) (trace : List Item) → WasRun settings head source trace
-    → (words : List (List ℕ)) (before now report_before report_now : ℕ) → asked words ≡ Some settings.hops
-    → Says words (seen (Some (capture_written head trace)) before now) (seen (Some (report_written trace)) report_before report_now)
-    (Yes (length (eras_named (entries_written trace))) (length (records_written trace)))

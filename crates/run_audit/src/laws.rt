@@ -1,7 +1,7 @@
 //! Laws of the audit.
 ghost use Rattle.run_audit.specs.Audited.{AnswersAreOne};
 ghost use Rattle.run_audit.specs.Emitted.{EmittedHasNoFault};
-ghost use Rattle.run_audit.specs.Lawful.{EntriesFit, ItemsAreWrittenInOrder, LawfulHasNoFault, LawfulIsYes, ResetsAreLast, RunIsYes, WrittenIsYes};
+ghost use Rattle.run_audit.specs.Lawful.{EntriesFit, ItemsAreWrittenInOrder, LawfulHasNoFault, LawfulIsYes, ResetsAreLast, WrittenIsYes};
 ghost use Rattle.run_audit.specs.Sound.{EachIsReadFromBase, FaultlessAgrees, FaultlessMissesNothing};
 
 use era_state::laws::{
@@ -133,11 +133,4 @@ pub fn written_is_yes()
     items_are_counted();
     entries_fit();
     lawful_is_yes();
-}
-
-/// States that the answer `yes` holds of the two files that a finished run of one engine without `--mtu` wrote.
-pub fn run_is_yes()
-    ensures { RunIsYes }
-{
-    written_is_yes();
 }

@@ -1,9 +1,22 @@
-use Rattle.std.proofs.Common.{map, string_bytes, sym, subst}
+use Rattle.std.proofs.Common.{◌⊎◌, ℕ, List, Option, ⊎_elim, map, string_bytes, sym, subst}
 use Rattle.run_audit.specs.declared.answer.Answer.{Answer}
-use Rattle.run_audit.specs.Audited.{Says, seen}
+use Rattle.run_audit.specs.declared.answer.Answer.TheVariants as answers
+use Rattle.run_audit.specs.Audited.{Seen, Says, Answered, seen}
+use Rattle.run_audit.specs.Told.{Tells}
 use Rattle.run_audit.proofs.OneAnswer.{tells_exactly}
-use Rattle.run_audit.proofs.Saying.{answered}
 use Rattle.run_audit.proofs.examine.audit.Goals as goal
+
+-- An answer is written.
+
+-- an answer is written
+pub answered : (words : List (List ℕ)) (capture report : Seen) (answer : Answer) (old new : Option (List ℕ)) (before now status : ℕ) → Says words capture report answer → Tells answer old new before now status ⊎ Tells answers.Memory old new before now status → Answered words capture report old new before now status
+answered words capture report answer old new before now status says told = ⊎_elim one other told
+  where
+    one : Tells answer old new before now status → Answered words capture report old new before now status
+    one t = record { answer = answer; says = says; told = t }
+
+    other : Tells answers.Memory old new before now status → Answered words capture report old new before now status
+    other t = record { answer = answers.Memory; says = tt; told = t }
 
 pub returns-in-Ok-clause-answered : goal.returns-in-Ok-clause-answered
 returns-in-Ok-clause-answered g c =

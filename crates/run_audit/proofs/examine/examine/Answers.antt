@@ -1,9 +1,32 @@
-use Rattle.std.proofs.Common.{List, IfSome, map, string_bytes, sym, subst, ◌∙◌}
-use Rattle.rule_book.specs.Entries.{plain}
+use Rattle.std.proofs.Common.{◌≡◌, ℕ, List, Option, Some, Result, IfSome, IfErr, inr, map, string_bytes, sym, subst, ◌∙◌}
+use Rattle.std.proofs.lemmas.Result.{IfErr-weaker}
+use Rattle.rule_book.specs.Entries.{PlainEntry, plain}
 use Rattle.rule_book.specs.declared.entry.Entry.{Entry}
+use Rattle.run_audit.specs.declared.answer.Answer.{Answer}
+use Rattle.run_audit.specs.Audited.{Says, seen}
+use Rattle.run_audit.specs.Audits.{WhyUnsoundWhole}
 use Rattle.run_audit.specs.Reported.{IsFinished}
-use Rattle.run_audit.proofs.Saying.{unsound}
+use Rattle.run_audit.specs.Words.{asked}
 use Rattle.run_audit.proofs.examine.examine.Goals as goal
+use Rattle.run_audit.specs.declared.answer.Answer.TheVariants as answers
+
+-- The meaning of the answer about a capture, by the entries of the report of a finished run.
+
+-- the meaning of the answer about a capture, by the entries of the report of a finished run
+pub unsound : {T : Type 0} (words : List (List ℕ)) (capture : Option (List ℕ)) (before now : ℕ) (report : Option (List ℕ)) (report_before report_now : ℕ) (hops : ℕ) (entries : List PlainEntry)
+    → asked words ≡ Some hops → IfSome report (λ octets. IsFinished octets entries) → (result : Result T Answer) → IfErr result (λ answer. WhyUnsoundWhole hops entries capture before now answer)
+    → IfErr result (λ answer. Says words (seen capture before now) (seen report report_before report_now) answer)
+unsound words capture before now report report_before report_now hops entries asks finished result why =
+    IfErr-weaker result (WhyUnsoundWhole hops entries capture before now) (Says words (seen capture before now) (seen report report_before report_now)) says why
+  where
+    says : (answer : Answer) → WhyUnsoundWhole hops entries capture before now answer → Says words (seen capture before now) (seen report report_before report_now) answer
+    says (answers.Yes eras frames) h = absurd h
+    says (answers.No number reason) h = (hops, asks, record { entries = entries; finished = finished; fact = h })
+    says answers.Words h = absurd h
+    says (answers.Flawed flaw offset) h = (hops, asks, record { entries = entries; finished = finished; fact = h })
+    says answers.Unread h = (hops, asks, inr (record { entries = entries; finished = finished; fact = h }))
+    says answers.Memory h = tt
+    says (answers.Report line) h = absurd h
 
 pub returns-in-Ok-clause-other : goal.returns-in-Ok-clause-other
 returns-in-Ok-clause-other g c =

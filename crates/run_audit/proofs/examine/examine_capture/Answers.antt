@@ -1,6 +1,6 @@
 use Rattle.std.proofs.Common.{map}
 use Rattle.rule_book.specs.Entries.{plain}
-use Rattle.run_audit.proofs.Naming.{all_owners_named}
+use Rattle.run_audit.proofs.Frames.{all_owners_named}
 use Rattle.run_audit.proofs.examine.examine_capture.Goals as goal
 
 pub judge_capture-requires-clause-named : goal.judge_capture-requires-clause-named

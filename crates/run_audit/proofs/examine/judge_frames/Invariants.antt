@@ -1,6 +1,6 @@
 use Rattle.std.proofs.Common.{◌≡◌, ◌≤◌, ◌-◌, ◌^◌, true, length, map}
 use Rattle.rule_book.specs.Entries.{plain}
-use Rattle.run_audit.proofs.Framing.{GoesOn}
+use Rattle.run_audit.proofs.Frames.{GoesOn}
 use Rattle.run_audit.proofs.examine.judge_frames.Given as goal
 
 abbrev pub invariant-records : goal.invariant-records

@@ -1,6 +1,6 @@
 use Rattle.std.proofs.Common.{refl, rules}
-use Rattle.run_audit.proofs.Rooms.{era_has_room}
-use Rattle.run_audit.proofs.Judged.{judged_inward, behind_place}
+use Rattle.run_audit.proofs.Ledgers.{era_has_room}
+use Rattle.run_audit.proofs.FrameFaults.{judged_inward, behind_place}
 use Rattle.run_audit.proofs.frame.judge_in_stream.Goals as goal
 
 pub take_inward-requires-clause-room : goal.take_inward-requires-clause-room

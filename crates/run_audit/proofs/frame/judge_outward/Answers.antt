@@ -1,5 +1,5 @@
-use Rattle.run_audit.proofs.Rooms.{era_has_room}
-use Rattle.run_audit.proofs.Judged.{noted_outward}
+use Rattle.run_audit.proofs.Ledgers.{era_has_room}
+use Rattle.run_audit.proofs.FrameFaults.{noted_outward}
 use Rattle.run_audit.proofs.frame.judge_outward.Goals as goal
 
 pub take_outward-requires-clause-room : goal.take_outward-requires-clause-room

@@ -1,7 +1,7 @@
 use Rattle.std.proofs.Common.{◌≡◌, ◌≢◌, ℕ, Some, nat_eq, arith}
 use Rattle.std.proofs.lemmas.Grind.{common_steps}
 use Rattle.indexmap.specs.IndexMap.{get}
-use Rattle.run_audit.proofs.Judged.{taken_in}
+use Rattle.run_audit.proofs.FrameFaults.{taken_in}
 use Rattle.run_audit.proofs.frame.take_inward.Goals as goal
 
 pub returns : goal.returns

@@ -1,4 +1,4 @@
-use Rattle.run_audit.proofs.Faultless.{emitted_faultless}
+use Rattle.run_audit.proofs.FrameFaults.{emitted_faultless}
 use Rattle.run_audit.proofs.laws.emitted_has_no_fault.Goals as goal
 
 pub returns : goal.returns

@@ -1,4 +1,4 @@
-use Rattle.run_audit.proofs.Fitting.{entries_fit}
+use Rattle.run_audit.proofs.Ranges.{entries_fit}
 use Rattle.run_audit.proofs.laws.entries_fit.Goals as goal
 
 pub returns : goal.returns

@@ -1,4 +1,4 @@
-use Rattle.run_audit.proofs.Bases.{read_from_base}
+use Rattle.run_audit.proofs.Ledgers.{read_from_base}
 use Rattle.run_audit.proofs.laws.eras_are_read_from_the_base.Goals as goal
 
 pub returns : goal.returns

@@ -1,4 +1,4 @@
-use Rattle.run_audit.proofs.Agreeing.{faultless_agrees}
+use Rattle.run_audit.proofs.Receivers.{faultless_agrees}
 use Rattle.run_audit.proofs.laws.faultless_agrees.Goals as goal
 
 pub returns : goal.returns

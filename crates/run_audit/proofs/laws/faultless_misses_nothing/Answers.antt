@@ -1,4 +1,4 @@
-use Rattle.run_audit.proofs.Agreeing.{faultless_misses}
+use Rattle.run_audit.proofs.Receivers.{faultless_misses}
 use Rattle.run_audit.proofs.laws.faultless_misses_nothing.Goals as goal
 
 pub returns : goal.returns

@@ -1,4 +1,4 @@
-use Rattle.run_audit.proofs.Lawfuls.{no_fault}
+use Rattle.run_audit.proofs.LawfulTraces.{no_fault}
 use Rattle.run_audit.proofs.laws.lawful_has_no_fault.Goals as goal
 
 pub returns : goal.returns

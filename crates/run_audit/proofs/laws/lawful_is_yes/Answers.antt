@@ -1,4 +1,4 @@
-use Rattle.run_audit.proofs.Lawfuls.{is_yes}
+use Rattle.run_audit.proofs.LawfulTraces.{is_yes}
 use Rattle.run_audit.proofs.laws.lawful_is_yes.Goals as goal
 
 pub returns : goal.returns

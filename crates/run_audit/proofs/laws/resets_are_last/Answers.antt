@@ -1,4 +1,4 @@
-use Rattle.norm_engine.proofs.Joined.{rows_are_of_eras}
+use Rattle.norm_engine.proofs.Traces.{rows_are_of_eras}
 use Rattle.run_audit.proofs.Resets.{resets_last}
 use Rattle.run_audit.proofs.laws.resets_are_last.Goals as goal
 

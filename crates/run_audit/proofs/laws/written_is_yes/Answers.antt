@@ -1,4 +1,4 @@
-use Rattle.run_audit.proofs.Writing.{written_is_yes}
+use Rattle.run_audit.proofs.Captures.{written_is_yes}
 use Rattle.run_audit.proofs.laws.written_is_yes.Goals as goal
 
 pub returns : goal.returns

@@ -1,5 +1,5 @@
 use Rattle.indexmap.specs.IndexMap.{keys}
-use Rattle.run_audit.proofs.Naming.{entry_on}
+use Rattle.run_audit.proofs.Frames.{entry_on}
 use Rattle.run_audit.proofs.named.eras_named.Goals as goal
 
 pub loop-entry-preserved : goal.loop-entry-preserved

@@ -1,5 +1,4 @@
-use Rattle.std.proofs.Common.{◌≡◌, [], drop, map}
-use Rattle.std.specs.List.{flat_map}
+use Rattle.std.proofs.Common.{◌≡◌, [], drop, map, flat_map}
 use Rattle.indexmap.specs.IndexMap.{keys}
 use Rattle.rule_book.specs.Entries.{plain}
 use Rattle.run_audit.specs.Eras.{AllStandFor}

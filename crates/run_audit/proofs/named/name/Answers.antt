@@ -1,6 +1,6 @@
 use Rattle.std.proofs.Common.{nat_eq, sym, ◌∙◌}
 use Rattle.indexmap.proofs.CallerLemmas.{insert_entry-new}
-use Rattle.run_audit.proofs.Naming.{noted_there, noted_new, none_of}
+use Rattle.run_audit.proofs.Frames.{noted_there, noted_new, none_of}
 use Rattle.run_audit.proofs.named.name.Goals as goal
 
 pub returns-then-contains_key-clause-named : goal.returns-then-contains_key-clause-named

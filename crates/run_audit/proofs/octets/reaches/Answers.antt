@@ -1,6 +1,6 @@
 use Rattle.std.proofs.Common.{◌||◌, None, Bool, sym, ap, ◌∙◌, arith}
 use Rattle.run_audit.specs.Kept.{some_stray}
-use Rattle.run_audit.proofs.Keeps.{last_decides}
+use Rattle.run_audit.proofs.KeptOctets.{last_decides}
 use Rattle.run_audit.proofs.octets.reaches.Goals as goal
 
 pub returns-in-Some : goal.returns-in-Some

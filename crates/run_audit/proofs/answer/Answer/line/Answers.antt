@@ -1,5 +1,4 @@
-use Rattle.std.proofs.Common.{◌≡◌, ℕ, List, ◌++◌, ◌∷◌, [], sym, ◌∙◌, ap, subst, append_assoc}
-use Rattle.std.specs.Prelude.{IfOk, codes, decimal, string_bytes}
+use Rattle.std.proofs.Common.{◌≡◌, ℕ, List, ◌++◌, ◌∷◌, [], sym, ◌∙◌, ap, subst, append_assoc, IfOk, codes, decimal, string_bytes}
 use Rattle.rule_book.specs.Text.{part}
 use Rattle.run_audit.specs.Answers.{line_of}
 use Rattle.run_audit.proofs.answer.Answer.line.Goals as goal

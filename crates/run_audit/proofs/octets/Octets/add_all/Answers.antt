@@ -1,8 +1,7 @@
-use Rattle.std.proofs.Common.{◌++◌, None, not, arith, sym, ap, ap₂, ◌∙◌}
+use Rattle.std.proofs.Common.{◌++◌, None, not, arith, sym, ap, ap₂, ◌∙◌, take-append-drop}
 use Rattle.std.proofs.lemmas.Bool.{not-true, not-false}
-use Rattle.std.proofs.lemmas.List.{take-append-drop}
 use Rattle.run_audit.specs.Kept.{kept_at, kept_with, some_stray}
-use Rattle.run_audit.proofs.Keeps.{kept_on, stray_on, stray_front}
+use Rattle.run_audit.proofs.KeptOctets.{kept_on, stray_on, stray_front}
 use Rattle.run_audit.proofs.octets.Octets.add_all.Goals as goal
 
 pub returns-then-not-branch-clause-right : goal.returns-then-not-branch-clause-right

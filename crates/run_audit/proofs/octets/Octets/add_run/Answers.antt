@@ -1,10 +1,9 @@
-use Rattle.std.proofs.Common.{◌≡◌, ℕ, ◌/◌, ◌%◌, Some, None, false, rules, tests, not, sym, ap, ◌∙◌, arith}
+use Rattle.std.proofs.Common.{◌≡◌, ℕ, ◌/◌, ◌%◌, Some, None, false, rules, tests, not, sym, ap, ◌∙◌, arith, is_eq, nat_cmp}
 use Rattle.std.specs.Box.{with_value}
-use Rattle.std.specs.Ordering.{is_eq, nat_cmp}
 use Rattle.std.proofs.lemmas.Grind.{common_steps}
 use Rattle.run_audit.specs.Kept.{block_at, kept_with, octet_in, octet_in_some, some_stray}
 use Rattle.run_audit.specs.declared.octets.Block.{Block}
-use Rattle.run_audit.proofs.Keeps.{IsPut, run_kept, run_strays}
+use Rattle.run_audit.proofs.KeptOctets.{IsPut, run_kept, run_strays}
 use Rattle.run_audit.proofs.octets.Octets.add_run.Goals as goal
 
 unequal : (a b : ℕ) → (b ≡ a → ⊥) → is_eq (nat_cmp a b) ≡ false

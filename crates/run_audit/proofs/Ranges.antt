@@ -1,6 +1,5 @@
--- The numbers of the entries of a lawful trace are in the ranges of the report's text, if there are fewer than 2^32 frames and records.
-use Rattle.std.proofs.Common.{◌≡◌, ℕ, ◌+◌, ◌^◌, ◌<◌, ◌≤◌, ◌==◌, ◌&&◌, ◌||◌, not, cond, Bool, true, false, List, [], ◌∷◌, ◌++◌, length, map, take, find, reverse, filter, Option, Some, None, refl, sym, subst, arith, append-nil, length-append, if◌then◌else◌}
-use Rattle.std.specs.Prelude.{IfSome, option_map, is_some, nat_lt}
+-- The numbers in the entries of a lawful trace are in the ranges of a report, if frames and records are fewer than 2^32.
+use Rattle.std.proofs.Common.{◌≡◌, ℕ, ◌+◌, ◌^◌, ◌<◌, ◌≤◌, ◌==◌, ◌&&◌, ◌||◌, not, cond, Bool, true, false, List, [], ◌∷◌, ◌++◌, length, map, take, find, reverse, filter, Option, Some, None, refl, sym, subst, arith, append-nil, length-append, if◌then◌else◌, IfSome, option_map, is_some, nat_lt}
 use Rattle.std.specs.List.{AllByRecursion}
 use Rattle.std.specs.Option.{option_or}
 use Rattle.std.proofs.lemmas.List.{length-reverse, length-map}
@@ -13,33 +12,33 @@ use Rattle.rule_book.specs.declared.entry.Reason.{Reason}
 use Rattle.rule_book.specs.declared.entry.Reason.TheVariants as reasons
 use Rattle.rule_book.specs.declared.rule.Rule.{Rule}
 use Rattle.rule_book.specs.Reports.{EndedFits, EntryFits}
-use Rattle.rule_book.proofs.Texts.{all-append}
+use Rattle.rule_book.proofs.Lists.{all-append}
 use Rattle.norm_settings.specs.Settings.{PlainSettings}
 use Rattle.ip_rules.specs.Datagrams.{Datagram, Packet, goes_in}
 use Rattle.era_state.specs.Emission.{AreEmitted}
 use Rattle.era_state.specs.Laws.{AckedGrowsNear}
 use Rattle.era_state.specs.Quantities.{base_of, octets_of, octets_with}
-use Rattle.era_state.proofs.Counts.{octets_are_below_top}
-use Rattle.era_state.proofs.Emitting.{bounded}
-use Rattle.tcp_norm.specs.Calls.{Call, Alive, Outcome, read, is_era, is_key, is_written, eras, begun_in, datagram, key_of, live, numbers_of, segment_in, segments, written_by}
+use Rattle.era_state.proofs.Quantities.{octets_are_below_top}
+use Rattle.era_state.proofs.EmittedSegments.{bounded}
+use Rattle.tcp_norm.specs.Calls.{Call, Alive, Outcome, read, is_era, is_key, is_written, eras, begun_in, datagram, key_of, live, segment_in, segments, written_by}
 use Rattle.tcp_norm.specs.Held.{evictable, held_in}
 use Rattle.tcp_norm.specs.Lives.{LivesAreLast}
 use Rattle.tcp_norm.specs.Outcomes.{ends, expiry_of, outcome_by}
 use Rattle.tcp_norm.specs.Rows as era
 use Rattle.tcp_norm.specs.Segments.{CallsAreEmitted}
-use Rattle.tcp_norm.specs.Steps.{idle_end, idled}
+use Rattle.tcp_norm.specs.Steps.{idled}
 use Rattle.tcp_norm.specs.Views.{View, head_of, idle_at, number_of, segments_of, view_of}
-use Rattle.tcp_norm.proofs.Numbers.{all_filter}
-use Rattle.tcp_norm.proofs.Lists.{all_map, all_weaker}
+use Rattle.tcp_norm.proofs.Lists.{all_filter, all_map, all_weaker}
 use Rattle.norm_engine.specs.Calls.{expiry_in, flow_calls, outcome_in, packet_of, segment_after, with_asked}
 use Rattle.norm_engine.specs.Clean.{HasOctets}
 use Rattle.norm_engine.specs.Items.{Item, entries, now_with}
 use Rattle.norm_engine.specs.Laws.{IsSound, ItemsAreCounted, LawfulCallsAreMade}
 use Rattle.norm_engine.specs.Outgoing.{ItemsGoOut}
 use Rattle.norm_engine.specs.Trace.{Read, begun_by, ended_by, era_by, item_of, outcome_of, read_after}
+use Rattle.norm_engine.proofs.EngineStates.{few_idle}
+use Rattle.norm_engine.proofs.ItemFrames.{none_before}
 use Rattle.run_audit.specs.Lawful.{frames_written}
-use Rattle.run_audit.proofs.Lawfuls.{before}
-use Rattle.run_audit.proofs.Rooms.{acked_small}
+use Rattle.run_audit.proofs.Ledgers.{acked_small}
 
 -- an era has at most as many segments as there are frames, and at most as many eras begin as there are records
 
@@ -129,7 +128,7 @@ head_given : (given : ℕ) (xs : List Alive) → AllByRecursion (λ a. a.number 
 head_given given [] all = tt
 head_given given (x ∷ xs) all = all.0
 
--- the bounds of the calls before a record
+-- the bounds of the calls none_before a record
 record Before (given : ℕ) (cs : List Call) : Type 0 where
   numbers : AllByRecursion (λ a. a.number ≤ given) (eras cs)
   begun : begun_in cs ≤ given
@@ -211,25 +210,10 @@ segment_few settings read (Some d) given few b =
     let says = outcome_few settings v d (era.dropped_by settings v d) (era.mended_by settings v d) given few (view_near settings read.past.calls d given b) in
     record { era = says.era; begun = says.begun; ended = says.ended }
 
--- at most two eras end as idle
-
-take_two : (xs : List Alive) → length (take 2 xs) ≤ 2
-take_two [] = omega arith
-take_two (x ∷ []) = omega arith
-take_two (x ∷ y ∷ more) = omega arith
-
 take_all : (P : Alive → Type 0) (xs : List Alive) → AllByRecursion P xs → AllByRecursion P (take 2 xs)
 take_all P [] all = tt
 take_all P (x ∷ []) all = (all.0, tt)
 take_all P (x ∷ y ∷ more) all = (all.0, (all.1.0, tt))
-
-idle_few : (settings : PlainSettings) (now : ℕ) (cs : List Call) (ws : ℕ → List Written) → length (idled ws (idle_at settings now cs)) ≤ 2
-idle_few settings now cs ws =
-    let lives = take 2 (filter (λ (a : Alive). nat_lt (a.touched + settings.idle) now) (eras cs)) in
-    let outer = length-map (numbers_of lives) (idle_end ws) in
-    let inner = length-map lives (λ (a : Alive). a.number) in
-    let two = take_two (filter (λ (a : Alive). nat_lt (a.touched + settings.idle) now) (eras cs)) in
-    omega (arith, outer, inner, two)
 
 idle_fit : (given : ℕ) (numbers : List ℕ) (ws : ℕ → List Written) → given < 2 ^ 32 → ((number : ℕ) → octets_of (ws number) < 2 ^ 64)
     → AllByRecursion (λ number. number ≤ given) numbers → AllByRecursion EndedFits (idled ws numbers)
@@ -293,7 +277,7 @@ module _ (laws : RangeLaws) (settings : PlainSettings) (link : Link) where
       let packets = counted.packets in
       let two = counted.few in
       let named = (laws.outgoing settings link older r sound.hops sound.octets octets).few in
-      let idle = idle_few settings now calls ws in
+      let idle = few_idle settings now calls ws in
       let one = says.ended.few in
       let both = length-append (idled ws (idle_at settings now calls)) (ended_by (option_map (outcome_of settings read) read.segment)) in
       record {
@@ -311,7 +295,7 @@ module _ (laws : RangeLaws) (settings : PlainSettings) (link : Link) where
   pub entries_fit : (trace : List Item) → IsSound settings link trace → length (frames_written trace) < 2 ^ 32 → length trace < 2 ^ 32 → AllByRecursion EntryFits (entries trace)
   entries_fit [] sound few lines = tt
   entries_fit (item ∷ older) sound few lines =
-      let past = before settings link item older sound in
+      let past = none_before settings link item older sound in
       let more = frames_more item older in
       let fewer : length (frames_written older) < 2 ^ 32 = omega (arith, more, few) in (
         subst (λ (x : Item). EntryFits x.entry) (sym sound.lawful.1) (entry_fits older item.packet past sound.octets.1 fewer (omega (arith, lines))),

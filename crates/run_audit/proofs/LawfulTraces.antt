@@ -1,6 +1,5 @@
--- The frames of a lawful trace have no fault.
-use Rattle.std.proofs.Common.{◌≡◌, ℕ, zero, suc, ◌≤◌, ◌==◌, ◌&&◌, not, cond, Bool, true, false, List, [], ◌∷◌, ◌++◌, length, map, reverse, replicate, Option, Some, None, refl, sym, ap, ap₂, ◌∙◌, subst, arith, append-nil, append_assoc, length-append, eq-eqb, slice_get, if◌then◌else◌}
-use Rattle.std.specs.Prelude.{All, IsSome, is_ok}
+-- Each frame of a lawful trace belongs to the entry of its own item, and has no fault; so the audit says yes.
+use Rattle.std.proofs.Common.{◌≡◌, ℕ, zero, suc, ◌≤◌, ◌==◌, ◌&&◌, not, cond, Bool, true, false, List, [], ◌∷◌, ◌++◌, length, map, reverse, replicate, Option, Some, None, refl, sym, ap, ap₂, ◌∙◌, subst, arith, append-nil, append_assoc, length-append, eq-eqb, slice_get, if◌then◌else◌, All, IsSome, is_ok}
 use Rattle.std.specs.List.{AllByRecursion}
 use Rattle.std.proofs.lemmas.Bool.Decides.{nat_tests}
 use Rattle.std.proofs.lemmas.List.{reverse-append, length-reverse}
@@ -34,6 +33,7 @@ use Rattle.norm_engine.specs.Agreement.{sent_in}
 use Rattle.norm_engine.specs.Laws.{IsSound, ItemsAreCounted}
 use Rattle.norm_engine.specs.Certain as engine
 use Rattle.norm_engine.specs.Certain.{IsWholeSegment, ItemsAreCertain, LawfulIsEmitted}
+use Rattle.norm_engine.proofs.ItemFrames.{none_before}
 use Rattle.run_audit.specs.Emitted.{Marked, IsCertain, NoneAcksUnbased, EmittedHasNoFault, frames_in, sent_as}
 use Rattle.run_audit.specs.Faults.{is_segment, IsWellReadAs}
 use Rattle.run_audit.specs.FirstFault.{AreFaultless, NoFault}
@@ -117,14 +117,14 @@ as_many : (trace : List Item) → AreCounted trace → length (frames_written tr
 unfolding AreCounted
 as_many [] c = refl
 as_many (item ∷ older) c =
-    let before = as_many older c.0 in
+    let none_before = as_many older c.0 in
     let counted = c.1 in
     let frames = length-append (reverse item.frames) (frames_written older) in
     let turned = length-reverse item.frames in
     let with_item = ap length (owners_with item.entry (entries older)) in
     let both = length-append (owners (entries_written older)) (replicate item.entry.packets item.entry) in
     let long = replicate_long item.entry.packets item.entry in
-    omega (arith, before, counted, frames, turned, with_item, both, long)
+    omega (arith, none_before, counted, frames, turned, with_item, both, long)
 
 owned_is : (link : Link) (trace : List Item) → AreCounted trace → frames_in (marked link trace) ≡ owned link (owners (entries_written trace)) (frames_written trace)
 unfolding AreCounted marked
@@ -260,14 +260,14 @@ module _ (hops : ℕ) (link : Link) (item : Item) (older : List Item) (certain :
       by (Some Outward) s = λ there. is_read (packet_in link octets) (one.whole there)
       by None s = none era refl s
 
-  onto : (frames : List (List ℕ)) (before : List Marked) → AllByRecursion OneIs frames → AllByRecursion (IsCertain hops) before
-      → AllByRecursion (IsCertain hops) (marked_onto link item.entry (is_written item.entry.verdict) frames before)
+  onto : (frames : List (List ℕ)) (none_before : List Marked) → AllByRecursion OneIs frames → AllByRecursion (IsCertain hops) none_before
+      → AllByRecursion (IsCertain hops) (marked_onto link item.entry (is_written item.entry.verdict) frames none_before)
   unfolding marked_onto
-  onto [] before all certain_before = certain_before
-  onto (f ∷ fs) before all certain_before = onto fs (record { frame = frame_of link f item.entry; written = is_written item.entry.verdict } ∷ before) all.1 (certain_one f all.0, certain_before)
+  onto [] none_before all certain_before = certain_before
+  onto (f ∷ fs) none_before all certain_before = onto fs (record { frame = frame_of link f item.entry; written = is_written item.entry.verdict } ∷ none_before) all.1 (certain_one f all.0, certain_before)
 
-  all_certain : (before : List Marked) → AllByRecursion (IsCertain hops) before → AllByRecursion (IsCertain hops) (marked_onto link item.entry (is_written item.entry.verdict) item.frames before)
-  all_certain before h = onto item.frames before (each_one item.frames certain.plain certain.segments silent) h
+  all_certain : (none_before : List Marked) → AllByRecursion (IsCertain hops) none_before → AllByRecursion (IsCertain hops) (marked_onto link item.entry (is_written item.entry.verdict) item.frames none_before)
+  all_certain none_before h = onto item.frames none_before (each_one item.frames certain.plain certain.segments silent) h
     where
       silent : is_written item.entry.verdict ≡ false → side ≡ Some Inward → IsSome era → AllByRecursion IsSilentPacket (map (packet_in link) item.frames)
       silent unwritten inward there = at era refl there
@@ -284,9 +284,6 @@ pub record Laws : Type 0 where
   pub faultless : EmittedHasNoFault
   pub resets : ResetsAreLast
 
-pub before : (settings : PlainSettings) (link : Link) (item : Item) (older : List Item) → IsSound settings link (item ∷ older) → IsSound settings link older
-before settings link item older sound = record { hops = sound.hops; octets = sound.octets.0; lawful = sound.lawful.0 }
-
 all_marked : Laws → (settings : PlainSettings) (link : Link) (trace : List Item) → IsSound settings link trace → AllByRecursion (IsCertain settings.hops) (marked link trace)
 unfolding marked
 all_marked laws settings link [] sound = tt
@@ -294,13 +291,13 @@ all_marked laws settings link (item ∷ older) sound =
     all_certain settings.hops link item older
     (subst (engine.IsCertain settings.hops link) (sym sound.lawful.1) (laws.certain settings link older item.packet sound.hops sound.octets.0 sound.octets.1))
     (laws.emitted settings link (item ∷ older) sound)
-    (marked link older) (all_marked laws settings link older (before settings link item older sound))
+    (marked link older) (all_marked laws settings link older (none_before settings link item older sound))
 
 all_counted : Laws → (settings : PlainSettings) (link : Link) (trace : List Item) → IsSound settings link trace → AreCounted trace
 unfolding AreCounted
 all_counted laws settings link [] sound = tt
 all_counted laws settings link (item ∷ older) sound = (
-  all_counted laws settings link older (before settings link item older sound),
+  all_counted laws settings link older (none_before settings link item older sound),
   subst (λ (x : Item). x.entry.packets ≡ length x.frames) (sym sound.lawful.1) (laws.counted settings link older item.packet).packets,
 )
 

@@ -1,7 +1,5 @@
--- Frames without a fault describe one stream in each era, so all receivers agree.
-use Rattle.std.proofs.Common.{◌≡◌, ℕ, zero, suc, ◌+◌, ◌%◌, ◌^◌, ◌==◌, ◌&&◌, ◌||◌, List, [], ◌∷◌, ◌++◌, map, length, Option, Some, None, Bool, true, false, refl, sym, ap, ◌∙◌, subst, if◌then◌else◌, append-nil}
-use Rattle.std.specs.Prelude.{ℤ, All, IfSome, IsTrue, slice_get}
-use Rattle.std.proofs.lemmas.Bool.{eqb-true}
+-- Frames without a fault describe one stream in each era, so all receivers agree, and a monitor misses nothing.
+use Rattle.std.proofs.Common.{◌≡◌, ℕ, ◌+◌, ◌==◌, ◌&&◌, ◌||◌, List, [], ◌∷◌, ◌++◌, map, Option, Some, None, Bool, true, false, refl, sym, ap, ◌∙◌, subst, if◌then◌else◌, append-nil, eqb-true, ℤ, All}
 use Rattle.std.proofs.lemmas.List.Elements.{All-nil, All-cons, All-append}
 use Rattle.wire_base.specs.declared.address.Side.{Side}
 use Rattle.wire_base.specs.declared.address.Side.TheVariants.{Inward, Outward}
@@ -10,53 +8,25 @@ use Rattle.wire_base.specs.Tcp as tcp
 use Rattle.wire_base.specs.Plain.{Plain}
 use Rattle.wire_base.specs.Segments.{Segment, Written, fields_of, segment_of, written_of}
 use Rattle.era_state.specs.Offsets.{off}
-use Rattle.era_state.specs.Quantities.{base_of, acked, first, end_of}
+use Rattle.era_state.specs.Quantities.{base_of, acked}
 use Rattle.era_state.specs.Emitted.{HasNoOtherBase}
 use Rattle.era_state.specs.Silence.{IsSilent, SilenceChangesNothing}
 use Rattle.receiver_model.specs.Monitors.{MonitorsMissNothing}
-use Rattle.receiver_model.specs.Agreement.{OctetAt, FinAt, HasSynBefore, TellOneStream, MembersAgree}
+use Rattle.receiver_model.specs.Agreement.{MembersAgree}
 use Rattle.era_agreement.specs.Sent.{is_era, inward_packets, written_as, segments_in, written_in, place_of, placed_at, inward_places}
 use Rattle.era_agreement.specs.Agreement.{IsSilentPacket, EraIsSound, MissesNothingInTime}
-use Rattle.era_agreement.proofs.Facts.{EraLaws, IsTold, told_still, other_before}
-use Rattle.era_agreement.proofs.Told.{Each, Told}
+use Rattle.era_agreement.proofs.Streams.{EraLaws, IsTold, told_still, other_before, Told, one_stream}
+use Rattle.receiver_model.proofs.Places.{Each, each_append, each_map}
 use Rattle.run_audit.specs.Faults.{in_stream, lacks_base, has_other_syn, has_other_octet, has_other_fin, IsWellReadAs, IsFaultless}
 use Rattle.run_audit.specs.FirstFault.{AreFaultless}
 use Rattle.run_audit.specs.Frames.{Frame, is_based, is_inward, sent}
 use Rattle.run_audit.specs.Sound.{FaultlessAgrees, FaultlessMissesNothing}
-use Rattle.run_audit.proofs.Telling.{IsRight, EndsBehind, told, silent_unbased, ends_on, ends_silent, ends_outward}
+use Rattle.run_audit.proofs.Segments.{IsRight, EndsBehind, told, silent_unbased, ends_on, ends_silent, ends_outward}
 
 -- the laws that are cited
 pub record Laws : Type 0 where
   pub eras : EraLaws
   pub silence : SilenceChangesNothing
-
-each_append : (P : ℤ → List ℕ → Type 0) (zs : List ℤ) (ps : List (List ℕ)) (ys : List ℤ) (qs : List (List ℕ)) → Each P zs ps → Each P ys qs → Each P (zs ++ ys) (ps ++ qs)
-each_append P [] [] ys qs h k = k
-each_append P [] (p ∷ ps) ys qs h k = absurd h
-each_append P (z ∷ zs) [] ys qs h k = absurd h
-each_append P (z ∷ zs) (p ∷ ps) ys qs h k = (h.0, each_append P zs ps ys qs h.1 k)
-
-each_map : (P Q : ℤ → List ℕ → Type 0) (zs : List ℤ) (ps : List (List ℕ)) → ((z : ℤ) (p : List ℕ) → P z p → Q z p) → Each P zs ps → Each Q zs ps
-each_map P Q [] [] f h = tt
-each_map P Q [] (p ∷ ps) f h = absurd h
-each_map P Q (z ∷ zs) [] f h = absurd h
-each_map P Q (z ∷ zs) (p ∷ ps) f h = (f z p h.0, each_map P Q zs ps f h.1)
-
-each_at : (P : ℤ → List ℕ → Type 0) (zs : List ℤ) (ps : List (List ℕ)) (k : ℕ) (z : ℤ) (p : List ℕ) → Each P zs ps → slice_get zs k ≡ Some z → slice_get ps k ≡ Some p → P z p
-each_at P [] [] k z p h e f = absurd (cc)
-each_at P [] (q ∷ ps) k z p h e f = absurd h
-each_at P (y ∷ zs) [] k z p h e f = absurd h
-each_at P (y ∷ zs) (q ∷ ps) zero z p h e f =
-    let a : y ≡ z = cc e in
-    let b : q ≡ p = cc f in
-    subst (λ (r : ℤ × List ℕ). P r.0 r.1) (λ i. (a i, b i)) h.0
-each_at P (y ∷ zs) (q ∷ ps) (suc k) z p h e f = each_at P zs ps k z p h.1 e f
-
-each_long : (P : ℤ → List ℕ → Type 0) (zs : List ℤ) (ps : List (List ℕ)) → Each P zs ps → length zs ≡ length ps
-each_long P [] [] h = refl
-each_long P [] (q ∷ ps) h = absurd h
-each_long P (y ∷ zs) [] h = absurd h
-each_long P (y ∷ zs) (q ∷ ps) h = ap suc (each_long P zs ps h.1)
 
 -- the packets of an era describe the quantities of its segments
 pub record EraTells (hops base : ℕ) (ws : List Written) (zs : List ℤ) (ps : List (List ℕ)) : Type 0 where
@@ -236,43 +206,6 @@ all_silent laws hops era (f ∷ older) h none = by (all_silent laws hops era old
     by go true e false i based none = same (go (before (if based then segments_in false (p ∷ []) else []) none))
     by go true e true i based none = inward go (inward_is f.side i) (named_is era f.era e) none
 
-if_some : (P : Segment → Type 0) (o : Option Segment) → ((s : Segment) → o ≡ Some s → P s) → IfSome o P
-if_some P None h = tt
-if_some P (Some s) h = h s refl
-
-all_syns : (base : ℕ) (ws : List Written) (zs : List ℤ) (ps : List (List ℕ)) → Each (Told base ws) zs ps → All (λ p. HasSynBefore base p) ps
-all_syns base ws [] [] h = All-nil (λ p. HasSynBefore base p)
-all_syns base ws [] (q ∷ ps) h = absurd h
-all_syns base ws (y ∷ zs) [] h = absurd h
-all_syns base ws (y ∷ zs) (q ∷ ps) h =
-    All-cons (λ p. HasSynBefore base p) q ps
-    (if_some (λ s. IsTrue (tcp.has_syn s.flags) → (s.sequence + 1) % 2 ^ 32 ≡ base % 2 ^ 32) (segment_of q) (λ s says. (h.0 s says).syn))
-    (all_syns base ws zs ps h.1)
-
-octet_first : (base : ℕ) (ws : List Written) (zs : List ℤ) (ps : List (List ℕ)) (o : ℤ) (x : ℕ) → Each (Told base ws) zs ps → OctetAt zs ps o x → first base ws o ≡ Some x
-octet_first base ws zs ps o x h c =
-    let t : IsTold base ws c.place c.segment = each_at (Told base ws) zs ps c.number c.place c.frame h c.placed c.stands c.segment c.says in
-    ap (first base ws) c.there ∙ t.octets c.index x c.has
-
-fin_end : (base : ℕ) (ws : List Written) (zs : List ℤ) (ps : List (List ℕ)) (o : ℤ) → Each (Told base ws) zs ps → FinAt zs ps o → end_of base ws ≡ Some o
-fin_end base ws zs ps o h c =
-    let t : IsTold base ws c.place c.segment = each_at (Told base ws) zs ps c.number c.place c.frame h c.placed c.stands c.segment c.says in
-    t.fin c.has ∙ ap (λ z. Some z) (sym c.there)
-
--- such packets describe one stream
-one_stream : (hops base : ℕ) (ws : List Written) (zs : List ℤ) (ps : List (List ℕ)) → EraTells hops base ws zs ps → TellOneStream hops base zs ps
-one_stream hops base ws zs ps t = record {
-  plain = t.plain;
-  syns = all_syns base ws zs ps t.each;
-  placed = record {
-    one_each = each_long (Told base ws) zs ps t.each;
-    placed = λ number frame s place stands says placed. (each_at (Told base ws) zs ps number place frame t.each placed stands s says).placed;
-  };
-  one_octet = λ o x y a b. let e = octet_first base ws zs ps o x t.each a in let f = octet_first base ws zs ps o y t.each b in cc (e, f);
-  one_end = λ p q a b. let e = fin_end base ws zs ps p t.each a in let f = fin_end base ws zs ps q t.each b in cc (e, f);
-  none_past = λ o x p a b. t.ends o x p (octet_first base ws zs ps o x t.each a) (fin_end base ws zs ps p t.each b);
-}
-
 pub faultless_agrees : Laws → MembersAgree → FaultlessAgrees
 faultless_agrees laws members hops frames h era = by (base_of ws) refl
   where
@@ -283,7 +216,7 @@ faultless_agrees laws members hops frames h era = by (base_of ws) refl
     by None e = all_silent laws hops era frames h (λ b f. absurd (cc (e, f)))
     by (Some base) e =
         members hops base (inward_places era base (sent frames)) (inward_packets era (sent frames))
-        (one_stream hops base ws (inward_places era base (sent frames)) (inward_packets era (sent frames)) (era_tells laws hops era base frames h (λ number f. let same : Some number ≡ Some base = sym f ∙ e in cc same)))
+        (let tells = era_tells laws hops era base frames h (λ number f. let same : Some number ≡ Some base = sym f ∙ e in cc same) in one_stream hops base ws (inward_places era base (sent frames)) (inward_packets era (sent frames)) tells.plain tells.each tells.ends)
 
 faultless_misses_now : Laws → MonitorsMissNothing → (hops : ℕ) (frames : List Frame) → AreFaultless hops frames → MissesNothingInTime hops (sent frames)
 faultless_misses_now laws monitors hops frames h era base e =
@@ -291,7 +224,7 @@ faultless_misses_now laws monitors hops frames h era base e =
     let places = inward_places era base (sent frames) in
     let packets = inward_packets era (sent frames) in
     monitors.in_time hops base places packets
-    (one_stream hops base ws places packets (era_tells laws hops era base frames h (λ number f. let same : Some number ≡ Some base = sym f ∙ e in cc same)))
+    (let tells = era_tells laws hops era base frames h (λ number f. let same : Some number ≡ Some base = sym f ∙ e in cc same) in one_stream hops base ws places packets tells.plain tells.each tells.ends)
 
 pub faultless_misses : Laws → MonitorsMissNothing → FaultlessMissesNothing
 faultless_misses laws monitors hops [] h = faultless_misses_now laws monitors hops [] h

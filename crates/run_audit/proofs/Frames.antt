@@ -1,8 +1,9 @@
--- How an audit proceeds from frame to frame, and how it ends.
-use Rattle.std.proofs.Common.{◌≡◌, ℕ, zero, suc, ◌+◌, ◌<◌, ◌≤◌, ◌^◌, List, [], ◌∷◌, length, drop, Option, Some, None, Ok, refl, sym, ap, ap₂, subst, ◌∙◌, arith}
-use Rattle.std.specs.Prelude.{IfSome, IsSome, slice_get, nat_eq}
-use Rattle.std.specs.List.{AllByRecursion}
+-- From frame to frame of a capture: the owner of each, the eras named so far, and how an audit ends.
+use Rattle.std.proofs.Common.{◌≡◌, ℕ, zero, suc, ◌+◌, ◌<◌, ◌≤◌, ◌^◌, List, [], ◌∷◌, length, drop, Option, Some, None, refl, sym, ap, ap₂, subst, ◌∙◌, arith, ◌==◌, ◌||◌, ◌++◌, map, drop-cons, get_or, add-one, Bool, true, false, nat_eq, if◌then◌else◌, option_to_list, eq-eqb, IfSome, IsSome, slice_get, is_some, replicate}
+use Rattle.std.specs.List.{AllByRecursion, list_any, flat_map}
 use Rattle.std.proofs.lemmas.Option.{slice_get_past}
+use Rattle.std.proofs.lemmas.List.Folds.{list_any-append}
+use Rattle.std.specs.Map.{keys_of, lookup}
 use Rattle.wire_base.specs.declared.address.Link.{Link}
 use Rattle.wire_base.specs.Frames.{packet_in}
 use Rattle.pcap_file.specs.declared.head.Head.{Head}
@@ -11,8 +12,10 @@ use Rattle.pcap_file.specs.Records.{Packet, front_of}
 use Rattle.pcap_file.specs.Capture.{ReadsTo, offset_of}
 use Rattle.pcap_file.specs.Reads.{Leaves, HasEnd, Advances}
 use Rattle.pcap_file.specs.Reading.{Reading}
-use Rattle.rule_book.specs.Entries.{PlainEntry}
+use Rattle.rule_book.specs.Entries.{PlainEntry, plain}
 use Rattle.indexmap.specs.IndexMap.{get}
+use Rattle.pcap_file.proofs.Captures.{front_of_nothing}
+use Rattle.rule_book.specs.declared.entry.Entry.{Entry}
 use Rattle.run_audit.specs.declared.answer.Reason.{Reason}
 use Rattle.run_audit.specs.declared.answer.Reason.TheVariants as reasons
 use Rattle.run_audit.specs.declared.owners.Owners.{Owners}
@@ -22,6 +25,9 @@ use Rattle.run_audit.specs.Faults.{IsFirstReason}
 use Rattle.run_audit.specs.FirstFault.{AreFaultless, FailsNext, FirstFault}
 use Rattle.run_audit.specs.Frames.{Frame, frame_of, owners, with_frame, owned, sent}
 use Rattle.run_audit.specs.Owned.{left_of}
+use Rattle.run_audit.specs.Named.{noted, all_noted, numbers_of, named_in, eras_named}
+
+-- How an audit proceeds from frame to frame, and how it ends.
 
 -- If a source has known octets, these records, the newest first, were taken from those after the head.
 abbrev pub Took : Order → (old new : Option (List ℕ)) → List Packet → Type 0
@@ -161,10 +167,6 @@ faulty hops head entries old mid new eras left left' reader frames p e reason g 
     at_frame hops head entries old mid new eras left reader frames p (Some e) reason g leaves (left_some (owners entries) (left_of left') (length g.packets) e (sym g.left_is ∙ owner)).0
     (first (owned head.link (owners entries) (frames_of g.packets)) g.stand)
 
-nothing_left : (order : Order) (count : ℕ) → front_of order count [] ≡ Ok None
-unfolding front_of
-nothing_left order count = refl
-
 -- the capture ends, and an entry names another frame
 pub unwritten : (hops : ℕ) (head : Head) (entries : List PlainEntry) (old mid new : Option (List ℕ)) (eras : Eras) (left left' : Owners) (reader : Reading) (frames : ℕ) (e : PlainEntry) → GoesOn hops head entries old mid eras left reader frames
     → HasEnd mid new → left_of left ≡ e ∷ left_of left' → IfSome old (λ all. FaultyFrame hops head entries all (frames + 1) reasons.Count)
@@ -177,7 +179,7 @@ unwritten hops head entries old mid new eras left left' reader frames e g end ow
     by None b c took l = tt
     by (Some all) None c took l = absurd took
     by (Some all) (Some xs) None took l = absurd l
-    by (Some all) (Some xs) (Some ys) took l = record { packets = g.packets; left = xs; reads = took; next = None; stands = ap (front_of head.order (length g.packets)) l.0 ∙ nothing_left head.order (length g.packets); first = first }
+    by (Some all) (Some xs) (Some ys) took l = record { packets = g.packets; left = xs; reads = took; next = None; stands = ap (front_of head.order (length g.packets)) l.0 ∙ front_of_nothing head.order (length g.packets); first = first }
 
 -- the capture ends, and no entry names another frame
 pub sound : (hops : ℕ) (head : Head) (entries : List PlainEntry) (old mid new : Option (List ℕ)) (eras : Eras) (left : Owners) (reader : Reading) (frames : ℕ) → GoesOn hops head entries old mid eras left reader frames
@@ -230,3 +232,108 @@ faulty_by hops old new link packet octets e verdict reason some is judged before
     let P : Option Reason → Type 0 = λ v. IsJudged hops before (record { packet = packet; side = e.side; era = e.era }) old new v in
     let Q : List ℕ → Type 0 = λ p. IsFirstReason hops (sent before) (record { packet = p; side = e.side; era = e.era }) reason in
     subst Q is (subst P some (judged before stand))
+
+-- Eras that are named one after another.
+
+-- a key is among the keys exactly if it is found
+keys_found : {X : Type 0} (test : ℕ → Bool) (es : List (ℕ × X)) → list_any test (keys_of es) ≡ is_some (lookup test es)
+keys_found test [] = refl
+keys_found test (e ∷ es) = by (keys_found test es) (test e.0) refl
+  where
+    by : list_any test (keys_of es) ≡ is_some (lookup test es) → (b : Bool) → test e.0 ≡ b → (test e.0 || list_any test (keys_of es)) ≡ is_some (if test e.0 then Some e.1 else lookup test es)
+    by rest true is = ap (λ b. b || list_any test (keys_of es)) is ∙ sym (ap (λ (b : Bool). is_some (if b then Some e.1 else lookup test es)) is)
+    by rest false is = ap (λ b. b || list_any test (keys_of es)) is ∙ rest ∙ sym (ap (λ (b : Bool). is_some (if b then Some e.1 else lookup test es)) is)
+
+pub noted_there : {X : Type 0} (es : List (ℕ × X)) (era : ℕ) → is_some (lookup (nat_eq era) es) ≡ true → keys_of es ≡ noted (keys_of es) era
+noted_there es era there = sym (ap (λ (b : Bool). if b then keys_of es else keys_of es ++ era ∷ []) (keys_found (nat_eq era) es ∙ there))
+
+keys_pushed : {X : Type 0} (es : List (ℕ × X)) (era : ℕ) (x : X) → keys_of (es ++ (era, x) ∷ []) ≡ keys_of es ++ era ∷ []
+keys_pushed [] era x = refl
+keys_pushed (e ∷ es) era x = ap (λ ks. e.0 ∷ ks) (keys_pushed es era x)
+
+pub noted_new : {X : Type 0} (es new : List (ℕ × X)) (era : ℕ) (x : X) → is_some (lookup (nat_eq era) es) ≡ false → new ≡ es ++ (era, x) ∷ [] → keys_of new ≡ noted (keys_of es) era
+noted_new es new era x apart is = ap keys_of is ∙ keys_pushed es era x ∙ sym (ap (λ (b : Bool). if b then keys_of es else keys_of es ++ era ∷ []) (keys_found (nat_eq era) es ∙ apart))
+
+pub all_noted-append : (ns xs ys : List ℕ) → all_noted ns (xs ++ ys) ≡ all_noted (all_noted ns xs) ys
+all_noted-append ns [] ys = refl
+all_noted-append ns (x ∷ xs) ys = all_noted-append (noted ns x) xs ys
+
+-- the eras of one more entry are named
+pub entry_on : (ns more : List ℕ) (entries : List Entry) (i : ℕ) (entry : Entry) (whole : List ℕ) → i < length entries → entry ≡ get_or entries i entry → more ≡ all_noted ns (named_in (plain entry)) → all_noted ns (flat_map named_in (map plain (drop i entries))) ≡ whole → all_noted more (flat_map named_in (map plain (drop (i + 1) entries))) ≡ whole
+entry_on ns more entries i entry whole less is named so_far =
+    ap₂ (λ ks n. all_noted ks (flat_map named_in (map plain (drop n entries)))) named (add-one i)
+    ∙ sym (all_noted-append ns (named_in (plain entry)) (flat_map named_in (map plain (drop (suc i) entries))))
+    ∙ ap (λ (e : Entry). all_noted ns (named_in (plain e) ++ flat_map named_in (map plain (drop (suc i) entries)))) is
+    ∙ sym (ap (λ es. all_noted ns (flat_map named_in (map plain es))) (drop-cons entries i entry less))
+    ∙ so_far
+
+pub none_of : {X : Type 0} (o : Option X) → is_some o ≡ false → o ≡ None
+none_of None e = refl
+none_of (Some x) e = absurd (cc e)
+
+-- an era that is named remains named
+noted_keeps : (n : ℕ) (ns : List ℕ) (x : ℕ) → list_any (λ other. n == other) ns ≡ true → list_any (λ other. n == other) (noted ns x) ≡ true
+noted_keeps n ns x h = by (list_any (λ other. x == other) ns)
+  where
+    by : (b : Bool) → list_any (λ other. n == other) (if b then ns else ns ++ x ∷ []) ≡ true
+    by true = h
+    by false = list_any-append (λ other. n == other) ns (x ∷ []) ∙ ap (λ b. b || list_any (λ other. n == other) (x ∷ [])) h
+
+noted_has : (n : ℕ) (ns : List ℕ) → list_any (λ other. n == other) (noted ns n) ≡ true
+noted_has n ns = by (list_any (λ other. n == other) ns) refl
+  where
+    self : (n == n) ≡ true
+    self = eq-eqb n n refl
+
+    last : (b : Bool) → (b || true) ≡ true
+    last true = refl
+    last false = refl
+
+    by : (b : Bool) → list_any (λ other. n == other) ns ≡ b → list_any (λ other. n == other) (if b then ns else ns ++ n ∷ []) ≡ true
+    by true e = e
+    by false e = list_any-append (λ other. n == other) ns (n ∷ []) ∙ ap (λ b. list_any (λ other. n == other) ns || (b || false)) self ∙ last (list_any (λ other. n == other) ns)
+
+all_keeps : (n : ℕ) (ns xs : List ℕ) → list_any (λ other. n == other) ns ≡ true → list_any (λ other. n == other) (all_noted ns xs) ≡ true
+all_keeps n ns [] h = h
+all_keeps n ns (x ∷ xs) h = all_keeps n (noted ns x) xs (noted_keeps n ns x h)
+
+-- the era of an entry is among the named ones
+abbrev Names : List ℕ → PlainEntry → Type 0
+Names ns e = IfSome e.era (λ n. list_any (λ other. n == other) ns ≡ true)
+
+all_named : (ns : List ℕ) (entries : List PlainEntry) → AllByRecursion (Names (all_noted ns (flat_map named_in entries))) entries
+all_named ns [] = tt
+all_named ns (e ∷ entries) = (by e.era refl, subst (λ ms. AllByRecursion (Names ms) entries) (sym parts) (all_named (all_noted ns (named_in e)) entries))
+  where
+    parts : all_noted ns (named_in e ++ flat_map named_in entries) ≡ all_noted (all_noted ns (named_in e)) (flat_map named_in entries)
+    parts = all_noted-append ns (named_in e) (flat_map named_in entries)
+
+    rest : List ℕ
+    rest = option_to_list e.begun
+
+    by : (o : Option ℕ) → e.era ≡ o → IfSome o (λ n. list_any (λ other. n == other) (all_noted ns (named_in e ++ flat_map named_in entries)) ≡ true)
+    by None is = tt
+    by (Some n) is =
+        let here : all_noted ns (named_in e) ≡ all_noted (noted ns n) (rest ++ numbers_of e.ended) =
+        ap (λ o. all_noted ns ((option_to_list o ++ rest) ++ numbers_of e.ended)) is in
+        ap (list_any (λ other. n == other)) (parts ∙ ap (λ ms. all_noted ms (flat_map named_in entries)) here)
+        ∙ all_keeps n (all_noted (noted ns n) (rest ++ numbers_of e.ended)) (flat_map named_in entries) (all_keeps n (noted ns n) (rest ++ numbers_of e.ended) (noted_has n ns))
+
+-- so it is for the owner of each frame
+each_has : (eras : Eras) (ns : List ℕ) (e : PlainEntry) → keys_of eras.entries ≡ ns → Names ns e → HasEra eras e
+each_has eras ns e keys named = by e.era named
+  where
+    by : (o : Option ℕ) → IfSome o (λ n. list_any (λ other. n == other) ns ≡ true) → IfSome o (λ n. IsSome (get nat_eq eras n))
+    by None h = h
+    by (Some n) h = sym (keys_found (nat_eq n) eras.entries) ∙ ap (list_any (λ other. n == other)) keys ∙ h
+
+all_same : (P : PlainEntry → Type 0) (n : ℕ) (e : PlainEntry) (rest : List PlainEntry) → P e → AllByRecursion P rest → AllByRecursion P (replicate n e ++ rest)
+all_same P zero e rest h k = k
+all_same P (suc n) e rest h k = (h, all_same P n e rest h k)
+
+pub owners_named : (eras : Eras) (ns : List ℕ) (entries : List PlainEntry) → keys_of eras.entries ≡ ns → AllByRecursion (Names ns) entries → AllByRecursion (HasEra eras) (owners entries)
+owners_named eras ns [] keys h = tt
+owners_named eras ns (e ∷ entries) keys h = all_same (HasEra eras) e.packets e (owners entries) (each_has eras ns e keys h.0) (owners_named eras ns entries keys h.1)
+
+pub all_owners_named : (eras : Eras) (entries : List PlainEntry) → keys_of eras.entries ≡ eras_named entries → AllByRecursion (HasEra eras) (owners entries)
+all_owners_named eras entries keys = owners_named eras (eras_named entries) entries keys (all_named [] entries)
