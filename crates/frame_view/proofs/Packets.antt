@@ -7,8 +7,8 @@ use Rattle.wire_base.specs.Ipv4 as ip
 use Rattle.wire_base.specs.Tcp as tcp
 use Rattle.wire_base.specs.Udp as udp
 use Rattle.frame_view.specs.Laws.{AreOctets}
-use Rattle.frame_view.specs.Parts.{HasSegmentHeader, IsReadable, behind, datagram_in, first_of_two, has_tcp_header, is_first, message_end, message_in, segment_in}
-use Rattle.frame_view.specs.Readings.{number, octets, packet_reading, tcp_checksum}
+use Rattle.frame_view.specs.Parts.{HasSegmentHeader, IsReadable, behind, datagram_in, has_tcp_header, is_first, message_end, message_in, segment_in}
+use Rattle.frame_view.specs.Readings.{message_reading, packet_reading}
 use Rattle.frame_view.specs.declared.field.Field.{Field}
 use Rattle.frame_view.specs.declared.field.Field.TheVariants.{Version, HeaderLength, TypeOfService, TotalLength, Identification, ReservedBit, DontFragment, MoreFragments, FragmentOffset, Ttl, Protocol, HeaderChecksum, Source, Destination, IpOptions, SourcePort, DestinationPort, Sequence, Acknowledgment, DataOffset, Reserved, Flags, Window, Checksum, UrgentPointer, TcpOptions, UdpLength, Payload, Trailer}
 use Rattle.frame_view.proofs.Fronts.{from, from-is, same_number, low16, high16, low32, high32, below16, from_halves, times_four, times_eight, low13, from_bits}
@@ -54,23 +54,19 @@ header_parts count total p low =
 
 -- what is said of two messages, each with its segment or datagram
 pub record Alike (sa sb da db : Option (List ℕ)) (ma mb : List ℕ) : Type 0 where
-  pub source_port : number tcp.source_port (first_of_two sa da) ≡ number tcp.source_port (first_of_two sb db)
-  pub destination_port : number tcp.destination_port (first_of_two sa da) ≡ number tcp.destination_port (first_of_two sb db)
-  pub sequence : number tcp.sequence sa ≡ number tcp.sequence sb
-  pub acknowledgment : number tcp.acknowledgment sa ≡ number tcp.acknowledgment sb
-  pub data_offset : number tcp.header_length sa ≡ number tcp.header_length sb
-  pub reserved : number tcp.reserved sa ≡ number tcp.reserved sb
-  pub flags : number tcp.flags sa ≡ number tcp.flags sb
-  pub window : number tcp.window sa ≡ number tcp.window sb
-  pub checksum : number tcp_checksum sa ++ number udp.checksum da ≡ number tcp_checksum sb ++ number udp.checksum db
-  pub urgent : number tcp.urgent_pointer sa ≡ number tcp.urgent_pointer sb
-  pub options : octets tcp.options sa ≡ octets tcp.options sb
-  pub udp_length : number udp.length_field da ≡ number udp.length_field db
+  pub source_port : message_reading SourcePort sa da ≡ message_reading SourcePort sb db
+  pub destination_port : message_reading DestinationPort sa da ≡ message_reading DestinationPort sb db
+  pub sequence : message_reading Sequence sa da ≡ message_reading Sequence sb db
+  pub acknowledgment : message_reading Acknowledgment sa da ≡ message_reading Acknowledgment sb db
+  pub data_offset : message_reading DataOffset sa da ≡ message_reading DataOffset sb db
+  pub reserved : message_reading Reserved sa da ≡ message_reading Reserved sb db
+  pub flags : message_reading Flags sa da ≡ message_reading Flags sb db
+  pub window : message_reading Window sa da ≡ message_reading Window sb db
+  pub checksum : message_reading Checksum sa da ≡ message_reading Checksum sb db
+  pub urgent : message_reading UrgentPointer sa da ≡ message_reading UrgentPointer sb db
+  pub options : message_reading TcpOptions sa da ≡ message_reading TcpOptions sb db
+  pub udp_length : message_reading UdpLength sa da ≡ message_reading UdpLength sb db
   pub payload : behind sa da ma ≡ behind sb db mb
-
--- the first number of two lists
-first_number : (m n : ℕ) (ms ns : List ℕ) → m ∷ ms ≡ n ∷ ns → m ≡ n
-first_number m n ms ns e = ap (λ list. slice_index list 0) e
 
 -- the headers of two segments that say the same
 same_tcp_header : (a b ma mb : List ℕ) (da db : Option (List ℕ)) → AreOctets a → AreOctets b → Alike (Some a) (Some b) da db ma mb → from 0 20 a ≡ from 0 20 b
@@ -80,7 +76,7 @@ same_tcp_header a b ma mb da db ha hb same =
     let sequence = same_number _ _ same.sequence in
     let acknowledgment = same_number _ _ same.acknowledgment in
     let window = same_number _ _ same.window in
-    let checksum : u16_at a 16 ≡ u16_at b 16 = first_number _ _ _ _ same.checksum in
+    let checksum : u16_at a 16 ≡ u16_at b 16 = same_number _ _ same.checksum in
     let urgent = same_number _ _ same.urgent in
     let offset = from_halves (slice_index a 12) (slice_index b 12) (times_four _ _ (same_number _ _ same.data_offset)) (same_number _ _ same.reserved) in
     let flags : slice_index a 13 ≡ slice_index b 13 = same_number _ _ same.flags in
@@ -158,8 +154,10 @@ datagrams_same a b ma mb wa wb ha hb same =
 pub messages_same : (sa sb da db : Option (List ℕ)) (ma mb : List ℕ) → IsSegment sa ma → IsSegment sb mb → IsDatagram da ma → IsDatagram db mb → Alike sa sb da db ma mb → ma ≡ mb
 messages_same (Some a) (Some b) da db ma mb pa pb qa qb same =
     sym pa.0 ∙ segments_same a b ma mb da db pa.1 pb.1 pa.2 pb.2 same ∙ pb.0
-messages_same (Some a) None da db ma mb pa pb qa qb same = absurd (no_number same.data_offset)
-messages_same None (Some b) da db ma mb pa pb qa qb same = absurd (no_number (sym same.data_offset))
+messages_same (Some a) None da None ma mb pa pb qa qb same = absurd (no_number same.data_offset)
+messages_same (Some a) None da (Some d) ma mb pa pb qa qb same = absurd (no_number same.data_offset)
+messages_same None (Some b) None db ma mb pa pb qa qb same = absurd (no_number (sym same.data_offset))
+messages_same None (Some b) (Some d) db ma mb pa pb qa qb same = absurd (no_number (sym same.data_offset))
 messages_same None None (Some a) (Some b) ma mb pa pb qa qb same = sym qa.0 ∙ datagrams_same a b ma mb qa.1 qb.1 qa.2 qb.2 same ∙ qb.0
 messages_same None None (Some a) None ma mb pa pb qa qb same = absurd (no_number same.udp_length)
 messages_same None None None (Some b) ma mb pa pb qa qb same = absurd (no_number (sym same.udp_length))

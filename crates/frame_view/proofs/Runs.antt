@@ -3,7 +3,6 @@ use Rattle.std.proofs.Common.{◌≡◌, ℕ, suc, ◌+◌, ◌-◌, ◌<◌, �
 use Rattle.std.proofs.lemmas.Bool.{cases_lt, eqb-false, ne_eqb, eq-eqb, cases_Bool}
 use Rattle.std.proofs.lemmas.List.{drop_more, drop_all, drop-drop}
 use Rattle.frame_view.specs.Changes.{PlainReplaced, differing, runs}
-use Rattle.hex.specs.Hex.{encode_lower}
 
 differing-unlike : (x y : ℕ) (xs ys : List ℕ) → (x == y) ≡ false → differing (x ∷ xs) (y ∷ ys) ≡ suc (differing xs ys)
 differing-unlike x y xs ys e = rw e refl
@@ -56,19 +55,19 @@ runs-same at from to i hf ht none = by_cases (cases_Bool (get_or from i 0 == get
 -- where they differ, a run begins there, and the others are behind it
 pub runs-run : (at : ℕ) (from to : List ℕ) → (differing from to ≡ 0 → ⊥) →
     runs false at from to
-    ≡ record { at = at; from = encode_lower (take (differing from to) from); to = encode_lower (take (differing from to) to) }
+    ≡ record { at = at; from = take (differing from to) from; to = take (differing from to) to }
     ∷ runs false (at + differing from to) (drop (differing from to) from) (drop (differing from to) to)
 runs-run at [] ys some = absurd (some refl)
 runs-run at (x ∷ xs) [] some = absurd (some refl)
 runs-run at (x ∷ xs) (y ∷ ys) some = by_cases (cases_Bool (x == y))
   where
     first : PlainReplaced
-    first = record { at = at; from = encode_lower (take (differing (x ∷ xs) (y ∷ ys)) (x ∷ xs)); to = encode_lower (take (differing (x ∷ xs) (y ∷ ys)) (y ∷ ys)) }
+    first = record { at = at; from = take (differing (x ∷ xs) (y ∷ ys)) (x ∷ xs); to = take (differing (x ∷ xs) (y ∷ ys)) (y ∷ ys) }
 
     by_cases : (((x == y) ≡ true) ⊎ ((x == y) ≡ false)) → runs false at (x ∷ xs) (y ∷ ys) ≡ first ∷ runs false (at + differing (x ∷ xs) (y ∷ ys)) (drop (differing (x ∷ xs) (y ∷ ys)) (x ∷ xs)) (drop (differing (x ∷ xs) (y ∷ ys)) (y ∷ ys))
     by_cases (inl e) = absurd (some (differing-alike x y xs ys e))
     by_cases (inr e) =
-        let head : PlainReplaced = record { at = at; from = encode_lower (take (suc (differing xs ys)) (x ∷ xs)); to = encode_lower (take (suc (differing xs ys)) (y ∷ ys)) } in
+        let head : PlainReplaced = record { at = at; from = take (suc (differing xs ys)) (x ∷ xs); to = take (suc (differing xs ys)) (y ∷ ys) } in
         rw e (ap (λ t. head ∷ t) (runs-skip (at + 1) xs ys ∙ ap (λ n. runs false n (drop (differing xs ys) xs) (drop (differing xs ys) ys)) (omega arith)))
 
 -- past the end of either list nothing differs
@@ -93,22 +92,22 @@ runs-past at from to i h = by_cases (cases_lt i (length from))
 
 begins : (at next count : ℕ) (from to : List ℕ) → count ≡ differing (drop next from) (drop next to) → (count ≡ 0 → ⊥) →
     runs false (at + next) (drop next from) (drop next to)
-    ≡ record { at = at + next; from = encode_lower (take count (drop next from)); to = encode_lower (take count (drop next to)) }
+    ≡ record { at = at + next; from = take count (drop next from); to = take count (drop next to) }
     ∷ runs false (at + (next + count)) (drop (next + count) from) (drop (next + count) to)
 begins at next count from to is some =
-    let first : PlainReplaced = record { at = at + next; from = encode_lower (take count (drop next from)); to = encode_lower (take count (drop next to)) } in
+    let first : PlainReplaced = record { at = at + next; from = take count (drop next from); to = take count (drop next to) } in
     let step : runs false (at + next) (drop next from) (drop next to) ≡ first ∷ runs false (at + next + count) (drop count (drop next from)) (drop count (drop next to)) = rw is (runs-run (at + next) (drop next from) (drop next to) (λ none. some (is ∙ none))) in
     let sum : at + next + count ≡ at + (next + count) = omega arith in
     step ∙ (λ i. first ∷ runs false (sum i) (drop-drop count next from i) (drop-drop count next to i))
 
 -- a run that is added to those before it
 pub run-added : (done new whole : List PlainReplaced) (at next count : ℕ) (from to : List ℕ) → count ≡ differing (drop next from) (drop next to) → (count ≡ 0 → ⊥) →
-    new ≡ done ++ record { at = at + next; from = encode_lower (take (next + count - next) (drop next from)); to = encode_lower (take (next + count - next) (drop next to)) } ∷ [] →
+    new ≡ done ++ record { at = at + next; from = take (next + count - next) (drop next from); to = take (next + count - next) (drop next to) } ∷ [] →
     done ++ runs false (at + next) (drop next from) (drop next to) ≡ whole →
     new ++ runs false (at + (next + count)) (drop (next + count) from) (drop (next + count) to) ≡ whole
 run-added done new whole at next count from to is some added all =
     let past : next + count - next ≡ count = omega arith in
-    let first : PlainReplaced = record { at = at + next; from = encode_lower (take count (drop next from)); to = encode_lower (take count (drop next to)) } in
+    let first : PlainReplaced = record { at = at + next; from = take count (drop next from); to = take count (drop next to) } in
     let rest = runs false (at + (next + count)) (drop (next + count) from) (drop (next + count) to) in
     let begun : runs false (at + next) (drop next from) (drop next to) ≡ first ∷ rest = begins at next count from to is some in
     ap (λ t. t ++ rest) (rw past at added) ∙ append_assoc done (first ∷ []) rest ∙ ap (λ t. done ++ t) (sym begun) ∙ all

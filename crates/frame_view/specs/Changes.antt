@@ -1,54 +1,71 @@
--- What differs between a record and a frame that was written for it: the fields in which they say something else, in order, with what both say. A frame that
--- norm made itself is not compared: it has one change of its own.
-use Rattle.std.specs.Prelude.{ℕ, suc, ◌+◌, ◌-◌, ◌^◌, ◌%◌, ◌==◌, nat_le, Bool, true, false, List, [], ◌∷◌, map, length, take, drop, Option, option_map, string_bytes, if◌then◌else◌}
+-- What differs between a record and a frame that was written for it: the fields in which they say something else, in order, with what both say. A
+-- frame that norm made itself is not compared: it has one change of its own.
+use Rattle.std.specs.Prelude.{ℕ, suc, ◌+◌, ◌-◌, ◌^◌, ◌%◌, ◌==◌, nat_le, Bool, true, false, List, [], ◌∷◌, map, length, take, drop, Option, if◌then◌else◌}
 use Rattle.std.specs.List.{flat_map}
 use Rattle.std.specs.Str.{bytes_eq}
-use Rattle.hex.specs.Hex.{encode_lower}
 use Rattle.wire_base.specs.declared.address.Link.{Link}
 use Rattle.frame_view.specs.Flows.{flow_in, length_in}
 use Rattle.frame_view.specs.Parts.{payload_of}
-use Rattle.frame_view.specs.Readings.{fields, reading}
+use Rattle.frame_view.specs.Readings.{fields, has_octets, reading}
 use Rattle.frame_view.specs.declared.change.Change.{Change}
 use Rattle.frame_view.specs.declared.change.Change.TheVariants.{InField, InPayload, Made as MadeFrame}
 use Rattle.frame_view.specs.declared.change.Made.{Made}
 use Rattle.frame_view.specs.declared.change.PayloadChange.{PayloadChange}
 use Rattle.frame_view.specs.declared.change.Replaced.{Replaced}
+use Rattle.frame_view.specs.declared.change.Said.{Said}
+use Rattle.frame_view.specs.declared.change.Said.TheVariants.{Nothing, Number, Octets}
 use Rattle.frame_view.specs.declared.field.Field.{Field}
 use Rattle.frame_view.specs.declared.field.Field.TheVariants.{Sequence, Payload}
 use Rattle.frame_view.specs.declared.flow.Flow.{Flow}
-use Rattle.frame_view.specs.Texts.{reading_text}
 
--- a run of octets that were replaced by as many others: the offset of the first, and both in hexadecimal digits
+-- what a frame says in a field: nothing, a number, or octets
+pub data PlainSaid : Type 0 where
+  says_nothing : PlainSaid
+  says_number : ℕ → PlainSaid
+  says_octets : List ℕ → PlainSaid
+
+-- a run of octets that were replaced by as many others: the offset of the first, and both
 pub record PlainReplaced : Type 0 where
   pub at : ℕ
   pub from : List ℕ
   pub to : List ℕ
 
--- what differs in a payload: octets cut off at its front and at its end, octets behind its end, and octets replaced
+-- what differs in a payload: the octets cut off at its front and at its end, those behind its end, and those replaced
 pub record PlainPayload : Type 0 where
-  pub front : ℕ
-  pub end : ℕ
-  pub longer : ℕ
+  pub front : List ℕ
+  pub end : List ℕ
+  pub longer : List ℕ
   pub replaced : List PlainReplaced
 
--- what differs in one field: the number of the frame, and the texts of both values, where there is one; the payload has a form of its own; or what a frame is
--- that norm made itself: its number and kind, what its headers say, and the number of octets of its payload
+-- what differs in one field: the number of the frame, and both values; the payload has a form of its own; or what a frame is that norm made itself:
+-- its number and kind, what its headers say, and the number of octets of its payload
 pub data PlainChange : Type 0 where
-  in_field : (frame : ℕ) → Field → (from to : Option (List ℕ)) → PlainChange
+  in_field : (frame : ℕ) → Field → (from to : PlainSaid) → PlainChange
   in_payload : (frame : ℕ) → PlainPayload → PlainChange
   in_made : (frame : ℕ) → Made → Option Flow → (octets : ℕ) → PlainChange
 
+abbrev pub plain_said : Said → PlainSaid
+plain_said Nothing = says_nothing
+plain_said (Number n) = says_number n
+plain_said (Octets octets) = says_octets octets.items
+
 abbrev pub plain_replaced : Replaced → PlainReplaced
-plain_replaced run = record { at = run.at; from = string_bytes run.from; to = string_bytes run.to }
+plain_replaced run = record { at = run.at; from = run.from.items; to = run.to.items }
 
 abbrev pub plain_payload : PayloadChange → PlainPayload
-plain_payload change = record { front = change.front; end = change.end; longer = change.longer; replaced = map plain_replaced change.replaced.items }
+plain_payload change =
+    record { front = change.front.items; end = change.end.items; longer = change.longer.items; replaced = map plain_replaced change.replaced.items }
 
 -- a change in which each collection is a list
 abbrev pub plain : Change → PlainChange
-plain (InField frame field from to) = in_field frame field (option_map string_bytes from) (option_map string_bytes to)
+plain (InField frame field from to) = in_field frame field (plain_said from) (plain_said to)
 plain (InPayload frame change) = in_payload frame (plain_payload change)
 plain (MadeFrame frame kind flow octets) = in_made frame kind flow octets
+
+-- what a frame says in a field, by its reading
+abbrev pub said : Field → (reading : List ℕ) → PlainSaid
+said field [] = says_nothing
+said field (first ∷ more) = if has_octets field then says_octets (first ∷ more) else says_number first
 
 -- how many octets at the front of two lists differ
 abbrev pub differing : List ℕ → List ℕ → ℕ
@@ -66,8 +83,8 @@ runs inside at (x ∷ from) (y ∷ to) =
     else
     record {
       at = at;
-      from = encode_lower (take (differing (x ∷ from) (y ∷ to)) (x ∷ from));
-      to = encode_lower (take (differing (x ∷ from) (y ∷ to)) (y ∷ to));
+      from = take (differing (x ∷ from) (y ∷ to)) (x ∷ from);
+      to = take (differing (x ∷ from) (y ∷ to)) (y ∷ to);
     }
     ∷ runs true (at + 1) from to
 
@@ -89,9 +106,9 @@ cut_at_front link octets frame = ahead (length (payload_of link octets)) (readin
 abbrev pub payload_change : (front : ℕ) → (from to : List ℕ) → PlainPayload
 payload_change front from to =
     record {
-      front = front;
-      end = length (drop front from) - length to;
-      longer = length to - length (drop front from);
+      front = take front from;
+      end = drop (length to) (drop front from);
+      longer = drop (length (drop front from)) to;
       replaced = runs false front (drop front from) to;
     }
 
@@ -100,7 +117,7 @@ abbrev pub change_in : Link → (number : ℕ) → (octets frame : List ℕ) →
 change_in link number octets frame Payload =
     in_payload number (payload_change (cut_at_front link octets frame) (payload_of link octets) (payload_of link frame))
 change_in link number octets frame field =
-    in_field number field (reading_text field (reading link field octets)) (reading_text field (reading link field frame))
+    in_field number field (said field (reading link field octets)) (said field (reading link field frame))
 
 -- what differs in a field, where a record and a frame say something else in it
 abbrev pub changes_in : Link → (number : ℕ) → (octets frame : List ℕ) → Field → List PlainChange

@@ -2,6 +2,5 @@ pub mod Parts
 pub mod Readings
 pub mod Flows
 pub mod Changes
-pub mod Texts
 pub mod Shapes
 pub mod Laws

@@ -1,6 +1,7 @@
 -- The parts of a frame: the packet behind its link header, and the segment or datagram in it, each where its whole header can be read (this project's profile).
 use Rattle.std.specs.Prelude.{◌≡◌, ℕ, ◌==◌, ◌&&◌, not, Bool, true, false, List, length, take, drop, Option, Some, None, if◌then◌else◌}
 use Rattle.wire_base.specs.Frames.{kind_of, packet_in}
+use Rattle.wire_base.specs.Icmp as icmp
 use Rattle.wire_base.specs.Ipv4 as ip
 use Rattle.wire_base.specs.Tcp as tcp
 use Rattle.wire_base.specs.Udp as udp
@@ -54,6 +55,10 @@ segment_in p = if (ip.protocol p == 6) && is_first p && has_tcp_header (message_
 -- the UDP datagram (protocol 17) of a packet, where its header can be read
 abbrev pub datagram_in : (packet : List ℕ) → Option (List ℕ)
 datagram_in p = if (ip.protocol p == 17) && is_first p && not (udp.is_short (message_in p)) then Some (message_in p) else None
+
+-- the ICMP message (protocol 1) of a packet, where its header can be read
+abbrev pub icmp_in : (packet : List ℕ) → Option (List ℕ)
+icmp_in p = if (ip.protocol p == 1) && is_first p && not (icmp.is_short (message_in p)) then Some (message_in p) else None
 
 -- the first part where there is one, else the second
 abbrev pub first_of_two : Option (List ℕ) → Option (List ℕ) → Option (List ℕ)

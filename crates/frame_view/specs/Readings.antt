@@ -1,13 +1,13 @@
 -- The fields of a frame, in order, and what a frame says in each: numbers, or octets, or nothing where it has no such field. Two frames differ in the fields
 -- in which they say something else.
-use Rattle.std.specs.Prelude.{ℕ, ◌/◌, ◌%◌, List, [], ◌∷◌, ◌++◌, Option, Some, None, slice_index, codes}
+use Rattle.std.specs.Prelude.{ℕ, ◌/◌, ◌%◌, Bool, true, false, List, [], ◌∷◌, Option, Some, None, slice_index, codes}
 use Rattle.wire_base.specs.Numbers.{u16_at}
 use Rattle.wire_base.specs.Frames.{link_octets}
 use Rattle.wire_base.specs.Ipv4 as ip
 use Rattle.wire_base.specs.Tcp as tcp
 use Rattle.wire_base.specs.Udp as udp
 use Rattle.wire_base.specs.declared.address.Link.{Link}
-use Rattle.frame_view.specs.Parts.{packet_of, segment_in, datagram_in, ported_in, payload_in, payload_of, trailer_in}
+use Rattle.frame_view.specs.Parts.{packet_of, segment_in, datagram_in, payload_in, payload_of, trailer_in}
 use Rattle.frame_view.specs.declared.field.Field.{Field}
 use Rattle.frame_view.specs.declared.field.Field.TheVariants.{LinkHeader, Version, HeaderLength, TypeOfService, TotalLength, Identification, ReservedBit, DontFragment, MoreFragments, FragmentOffset, Ttl, Protocol, HeaderChecksum, Source, Destination, IpOptions, SourcePort, DestinationPort, Sequence, Acknowledgment, DataOffset, Reserved, Flags, Window, Checksum, UrgentPointer, TcpOptions, UdpLength, Payload, Trailer}
 
@@ -51,12 +51,16 @@ field_name UdpLength = codes "udp_length"
 field_name Payload = codes "payload"
 field_name Trailer = codes "trailer"
 
--- the number in a part of a packet, or nothing where the packet has no such part
-abbrev pub number : (List ℕ → ℕ) → (part : Option (List ℕ)) → List ℕ
-number value None = []
-number value (Some part) = value part ∷ []
+-- the field has octets: the octets before the packet, options, the payload and the octets behind the packet; any other has one number
+abbrev pub has_octets : Field → Bool
+has_octets LinkHeader = true
+has_octets IpOptions = true
+has_octets TcpOptions = true
+has_octets Payload = true
+has_octets Trailer = true
+has_octets field = false
 
--- the octets in a part, or nothing where there is no such part
+-- what a part of a packet says, or nothing where there is no such part
 abbrev pub octets : (List ℕ → List ℕ) → (part : Option (List ℕ)) → List ℕ
 octets value None = []
 octets value (Some part) = value part
@@ -65,9 +69,33 @@ octets value (Some part) = value part
 abbrev pub bit_of : (weight : ℕ) → (packet : List ℕ) → ℕ
 bit_of weight p = slice_index p 6 / weight % 2
 
--- the checksum of a TCP segment
-abbrev pub tcp_checksum : List ℕ → ℕ
-tcp_checksum m = u16_at m 16
+-- what a segment says in a field of the TCP header (RFC 9293 section 3.1), and nothing in any other; lengths are in octets
+abbrev pub segment_reading : Field → (segment : List ℕ) → List ℕ
+segment_reading SourcePort m = tcp.source_port m ∷ []
+segment_reading DestinationPort m = tcp.destination_port m ∷ []
+segment_reading Sequence m = tcp.sequence m ∷ []
+segment_reading Acknowledgment m = tcp.acknowledgment m ∷ []
+segment_reading DataOffset m = tcp.header_length m ∷ []
+segment_reading Reserved m = tcp.reserved m ∷ []
+segment_reading Flags m = tcp.flags m ∷ []
+segment_reading Window m = tcp.window m ∷ []
+segment_reading Checksum m = u16_at m 16 ∷ []
+segment_reading UrgentPointer m = tcp.urgent_pointer m ∷ []
+segment_reading TcpOptions m = tcp.options m
+segment_reading field m = []
+
+-- what a datagram says in a field of the UDP header (RFC 768), and nothing in any other
+abbrev pub datagram_reading : Field → (datagram : List ℕ) → List ℕ
+datagram_reading SourcePort m = udp.source_port m ∷ []
+datagram_reading DestinationPort m = udp.destination_port m ∷ []
+datagram_reading UdpLength m = udp.length_field m ∷ []
+datagram_reading Checksum m = udp.checksum m ∷ []
+datagram_reading field m = []
+
+-- what the segment or the datagram of a packet says in a field
+abbrev pub message_reading : Field → (segment datagram : Option (List ℕ)) → List ℕ
+message_reading field (Some m) datagram = segment_reading field m
+message_reading field None datagram = octets (datagram_reading field) datagram
 
 -- what a packet whose header can be read says in a field, and nothing in the link header's; lengths and the fragment offset are in octets
 abbrev pub packet_reading : Field → (packet : List ℕ) → List ℕ
@@ -87,20 +115,9 @@ packet_reading HeaderChecksum p = ip.header_checksum p ∷ []
 packet_reading Source p = ip.source p ∷ []
 packet_reading Destination p = ip.destination p ∷ []
 packet_reading IpOptions p = ip.options p
-packet_reading SourcePort p = number tcp.source_port (ported_in p)
-packet_reading DestinationPort p = number tcp.destination_port (ported_in p)
-packet_reading Sequence p = number tcp.sequence (segment_in p)
-packet_reading Acknowledgment p = number tcp.acknowledgment (segment_in p)
-packet_reading DataOffset p = number tcp.header_length (segment_in p)
-packet_reading Reserved p = number tcp.reserved (segment_in p)
-packet_reading Flags p = number tcp.flags (segment_in p)
-packet_reading Window p = number tcp.window (segment_in p)
-packet_reading Checksum p = number tcp_checksum (segment_in p) ++ number udp.checksum (datagram_in p)
-packet_reading UrgentPointer p = number tcp.urgent_pointer (segment_in p)
-packet_reading TcpOptions p = octets tcp.options (segment_in p)
-packet_reading UdpLength p = number udp.length_field (datagram_in p)
 packet_reading Payload p = payload_in p
 packet_reading Trailer p = trailer_in p
+packet_reading field p = message_reading field (segment_in p) (datagram_in p)
 
 -- what a frame says in a field; the payload is all octets behind the link header where no IPv4 header can be read
 abbrev pub reading : Link → Field → (frame : List ℕ) → List ℕ

@@ -1,6 +1,6 @@
 -- What a frame says in a field as it is passed on: a number, or octets of the frame.
 use Rattle.std.specs.Prelude.{◌≡◌, ℕ, true, false, List, [], ◌∷◌}
-use Rattle.frame_view.specs.Texts.{is_hex, style_of}
+use Rattle.frame_view.specs.Readings.{has_octets}
 use Rattle.frame_view.specs.declared.field.Field.{Field}
 use Rattle.frame_view.specs.declared.reading.Reading.{Reading}
 use Rattle.frame_view.specs.declared.reading.Reading.TheVariants.{Absent, Number, Octets}
@@ -23,11 +23,11 @@ AreRun Absent = Unit {0}
 AreRun (Number n) = ⊥
 AreRun (Octets octets) = Unit {0}
 
--- a field that is written in hexadecimal digits has octets, another a number
+-- a field of octets says octets, another a number
 abbrev pub FitsField : Field → Reading → Type 0
 FitsField field Absent = Unit {0}
-FitsField field (Number n) = is_hex (style_of field) ≡ false
-FitsField field (Octets octets) = is_hex (style_of field) ≡ true
+FitsField field (Number n) = has_octets field ≡ false
+FitsField field (Octets octets) = has_octets field ≡ true
 
 -- not a number and octets
 abbrev pub AreAlike : (one other : Reading) → Type 0

@@ -1,40 +1,48 @@
 //! What differs between a record and a frame that was written for it.
 ghost use Rattle.std.specs.Prelude.{◌≡◌, ◌++◌, ◌∷◌, [], map, OnOk, IfOk};
-ghost use Rattle.frame_view.specs.Changes.{changes_of, made_of, plain};
+ghost use Rattle.frame_view.specs.Changes.{changes_of, made_of, plain, plain_said};
 ghost use Rattle.frame_view.specs.Changes as spec;
 ghost use Rattle.frame_view.specs.Readings.{reading};
-ghost use Rattle.frame_view.specs.Shapes.{AreAlike, plain_reading};
+ghost use Rattle.frame_view.specs.Shapes.{AreAlike, FitsField, plain_reading};
 ghost use Rattle.std.specs.Str.{bytes_eq};
 
 use crate::field::FIELDS;
 use crate::payload::payload_change;
 use crate::reading::{Reading, read_field};
-use crate::text::text_of;
 use crate::{Field, Flow, flow_of, length_of};
 use edge_io::NoMemory;
 use std::alloc::Global;
 use wire_base::Link;
+
+/// What a frame says in a field.
+#[derive(Debug, Drop)]
+pub enum Said {
+    /// The frame has no such field, or no octets in it.
+    Nothing,
+    Number(u32),
+    Octets(Vec<u8>),
+}
 
 /// A run of octets that were replaced by as many others.
 #[derive(Debug, Drop)]
 pub struct Replaced {
     /// The offset of the first octet in the record's payload.
     pub at: usize,
-    /// The octets of the record, in hexadecimal digits.
-    pub from: String,
-    /// The octets of the frame, in hexadecimal digits.
-    pub to: String,
+    /// The octets of the record.
+    pub from: Vec<u8>,
+    /// The octets of the frame.
+    pub to: Vec<u8>,
 }
 
-/// What differs in a payload; numbers are counts of octets.
+/// What differs in a payload.
 #[derive(Debug, Drop)]
 pub struct PayloadChange {
-    /// Octets cut off at the front.
-    pub front: usize,
-    /// Octets cut off at the end.
-    pub end: usize,
-    /// Octets behind the end of the record's payload.
-    pub longer: usize,
+    /// The octets of the record that are cut off at the front.
+    pub front: Vec<u8>,
+    /// The octets of the record that are cut off at the end.
+    pub end: Vec<u8>,
+    /// The octets of the frame behind the end of the record's payload.
+    pub longer: Vec<u8>,
     pub replaced: Vec<Replaced>,
 }
 
@@ -51,12 +59,12 @@ pub enum Made {
 /// the frame, from 1.
 #[derive(Debug, Drop)]
 pub enum Change {
-    /// The texts of what the record and the frame say, None where they say nothing.
+    /// What the record and the frame say in a field.
     InField {
         frame: u32,
         field: Field,
-        from: Option<String>,
-        to: Option<String>,
+        from: Said,
+        to: Said,
     },
     /// The payload differs.
     InPayload {
@@ -88,6 +96,21 @@ fn same(one: Reading<'_>, other: Reading<'_>) -> bool
     }
 }
 
+// Returns what a frame says in a field, in memory of its own.
+fn owned(alloc: Global, field: Field, reading: Reading<'_>) -> Result<Said, NoMemory>
+    requires { FitsField field reading }
+    ensures { IfOk result (λ said. plain_said said ≡ spec.said field (plain_reading reading.entry)) }
+{
+    let _field = field;
+    match reading {
+        Reading::Number(number) => Ok(Said::Number(number)),
+        Reading::Octets(octets) if !octets.is_empty() => Ok(Said::Octets(Vec::from_slice(
+            alloc, octets,
+        )?)),
+        _ => Ok(Said::Nothing),
+    }
+}
+
 // A record and a frame with this number that was written for it.
 #[derive(Clone, Copy)]
 struct Pair<'a> {
@@ -110,8 +133,8 @@ fn change_in(alloc: Global, pair: &Pair<'_>, field: Field) -> Result<Change, NoM
         _ => Ok(Change::InField {
             frame,
             field,
-            from: text_of(alloc, field, read_field(pair.link, field, pair.octets))?,
-            to: text_of(alloc, field, read_field(pair.link, field, pair.frame))?,
+            from: owned(alloc, field, read_field(pair.link, field, pair.octets))?,
+            to: owned(alloc, field, read_field(pair.link, field, pair.frame))?,
         }),
     }
 }

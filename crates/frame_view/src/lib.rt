@@ -4,8 +4,8 @@
 //! Proved: `flow_of` returns the addresses, ports and marks that the headers of a frame's packet
 //! say, exactly where an IPv4 header can be read, and `length_of` the number of octets behind the
 //! last header that can be read. `add_changes` adds exactly the fields in which a record and a
-//! frame say something else, in the order of the headers, with the text of both values; of the
-//! payload the octets cut off at either end, those behind its end, and the runs replaced. `add_made`
+//! frame say something else, in the order of the headers, with both values; of the payload the
+//! octets cut off at either end, those behind its end, and the runs replaced. `add_made`
 //! adds exactly the kind of a frame that norm made itself, what its headers say, and the number of
 //! octets behind them. What is said in the fields determines a frame: two frames of octets say the
 //! same in each exactly if they are equal, so that nothing differs exactly between equal frames
@@ -25,9 +25,7 @@ pub mod laws;
 mod parts;
 mod payload;
 mod reading;
-pub mod text;
 
-pub use change::{Change, Made, PayloadChange, Replaced, add_changes, add_made};
+pub use change::{Change, Made, PayloadChange, Replaced, Said, add_changes, add_made};
 pub use field::Field;
-pub use flow::{Flow, Ports, TcpMarks, flow_of, length_of};
-pub use text::{put_address, put_flags};
+pub use flow::{Flow, IcmpMarks, Ports, TcpMarks, ethertype_of, flow_of, length_of};

@@ -8,12 +8,14 @@ ghost use Rattle.wire_base.specs.Tcp as tcp;
 
 use wire_base::{FrameKind, Link, frame_kind, packet_in, protocol, u16_at};
 
-// Lengths of headers without options in octets (RFC 791, RFC 9293, RFC 768).
+// Lengths of headers without options in octets (RFC 791, RFC 9293, RFC 768, RFC 792).
 const IP_HEADER: usize = 20;
 
 const TCP_HEADER: usize = 20;
 
 const UDP_HEADER: usize = 8;
+
+const ICMP_HEADER: usize = 8;
 
 /// Returns whether an IPv4 header can be read.
 fn has_ip_header(packet: &[u8]) -> bool
@@ -35,7 +37,7 @@ pub fn header_length(packet: &[u8]) -> usize
 }
 
 /// Returns the length of a TCP header in octets.
-pub fn data_offset(segment: &[u8]) -> usize
+fn data_offset(segment: &[u8]) -> usize
     requires { 20 ≤ length segment.now }
     ensures { result ≡ tcp.header_length segment.now }
 {
@@ -111,6 +113,15 @@ pub fn segment_in(packet: &[u8]) -> Option<&[u8]>
     }
 }
 
+/// Returns the options of a TCP segment.
+pub fn options_in(segment: &[u8]) -> &[u8]
+    requires { HasSegmentHeader segment.now }
+    ensures { result.now ≡ tcp.options segment.now }
+{
+    let header = &segment[..data_offset(segment)];
+    &header[TCP_HEADER..]
+}
+
 /// Returns the UDP datagram of a packet, where its header can be read.
 pub fn datagram_in(packet: &[u8]) -> Option<&[u8]>
     requires { IsReadable packet.now }
@@ -119,6 +130,20 @@ pub fn datagram_in(packet: &[u8]) -> Option<&[u8]>
 {
     let message = message_in(packet);
     if packet[9] == protocol::UDP && is_first(packet) && UDP_HEADER <= message.len() {
+        Some(message)
+    } else {
+        None
+    }
+}
+
+/// Returns the ICMP message of a packet, where its header can be read.
+pub fn icmp_in(packet: &[u8]) -> Option<&[u8]>
+    requires { IsReadable packet.now }
+    ensures message { option_copied result ≡ spec.icmp_in packet.now }
+    ensures header { IfSome result (λ message. 8 ≤ length message.now) }
+{
+    let message = message_in(packet);
+    if packet[9] == protocol::ICMP && is_first(packet) && ICMP_HEADER <= message.len() {
         Some(message)
     } else {
         None

@@ -2,7 +2,6 @@
 ghost use Rattle.std.specs.Prelude.{◌≡◌, ◌+◌, ◌^◌, ◌<◌, ◌≤◌, min, false, [], ◌∷◌, ◌++◌, length, drop, map, option_to_list, IfOk, OnOk};
 ghost use Rattle.frame_view.specs.Changes.{cut_at_front, plain_payload, plain_replaced};
 ghost use Rattle.frame_view.specs.Changes as spec;
-ghost use Rattle.hex.specs.Hex.{encode_lower};
 ghost use Rattle.frame_view.specs.Parts as parts;
 ghost use Rattle.frame_view.specs.Readings.{reading};
 ghost use Rattle.frame_view.specs.declared.field.Field.{Field};
@@ -45,10 +44,10 @@ fn add_run(
     runs: &mut Vec<Replaced>,
 ) -> Result<(), NoMemory>
     ensures { OnOk result (map plain_replaced runs.new.items ≡ map plain_replaced runs.old.items
-        ++ record { at = at; from = encode_lower from.now; to = encode_lower to.now } ∷ []) }
+        ++ record { at = at; from = from.now; to = to.now } ∷ []) }
 {
-    let from = hex::encode(alloc, from)?;
-    let to = hex::encode(alloc, to)?;
+    let from = Vec::from_slice(alloc, from)?;
+    let to = Vec::from_slice(alloc, to)?;
     runs.push(Replaced { at, from, to })?;
     Ok(())
 }
@@ -115,12 +114,13 @@ pub(crate) fn payload_change(
     ensures { IfOk result (λ change. plain_payload change ≡ spec.payload_change (cut_at_front link octets.now frame.now) (parts.payload_of link octets.now) (parts.payload_of link frame.now)) }
 {
     let front = cut_at_front(link, octets, frame);
-    let from = &payload_of(link, octets)[front..];
+    let (cut, from) = payload_of(link, octets).split_at(front);
     let to = payload_of(link, frame);
+    let same = from.len().min(to.len());
     Ok(PayloadChange {
-        front,
-        end: from.len().saturating_sub(to.len()),
-        longer: to.len().saturating_sub(from.len()),
+        front: Vec::from_slice(alloc, cut)?,
+        end: Vec::from_slice(alloc, &from[same..])?,
+        longer: Vec::from_slice(alloc, &to[same..])?,
         replaced: runs(alloc, front, from, to)?,
     })
 }

@@ -1,17 +1,14 @@
 //! What a frame says in each field.
-ghost use Rattle.std.specs.Prelude.{◌≡◌, ◌≤◌};
+ghost use Rattle.std.specs.Prelude.{◌≡◌, ◌≤◌, length};
 ghost use Rattle.frame_view.specs.Readings as spec;
 ghost use Rattle.frame_view.specs.Parts as parts;
-ghost use Rattle.frame_view.specs.Parts.{IsReadable};
-ghost use Rattle.frame_view.specs.Shapes.{AreRun, FitsField, IsNumber, plain_reading};
-ghost use Rattle.wire_base.specs.Numbers.{u16_at, u32_at};
-ghost use Rattle.wire_base.specs.Tcp as tcp;
-ghost use Rattle.wire_base.specs.Udp as udp;
+ghost use Rattle.frame_view.specs.Parts.{HasSegmentHeader, IsReadable};
+ghost use Rattle.frame_view.specs.Shapes.{FitsField, plain_reading};
 
 use crate::Field;
 use crate::parts::{
-    data_offset, datagram_in, header_length, packet_of, payload_in, payload_of, ported_in,
-    segment_in, trailer_in,
+    datagram_in, header_length, options_in, packet_of, payload_in, payload_of, segment_in,
+    trailer_in,
 };
 use wire_base::{Link, link_octets, u16_at, u32_at};
 
@@ -62,133 +59,60 @@ fn reading_in_packet(field: Field, packet: &[u8]) -> Reading<'_>
         Field::Source => Reading::Number(u32_at(packet, 12)),
         Field::Destination => Reading::Number(u32_at(packet, 16)),
         Field::IpOptions => Reading::Octets(&packet[..header_length(packet)][20..]),
-        Field::SourcePort => port_at(packet, 0),
-        Field::DestinationPort => port_at(packet, 2),
-        Field::Sequence => long_at(packet, 4),
-        Field::Acknowledgment => long_at(packet, 8),
-        Field::DataOffset => data_offset_in(packet),
-        Field::Reserved => reserved_in(packet),
-        Field::Flags => flags_in(packet),
-        Field::Window => short_at(packet, 14),
-        Field::Checksum => checksum_in(packet),
-        Field::UrgentPointer => short_at(packet, 18),
-        Field::TcpOptions => tcp_options_in(packet),
-        Field::UdpLength => udp_length_in(packet),
         Field::Payload => Reading::Octets(payload_in(packet)),
         Field::Trailer => Reading::Octets(trailer_in(packet)),
+        _ => reading_in_message(field, packet),
     }
 }
 
-// Returns the 16-bit number at an offset of a TCP segment or UDP datagram.
-fn port_at(packet: &[u8], at: usize) -> Reading<'_>
-    requires readable { IsReadable packet.now }
-    requires inside { at ≤ 6 }
-    ensures says { plain_reading result ≡ spec.number (λ part. u16_at part at) (parts.ported_in packet.now) }
-    ensures number { IsNumber result }
-{
-    match ported_in(packet) {
-        Some(part) => Reading::Number(u32::from(u16_at(part, at))),
-        None => Reading::Absent,
-    }
-}
-
-// Returns the 16-bit number at an offset of a TCP segment.
-fn short_at(packet: &[u8], at: usize) -> Reading<'_>
-    requires readable { IsReadable packet.now }
-    requires inside { at ≤ 18 }
-    ensures says { plain_reading result ≡ spec.number (λ part. u16_at part at) (parts.segment_in packet.now) }
-    ensures number { IsNumber result }
-{
-    match segment_in(packet) {
-        Some(segment) => Reading::Number(u32::from(u16_at(segment, at))),
-        None => Reading::Absent,
-    }
-}
-
-// Returns the 32-bit number at an offset of a TCP segment.
-fn long_at(packet: &[u8], at: usize) -> Reading<'_>
-    requires readable { IsReadable packet.now }
-    requires inside { at ≤ 16 }
-    ensures says { plain_reading result ≡ spec.number (λ part. u32_at part at) (parts.segment_in packet.now) }
-    ensures number { IsNumber result }
-{
-    match segment_in(packet) {
-        Some(segment) => Reading::Number(u32_at(segment, at)),
-        None => Reading::Absent,
-    }
-}
-
-// Returns the header length of a TCP segment.
-fn data_offset_in(packet: &[u8]) -> Reading<'_>
+// Returns what the TCP segment or the UDP datagram of a packet says in a field.
+fn reading_in_message(field: Field, packet: &[u8]) -> Reading<'_>
     requires { IsReadable packet.now }
-    ensures says { plain_reading result ≡ spec.number tcp.header_length (parts.segment_in packet.now) }
-    ensures number { IsNumber result }
-{
-    match segment_in(packet) {
-        Some(segment) => Reading::Number(4 * u32::from(segment[12] / 16)),
-        None => Reading::Absent,
-    }
-}
-
-// Returns the reserved bits of a TCP segment.
-fn reserved_in(packet: &[u8]) -> Reading<'_>
-    requires { IsReadable packet.now }
-    ensures says { plain_reading result ≡ spec.number tcp.reserved (parts.segment_in packet.now) }
-    ensures number { IsNumber result }
-{
-    match segment_in(packet) {
-        Some(segment) => Reading::Number(u32::from(segment[12] % 16)),
-        None => Reading::Absent,
-    }
-}
-
-// Returns the flags of a TCP segment.
-fn flags_in(packet: &[u8]) -> Reading<'_>
-    requires { IsReadable packet.now }
-    ensures says { plain_reading result ≡ spec.number tcp.flags (parts.segment_in packet.now) }
-    ensures number { IsNumber result }
-{
-    match segment_in(packet) {
-        Some(segment) => Reading::Number(u32::from(segment[13])),
-        None => Reading::Absent,
-    }
-}
-
-// Returns the options of a TCP segment.
-fn tcp_options_in(packet: &[u8]) -> Reading<'_>
-    requires { IsReadable packet.now }
-    ensures says { plain_reading result ≡ spec.octets tcp.options (parts.segment_in packet.now) }
-    ensures octets { AreRun result }
-{
-    match segment_in(packet) {
-        Some(segment) => Reading::Octets(&segment[..data_offset(segment)][20..]),
-        None => Reading::Absent,
-    }
-}
-
-// Returns the checksum of a TCP segment or UDP datagram.
-fn checksum_in(packet: &[u8]) -> Reading<'_>
-    requires { IsReadable packet.now }
-    ensures says { plain_reading result ≡ spec.packet_reading Field.Checksum packet.now }
-    ensures number { IsNumber result }
+    ensures says { plain_reading result ≡ spec.message_reading field (parts.segment_in packet.now) (parts.datagram_in packet.now) }
+    ensures fits { FitsField field result }
 {
     if let Some(segment) = segment_in(packet) {
-        return Reading::Number(u32::from(u16_at(segment, 16)));
+        return reading_in_segment(field, segment);
     }
     match datagram_in(packet) {
-        Some(datagram) => Reading::Number(u32::from(u16_at(datagram, 6))),
+        Some(datagram) => reading_in_datagram(field, datagram),
         None => Reading::Absent,
     }
 }
 
-// Returns the length field of a UDP datagram.
-fn udp_length_in(packet: &[u8]) -> Reading<'_>
-    requires { IsReadable packet.now }
-    ensures says { plain_reading result ≡ spec.number udp.length_field (parts.datagram_in packet.now) }
-    ensures number { IsNumber result }
+// Returns what a TCP segment says in a field.
+fn reading_in_segment(field: Field, segment: &[u8]) -> Reading<'_>
+    requires { HasSegmentHeader segment.now }
+    ensures says { plain_reading result ≡ spec.segment_reading field segment.now }
+    ensures fits { FitsField field result }
 {
-    match datagram_in(packet) {
-        Some(datagram) => Reading::Number(u32::from(u16_at(datagram, 4))),
-        None => Reading::Absent,
+    match field {
+        Field::SourcePort => Reading::Number(u32::from(u16_at(segment, 0))),
+        Field::DestinationPort => Reading::Number(u32::from(u16_at(segment, 2))),
+        Field::Sequence => Reading::Number(u32_at(segment, 4)),
+        Field::Acknowledgment => Reading::Number(u32_at(segment, 8)),
+        Field::DataOffset => Reading::Number(4 * u32::from(segment[12] / 16)),
+        Field::Reserved => Reading::Number(u32::from(segment[12] % 16)),
+        Field::Flags => Reading::Number(u32::from(segment[13])),
+        Field::Window => Reading::Number(u32::from(u16_at(segment, 14))),
+        Field::Checksum => Reading::Number(u32::from(u16_at(segment, 16))),
+        Field::UrgentPointer => Reading::Number(u32::from(u16_at(segment, 18))),
+        Field::TcpOptions => Reading::Octets(options_in(segment)),
+        _ => Reading::Absent,
+    }
+}
+
+// Returns what a UDP datagram says in a field.
+fn reading_in_datagram(field: Field, datagram: &[u8]) -> Reading<'_>
+    requires { 8 ≤ length datagram.now }
+    ensures says { plain_reading result ≡ spec.datagram_reading field datagram.now }
+    ensures fits { FitsField field result }
+{
+    match field {
+        Field::SourcePort => Reading::Number(u32::from(u16_at(datagram, 0))),
+        Field::DestinationPort => Reading::Number(u32::from(u16_at(datagram, 2))),
+        Field::UdpLength => Reading::Number(u32::from(u16_at(datagram, 4))),
+        Field::Checksum => Reading::Number(u32::from(u16_at(datagram, 6))),
+        _ => Reading::Absent,
     }
 }
