@@ -1,7 +1,4 @@
 pub mod Dates
 pub mod Clocks
 pub mod Lists
-pub mod Wholes
-pub mod Changing
-pub mod Joins
-pub mod Feeds
+pub mod Frames

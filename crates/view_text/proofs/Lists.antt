@@ -1,57 +1,117 @@
--- A map of a map, and members of an object without a float.
-use Rattle.std.proofs.Common.{◌≡◌, ℕ, Bool, true, false, ◌||◌, List, [], ◌∷◌, map, refl, ap}
-use Rattle.std.specs.Ordering.{match_ordering, nat_cmp}
-use Rattle.std.specs.Cmp.Lexicographic.{slice_cmp}
-use Rattle.std.specs.declared.cmp.Ordering.{Ordering}
-use Rattle.std.specs.declared.cmp.Ordering.TheVariants.{Less, Equal, Greater}
-use Rattle.serde_json.specs.Data.{Data, Members, no_members, member, put}
-use Rattle.serde_json.specs.View.{items_of}
-use Rattle.serde_json.specs.Written.{has_float, items_have_float, members_have_float}
-use Rattle.view_text.specs.Json.{Member, with_all}
+-- Elements with a separator between each two, one more, and as a field in each format.
+use Rattle.std.proofs.Common.{◌≡◌, ℕ, zero, suc, add-one, zero-add, not, ◌+◌, ◌<◌, ◌==◌, Bool, true, false, List, [], ◌∷◌, ◌++◌, map, length, get_or, take, refl, sym, ap, ◌∙◌, append-nil, append_assoc, arith, codes, if◌then◌else◌}
+use Rattle.std.specs.List.{flat_map}
+use Rattle.std.proofs.lemmas.Bool.{ne_eqb}
+use Rattle.std.proofs.lemmas.List.{flat_map_more, take_more, length-take}
+use Rattle.std.proofs.lemmas.List.Folds.{flat_map-map}
+use Rattle.view_text.specs.Json.{counted_from, joined}
+use Rattle.view_text.specs.Plain.{between, closing, comma_if, listed, opening, separator_of}
+use Rattle.view_text.specs.Table.{tab}
+use Rattle.view_text.specs.declared.view.Format.{Format}
+use Rattle.view_text.specs.declared.view.Format.TheVariants.{Text, Json, Table}
 
-pub map-twice : {X Y Z : Type 0} (f : Y → Z) (g : X → Y) (xs : List X) → map f (map g xs) ≡ map (λ x. f (g x)) xs
-map-twice f g [] = refl
-map-twice f g (x ∷ xs) = ap (λ t. f (g x) ∷ t) (map-twice f g xs)
+between-later : (n : ℕ) (separator : List ℕ) → between (suc n) separator ≡ separator
+between-later n separator = rw (ne_eqb (suc n) 0 (λ e. omega arith)) refl
 
-or_none : (x y : Bool) → x ≡ false → y ≡ false → (x || y) ≡ false
-or_none x y e f = rw e f
+-- one element more
+pub joined-one : {T : Type 0} (separator : List ℕ) (text : T → List ℕ) (xs : List T) (x : T) →
+    joined separator text (xs ++ x ∷ []) ≡ joined separator text xs ++ (between (length xs) separator ++ text x)
+joined-one separator text [] x = append-nil (text x)
+joined-one separator text (y ∷ ys) x =
+    sym (ap (λ t. text y ++ t) (flat_map_more (λ z. separator ++ text z) [] ys x))
+    ∙ sym (append_assoc (text y) (flat_map (λ z. separator ++ text z) ys) (separator ++ text x))
+    ∙ ap (λ t. (text y ++ flat_map (λ z. separator ++ text z) ys) ++ (t ++ text x)) (sym (between-later (length ys) separator))
 
--- a member is put where the order of the names has it
-by_order : (o : Ordering) (one two three : Members) → members_have_float one ≡ false → members_have_float two ≡ false → members_have_float three ≡ false → members_have_float (match_ordering o one two three) ≡ false
-by_order Less one two three a b c = a
-by_order Equal one two three a b c = b
-by_order Greater one two three a b c = c
+-- a text to which an element is added behind those before it
+pub joined_more : {T : Type 0} (separator : List ℕ) (text : T → List ℕ) (xs : List T) (i : ℕ) (x : T) (old t0 t1 t2 : List ℕ) → i < length xs →
+    t0 ≡ old ++ joined separator text (take i xs) → t1 ≡ t0 ++ between i separator → t2 ≡ t1 ++ text (get_or xs i x) →
+    t2 ≡ old ++ joined separator text (take (i + 1) xs)
+joined_more separator text xs i x old t0 t1 t2 h e0 e1 e2 =
+    let last = get_or xs i x in
+    let size : length (take i xs) ≡ i = omega (arith, length-take i xs) in
+    let whole : joined separator text (take (i + 1) xs) ≡ joined separator text (take i xs) ++ (between i separator ++ text last) =
+    ap (joined separator text) (take_more xs i x h) ∙ joined-one separator text (take i xs) last
+    ∙ ap (λ n. joined separator text (take i xs) ++ (between n separator ++ text last)) size in
+    e2 ∙ ap (λ t. t ++ text last) (e1 ∙ ap (λ t. t ++ between i separator) e0)
+    ∙ append_assoc (old ++ joined separator text (take i xs)) (between i separator) (text last)
+    ∙ append_assoc old (joined separator text (take i xs)) (between i separator ++ text last)
+    ∙ ap (λ t. old ++ t) (sym whole)
 
-or_left : (x y : Bool) → (x || y) ≡ false → x ≡ false
-or_left false y e = refl
-or_left true y e = e
-
-or_right : (x y : Bool) → (x || y) ≡ false → y ≡ false
-or_right false y e = e
-or_right true y e = absurd (elim_true e)
+-- the same with a comma that is added with the element
+pub comma-more : {T : Type 0} (text : T → List ℕ) (xs : List T) (i : ℕ) (x : T) (old t0 t1 : List ℕ) → i < length xs →
+    t0 ≡ old ++ joined (codes ",") text (take i xs) → t1 ≡ t0 ++ (comma_if (not (i == 0)) ++ text (get_or xs i x)) → t1 ≡ old
+    ++ joined (codes ",") text (take (i + 1) xs)
+comma-more text xs i x old t0 t1 h e0 e1 =
+    joined_more (codes ",") text xs i x old t0 (t0 ++ between i (codes ",")) t1 h e0 refl
+    (e1 ∙ ap (λ t. t0 ++ (t ++ text (get_or xs i x))) (by_comma (i == 0)) ∙ sym (append_assoc t0 (between i (codes ",")) (text (get_or xs i x))))
   where
-    elim_true : true ≡ false → ⊥
-    elim_true e = cc
+    by_comma : (first : Bool) → comma_if (not first) ≡ (if first then [] else codes ",")
+    by_comma true = refl
+    by_comma false = refl
 
-pub put-no_float : (k : List ℕ) (d : Data) (ms : Members) → has_float d ≡ false → members_have_float ms ≡ false → members_have_float (put k d ms) ≡ false
-put-no_float k d no_members plain rest = or_none (has_float d) false plain refl
-put-no_float k d (member l e ms) plain rest =
-    let more = put-no_float k d ms plain (or_right (has_float e) (members_have_float ms) rest) in
-    by_order (slice_cmp nat_cmp k l) (member k d (member l e ms)) (member l d ms) (member l e (put k d ms))
-    (or_none (has_float d) (members_have_float (member l e ms)) plain rest)
-    (or_none (has_float d) (members_have_float ms) plain (or_right (has_float e) (members_have_float ms) rest))
-    (or_none (has_float e) (members_have_float (put k d ms)) (or_left (has_float e) (members_have_float ms) rest) more)
+-- the numbers up to one more
+counted-one : (done n : ℕ) → counted_from done (suc n) ≡ counted_from done n ++ (done + n + 1) ∷ []
+counted-one done zero = ap (λ k. k ∷ []) (omega arith)
+counted-one done (suc n) = ap (λ t. (done + 1) ∷ t) (counted-one (done + 1) n)
+    ∙ ap (λ k. (done + 1) ∷ (counted_from (done + 1) n ++ k ∷ [])) (omega arith)
 
--- no member of a list has a float
-abbrev pub AreWhole : List Member → Type 0
-AreWhole [] = Unit {0}
-AreWhole (m ∷ more) = (has_float m.1 ≡ false) × AreWhole more
+counted-length : (done n : ℕ) → length (counted_from done n) ≡ n
+counted-length done zero = refl
+counted-length done (suc n) = ap suc (counted-length (done + 1) n)
 
-pub with_all-no_float : (list : List Member) (ms : Members) → AreWhole list → members_have_float ms ≡ false → members_have_float (with_all list ms) ≡ false
-with_all-no_float [] ms whole rest = rest
-with_all-no_float (m ∷ more) ms whole rest = with_all-no_float more (put m.0 m.1 ms) whole.1 (put-no_float m.0 m.1 ms whole.0 rest)
+-- a text to which a number is added behind those before it
+pub counted-more : (text : ℕ → List ℕ) (n : ℕ) (old t0 t1 t2 : List ℕ) → t0 ≡ old ++ joined (codes ",") text (counted_from 0 n) → t1 ≡ t0
+    ++ between n (codes ",") →
+    t2 ≡ t1 ++ text (n + 1) → t2 ≡ old ++ joined (codes ",") text (counted_from 0 (n + 1))
+counted-more text n old t0 t1 t2 e0 e1 e2 =
+    let before = joined (codes ",") text (counted_from 0 n) in
+    let whole : joined (codes ",") text (counted_from 0 (n + 1)) ≡ before ++ (between n (codes ",") ++ text (n + 1)) =
+    ap (λ k. joined (codes ",") text (counted_from 0 k)) (add-one n) ∙ ap (joined (codes ",") text) (counted-one 0 n)
+    ∙ joined-one (codes ",") text (counted_from 0 n) (0 + n + 1)
+    ∙ (λ i. before ++ (between (counted-length 0 n i) (codes ",") ++ text (zero-add n i + 1))) in
+    e2 ∙ ap (λ t. t ++ text (n + 1)) (e1 ∙ ap (λ t. t ++ between n (codes ",")) e0)
+    ∙ append_assoc (old ++ before) (between n (codes ",")) (text (n + 1)) ∙ append_assoc old before (between n (codes ",") ++ text (n + 1))
+    ∙ ap (λ t. old ++ t) (sym whole)
 
--- an array of values without a float
-pub array-no_float : {T : Type 0} (f : T → Data) → ((x : T) → has_float (f x) ≡ false) → (xs : List T) → items_have_float (items_of (map f xs)) ≡ false
-array-no_float f whole [] = refl
-array-no_float f whole (x ∷ xs) = or_none (has_float (f x)) (items_have_float (items_of (map f xs))) (whole x) (array-no_float f whole xs)
+-- a list has no element
+abbrev pub is_nil : {T : Type 0} → List T → Bool
+is_nil [] = true
+is_nil (x ∷ more) = false
+
+-- of a list no element is there exactly where it has none
+pub nil-map : {S T : Type 0} (f : S → T) (xs : List S) → (length xs == 0) ≡ is_nil (map f xs)
+nil-map f [] = refl
+nil-map f (x ∷ xs) = ne_eqb (suc (length xs)) 0 (λ e. omega arith)
+
+pub nil-is : {T : Type 0} (xs : List T) → (length xs == 0) ≡ is_nil xs
+nil-is [] = refl
+nil-is (x ∷ xs) = ne_eqb (suc (length xs)) 0 (λ e. omega arith)
+
+pub listed-is : {T : Type 0} (name : List ℕ) (text : Format → T → List ℕ) (format : Format) (list : List T) (empty : Bool) → empty ≡ is_nil list →
+    opening format name empty ++ joined (separator_of format) (text format) list ++ closing format ≡ listed name text format list
+listed-is name text Text [] empty e = refl
+listed-is name text Text (x ∷ more) empty e = append-nil (text Text x ++ flat_map (text Text) more)
+listed-is name text Json list empty e = simp append_assoc
+listed-is name text Table [] empty e = rw e refl
+listed-is name text Table (x ∷ more) empty e = rw e (append-nil (tab ++ joined (codes ",") (text Table) (x ∷ more)))
+
+-- what stands before the elements, they, and what stands behind them
+pub listed-put : {T : Type 0} (name : List ℕ) (text : Format → T → List ℕ) (format : Format) (list : List T) (empty : Bool) (old t u v : List ℕ) →
+    empty ≡ is_nil list →
+    t ≡ old ++ opening format name empty → u ≡ t ++ joined (separator_of format) (text format) list → v ≡ u ++ closing format → v ≡ old
+    ++ listed name text format list
+listed-put name text format list empty old t u v is e f g =
+    let all = joined (separator_of format) (text format) list in
+    g ∙ ap (λ s. s ++ closing format) (f ∙ ap (λ s. s ++ all) e ∙ append_assoc old (opening format name empty) all)
+    ∙ append_assoc old (opening format name empty ++ all) (closing format) ∙ ap (λ s. old ++ s) (listed-is name text format list empty is)
+
+-- elements that are made of others
+pub joined-map : {S T : Type 0} (separator : List ℕ) (text : T → List ℕ) (f : S → T) (xs : List S) → joined separator text (map f xs)
+    ≡ joined separator (λ x. text (f x)) xs
+joined-map separator text f [] = refl
+joined-map separator text f (x ∷ xs) = ap (λ t. text (f x) ++ t) (flat_map-map (λ y. separator ++ text y) f xs)
+
+-- without a separator
+pub joined-close : {T : Type 0} (text : T → List ℕ) (xs : List T) → joined [] text xs ≡ flat_map text xs
+joined-close text [] = refl
+joined-close text (x ∷ xs) = refl

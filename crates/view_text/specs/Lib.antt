@@ -1,4 +1,14 @@
 pub mod Views
 pub mod Times
-pub mod Lines
+pub mod Words
+pub mod Fields
+pub mod Plain
+pub mod Changes
+pub mod Records
+pub mod Eras
+pub mod Runs
+pub mod Text
 pub mod Json
+pub mod Table
+pub mod Lines
+pub mod Laws

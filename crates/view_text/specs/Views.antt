@@ -12,19 +12,22 @@ use Rattle.view_text.specs.declared.view.EraView.{EraView}
 use Rattle.view_text.specs.declared.view.Summary.{Summary}
 use Rattle.view_text.specs.declared.view.Sides.{Sides}
 use Rattle.view_text.specs.declared.view.EraCounts.{EraCounts}
+use Rattle.view_text.specs.declared.view.Opened.{Opened}
 use Rattle.view_text.specs.declared.view.RuleCount.{RuleCount}
 
--- a record of the capture that was read, or a frame as the second engine judged it: `own` is the number of its line in the report, and `time` is in
--- nanoseconds since the beginning of 1970
+-- a line of the report with its record: `own` is the number of the line, and `time` is in nanoseconds since the beginning of 1970; its frames are
+-- given to a second engine, or stand in OUT behind `before` others
 pub record PlainRecord : Type 0 where
   pub number : ℕ
   pub second : Bool
   pub own : ℕ
   pub time : ℕ
   pub flow : Option Flow
+  pub ethertype : Option ℕ
   pub length : ℕ
   pub entry : PlainEntry
-  pub frames : ℕ
+  pub given : Bool
+  pub before : ℕ
   pub changes : List PlainChange
 
 abbrev pub plain_record : RecordView → PlainRecord
@@ -35,21 +38,26 @@ plain_record view =
       own = view.own;
       time = view.time;
       flow = view.flow;
+      ethertype = view.ethertype;
       length = view.length;
       entry = entries.plain view.entry.now;
-      frames = view.frames;
+      given = view.given;
+      before = view.before;
       changes = map changes.plain view.changes.now;
     }
 
--- an era: `first` and `last` are the times of its first and last record, and `end` is None while it is live
+-- an era: `flow` is that of what began it, from the outside host; `first` and `last` are the times of its first and last record, `sent` counts the
+-- octets of payload that were written inwards, and `octets` is the number of the report; `end` is None while it is live
 pub record PlainEra : Type 0 where
   pub era : ℕ
   pub second : Bool
   pub flow : Option Flow
+  pub opened : Option Opened
   pub first : ℕ
   pub last : ℕ
   pub records : ℕ
-  pub octets : ℕ
+  pub sent : ℕ
+  pub octets : Option ℕ
   pub end : Option Reason
   pub rules : List Rule
 
@@ -59,9 +67,11 @@ plain_era view =
       era = view.era;
       second = view.second;
       flow = view.flow;
+      opened = view.opened;
       first = view.first;
       last = view.last;
       records = view.records;
+      sent = view.sent;
       octets = view.octets;
       end = view.end;
       rules = view.rules.now;

@@ -1,114 +1,206 @@
-//! The text of what differs between a record and its frames, and of frames that norm made itself.
-ghost use Rattle.std.specs.Prelude.{◌≡◌, ◌++◌, map, OnOk, option_map, string_bytes};
-ghost use Rattle.std.specs.List.{flat_map};
+//! What differs between a record and its frames, in each format.
+ghost use Rattle.std.specs.Prelude.{◌≡◌, ◌++◌, codes, map, OnOk, string_bytes};
 ghost use Rattle.frame_view.specs.Changes as changes;
-ghost use Rattle.view_text.specs.Lines as spec;
+ghost use Rattle.view_text.specs.Changes as parts;
+ghost use Rattle.view_text.specs.Fields as fields;
+ghost use Rattle.view_text.specs.Json as json;
+ghost use Rattle.view_text.specs.Json.{joined};
+ghost use Rattle.view_text.specs.Plain as spec;
+ghost use Rattle.view_text.specs.Plain.{plain_part, plain_value};
+ghost use Rattle.view_text.specs.Text as words;
 
-use crate::flow::put_protocol_parts;
-use crate::pieces::{put_counted, put_number, put_part, put_text};
-use edge_io::NoMemory;
-use frame_view::{Change, Flow, Made, PayloadChange, Replaced};
+use crate::Format;
+use crate::flow::{ack_of, flags_of, proto_of, seq_of};
+use crate::json::{put_members, put_name, put_object};
+use crate::part::{Part, Value, Word, dashed, hidden, of_text, shown};
+use crate::pieces::{Put, between, comma_where, put_number, put_text};
+use crate::print::{close_list, open_list, put_parts, separator};
+use crate::word::made_word;
+use frame_view::{Change, Field, Flow, Made, PayloadChange, Replaced, Said};
+use wire_base::Addr;
 
-// Writes a value, where there is one.
-fn put_value(text: &mut String, value: &Option<String>) -> Result<(), NoMemory>
-    ensures { OnOk result (string_bytes text.new ≡ string_bytes text.old ++ spec.value_text (option_map string_bytes value.now)) }
+// Returns the number in a field.
+fn number_of(field: Field, number: u32) -> Value<'static>
+    ensures { plain_value result ≡ parts.number_of field number }
 {
-    match value {
-        Some(value) => put_text(text, value.as_str()),
-        None => put_text(text, "-"),
+    match field {
+        Field::HeaderChecksum | Field::Checksum => Value::Word(Word::Hex16(number)),
+        Field::Source | Field::Destination => Value::Word(Word::Address(Addr(number))),
+        Field::Flags => Value::Word(Word::Flags(number)),
+        _ => Value::Number(u64::from(number)),
     }
 }
 
-// Writes a count of octets, where it is not 0.
-fn put_count(text: &mut String, word: &str, count: usize) -> Result<(), NoMemory>
-    ensures { OnOk result (string_bytes text.new ≡ string_bytes text.old ++ spec.count_text word.now count) }
+// Returns what a frame says in a field.
+fn said_value(field: Field, said: &Said) -> Value<'_>
+    ensures { plain_value result ≡ parts.said_value field (changes.plain_said said.now) }
 {
-    if count == 0 {
-        return Ok(());
+    match said {
+        Said::Nothing => Value::Absent,
+        Said::Number(number) => number_of(field, *number),
+        Said::Octets(octets) => Value::Word(Word::Hex(octets.as_slice())),
     }
-    put_counted(text, word, count as u64)
+}
+
+// Returns octets behind their count, where there are some.
+fn some_octets(octets: &[u8]) -> Value<'_>
+    ensures { plain_value result ≡ parts.some_octets octets.now }
+{
+    if octets.is_empty() {
+        Value::Absent
+    } else {
+        Value::Counted(octets)
+    }
+}
+
+// Returns that a frame that norm made itself is compared with no record.
+fn compared(kind: Made) -> Part<'static>
+    ensures { plain_part result ≡ parts.compared kind }
+{
+    match kind {
+        Made::Probe => hidden("compared", Value::Mark(false)),
+        Made::Datagram => dashed("compared", ", compared with no record", Value::Mark(false)),
+    }
+}
+
+// Returns what differs in a field.
+fn field_parts<'a>(frame: u32, field: Field, from: &'a Said, to: &'a Said) -> [Part<'a>; 4]
+    ensures { map plain_part result ≡ parts.change_parts (changes.in_field frame field (changes.plain_said from.now) (changes.plain_said to.now)) }
+{
+    [
+        hidden("frame", Value::Number(u64::from(frame))),
+        shown("field", "", of_text(field.name())),
+        dashed("from", " ", said_value(field, from)),
+        dashed("to", " > ", said_value(field, to)),
+    ]
+}
+
+// Returns what differs in a payload, but for the runs that were replaced.
+fn payload_parts(frame: u32, change: &PayloadChange) -> [Part<'_>; 5]
+    ensures { map plain_part result ≡ parts.change_parts (changes.in_payload frame (changes.plain_payload change.now)) }
+{
+    [
+        hidden("frame", Value::Number(u64::from(frame))),
+        shown("field", "", of_text("payload")),
+        shown("front", " front ", some_octets(change.front.as_slice())),
+        shown("end", " end ", some_octets(change.end.as_slice())),
+        shown("longer", " longer ", some_octets(change.longer.as_slice())),
+    ]
+}
+
+// Returns what a frame is that norm made itself.
+fn made_parts(frame: u32, kind: Made, flow: Option<Flow>, length: u64) -> [Part<'static>; 8]
+    ensures { map plain_part result ≡ parts.change_parts (changes.in_made frame kind flow length) }
+{
+    [
+        hidden("frame", Value::Number(u64::from(frame))),
+        shown("field", "", of_text(made_word(kind))),
+        shown("proto", " ", proto_of(flow)),
+        shown("flags", " ", flags_of(flow)),
+        shown("seq", " seq ", seq_of(flow)),
+        shown("ack", " ack ", ack_of(flow)),
+        shown("length", " len ", Value::Number(length)),
+        compared(kind),
+    ]
+}
+
+// Returns a run of octets that were replaced.
+fn run_parts(run: &Replaced) -> [Part<'_>; 3]
+    ensures { map plain_part result ≡ parts.run_parts (changes.plain_replaced run.now) }
+{
+    [
+        shown("at", " at ", Value::Number(run.at as u64)),
+        shown("from", " ", Value::Octets(run.from.as_slice())),
+        shown("to", " > ", Value::Octets(run.to.as_slice())),
+    ]
 }
 
 // Writes a run of octets that were replaced.
-fn put_replaced(text: &mut String, run: &Replaced) -> Result<(), NoMemory>
-    ensures { OnOk result (string_bytes text.new ≡ string_bytes text.old ++ spec.replaced_text (changes.plain_replaced run.now)) }
+fn put_run(text: &mut String, json: bool, run: &Replaced) -> Put
+    ensures { OnOk result (string_bytes text.new ≡ string_bytes text.old ++ spec.run_in json (changes.plain_replaced run.now)) }
 {
-    put_counted(text, "at", run.at as u64)?;
-    put_part(text, run.from.as_str())?;
-    put_text(text, " > ")?;
-    put_text(text, run.to.as_str())
+    if json {
+        return put_object(text, &run_parts(run));
+    }
+    put_parts(text, &run_parts(run))
 }
 
-// Writes all runs of octets that were replaced.
-fn put_runs(text: &mut String, runs: &[Replaced]) -> Result<(), NoMemory>
-    ensures { OnOk result (string_bytes text.new ≡ string_bytes text.old ++ flat_map spec.replaced_text (map changes.plain_replaced runs.now)) }
+// Writes runs of octets that were replaced.
+fn put_runs(text: &mut String, json: bool, runs: &[Replaced]) -> Put
+    ensures { OnOk result (string_bytes text.new ≡ string_bytes text.old
+        ++ joined (spec.comma_if json) (spec.run_in json) (map changes.plain_replaced runs.now)) }
 {
-    for run in runs {
-        put_replaced(text, run)?;
+    for (at, run) in runs.iter().enumerate() {
+        put_text(text, between(at, comma_where(json)))?;
+        put_run(text, json, run)?;
     }
     Ok(())
 }
 
-// Writes what differs in a payload.
-fn put_payload(text: &mut String, change: &PayloadChange) -> Result<(), NoMemory>
-    ensures { OnOk result (string_bytes text.new ≡ string_bytes text.old ++ spec.payload_text (changes.plain_payload change.now)) }
+// Writes named values as text, or as members of an object.
+fn put_either(text: &mut String, json: bool, parts: &[Part<'_>]) -> Put
+    ensures { OnOk result (string_bytes text.new ≡ string_bytes text.old ++ spec.parts_in json (map plain_part parts.now)) }
 {
-    put_text(text, "payload")?;
-    put_count(text, "front", change.front)?;
-    put_count(text, "end", change.end)?;
-    put_count(text, "longer", change.longer)?;
-    put_runs(text, change.replaced.as_slice())
-}
-
-/// Returns the word for a frame that norm made itself.
-pub fn made_word(kind: Made) -> &'static str
-    ensures { result.now ≡ spec.made_word kind }
-{
-    match kind {
-        Made::Probe => "probe",
-        Made::Datagram => "datagram",
+    if json {
+        return put_members(text, parts);
     }
+    put_parts(text, parts)
 }
 
-// Writes the description of a frame that norm made itself.
-fn put_made(text: &mut String, kind: Made, flow: Option<Flow>, length: u64) -> Result<(), NoMemory>
-    ensures { OnOk result (string_bytes text.new ≡ string_bytes text.old ++ spec.made_text kind flow length) }
+// Writes what differs in a field, as text or as the members of an object.
+fn put_field(text: &mut String, json: bool, frame: u32, field: Field, from: &Said, to: &Said) -> Put
+    ensures { OnOk result (string_bytes text.new ≡ string_bytes text.old
+        ++ spec.members_in json (changes.in_field frame field (changes.plain_said from.now) (changes.plain_said to.now))) }
 {
-    put_text(text, made_word(kind))?;
-    put_protocol_parts(text, flow)?;
-    put_counted(text, "len", length)
+    put_either(text, json, &field_parts(frame, field, from, to))
 }
 
-// Writes what differs in a field or a payload, or the description of a frame that norm made itself.
-fn put_change(text: &mut String, change: &Change) -> Result<(), NoMemory>
-    ensures { OnOk result (string_bytes text.new ≡ string_bytes text.old ++ spec.change_text (changes.plain change.now)) }
+// Writes what differs in a payload as text.
+fn put_payload_text(text: &mut String, frame: u32, change: &PayloadChange) -> Put
+    ensures { OnOk result (string_bytes text.new ≡ string_bytes text.old
+        ++ words.change_text (changes.in_payload frame (changes.plain_payload change.now))) }
+{
+    put_parts(text, &payload_parts(frame, change))?;
+    put_runs(text, false, change.replaced.as_slice())
+}
+
+// Writes what differs in a payload as the members of an object.
+fn put_payload_json(text: &mut String, frame: u32, change: &PayloadChange) -> Put
+    ensures { OnOk result (string_bytes text.new ≡ string_bytes text.old
+        ++ json.change_members (changes.in_payload frame (changes.plain_payload change.now))) }
+{
+    put_members(text, &payload_parts(frame, change))?;
+    put_name(text, true, "replaced")?;
+    put_text(text, "[")?;
+    put_runs(text, true, change.replaced.as_slice())?;
+    put_text(text, "]")
+}
+
+// Writes a change as text, or as the members of an object.
+fn put_change(text: &mut String, json: bool, change: &Change) -> Put
+    ensures { OnOk result (string_bytes text.new ≡ string_bytes text.old ++ spec.members_in json (changes.plain change.now)) }
 {
     match change {
         Change::InField {
+            frame,
             field,
             from,
             to,
-            ..
-        } => {
-            put_text(text, field.name())?;
-            put_text(text, " ")?;
-            put_value(text, from)?;
-            put_text(text, " > ")?;
-            put_value(text, to)
-        }
-        Change::InPayload { payload, .. } => put_payload(text, payload),
+        } => put_field(text, json, *frame, *field, from, to),
+        Change::InPayload { frame, payload } if json => put_payload_json(text, *frame, payload),
+        Change::InPayload { frame, payload } => put_payload_text(text, *frame, payload),
         Change::Made {
+            frame,
             kind,
             flow,
             length,
-            ..
-        } => put_made(text, *kind, *flow, *length),
+        } => put_either(text, json, &made_parts(*frame, *kind, *flow, *length)),
     }
 }
 
 // Returns the number of the changed frame.
-fn number_of(change: &Change) -> u32
-    ensures { result ≡ spec.frame_of (changes.plain change.now) }
+fn frame_of(change: &Change) -> u32
+    ensures { result ≡ parts.frame_of (changes.plain change.now) }
 {
     match change {
         Change::InField { frame, .. } => *frame,
@@ -117,9 +209,20 @@ fn number_of(change: &Change) -> u32
     }
 }
 
+// Returns the name of what differs.
+fn name_of(change: &Change) -> &'static str
+    ensures { result.now ≡ parts.name_of (changes.plain change.now) }
+{
+    match change {
+        Change::InField { field, .. } => field.name(),
+        Change::InPayload { .. } => "payload",
+        Change::Made { kind, .. } => made_word(*kind),
+    }
+}
+
 // Writes what precedes a change of `frame` if the change before it is one of the frame `before`.
-fn put_lead(text: &mut String, before: u32, frame: u32) -> Result<(), NoMemory>
-    ensures { OnOk result (string_bytes text.new ≡ string_bytes text.old ++ spec.lead_text before frame) }
+fn put_lead(text: &mut String, before: u32, frame: u32) -> Put
+    ensures { OnOk result (string_bytes text.new ≡ string_bytes text.old ++ words.lead_text before frame) }
 {
     if before == frame {
         return put_text(text, ", ");
@@ -129,16 +232,68 @@ fn put_lead(text: &mut String, before: u32, frame: u32) -> Result<(), NoMemory>
     put_text(text, " ")
 }
 
-/// Writes what differs between a record and its frames, frame by frame.
-pub fn put_changes(text: &mut String, list: &[Change]) -> Result<(), NoMemory>
-    ensures { OnOk result (string_bytes text.new ≡ string_bytes text.old ++ spec.changes_text 0 (map changes.plain list.now)) }
+// Writes changes as text, frame by frame.
+fn put_changes_text(text: &mut String, list: &[Change]) -> Put
+    ensures { OnOk result (string_bytes text.new ≡ string_bytes text.old ++ words.changes_text 0 (map changes.plain list.now)) }
 {
     let mut before = 0;
     for change in list {
-        let frame = number_of(change);
+        let frame = frame_of(change);
         put_lead(text, before, frame)?;
-        put_change(text, change)?;
+        put_change(text, false, change)?;
         before = frame;
     }
     Ok(())
+}
+
+// Writes a change, on a text line behind its lead.
+fn put_one_change(text: &mut String, format: Format, change: &Change) -> Put
+    ensures { OnOk result (string_bytes text.new ≡ string_bytes text.old ++ spec.change_in format (changes.plain change.now)) }
+{
+    match format {
+        Format::Text => put_change(text, false, change),
+        Format::Json => {
+            put_text(text, "{")?;
+            put_change(text, true, change)?;
+            put_text(text, "}")
+        }
+        Format::Table => {
+            put_number(text, u64::from(frame_of(change)))?;
+            put_text(text, ":")?;
+            put_text(text, name_of(change))
+        }
+    }
+}
+
+// Writes changes, with what separates them.
+fn put_all_changes(text: &mut String, format: Format, list: &[Change]) -> Put
+    ensures { OnOk result (string_bytes text.new ≡ string_bytes text.old
+        ++ joined (spec.separator_of format) (spec.change_in format) (map changes.plain list.now)) }
+{
+    for (at, change) in list.iter().enumerate() {
+        put_text(text, between(at, separator(format)))?;
+        put_one_change(text, format, change)?;
+    }
+    Ok(())
+}
+
+// Writes changes as an array or as a cell.
+fn put_listed(text: &mut String, format: Format, list: &[Change]) -> Put
+    ensures { OnOk result (string_bytes text.new ≡ string_bytes text.old
+        ++ spec.listed (codes "changes") spec.change_in format (map changes.plain list.now)) }
+{
+    open_list(text, format, "changes", list.is_empty())?;
+    put_all_changes(text, format, list)?;
+    close_list(text, format)?;
+    Ok(())
+}
+
+/// Writes the field of what differs between a record and its frames.
+pub(crate) fn put_changes(text: &mut String, format: Format, list: &[Change]) -> Put
+    ensures { OnOk result (string_bytes text.new ≡ string_bytes text.old ++ spec.field_in format (fields.changes (map changes.plain list.now))) }
+{
+    match format {
+        Format::Text => put_changes_text(text, list),
+        Format::Json | Format::Table => put_listed(text, format, list),
+    }
 }

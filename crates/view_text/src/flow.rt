@@ -1,125 +1,143 @@
-//! The text of a flow.
-ghost use Rattle.std.specs.Prelude.{◌≡◌, ◌++◌, OnOk, string_bytes};
-ghost use Rattle.rule_book.specs.Text.{part};
-ghost use Rattle.view_text.specs.Lines as spec;
+//! What the headers of a packet say, as values.
+ghost use Rattle.std.specs.Prelude.{◌≡◌};
+ghost use Rattle.view_text.specs.Changes as changes;
+ghost use Rattle.view_text.specs.Changes.{marks_in};
+ghost use Rattle.view_text.specs.Plain.{plain_value};
+ghost use Rattle.view_text.specs.Records as spec;
 
-use crate::pieces::{put_counted, put_number, put_part, put_text};
-use edge_io::NoMemory;
-use frame_view::{Flow, TcpMarks, put_address, put_flags};
-use wire_base::{Addr, protocol};
+use crate::part::{Value, Word, number_if};
+use frame_view::{Flow, IcmpMarks, Ports, TcpMarks};
 
-// Writes the port of an address, where it has one.
-fn put_port(text: &mut String, port: Option<u16>) -> Result<(), NoMemory>
-    ensures { OnOk result (string_bytes text.new ≡ string_bytes text.old ++ spec.port_text port) }
+// Returns the ports of a flow, where it has them.
+fn ports_in(flow: Option<Flow>) -> Option<Ports>
+    ensures { result ≡ spec.ports_in flow }
 {
-    let Some(port) = port else {
-        return Ok(());
-    };
-    put_text(text, ":")?;
-    put_number(text, u64::from(port))
+    flow?.ports
 }
 
-// Writes an address, and its port where it has one.
-fn put_end(text: &mut String, address: Addr, port: Option<u16>) -> Result<(), NoMemory>
-    ensures { OnOk result (string_bytes text.new ≡ string_bytes text.old ++ spec.end_text address.0 port) }
+// Returns the marks of a flow's segment, where there is one.
+fn marks_of(flow: Option<Flow>) -> Option<TcpMarks>
+    ensures { result ≡ marks_in flow }
 {
-    put_address(text, address)?;
-    put_port(text, port)
+    flow?.tcp
 }
 
-// Returns the port that a packet comes from, where it has ports.
-fn source_port(flow: Flow) -> Option<u16>
-    ensures { result ≡ spec.source_port flow }
+// Returns the marks of a flow's ICMP message, where there is one.
+fn icmp_in(flow: Option<Flow>) -> Option<IcmpMarks>
+    ensures { result ≡ spec.icmp_in flow }
 {
-    flow.ports.map(|ports| ports.src)
+    flow?.icmp
 }
 
-// Returns the port that a packet goes to, where it has ports.
-fn destination_port(flow: Flow) -> Option<u16>
-    ensures { result ≡ spec.destination_port flow }
-{
-    flow.ports.map(|ports| ports.dst)
-}
-
-// Writes the addresses and ports of a flow.
-fn put_flow_ends(text: &mut String, flow: Flow) -> Result<(), NoMemory>
-    ensures { OnOk result (string_bytes text.new ≡ string_bytes text.old ++ spec.ends_text (Some flow)) }
-{
-    put_end(text, flow.src, source_port(flow))?;
-    put_text(text, " > ")?;
-    put_end(text, flow.dst, destination_port(flow))
-}
-
-// Writes the addresses and ports of a packet, where its IPv4 header can be read.
-fn put_ends(text: &mut String, flow: Option<Flow>) -> Result<(), NoMemory>
-    ensures { OnOk result (string_bytes text.new ≡ string_bytes text.old ++ spec.ends_text flow) }
+/// Returns the source address.
+pub(crate) fn source_of(flow: Option<Flow>) -> Value<'static>
+    ensures { plain_value result ≡ spec.source_of flow }
 {
     match flow {
-        Some(flow) => put_flow_ends(text, flow),
-        None => put_text(text, "- > -"),
+        Some(flow) => Value::Word(Word::Address(flow.src)),
+        None => Value::Absent,
     }
 }
 
-/// Writes the name of a protocol, or its number.
-pub fn put_protocol(text: &mut String, number: u8) -> Result<(), NoMemory>
-    ensures { OnOk result (string_bytes text.new ≡ string_bytes text.old ++ spec.protocol_text number) }
+/// Returns the destination address.
+pub(crate) fn destination_of(flow: Option<Flow>) -> Value<'static>
+    ensures { plain_value result ≡ spec.destination_of flow }
 {
-    match number {
-        protocol::TCP => put_text(text, "tcp"),
-        protocol::UDP => put_text(text, "udp"),
-        protocol::ICMP => put_text(text, "icmp"),
-        _ => put_number(text, u64::from(number)),
+    match flow {
+        Some(flow) => Value::Word(Word::Address(flow.dst)),
+        None => Value::Absent,
     }
 }
 
-// Writes the marks of a segment, where there is one.
-fn put_marks(text: &mut String, marks: Option<TcpMarks>) -> Result<(), NoMemory>
-    ensures { OnOk result (string_bytes text.new ≡ string_bytes text.old ++ spec.marks_text marks) }
+/// Returns the port that a packet comes from.
+pub(crate) fn source_port(flow: Option<Flow>) -> Value<'static>
+    ensures { plain_value result ≡ spec.source_port flow }
 {
-    let Some(marks) = marks else {
-        return Ok(());
-    };
-    put_text(text, " ")?;
-    put_flags(text, marks.flags)?;
-    put_counted(text, "seq", u64::from(marks.seq))?;
-    put_counted(text, "ack", u64::from(marks.ack))
+    number_if(ports_in(flow).map(|ports| u64::from(ports.src)))
 }
 
-/// Writes a space, the protocol and the marks of a packet, where its IPv4 header can be read.
-pub fn put_protocol_parts(text: &mut String, flow: Option<Flow>) -> Result<(), NoMemory>
-    ensures { OnOk result (string_bytes text.new ≡ string_bytes text.old ++ spec.protocol_parts flow) }
+/// Returns the port that a packet goes to.
+pub(crate) fn destination_port(flow: Option<Flow>) -> Value<'static>
+    ensures { plain_value result ≡ spec.destination_port flow }
 {
-    let Some(flow) = flow else {
-        return Ok(());
-    };
-    put_text(text, " ")?;
-    put_protocol(text, flow.protocol)?;
-    put_marks(text, flow.tcp)
+    number_if(ports_in(flow).map(|ports| u64::from(ports.dst)))
 }
 
-// Writes what the headers of a packet say, where its IPv4 header can be read.
-fn put_flow(text: &mut String, flow: Option<Flow>) -> Result<(), NoMemory>
-    ensures { OnOk result (string_bytes text.new ≡ string_bytes text.old ++ spec.flow_text flow) }
+/// Returns the protocol.
+pub(crate) fn proto_of(flow: Option<Flow>) -> Value<'static>
+    ensures { plain_value result ≡ changes.proto_of flow }
 {
-    let Some(flow) = flow else {
-        return put_text(text, "- > - -");
-    };
-    put_flow_ends(text, flow)?;
-    put_protocol_parts(text, Some(flow))
+    match flow {
+        Some(flow) => Value::Word(Word::Protocol(flow.protocol)),
+        None => Value::Absent,
+    }
 }
 
-/// Writes a space and the addresses and ports of a packet.
-pub fn put_ends_part(text: &mut String, flow: Option<Flow>) -> Result<(), NoMemory>
-    ensures { OnOk result (string_bytes text.new ≡ string_bytes text.old ++ part (spec.ends_text flow)) }
+/// Returns the flags of a segment.
+pub(crate) fn flags_of(flow: Option<Flow>) -> Value<'static>
+    ensures { plain_value result ≡ changes.flags_of (marks_in flow) }
 {
-    put_text(text, " ")?;
-    put_ends(text, flow)
+    match marks_of(flow) {
+        Some(marks) => Value::Word(Word::Flags(u32::from(marks.flags.0))),
+        None => Value::Absent,
+    }
 }
 
-/// Writes a space and what the headers of a packet say.
-pub fn put_flow_part(text: &mut String, flow: Option<Flow>) -> Result<(), NoMemory>
-    ensures { OnOk result (string_bytes text.new ≡ string_bytes text.old ++ part (spec.flow_text flow)) }
+/// Returns the sequence number of a segment.
+pub(crate) fn seq_of(flow: Option<Flow>) -> Value<'static>
+    ensures { plain_value result ≡ changes.seq_of (marks_in flow) }
 {
-    put_text(text, " ")?;
-    put_flow(text, flow)
+    number_if(marks_of(flow).map(|marks| u64::from(marks.seq)))
+}
+
+/// Returns the acknowledgment of a segment.
+pub(crate) fn ack_of(flow: Option<Flow>) -> Value<'static>
+    ensures { plain_value result ≡ changes.ack_of (marks_in flow) }
+{
+    number_if(marks_of(flow).map(|marks| u64::from(marks.ack)))
+}
+
+/// Returns the window in the header of a segment.
+pub(crate) fn window_of(flow: Option<Flow>) -> Value<'static>
+    ensures { plain_value result ≡ spec.window_in (marks_in flow) }
+{
+    number_if(marks_of(flow).map(|marks| u64::from(marks.window)))
+}
+
+/// Returns the type of an ICMP message.
+pub(crate) fn icmp_type_of(flow: Option<Flow>) -> Value<'static>
+    ensures { plain_value result ≡ spec.icmp_type_of flow }
+{
+    number_if(icmp_in(flow).map(|marks| u64::from(marks.kind)))
+}
+
+/// Returns the code of an ICMP message.
+pub(crate) fn icmp_code_of(flow: Option<Flow>) -> Value<'static>
+    ensures { plain_value result ≡ spec.icmp_code_of flow }
+{
+    number_if(icmp_in(flow).map(|marks| u64::from(marks.code)))
+}
+
+/// Returns the identification of a packet.
+pub(crate) fn id_of(flow: Option<Flow>) -> Value<'static>
+    ensures { plain_value result ≡ spec.id_of flow }
+{
+    number_if(flow.map(|flow| u64::from(flow.identification)))
+}
+
+/// Returns the fragment offset of a packet.
+pub(crate) fn offset_of(flow: Option<Flow>) -> Value<'static>
+    ensures { plain_value result ≡ spec.offset_of flow }
+{
+    number_if(flow.map(|flow| u64::from(flow.offset)))
+}
+
+/// Returns whether more fragments follow a packet.
+pub(crate) fn more_of(flow: Option<Flow>) -> Value<'static>
+    ensures { plain_value result ≡ spec.more_of flow }
+{
+    match flow {
+        Some(flow) => Value::Mark(flow.more),
+        None => Value::Absent,
+    }
 }

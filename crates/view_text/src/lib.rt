@@ -1,28 +1,36 @@
-//! The text and the JSON of a record, of an era and of a whole run.
+//! What is said of a record, of an era and of a whole run: a list of named fields, as text, as JSON
+//! or as a row of a table.
 //!
-//! Proved: `record_line` and `era_line` return exactly the line of their definition, as text or as
-//! JSON, and `summary_lines` exactly the lines of a whole run before those of its eras, or that
-//! memory could not be allocated. A time is the RFC 3339 text of the date that is counted off in
-//! the Gregorian calendar. `sentence_of` returns what each rule says.
+//! Proved: each function returns exactly the line of its definition in the format, or that memory
+//! could not be allocated. A definition is a list of fields (`Records`, `Eras`, `Runs`) and a
+//! printer of such a list (`Text`, `Json`, `Table`). A time is the RFC 3339 text of the date that
+//! is counted off in the Gregorian calendar. The names in a heading are those of the fields (`laws`).
 //!
-//! Choices: a JSON object has its members in the order of their names. Where the text has a dash it
-//! has null; the flags of a segment that has none set are a dash in both. Values of fields are
-//! texts in JSON too, as in the line. The members of a payload's change are counts, 0 where nothing
-//! is cut off or added.
+//! Choices: the flags of a segment that has none set are a dash in each format. Of octets that were
+//! cut off or replaced a text line has the first 64. Words are not escaped in JSON: no word of
+//! this crate has a character to escape.
 #![tactic(auto)]
 
 mod change;
-mod era;
+mod eras;
 mod flow;
 mod json;
+pub mod laws;
 pub mod line;
+mod list;
+mod octets;
+mod part;
 mod pieces;
-mod record;
-pub mod sentence;
-mod summary;
+mod print;
+mod records;
+mod runs;
+mod table;
+mod text;
 mod time;
 pub mod view;
+mod word;
 
-pub use line::{era_line, record_line, summary_lines};
-pub use sentence::sentence_of;
-pub use view::{Counts, EraCounts, EraView, RecordView, RuleCount, Sides, Summary};
+pub use line::{
+    chosen_line, era_heading, era_line, record_heading, record_line, stop_line, summary_line,
+};
+pub use view::{Counts, EraCounts, EraView, Format, Opened, RecordView, RuleCount, Sides, Summary};

@@ -1,38 +1,59 @@
-//! Words and numbers behind a text.
-ghost use Rattle.std.specs.Prelude.{◌≡◌, ◌++◌, OnOk, decimal, string_bytes};
-ghost use Rattle.rule_book.specs.Text.{part};
-ghost use Rattle.view_text.specs.Lines as spec;
+//! What lines are put together from.
+ghost use Rattle.std.specs.Prelude.{◌≡◌, ◌<◌, [], ◌∷◌, ◌++◌, OnOk, decimal, string_bytes};
+ghost use Rattle.view_text.specs.Json as json;
+ghost use Rattle.view_text.specs.Plain.{between as between_of, comma_if};
 
 use edge_io::NoMemory;
+use itoa::Buffer;
+
+/// Whether something was written: not if memory could not be allocated.
+pub(crate) type Put = Result<(), NoMemory>;
 
 /// Writes a text.
-pub fn put_text(text: &mut String, piece: &str) -> Result<(), NoMemory>
+#[inline]
+pub(crate) fn put_text(text: &mut String, piece: &str) -> Put
     ensures { OnOk result (string_bytes text.new ≡ string_bytes text.old ++ piece.now) }
 {
     text.push_str(piece)?;
     Ok(())
 }
 
+/// Writes a character below 128.
+pub(crate) fn put_char(text: &mut String, code: u8) -> Put
+    requires { code < 128 }
+    ensures { OnOk result (string_bytes text.new ≡ string_bytes text.old ++ code ∷ []) }
+{
+    text.push(char::from(code))?;
+    Ok(())
+}
+
 /// Writes a number.
-pub fn put_number(text: &mut String, number: u64) -> Result<(), NoMemory>
+pub(crate) fn put_number(text: &mut String, number: u64) -> Put
     ensures { OnOk result (string_bytes text.new ≡ string_bytes text.old ++ decimal number) }
 {
-    write!(text, "{number}").map_err(|_| NoMemory)
+    let mut buffer = Buffer::new();
+    put_text(text, buffer.format(number))
 }
 
-/// Writes a space and a text.
-pub fn put_part(text: &mut String, piece: &str) -> Result<(), NoMemory>
-    ensures { OnOk result (string_bytes text.new ≡ string_bytes text.old ++ part piece.now) }
+/// Writes a text in quotes.
+pub(crate) fn put_string(text: &mut String, piece: &str) -> Put
+    ensures { OnOk result (string_bytes text.new ≡ string_bytes text.old ++ json.string piece.now) }
 {
-    put_text(text, " ")?;
-    put_text(text, piece)
+    put_text(text, "\"")?;
+    put_text(text, piece)?;
+    put_text(text, "\"")
 }
 
-/// Writes a word and a number, each behind a space.
-pub fn put_counted(text: &mut String, word: &str, number: u64) -> Result<(), NoMemory>
-    ensures { OnOk result (string_bytes text.new ≡ string_bytes text.old ++ spec.counted word.now number) }
+/// Returns a comma, where it is wanted.
+pub(crate) fn comma_where(wanted: bool) -> &'static str
+    ensures { result.now ≡ comma_if wanted }
 {
-    put_part(text, word)?;
-    put_text(text, " ")?;
-    put_number(text, number)
+    if wanted { "," } else { "" }
+}
+
+/// Returns what stands before an element of a list: the separator before all but the first.
+pub(crate) fn between(at: usize, separator: &'static str) -> &'static str
+    ensures { result.now ≡ between_of at separator.entry.now }
+{
+    if at == 0 { "" } else { separator }
 }

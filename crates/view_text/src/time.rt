@@ -1,29 +1,19 @@
 //! Times as RFC 3339 writes them.
 ghost use Rattle.std.specs.Prelude.{◌≡◌, ◌++◌, pos, OnOk, string_bytes};
-ghost use Rattle.rule_book.specs.Text.{part};
 ghost use Rattle.view_text.specs.Times as spec;
 
-use crate::pieces::put_text;
+use crate::pieces::{Put, put_text};
 use arrayvec::ArrayString;
-use edge_io::NoMemory;
 use jiff_core::Timestamp;
 use jiff_fmt::temporal::DateTimePrinter;
 
 /// Writes the time that is this number of nanoseconds after the beginning of 1970, in UTC with nine
 /// digits of a second.
-pub fn put_time(text: &mut String, nanoseconds: u64) -> Result<(), NoMemory>
+pub fn put_time(text: &mut String, nanoseconds: u64) -> Put
     ensures { OnOk result (string_bytes text.new ≡ string_bytes text.old ++ spec.time_text nanoseconds) }
 {
     let time = time_of(nanoseconds);
     put_text(text, time.as_str())
-}
-
-/// Writes a space and the time, as `put_time` writes it.
-pub fn put_time_part(text: &mut String, nanoseconds: u64) -> Result<(), NoMemory>
-    ensures { OnOk result (string_bytes text.new ≡ string_bytes text.old ++ part (spec.time_text nanoseconds)) }
-{
-    put_text(text, " ")?;
-    put_time(text, nanoseconds)
 }
 
 // Returns the text of the time.

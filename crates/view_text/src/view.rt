@@ -3,7 +3,17 @@
 use frame_view::{Change, Flow};
 use rule_book::{Entry, Reason, Rule};
 
-/// A record of the capture that was read, or a frame as the second engine judged it.
+/// The formats in which lines are printed.
+#[derive(Clone, Copy, Debug, PartialEq, Eq)]
+pub enum Format {
+    Text,
+    /// An object a line (RFC 8259).
+    Json,
+    /// A row a line, with tabs between the cells.
+    Table,
+}
+
+/// A line of the report, with its record.
 #[derive(Clone, Copy, Debug)]
 pub struct RecordView<'a> {
     /// The number of the record, from 1.
@@ -17,13 +27,28 @@ pub struct RecordView<'a> {
     pub time: u64,
     /// None where no IPv4 header can be read.
     pub flow: Option<Flow>,
+    /// The EtherType of a frame of which no IPv4 header can be read, where the link has one.
+    pub ethertype: Option<u16>,
     /// The number of octets of the payload.
     pub length: u64,
     pub entry: &'a Entry,
-    /// The number of frames that were written.
-    pub frames: u32,
+    /// The line is one of the first engine of two: its frames went to the second.
+    pub given: bool,
+    /// The number of frames in OUT before those of this line. Not used where `given`.
+    pub before: u64,
     /// What differs between the record and its frames, frame by frame.
     pub changes: &'a [Change],
+}
+
+/// What began an era, as the network's outside and inside see it.
+#[derive(Clone, Copy, Debug, PartialEq, Eq)]
+pub enum Opened {
+    /// A SYN without ACK of the outside host.
+    In,
+    /// A SYN without ACK of the inside host.
+    Out,
+    /// Something else.
+    Mid,
 }
 
 /// An era.
@@ -32,17 +57,21 @@ pub struct EraView<'a> {
     pub era: u32,
     /// It is an era of the second engine.
     pub second: bool,
-    /// The packet that began it.
+    /// The packet that began it, turned so that its source is the outside host.
     pub flow: Option<Flow>,
+    /// None if the report never begins it.
+    pub opened: Option<Opened>,
     /// The time of its first record, in nanoseconds since the beginning of 1970, if it has one.
     pub first: u64,
     /// The time of its last record, in the same unit.
     pub last: u64,
     /// The number of records that belong to it.
     pub records: u64,
-    /// The number of TCP payload octets in the frames of its inbound records. Inbound is what the
-    /// engine of the era takes as inbound: for the second engine that is the other direction.
-    pub octets: u64,
+    /// The number of TCP payload octets that were written inwards for its records, each copy counted.
+    pub sent: u64,
+    /// The number of offsets at which an octet went inwards, as the report has it. None while the
+    /// era is live, and in a report of version 1.
+    pub octets: Option<u64>,
     /// Why it ended; None while it is live.
     pub end: Option<Reason>,
     /// The rules that its entries name, each once.
@@ -66,14 +95,16 @@ pub struct Sides {
     pub neither: Counts,
 }
 
-/// How many lines name a rule.
+/// How many lines name a rule, by the side that the line says.
 #[derive(Clone, Copy, Debug, PartialEq, Eq)]
 pub struct RuleCount {
     pub rule: Rule,
-    pub lines: u64,
+    pub inward: u64,
+    pub outward: u64,
+    pub neither: u64,
 }
 
-/// How many eras there are, and how many ended for each reason.
+/// How many eras there are, how many ended for each reason, and what began them.
 #[derive(Clone, Copy, Debug, Default, PartialEq, Eq)]
 pub struct EraCounts {
     pub all: u64,
@@ -82,6 +113,9 @@ pub struct EraCounts {
     pub evicted: u64,
     pub idle: u64,
     pub reopened: u64,
+    pub opened_in: u64,
+    pub opened_out: u64,
+    pub opened_mid: u64,
 }
 
 /// A whole run.

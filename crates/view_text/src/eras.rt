@@ -1,0 +1,93 @@
+//! The line of an era.
+ghost use Rattle.std.specs.Prelude.{◌≡◌, ◌++◌, map, OnOk, string_bytes};
+ghost use Rattle.std.specs.List.{flat_map};
+ghost use Rattle.view_text.specs.Eras as spec;
+ghost use Rattle.view_text.specs.Plain.{field_in, plain_part, plain_value};
+ghost use Rattle.view_text.specs.Views.{plain_era};
+
+use crate::flow::{destination_of, destination_port, source_of, source_port};
+use crate::list::put_rules;
+use crate::part::{Part, Value, Word, dashed, hidden, number_if, of_text, only_if, shown};
+use crate::pieces::Put;
+use crate::print::put_fields;
+use crate::word::{by_word, end_word, opened_word};
+use crate::{EraView, Format, Opened};
+
+// Nanoseconds of a second.
+const SECOND: u64 = 1_000_000_000;
+
+/// Returns the text before the number of an era.
+pub(crate) fn era_lead(second: bool) -> &'static str
+    ensures { result.now ≡ spec.era_lead second }
+{
+    if second { "era second " } else { "era " }
+}
+
+// Returns what began an era.
+fn opened_of(opened: Option<Opened>) -> Value<'static>
+    ensures { plain_value result ≡ spec.opened_of opened }
+{
+    match opened {
+        Some(opened) => of_text(opened_word(opened)),
+        None => Value::Absent,
+    }
+}
+
+// Returns what is said of the hosts of an era.
+fn hosts<'a>(view: &EraView<'a>) -> [Part<'a>; 6]
+    ensures { map plain_part result ≡ spec.host_parts (plain_era view.now) }
+{
+    let flow = view.flow;
+    [
+        hidden("by", of_text(by_word(view.second))),
+        dashed("outside_ip", " ", source_of(flow)),
+        shown("outside_port", ":", source_port(flow)),
+        dashed("inside_ip", " <-> ", destination_of(flow)),
+        shown("inside_port", ":", destination_port(flow)),
+        shown("opened", " opened ", opened_of(view.opened)),
+    ]
+}
+
+// Returns the times of an era.
+fn times<'a>(view: &EraView<'a>) -> [Part<'a>; 6]
+    ensures { map plain_part result ≡ spec.time_parts (plain_era view.now) }
+{
+    let any = view.records != 0;
+    let (first, last) = (view.first, view.last);
+    [
+        dashed("first", " ", only_if(any, Value::Word(Word::Time(first)))),
+        hidden("first_seconds", only_if(any, Value::Number(first / SECOND))),
+        hidden(
+            "first_nanoseconds",
+            only_if(any, Value::Number(first % SECOND)),
+        ),
+        dashed("last", " ", only_if(any, Value::Word(Word::Time(last)))),
+        hidden("last_seconds", only_if(any, Value::Number(last / SECOND))),
+        hidden(
+            "last_nanoseconds",
+            only_if(any, Value::Number(last % SECOND)),
+        ),
+    ]
+}
+
+// Returns what is counted of an era, and how it ended.
+fn counts<'a>(view: &EraView<'a>) -> [Part<'a>; 4]
+    ensures { map plain_part result ≡ spec.counted_parts (plain_era view.now) }
+{
+    [
+        shown("records", " records ", Value::Number(view.records)),
+        shown("sent", " sent ", Value::Number(view.sent)),
+        shown("octets", " octets ", number_if(view.octets)),
+        shown("end", " ", of_text(end_word(view.end))),
+    ]
+}
+
+/// Writes the fields behind the number of the era.
+pub(crate) fn put_era(text: &mut String, format: Format, view: &EraView<'_>) -> Put
+    ensures { OnOk result (string_bytes text.new ≡ string_bytes text.old ++ flat_map (field_in format) (spec.behind_number (plain_era view.now))) }
+{
+    put_fields(text, format, &hosts(view))?;
+    put_fields(text, format, &times(view))?;
+    put_fields(text, format, &counts(view))?;
+    put_rules(text, format, false, view.rules)
+}

@@ -1,0 +1,143 @@
+//! Fields in each format.
+ghost use Rattle.std.specs.Prelude.{◌≡◌, ◌++◌, false, map, IfOk, OnOk, string_bytes};
+ghost use Rattle.std.specs.List.{flat_map};
+ghost use Rattle.view_text.specs.Fields.{group, one};
+ghost use Rattle.view_text.specs.Plain as spec;
+ghost use Rattle.view_text.specs.Plain.{plain_part};
+
+use crate::json::{put_member, put_name, put_object};
+use crate::part::Part;
+use crate::pieces::{Put, put_text};
+use crate::table::put_cell;
+use crate::{Format, text};
+use edge_io::NoMemory;
+use std::alloc::Global;
+
+// The room for a line at its beginning, in octets.
+const ROOM: usize = 1_024;
+
+/// Returns a line that begins with `event`, the name of what it says, and a first field.
+pub(crate) fn begun(
+    alloc: Global,
+    format: Format,
+    event: &str,
+    first: &Part<'_>,
+) -> Result<String, NoMemory>
+    ensures { IfOk result (λ line. string_bytes line ≡ spec.begun format event.now (one (plain_part first.now))) }
+{
+    let mut line = String::with_capacity(alloc, ROOM)?;
+    match format {
+        Format::Text => text::put_part(&mut line, first)?,
+        Format::Json => {
+            put_text(&mut line, "{\"event\":\"")?;
+            put_text(&mut line, event)?;
+            put_text(&mut line, "\"")?;
+            put_member(&mut line, true, first)?;
+        }
+        Format::Table => put_cell(&mut line, first.value)?,
+    }
+    Ok(line)
+}
+
+// Writes a field behind the first.
+fn put_field(text: &mut String, format: Format, part: &Part<'_>) -> Put
+    ensures { OnOk result (string_bytes text.new ≡ string_bytes text.old ++ spec.field_in format (one (plain_part part.now))) }
+{
+    match format {
+        Format::Text => text::put_part(text, part),
+        Format::Json => put_member(text, true, part),
+        Format::Table => {
+            put_text(text, "\t")?;
+            put_cell(text, part.value)
+        }
+    }
+}
+
+/// Writes fields behind the first.
+pub(crate) fn put_fields(text: &mut String, format: Format, parts: &[Part<'_>]) -> Put
+    ensures { OnOk result (string_bytes text.new ≡ string_bytes text.old ++ flat_map (spec.field_in format) (map one (map plain_part parts.now))) }
+{
+    for part in parts {
+        put_field(text, format, part)?;
+    }
+    Ok(())
+}
+
+// Writes named values as text.
+pub(crate) fn put_parts(text: &mut String, parts: &[Part<'_>]) -> Put
+    ensures { OnOk result (string_bytes text.new ≡ string_bytes text.old ++ spec.parts_in false (map plain_part parts.now)) }
+{
+    for part in parts {
+        text::put_part(text, part)?;
+    }
+    Ok(())
+}
+
+/// Writes a field of several named values.
+pub(crate) fn put_group(
+    text: &mut String,
+    format: Format,
+    name: &str,
+    lead: &str,
+    parts: &[Part<'_>],
+) -> Put
+    ensures { OnOk result (string_bytes text.new ≡ string_bytes text.old
+        ++ spec.field_in format (group name.now lead.now (map plain_part parts.now))) }
+{
+    match format {
+        Format::Text => {
+            put_text(text, lead)?;
+            put_parts(text, parts)
+        }
+        Format::Json => {
+            put_name(text, true, name)?;
+            put_object(text, parts)
+        }
+        Format::Table => put_text(text, "\t-"),
+    }
+}
+
+/// Writes what stands before the elements of a field, of which there are none or some.
+pub(crate) fn open_list(text: &mut String, format: Format, name: &str, empty: bool) -> Put
+    ensures { OnOk result (string_bytes text.new ≡ string_bytes text.old ++ spec.opening format name.now empty) }
+{
+    match format {
+        Format::Text => Ok(()),
+        Format::Json => {
+            put_name(text, true, name)?;
+            put_text(text, "[")
+        }
+        Format::Table if empty => put_text(text, "\t-"),
+        Format::Table => put_text(text, "\t"),
+    }
+}
+
+/// Returns what separates two elements of a field.
+pub(crate) fn separator(format: Format) -> &'static str
+    ensures { result.now ≡ spec.separator_of format }
+{
+    match format {
+        Format::Text => "",
+        Format::Json | Format::Table => ",",
+    }
+}
+
+/// Writes what stands behind the elements of a field.
+pub(crate) fn close_list(text: &mut String, format: Format) -> Put
+    ensures { OnOk result (string_bytes text.new ≡ string_bytes text.old ++ spec.closing format) }
+{
+    match format {
+        Format::Json => put_text(text, "]"),
+        Format::Text | Format::Table => Ok(()),
+    }
+}
+
+/// Writes the end of a line.
+pub(crate) fn end_line(text: &mut String, format: Format) -> Put
+    ensures { OnOk result (string_bytes text.new ≡ string_bytes text.old ++ spec.ending format) }
+{
+    match format {
+        Format::Json => put_text(text, "}\n"),
+        Format::Text | Format::Table => put_text(text, "\n"),
+    }
+}

@@ -1,0 +1,181 @@
+//! The lines of a whole run.
+ghost use Rattle.std.specs.Prelude.{◌≡◌, ◌++◌, map, OnOk, string_bytes};
+ghost use Rattle.std.specs.List.{flat_map};
+ghost use Rattle.view_text.specs.Fields as fields;
+ghost use Rattle.view_text.specs.Json.{joined};
+ghost use Rattle.view_text.specs.Plain.{comma_if, field_in, plain_part, rule_count_in};
+ghost use Rattle.view_text.specs.Runs as spec;
+ghost use Rattle.view_text.specs.Text as words;
+ghost use Rattle.view_text.specs.Views.{plain_summary};
+
+use crate::json::put_object;
+use crate::list::put_sentence;
+use crate::part::{Part, Value, hidden, of_text, shown};
+use crate::pieces::{Put, between, comma_where, put_number, put_text};
+use crate::print::{close_list, open_list, put_fields, put_group};
+use crate::{Counts, EraCounts, Format, RuleCount, Sides, Summary};
+
+// Returns how many lines have each verdict.
+fn count_parts(counts: &Counts) -> [Part<'static>; 4]
+    ensures { map plain_part result ≡ spec.count_parts counts.now }
+{
+    [
+        shown("pass", "pass ", Value::Number(counts.pass)),
+        shown("fix", " fix ", Value::Number(counts.fix)),
+        shown("hold", " hold ", Value::Number(counts.hold)),
+        shown("drop", " drop ", Value::Number(counts.drop)),
+    ]
+}
+
+// Returns how many eras there are.
+fn era_parts(eras: &EraCounts) -> [Part<'static>; 9]
+    ensures { map plain_part result ≡ spec.era_parts eras.now }
+{
+    [
+        shown("all", "", Value::Number(eras.all)),
+        shown("live", " live ", Value::Number(eras.live)),
+        shown("reset", " reset ", Value::Number(eras.reset)),
+        shown("evicted", " evicted ", Value::Number(eras.evicted)),
+        shown("idle", " idle ", Value::Number(eras.idle)),
+        shown("reopened", " reopened ", Value::Number(eras.reopened)),
+        shown("opened_in", " opened in ", Value::Number(eras.opened_in)),
+        shown("opened_out", " out ", Value::Number(eras.opened_out)),
+        shown("opened_mid", " mid ", Value::Number(eras.opened_mid)),
+    ]
+}
+
+// Returns how many lines name a rule, by side.
+fn rule_count_parts(count: RuleCount) -> [Part<'static>; 4]
+    ensures { map plain_part result ≡ spec.rule_count_parts count }
+{
+    [
+        hidden("rule", of_text(count.rule.name())),
+        hidden("in", Value::Number(count.inward)),
+        hidden("out", Value::Number(count.outward)),
+        hidden("neither", Value::Number(count.neither)),
+    ]
+}
+
+// Returns how many lines name a rule.
+fn all_sides(count: RuleCount) -> u64
+    ensures { result ≡ spec.all_sides count }
+{
+    count
+        .inward
+        .saturating_add(count.outward)
+        .saturating_add(count.neither)
+}
+
+// Writes how many lines name a rule as text.
+fn put_rule_count_text(text: &mut String, count: RuleCount) -> Put
+    ensures { OnOk result (string_bytes text.new ≡ string_bytes text.old ++ words.rule_count_text count) }
+{
+    put_text(text, "\nrule ")?;
+    put_text(text, count.rule.name())?;
+    put_text(text, " ")?;
+    put_number(text, all_sides(count))?;
+    put_sentence(text, count.rule)
+}
+
+// Writes how many lines name each rule.
+fn put_all_counts(text: &mut String, json: bool, list: &[RuleCount]) -> Put
+    ensures { OnOk result (string_bytes text.new ≡ string_bytes text.old ++ joined (comma_if json) (rule_count_in json) list.now) }
+{
+    for (at, count) in list.iter().enumerate() {
+        put_text(text, between(at, comma_where(json)))?;
+        put_rule_count(text, json, *count)?;
+    }
+    Ok(())
+}
+
+// Writes how many lines name a rule.
+fn put_rule_count(text: &mut String, json: bool, count: RuleCount) -> Put
+    ensures { OnOk result (string_bytes text.new ≡ string_bytes text.old ++ rule_count_in json count) }
+{
+    if json {
+        return put_object(text, &rule_count_parts(count));
+    }
+    put_rule_count_text(text, count)
+}
+
+// Writes the field of how many lines name each rule.
+fn put_rule_counts(text: &mut String, format: Format, list: &[RuleCount]) -> Put
+    ensures { OnOk result (string_bytes text.new ≡ string_bytes text.old ++ field_in format (fields.rule_counts list.now)) }
+{
+    if format == Format::Table {
+        return put_text(text, "\t-");
+    }
+    open_list(text, format, "rules", list.is_empty())?;
+    put_all_counts(text, format == Format::Json, list)?;
+    close_list(text, format)
+}
+
+// Returns that there are no lines of a second engine.
+fn no_second() -> [Part<'static>; 3]
+    ensures { map plain_part result ≡ spec.no_second }
+{
+    [
+        hidden("second_in", Value::Absent),
+        hidden("second_out", Value::Absent),
+        hidden("second_neither", Value::Absent),
+    ]
+}
+
+// Writes the field of how many lines have each verdict.
+fn put_counts(text: &mut String, format: Format, name: &str, lead: &str, counts: &Counts) -> Put
+    ensures { OnOk result (string_bytes text.new ≡ string_bytes text.old
+        ++ field_in format (fields.group name.now lead.now (spec.count_parts counts.now))) }
+{
+    put_group(text, format, name, lead, &count_parts(counts))
+}
+
+// Writes the fields of the lines of the second engine.
+fn put_second_sides(text: &mut String, format: Format, sides: &Sides) -> Put
+    ensures { OnOk result (string_bytes text.new ≡ string_bytes text.old ++ flat_map (field_in format) (spec.second_sides sides.now)) }
+{
+    put_counts(text, format, "second_in", "\nsecond in ", &sides.inward)?;
+    put_counts(text, format, "second_out", "\nsecond out ", &sides.outward)?;
+    put_counts(
+        text,
+        format,
+        "second_neither",
+        "\nsecond - ",
+        &sides.neither,
+    )?;
+    Ok(())
+}
+
+// Writes the fields of the lines of the second engine, where there is one.
+fn put_second(text: &mut String, format: Format, second: Option<Sides>) -> Put
+    ensures { OnOk result (string_bytes text.new ≡ string_bytes text.old ++ flat_map (field_in format) (spec.second_fields second)) }
+{
+    match second {
+        Some(sides) => put_second_sides(text, format, &sides),
+        None => put_fields(text, format, &no_second()),
+    }
+}
+
+// Writes the fields of the lines of the first engine.
+fn put_first(text: &mut String, format: Format, sides: &Sides) -> Put
+    ensures { OnOk result (string_bytes text.new ≡ string_bytes text.old ++ flat_map (field_in format) (spec.first_fields sides.now)) }
+{
+    put_counts(text, format, "in", "\nin ", &sides.inward)?;
+    put_counts(text, format, "out", "\nout ", &sides.outward)?;
+    put_counts(text, format, "neither", "\n- ", &sides.neither)
+}
+
+/// Writes the fields behind the number of records.
+pub(crate) fn put_summary(text: &mut String, format: Format, summary: &Summary<'_>) -> Put
+    ensures { OnOk result (string_bytes text.new ≡ string_bytes text.old
+        ++ flat_map (field_in format) (spec.behind_records (plain_summary summary.now))) }
+{
+    put_first(text, format, &summary.first)?;
+    put_second(text, format, summary.second)?;
+    put_fields(
+        text,
+        format,
+        &[shown("frames", "\nframes ", Value::Number(summary.frames))],
+    )?;
+    put_rule_counts(text, format, summary.rules)?;
+    put_group(text, format, "eras", "\neras ", &era_parts(&summary.eras))
+}

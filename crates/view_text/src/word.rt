@@ -1,0 +1,203 @@
+//! The texts of single values.
+ghost use Rattle.std.specs.Prelude.{◌≡◌, ◌<◌, [], ◌∷◌, ◌++◌, OnOk, string_bytes};
+ghost use Rattle.rule_book.specs.Text as words;
+ghost use Rattle.view_text.specs.Plain.{word_text};
+ghost use Rattle.view_text.specs.Words as spec;
+
+use crate::Opened;
+use crate::part::Word;
+use crate::pieces::{Put, put_char, put_number, put_text};
+use crate::time::put_time;
+use frame_view::Made;
+use rule_book::{Reason, Verdict};
+use wire_base::{Addr, Side, protocol};
+
+/// Writes a word.
+pub(crate) fn put_word(text: &mut String, word: Word<'_>) -> Put
+    ensures { OnOk result (string_bytes text.new ≡ string_bytes text.old ++ word_text word.entry) }
+{
+    match word {
+        Word::Text(word) => put_text(text, word),
+        Word::Address(address) => put_address(text, address),
+        Word::Flags(flags) => put_flags(text, flags),
+        Word::Protocol(number) => put_protocol(text, number),
+        Word::Hex16(number) => put_hex16(text, number),
+        Word::Hex(octets) => put_hex(text, octets),
+        Word::Time(time) => put_time(text, time),
+    }
+}
+
+// Writes an address: four numbers with dots between them.
+fn put_address(text: &mut String, address: Addr) -> Put
+    ensures { OnOk result (string_bytes text.new ≡ string_bytes text.old ++ spec.dotted address.0) }
+{
+    let number = u64::from(address.0);
+    put_number(text, number / 0x100_0000)?;
+    put_text(text, ".")?;
+    put_number(text, number / 0x1_0000 % 0x100)?;
+    put_text(text, ".")?;
+    put_number(text, number / 0x100 % 0x100)?;
+    put_text(text, ".")?;
+    put_number(text, number % 0x100)
+}
+
+// Writes the letters of the flags that are set, `-` for none.
+fn put_flags(text: &mut String, flags: u32) -> Put
+    ensures { OnOk result (string_bytes text.new ≡ string_bytes text.old ++ spec.flags_text flags) }
+{
+    if flags == 0 {
+        return put_text(text, "-");
+    }
+    put_low_letters(text, flags)?;
+    put_high_letters(text, flags)
+}
+
+// The letter of a flag where it is set.
+fn letter(flags: u32, weight: u32, name: &'static str) -> &'static str
+    requires { 0 < weight }
+    ensures { result.now ≡ spec.letter weight name.now flags }
+{
+    if flags / weight % 2 == 1 { name } else { "" }
+}
+
+// Writes the letters of SYN, FIN, RST and PSH where they are set.
+fn put_low_letters(text: &mut String, flags: u32) -> Put
+    ensures { OnOk result (string_bytes text.new ≡ string_bytes text.old ++ spec.low_letters flags) }
+{
+    put_text(text, letter(flags, 2, "S"))?;
+    put_text(text, letter(flags, 1, "F"))?;
+    put_text(text, letter(flags, 4, "R"))?;
+    put_text(text, letter(flags, 8, "P"))
+}
+
+// Writes the letters of ACK, URG, ECE and CWR where they are set.
+fn put_high_letters(text: &mut String, flags: u32) -> Put
+    ensures { OnOk result (string_bytes text.new ≡ string_bytes text.old ++ spec.high_letters flags) }
+{
+    put_text(text, letter(flags, 16, "A"))?;
+    put_text(text, letter(flags, 32, "U"))?;
+    put_text(text, letter(flags, 64, "E"))?;
+    put_text(text, letter(flags, 128, "C"))
+}
+
+// Writes the name of a protocol, or its number.
+fn put_protocol(text: &mut String, number: u8) -> Put
+    ensures { OnOk result (string_bytes text.new ≡ string_bytes text.old ++ spec.protocol_text number) }
+{
+    match number {
+        protocol::TCP => put_text(text, "tcp"),
+        protocol::UDP => put_text(text, "udp"),
+        protocol::ICMP => put_text(text, "icmp"),
+        _ => put_number(text, u64::from(number)),
+    }
+}
+
+// Writes a hexadecimal digit.
+fn put_digit(text: &mut String, digit: u8) -> Put
+    requires { digit < 16 }
+    ensures { OnOk result (string_bytes text.new ≡ string_bytes text.old ++ spec.hex_digit digit ∷ []) }
+{
+    if digit < 10 {
+        return put_char(text, b'0' + digit);
+    }
+    put_char(text, b'a' - 10 + digit)
+}
+
+/// Writes an octet as two hexadecimal digits.
+pub(crate) fn put_octet(text: &mut String, octet: u8) -> Put
+    ensures { OnOk result (string_bytes text.new ≡ string_bytes text.old ++ spec.octet_hex octet) }
+{
+    put_digit(text, octet / 16)?;
+    put_digit(text, octet % 16)
+}
+
+/// Writes octets in hexadecimal digits.
+pub(crate) fn put_hex(text: &mut String, octets: &[u8]) -> Put
+    ensures { OnOk result (string_bytes text.new ≡ string_bytes text.old ++ spec.hex_text octets.now) }
+{
+    for octet in octets {
+        put_octet(text, *octet)?;
+    }
+    Ok(())
+}
+
+// Writes a number below 2^16 with four hexadecimal digits.
+fn put_hex16(text: &mut String, number: u32) -> Put
+    ensures { OnOk result (string_bytes text.new ≡ string_bytes text.old ++ spec.hex16_text number) }
+{
+    put_text(text, "0x")?;
+    put_octet(text, (number / 256 % 256) as u8)?;
+    put_octet(text, (number % 256) as u8)
+}
+
+/// Returns the word for a side.
+pub(crate) fn side_word(side: Side) -> &'static str
+    ensures { result.now ≡ words.side_word (Some side) }
+{
+    match side {
+        Side::Inward => "in",
+        Side::Outward => "out",
+    }
+}
+
+/// Returns the word for a verdict.
+pub(crate) fn verdict_word(verdict: Verdict) -> &'static str
+    ensures { result.now ≡ words.verdict_word verdict }
+{
+    match verdict {
+        Verdict::Pass => "pass",
+        Verdict::Fix => "fix",
+        Verdict::Hold => "hold",
+        Verdict::Drop => "drop",
+    }
+}
+
+/// Returns the word for the engine that judged.
+pub(crate) fn by_word(second: bool) -> &'static str
+    ensures { result.now ≡ spec.by_word second }
+{
+    if second { "second" } else { "first" }
+}
+
+/// Returns the word for what began an era.
+pub(crate) fn opened_word(opened: Opened) -> &'static str
+    ensures { result.now ≡ spec.opened_word opened }
+{
+    match opened {
+        Opened::In => "in",
+        Opened::Out => "out",
+        Opened::Mid => "mid",
+    }
+}
+
+/// Returns the word for the reason why an era ended.
+pub(crate) fn reason_word(reason: Reason) -> &'static str
+    ensures { result.now ≡ words.reason_word reason }
+{
+    match reason {
+        Reason::Reset => "reset",
+        Reason::Evicted => "evicted",
+        Reason::Idle => "idle",
+        Reason::Reopened => "reopened",
+    }
+}
+
+/// Returns the word for how an era ended.
+pub(crate) fn end_word(end: Option<Reason>) -> &'static str
+    ensures { result.now ≡ spec.end_word end }
+{
+    match end {
+        None => "live",
+        Some(reason) => reason_word(reason),
+    }
+}
+
+/// Returns the word for a frame that norm made itself.
+pub(crate) fn made_word(kind: Made) -> &'static str
+    ensures { result.now ≡ spec.made_word kind }
+{
+    match kind {
+        Made::Probe => "probe",
+        Made::Datagram => "datagram",
+    }
+}
